@@ -1,1 +1,5 @@
 pub mod Characters
+pub mod Diagnostic
+pub mod Lists
+pub mod RegExpFlags
+pub mod SourceType

@@ -1,0 +1,3 @@
+pub mod CharacterLemmas
+pub mod ListLemmas
+pub mod TextLemmas
