@@ -1,0 +1,5 @@
+use Rattle.js_kind.proofs.Texts.{keyword_of_text}
+use Rattle.js_kind.proofs.keyword.keyword_of_text.Goals as goal
+
+pub returns : goal.returns
+returns c = keyword_of_text c.args.kind

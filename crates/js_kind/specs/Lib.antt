@@ -1,0 +1,4 @@
+pub mod Keywords
+pub mod KindNames
+pub mod Kinds
+pub mod TokenParts

@@ -1,0 +1,168 @@
+//! What no contract says: rows from outside, and that each call can succeed.
+
+use crate::config::{LexerConfig, NoTokensLexerConfig, RuntimeLexerConfig, TokensLexerConfig};
+use crate::keyword::match_keyword;
+use crate::kind::Kind;
+use crate::kind_rows::ROWS;
+use crate::token::{Token, TokenList};
+use js_text::Span;
+use std::test::Fail;
+
+#[test]
+fn kinds(rt: HostRuntime) -> Result<(), Fail> {
+    for (i, row) in ROWS.iter().enumerate() {
+        let (kind, name, text) = *row;
+        assert_eq!(rt; kind.number() as usize, i, "{name}");
+        assert!(rt; Kind::VARIANTS[i].is_same(kind), "{name}");
+        assert_eq!(rt; kind.name(), name);
+        assert_eq!(rt; kind.to_str(), text);
+        assert_eq!(rt; format!(in rt.alloc(); "{kind}")?.as_str(), text);
+        let is_word = (5..=91).contains(&i);
+        assert_eq!(rt; kind.is_any_keyword(), is_word, "{name}");
+        assert_eq!(rt; kind.is_identifier_name(), is_word || i == 4, "{name}");
+        if is_word {
+            assert_eq!(rt; match_keyword(text), kind, "{name}");
+        }
+    }
+    assert_eq!(rt; Kind::default(), Kind::Eof);
+    Ok(())
+}
+
+#[test]
+fn names_that_are_no_words(rt: HostRuntime) {
+    for name in [
+        "",
+        "a",
+        "Await",
+        "LET",
+        "lets",
+        "le",
+        "typekw",
+        "instanceoff",
+        "ident",
+        "eof",
+        "l\u{E9}t",
+    ] {
+        assert_eq!(rt; match_keyword(name), Kind::Ident, "{name}");
+    }
+}
+
+/// A token in which every part differs from that of the default token.
+fn full_token() -> Token {
+    let mut token = Token::new(Kind::Decimal, Span { start: 3, end: 9 }, true);
+    token.set_escaped(true);
+    token.set_has_separator(true);
+    token
+}
+
+/// A token's start, end, newline flag, escaped flag and separator flag.
+fn numbers(token: &Token) -> (u32, u32, bool, bool, bool) {
+    (
+        token.start(),
+        token.end(),
+        token.is_on_new_line(),
+        token.escaped(),
+        token.has_separator(),
+    )
+}
+
+#[test]
+fn made_tokens(rt: HostRuntime) {
+    let default = Token::default();
+    assert_eq!(rt; numbers(&default), (0, 0, false, false, false));
+    assert_eq!(rt; default.kind(), Kind::Eof);
+    assert_eq!(rt; default.span(), Span { start: 0, end: 0 });
+    let first = Token::new_on_new_line();
+    assert_eq!(rt; numbers(&first), (0, 0, true, false, false));
+    assert_eq!(rt; first.kind(), Kind::Eof);
+    let made = Token::new(Kind::Let, Span { start: 2, end: 5 }, true);
+    assert_eq!(rt; numbers(&made), (2, 5, true, false, false));
+    assert_eq!(rt; made.kind(), Kind::Let);
+}
+
+#[test]
+fn set_parts(rt: HostRuntime) {
+    let full = full_token();
+    assert_eq!(rt; numbers(&full), (3, 9, true, true, true));
+    assert_eq!(rt; full.kind(), Kind::Decimal);
+
+    let mut token = full;
+    token.set_span(Span { start: 4, end: 4 });
+    assert_eq!(rt; numbers(&token), (4, 4, true, true, true));
+    assert_eq!(rt; token.kind(), Kind::Decimal);
+
+    let mut token = full;
+    token.set_start(20);
+    assert_eq!(rt; numbers(&token), (20, 9, true, true, true));
+    assert_eq!(rt; token.span(), Span { start: 20, end: 9 });
+    assert_eq!(rt; token.kind(), Kind::Decimal);
+
+    let mut token = full;
+    token.set_end(4_294_967_295);
+    assert_eq!(rt; numbers(&token), (3, 4_294_967_295, true, true, true));
+    assert_eq!(rt; token.kind(), Kind::Decimal);
+
+    let mut token = full;
+    token.set_kind(Kind::At);
+    assert_eq!(rt; numbers(&token), (3, 9, true, true, true));
+    assert_eq!(rt; token.kind(), Kind::At);
+
+    let mut token = full;
+    token.set_is_on_new_line(false);
+    assert_eq!(rt; numbers(&token), (3, 9, false, true, true));
+    assert_eq!(rt; token.kind(), Kind::Decimal);
+
+    let mut token = full;
+    token.set_escaped(false);
+    assert_eq!(rt; numbers(&token), (3, 9, true, false, true));
+    assert_eq!(rt; token.kind(), Kind::Decimal);
+
+    let mut token = full;
+    token.set_has_separator(false);
+    assert_eq!(rt; numbers(&token), (3, 9, true, true, false));
+    assert_eq!(rt; token.kind(), Kind::Decimal);
+}
+
+#[test]
+fn same_tokens(rt: HostRuntime) {
+    let full = full_token();
+    let mut other = full;
+    assert!(rt; full.is_same(&other));
+    assert_eq!(rt; full, other);
+    other.set_kind(Kind::Float);
+    assert!(rt; !full.is_same(&other));
+    assert_ne!(rt; full, other);
+}
+
+#[test]
+fn lists_of_tokens(rt: HostRuntime) -> Result<(), Fail> {
+    let full = full_token();
+    let mut tokens = TokenList::new_in(rt.alloc());
+    tokens.push(full)?;
+    tokens.push(Token::default())?;
+    tokens.extend_from_slice(&[full])?;
+    let copied = tokens.copy(rt.alloc())?;
+    assert_eq!(rt;
+        copied.as_slice(),
+        [full, Token::default(), full].as_slice()
+    );
+    assert_eq!(rt; tokens.pop(), Some(full));
+    tokens.truncate(1);
+    assert_eq!(rt; tokens.as_slice(), [full].as_slice());
+    assert_eq!(rt; tokens.len(), 1);
+    Ok(())
+}
+
+/// What a lexer that holds the configuration asks of it.
+fn collects<C: LexerConfig + Drop>(config: C) -> (bool, bool) {
+    (C::TOKENS_METHOD_IS_STATIC, config.tokens())
+}
+
+#[test]
+fn configurations(rt: HostRuntime) {
+    assert_eq!(rt; collects(NoTokensLexerConfig), (true, false));
+    assert_eq!(rt; collects(TokensLexerConfig), (true, true));
+    assert_eq!(rt; collects(RuntimeLexerConfig::new(true)), (false, true));
+    assert_eq!(rt; collects(RuntimeLexerConfig::new(false)), (false, false));
+    assert_eq!(rt; collects(RuntimeLexerConfig::default()), (false, false));
+}
