@@ -1,0 +1,5 @@
+use Rattle.js_source.proofs.Places.{nothing_at_end}
+use Rattle.js_source.proofs.source.Source.end.Goals as goal
+
+pub returns-clause-nothing : goal.returns-clause-nothing
+returns-clause-nothing c = rw (← c.self.view_is) (nothing_at_end c.self.inside.text.now)

@@ -1,0 +1,14 @@
+use Rattle.js_source.proofs.Stops.{stops_from}
+use Rattle.js_source.proofs.source.Source.search.Goals as goal
+
+pub returns-clause-boundary : goal.returns-clause-boundary
+returns-clause-boundary c =
+    let boundary = rw (← c.self.view_is, ← c.from.view_is) at c.requires in
+    let found = rw c.as_bytes.ensures.value at c.find-at.ensures in
+    rw (← c.self.view_is) (stops_from c.args.table.now c.self.inside.text.now c.from.inside.offset c.find-at.result c.use_table.ensures c.self.invariant.utf8 c.self.invariant.short boundary found).0
+
+pub returns-clause-characters : goal.returns-clause-characters
+returns-clause-characters c =
+    let boundary = rw (← c.self.view_is, ← c.from.view_is) at c.requires in
+    let found = rw c.as_bytes.ensures.value at c.find-at.ensures in
+    rw (← c.self.view_is, ← c.from.view_is) (stops_from c.args.table.now c.self.inside.text.now c.from.inside.offset c.find-at.result c.use_table.ensures c.self.invariant.utf8 c.self.invariant.short boundary found).1
