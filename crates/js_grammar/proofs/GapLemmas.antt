@@ -1,0 +1,88 @@
+-- Laws of gaps: a piece stands at the beginning of its text, and the longest gap is one.
+use Rattle.std.proofs.Common.{◌≡◌, ℕ, ◌<◌, ◌≤◌, Bool, true, false, not, cond, ◌&&◌, ◌||◌, ◌==◌, List, [], ◌∷◌, ◌++◌, length, drop, suc, refl, sym, ◌∙◌, ap, subst, arith, Option, Some, None, append_assoc, length-append}
+use Rattle.std.specs.Prelude.{IfSome, if◌then◌else◌, codes}
+use Rattle.std.specs.List.{list_any}
+use Rattle.std.specs.Option.{option_map}
+use Rattle.js_text.specs.Characters.{is_white_space, is_line_terminator, before_first, from_first}
+use Rattle.js_text.specs.declared.source_type.SourceType.{SourceType}
+use Rattle.js_text.proofs.TextLemmas.{before_from, from_first-cons, length-from_first}
+use Rattle.js_grammar.specs.Gap.{is_prefix, Cut, cut-cons, cut_behind, Piece, PieceKind, one_character, line_comment, block_comment, has_html_comments, piece, Gap, LongestGap, is_reported, WholeGap}
+use Rattle.js_grammar.specs.Gap.PieceKind.{white_space, line_terminator, single_line_comment, multi_line_comment, html_open_comment, html_close_comment}
+use Rattle.js_grammar.proofs.Tests.{and_true, prefix_is}
+
+-- the piece stands at the beginning of the text, and has a character at least
+abbrev Stands : List ℕ → Option Piece → Type 0
+Stands cs found = IfSome found (λ x. (cs ≡ x.text ++ x.rest) × (length x.rest < length cs))
+
+-- what a choice gives, each way under its test
+stands_if : (cs : List ℕ) (b : Bool) (x y : Option Piece) → (b ≡ true → Stands cs x) → (b ≡ false → Stands cs y) → Stands cs (if b then x else y)
+stands_if cs true x y h k = h refl
+stands_if cs false x y h k = k refl
+
+line_comment_stands : (k : PieceKind) (nl : Bool) (c : ℕ) (cs : List ℕ) → is_line_terminator c ≡ false → Stands (c ∷ cs) (Some (line_comment k nl (c ∷ cs)))
+line_comment_stands k nl c cs e =
+    (sym (before_from is_line_terminator (c ∷ cs)), rw e (omega (arith, length-from_first is_line_terminator cs)))
+
+-- a cut text is its two parts, and the mark is at most as long as the first
+abbrev CutsText : List ℕ → Option Cut → Type 0
+CutsText cs found = IfSome found (λ cut. cs ≡ cut.front ++ cut.rest)
+
+cuts_if : (cs : List ℕ) (b : Bool) (x y : Option Cut) → (b ≡ true → CutsText cs x) → CutsText cs y → CutsText cs (if b then x else y)
+cuts_if cs true x y h k = h refl
+cuts_if cs false x y h k = k
+
+cuts-cons : (c : ℕ) (cs : List ℕ) (found : Option Cut) → CutsText cs found → CutsText (c ∷ cs) (option_map (cut-cons c) found)
+cuts-cons c cs None h = tt
+cuts-cons c cs (Some cut) h = ap (λ t. c ∷ t) h
+
+pub cuts : (mark cs : List ℕ) → CutsText cs (cut_behind mark cs)
+cuts mark [] = tt
+cuts mark (c ∷ cs) = cuts_if (c ∷ cs) (is_prefix mark (c ∷ cs)) _ _ (prefix_is mark (c ∷ cs)) (cuts-cons c cs (cut_behind mark cs) (cuts mark cs))
+
+block_stands : (nl : Bool) (cs : List ℕ) (found : Option Cut) → cs ≡ codes "/*" ++ drop 2 cs → CutsText (drop 2 cs) found
+    → Stands cs (option_map (λ cut. record { kind = multi_line_comment; text = codes "/*" ++ cut.front; line_ended = nl || list_any is_line_terminator cut.front; rest = cut.rest }) found)
+block_stands nl cs None begins h = tt
+block_stands nl cs (Some cut) begins h =
+    let whole : cs ≡ codes "/*" ++ (cut.front ++ cut.rest) = begins ∙ ap (λ t. codes "/*" ++ t) h in
+    (whole ∙ sym (append_assoc (codes "/*") cut.front cut.rest), omega (arith, ap length whole, length-append cut.front cut.rest))
+
+pub piece_stands : (t : SourceType) (nl : Bool) (cs : List ℕ) → Stands cs (piece t nl cs)
+piece_stands t nl [] = tt
+piece_stands t nl (c ∷ cs) =
+    stands_if _ (is_white_space c) _ _ (λ e. (refl, omega arith)) (λ e0.
+    stands_if _ (is_line_terminator c) _ _ (λ e. (refl, omega arith)) (λ e1.
+    stands_if _ (is_prefix (codes "//") (c ∷ cs)) _ _ (λ e. line_comment_stands single_line_comment nl c cs e1) (λ e2.
+    stands_if _ (is_prefix (codes "/*") (c ∷ cs)) _ _ (λ e. block_stands nl (c ∷ cs) (cut_behind (codes "*/") (drop 2 (c ∷ cs))) (prefix_is (codes "/*") (c ∷ cs) e) (cuts (codes "*/") (drop 2 (c ∷ cs)))) (λ e3.
+    stands_if _ (is_prefix (codes "<!--") (c ∷ cs) && has_html_comments t) _ _ (λ e. line_comment_stands html_open_comment nl c cs e1) (λ e4.
+    stands_if _ (is_prefix (codes "-->") (c ∷ cs) && (has_html_comments t && nl)) _ None (λ e. line_comment_stands html_close_comment nl c cs e1) (λ e5. tt))))))
+
+-- a piece takes at least one character
+pub piece_takes : (t : SourceType) (nl : Bool) (cs : List ℕ) (x : Piece) → piece t nl cs ≡ Some x → length x.rest < length cs
+piece_takes t nl cs x e = let both = subst (Stands cs) e (piece_stands t nl cs) in both.1
+
+-- a piece is the characters that it carries
+pub piece_text : (t : SourceType) (nl : Bool) (cs : List ℕ) (x : Piece) → piece t nl cs ≡ Some x → cs ≡ x.text ++ x.rest
+piece_text t nl cs x e = let both = subst (Stands cs) e (piece_stands t nl cs) in both.0
+
+-- The longest gap is one: its pieces, its end, and whether a line has ended in it.
+pub gap_unique : (t : SourceType) (nl : Bool) (cs : List ℕ) (xs ys : List Piece) (e f : Bool) (r s : List ℕ)
+    → Gap t nl cs xs e r → piece t e r ≡ None → Gap t nl cs ys f s → piece t f s ≡ None → (xs ≡ ys) × (e ≡ f) × (r ≡ s)
+gap_unique t nl cs [] [] e f r s g n h m = (refl, g.0 ∙ sym h.0, g.1 ∙ sym h.1)
+gap_unique t nl cs [] (y ∷ ys) e f r s g n h m =
+    let here : piece t nl cs ≡ None = ap (λ b. piece t b cs) (sym g.0) ∙ ap (λ u. piece t e u) (sym g.1) ∙ n in cc
+gap_unique t nl cs (x ∷ xs) [] e f r s g n h m =
+    let here : piece t nl cs ≡ None = ap (λ b. piece t b cs) (sym h.0) ∙ ap (λ u. piece t f u) (sym h.1) ∙ m in cc
+gap_unique t nl cs (x ∷ xs) (y ∷ ys) e f r s g n h m =
+    let same : x ≡ y = cc in
+    let rest = gap_unique t y.line_ended y.rest xs ys e f r s (subst (λ z. Gap t z.line_ended z.rest xs e r) same g.1) n h.1 m in
+    (ap (λ z. z ∷ xs) same ∙ ap (λ zs. y ∷ zs) rest.0, rest.1, rest.2)
+
+pub longest_gap_unique : (t : SourceType) (nl : Bool) (cs : List ℕ) (e f : Bool) (r s : List ℕ) → LongestGap t nl cs e r → LongestGap t nl cs f s → (e ≡ f) × (r ≡ s)
+longest_gap_unique t nl cs e f r s g h = let same = gap_unique t nl cs _ _ e f r s g.gap g.longest h.gap h.longest in (same.1, same.2)
+
+-- a piece before a longest gap
+pub longest_gap-cons : (t : SourceType) (nl : Bool) (cs : List ℕ) (x : Piece) (e : Bool) (r : List ℕ) → piece t nl cs ≡ Some x → LongestGap t x.line_ended x.rest e r → LongestGap t nl cs e r
+longest_gap-cons t nl cs x e r h g = record { pieces = x ∷ g.pieces; gap = (h, g.gap); longest = g.longest }
+
+pub longest_gap-nil : (t : SourceType) (nl : Bool) (cs : List ℕ) → piece t nl cs ≡ None → LongestGap t nl cs nl cs
+longest_gap-nil t nl cs h = record { pieces = []; gap = (refl, refl); longest = h }

@@ -1,0 +1,9 @@
+pub mod Clean
+pub mod GapLemmas
+pub mod NameLemmas
+pub mod PieceLemmas
+pub mod PunctuatorLeaves
+pub mod PunctuatorLemmas
+pub mod Spans
+pub mod Tests
+pub mod Unique

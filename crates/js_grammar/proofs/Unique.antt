@@ -1,0 +1,158 @@
+-- What the grammar reads is one.
+use Rattle.std.proofs.Common.{◌≡◌, ℕ, ◌+◌, ◌-◌, ◌<◌, ◌≤◌, Bool, true, false, List, [], ◌∷◌, ◌++◌, length, take, drop, refl, sym, ◌∙◌, ap, subst, arith, Option, Some, None, inl, inr, length-append}
+use Rattle.std.specs.Prelude.{if◌then◌else◌}
+use Rattle.std.specs.Str.{IsCharBoundary, IsUtf8, encode_utf8_all, bytes_eq}
+use Rattle.js_text.specs.Characters.{from_place, begins, is_line_terminator, from_first}
+use Rattle.js_text.specs.declared.source_type.SourceType.{SourceType}
+use Rattle.js_text.proofs.TextLemmas.{place_unique}
+use Rattle.js_kind.specs.TokenParts.{TokenParts}
+use Rattle.js_kind.specs.declared.kind.Kind.{Kind}
+use Rattle.js_grammar.specs.Gap.{LongestGap, WholeGap}
+use Rattle.js_grammar.specs.Goals.{Outcome, ReadsHere, ReadsBehindGap, GoalReads, reported_diagnostics}
+use Rattle.js_grammar.specs.Goals.ReadsHere.{spelled as spelled_here, recovers}
+use Rattle.js_grammar.specs.Goals.GoalReads.{hashbang as hashbang_read, behind_gap}
+use Rattle.js_grammar.specs.Hashbang.{Goal, begins_hashbang, IsHashbang}
+use Rattle.js_grammar.specs.Punctuators.{Punctuator, punctuators, IsIn}
+use Rattle.js_grammar.specs.Reads.{IsSpelled, PlainReads, SameReading}
+use Rattle.js_grammar.specs.Reads.PlainReads.{hashbang, spelled}
+use Rattle.js_grammar.specs.Recovery.{Recovery, recovered}
+use Rattle.js_grammar.specs.Spelling.{Spelling, IsName, LongestSpelling, NothingSpelled}
+use Rattle.js_grammar.specs.Spelling.Spelling.{name, punctuator, end_of_source}
+use Rattle.js_grammar.proofs.GapLemmas.{longest_gap_unique}
+use Rattle.js_grammar.proofs.PunctuatorLemmas.{name_begins_no_punctuator, some_text}
+use Rattle.js_text.specs.declared.diagnostic.Diagnostic.{Diagnostic}
+
+-- fronts of one length are equal
+fronts : {A : Type 0} (xs ys us vs : List A) → xs ++ ys ≡ us ++ vs → length xs ≡ length us → (xs ≡ us) × (ys ≡ vs)
+fronts [] ys [] vs e l = (refl, e)
+fronts [] ys (u ∷ us) vs e l = absurd (cc)
+fronts (x ∷ xs) ys [] vs e l = absurd (cc)
+fronts (x ∷ xs) ys (u ∷ us) vs e l =
+    let tails : xs ++ ys ≡ us ++ vs = cc in
+    let head : x ≡ u = cc in
+    let ih = fronts xs ys us vs tails (omega (arith, l)) in
+    (ap (λ t. t ∷ xs) head ∙ ap (λ t. u ∷ t) ih.0, ih.1)
+
+-- the kind of the first punctuator with this text
+abbrev kind_of : List Punctuator → List ℕ → Option Kind
+kind_of [] text = None
+kind_of (p ∷ ps) text = if bytes_eq p.text text then Some p.kind else kind_of ps text
+
+-- each entry is the first of its text
+abbrev Firsts : List Punctuator → List Punctuator → Type 0
+Firsts all [] = Unit {0}
+Firsts all (p ∷ ps) = (kind_of all p.text ≡ Some p.kind) × Firsts all ps
+
+firsts : Firsts punctuators punctuators
+firsts =
+    (refl, (refl, (refl, (refl, (refl, (refl, (refl, (refl, (refl, (refl, (refl, (refl, (refl, (refl, (refl, (refl, (refl, (refl, (refl, (refl, (refl, (refl, (refl, (refl, (refl, (refl, (refl, (refl, (refl, (refl, (refl, (refl, (refl, (refl, (refl, (refl, (refl, (refl, (refl, (refl, (refl, (refl, (refl, (refl, (refl, (refl, (refl, (refl, (refl, (refl, (refl, (refl, (refl, tt)))))))))))))))))))))))))))))))))))))))))))))))))))))
+
+first_at : (all : List Punctuator) (p : Punctuator) (ps : List Punctuator) → IsIn p ps → Firsts all ps → kind_of all p.text ≡ Some p.kind
+first_at all p [] i h = absurd i
+first_at all p (q ∷ ps) i h = elim i [ inl here ↦ subst (λ r. kind_of all r.text ≡ Some r.kind) (sym here) h.0 | inr there ↦ first_at all p ps there h.1 ]
+
+-- a text has one kind
+kind_unique : (t : SourceType) (nl : Bool) (xs ys : List ℕ) (j k : Kind) → Spelling t nl xs ys j → Spelling t nl xs ys k → j ≡ k
+kind_unique t nl xs ys j k (name is end kind) (name is' end' kind') = kind ∙ sym kind'
+kind_unique t nl xs ys j k (name is end kind) (punctuator p i same allowed kind') = absurd (name_begins_no_punctuator xs p is i same)
+kind_unique t nl xs ys j k (name is end kind) (end_of_source none end' kind') = absurd (subst IsName none is)
+kind_unique t nl xs ys j k (punctuator p i same allowed kind) (name is end kind') = absurd (name_begins_no_punctuator xs p is i same)
+kind_unique t nl xs ys j k (punctuator p i same allowed kind) (punctuator q i' same' allowed' kind') =
+    let texts : p.text ≡ q.text = sym same ∙ same' in
+    let kinds : Some p.kind ≡ Some q.kind = sym (first_at punctuators p punctuators i firsts) ∙ ap (kind_of punctuators) texts ∙ first_at punctuators q punctuators i' firsts in
+    cc
+kind_unique t nl xs ys j k (punctuator p i same allowed kind) (end_of_source none end kind') = absurd (some_text p i (sym same ∙ none))
+kind_unique t nl xs ys j k (end_of_source none end kind) (name is end' kind') = absurd (subst IsName none is)
+kind_unique t nl xs ys j k (end_of_source none end kind) (punctuator p i same allowed kind') = absurd (some_text p i (sym same ∙ none))
+kind_unique t nl xs ys j k (end_of_source none end kind) (end_of_source none' end' kind') = kind ∙ sym kind'
+
+-- the longest spelling is one
+pub longest_unique : (t : SourceType) (nl : Bool) (text xs ys us vs : List ℕ) (j k : Kind) → LongestSpelling t nl text xs ys j → LongestSpelling t nl text us vs k → (ys ≡ vs) × (j ≡ k)
+longest_unique t nl text xs ys us vs j k a b =
+    let same_length : length xs ≡ length us = omega (arith, a.longest us vs k b.here b.spelling, b.longest xs ys j a.here a.spelling) in
+    let same = fronts xs ys us vs (sym a.here ∙ b.here) same_length in
+    let other : Spelling t nl xs ys k = subst (λ r. Spelling t nl xs r k) (sym same.1) (subst (λ r. Spelling t nl r vs k) (sym same.0) b.spelling) in
+    (same.1, kind_unique t nl xs ys j k a.spelling other)
+
+hashbang_unique : (text : List ℕ) (nl : Bool) (a b : TokenParts) → IsUtf8 text → IsHashbang text a → IsHashbang text b → a.is_on_new_line ≡ nl → b.is_on_new_line ≡ nl → SameReading a b
+hashbang_unique text nl a b utf8 h g m n = record {
+  start = h.start ∙ sym g.start;
+  end = place_unique text a.end b.end utf8 h.end g.end (h.up_to_line_end ∙ sym g.up_to_line_end);
+  kind = h.kind ∙ sym g.kind;
+  is_on_new_line = m ∙ sym n;
+}
+
+-- spellings at one place
+here_unique : (text : List ℕ) (t : SourceType) (ended : Bool) (a b : TokenParts) (xs us : List ℕ) → IsUtf8 text → a.start ≡ b.start
+    → IsCharBoundary text a.end → IsCharBoundary text b.end
+    → LongestSpelling t ended (from_place text a.start) xs (from_place text a.end) a.kind
+    → LongestSpelling t ended (from_place text b.start) us (from_place text b.end) b.kind → (a.end ≡ b.end) × (a.kind ≡ b.kind)
+here_unique text t ended a b xs us utf8 start ea eb la lb =
+    let there = subst (λ p. LongestSpelling t ended (from_place text p) us (from_place text b.end) b.kind) (sym start) lb in
+    let same = longest_unique t ended _ _ _ _ _ _ _ la there in
+    (place_unique text a.end b.end utf8 ea eb same.0, same.1)
+
+spelled_unique : (text : List ℕ) (t : SourceType) (nl : Bool) (place : ℕ) (a b : TokenParts) → IsUtf8 text → IsSpelled text t nl place a → IsSpelled text t nl place b → SameReading a b
+spelled_unique text t nl place a b utf8 h g =
+    let gaps = longest_gap_unique _ _ _ _ _ _ _ h.gap g.gap in
+    let start : a.start ≡ b.start = place_unique text _ _ utf8 h.start g.start gaps.1 in
+    let there = subst (λ e. LongestSpelling t e (from_place text b.start) g.spelled (from_place text b.end) b.kind) (sym gaps.0) g.spelling in
+    let same = here_unique text t a.is_on_new_line a b h.spelled g.spelled utf8 start h.end g.end h.spelling there in
+    record { start = start; end = same.0; kind = same.1; is_on_new_line = gaps.0 }
+
+-- the tokens that the grammar reads at a place have one span, kind and newline flag
+pub plain_reads_unique : (text : List ℕ) (t : SourceType) (goal : Goal) (nl : Bool) (place : ℕ) (a b : TokenParts) → IsUtf8 text
+    → PlainReads text t goal nl place a → PlainReads text t goal nl place b → SameReading a b
+plain_reads_unique text t goal nl place a b utf8 (hashbang x h m) (hashbang y g n) = hashbang_unique text nl a b utf8 h g m n
+plain_reads_unique text t goal nl place a b utf8 (hashbang x h m) (spelled y g) = absurd (cc)
+plain_reads_unique text t goal nl place a b utf8 (spelled x h) (hashbang y g n) = absurd (cc)
+plain_reads_unique text t goal nl place a b utf8 (spelled x h) (spelled y g) = spelled_unique text t nl place a b utf8 h g
+
+-- a whole gap is one
+pub whole_gap_unique : (t : SourceType) (nl : Bool) (cs : List ℕ) (rs ss : List (List ℕ)) (e f : Bool) (r s : List ℕ)
+    → WholeGap t nl cs rs e r → WholeGap t nl cs ss f s → (rs ≡ ss) × (e ≡ f) × (r ≡ s)
+whole_gap_unique t nl cs [] [] e f r s g h = let same = longest_gap_unique t nl cs e f r s g.0 h.0 in (refl, same.0, same.1)
+whole_gap_unique t nl cs [] (y ∷ ss) e f r s g h =
+    let same = longest_gap_unique t nl cs e true r y g.0 h.0 in
+    absurd (let no : false ≡ true = sym g.1 ∙ rw (same.0, same.1) h.1 in cc)
+whole_gap_unique t nl cs (x ∷ rs) [] e f r s g h =
+    let same = longest_gap_unique t nl cs f true s x h.0 g.0 in
+    absurd (let no : false ≡ true = sym h.1 ∙ rw (same.0, same.1) g.1 in cc)
+whole_gap_unique t nl cs (x ∷ rs) (y ∷ ss) e f r s g h =
+    let same = longest_gap_unique t nl cs true true x y g.0 h.0 in
+    let there = subst (λ z. WholeGap t true (from_first is_line_terminator z) ss f s) (sym same.1) h.2 in
+    let ih = whole_gap_unique t true (from_first is_line_terminator x) rs ss e f r s g.2 there in
+    (ap (λ z. z ∷ rs) same.1 ∙ ap (λ zs. y ∷ zs) ih.0, ih.1, ih.2)
+
+-- what is read behind one gap is one: the end, the kind, the newline flag and what is reported
+read_here_unique : (text : List ℕ) (t : SourceType) (ended : Bool) (a b : TokenParts) (fs gs : List Diagnostic) → IsUtf8 text → a.start ≡ b.start
+    → IsCharBoundary text a.end → IsCharBoundary text b.end → ReadsHere text t ended a fs → ReadsHere text t ended b gs
+    → (a.end ≡ b.end) × (a.kind ≡ b.kind) × (a.is_on_new_line ≡ b.is_on_new_line) × (fs ≡ gs)
+read_here_unique text t ended a b fs gs utf8 start ea eb (spelled_here xs la na fa) (spelled_here us lb nb fb) =
+    let same = here_unique text t ended a b xs us utf8 start ea eb la lb in (same.0, same.1, na ∙ sym nb, fa ∙ sym fb)
+read_here_unique text t ended a b fs gs utf8 start ea eb (spelled_here xs la na fa) (recovers nothing e) =
+    let there = subst (λ p. NothingSpelled t ended (from_place text p)) (sym start) nothing in absurd (there _ _ _ la.here la.spelling)
+read_here_unique text t ended a b fs gs utf8 start ea eb (recovers nothing e) (spelled_here us lb nb fb) =
+    let there = subst (λ p. NothingSpelled t ended (from_place text p)) start nothing in absurd (there _ _ _ lb.here lb.spelling)
+read_here_unique text t ended a b fs gs utf8 start ea eb (recovers nothing e) (recovers nothing' e') =
+    let same : recovered text t ended (from_place text a.start) ≡ recovered text t ended (from_place text b.start) = ap (λ p. recovered text t ended (from_place text p)) start in
+    let all = sym e ∙ same ∙ e' in
+    (place_unique text a.end b.end utf8 ea eb (ap (λ r. r.rest) all), ap (λ r. r.kind) all, ap (λ r. r.is_on_new_line) all, ap (λ r. r.diagnostics) all)
+
+same_outcome : (a b : Outcome) → SameReading a.token b.token → a.token.escaped ≡ b.token.escaped → a.token.has_separator ≡ b.token.has_separator → a.diagnostics ≡ b.diagnostics → a ≡ b
+same_outcome a b s e p d = rw (s.start, s.end, s.kind, s.is_on_new_line, e, p, d) refl
+
+-- A reading is one.
+pub goal_reads_unique : (text : List ℕ) (t : SourceType) (goal : Goal) (nl : Bool) (place : ℕ) (a b : Outcome) → IsUtf8 text
+    → GoalReads text t goal nl place a → GoalReads text t goal nl place b → a ≡ b
+goal_reads_unique text t goal nl place a b utf8 (hashbang_read x h m ea sa da) (hashbang_read y g n eb sb db) =
+    same_outcome a b (hashbang_unique text nl a.token b.token utf8 h g m n) (ea ∙ sym eb) (sa ∙ sym sb) (da ∙ sym db)
+goal_reads_unique text t goal nl place a b utf8 (hashbang_read x h m ea sa da) (behind_gap y g eb sb) = absurd (cc)
+goal_reads_unique text t goal nl place a b utf8 (behind_gap x h ea sa) (hashbang_read y g n eb sb db) = absurd (cc)
+goal_reads_unique text t goal nl place a b utf8 (behind_gap x h ea sa) (behind_gap y g eb sb) =
+    let gaps = whole_gap_unique _ _ _ _ _ _ _ _ _ h.gap g.gap in
+    let start : a.token.start ≡ b.token.start = place_unique text _ _ utf8 h.start g.start gaps.2 in
+    let there = subst (λ e. ReadsHere text t e b.token g.faults) (sym gaps.1) g.here in
+    let same = read_here_unique text t h.ended a.token b.token h.faults g.faults utf8 start h.end g.end h.here there in
+    same_outcome a b (record { start = start; end = same.0; kind = same.1; is_on_new_line = same.2 }) (ea ∙ sym eb) (sa ∙ sym sb)
+    (h.diagnostics ∙ ap (λ rs. reported_diagnostics text rs ++ h.faults) gaps.0 ∙ ap (λ fs. reported_diagnostics text g.reported ++ fs) same.3 ∙ sym g.diagnostics)

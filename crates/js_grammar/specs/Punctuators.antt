@@ -1,0 +1,125 @@
+-- The punctuators of the plain goal (ECMA-262 12.8, with `@`), and what may not follow one.
+use Rattle.std.specs.Prelude.{◌≡◌, ℕ, Bool, true, false, List, [], ◌∷◌, ◌++◌, length, drop, ◌==◌, ◌&&◌, ◌||◌, not, nat_le, codes, ◌⊎◌}
+use Rattle.js_text.specs.Characters.{begins}
+use Rattle.js_text.specs.SourceType.{is_module}
+use Rattle.js_text.specs.declared.source_type.SourceType.{SourceType}
+use Rattle.js_grammar.specs.Gap.{is_prefix}
+use Rattle.js_kind.specs.declared.kind.Kind.{Kind}
+use Rattle.js_kind.specs.declared.kind.Kind.TheVariants.{Amp, Amp2, Amp2Eq, AmpEq, Bang, Caret, CaretEq, Colon, Comma, Dot, Dot3, Eq, Eq2, Eq3, LAngle, LBrack, LCurly, LParen, LtEq, Minus, Minus2, MinusEq, Neq, Neq2, Percent, PercentEq, Pipe, Pipe2, Pipe2Eq, PipeEq, Plus, Plus2, PlusEq, Question, Question2, Question2Eq, QuestionDot, RAngle, RBrack, RCurly, RParen, Semicolon, ShiftLeft, ShiftLeftEq, Slash, SlashEq, Star, Star2, Star2Eq, StarEq, Tilde, Arrow, At}
+
+-- the digits from 0 to 9
+abbrev pub is_decimal_digit : ℕ → Bool
+is_decimal_digit c = nat_le 48 c && nat_le c 57
+
+-- the text begins with a dot that no digit follows
+abbrev pub is_optional_dot : List ℕ → Bool
+is_optional_dot [] = false
+is_optional_dot (c ∷ cs) = (c == 46) && not (begins is_decimal_digit cs)
+
+-- A punctuator: its text, its kind, and which texts may not follow it. The source type and whether a line has ended
+-- before the punctuator may matter for that.
+pub record Punctuator : Type 0 where
+  pub text : List ℕ
+  pub kind : Kind
+  pub excluded : SourceType → Bool → List ℕ → Bool
+
+-- a punctuator that anything may follow
+abbrev pub plain : List ℕ → Kind → Punctuator
+plain xs k = record { text = xs; kind = k; excluded = λ t nl rest. false }
+
+-- a punctuator that no digit may follow
+abbrev pub before_no_digit : List ℕ → Kind → Punctuator
+before_no_digit xs k = record { text = xs; kind = k; excluded = λ t nl rest. begins is_decimal_digit rest }
+
+-- `/`, which begins a comment before `*`
+abbrev pub slash : Punctuator
+slash = record { text = codes "/"; kind = Slash; excluded = λ t nl rest. begins (λ c. c == 42) rest }
+
+-- `<`, which begins a reported comment before `!--`, in a module where a line has ended
+abbrev pub left_angle : Punctuator
+left_angle = record { text = codes "<"; kind = LAngle; excluded = λ t nl rest. is_prefix (codes "!--") rest && (is_module t && nl) }
+
+-- All punctuators. Of those that begin with `>`, a plain step gives `>` alone.
+abbrev pub punctuators : List Punctuator
+punctuators =
+    plain (codes "&") Amp
+    ∷ plain (codes "&&") Amp2
+    ∷ plain (codes "&&=") Amp2Eq
+    ∷ plain (codes "&=") AmpEq
+    ∷ plain (codes "!") Bang
+    ∷ plain (codes "^") Caret
+    ∷ plain (codes "^=") CaretEq
+    ∷ plain (codes ":") Colon
+    ∷ plain (codes ",") Comma
+    ∷ before_no_digit (codes ".") Dot
+    ∷ plain (codes "...") Dot3
+    ∷ plain (codes "=") Eq
+    ∷ plain (codes "==") Eq2
+    ∷ plain (codes "===") Eq3
+    ∷ left_angle
+    ∷ plain (codes "[") LBrack
+    ∷ plain (codes "{") LCurly
+    ∷ plain (codes "(") LParen
+    ∷ plain (codes "<=") LtEq
+    ∷ plain (codes "-") Minus
+    ∷ plain (codes "--") Minus2
+    ∷ plain (codes "-=") MinusEq
+    ∷ plain (codes "!=") Neq
+    ∷ plain (codes "!==") Neq2
+    ∷ plain (codes "%") Percent
+    ∷ plain (codes "%=") PercentEq
+    ∷ plain (codes "|") Pipe
+    ∷ plain (codes "||") Pipe2
+    ∷ plain (codes "||=") Pipe2Eq
+    ∷ plain (codes "|=") PipeEq
+    ∷ plain (codes "+") Plus
+    ∷ plain (codes "++") Plus2
+    ∷ plain (codes "+=") PlusEq
+    ∷ plain (codes "?") Question
+    ∷ plain (codes "??") Question2
+    ∷ plain (codes "??=") Question2Eq
+    ∷ before_no_digit (codes "?.") QuestionDot
+    ∷ plain (codes ">") RAngle
+    ∷ plain (codes "]") RBrack
+    ∷ plain (codes "}") RCurly
+    ∷ plain (codes ")") RParen
+    ∷ plain (codes ";") Semicolon
+    ∷ plain (codes "<<") ShiftLeft
+    ∷ plain (codes "<<=") ShiftLeftEq
+    ∷ slash
+    ∷ plain (codes "/=") SlashEq
+    ∷ plain (codes "*") Star
+    ∷ plain (codes "**") Star2
+    ∷ plain (codes "**=") Star2Eq
+    ∷ plain (codes "*=") StarEq
+    ∷ plain (codes "~") Tilde
+    ∷ plain (codes "=>") Arrow
+    ∷ plain (codes "@") At
+    ∷ []
+
+-- the punctuator stands in the list
+abbrev pub IsIn : Punctuator → List Punctuator → Type 0
+IsIn x [] = ⊥
+IsIn x (y ∷ ys) = (x ≡ y) ⊎ IsIn x ys
+
+-- each punctuator passes
+abbrev pub every : (Punctuator → Bool) → List Punctuator → Bool
+every test [] = true
+every test (p ∷ ps) = test p && every test ps
+
+-- the text begins with the punctuator, and what follows may follow it
+abbrev pub is_spelled : SourceType → Bool → List ℕ → Punctuator → Bool
+is_spelled t nl cs p = is_prefix p.text cs && not (p.excluded t nl (drop (length p.text) cs))
+
+-- The text begins with the punctuator `it`, after which rest is left, and with no longer one.
+pub record LongestPunctuator (t : SourceType) (nl : Bool) (text rest : List ℕ) (k : Kind) : Type 0 where
+  pub it : Punctuator
+  pub in_table : IsIn it punctuators
+  pub here : text ≡ it.text ++ rest
+  pub allowed : it.excluded t nl rest ≡ false
+  pub kind : k ≡ it.kind
+  pub longest : every (λ q. not (is_spelled t nl text q) || nat_le (length q.text) (length it.text)) punctuators ≡ true
+
+-- No punctuator is spelled at the beginning of the text.
+abbrev pub NoPunctuator : SourceType → Bool → List ℕ → Type 0
+NoPunctuator t nl text = every (λ q. not (is_spelled t nl text q)) punctuators ≡ true

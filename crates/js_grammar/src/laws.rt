@@ -1,0 +1,38 @@
+//! Laws of the definitions alone: each function carries one for all arguments, and does nothing.
+
+ghost use Rattle.std.specs.Prelude.{◌≡◌, ◌<◌, ◌↔◌, ℕ, Bool, List, [], ◌++◌, length};
+ghost use Rattle.std.specs.Str.{IsUtf8};
+ghost use Rattle.js_text.specs.declared.source_type.SourceType.{SourceType};
+ghost use Rattle.js_kind.specs.TokenParts.{TokenParts};
+ghost use Rattle.js_grammar.specs.Gap.{Piece, piece};
+ghost use Rattle.js_grammar.specs.Goals.{Outcome, GoalReads};
+ghost use Rattle.js_grammar.specs.Hashbang.{Goal};
+ghost use Rattle.js_grammar.specs.Reads.{PlainReads, SameReading};
+
+/// At most one piece of a gap starts at a place, and it is a character long at least.
+pub fn one_piece_starts_at_a_place()
+    ensures one { (t : SourceType) (nl : Bool) (text : List ℕ) (x y : Piece)
+        → piece t nl text ≡ Some x → piece t nl text ≡ Some y → x ≡ y }
+    ensures characters { (t : SourceType) (nl : Bool) (text : List ℕ) (x : Piece)
+        → piece t nl text ≡ Some x → (text ≡ x.text ++ x.rest) × (length x.rest < length text) }
+{}
+
+/// The tokens that the grammar reads from a place on have one span, kind and newline flag.
+pub fn one_token_is_read()
+    ensures { (text : List ℕ) (t : SourceType) (goal : Goal) (nl : Bool) (place : ℕ) (a b : TokenParts) → IsUtf8 text
+        → PlainReads text t goal nl place a → PlainReads text t goal nl place b → SameReading a b }
+{}
+
+/// A reading gives one token, and reports one list.
+pub fn one_outcome_is_given()
+    ensures { (text : List ℕ) (t : SourceType) (goal : Goal) (nl : Bool) (place : ℕ) (a b : Outcome) → IsUtf8 text
+        → GoalReads text t goal nl place a → GoalReads text t goal nl place b → a ≡ b }
+{}
+
+/// A reading reports nothing exactly where the grammar reads a token, and then it is this one.
+pub fn a_clean_reading_is_the_grammars()
+    ensures clean { (text : List ℕ) (t : SourceType) (goal : Goal) (nl : Bool) (place : ℕ) (o : Outcome) → GoalReads text t goal nl place o
+        → (o.diagnostics ≡ []) ↔ ((token : TokenParts) × PlainReads text t goal nl place token) }
+    ensures token { (text : List ℕ) (t : SourceType) (goal : Goal) (nl : Bool) (place : ℕ) (o : Outcome) → GoalReads text t goal nl place o
+        → o.diagnostics ≡ [] → PlainReads text t goal nl place o.token }
+{}
