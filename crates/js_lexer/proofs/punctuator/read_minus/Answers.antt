@@ -1,0 +1,23 @@
+use Rattle.js_grammar.proofs.PunctuatorLeaves.{minus, minus2, minus_eq}
+use Rattle.js_lexer.proofs.Steps.{behind}
+use Rattle.js_lexer.proofs.punctuator.read_minus.Goals as goal
+
+pub returns-then-advance_if_ascii_eq-clause-longest : goal.returns-then-advance_if_ascii_eq-clause-longest
+returns-then-advance_if_ascii_eq-clause-longest c = λ t nl.
+    let first = behind 45 c.args.source.now c.next_char.new.self c.requires c.next_char.ensures.past in
+    let second = c.if-advance_if_ascii_eq.ensures.cases in
+    rw (first.1, second.here) (minus2 t nl _)
+
+pub returns-then-advance_if_ascii_eq-2-clause-longest : goal.returns-then-advance_if_ascii_eq-2-clause-longest
+returns-then-advance_if_ascii_eq-2-clause-longest c = λ t nl.
+    let first = behind 45 c.args.source.now c.next_char.new.self c.requires c.next_char.ensures.past in
+    let second = c.if-advance_if_ascii_eq.ensures.cases in
+    let third = c.if-advance_if_ascii_eq-2.ensures.cases in
+    rw (first.1, ← second.1, third.here) (minus_eq t nl _)
+
+pub returns-else-advance_if_ascii_eq-2-clause-longest : goal.returns-else-advance_if_ascii_eq-2-clause-longest
+returns-else-advance_if_ascii_eq-2-clause-longest c = λ t nl.
+    let first = behind 45 c.args.source.now c.next_char.new.self c.requires c.next_char.ensures.past in
+    let second = c.if-advance_if_ascii_eq.ensures.cases in
+    let third = c.if-advance_if_ascii_eq-2.ensures.cases in
+    rw (first.1, third.1, second.1) (minus t nl _ second.0 (rw second.1 at third.0))

@@ -1,0 +1,19 @@
+//! The lexer: readings of the plain goal, peeks and checkpoints (ECMA-262 12).
+#![tactic(auto)]
+
+mod checkpoint;
+mod comment;
+mod gap;
+mod lexer;
+mod mark;
+mod name;
+mod punctuator;
+mod reading;
+mod recover;
+mod recovery;
+
+pub use checkpoint::LexerCheckpoint;
+pub use lexer::{Lexer, NewFault};
+
+#[cfg(test)]
+mod tests;
