@@ -1,0 +1,74 @@
+-- The tests of a source and of a list of commands.
+use Rattle.std.proofs.Common.{◌≡◌, ℕ, ◌+◌, ◌<◌, ◌≤◌, Bool, true, false, cond, List, [], ◌∷◌, length, take, get_or, refl, sym, ◌∙◌, ap, subst, arith, count_by, inl, inr}
+use Rattle.std.proofs.lemmas.List.Sums.{count_by_more_no, count_by_more_yes, count_by-le-length}
+use Rattle.std.proofs.lemmas.Bool.{cases_lt}
+use Rattle.std.proofs.lemmas.Bool.Decides.{nat_tests}
+use Rattle.std.proofs.lemmas.List.{length-take-le}
+use Rattle.std.specs.List.{starts_with}
+use Rattle.std.specs.Prelude.{codes, nat_eq, ◌==◌}
+use Rattle.js_grammar.specs.Gap.{is_prefix}
+use Rattle.std.proofs.lemmas.Option.{slice_get_within, get_or_from_slice_get, slice_get-get_or}
+use Rattle.js_session.specs.declared.command.Command.{Command}
+use Rattle.js_session.specs.Faults.{ClosesNoMark, FirstWithoutMark, HasMarks}
+use Rattle.js_session.specs.Live.{opens, closes}
+
+-- one more command is counted
+count_more_by : (p : Command → Bool) (xs : List Command) (i : ℕ) (d : Command) → i < length xs → (b : Bool) → p (get_or xs i d) ≡ b → count_by p (take (i + 1) xs) ≡ count_by p (take i xs) + cond b 1 0
+count_more_by p xs i d h true e = count_by_more_yes p xs i d h e
+count_more_by p xs i d h false e = omega (arith, count_by_more_no p xs i d h e)
+
+pub count_more : (p : Command → Bool) (xs : List Command) (i : ℕ) (d : Command) → i < length xs → count_by p (take (i + 1) xs) ≡ count_by p (take i xs) + cond (p (get_or xs i d)) 1 0
+count_more p xs i d h = count_more_by p xs i d h (p (get_or xs i d)) refl
+
+-- the counts of the commands before an index
+pub counts_bound : (p : Command → Bool) (xs : List Command) (i : ℕ) → i ≤ length xs → count_by p (take i xs) ≤ i
+counts_bound p xs i h = omega (arith, count_by-le-length p (take i xs), length-take-le i xs h)
+
+-- The command at an index closes a mark where none is open.
+pub first_without : (commands : List Command) (index now : ℕ) (d : Command) → index < length commands → now ≡ 0 → closes (get_or commands index d) ≡ true
+    → now + count_by closes (take index commands) ≡ count_by opens (take index commands) → ((i : ℕ) → i < index → ¬ (ClosesNoMark commands i)) → FirstWithoutMark commands index
+first_without commands index now d within none is balance earlier = record {
+  here = record {
+    command = get_or commands index d;
+    here = slice_get-get_or commands index d within;
+    is_close = is;
+    none_open = sym (omega (arith, none, balance));
+  };
+  earlier = earlier;
+}
+
+-- Where a command that closes a mark has one to close, no mark too many was closed up to it.
+pub none_without : (commands : List Command) (index now : ℕ) (d : Command) → (closes (get_or commands index d) ≡ true → 0 < now)
+    → now + count_by closes (take index commands) ≡ count_by opens (take index commands) → ((i : ℕ) → i < index → ¬ (ClosesNoMark commands i))
+    → (i : ℕ) → i < index + 1 → ¬ (ClosesNoMark commands i)
+none_without commands index now d can balance earlier i below h =
+    elim (cases_lt i index) [
+      | inl before ↦ earlier i before h
+      | inr past ↦
+          let there : i ≡ index = omega (arith, past, below) in
+          let at : ClosesNoMark commands index = subst (ClosesNoMark commands) there h in
+          let some : 0 < now = can (ap closes (get_or_from_slice_get commands index at.command d at.here) ∙ at.is_close) in
+          absurd (omega (arith, some, balance, at.none_open))
+    ]
+
+pub never_without : (commands : List Command) (index : ℕ) → length commands ≤ index → ((i : ℕ) → i < index → ¬ (ClosesNoMark commands i)) → HasMarks commands
+never_without commands index whole earlier i h = earlier i (omega (arith, slice_get_within commands i h.command h.here, whole)) h
+
+-- the test for a hashbang
+eqb_turned : (a b : ℕ) → (a == b) ≡ (b == a)
+eqb_turned a b = grind (arith, nat_tests)
+
+pub begins_hash : (xs : List ℕ) → starts_with nat_eq xs (codes "#!") ≡ is_prefix (codes "#!") xs
+begins_hash [] = refl
+begins_hash (a ∷ []) = rw (eqb_turned 35 a) refl
+begins_hash (a ∷ b ∷ xs) = rw (eqb_turned 35 a, eqb_turned 33 b) refl
+
+-- one command more
+pub keeps_count : (commands : List Command) (index marks now : ℕ) (d : Command) → index < length commands
+    → now + cond (closes (get_or commands index d)) 1 0 ≡ marks + cond (opens (get_or commands index d)) 1 0
+    → (closes (get_or commands index d) ≡ true → 0 < marks)
+    → (marks + count_by closes (take index commands) ≡ count_by opens (take index commands)) × ((i : ℕ) → i < index → ¬ (ClosesNoMark commands i))
+    → (now + count_by closes (take (index + 1) commands) ≡ count_by opens (take (index + 1) commands)) × ((i : ℕ) → i < index + 1 → ¬ (ClosesNoMark commands i))
+keeps_count commands index marks now d within some can h =
+    let balance : marks + count_by closes (take index commands) ≡ count_by opens (take index commands) = h.0 in
+    (omega (arith, balance, some, count_more closes commands index d within, count_more opens commands index d within), none_without commands index marks d can h.0 h.1)

@@ -1,0 +1,57 @@
+-- Why a source or a list of commands gives no report.
+use Rattle.std.specs.Prelude.{◌≡◌, ℕ, ◌<◌, ◌≤◌, ◌^◌, Bool, true, false, List, length, take, slice_index, slice_get, count_by, codes, ◌==◌, ◌&&◌, ◌||◌, not, nat_le, Some}
+use Rattle.std.specs.Str.{IsUtf8}
+use Rattle.std.specs.Str.Lossy.{utf8_valid_len}
+use Rattle.js_grammar.specs.Gap.{is_prefix}
+use Rattle.js_session.specs.declared.command.Command.{Command}
+use Rattle.js_session.specs.declared.fault.LexFault.{LexFault}
+use Rattle.js_session.specs.declared.fault.LexFault.TheVariants.{Overlong, NotUtf8, NotBuilt, NoMark, Memory}
+use Rattle.js_session.specs.Live.{opens, closes}
+
+-- The bytes that no reading knows yet: `\`, `"`, `'`, backquote, `#` and the digits.
+abbrev pub is_unbuilt_byte : ℕ → Bool
+is_unbuilt_byte b = ((b == 92) || (b == 34)) || ((b == 39) || (b == 96)) || ((b == 35) || (nat_le 48 b && nat_le b 57))
+
+-- such a byte stands at the offset, and is not the first byte of a hashbang comment
+abbrev pub is_unbuilt_at : List ℕ → ℕ → Bool
+is_unbuilt_at source at = is_unbuilt_byte (slice_index source at) && not ((at == 0) && is_prefix (codes "#!") source)
+
+-- the offset is the first where such a byte stands
+pub record FirstUnbuilt (source : List ℕ) (at : ℕ) : Type 0 where
+  pub within : at < length source
+  pub here : is_unbuilt_at source at ≡ true
+  pub earlier : (i : ℕ) → i < at → is_unbuilt_at source i ≡ false
+
+-- no such byte stands anywhere
+abbrev pub IsBuilt : List ℕ → Type 0
+IsBuilt source = (i : ℕ) → i < length source → is_unbuilt_at source i ≡ false
+
+-- The command at the index closes a mark, and the commands before it have closed as many marks as they have opened.
+pub record ClosesNoMark (commands : List Command) (index : ℕ) : Type 0 where
+  pub command : Command
+  pub here : slice_get commands index ≡ Some command
+  pub is_close : closes command ≡ true
+  pub none_open : count_by opens (take index commands) ≡ count_by closes (take index commands)
+
+-- the command at the index is the first such
+pub record FirstWithoutMark (commands : List Command) (index : ℕ) : Type 0 where
+  pub here : ClosesNoMark commands index
+  pub earlier : (i : ℕ) → i < index → ¬ (ClosesNoMark commands i)
+
+-- each command that closes a mark has one to close
+abbrev pub HasMarks : List Command → Type 0
+HasMarks commands = (i : ℕ) → ¬ (ClosesNoMark commands i)
+
+-- the source is short, UTF-8, and of bytes that are known
+pub record IsReadable (source : List ℕ) : Type 0 where
+  pub short : length source < 2 ^ 32
+  pub utf8 : IsUtf8 source
+  pub built : IsBuilt source
+
+-- The cause of a fault: that of one is none of those tested before it. Want of memory has none.
+abbrev pub Cause : List ℕ → List Command → LexFault → Type 0
+Cause source commands Overlong = 2 ^ 32 ≤ length source
+Cause source commands (NotUtf8 at) = (length source < 2 ^ 32) × (¬ (IsUtf8 source)) × (at ≡ utf8_valid_len source)
+Cause source commands (NotBuilt at) = (length source < 2 ^ 32) × IsUtf8 source × FirstUnbuilt source at
+Cause source commands (NoMark index) = IsReadable source × FirstWithoutMark commands index
+Cause source commands Memory = ⊥

@@ -1,0 +1,5 @@
+pub mod Faults
+pub mod Live
+pub mod Marks
+pub mod Report
+pub mod Session

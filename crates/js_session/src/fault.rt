@@ -1,0 +1,115 @@
+//! Why there is no report, and the tests for it.
+
+ghost use Rattle.std.specs.Prelude.{◌≡◌, ◌+◌, ◌<◌, List, length, cond, codes, true, IfOk, IfErr, IfSome, IfNone, MatchOption};
+ghost use Rattle.js_grammar.specs.Gap.{is_prefix};
+ghost use Rattle.js_session.specs.Live.{opens, closes};
+ghost use Rattle.js_session.specs.declared.command.Command.{Command};
+ghost use Rattle.js_session.specs.Faults.{is_unbuilt_byte, is_unbuilt_at, FirstUnbuilt, IsBuilt, FirstWithoutMark, HasMarks, IsReadable, Cause};
+
+use crate::command::Command;
+
+/// Why a session gives no report, in the order in which it is tested.
+#[derive(Clone, Copy, PartialEq, Eq, Debug)]
+pub enum LexFault {
+    /// The source has more than `u32::MAX` bytes.
+    Overlong,
+    /// The source is not UTF-8. Its longest beginning that is has so many bytes.
+    NotUtf8(u32),
+    /// At this offset, in bytes, stands the first byte that the lexer does not know yet.
+    NotBuilt(u32),
+    /// The command at this index, from 0, closes a mark where none is open.
+    NoMark(usize),
+    Memory,
+}
+
+fn is_unbuilt_byte(byte: u8) -> bool
+    ensures { result ≡ is_unbuilt_byte byte }
+{
+    matches!(byte, b'\\' | b'"' | b'\'' | b'`' | b'#' | b'0'..=b'9')
+}
+
+fn begins_hashbang(source: &[u8]) -> bool
+    ensures { result ≡ is_prefix (codes "#!") source.now }
+{
+    source.starts_with(b"#!")
+}
+
+/// Whether an unknown byte stands at the offset, where `hashbang` tells whether a hashbang comment begins the source.
+fn is_unbuilt_at(source: &[u8], at: usize, hashbang: bool) -> bool
+    requires within { at < length source.now }
+    requires begins { hashbang ≡ is_prefix (codes "#!") source.now }
+    ensures { result ≡ is_unbuilt_at source.now at }
+{
+    is_unbuilt_byte(source[at]) && !(at == 0 && hashbang)
+}
+
+/// The first offset at which an unknown byte stands, but for the `#` of a hashbang comment.
+fn first_unbuilt(source: &[u8]) -> Option<usize>
+    ensures { MatchOption result (IsBuilt source.now) (FirstUnbuilt source.now) }
+{
+    let hashbang = begins_hashbang(source);
+    for at in 0..source.len() {
+        if is_unbuilt_at(source, at, hashbang) {
+            return Some(at);
+        }
+    }
+    None
+}
+
+/// How many marks are open after a command, where so many were before it. None where there is none to close.
+fn marks_after(marks: usize, command: Command) -> Option<usize>
+    requires { marks < usize.MAX }
+    ensures none { IfNone result ((marks ≡ 0) × (closes command ≡ true)) }
+    ensures some { IfSome result (λ n. n + cond (closes command) 1 0 ≡ marks + cond (opens command) 1 0) }
+    ensures can_close { IfSome result (λ _. closes command ≡ true → 0 < marks) }
+{
+    match command {
+        Command::Mark => Some(marks + 1),
+        Command::Rewind | Command::Commit => marks.checked_sub(1),
+        Command::Next | Command::Peek => Some(marks),
+    }
+}
+
+/// The first command that closes a mark where none is open.
+fn first_without_mark(commands: &[Command]) -> Option<usize>
+    ensures { MatchOption result (HasMarks commands.now) (FirstWithoutMark commands.now) }
+{
+    let mut marks = 0;
+    for index in 0..commands.len() {
+        match marks_after(marks, commands[index]) {
+            Some(now) => marks = now,
+            None => return Some(index),
+        }
+    }
+    None
+}
+
+/// The source as a text that can be read.
+fn readable(source: &[u8]) -> Result<&str, LexFault>
+    ensures ok { IfOk result (λ text. (text.now ≡ source.now) × IsReadable source.now) }
+    ensures err { IfErr result (λ fault. (commands : List Command) → Cause source.now commands fault) }
+{
+    if source.len() > u32::MAX as usize {
+        return Err(LexFault::Overlong);
+    }
+    let text = match str::from_utf8(source) {
+        Ok(text) => text,
+        Err(error) => return Err(LexFault::NotUtf8(error.valid_up_to() as u32)),
+    };
+    match first_unbuilt(source) {
+        Some(at) => Err(LexFault::NotBuilt(at as u32)),
+        None => Ok(text),
+    }
+}
+
+/// The source as a text, where nothing but want of memory can keep a session from its report.
+pub(crate) fn checked<'a>(source: &'a [u8], commands: &[Command]) -> Result<&'a str, LexFault>
+    ensures ok { IfOk result (λ text. (text.now ≡ source.now) × IsReadable source.now × HasMarks commands.now) }
+    ensures err { IfErr result (Cause source.now commands.now) }
+{
+    let text = readable(source)?;
+    match first_without_mark(commands) {
+        Some(index) => Err(LexFault::NoMark(index)),
+        None => Ok(text),
+    }
+}

@@ -1,0 +1,113 @@
+//! Whole sessions.
+
+ghost use Rattle.std.specs.Prelude.{◌≡◌, ◌<◌, ◌^◌, ◌⊎◌, length, IfOk, OnOk, IfErr, IsOk};
+ghost use Rattle.std.specs.List.{AllByRecursion};
+ghost use Rattle.js_session.specs.Faults.{IsReadable, HasMarks, Cause};
+ghost use Rattle.js_session.specs.Report.{ReportOf, HasMark, IsSliceOnPlaces};
+ghost use Rattle.js_session.specs.Session.{Follows};
+ghost use Rattle.js_session.specs.declared.fault.LexFault.{LexFault};
+
+use crate::command::Command;
+use crate::fault::{LexFault, checked};
+use crate::report::Report;
+use crate::session::Session;
+use crate::steps::Steps;
+use js_kind::{LexerConfig, RuntimeLexerConfig};
+use js_text::SourceType;
+use std::alloc::{AllocError, Global};
+use std::marker::Brand;
+use std::sync::ledger::{Blank, Ledger};
+
+/// One command of any kind.
+fn follow<C: LexerConfig + Drop, L: Ledger>(
+    session: &mut Session<'_, C>,
+    command: Command,
+    steps: &mut Steps<L>,
+) -> Result<(), AllocError>
+    requires { HasMark command session.old.state }
+    ensures { OnOk result (Follows command session.old session.new) }
+{
+    match command {
+        Command::Next | Command::Peek => session.step(command, steps),
+        Command::Mark => session.mark(),
+        Command::Rewind => {
+            session.rewind();
+            Ok(())
+        }
+        Command::Commit => {
+            session.commit();
+            Ok(())
+        }
+    }
+}
+
+/// The report of a list of commands that close no mark too many.
+fn lex_text<L: Ledger>(
+    alloc: Global,
+    text: &str,
+    source_type: SourceType,
+    tokens: bool,
+    commands: &[Command],
+    steps: &mut Steps<L>,
+) -> Result<Report, AllocError>
+    requires short { length text.now < 2 ^ 32 }
+    requires marks { HasMarks commands.now }
+    ensures { IfOk result (ReportOf text.now source_type tokens commands.now) }
+{
+    let config = RuntimeLexerConfig::new(tokens);
+    let mut session = match Session::begin(alloc, text, source_type, config, steps) {
+        Ok(session) => session,
+        Err(_) => return Err(AllocError),
+    };
+    for command in commands {
+        follow(&mut session, *command, steps)?;
+    }
+    Ok(session.finish())
+}
+
+/// The same, where source and commands are tested first, over a counter that nobody reads.
+fn lex_uncounted<L: Ledger>(
+    alloc: Global,
+    source: &[u8],
+    source_type: SourceType,
+    tokens: bool,
+    commands: &[Command],
+    blank: Blank,
+) -> Result<Report, LexFault>
+    requires name { blank.name ≡ L.name }
+    requires parts { blank.parts ≡ L.parts }
+    requires some_part { 0 < L.parts }
+    ensures report { IfOk result (ReportOf source.now source_type tokens commands.now) }
+    ensures ok { OnOk result (IsReadable source.now × HasMarks commands.now) }
+    ensures cause { IfErr result (λ fault. (fault ≡ LexFault.Memory) ⊎ Cause source.now commands.now fault) }
+{
+    let text = match checked(source, commands) {
+        Ok(text) => text,
+        Err(fault) => return Err(fault),
+    };
+    let mut steps = Steps::<L>::new(blank);
+    match lex_text(alloc, text, source_type, tokens, commands, &mut steps) {
+        Ok(report) => Ok(report),
+        Err(_) => Err(LexFault::Memory),
+    }
+}
+
+/// The report of a list of commands over a source. The source is tested first, and then the commands.
+pub fn lex_session(
+    alloc: Global,
+    source: &[u8],
+    source_type: SourceType,
+    tokens: bool,
+    commands: &[Command],
+) -> Result<Report, LexFault>
+    // A row for each step, each the reading of its goal from its place, and what is live after the commands.
+    ensures report { IfOk result (ReportOf source.now source_type tokens commands.now) }
+    ensures slices { IfOk result (λ r. AllByRecursion (λ row. IsSliceOnPlaces source.now row.value) r.rows) }
+    ensures ok { OnOk result (IsReadable source.now × HasMarks commands.now) }
+    // Each fault comes for its cause alone, and where its cause is there, nothing but want of memory comes in its place.
+    ensures cause { IfErr result (λ fault. (fault ≡ LexFault.Memory) ⊎ Cause source.now commands.now fault) }
+    ensures exact { (fault : LexFault) → Cause source.now commands.now fault → (result ≡ Err fault) ⊎ (result ≡ Err LexFault.Memory) }
+    ensures complete { IsReadable source.now → HasMarks commands.now → IsOk result ⊎ (result ≡ Err LexFault.Memory) }
+{
+    lex_uncounted::<Brand>(alloc, source, source_type, tokens, commands, Blank::new(1))
+}

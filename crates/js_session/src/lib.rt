@@ -1,0 +1,26 @@
+//! Sessions: a lexer, driven by a list of commands, with a row for each step.
+#![tactic(auto)]
+
+mod command;
+mod fault;
+mod keep;
+pub mod laws;
+mod lex;
+mod read;
+mod report;
+mod row;
+mod row_list;
+mod session;
+mod steps;
+#[cfg(test)]
+mod tests;
+
+pub use command::{Command, CommandList};
+pub use fault::LexFault;
+pub use js_lexer::NewFault;
+pub use lex::lex_session;
+pub use report::Report;
+pub use row::{RegexInfo, Row, RowValue};
+pub use row_list::RowList;
+pub use session::Session;
+pub use steps::Steps;

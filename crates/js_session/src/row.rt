@@ -1,0 +1,72 @@
+//! Rows.
+
+ghost use Rattle.std.specs.Prelude.{◌≡◌, ◌≤◌, IfOk};
+
+use crate::command::Command;
+use js_kind::Token;
+use js_text::{CommentList, DiagnosticList, RegExpFlags, Span, SpanList};
+use std::alloc::{AllocError, Global};
+
+/// The value of a token.
+#[derive(Clone, Copy, PartialEq, Eq, Debug)]
+pub enum RowValue {
+    Nothing,
+    /// This stretch of the source, in bytes.
+    Slice(Span),
+}
+
+/// What is known of a regular expression beside its token.
+#[derive(Clone, Copy, PartialEq, Eq, Debug)]
+pub struct RegexInfo {
+    /// Where its pattern ends, as an offset in bytes.
+    pub pattern_end: u32,
+    pub flags: RegExpFlags,
+    /// Whether a flag is unknown or stands twice.
+    pub flags_error: bool,
+}
+
+/// What a step gave.
+#[derive(Drop)]
+pub struct Row {
+    /// None for the first step.
+    pub command: Option<Command>,
+    /// Where the lexer stood before the command, as an offset in bytes.
+    pub place: u32,
+    /// Whether the command was carried out.
+    pub taken: bool,
+    pub token: Token,
+    pub value: RowValue,
+    pub regex: Option<RegexInfo>,
+    /// What the reading reported.
+    pub diagnostics: DiagnosticList,
+    /// What it reported for the case that the source is a module.
+    pub deferred: DiagnosticList,
+    /// The comments of its gap.
+    pub comments: CommentList,
+    /// The irregular white space of its gap.
+    pub irregular: SpanList,
+}
+
+impl Row {
+    /// An equal row.
+    pub fn copy(&self, alloc: Global) -> Result<Row, AllocError>
+        ensures { IfOk result (λ row. row ≡ self.now) }
+    {
+        let diagnostics = self.diagnostics.copy(alloc)?;
+        let deferred = self.deferred.copy(alloc)?;
+        let comments = self.comments.copy(alloc)?;
+        let irregular = self.irregular.copy(alloc)?;
+        Ok(Row {
+            command: self.command,
+            place: self.place,
+            taken: self.taken,
+            token: self.token,
+            value: self.value,
+            regex: self.regex,
+            diagnostics,
+            deferred,
+            comments,
+            irregular,
+        })
+    }
+}
