@@ -1,0 +1,5 @@
+pub mod Answering
+pub mod Completing
+pub mod Counts
+pub mod Pieces
+pub mod Stars

@@ -1,0 +1,8 @@
+use Rattle.std.proofs.Common.{◌≡◌, ◌++◌, take, string_bytes}
+use Rattle.std.specs.List.{flat_map}
+use Rattle.js_lex_tool.specs.Units.{unit_text}
+use Rattle.js_lex_tool.proofs.units.push_units.Given as goal
+
+-- The units so far were appended.
+abbrev pub invariant-loop-unit : goal.invariant-loop-unit
+invariant-loop-unit l = string_bytes l.text ≡ string_bytes l.initial.text ++ flat_map unit_text (take l.unit-index l.units)

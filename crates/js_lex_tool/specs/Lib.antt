@@ -1,0 +1,7 @@
+pub mod Command
+pub mod Memory
+pub mod Outside
+pub mod ReportText
+pub mod Run
+pub mod Units
+pub mod Words

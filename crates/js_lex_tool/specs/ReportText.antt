@@ -1,0 +1,90 @@
+-- The text of a report.
+use Rattle.std.specs.Prelude.{ℕ, ◌+◌, Bool, true, false, List, [], ◌∷◌, ◌++◌, codes, Option, Some, None, slice_range}
+use Rattle.std.specs.Fmt.{decimal}
+use Rattle.std.specs.List.{flat_map}
+use Rattle.js_text.specs.Diagnostic.{diagnostic_name, diagnostic_span, diagnostic_character}
+use Rattle.js_text.specs.declared.diagnostic.Diagnostic.{Diagnostic}
+use Rattle.js_text.specs.declared.span.Span.{Span}
+use Rattle.js_kind.specs.Kinds.{kind_name}
+use Rattle.js_kind.specs.TokenParts.{TokenParts}
+use Rattle.js_session.specs.declared.command.Command.{Command}
+use Rattle.js_session.specs.declared.report.Report.{Report}
+use Rattle.js_session.specs.declared.row.Row.{Row}
+use Rattle.js_session.specs.declared.row.RowValue.{RowValue}
+use Rattle.js_session.specs.declared.row.RowValue.TheVariants.{Nothing, Slice}
+use Rattle.js_lex_tool.specs.Command.{command_word}
+use Rattle.js_lex_tool.specs.Units.{text_in_units, number_text}
+
+-- the letter of a flag that holds
+abbrev pub letter : Bool → ℕ → List ℕ
+letter true c = c ∷ []
+letter false c = []
+
+-- the flags that hold, of n, e and s, or a dash
+abbrev pub flags_text : Bool → Bool → Bool → List ℕ
+flags_text false false false = codes "-"
+flags_text n e s = letter n 110 ++ letter e 101 ++ letter s 115
+
+-- a span, as `3..4`
+abbrev pub span_text : ℕ → ℕ → List ℕ
+span_text start end = decimal start ++ codes ".." ++ decimal end
+
+-- a token: its kind, its span and its flags
+unfoldable pub token_text : TokenParts → List ℕ
+token_text t = kind_name t.kind ++ codes " " ++ decimal t.start ++ codes ".." ++ decimal t.end ++ codes " " ++ flags_text t.is_on_new_line t.escaped t.has_separator
+
+-- the word for a row's command, which the first step has not
+abbrev pub step_word : Option Command → List ℕ
+step_word None = codes "first"
+step_word (Some c) = command_word c
+
+-- 1 where it holds, else 0
+abbrev pub bit_text : Bool → List ℕ
+bit_text true = codes "1"
+bit_text false = codes "0"
+
+-- what stands before the token of a row
+unfoldable pub row_head : ℕ → Row → List ℕ
+row_head i row = codes "row " ++ decimal i ++ codes " " ++ step_word row.command ++ codes " " ++ decimal row.place ++ codes " " ++ bit_text row.taken ++ codes " "
+
+-- the value of a row behind an equals sign, or nothing
+abbrev pub value_text : List ℕ → RowValue → List ℕ
+value_text source Nothing = []
+value_text source (Slice span) = codes " =" ++ text_in_units (slice_range source span.start span.end)
+
+-- a row with its number
+abbrev pub row_line : List ℕ → ℕ → Row → List ℕ
+row_line source i row = row_head i row ++ token_text row.token ++ value_text source row.value ++ 10 ∷ []
+
+-- a line for each row, numbered from i
+abbrev pub row_lines : List ℕ → ℕ → List Row → List ℕ
+row_lines source i [] = []
+row_lines source i (row ∷ rows) = row_line source i row ++ row_lines source (i + 1) rows
+
+-- a token behind a word
+abbrev pub token_line : List ℕ → TokenParts → List ℕ
+token_line word t = word ++ codes " " ++ token_text t ++ 10 ∷ []
+
+-- the span of a diagnostic, or a dash
+abbrev pub span_or_dash : Option Span → List ℕ
+span_or_dash None = codes "-"
+span_or_dash (Some span) = span_text span.start span.end
+
+-- the number of a character that a diagnostic names
+abbrev pub named_character : Option ℕ → List ℕ
+named_character None = []
+named_character (Some c) = number_text c
+
+-- a diagnostic: its name, its span and its character
+unfoldable pub diagnostic_text : Diagnostic → List ℕ
+diagnostic_text d = diagnostic_name d ++ codes " " ++ span_or_dash (diagnostic_span d) ++ named_character (diagnostic_character d)
+
+-- a diagnostic behind a word
+abbrev pub diagnostic_line : List ℕ → Diagnostic → List ℕ
+diagnostic_line word d = word ++ codes " " ++ diagnostic_text d ++ 10 ∷ []
+
+-- The text of a report: its rows, then what is live. No session reports comments or irregular white space yet.
+abbrev pub report_text_of : List ℕ → Report → List ℕ
+report_text_of source report =
+    row_lines source 0 report.rows ++ flat_map (token_line (codes "token")) report.tokens ++ flat_map (token_line (codes "collected")) report.collected
+    ++ flat_map (diagnostic_line (codes "diagnostic")) report.diagnostics ++ flat_map (diagnostic_line (codes "deferred")) report.deferred

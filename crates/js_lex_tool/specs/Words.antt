@@ -1,0 +1,72 @@
+-- The words of the program, and what they say.
+use Rattle.std.specs.Prelude.{ℕ, String, map, string_bytes, Bool, true, false, List, [], ◌∷◌, ◌++◌, ◌&&◌, ◌==◌, length, replicate, nat_lt, nat_le, if◌then◌else◌, codes, Option, Some, None, option_map, option_and_then, find}
+use Rattle.std.specs.declared.alloc.Global.{Global}
+use Rattle.std.specs.Fmt.{decimal}
+use Rattle.std.specs.List.{list_any, before_first, after_first}
+use Rattle.std.specs.Str.{bytes_eq}
+use Rattle.std.specs.Str.Parse.{digits_value}
+use Rattle.js_text.specs.declared.source_type.SourceType.{SourceType}
+use Rattle.js_text.specs.declared.source_type.SourceType.TheVariants.{Module, Script, Unambiguous}
+use Rattle.js_lex_tool.specs.Command.{command_word, all_commands}
+use Rattle.js_session.specs.declared.command.Command.{Command}
+use Rattle.js_lex_tool.specs.declared.words.CommandLine.{CommandLine}
+
+-- at most so many commands, and so many repetitions of one
+abbrev pub most_commands : ℕ
+most_commands = 1000000
+
+-- what a table gives for a word
+abbrev pub entry_for : {A : Type 0} → List (List ℕ × A) → List ℕ → Option A
+entry_for [] word = None
+entry_for (e ∷ es) word = if bytes_eq word e.0 then Some e.1 else entry_for es word
+
+-- the words for the source types
+abbrev pub source_type_words : List (List ℕ × SourceType)
+source_type_words = (codes "module", Module) ∷ (codes "script", Script) ∷ (codes "unambiguous", Unambiguous) ∷ []
+
+-- the words for tokens that are collected, or not
+abbrev pub tokens_words : List (List ℕ × Bool)
+tokens_words = (codes "tokens", true) ∷ (codes "no-tokens", false) ∷ []
+
+-- the command with this word
+abbrev pub command_of : List ℕ → Option Command
+command_of word = find (λ c. bytes_eq (command_word c) word) all_commands
+
+-- the number from 1 to 1,000,000 that the text is in decimal, with no sign and no leading zero
+abbrev pub count_in : List ℕ → Option ℕ
+count_in text = let n = digits_value 10 text in if bytes_eq text (decimal n) && (nat_lt 0 n && nat_le n most_commands) then Some n else None
+
+abbrev pub is_star : ℕ → Bool
+is_star c = c == 42
+
+-- how often a command word means its command: once, or as often as the number behind `*` says
+abbrev pub times_in : List ℕ → Option ℕ
+times_in word = if list_any is_star word then count_in (after_first is_star word) else Some 1
+
+-- the command of a command word, and how often it is meant
+abbrev pub repeated_command : List ℕ → Option (Command × ℕ)
+repeated_command word = option_and_then (λ command. option_map (λ n. (command, n)) (times_in word)) (command_of (before_first is_star word))
+
+-- the commands that command words say
+abbrev pub commands_in : List (List ℕ) → Option (List Command)
+commands_in [] = Some []
+commands_in (word ∷ words) = option_and_then (λ c. option_map (λ commands. replicate c.1 c.0 ++ commands) (commands_in words)) (repeated_command word)
+
+-- the commands, where there are not too many
+abbrev pub few : List Command → Option (List Command)
+few commands = if nat_le (length commands) most_commands then Some commands else None
+
+-- the commands that command words say, where there are not too many
+abbrev pub few_commands_in : List (List ℕ) → Option (List Command)
+few_commands_in words = option_and_then few (commands_in words)
+
+-- the command line that words say: a source type, tokens or none, and commands
+abbrev pub command_line_in : List (List ℕ) → Option CommandLine
+command_line_in [] = None
+command_line_in (first ∷ []) = None
+command_line_in (first ∷ second ∷ words) =
+    option_and_then (λ source_type. option_and_then (λ tokens. option_map (λ commands. record { source_type = source_type; tokens = tokens; commands = commands }) (few_commands_in words)) (entry_for tokens_words second)) (entry_for source_type_words first)
+
+-- the command line that the words of a run say
+abbrev pub said : List (String Global) → Option CommandLine
+said words = command_line_in (map string_bytes words)

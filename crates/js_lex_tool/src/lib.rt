@@ -1,0 +1,28 @@
+//! The program as a library: where bytes come from, what words mean, what is written.
+#![tactic(auto)]
+
+mod calls;
+mod command;
+mod memory_in;
+mod memory_out;
+mod outside;
+mod read_all;
+mod report;
+pub mod status;
+mod std_streams;
+#[cfg(test)]
+mod tests;
+mod tool;
+mod units;
+mod words;
+mod write_all;
+
+pub use memory_in::{MemoryIn, SureIn};
+pub use memory_out::{MemoryOut, SureOut};
+pub use outside::{ByteIn, ByteOut, FlushAnswer, InAnswer, OutAnswer};
+pub use read_all::MOST;
+pub use report::report_text;
+pub use status::{StatusLine, status_line};
+pub use std_streams::{StdIn, StdOut};
+pub use tool::{Ran, ToolOutcome, lex_tool_run, lex_tool_run_sure};
+pub use words::{CommandLine, read_words};

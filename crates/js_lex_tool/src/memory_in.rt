@@ -1,0 +1,136 @@
+//! Inputs over bytes in memory.
+
+ghost use Rattle.std.specs.Prelude.{◌≡◌, ◌≤◌, ◌<◌, length, take, Some, min};
+ghost use Rattle.js_lex_tool.specs.Memory.{no_calls, after_call, read_answer, sure_read, left_after};
+ghost use Rattle.js_lex_tool.specs.Outside.{TakesAtMost, TakesBytes, HasReadCause};
+
+use crate::calls::FailingCalls;
+use crate::outside::{ByteIn, InAnswer};
+use std::marker::Model;
+
+/// An input over bytes in memory. A read gives at most `piece` bytes, and fails where its number, from 0, is in a list.
+#[derive(Drop)]
+pub struct MemoryIn<'b> {
+    bytes: &'b [u8],
+    piece: usize,
+    calls: FailingCalls<'b>,
+}
+
+impl<'b> Model for MemoryIn<'b> {
+    ghost use Rattle.std.specs.Prelude.{◌≤◌};
+    ghost use Rattle.js_lex_tool.specs.Memory.{MemorySource};
+
+    ghost Value = { MemorySource };
+
+    ghost view = { λ s. record { left = s.bytes.now; piece = s.piece; calls = s.calls } };
+
+    ghost invariant = { λ s. 1 ≤ s.piece };
+}
+
+impl<'b> MemoryIn<'b> {
+    pub fn new(bytes: &'b [u8], piece: usize, failing: &'b [u64]) -> MemoryIn<'b>
+        requires { 1 ≤ piece }
+        ensures { result ≡ record { left = bytes.now; piece = piece; calls = no_calls failing.now } }
+    {
+        MemoryIn {
+            bytes,
+            piece,
+            calls: FailingCalls::new(failing),
+        }
+    }
+
+    /// How many reads have failed.
+    pub fn faults(&self) -> u64
+        ensures { result ≡ self.now.calls.faults }
+    {
+        self.calls.faults()
+    }
+}
+
+/// Copies the first bytes into the buffer, and tells how many.
+fn copy_front(bytes: &[u8], piece: usize, buf: &mut [u8]) -> usize
+    ensures count { result ≡ min piece (min (length buf.new) (length bytes.now)) }
+    ensures bytes { take result buf.new ≡ take result bytes.now }
+{
+    let count = piece.min(buf.len().min(bytes.len()));
+    buf[..count].copy_from_slice(&bytes[..count]);
+    count
+}
+
+/// Moves the first bytes into the buffer, where there are any.
+fn move_front<'b>(bytes: &mut &'b [u8], piece: usize, buf: &mut [u8]) -> InAnswer
+    ensures answer { result ≡ sure_read bytes.old.now piece (length buf.new) }
+    ensures left { bytes.new.now ≡ left_after bytes.old.now result }
+    ensures bytes { TakesBytes result (Some bytes.old.now) (Some bytes.new.now) buf.new }
+{
+    if bytes.is_empty() {
+        return InAnswer::End;
+    }
+    let count = copy_front(bytes, piece, buf);
+    *bytes = &bytes[count..];
+    InAnswer::Took(count)
+}
+
+impl ByteIn for MemoryIn<'_> {
+    ghost left = { λ s. Some s.left };
+
+    ghost faults = { λ s. s.calls.faults };
+
+    fn read(&mut self, buf: &mut [u8]) -> InAnswer
+        requires { 0 < length buf.old }
+        ensures bound { TakesAtMost result (length buf.old) }
+        ensures bytes { TakesBytes result (Some self.old.left) (Some self.new.left) buf.new }
+        ensures cause { HasReadCause result self.old.calls.faults self.new.calls.faults }
+        ensures answer { result ≡ read_answer self.old (length buf.old) }
+        ensures after { self.new ≡ record self.old { left = left_after self.old.left result; calls = after_call self.old.calls } }
+    {
+        if self.calls.count_call() {
+            return InAnswer::Failed;
+        }
+        move_front(&mut self.bytes, self.piece, buf)
+    }
+}
+
+/// An input over bytes in memory that never fails. A read gives at most `piece` bytes.
+#[derive(Drop)]
+pub struct SureIn<'b> {
+    bytes: &'b [u8],
+    piece: usize,
+}
+
+impl<'b> Model for SureIn<'b> {
+    ghost use Rattle.std.specs.Prelude.{◌≤◌};
+    ghost use Rattle.js_lex_tool.specs.Memory.{SureSource};
+
+    ghost Value = { SureSource };
+
+    ghost view = { λ s. record { left = s.bytes.now; piece = s.piece } };
+
+    ghost invariant = { λ s. 1 ≤ s.piece };
+}
+
+impl<'b> SureIn<'b> {
+    pub fn new(bytes: &'b [u8], piece: usize) -> SureIn<'b>
+        requires { 1 ≤ piece }
+        ensures { result ≡ record { left = bytes.now; piece = piece } }
+    {
+        SureIn { bytes, piece }
+    }
+}
+
+impl ByteIn for SureIn<'_> {
+    ghost left = { λ s. Some s.left };
+
+    ghost faults = { λ _. 0 };
+
+    fn read(&mut self, buf: &mut [u8]) -> InAnswer
+        requires { 0 < length buf.old }
+        ensures bound { TakesAtMost result (length buf.old) }
+        ensures bytes { TakesBytes result (Some self.old.left) (Some self.new.left) buf.new }
+        ensures cause { HasReadCause result 0 0 }
+        ensures answer { result ≡ sure_read self.old.left self.old.piece (length buf.old) }
+        ensures after { self.new ≡ record self.old { left = left_after self.old.left result } }
+    {
+        move_front(&mut self.bytes, self.piece, buf)
+    }
+}

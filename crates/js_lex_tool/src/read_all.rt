@@ -1,0 +1,71 @@
+//! Reading an input to its end.
+
+ghost use Rattle.std.specs.Prelude.{◌≡◌, ◌+◌, ◌-◌, ◌<◌, ◌≤◌, min, length, IfOk, OnOk, IsErrOf};
+ghost use Rattle.std.specs.Io.KnownBytes.{Consumes, IsAtEnd};
+ghost use Rattle.js_lex_tool.specs.Outside.{Rose, Takes};
+
+use crate::outside::{ByteIn, InAnswer};
+use js_text::ByteList;
+use std::alloc::{AllocError, Global};
+
+/// Why an input was not read to its end.
+#[derive(Clone, Copy, PartialEq, Eq, Debug)]
+pub enum ReadFault {
+    Failed,
+    TooLong,
+    Memory,
+}
+
+impl From<AllocError> for ReadFault {
+    ghost use Rattle.js_lex_tool.specs.declared.read_all.ReadFault.TheVariants.{Memory};
+
+    ghost from_gives = { λ _ fault. fault ≡ Memory };
+
+    fn from(_error: AllocError) -> ReadFault {
+        ReadFault::Memory
+    }
+}
+
+/// The most bytes that the program reads of an input.
+pub const MOST: usize = 67_108_864;
+
+/// The most bytes that one read asks for.
+const BUFFER: usize = 4096;
+
+/// How many bytes the next read asks for, where so many were read: a buffer, or what is left of one more than `most`.
+fn next_room(read: usize, most: usize) -> usize
+    requires read { read ≤ most }
+    requires most { most < usize.MAX }
+    ensures { result ≡ min BUFFER (most + 1 - read) }
+{
+    BUFFER.min(most + 1 - read)
+}
+
+/// Reads an input to its end, or until it gave more than `most` bytes.
+pub fn read_to_end<I: ByteIn>(
+    alloc: Global,
+    input: &mut I,
+    most: usize,
+) -> Result<ByteList, ReadFault>
+    requires { most < usize.MAX }
+    ensures all { IfOk result (λ source. Consumes (I.left input.old) (I.left input.new) source) }
+    ensures end { OnOk result (IsAtEnd (I.left input.new)) }
+    ensures short { IfOk result (λ source. length source ≤ most) }
+    ensures failed { IsErrOf result ReadFault.Failed → Rose (I.faults input.old) (I.faults input.new) }
+    ensures failed_early { IsErrOf result ReadFault.Failed → Takes (I.left input.old) (I.left input.new) (λ bytes. length bytes ≤ most) }
+    ensures too_long { IsErrOf result ReadFault.TooLong → Takes (I.left input.old) (I.left input.new) (λ bytes. length bytes ≡ most + 1) }
+    ensures bounded { Takes (I.left input.old) (I.left input.new) (λ bytes. length bytes ≤ most + 1) }
+    ensures faults { I.faults input.old ≤ I.faults input.new }
+{
+    let mut source = ByteList::new_in(alloc);
+    let mut buf = [0u8; BUFFER];
+    while source.len() <= most {
+        let room = next_room(source.len(), most);
+        match input.read(&mut buf[..room]) {
+            InAnswer::Took(count) => source.extend_from_slice(&buf[..count])?,
+            InAnswer::End => return Ok(source),
+            InAnswer::Failed => return Err(ReadFault::Failed),
+        }
+    }
+    Err(ReadFault::TooLong)
+}

@@ -1,0 +1,194 @@
+//! The text of a report.
+
+ghost use Rattle.std.specs.Prelude.{◌≡◌, ◌+◌, ◌++◌, IfOk, OnOk, codes, string_bytes};
+ghost use Rattle.std.specs.List.{AllByRecursion, flat_map};
+ghost use Rattle.js_session.specs.Report.{IsSliceOnPlaces};
+ghost use Rattle.js_lex_tool.specs.ReportText.{flags_text, token_text, step_word, bit_text, row_head, value_text, row_line, row_lines, token_line, span_or_dash, named_character, diagnostic_text, diagnostic_line, report_text_of};
+
+use crate::command::command_word;
+use crate::units::{push_number, push_text_in_units};
+use js_kind::Token;
+use js_session::{Command, Report, Row, RowValue};
+use js_text::{Diagnostic, Span};
+use std::alloc::{AllocError, Global};
+use std::fmt::Write;
+
+/// The flags that hold, or a dash.
+fn flags(token: &Token) -> &'static str
+    ensures { result.now ≡ flags_text token.now.is_on_new_line token.now.escaped token.now.has_separator }
+{
+    match (
+        token.is_on_new_line(),
+        token.escaped(),
+        token.has_separator(),
+    ) {
+        (false, false, false) => "-",
+        (true, false, false) => "n",
+        (false, true, false) => "e",
+        (false, false, true) => "s",
+        (true, true, false) => "ne",
+        (true, false, true) => "ns",
+        (false, true, true) => "es",
+        (true, true, true) => "nes",
+    }
+}
+
+fn step_word(command: Option<Command>) -> &'static str
+    ensures { result.now ≡ step_word command }
+{
+    match command {
+        None => "first",
+        Some(command) => command_word(command),
+    }
+}
+
+fn bit(holds: bool) -> &'static str
+    ensures { result.now ≡ bit_text holds }
+{
+    if holds { "1" } else { "0" }
+}
+
+#[tactic(auto, unfolding(crate::specs::ReportText::token_text))]
+fn push_token(text: &mut String, token: &Token) -> Result<(), AllocError>
+    ensures { OnOk result (string_bytes text.new ≡ string_bytes text.old ++ token_text token.now) }
+{
+    let kind = token.kind().name();
+    let start = token.start();
+    let end = token.end();
+    let flags = flags(token);
+    write!(text, "{kind} {start}..{end} {flags}")
+}
+
+#[tactic(auto, unfolding(crate::specs::ReportText::row_head))]
+fn push_head(text: &mut String, index: usize, row: &Row) -> Result<(), AllocError>
+    ensures { OnOk result (string_bytes text.new ≡ string_bytes text.old ++ row_head index row.now) }
+{
+    let word = step_word(row.command);
+    let place = row.place;
+    let taken = bit(row.taken);
+    write!(text, "row {index} {word} {place} {taken} ")
+}
+
+fn push_value(text: &mut String, source: &str, value: &RowValue) -> Result<(), AllocError>
+    requires { IsSliceOnPlaces source.now value.now }
+    ensures { OnOk result (string_bytes text.new ≡ string_bytes text.old ++ value_text source.now value.now) }
+{
+    match value {
+        RowValue::Nothing => Ok(()),
+        RowValue::Slice(span) => {
+            text.push_str(" =")?;
+            push_text_in_units(text, &source[span.start as usize..span.end as usize])
+        }
+    }
+}
+
+fn push_row(text: &mut String, source: &str, index: usize, row: &Row) -> Result<(), AllocError>
+    requires { IsSliceOnPlaces source.now row.now.value }
+    ensures { OnOk result (string_bytes text.new ≡ string_bytes text.old ++ row_line source.now index row.now) }
+{
+    push_head(text, index, row)?;
+    push_token(text, &row.token)?;
+    push_value(text, source, &row.value)?;
+    text.push_str("\n")
+}
+
+fn push_rows(text: &mut String, source: &str, rows: &[Row]) -> Result<(), AllocError>
+    requires { AllByRecursion (λ row. IsSliceOnPlaces source.now row.value) rows.now }
+    ensures { OnOk result (string_bytes text.new ≡ string_bytes text.old ++ row_lines source.now 0 rows.now) }
+{
+    for (index, row) in rows.iter().enumerate() {
+        push_row(text, source, index, row)?;
+    }
+    Ok(())
+}
+
+fn push_token_line(text: &mut String, word: &str, token: &Token) -> Result<(), AllocError>
+    ensures { OnOk result (string_bytes text.new ≡ string_bytes text.old ++ token_line word.now token.now) }
+{
+    text.push_str(word)?;
+    text.push_str(" ")?;
+    push_token(text, token)?;
+    text.push_str("\n")
+}
+
+fn push_tokens(text: &mut String, word: &str, tokens: &[Token]) -> Result<(), AllocError>
+    ensures { OnOk result (string_bytes text.new ≡ string_bytes text.old ++ flat_map (token_line word.now) tokens.now) }
+{
+    for token in tokens {
+        push_token_line(text, word, token)?;
+    }
+    Ok(())
+}
+
+fn push_span(text: &mut String, span: Option<Span>) -> Result<(), AllocError>
+    ensures { OnOk result (string_bytes text.new ≡ string_bytes text.old ++ span_or_dash span) }
+{
+    match span {
+        None => text.push_str("-"),
+        Some(span) => {
+            let start = span.start;
+            let end = span.end;
+            write!(text, "{start}..{end}")
+        }
+    }
+}
+
+fn push_named(text: &mut String, character: Option<char>) -> Result<(), AllocError>
+    ensures { OnOk result (string_bytes text.new ≡ string_bytes text.old ++ named_character character) }
+{
+    match character {
+        None => Ok(()),
+        Some(c) => push_number(text, c),
+    }
+}
+
+#[tactic(auto, unfolding(crate::specs::ReportText::diagnostic_text))]
+fn push_diagnostic(text: &mut String, diagnostic: &Diagnostic) -> Result<(), AllocError>
+    ensures { OnOk result (string_bytes text.new ≡ string_bytes text.old ++ diagnostic_text diagnostic.now) }
+{
+    text.push_str(diagnostic.name())?;
+    text.push_str(" ")?;
+    push_span(text, diagnostic.span())?;
+    push_named(text, diagnostic.character())
+}
+
+fn push_diagnostic_line(
+    text: &mut String,
+    word: &str,
+    diagnostic: &Diagnostic,
+) -> Result<(), AllocError>
+    ensures { OnOk result (string_bytes text.new ≡ string_bytes text.old ++ diagnostic_line word.now diagnostic.now) }
+{
+    text.push_str(word)?;
+    text.push_str(" ")?;
+    push_diagnostic(text, diagnostic)?;
+    text.push_str("\n")
+}
+
+fn push_diagnostics(
+    text: &mut String,
+    word: &str,
+    diagnostics: &[Diagnostic],
+) -> Result<(), AllocError>
+    ensures { OnOk result (string_bytes text.new ≡ string_bytes text.old ++ flat_map (diagnostic_line word.now) diagnostics.now) }
+{
+    for diagnostic in diagnostics {
+        push_diagnostic_line(text, word, diagnostic)?;
+    }
+    Ok(())
+}
+
+/// The text of a report: a line for each row, each live token, each collected one and each live diagnostic.
+/// No session reports comments, irregular white space or regular expressions yet, so there are no lines for them.
+pub fn report_text(alloc: Global, source: &str, report: &Report) -> Result<String, AllocError>
+    requires { AllByRecursion (λ row. IsSliceOnPlaces source.now row.value) report.now.rows }
+    ensures { IfOk result (λ text. string_bytes text ≡ report_text_of source.now report.now) }
+{
+    let mut text = String::new(alloc);
+    push_rows(&mut text, source, report.rows.as_slice())?;
+    push_tokens(&mut text, "token", report.tokens.as_slice())?;
+    push_tokens(&mut text, "collected", report.collected.as_slice())?;
+    push_diagnostics(&mut text, "diagnostic", report.diagnostics.as_slice())?;
+    push_diagnostics(&mut text, "deferred", report.deferred.as_slice())?;
+    Ok(text)
+}

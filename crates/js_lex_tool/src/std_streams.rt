@@ -1,0 +1,76 @@
+//! Standard input and standard output: the trusted edge, which tells nothing of content.
+
+ghost use Rattle.std.specs.Prelude.{None};
+
+use crate::outside::{ByteIn, ByteOut, FlushAnswer, InAnswer, OutAnswer};
+use std::io::{Read, Write};
+
+/// A reader of the system as an input. It counts the reads that fail, up to the end of a `u64`.
+#[derive(Drop)]
+pub struct StdIn<R: Read + Drop> {
+    reader: R,
+    faults: u64,
+}
+
+impl<R: Read + Drop> StdIn<R> {
+    pub fn new(reader: R) -> StdIn<R> {
+        StdIn { reader, faults: 0 }
+    }
+}
+
+impl<R: Read + Drop> ByteIn for StdIn<R> {
+    ghost left = { λ _. None };
+
+    ghost faults = { λ s. s.faults };
+
+    fn read(&mut self, buf: &mut [u8]) -> InAnswer {
+        match self.reader.read(buf) {
+            Ok(0) => InAnswer::End,
+            Ok(count) => InAnswer::Took(count),
+            Err(_) => {
+                self.faults = self.faults.saturating_add(1);
+                InAnswer::Failed
+            }
+        }
+    }
+}
+
+/// A writer of the system as an output. It counts the writes and flushes that fail, up to the end of a `u64`;
+/// a write that takes no byte fails.
+#[derive(Drop)]
+pub struct StdOut<W: Write + Drop> {
+    writer: W,
+    faults: u64,
+}
+
+impl<W: Write + Drop> StdOut<W> {
+    pub fn new(writer: W) -> StdOut<W> {
+        StdOut { writer, faults: 0 }
+    }
+}
+
+impl<W: Write + Drop> ByteOut for StdOut<W> {
+    ghost written = { λ _. None };
+
+    ghost faults = { λ s. s.faults };
+
+    fn write(&mut self, bytes: &[u8]) -> OutAnswer {
+        match self.writer.write(bytes) {
+            Ok(0) | Err(_) => {
+                self.faults = self.faults.saturating_add(1);
+                OutAnswer::Failed
+            }
+            Ok(count) => OutAnswer::Took(count),
+        }
+    }
+
+    fn flush(&mut self) -> FlushAnswer {
+        match self.writer.flush() {
+            Ok(()) => FlushAnswer::Done,
+            Err(_) => {
+                self.faults = self.faults.saturating_add(1);
+                FlushAnswer::Failed
+            }
+        }
+    }
+}

@@ -1,0 +1,7 @@
+//! What no clause says.
+
+mod ends;
+mod report;
+mod run;
+mod status;
+mod words;

@@ -1,0 +1,82 @@
+//! Characters and UTF-16 units, as a report prints them.
+
+ghost use Rattle.std.specs.Prelude.{◌≡◌, ◌<◌, ◌++◌, true, OnOk, codes, string_bytes};
+ghost use Rattle.std.specs.List.{flat_map};
+ghost use Rattle.js_lex_tool.specs.Units.{is_plain, hex_digit, unit_digits, unit_text, units_text, text_in_units, number_text};
+
+use std::alloc::AllocError;
+use std::fmt::Write;
+
+/// Whether a unit stands for itself.
+fn is_plain_unit(unit: u16) -> bool
+    ensures plain { result ≡ is_plain unit }
+    ensures ascii { result ≡ true → unit < 128 }
+{
+    unit >= 0x20 && unit <= 0x7e && unit != 0x5c
+}
+
+fn hex_digit_of(n: u16) -> char
+    requires { n < 16 }
+    ensures digit { result ≡ hex_digit n }
+    ensures ascii { result < 128 }
+{
+    if n < 10 {
+        char::from(b'0' + n as u8)
+    } else {
+        char::from(b'a' + (n as u8 - 10))
+    }
+}
+
+fn push_escape(text: &mut String, unit: u16) -> Result<(), AllocError>
+    ensures { OnOk result (string_bytes text.new ≡ string_bytes text.old ++ codes "\\u" ++ unit_digits unit) }
+{
+    text.push_str("\\u")?;
+    text.push(hex_digit_of(unit / 4096 % 16))?;
+    text.push(hex_digit_of(unit / 256 % 16))?;
+    text.push(hex_digit_of(unit / 16 % 16))?;
+    text.push(hex_digit_of(unit % 16))
+}
+
+fn push_unit(text: &mut String, unit: u16) -> Result<(), AllocError>
+    ensures { OnOk result (string_bytes text.new ≡ string_bytes text.old ++ unit_text unit) }
+{
+    if is_plain_unit(unit) {
+        text.push(char::from(unit as u8))
+    } else {
+        push_escape(text, unit)
+    }
+}
+
+fn push_units(text: &mut String, units: &[u16]) -> Result<(), AllocError>
+    ensures { OnOk result (string_bytes text.new ≡ string_bytes text.old ++ flat_map unit_text units.now) }
+{
+    for unit in units {
+        push_unit(text, *unit)?;
+    }
+    Ok(())
+}
+
+fn push_character(text: &mut String, c: char) -> Result<(), AllocError>
+    ensures { OnOk result (string_bytes text.new ≡ string_bytes text.old ++ units_text c) }
+{
+    let mut buf = [0; 2];
+    push_units(text, c.encode_utf16(&mut buf))
+}
+
+/// Appends the units of a value.
+pub fn push_text_in_units(text: &mut String, value: &str) -> Result<(), AllocError>
+    ensures { OnOk result (string_bytes text.new ≡ string_bytes text.old ++ text_in_units value.now) }
+{
+    for c in value.chars() {
+        push_character(text, c)?;
+    }
+    Ok(())
+}
+
+/// Appends the number of a character.
+pub fn push_number(text: &mut String, c: char) -> Result<(), AllocError>
+    ensures { OnOk result (string_bytes text.new ≡ string_bytes text.old ++ number_text c) }
+{
+    let number = c as u32;
+    write!(text, " U+{number:04X}")
+}
