@@ -10,6 +10,7 @@ ghost use Rattle.js_session.specs.Live.{Live};
 ghost use Rattle.js_session.specs.Report.{IsRow, ReportOf};
 
 use crate::command::Command;
+pub use js_grammar::laws::{one_piece_starts_at_a_place, one_token_is_read};
 
 /// For a source, its type, whether tokens are collected, and commands, there is at most one report.
 pub fn one_report_is_given()
