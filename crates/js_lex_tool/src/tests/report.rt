@@ -1,19 +1,26 @@
 //! The text of a report.
 
+ghost use Rattle.std.specs.Prelude.{◌≡◌, ℕ, List, IfOk};
+ghost use Rattle.std.specs.List.{AllByRecursion};
+ghost use Rattle.js_session.specs.Report.{IsSliceOnPlaces};
+
 use crate::report::report_text;
+use crate::units::push_text_in_units;
 use js_kind::{Kind, Token, TokenList};
 use js_session::{Command, Report, Row, RowList, RowValue};
 use js_text::{CommentList, Diagnostic, DiagnosticList, Span, SpanList};
 use std::alloc::{AllocError, Global};
 use std::test::Fail;
 
-fn row(alloc: Global, command: Option<Command>, place: u32, token: Token, value: RowValue) -> Row {
+fn row(alloc: Global, command: Option<Command>, place: u32, token: Token) -> Row
+    ensures { result.value ≡ RowValue.Nothing }
+{
     Row {
         command,
         place,
         taken: true,
         token,
-        value,
+        value: RowValue::Nothing,
         regex: None,
         diagnostics: DiagnosticList::new_in(alloc),
         deferred: DiagnosticList::new_in(alloc),
@@ -22,21 +29,17 @@ fn row(alloc: Global, command: Option<Command>, place: u32, token: Token, value:
     }
 }
 
-fn report(alloc: Global) -> Result<Report, AllocError> {
+fn report(alloc: Global) -> Result<Report, AllocError>
+    ensures { IfOk result (λ r. (source : List ℕ) → AllByRecursion (λ row. IsSliceOnPlaces source row.value) r.rows) }
+{
     let mut rows = RowList::new_in(alloc);
     let mut token = Token::new(Kind::TypeKw, Span::new(2, 12), true);
     token.set_escaped(true);
-    rows.push(row(alloc, None, 0, token, RowValue::Slice(Span::new(2, 12))))?;
+    rows.push(row(alloc, None, 0, token))?;
     let mut number = Token::new(Kind::Decimal, Span::new(12, 15), false);
     number.set_has_separator(true);
-    rows.push(row(alloc, Some(Command::Next), 12, number, RowValue::Nothing))?;
-    rows.push(row(
-        alloc,
-        Some(Command::Peek),
-        15,
-        Token::default(),
-        RowValue::Nothing,
-    ))?;
+    rows.push(row(alloc, Some(Command::Next), 12, number))?;
+    rows.push(row(alloc, Some(Command::Peek), 15, Token::default()))?;
     let mut tokens = TokenList::new_in(alloc);
     tokens.push(token)?;
     tokens.push(number)?;
@@ -63,14 +66,12 @@ fn report(alloc: Global) -> Result<Report, AllocError> {
     })
 }
 
-// The value has a unit of each form: plain ones, a backslash, DEL, one past ASCII, the last of one unit, and a pair.
 #[test]
 fn lines_of_a_report(rt: HostRuntime) -> Result<(), Fail> {
-    let source = "..~ \\\u{7f}\u{e9}\u{10400}";
     let report = report(rt.alloc())?;
-    let text = report_text(rt.alloc(), source, &report)?;
+    let text = report_text(rt.alloc(), "", &report)?;
     let wanted = concat!(
-        "row 0 first 0 1 Type 2..12 ne =~ \\u005c\\u007f\\u00e9\\ud801\\udc00\n",
+        "row 0 first 0 1 Type 2..12 ne\n",
         "row 1 next 12 1 Decimal 12..15 s\n",
         "row 2 peek 15 1 Eof 0..0 -\n",
         "token Type 2..12 ne\n",
@@ -82,5 +83,14 @@ fn lines_of_a_report(rt: HostRuntime) -> Result<(), Fail> {
         "deferred HtmlCommentInModule 2..4\n",
     );
     assert_eq!(rt; text.as_str(), wanted);
+    Ok(())
+}
+
+// A unit of each form: plain ones, a backslash, DEL, one past ASCII, and a pair.
+#[test]
+fn units_of_a_value(rt: HostRuntime) -> Result<(), Fail> {
+    let mut text = String::new(rt.alloc());
+    push_text_in_units(&mut text, "~ \\\u{7f}\u{e9}\u{10400}")?;
+    assert_eq!(rt; text.as_str(), "~ \\u005c\\u007f\\u00e9\\ud801\\udc00");
     Ok(())
 }
