@@ -1,6 +1,7 @@
 -- The longest punctuator of a text, and the longest name: no spelling of the one begins as the other does.
 use Rattle.std.proofs.Common.{◌≡◌, ℕ, ◌<◌, ◌≤◌, Bool, true, false, not, cond, ◌&&◌, ◌||◌, ◌==◌, nat_lt, nat_le, List, [], ◌∷◌, ◌++◌, length, drop, refl, sym, ◌∙◌, ap, subst, arith, inl, inr}
 use Rattle.std.specs.Prelude.{codes}
+use Rattle.std.specs.List.{list_all}
 use Rattle.std.specs.Str.{encode_utf8_all}
 use Rattle.std.proofs.lemmas.Bool.{leb-true}
 use Rattle.std.proofs.Math.Seq.{drop-append_seam}
@@ -10,22 +11,22 @@ use Rattle.js_text.specs.declared.source_type.SourceType.{SourceType}
 use Rattle.js_text.proofs.TextLemmas.{before_from}
 use Rattle.js_kind.specs.Keywords.{name_kind}
 use Rattle.js_kind.specs.declared.kind.Kind.{Kind}
-use Rattle.js_grammar.specs.Punctuators.{Punctuator, punctuators, IsIn, every, is_spelled, LongestPunctuator, NoPunctuator}
+use Rattle.js_grammar.specs.Punctuators.{Punctuator, punctuators, IsIn, is_spelled, LongestPunctuator, NoPunctuator}
 use Rattle.js_grammar.specs.Spelling.{Spelling, IsName, is_no_part, LongestSpelling, NothingSpelled}
 use Rattle.js_grammar.specs.Spelling.Spelling.{name, punctuator, end_of_source}
 use Rattle.js_grammar.proofs.NameLemmas.{parts, parts_all, parts_end}
 use Rattle.js_grammar.proofs.Tests.{and_true, prefix_of}
 
-pub every_at : (test : Punctuator → Bool) (p : Punctuator) (ps : List Punctuator) → IsIn p ps → every test ps ≡ true → test p ≡ true
-every_at test p [] h e = absurd h
-every_at test p (q ∷ ps) h e =
-    let both = and_true (test q) (every test ps) e in
-    elim h [ inl here ↦ ap test here ∙ both.0 | inr there ↦ every_at test p ps there both.1 ]
+pub passes_at : (test : Punctuator → Bool) (p : Punctuator) (ps : List Punctuator) → IsIn p ps → list_all test ps ≡ true → test p ≡ true
+passes_at test p [] h e = absurd h
+passes_at test p (q ∷ ps) h e =
+    let both = and_true (test q) (list_all test ps) e in
+    elim h [ inl here ↦ ap test here ∙ both.0 | inr there ↦ passes_at test p ps there both.1 ]
 
 abbrev begins_no_name : Punctuator → Bool
 begins_no_name p = not (begins is_identifier_start p.text) && nat_lt 0 (length p.text)
 
-punctuators_begin_no_name : every begins_no_name punctuators ≡ true
+punctuators_begin_no_name : list_all begins_no_name punctuators ≡ true
 unfolding is_identifier_start unicode_ident
 punctuators_begin_no_name = refl
 
@@ -52,7 +53,7 @@ pub longest_at : (t : SourceType) (nl : Bool) (text rest : List ℕ) (k : Kind) 
     (p : Punctuator) (vs : List ℕ) → IsIn p punctuators → text ≡ p.text ++ vs → p.excluded t nl vs ≡ false → length p.text ≤ length l.it.text
 longest_at t nl text rest k l p vs i e f =
     let spelled : is_spelled t nl text p ≡ true = subst (λ u. is_spelled t nl u p ≡ true) (sym e) (spelled_at t nl p vs f) in
-    leb-true _ _ (not_or (is_spelled t nl text p) _ spelled (every_at (λ q. not (is_spelled t nl text q) || nat_le (length q.text) (length l.it.text)) p punctuators i l.longest))
+    leb-true _ _ (not_or (is_spelled t nl text p) _ spelled (passes_at (λ q. not (is_spelled t nl text q) || nat_le (length q.text) (length l.it.text)) p punctuators i l.longest))
 
 -- a text that begins no name: its longest punctuator is its longest spelling
 pub longest_of_punctuator : (t : SourceType) (nl : Bool) (text rest : List ℕ) (k : Kind) → begins is_identifier_start text ≡ false → (l : LongestPunctuator t nl text rest k) → LongestSpelling t nl text l.it.text rest k
@@ -72,7 +73,7 @@ pub nothing_spelled : (t : SourceType) (nl : Bool) (c : ℕ) (cs : List ℕ) →
 nothing_spelled t nl c cs no_name none us vs j e (name is end kind) = no_name_begins (c ∷ cs) us vs no_name e is
 nothing_spelled t nl c cs no_name none us vs j e (punctuator p i same allowed kind) =
     let spelled : is_spelled t nl (c ∷ cs) p ≡ true = subst (λ u. is_spelled t nl u p ≡ true) (sym (e ∙ ap (λ xs. xs ++ vs) same)) (spelled_at t nl p vs allowed) in
-    not_true _ spelled (every_at (λ q. not (is_spelled t nl (c ∷ cs) q)) p punctuators i none)
+    not_true _ spelled (passes_at (λ q. not (is_spelled t nl (c ∷ cs) q)) p punctuators i none)
 nothing_spelled t nl c cs no_name none us vs j e (end_of_source empty end kind) =
     let at_end : c ∷ cs ≡ [] = e ∙ ap (λ xs. xs ++ vs) empty ∙ end in cc
 
@@ -100,7 +101,7 @@ longest_of_name t nl c cs start = record {
         let same : before_first is_no_part cs ≡ us = ap (before_first is_no_part) rest ∙ (parts us vs is.1 end).0 in
         omega (arith, ap length same)
     others (u ∷ us) vs j e (punctuator p i same allowed kind) =
-        let tested = every_at begins_no_name p punctuators i punctuators_begin_no_name in
+        let tested = passes_at begins_no_name p punctuators i punctuators_begin_no_name in
         let no_name : begins is_identifier_start p.text ≡ false = not_of_and (begins is_identifier_start p.text) _ tested in
         let here : is_identifier_start c ≡ begins is_identifier_start p.text = ap (begins is_identifier_start) (e ∙ ap (λ xs. xs ++ vs) same) ∙ first_of p.text vs tested in
         cc
@@ -110,20 +111,20 @@ longest_of_name t nl c cs start = record {
 pub name_begins_no_punctuator : (xs : List ℕ) (p : Punctuator) → IsName xs → IsIn p punctuators → xs ≡ p.text → ⊥
 name_begins_no_punctuator [] p is i same = is
 name_begins_no_punctuator (x ∷ xs) p is i same =
-    let no_name = not_of_and (begins is_identifier_start p.text) _ (every_at begins_no_name p punctuators i punctuators_begin_no_name) in
+    let no_name = not_of_and (begins is_identifier_start p.text) _ (passes_at begins_no_name p punctuators i punctuators_begin_no_name) in
     let starts : is_identifier_start x ≡ true = is.0 in
     let here : is_identifier_start x ≡ begins is_identifier_start p.text = ap (begins is_identifier_start) same in
     cc
 
 pub some_text : (p : Punctuator) → IsIn p punctuators → p.text ≡ [] → ⊥
 some_text p i none =
-    let tested = every_at begins_no_name p punctuators i punctuators_begin_no_name in
+    let tested = passes_at begins_no_name p punctuators i punctuators_begin_no_name in
     let no : (true && nat_lt 0 0) ≡ true = subst (λ xs. (not (begins is_identifier_start xs) && nat_lt 0 (length xs)) ≡ true) none tested in
     cc
 
 pub name_begins_no_punctuator_at : (x : ℕ) (xs : List ℕ) (u : ℕ) (us : List ℕ) (p : Punctuator) → u ≡ x → IsName (u ∷ us) → IsIn p punctuators → x ∷ xs ≡ p.text → ⊥
 name_begins_no_punctuator_at x xs u us p head is i same =
-    let no_name = not_of_and (begins is_identifier_start p.text) _ (every_at begins_no_name p punctuators i punctuators_begin_no_name) in
+    let no_name = not_of_and (begins is_identifier_start p.text) _ (passes_at begins_no_name p punctuators i punctuators_begin_no_name) in
     let starts : is_identifier_start u ≡ true = is.0 in
     let here : is_identifier_start x ≡ begins is_identifier_start p.text = ap (begins is_identifier_start) same in
     let moved : is_identifier_start u ≡ is_identifier_start x = ap is_identifier_start head in

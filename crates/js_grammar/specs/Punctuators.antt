@@ -1,9 +1,11 @@
 -- The punctuators of the plain goal (ECMA-262 12.8, with `@`), and what may not follow one.
 use Rattle.std.specs.Prelude.{◌≡◌, ℕ, Bool, true, false, List, [], ◌∷◌, ◌++◌, length, drop, ◌==◌, ◌&&◌, ◌||◌, not, nat_le, codes, ◌⊎◌}
+use Rattle.std.specs.List.{list_all}
 use Rattle.js_text.specs.Characters.{begins}
 use Rattle.js_text.specs.SourceType.{is_module}
 use Rattle.js_text.specs.declared.source_type.SourceType.{SourceType}
 use Rattle.js_grammar.specs.Gap.{is_prefix}
+use Rattle.js_kind.specs.Kinds.{kind_text}
 use Rattle.js_kind.specs.declared.kind.Kind.{Kind}
 use Rattle.js_kind.specs.declared.kind.Kind.TheVariants.{Amp, Amp2, Amp2Eq, AmpEq, Bang, Caret, CaretEq, Colon, Comma, Dot, Dot3, Eq, Eq2, Eq3, LAngle, LBrack, LCurly, LParen, LtEq, Minus, Minus2, MinusEq, Neq, Neq2, Percent, PercentEq, Pipe, Pipe2, Pipe2Eq, PipeEq, Plus, Plus2, PlusEq, Question, Question2, Question2Eq, QuestionDot, RAngle, RBrack, RCurly, RParen, Semicolon, ShiftLeft, ShiftLeftEq, Slash, SlashEq, Star, Star2, Star2Eq, StarEq, Tilde, Arrow, At}
 
@@ -24,88 +26,83 @@ pub record Punctuator : Type 0 where
   pub excluded : SourceType → Bool → List ℕ → Bool
 
 -- a punctuator that anything may follow
-abbrev pub plain : List ℕ → Kind → Punctuator
-plain xs k = record { text = xs; kind = k; excluded = λ t nl rest. false }
+abbrev pub plain : Kind → Punctuator
+plain k = record { text = kind_text k; kind = k; excluded = λ t nl rest. false }
 
 -- a punctuator that no digit may follow
-abbrev pub before_no_digit : List ℕ → Kind → Punctuator
-before_no_digit xs k = record { text = xs; kind = k; excluded = λ t nl rest. begins is_decimal_digit rest }
+abbrev pub before_no_digit : Kind → Punctuator
+before_no_digit k = record { text = kind_text k; kind = k; excluded = λ t nl rest. begins is_decimal_digit rest }
 
 -- `/`, which begins a comment before `*`
 abbrev pub slash : Punctuator
-slash = record { text = codes "/"; kind = Slash; excluded = λ t nl rest. begins (λ c. c == 42) rest }
+slash = record { text = kind_text Slash; kind = Slash; excluded = λ t nl rest. begins (λ c. c == 42) rest }
 
 -- `<`, which begins a reported comment before `!--`, in a module where a line has ended
 abbrev pub left_angle : Punctuator
-left_angle = record { text = codes "<"; kind = LAngle; excluded = λ t nl rest. is_prefix (codes "!--") rest && (is_module t && nl) }
+left_angle = record { text = kind_text LAngle; kind = LAngle; excluded = λ t nl rest. is_prefix (codes "!--") rest && (is_module t && nl) }
 
 -- All punctuators. Of those that begin with `>`, a plain step gives `>` alone.
 abbrev pub punctuators : List Punctuator
 punctuators =
-    plain (codes "&") Amp
-    ∷ plain (codes "&&") Amp2
-    ∷ plain (codes "&&=") Amp2Eq
-    ∷ plain (codes "&=") AmpEq
-    ∷ plain (codes "!") Bang
-    ∷ plain (codes "^") Caret
-    ∷ plain (codes "^=") CaretEq
-    ∷ plain (codes ":") Colon
-    ∷ plain (codes ",") Comma
-    ∷ before_no_digit (codes ".") Dot
-    ∷ plain (codes "...") Dot3
-    ∷ plain (codes "=") Eq
-    ∷ plain (codes "==") Eq2
-    ∷ plain (codes "===") Eq3
+    plain Amp
+    ∷ plain Amp2
+    ∷ plain Amp2Eq
+    ∷ plain AmpEq
+    ∷ plain Bang
+    ∷ plain Caret
+    ∷ plain CaretEq
+    ∷ plain Colon
+    ∷ plain Comma
+    ∷ before_no_digit Dot
+    ∷ plain Dot3
+    ∷ plain Eq
+    ∷ plain Eq2
+    ∷ plain Eq3
     ∷ left_angle
-    ∷ plain (codes "[") LBrack
-    ∷ plain (codes "{") LCurly
-    ∷ plain (codes "(") LParen
-    ∷ plain (codes "<=") LtEq
-    ∷ plain (codes "-") Minus
-    ∷ plain (codes "--") Minus2
-    ∷ plain (codes "-=") MinusEq
-    ∷ plain (codes "!=") Neq
-    ∷ plain (codes "!==") Neq2
-    ∷ plain (codes "%") Percent
-    ∷ plain (codes "%=") PercentEq
-    ∷ plain (codes "|") Pipe
-    ∷ plain (codes "||") Pipe2
-    ∷ plain (codes "||=") Pipe2Eq
-    ∷ plain (codes "|=") PipeEq
-    ∷ plain (codes "+") Plus
-    ∷ plain (codes "++") Plus2
-    ∷ plain (codes "+=") PlusEq
-    ∷ plain (codes "?") Question
-    ∷ plain (codes "??") Question2
-    ∷ plain (codes "??=") Question2Eq
-    ∷ before_no_digit (codes "?.") QuestionDot
-    ∷ plain (codes ">") RAngle
-    ∷ plain (codes "]") RBrack
-    ∷ plain (codes "}") RCurly
-    ∷ plain (codes ")") RParen
-    ∷ plain (codes ";") Semicolon
-    ∷ plain (codes "<<") ShiftLeft
-    ∷ plain (codes "<<=") ShiftLeftEq
+    ∷ plain LBrack
+    ∷ plain LCurly
+    ∷ plain LParen
+    ∷ plain LtEq
+    ∷ plain Minus
+    ∷ plain Minus2
+    ∷ plain MinusEq
+    ∷ plain Neq
+    ∷ plain Neq2
+    ∷ plain Percent
+    ∷ plain PercentEq
+    ∷ plain Pipe
+    ∷ plain Pipe2
+    ∷ plain Pipe2Eq
+    ∷ plain PipeEq
+    ∷ plain Plus
+    ∷ plain Plus2
+    ∷ plain PlusEq
+    ∷ plain Question
+    ∷ plain Question2
+    ∷ plain Question2Eq
+    ∷ before_no_digit QuestionDot
+    ∷ plain RAngle
+    ∷ plain RBrack
+    ∷ plain RCurly
+    ∷ plain RParen
+    ∷ plain Semicolon
+    ∷ plain ShiftLeft
+    ∷ plain ShiftLeftEq
     ∷ slash
-    ∷ plain (codes "/=") SlashEq
-    ∷ plain (codes "*") Star
-    ∷ plain (codes "**") Star2
-    ∷ plain (codes "**=") Star2Eq
-    ∷ plain (codes "*=") StarEq
-    ∷ plain (codes "~") Tilde
-    ∷ plain (codes "=>") Arrow
-    ∷ plain (codes "@") At
+    ∷ plain SlashEq
+    ∷ plain Star
+    ∷ plain Star2
+    ∷ plain Star2Eq
+    ∷ plain StarEq
+    ∷ plain Tilde
+    ∷ plain Arrow
+    ∷ plain At
     ∷ []
 
 -- the punctuator stands in the list
 abbrev pub IsIn : Punctuator → List Punctuator → Type 0
 IsIn x [] = ⊥
 IsIn x (y ∷ ys) = (x ≡ y) ⊎ IsIn x ys
-
--- each punctuator passes
-abbrev pub every : (Punctuator → Bool) → List Punctuator → Bool
-every test [] = true
-every test (p ∷ ps) = test p && every test ps
 
 -- the text begins with the punctuator, and what follows may follow it
 abbrev pub is_spelled : SourceType → Bool → List ℕ → Punctuator → Bool
@@ -118,8 +115,8 @@ pub record LongestPunctuator (t : SourceType) (nl : Bool) (text rest : List ℕ)
   pub here : text ≡ it.text ++ rest
   pub allowed : it.excluded t nl rest ≡ false
   pub kind : k ≡ it.kind
-  pub longest : every (λ q. not (is_spelled t nl text q) || nat_le (length q.text) (length it.text)) punctuators ≡ true
+  pub longest : list_all (λ q. not (is_spelled t nl text q) || nat_le (length q.text) (length it.text)) punctuators ≡ true
 
 -- No punctuator is spelled at the beginning of the text.
 abbrev pub NoPunctuator : SourceType → Bool → List ℕ → Type 0
-NoPunctuator t nl text = every (λ q. not (is_spelled t nl text q)) punctuators ≡ true
+NoPunctuator t nl text = list_all (λ q. not (is_spelled t nl text q)) punctuators ≡ true

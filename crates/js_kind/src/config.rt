@@ -73,6 +73,7 @@ impl Model for RuntimeLexerConfig {
 }
 
 impl RuntimeLexerConfig {
+    /// A configuration that collects tokens where `tokens` says so.
     pub fn new(tokens: bool) -> RuntimeLexerConfig
         ensures { result ≡ tokens }
     {

@@ -43,6 +43,7 @@ impl Default for Token {
     }
 }
 
+/// A growing list of tokens.
 pub type TokenList = ItemList<Token>;
 
 impl Token {
@@ -75,6 +76,7 @@ impl Token {
         token
     }
 
+    /// Where it stands in the source text, in bytes.
     pub fn span(&self) -> Span
         ensures { result ≡ record { start = self.now.start; end = self.now.end } }
     {
@@ -84,18 +86,21 @@ impl Token {
         }
     }
 
+    /// Where it starts, as an offset in bytes.
     pub fn start(&self) -> u32
         ensures { result ≡ self.now.start }
     {
         self.start
     }
 
+    /// Where it ends, as an offset in bytes.
     pub fn end(&self) -> u32
         ensures { result ≡ self.now.end }
     {
         self.end
     }
 
+    /// What it is.
     pub fn kind(&self) -> Kind
         ensures { result ≡ self.now.kind }
     {
@@ -123,6 +128,7 @@ impl Token {
         self.has_separator
     }
 
+    /// Sets where it stands, in bytes.
     pub fn set_span(&mut self, span: Span)
         requires { span.start ≤ span.end }
         ensures { self.new ≡ record self.old { start = span.start; end = span.end } }
@@ -138,6 +144,7 @@ impl Token {
         self.start = start;
     }
 
+    /// Sets where it ends, as an offset in bytes.
     pub fn set_end(&mut self, end: u32)
         requires { self.old.start ≤ end }
         ensures { self.new ≡ record self.old { end = end } }
@@ -145,24 +152,28 @@ impl Token {
         self.end = end;
     }
 
+    /// Sets what it is.
     pub fn set_kind(&mut self, kind: Kind)
         ensures { self.new ≡ record self.old { kind = kind } }
     {
         self.kind = kind;
     }
 
+    /// Sets whether a line has ended between the token before it and it.
     pub fn set_is_on_new_line(&mut self, value: bool)
         ensures { self.new ≡ record self.old { is_on_new_line = value } }
     {
         self.is_on_new_line = value;
     }
 
+    /// Sets whether it has an escape in it.
     pub fn set_escaped(&mut self, escaped: bool)
         ensures { self.new ≡ record self.old { escaped = escaped } }
     {
         self.escaped = escaped;
     }
 
+    /// Sets whether it is a number with `_` between its digits.
     pub fn set_has_separator(&mut self, value: bool)
         ensures { self.new ≡ record self.old { has_separator = value } }
     {

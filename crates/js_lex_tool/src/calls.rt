@@ -24,6 +24,7 @@ impl<'b> Model for FailingCalls<'b> {
 }
 
 impl<'b> FailingCalls<'b> {
+    /// No call was made yet; those whose numbers are listed will fail.
     pub fn new(failing: &'b [u64]) -> FailingCalls<'b>
         ensures { result ≡ no_calls failing.now }
     {
@@ -34,6 +35,7 @@ impl<'b> FailingCalls<'b> {
         }
     }
 
+    /// How many calls have failed.
     pub fn faults(&self) -> u64
         ensures { result ≡ self.now.faults }
     {

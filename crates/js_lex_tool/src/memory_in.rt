@@ -28,6 +28,7 @@ impl<'b> Model for MemoryIn<'b> {
 }
 
 impl<'b> MemoryIn<'b> {
+    /// An input of these bytes, in reads of at most `piece` bytes. The reads whose numbers are in `failing` fail.
     pub fn new(bytes: &'b [u8], piece: usize, failing: &'b [u64]) -> MemoryIn<'b>
         requires { 1 ≤ piece }
         ensures { result ≡ record { left = bytes.now; piece = piece; calls = no_calls failing.now } }
@@ -110,6 +111,7 @@ impl<'b> Model for SureIn<'b> {
 }
 
 impl<'b> SureIn<'b> {
+    /// An input of these bytes, in reads of at most `piece` bytes.
     pub fn new(bytes: &'b [u8], piece: usize) -> SureIn<'b>
         requires { 1 ≤ piece }
         ensures { result ≡ record { left = bytes.now; piece = piece } }

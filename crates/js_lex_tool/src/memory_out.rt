@@ -30,6 +30,7 @@ impl<'b> Model for MemoryOut<'b> {
 }
 
 impl<'b> MemoryOut<'b> {
+    /// An empty output, in writes of at most `piece` bytes. The writes and flushes whose numbers are in `failing` fail.
     pub fn new(alloc: Global, piece: usize, failing: &'b [u64]) -> MemoryOut<'b>
         requires { 1 ≤ piece }
         ensures { result ≡ record { written = []; piece = piece; calls = no_calls failing.now } }
@@ -120,6 +121,7 @@ impl Model for SureOut {
 }
 
 impl SureOut {
+    /// An empty output, in writes of at most `piece` bytes.
     pub fn new(alloc: Global, piece: usize) -> SureOut
         requires { 1 ≤ piece }
         ensures { result ≡ record { written = []; piece = piece } }

@@ -13,6 +13,7 @@ pub struct StdIn<R: Read + Drop> {
 }
 
 impl<R: Read + Drop> StdIn<R> {
+    /// An input that has not failed yet.
     pub fn new(reader: R) -> StdIn<R> {
         StdIn { reader, faults: 0 }
     }
@@ -44,6 +45,7 @@ pub struct StdOut<W: Write + Drop> {
 }
 
 impl<W: Write + Drop> StdOut<W> {
+    /// An output that has not failed yet.
     pub fn new(writer: W) -> StdOut<W> {
         StdOut { writer, faults: 0 }
     }

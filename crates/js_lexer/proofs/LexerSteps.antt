@@ -1,6 +1,7 @@
 -- The steps of a lexer.
 use Rattle.std.proofs.Common.{◌≡◌, ◌-◌, Bool, false, List, [], ◌∷◌, ◌++◌, length, take, refl, sym, ◌∙◌, ap, subst, arith, Option, Some, None}
 use Rattle.std.specs.Prelude.{slice_get}
+use Rattle.std.specs.List.{last_or}
 use Rattle.std.specs.Str.{IsUtf8}
 use Rattle.std.proofs.Math.Seq.{take-append_seam}
 use Rattle.js_text.specs.Lists.{with_last}
@@ -11,7 +12,7 @@ use Rattle.js_grammar.specs.Hashbang.{Goal}
 use Rattle.js_grammar.proofs.Clean.{goal_reads-clean, clean_reads}
 use Rattle.js_grammar.proofs.Spans.{goal_reads_span, goal_reads_places}
 use Rattle.js_lexer.specs.Lexed.{ReadsGoal, goal_of}
-use Rattle.js_lexer.specs.Lexer.{LexerState, IsOnPlaces, collected, ReadsToken, Checkpoint, checkpoint_of, last_of, put_back, rewound, BeginsAlike, GoesOnFrom}
+use Rattle.js_lexer.specs.Lexer.{LexerState, IsOnPlaces, collected, ReadsToken, Checkpoint, checkpoint_of, put_back, rewound, BeginsAlike, GoesOnFrom}
 
 abbrev pub source_of : LexerState → At
 source_of l = record { text = l.text; place = l.place }
@@ -43,7 +44,7 @@ reads_token l is_first token at tokens reports u r c = record {
 pub cut_back : {A : Type 0} (xs more ys : List A) → ys ≡ xs ++ more → take (length xs) ys ≡ xs
 cut_back xs more ys e = ap (take (length xs)) e ∙ take-append_seam xs more
 
-put_back_last : (old now : List TokenParts) → BeginsAlike old now → put_back (take (length old) now) (last_of old) ≡ old
+put_back_last : (old now : List TokenParts) → BeginsAlike old now → put_back (take (length old) now) (last_or None old) ≡ old
 put_back_last [] now h = refl
 put_back_last (t ∷ ts) [] h = absurd (absent t ts h)
   where
@@ -56,9 +57,9 @@ put_back_last (t ∷ u ∷ ts) (n ∷ []) h = absurd (absent u ts h.1)
     absent : (t : TokenParts) (ts : List TokenParts) → BeginsAlike (t ∷ ts) [] → ⊥
     absent t [] h = h
     absent t (u ∷ ts) h = h
-put_back_last (t ∷ u ∷ ts) (n ∷ m ∷ ns) h = front (last_of (u ∷ ts)) (some_last u ts) (put_back_last (u ∷ ts) (m ∷ ns) h.1)
+put_back_last (t ∷ u ∷ ts) (n ∷ m ∷ ns) h = front (last_or None (u ∷ ts)) (some_last u ts) (put_back_last (u ∷ ts) (m ∷ ns) h.1)
   where
-    some_last : (u : TokenParts) (ts : List TokenParts) → (x : TokenParts) × (last_of (u ∷ ts) ≡ Some x)
+    some_last : (u : TokenParts) (ts : List TokenParts) → (x : TokenParts) × (last_or None (u ∷ ts) ≡ Some x)
     some_last u [] = (u, refl)
     some_last u (v ∷ ts) = some_last v ts
 
@@ -86,11 +87,11 @@ reading_goes_on goal old new token r = subst (λ (l : LexerState). GoesOnFrom ol
   errors = take-append_seam old.errors r.faults;
 })
 
-last_at : (t : TokenParts) (ts : List TokenParts) → slice_get (t ∷ ts) (length ts) ≡ last_of (t ∷ ts)
+last_at : (t : TokenParts) (ts : List TokenParts) → slice_get (t ∷ ts) (length ts) ≡ last_or None (t ∷ ts)
 last_at t [] = refl
 last_at t (u ∷ ts) = last_at u ts
 
 -- the last of a list
-pub last_is : (ts : List TokenParts) → slice_get ts (length ts - 1) ≡ last_of ts
+pub last_is : (ts : List TokenParts) → slice_get ts (length ts - 1) ≡ last_or None ts
 last_is [] = refl
 last_is (t ∷ ts) = let same : length (t ∷ ts) - 1 ≡ length ts = omega arith in ap (slice_get (t ∷ ts)) same ∙ last_at t ts

@@ -1,5 +1,6 @@
 -- How contracts see a lexer, its checkpoints and its readings.
 use Rattle.std.specs.Prelude.{◌≡◌, ◌≢◌, ℕ, ◌<◌, ◌≤◌, Bool, true, false, List, [], ◌∷◌, ◌++◌, ◌&&◌, ◌==◌, not, length, take, Option, Some, None, ◌↔◌, if◌then◌else◌}
+use Rattle.std.specs.List.{last_or}
 use Rattle.std.specs.Str.{IsCharBoundary}
 use Rattle.js_text.specs.Lists.{with_last}
 use Rattle.js_text.specs.declared.source_type.SourceType.{SourceType}
@@ -68,12 +69,6 @@ pub record ReadsToken (goal : Goal) (old : LexerState) (token : TokenParts) (new
   pub places : IsOnPlaces old.text token
   pub some_text : token.kind ≢ Eof → token.start < token.end
 
--- the last of a list
-abbrev pub last_of : List TokenParts → Option TokenParts
-last_of [] = None
-last_of (t ∷ []) = Some t
-last_of (t ∷ u ∷ ts) = last_of (u ∷ ts)
-
 -- A checkpoint: the place, whether nothing was read, the last token, the last collected one, and how long the lists were.
 pub record Checkpoint : Type 0 where
   pub place : ℕ
@@ -88,7 +83,7 @@ checkpoint_of l = record {
   place = l.place;
   is_fresh = l.is_fresh;
   token = l.token;
-  last_collected = last_of l.tokens;
+  last_collected = last_or None l.tokens;
   tokens = length l.tokens;
   errors = length l.errors;
 }

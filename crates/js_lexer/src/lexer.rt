@@ -1,10 +1,11 @@
 //! The lexer: a source, the last token, and the lists that its readings fill.
 
-ghost use Rattle.std.specs.Prelude.{◌≡◌, ◌≤◌, ◌^◌, ◌↔◌, ◌++◌, [], length, drop, true, IsTrue, IfOk, OnOk, OnErr};
+ghost use Rattle.std.specs.Prelude.{◌≡◌, ◌≤◌, ◌^◌, ◌↔◌, ◌++◌, [], length, drop, true, None, IsTrue, IfOk, OnOk, OnErr};
+ghost use Rattle.std.specs.List.{last_or};
 ghost use Rattle.std.specs.Str.{IsCharBoundary, IsUtf8};
 ghost use Rattle.js_grammar.specs.Hashbang.Goal.{first, next};
 ghost use Rattle.js_lexer.specs.Lexed.{goal_of};
-ghost use Rattle.js_lexer.specs.Lexer.{LexerState, fresh, ReadsToken, IsOnPlaces, Peeks, checkpoint_of, CanRewind, rewound, GoesOnFrom, collected, is_hashbang, last_of};
+ghost use Rattle.js_lexer.specs.Lexer.{LexerState, fresh, ReadsToken, IsOnPlaces, Peeks, checkpoint_of, CanRewind, rewound, GoesOnFrom, collected, is_hashbang};
 
 use crate::checkpoint::{LexerCheckpoint, is_on_places, is_place, put_back};
 use crate::comment::CommentTables;
@@ -38,7 +39,7 @@ fn collect(tokens: &mut TokenList, collects: bool, token: &Token) -> Result<(), 
 
 /// The last token of a list.
 fn last_of(tokens: &[Token]) -> Option<Token>
-    ensures { result ≡ last_of tokens.now }
+    ensures { result ≡ last_or None tokens.now }
 {
     tokens.last().copied()
 }

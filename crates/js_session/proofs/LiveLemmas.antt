@@ -1,5 +1,6 @@
 -- One more live token.
 use Rattle.std.proofs.Common.{◌≡◌, ℕ, Bool, List, [], ◌∷◌, ◌++◌, take, drop, refl, sym, ◌∙◌, ap, append-nil, append_assoc}
+use Rattle.std.proofs.lemmas.Grind.{flat_map-append}
 use Rattle.std.proofs.lemmas.List.{take-append-drop}
 use Rattle.js_text.specs.declared.diagnostic.Diagnostic.{Diagnostic}
 use Rattle.js_text.specs.declared.source_type.SourceType.{SourceType}
@@ -9,20 +10,16 @@ use Rattle.js_session.specs.Live.{Live, last_token, place_after}
 use Rattle.js_session.specs.Marks.{held, lexer_behind}
 use Rattle.js_session.specs.Report.{all_collected}
 
-pub place_after-push : (ts : List TokenParts) (t : TokenParts) → place_after (ts ++ t ∷ []) ≡ t.end
-place_after-push [] t = refl
-place_after-push (a ∷ []) t = refl
-place_after-push (a ∷ b ∷ ts) t = place_after-push (b ∷ ts) t
-
 pub last_token-push : (ts : List TokenParts) (t : TokenParts) → last_token (ts ++ t ∷ []) ≡ t
 last_token-push [] t = refl
 last_token-push (a ∷ []) t = refl
 last_token-push (a ∷ b ∷ ts) t = last_token-push (b ∷ ts) t
 
+pub place_after-push : (ts : List TokenParts) (t : TokenParts) → place_after (ts ++ t ∷ []) ≡ t.end
+place_after-push ts t = ap (λ x. x.end) (last_token-push ts t)
+
 pub all_collected-append : (c : Bool) (ts us : List TokenParts) → all_collected c (ts ++ us) ≡ all_collected c ts ++ all_collected c us
-all_collected-append c [] us = refl
-all_collected-append c (t ∷ ts) us =
-    ap (λ xs. collected c t ++ xs) (all_collected-append c ts us) ∙ sym (append_assoc (collected c t) (all_collected c ts) (all_collected c us))
+all_collected-append c ts us = flat_map-append (collected c) ts us
 
 pub all_collected-push : (c : Bool) (ts : List TokenParts) (t : TokenParts) → all_collected c (ts ++ t ∷ []) ≡ all_collected c ts ++ collected c t
 all_collected-push c ts t = all_collected-append c ts (t ∷ []) ∙ ap (λ xs. all_collected c ts ++ xs) (append-nil (collected c t))

@@ -1,5 +1,7 @@
 -- What is live in a session: a fold over its commands and rows.
-use Rattle.std.specs.Prelude.{ℕ, Bool, true, false, List, [], ◌∷◌, ◌++◌, if◌then◌else◌}
+use Rattle.std.specs.Prelude.{ℕ, Bool, true, false, List, [], ◌∷◌, ◌++◌, None, if◌then◌else◌}
+use Rattle.std.specs.List.{last_or}
+use Rattle.std.specs.Option.{unwrap_or}
 use Rattle.js_text.specs.declared.comment.Comment.{Comment}
 use Rattle.js_text.specs.declared.diagnostic.Diagnostic.{Diagnostic}
 use Rattle.js_text.specs.declared.span.Span.{Span}
@@ -32,15 +34,11 @@ with_row live row = record {
 
 -- the last token, or the default token where there is none
 abbrev pub last_token : List TokenParts → TokenParts
-last_token [] = default_parts
-last_token (t ∷ []) = t
-last_token (t ∷ u ∷ ts) = last_token (u ∷ ts)
+last_token tokens = unwrap_or (last_or None tokens) default_parts
 
 -- the place behind the last token, and 0 where there is none
 abbrev pub place_after : List TokenParts → ℕ
-place_after [] = 0
-place_after (t ∷ []) = t.end
-place_after (t ∷ u ∷ ts) = place_after (u ∷ ts)
+place_after tokens = (last_token tokens).end
 
 -- The state of a session: what is live, and what was live at each open mark, the last one first.
 pub record State : Type 0 where

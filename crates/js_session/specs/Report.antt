@@ -1,5 +1,6 @@
 -- What a session reports: which rows answer its commands, and what is live after them.
 use Rattle.std.specs.Prelude.{◌≡◌, ◌≢◌, ℕ, ◌<◌, ◌≤◌, ◌^◌, Bool, true, false, List, [], ◌∷◌, ◌++◌, length, Option, Some, None, MatchBool, ◌↔◌, if◌then◌else◌}
+use Rattle.std.specs.List.{flat_map}
 use Rattle.std.specs.Str.{IsUtf8, IsCharBoundary}
 use Rattle.js_text.specs.declared.source_type.SourceType.{SourceType}
 use Rattle.js_kind.specs.Kinds.{is_identifier_name}
@@ -67,8 +68,7 @@ AreRows text t commands (row ∷ rows) = IsRow text t nothing_live None row × R
 
 -- What is collected of tokens: nothing where tokens are not collected, else all but a hashbang comment.
 abbrev pub all_collected : Bool → List TokenParts → List TokenParts
-all_collected collects [] = []
-all_collected collects (t ∷ ts) = collected collects t ++ all_collected collects ts
+all_collected collects tokens = flat_map (collected collects) tokens
 
 -- the live lists of a report
 abbrev pub live_lists : Report → Live

@@ -20,6 +20,7 @@ pub enum Command {
     Commit,
 }
 
+/// A growing list of commands.
 pub type CommandList = ItemList<Command>;
 
 impl Command {

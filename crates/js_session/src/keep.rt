@@ -25,6 +25,7 @@ pub(crate) struct SessionMark {
 }
 
 impl LiveLists {
+    /// Nothing is live yet.
     pub fn new_in(alloc: Global) -> LiveLists
         ensures { result ≡ record { tokens = []; diagnostics = [] } }
     {
@@ -34,6 +35,7 @@ impl LiveLists {
         }
     }
 
+    /// Keeps so many of the first tokens and diagnostics.
     pub fn cut_back(&mut self, tokens: usize, diagnostics: usize)
         ensures { self.new ≡ record { tokens = take tokens self.old.tokens; diagnostics = take diagnostics self.old.diagnostics } }
     {

@@ -22,6 +22,7 @@ impl Model for RowList {
 }
 
 impl RowList {
+    /// A list of no rows. It takes no memory yet.
     pub fn new_in(alloc: Global) -> RowList
         ensures { result ≡ [] }
     {
@@ -30,24 +31,28 @@ impl RowList {
         }
     }
 
+    /// How many rows there are.
     pub fn len(&self) -> usize
         ensures { result ≡ length self.now }
     {
         self.items.len()
     }
 
+    /// Whether there is no row.
     pub fn is_empty(&self) -> bool
         ensures { result ≡ (length self.now == 0) }
     {
         self.items.is_empty()
     }
 
+    /// The rows, in the order in which they were added.
     pub fn as_slice(&self) -> &[Row]
         ensures { result.now ≡ self.now }
     {
         self.items.as_slice()
     }
 
+    /// Adds a row at the end. Where there is no memory for it, the list stays as it was.
     pub fn push(&mut self, item: Row) -> Result<(), AllocError>
         ensures ok { OnOk result (self.new ≡ self.old ++ item ∷ []) }
         ensures err { OnErr result (self.new ≡ self.old) }
@@ -56,6 +61,7 @@ impl RowList {
         Ok(())
     }
 
+    /// Takes the last row, if there is one.
     pub fn pop(&mut self) -> Option<Row>
         ensures found { IsSome result ↔ (0 < length self.old) }
         ensures items { self.old ≡ self.new ++ option_to_list result }
@@ -63,6 +69,7 @@ impl RowList {
         self.items.pop()
     }
 
+    /// Keeps the first `len` rows; a shorter list stays as it is.
     pub fn truncate(&mut self, len: usize)
         ensures { self.new ≡ take len self.old }
     {

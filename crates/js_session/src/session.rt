@@ -186,6 +186,7 @@ impl<'a, C: LexerConfig + Drop> Session<'a, C> {
         self.marks.pop();
     }
 
+    /// The rows so far: one for the first step and one for each step after it, those that a rewind took back among them.
     pub fn rows(&self) -> &[Row]
         ensures { result.now ≡ self.now.rows }
     {
@@ -199,6 +200,7 @@ impl<'a, C: LexerConfig + Drop> Session<'a, C> {
         self.marks.len()
     }
 
+    /// The report of the calls so far. A mark may still be open.
     pub fn finish(self) -> Report
         ensures report { result ≡ report_of self.entry }
         ensures unfilled { (result.deferred ≡ []) × (result.comments ≡ []) × (result.irregular ≡ []) }

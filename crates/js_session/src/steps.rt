@@ -34,6 +34,7 @@ impl<L: Ledger> Steps<L> {
         Steps { book, share }
     }
 
+    /// Counts one more row.
     pub fn tick(&mut self)
         ensures { self.new ≡ self.old + 1 }
     {

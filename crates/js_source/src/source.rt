@@ -128,6 +128,7 @@ impl<'a> Source<'a> {
         }
     }
 
+    /// Whether no character is left.
     pub fn is_eof(&self) -> bool
         ensures place { IsTrue result ↔ (self.now.place ≡ length self.now.text) }
         ensures characters { IsTrue result ↔ (rest self.now ≡ []) }
@@ -169,6 +170,7 @@ impl<'a> Source<'a> {
         self.place = pos.offset;
     }
 
+    /// Goes past the last character.
     pub fn advance_to_end(&mut self)
         ensures place { self.new ≡ record self.old { place = length self.old.text } }
         ensures nothing { rest self.new ≡ [] }

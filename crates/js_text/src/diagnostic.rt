@@ -52,6 +52,7 @@ impl Diagnostic {
         }
     }
 
+    /// The stretch of the text that it is about, in bytes. None: it is about the whole file.
     pub fn span(&self) -> Option<Span>
         ensures { result ≡ diagnostic_span self.now }
     {

@@ -15,12 +15,16 @@ pub struct ItemList<T> {
     items: Vec<T>,
 }
 
+/// A growing list of diagnostics.
 pub type DiagnosticList = ItemList<Diagnostic>;
 
+/// A growing list of spans.
 pub type SpanList = ItemList<Span>;
 
+/// A growing list of comments.
 pub type CommentList = ItemList<Comment>;
 
+/// A growing list of bytes.
 pub type ByteList = ItemList<u8>;
 
 impl<T> Model for ItemList<T> {
@@ -30,6 +34,7 @@ impl<T> Model for ItemList<T> {
 }
 
 impl<T> ItemList<T> {
+    /// A list of no items. It takes no memory yet.
     pub fn new_in(alloc: Global) -> ItemList<T>
         ensures { result ≡ [] }
     {
@@ -38,24 +43,28 @@ impl<T> ItemList<T> {
         }
     }
 
+    /// How many items there are.
     pub fn len(&self) -> usize
         ensures { result ≡ length self.now }
     {
         self.items.len()
     }
 
+    /// Whether there is no item.
     pub fn is_empty(&self) -> bool
         ensures { result ≡ (length self.now == 0) }
     {
         self.items.is_empty()
     }
 
+    /// The items, in the order in which they were added.
     pub fn as_slice(&self) -> &[T]
         ensures { result.now ≡ self.now }
     {
         self.items.as_slice()
     }
 
+    /// Takes the last item, if there is one.
     pub fn pop(&mut self) -> Option<T>
         ensures found { IsSome result ↔ (0 < length self.old) }
         ensures items { self.old ≡ self.new ++ option_to_list result }
@@ -65,6 +74,7 @@ impl<T> ItemList<T> {
 }
 
 impl<T: Drop> ItemList<T> {
+    /// Adds an item at the end. Where there is no memory for it, the list stays as it was.
     pub fn push(&mut self, item: T) -> Result<(), AllocError>
         ensures ok { OnOk result (self.new ≡ self.old ++ item ∷ []) }
         ensures err { OnErr result (self.new ≡ self.old) }
@@ -73,6 +83,7 @@ impl<T: Drop> ItemList<T> {
         Ok(())
     }
 
+    /// Keeps the first `len` items; a shorter list stays as it is.
     pub fn truncate(&mut self, len: usize)
         ensures { self.new ≡ take len self.old }
     {
@@ -90,6 +101,7 @@ impl<T: Drop> ItemList<T> {
 }
 
 impl<T: Copy> ItemList<T> {
+    /// Adds copies of the items at the end. Where there is no memory for all of them, the list stays as it was.
     pub fn extend_from_slice(&mut self, items: &[T]) -> Result<(), AllocError>
         ensures ok { OnOk result (self.new ≡ self.old ++ items.now) }
         ensures err { OnErr result (self.new ≡ self.old) }
@@ -97,6 +109,7 @@ impl<T: Copy> ItemList<T> {
         self.items.extend_from_slice(items)
     }
 
+    /// An equal list.
     pub fn copy(&self, alloc: Global) -> Result<ItemList<T>, AllocError>
         ensures { IfOk result (λ l. l ≡ self.now) }
     {

@@ -20,6 +20,7 @@ impl Model for SourceText {
 }
 
 impl SourceText {
+    /// An empty text. It takes no memory yet.
     pub fn new_in(alloc: Global) -> SourceText
         ensures { result ≡ [] }
     {
@@ -28,6 +29,7 @@ impl SourceText {
         }
     }
 
+    /// Adds a text at the end. Where there is no memory for it, the text stays as it was.
     pub fn push_str(&mut self, s: &str) -> Result<(), AllocError>
         ensures ok { OnOk result (self.new ≡ self.old ++ s.now) }
         ensures err { OnErr result (self.new ≡ self.old) }
@@ -35,6 +37,7 @@ impl SourceText {
         self.text.push_str(s)
     }
 
+    /// The text so far.
     pub fn as_str(&self) -> &str
         ensures { result.now ≡ self.now }
     {

@@ -13,6 +13,7 @@ pub enum SourceType {
 }
 
 impl SourceType {
+    /// Whether the text is a module (ECMA-262 16.2).
     pub fn is_module(self) -> bool
         ensures { result ≡ is_module self }
     {
@@ -26,6 +27,7 @@ impl SourceType {
         matches!(self, SourceType::Module)
     }
 
+    /// Whether it is not settled yet if the text is a module or a script.
     pub fn is_unambiguous(self) -> bool
         ensures { result ≡ is_unambiguous self }
     {

@@ -10,6 +10,7 @@ pub struct Span {
 }
 
 impl Span {
+    /// The span from one offset up to another, in bytes.
     pub fn new(start: u32, end: u32) -> Span
         requires { start ≤ end }
         ensures { result ≡ record { start = start; end = end } }
