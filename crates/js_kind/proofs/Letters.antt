@@ -1,113 +1,44 @@
--- A text that begins with a letter: only the keywords of that letter are compared.
-use Rattle.std.proofs.Common.{◌≡◌, ℕ, List, [], ◌∷◌, length, get_or, refl, arith, ◌∙◌, Bool, true, false, ◌==◌}
+-- A text that begins with a letter: only the words of that letter are compared.
+use Rattle.std.proofs.Common.{◌≡◌, ℕ, ◌<◌, List, [], ◌∷◌, length, get_or, refl, sym, ap, arith, ◌∙◌, Bool, true, false, cond, ◌==◌}
+use Rattle.std.proofs.lemmas.Bool.{both_ways, eq-eqb}
 use Rattle.std.proofs.lemmas.Grind.{common_steps}
+use Rattle.std.proofs.lemmas.Slice.Eq.{bytes_eq-Decides}
+use Rattle.std.specs.List.{filter}
+use Rattle.std.specs.Prelude.{if◌then◌else◌}
+use Rattle.std.specs.Str.{bytes_eq}
+use Rattle.js_text.specs.Characters.{begins}
+use Rattle.js_kind.specs.declared.kind.Kind.{Kind}
 use Rattle.js_kind.specs.declared.kind.Kind.TheVariants.{Ident}
-use Rattle.js_kind.specs.Keywords.{name_kind, kind_in, keywords_a, keywords_b, keywords_c, keywords_d, keywords_e, keywords_f, keywords_g, keywords_i, keywords_k, keywords_l, keywords_m, keywords_n, keywords_o, keywords_p, keywords_r, keywords_s, keywords_t, keywords_u, keywords_v, keywords_w, keywords_y}
+use Rattle.js_kind.specs.Kinds.{kind_text}
+use Rattle.js_kind.specs.Keywords.{name_kind, kind_in, keywords, keywords_of}
 
-pub letter_a : (n : ℕ) (bytes : List ℕ) → get_or bytes 0 0 ≡ n → n ≡ 97 → kind_in keywords_a bytes ≡ name_kind bytes
-unfolding name_kind
-letter_a n [] is letter = let no : 0 ≡ n = is in absurd (omega arith)
-letter_a n (c ∷ cs) is letter = let first : c ≡ 97 = is ∙ letter in rw first refl
+-- the word of the kind begins with the letter
+abbrev has_letter : ℕ → Kind → Bool
+has_letter letter kind = begins (λ c. c == letter) (kind_text kind)
 
-pub letter_b : (n : ℕ) (bytes : List ℕ) → get_or bytes 0 0 ≡ n → n ≡ 98 → kind_in keywords_b bytes ≡ name_kind bytes
-unfolding name_kind
-letter_b n [] is letter = let no : 0 ≡ n = is in absurd (omega arith)
-letter_b n (c ∷ cs) is letter = let first : c ≡ 98 = is ∙ letter in rw first refl
+-- a text that begins with the letter is no word that begins otherwise
+is_other_word : (letter : ℕ) (cs word : List ℕ) (same : Bool) → bytes_eq (letter ∷ cs) word ≡ same → begins (λ c. c == letter) word ≡ false → same ≡ false
+is_other_word letter cs word false e other = refl
+is_other_word letter cs word true e other =
+    let is : letter ∷ cs ≡ word = (bytes_eq-Decides (letter ∷ cs) word).0 e in
+    absurd (both_ways _ other (ap (begins (λ c. c == letter)) (sym is) ∙ eq-eqb letter letter refl))
 
-pub letter_c : (n : ℕ) (bytes : List ℕ) → get_or bytes 0 0 ≡ n → n ≡ 99 → kind_in keywords_c bytes ≡ name_kind bytes
-unfolding name_kind
-letter_c n [] is letter = let no : 0 ≡ n = is in absurd (omega arith)
-letter_c n (c ∷ cs) is letter = let first : c ≡ 99 = is ∙ letter in rw first refl
+-- one kind
+one_of_letter : (letter : ℕ) (cs : List ℕ) (kind : Kind) (kinds mine : List Kind) (has : Bool) → has_letter letter kind ≡ has
+    → kind_in mine (letter ∷ cs) ≡ kind_in kinds (letter ∷ cs) → kind_in (cond has (kind ∷ mine) mine) (letter ∷ cs) ≡ kind_in (kind ∷ kinds) (letter ∷ cs)
+one_of_letter letter cs kind kinds mine true e more = ap (λ other. if bytes_eq (letter ∷ cs) (kind_text kind) then kind else other) more
+one_of_letter letter cs kind kinds mine false e more =
+    rw (is_other_word letter cs (kind_text kind) (bytes_eq (letter ∷ cs) (kind_text kind)) refl e) more
 
-pub letter_d : (n : ℕ) (bytes : List ℕ) → get_or bytes 0 0 ≡ n → n ≡ 100 → kind_in keywords_d bytes ≡ name_kind bytes
-unfolding name_kind
-letter_d n [] is letter = let no : 0 ≡ n = is in absurd (omega arith)
-letter_d n (c ∷ cs) is letter = let first : c ≡ 100 = is ∙ letter in rw first refl
+kind_of_letter : (letter : ℕ) (cs : List ℕ) (kinds : List Kind) → kind_in (filter (has_letter letter) kinds) (letter ∷ cs) ≡ kind_in kinds (letter ∷ cs)
+kind_of_letter letter cs [] = refl
+kind_of_letter letter cs (k ∷ ks) = one_of_letter letter cs k ks (filter (has_letter letter) ks) (has_letter letter k) refl (kind_of_letter letter cs ks)
 
-pub letter_e : (n : ℕ) (bytes : List ℕ) → get_or bytes 0 0 ≡ n → n ≡ 101 → kind_in keywords_e bytes ≡ name_kind bytes
+-- Of a text whose first byte is the letter, the words of that letter decide.
+pub letter_decides : (letter n : ℕ) (bytes : List ℕ) → 0 < letter → get_or bytes 0 0 ≡ n → n ≡ letter → kind_in (keywords_of letter) bytes ≡ name_kind bytes
 unfolding name_kind
-letter_e n [] is letter = let no : 0 ≡ n = is in absurd (omega arith)
-letter_e n (c ∷ cs) is letter = let first : c ≡ 101 = is ∙ letter in rw first refl
-
-pub letter_f : (n : ℕ) (bytes : List ℕ) → get_or bytes 0 0 ≡ n → n ≡ 102 → kind_in keywords_f bytes ≡ name_kind bytes
-unfolding name_kind
-letter_f n [] is letter = let no : 0 ≡ n = is in absurd (omega arith)
-letter_f n (c ∷ cs) is letter = let first : c ≡ 102 = is ∙ letter in rw first refl
-
-pub letter_g : (n : ℕ) (bytes : List ℕ) → get_or bytes 0 0 ≡ n → n ≡ 103 → kind_in keywords_g bytes ≡ name_kind bytes
-unfolding name_kind
-letter_g n [] is letter = let no : 0 ≡ n = is in absurd (omega arith)
-letter_g n (c ∷ cs) is letter = let first : c ≡ 103 = is ∙ letter in rw first refl
-
-pub letter_i : (n : ℕ) (bytes : List ℕ) → get_or bytes 0 0 ≡ n → n ≡ 105 → kind_in keywords_i bytes ≡ name_kind bytes
-unfolding name_kind
-letter_i n [] is letter = let no : 0 ≡ n = is in absurd (omega arith)
-letter_i n (c ∷ cs) is letter = let first : c ≡ 105 = is ∙ letter in rw first refl
-
-pub letter_k : (n : ℕ) (bytes : List ℕ) → get_or bytes 0 0 ≡ n → n ≡ 107 → kind_in keywords_k bytes ≡ name_kind bytes
-unfolding name_kind
-letter_k n [] is letter = let no : 0 ≡ n = is in absurd (omega arith)
-letter_k n (c ∷ cs) is letter = let first : c ≡ 107 = is ∙ letter in rw first refl
-
-pub letter_l : (n : ℕ) (bytes : List ℕ) → get_or bytes 0 0 ≡ n → n ≡ 108 → kind_in keywords_l bytes ≡ name_kind bytes
-unfolding name_kind
-letter_l n [] is letter = let no : 0 ≡ n = is in absurd (omega arith)
-letter_l n (c ∷ cs) is letter = let first : c ≡ 108 = is ∙ letter in rw first refl
-
-pub letter_m : (n : ℕ) (bytes : List ℕ) → get_or bytes 0 0 ≡ n → n ≡ 109 → kind_in keywords_m bytes ≡ name_kind bytes
-unfolding name_kind
-letter_m n [] is letter = let no : 0 ≡ n = is in absurd (omega arith)
-letter_m n (c ∷ cs) is letter = let first : c ≡ 109 = is ∙ letter in rw first refl
-
-pub letter_n : (n : ℕ) (bytes : List ℕ) → get_or bytes 0 0 ≡ n → n ≡ 110 → kind_in keywords_n bytes ≡ name_kind bytes
-unfolding name_kind
-letter_n n [] is letter = let no : 0 ≡ n = is in absurd (omega arith)
-letter_n n (c ∷ cs) is letter = let first : c ≡ 110 = is ∙ letter in rw first refl
-
-pub letter_o : (n : ℕ) (bytes : List ℕ) → get_or bytes 0 0 ≡ n → n ≡ 111 → kind_in keywords_o bytes ≡ name_kind bytes
-unfolding name_kind
-letter_o n [] is letter = let no : 0 ≡ n = is in absurd (omega arith)
-letter_o n (c ∷ cs) is letter = let first : c ≡ 111 = is ∙ letter in rw first refl
-
-pub letter_p : (n : ℕ) (bytes : List ℕ) → get_or bytes 0 0 ≡ n → n ≡ 112 → kind_in keywords_p bytes ≡ name_kind bytes
-unfolding name_kind
-letter_p n [] is letter = let no : 0 ≡ n = is in absurd (omega arith)
-letter_p n (c ∷ cs) is letter = let first : c ≡ 112 = is ∙ letter in rw first refl
-
-pub letter_r : (n : ℕ) (bytes : List ℕ) → get_or bytes 0 0 ≡ n → n ≡ 114 → kind_in keywords_r bytes ≡ name_kind bytes
-unfolding name_kind
-letter_r n [] is letter = let no : 0 ≡ n = is in absurd (omega arith)
-letter_r n (c ∷ cs) is letter = let first : c ≡ 114 = is ∙ letter in rw first refl
-
-pub letter_s : (n : ℕ) (bytes : List ℕ) → get_or bytes 0 0 ≡ n → n ≡ 115 → kind_in keywords_s bytes ≡ name_kind bytes
-unfolding name_kind
-letter_s n [] is letter = let no : 0 ≡ n = is in absurd (omega arith)
-letter_s n (c ∷ cs) is letter = let first : c ≡ 115 = is ∙ letter in rw first refl
-
-pub letter_t : (n : ℕ) (bytes : List ℕ) → get_or bytes 0 0 ≡ n → n ≡ 116 → kind_in keywords_t bytes ≡ name_kind bytes
-unfolding name_kind
-letter_t n [] is letter = let no : 0 ≡ n = is in absurd (omega arith)
-letter_t n (c ∷ cs) is letter = let first : c ≡ 116 = is ∙ letter in rw first refl
-
-pub letter_u : (n : ℕ) (bytes : List ℕ) → get_or bytes 0 0 ≡ n → n ≡ 117 → kind_in keywords_u bytes ≡ name_kind bytes
-unfolding name_kind
-letter_u n [] is letter = let no : 0 ≡ n = is in absurd (omega arith)
-letter_u n (c ∷ cs) is letter = let first : c ≡ 117 = is ∙ letter in rw first refl
-
-pub letter_v : (n : ℕ) (bytes : List ℕ) → get_or bytes 0 0 ≡ n → n ≡ 118 → kind_in keywords_v bytes ≡ name_kind bytes
-unfolding name_kind
-letter_v n [] is letter = let no : 0 ≡ n = is in absurd (omega arith)
-letter_v n (c ∷ cs) is letter = let first : c ≡ 118 = is ∙ letter in rw first refl
-
-pub letter_w : (n : ℕ) (bytes : List ℕ) → get_or bytes 0 0 ≡ n → n ≡ 119 → kind_in keywords_w bytes ≡ name_kind bytes
-unfolding name_kind
-letter_w n [] is letter = let no : 0 ≡ n = is in absurd (omega arith)
-letter_w n (c ∷ cs) is letter = let first : c ≡ 119 = is ∙ letter in rw first refl
-
-pub letter_y : (n : ℕ) (bytes : List ℕ) → get_or bytes 0 0 ≡ n → n ≡ 121 → kind_in keywords_y bytes ≡ name_kind bytes
-unfolding name_kind
-letter_y n [] is letter = let no : 0 ≡ n = is in absurd (omega arith)
-letter_y n (c ∷ cs) is letter = let first : c ≡ 121 = is ∙ letter in rw first refl
+letter_decides letter n [] some is at = let no : 0 ≡ n = is in absurd (omega (arith, at))
+letter_decides letter n (c ∷ cs) some is at = let first : c ≡ letter = is ∙ at in rw first (kind_of_letter letter cs keywords)
 
 -- a text that begins with none of these letters is no keyword
 pub no_letter : (c : ℕ) (cs : List ℕ) → (c == 97) ≡ false → (c == 98) ≡ false → (c == 99) ≡ false → (c == 100) ≡ false → (c == 101) ≡ false → (c == 102) ≡ false → (c == 103) ≡ false → (c == 105) ≡ false → (c == 107) ≡ false → (c == 108) ≡ false → (c == 109) ≡ false → (c == 110) ≡ false → (c == 111) ≡ false → (c == 112) ≡ false → (c == 114) ≡ false → (c == 115) ≡ false → (c == 116) ≡ false → (c == 117) ≡ false → (c == 118) ≡ false → (c == 119) ≡ false → (c == 121) ≡ false → Ident ≡ name_kind (c ∷ cs)

@@ -1,13 +1,13 @@
-//! The keyword table.
+//! The keyword table: one function for each first letter, since one `match` over all words is dear to prove.
 
 ghost use Rattle.std.specs.Prelude.{◌≡◌, true};
 ghost use Rattle.js_kind.specs.Kinds.{kind_text, is_name_kind};
-ghost use Rattle.js_kind.specs.Keywords.{name_kind, kind_in, IsKindOfName, keywords_a, keywords_b, keywords_c, keywords_d, keywords_e, keywords_f, keywords_g, keywords_i, keywords_k, keywords_l, keywords_m, keywords_n, keywords_o, keywords_p, keywords_r, keywords_s, keywords_t, keywords_u, keywords_v, keywords_w, keywords_y};
+ghost use Rattle.js_kind.specs.Keywords.{name_kind, kind_in, IsKindOfName, keywords_of};
 
 use crate::kind::Kind;
 
 fn keyword_a(name: &str) -> Kind
-    ensures { result ≡ kind_in keywords_a name.now }
+    ensures { result ≡ kind_in (keywords_of 97) name.now }
 {
     match name {
         "await" => Kind::Await,
@@ -23,7 +23,7 @@ fn keyword_a(name: &str) -> Kind
 }
 
 fn keyword_b(name: &str) -> Kind
-    ensures { result ≡ kind_in keywords_b name.now }
+    ensures { result ≡ kind_in (keywords_of 98) name.now }
 {
     match name {
         "break" => Kind::Break,
@@ -34,7 +34,7 @@ fn keyword_b(name: &str) -> Kind
 }
 
 fn keyword_c(name: &str) -> Kind
-    ensures { result ≡ kind_in keywords_c name.now }
+    ensures { result ≡ kind_in (keywords_of 99) name.now }
 {
     match name {
         "case" => Kind::Case,
@@ -48,7 +48,7 @@ fn keyword_c(name: &str) -> Kind
 }
 
 fn keyword_d(name: &str) -> Kind
-    ensures { result ≡ kind_in keywords_d name.now }
+    ensures { result ≡ kind_in (keywords_of 100) name.now }
 {
     match name {
         "debugger" => Kind::Debugger,
@@ -62,7 +62,7 @@ fn keyword_d(name: &str) -> Kind
 }
 
 fn keyword_e(name: &str) -> Kind
-    ensures { result ≡ kind_in keywords_e name.now }
+    ensures { result ≡ kind_in (keywords_of 101) name.now }
 {
     match name {
         "else" => Kind::Else,
@@ -74,7 +74,7 @@ fn keyword_e(name: &str) -> Kind
 }
 
 fn keyword_f(name: &str) -> Kind
-    ensures { result ≡ kind_in keywords_f name.now }
+    ensures { result ≡ kind_in (keywords_of 102) name.now }
 {
     match name {
         "finally" => Kind::Finally,
@@ -87,7 +87,7 @@ fn keyword_f(name: &str) -> Kind
 }
 
 fn keyword_g(name: &str) -> Kind
-    ensures { result ≡ kind_in keywords_g name.now }
+    ensures { result ≡ kind_in (keywords_of 103) name.now }
 {
     match name {
         "get" => Kind::Get,
@@ -97,7 +97,7 @@ fn keyword_g(name: &str) -> Kind
 }
 
 fn keyword_i(name: &str) -> Kind
-    ensures { result ≡ kind_in keywords_i name.now }
+    ensures { result ≡ kind_in (keywords_of 105) name.now }
 {
     match name {
         "if" => Kind::If,
@@ -114,7 +114,7 @@ fn keyword_i(name: &str) -> Kind
 }
 
 fn keyword_k(name: &str) -> Kind
-    ensures { result ≡ kind_in keywords_k name.now }
+    ensures { result ≡ kind_in (keywords_of 107) name.now }
 {
     match name {
         "keyof" => Kind::KeyOf,
@@ -123,7 +123,7 @@ fn keyword_k(name: &str) -> Kind
 }
 
 fn keyword_l(name: &str) -> Kind
-    ensures { result ≡ kind_in keywords_l name.now }
+    ensures { result ≡ kind_in (keywords_of 108) name.now }
 {
     match name {
         "let" => Kind::Let,
@@ -132,7 +132,7 @@ fn keyword_l(name: &str) -> Kind
 }
 
 fn keyword_m(name: &str) -> Kind
-    ensures { result ≡ kind_in keywords_m name.now }
+    ensures { result ≡ kind_in (keywords_of 109) name.now }
 {
     match name {
         "meta" => Kind::Meta,
@@ -142,7 +142,7 @@ fn keyword_m(name: &str) -> Kind
 }
 
 fn keyword_n(name: &str) -> Kind
-    ensures { result ≡ kind_in keywords_n name.now }
+    ensures { result ≡ kind_in (keywords_of 110) name.now }
 {
     match name {
         "new" => Kind::New,
@@ -155,7 +155,7 @@ fn keyword_n(name: &str) -> Kind
 }
 
 fn keyword_o(name: &str) -> Kind
-    ensures { result ≡ kind_in keywords_o name.now }
+    ensures { result ≡ kind_in (keywords_of 111) name.now }
 {
     match name {
         "of" => Kind::Of,
@@ -167,7 +167,7 @@ fn keyword_o(name: &str) -> Kind
 }
 
 fn keyword_p(name: &str) -> Kind
-    ensures { result ≡ kind_in keywords_p name.now }
+    ensures { result ≡ kind_in (keywords_of 112) name.now }
 {
     match name {
         "package" => Kind::Package,
@@ -179,7 +179,7 @@ fn keyword_p(name: &str) -> Kind
 }
 
 fn keyword_r(name: &str) -> Kind
-    ensures { result ≡ kind_in keywords_r name.now }
+    ensures { result ≡ kind_in (keywords_of 114) name.now }
 {
     match name {
         "return" => Kind::Return,
@@ -190,7 +190,7 @@ fn keyword_r(name: &str) -> Kind
 }
 
 fn keyword_s(name: &str) -> Kind
-    ensures { result ≡ kind_in keywords_s name.now }
+    ensures { result ≡ kind_in (keywords_of 115) name.now }
 {
     match name {
         "super" => Kind::Super,
@@ -206,7 +206,7 @@ fn keyword_s(name: &str) -> Kind
 }
 
 fn keyword_t(name: &str) -> Kind
-    ensures { result ≡ kind_in keywords_t name.now }
+    ensures { result ≡ kind_in (keywords_of 116) name.now }
 {
     match name {
         "this" => Kind::This,
@@ -221,7 +221,7 @@ fn keyword_t(name: &str) -> Kind
 }
 
 fn keyword_u(name: &str) -> Kind
-    ensures { result ≡ kind_in keywords_u name.now }
+    ensures { result ≡ kind_in (keywords_of 117) name.now }
 {
     match name {
         "undefined" => Kind::Undefined,
@@ -233,7 +233,7 @@ fn keyword_u(name: &str) -> Kind
 }
 
 fn keyword_v(name: &str) -> Kind
-    ensures { result ≡ kind_in keywords_v name.now }
+    ensures { result ≡ kind_in (keywords_of 118) name.now }
 {
     match name {
         "var" => Kind::Var,
@@ -243,7 +243,7 @@ fn keyword_v(name: &str) -> Kind
 }
 
 fn keyword_w(name: &str) -> Kind
-    ensures { result ≡ kind_in keywords_w name.now }
+    ensures { result ≡ kind_in (keywords_of 119) name.now }
 {
     match name {
         "while" => Kind::While,
@@ -253,7 +253,7 @@ fn keyword_w(name: &str) -> Kind
 }
 
 fn keyword_y(name: &str) -> Kind
-    ensures { result ≡ kind_in keywords_y name.now }
+    ensures { result ≡ kind_in (keywords_of 121) name.now }
 {
     match name {
         "yield" => Kind::Yield,

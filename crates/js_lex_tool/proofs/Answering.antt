@@ -7,7 +7,7 @@ use Rattle.js_session.specs.declared.fault.LexFault.TheVariants.{Overlong, NotUt
 use Rattle.js_lex_tool.specs.Outside.{WritesPrefix}
 use Rattle.js_lex_tool.specs.ReportText.{report_text_of}
 use Rattle.js_lex_tool.specs.Run.{status_of, Answers, IsRunOver, HasRun}
-use Rattle.js_lex_tool.specs.declared.read_all.TheConstants.{MOST}
+use Rattle.js_lex_tool.specs.declared.read_all.TheConstants.{MOST_BYTES}
 use Rattle.js_lex_tool.specs.declared.status.TheConstants.{DONE, MEMORY}
 use Rattle.js_lex_tool.specs.declared.tool.Ran.{Ran}
 use Rattle.js_lex_tool.specs.declared.tool.ToolOutcome.{ToolOutcome}
@@ -24,7 +24,7 @@ without_mark : (line : CommandLine) (index : ℕ) → FirstWithoutMark line.comm
 without_mark line index first marks = marks index first.here
 
 -- A fault's status is the one that its bytes and commands call for.
-pub answers_at_fault : (line : CommandLine) (bytes : List ℕ) (old new : Option (List ℕ)) (fault : LexFault) → length bytes ≤ MOST → Cause bytes line.commands fault → Answers line bytes old new (ended (status_of fault))
+pub answers_at_fault : (line : CommandLine) (bytes : List ℕ) (old new : Option (List ℕ)) (fault : LexFault) → length bytes ≤ MOST_BYTES → Cause bytes line.commands fault → Answers line bytes old new (ended (status_of fault))
 answers_at_fault line bytes old new Overlong few cause = absurd (omega (arith, few, cause))
 answers_at_fault line bytes old new (NotUtf8 at) few cause = record {
   not_utf8 = (λ _. cause.1, λ _. refl);
@@ -53,7 +53,7 @@ answers_at_fault line bytes old new (NoMark index) few cause = record {
 answers_at_fault line bytes old new Memory few cause = absurd cause
 
 -- The same of a session's answer, where it is not want of memory.
-pub answers_at_refusal : (line : CommandLine) (bytes : List ℕ) (old new : Option (List ℕ)) (fault : LexFault) → length bytes ≤ MOST → (fault ≡ Memory) ⊎ Cause bytes line.commands fault → (status_of fault ≡ MEMORY → ⊥) → Answers line bytes old new (ended (status_of fault))
+pub answers_at_refusal : (line : CommandLine) (bytes : List ℕ) (old new : Option (List ℕ)) (fault : LexFault) → length bytes ≤ MOST_BYTES → (fault ≡ Memory) ⊎ Cause bytes line.commands fault → (status_of fault ≡ MEMORY → ⊥) → Answers line bytes old new (ended (status_of fault))
 answers_at_refusal line bytes old new fault few (inl e) other = absurd (other (rw e refl))
 answers_at_refusal line bytes old new fault few (inr cause) other = answers_at_fault line bytes old new fault few cause
 

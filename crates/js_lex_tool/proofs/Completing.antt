@@ -5,7 +5,7 @@ use Rattle.std.proofs.KnownBytes.{Keeps-refl}
 use Rattle.js_session.specs.Faults.{IsReadable, HasMarks}
 use Rattle.js_lex_tool.specs.Outside.{Takes}
 use Rattle.js_lex_tool.specs.Run.{Answers, CanRun, GaveUp, ReadsAll}
-use Rattle.js_lex_tool.specs.declared.read_all.TheConstants.{MOST}
+use Rattle.js_lex_tool.specs.declared.read_all.TheConstants.{MOST_BYTES}
 use Rattle.js_lex_tool.specs.declared.status.TheConstants.{DONE, MEMORY, USAGE, READ_FAILED, WRITE_FAILED, TOO_LONG, NOT_UTF8, NO_MARK, NOT_BUILT}
 use Rattle.js_lex_tool.specs.declared.tool.ToolOutcome.{ToolOutcome}
 use Rattle.js_lex_tool.specs.declared.words.CommandLine.{CommandLine}
@@ -35,7 +35,7 @@ refuses_no_run line bytes left old new outcome readable marks all =
     refuses_neither line bytes old new outcome readable marks (rw same at all.3)
 
 -- A run that neither end fails, over words and bytes that it can run, is done or wants memory.
-pub completes : (line : CommandLine) (was left old new : Option (List ℕ)) (outcome : ToolOutcome) → CanRun (Some line) was → outcome.status ≤ NOT_BUILT → outcome.status ≢ USAGE → outcome.status ≢ READ_FAILED → outcome.status ≢ WRITE_FAILED → (outcome.status ≡ TOO_LONG → Takes was left (λ bytes. length bytes ≡ MOST + 1)) → ((¬ (GaveUp outcome.status)) → ReadsAll was left (λ bytes. Answers line bytes old new outcome)) → (outcome.status ≡ DONE) ⊎ (outcome.status ≡ MEMORY)
+pub completes : (line : CommandLine) (was left old new : Option (List ℕ)) (outcome : ToolOutcome) → CanRun (Some line) was → outcome.status ≤ NOT_BUILT → outcome.status ≢ USAGE → outcome.status ≢ READ_FAILED → outcome.status ≢ WRITE_FAILED → (outcome.status ≡ TOO_LONG → Takes was left (λ bytes. length bytes ≡ MOST_BYTES + 1)) → ((¬ (GaveUp outcome.status)) → ReadsAll was left (λ bytes. Answers line bytes old new outcome)) → (outcome.status ≡ DONE) ⊎ (outcome.status ≡ MEMORY)
 completes line was left old new outcome can known usage read write long answers =
     let same : line ≡ can.line = cc in
     let marks : HasMarks line.commands = rw same can.marks in

@@ -9,7 +9,7 @@ use Rattle.js_session.specs.declared.fault.LexFault.TheVariants.{Overlong, NotUt
 use Rattle.js_session.specs.declared.report.Report.{Report}
 use Rattle.js_lex_tool.specs.Outside.{WritesPrefix}
 use Rattle.js_lex_tool.specs.ReportText.{report_text_of}
-use Rattle.js_lex_tool.specs.declared.read_all.TheConstants.{MOST}
+use Rattle.js_lex_tool.specs.declared.read_all.TheConstants.{MOST_BYTES}
 use Rattle.js_lex_tool.specs.declared.status.TheConstants.{DONE, MEMORY, USAGE, READ_FAILED, WRITE_FAILED, TOO_LONG, NOT_UTF8, NO_MARK, NOT_BUILT}
 use Rattle.js_lex_tool.specs.declared.tool.Ran.{Ran}
 use Rattle.js_lex_tool.specs.declared.tool.ToolOutcome.{ToolOutcome}
@@ -72,6 +72,6 @@ pub record CanRun (said : Option CommandLine) (left : Option (List ℕ)) : Type 
   pub marks : HasMarks line.commands
   pub bytes : List ℕ
   pub left_is : left ≡ Some bytes
-  pub few : length bytes ≤ MOST
+  pub few : length bytes ≤ MOST_BYTES
   pub utf8 : IsUtf8 bytes
   pub built : IsBuilt bytes

@@ -1,17 +1,13 @@
 -- Characters and UTF-16 units, as a report prints them.
-use Rattle.std.specs.Prelude.{ℕ, ◌+◌, ◌/◌, ◌%◌, ◌-◌, ◌^◌, Bool, true, false, ◌&&◌, ◌==◌, not, nat_lt, nat_le, cond, List, [], ◌∷◌, ◌++◌, codes}
+use Rattle.std.specs.Prelude.{ℕ, ◌-◌, ◌^◌, Bool, true, false, ◌&&◌, ◌==◌, not, nat_le, cond, List, [], ◌∷◌, ◌++◌, codes}
 use Rattle.std.specs.Char.Escape.{encode_utf16}
 use Rattle.std.specs.Fmt.{digits, padded_integral, format_spec}
 use Rattle.std.specs.List.{flat_map}
 use Rattle.std.specs.Str.{chars}
 
--- a digit in base 16, in lower case
-abbrev pub hex_digit : ℕ → ℕ
-hex_digit n = cond (nat_lt n 10) (48 + n) (87 + n)
-
--- a unit in four digits of base 16
-abbrev pub unit_digits : ℕ → List ℕ
-unit_digits u = hex_digit (u / 4096 % 16) ∷ hex_digit (u / 256 % 16) ∷ hex_digit (u / 16 % 16) ∷ hex_digit (u % 16) ∷ []
+-- a number in base 16, in upper or lower case, filled up with zeros to four digits
+abbrev pub four_digits : Bool → ℕ → List ℕ
+four_digits upper n = padded_integral (format_spec 32 0 4 4 (2 ^ 64 - 1)) false [] (digits 16 upper n)
 
 -- a unit that stands for itself: from a space to `~`, but for `\`
 abbrev pub is_plain : ℕ → Bool
@@ -19,7 +15,7 @@ is_plain u = nat_le 32 u && nat_le u 126 && not (u == 92)
 
 -- a unit of a value: itself, or an escape
 abbrev pub unit_text : ℕ → List ℕ
-unit_text u = cond (is_plain u) (u ∷ []) (codes "\\u" ++ unit_digits u)
+unit_text u = cond (is_plain u) (u ∷ []) (codes "\\u" ++ four_digits false u)
 
 -- the one or two units of a character
 abbrev pub units_text : ℕ → List ℕ
@@ -29,10 +25,6 @@ units_text c = flat_map unit_text (encode_utf16 c)
 abbrev pub text_in_units : List ℕ → List ℕ
 text_in_units text = flat_map units_text (chars text)
 
--- a number in base 16, in upper case, filled up with zeros to four digits
-abbrev pub four_digits : ℕ → List ℕ
-four_digits n = padded_integral (format_spec 32 0 4 4 (2 ^ 64 - 1)) false [] (digits 16 true n)
-
 -- a character by its number
 abbrev pub number_text : ℕ → List ℕ
-number_text c = codes " U+" ++ four_digits c
+number_text c = codes " U+" ++ four_digits true c

@@ -20,7 +20,7 @@ mod write_all;
 pub use memory_in::{MemoryIn, SureIn};
 pub use memory_out::{MemoryOut, SureOut};
 pub use outside::{ByteIn, ByteOut, FlushAnswer, InAnswer, OutAnswer};
-pub use read_all::MOST;
+pub use read_all::MOST_BYTES;
 pub use report::report_text;
 pub use status::{StatusLine, status_line};
 pub use std_streams::{StdIn, StdOut};

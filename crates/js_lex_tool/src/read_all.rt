@@ -27,7 +27,7 @@ impl From<AllocError> for ReadFault {
 }
 
 /// The most bytes that the program reads of an input.
-pub const MOST: usize = 67_108_864;
+pub const MOST_BYTES: usize = 67_108_864;
 
 /// The most bytes that one read asks for.
 const BUFFER: usize = 4096;

@@ -13,7 +13,7 @@ ghost use Rattle.js_lex_tool.specs.Words.{said};
 use crate::memory_in::SureIn;
 use crate::memory_out::SureOut;
 use crate::outside::{ByteIn, ByteOut};
-use crate::read_all::{MOST, ReadFault, read_to_end};
+use crate::read_all::{MOST_BYTES, ReadFault, read_to_end};
 use crate::report::report_text;
 use crate::status::{
     DONE, MEMORY, NO_MARK, NOT_BUILT, NOT_UTF8, READ_FAILED, TOO_LONG, USAGE, WRITE_FAILED,
@@ -111,7 +111,7 @@ fn answer<O: ByteOut>(
     source: ByteList,
     output: &mut O,
 ) -> ToolOutcome
-    requires { length source ≤ MOST }
+    requires { length source ≤ MOST_BYTES }
     ensures known { (result.status ≡ MEMORY) ⊎ HasRun result.status ⊎ (result.status ≡ NOT_UTF8) ⊎ (result.status ≡ NO_MARK) ⊎ (result.status ≡ NOT_BUILT) }
     ensures answers { result.status ≢ MEMORY → Answers line source (O.written output.old) (O.written output.new) result }
     ensures memory { result.status ≡ MEMORY → MayWrite line source (O.written output.old) (O.written output.new) }
@@ -151,15 +151,15 @@ fn run_line<I: ByteIn, O: ByteOut>(
     ensures read_failed { result.status ≡ READ_FAILED → Rose (I.faults input.old) (I.faults input.new) }
     ensures write_failed { result.status ≡ WRITE_FAILED → Rose (O.faults output.old) (O.faults output.new) }
     ensures unfailed { result.status ≡ DONE → O.faults output.new ≡ O.faults output.old }
-    ensures too_long { result.status ≡ TOO_LONG → Takes (I.left input.old) (I.left input.new) (λ bytes. length bytes ≡ MOST + 1) }
-    ensures not_too_long { result.status ≢ TOO_LONG → result.status ≢ MEMORY → Takes (I.left input.old) (I.left input.new) (λ bytes. length bytes ≤ MOST) }
-    ensures bounded { Takes (I.left input.old) (I.left input.new) (λ bytes. length bytes ≤ MOST + 1) }
+    ensures too_long { result.status ≡ TOO_LONG → Takes (I.left input.old) (I.left input.new) (λ bytes. length bytes ≡ MOST_BYTES + 1) }
+    ensures not_too_long { result.status ≢ TOO_LONG → result.status ≢ MEMORY → Takes (I.left input.old) (I.left input.new) (λ bytes. length bytes ≤ MOST_BYTES) }
+    ensures bounded { Takes (I.left input.old) (I.left input.new) (λ bytes. length bytes ≤ MOST_BYTES + 1) }
     ensures answers { (¬ GaveUp result.status) → ReadsAll (I.left input.old) (I.left input.new) (λ bytes. Answers line bytes (O.written output.old) (O.written output.new) result) }
     ensures memory { result.status ≡ MEMORY → Keeps (O.written output.old) (O.written output.new) ⊎ ReadsAll (I.left input.old) (I.left input.new) (λ bytes. MayWrite line bytes (O.written output.old) (O.written output.new)) }
     ensures ran { IsSome result.ran ↔ HasRun result.status }
     ensures quiet { (¬ HasRun result.status) → result.status ≢ MEMORY → Keeps (O.written output.old) (O.written output.new) }
 {
-    match read_to_end(alloc, input, MOST) {
+    match read_to_end(alloc, input, MOST_BYTES) {
         Ok(source) => answer(alloc, line, source, output),
         Err(ReadFault::Failed) => without_run(READ_FAILED),
         Err(ReadFault::TooLong) => without_run(TOO_LONG),
@@ -182,9 +182,9 @@ pub fn lex_tool_run<I: ByteIn, O: ByteOut>(
     ensures write_failed { result.status ≡ WRITE_FAILED → Rose (O.faults output.old) (O.faults output.new) }
     ensures unfailed { result.status ≡ DONE → O.faults output.new ≡ O.faults output.old }
     // One byte too many is read exactly where there are too many.
-    ensures too_long { result.status ≡ TOO_LONG → Takes (I.left input.old) (I.left input.new) (λ bytes. length bytes ≡ MOST + 1) }
-    ensures not_too_long { result.status ≢ TOO_LONG → result.status ≢ MEMORY → Takes (I.left input.old) (I.left input.new) (λ bytes. length bytes ≤ MOST) }
-    ensures bounded { Takes (I.left input.old) (I.left input.new) (λ bytes. length bytes ≤ MOST + 1) }
+    ensures too_long { result.status ≡ TOO_LONG → Takes (I.left input.old) (I.left input.new) (λ bytes. length bytes ≡ MOST_BYTES + 1) }
+    ensures not_too_long { result.status ≢ TOO_LONG → result.status ≢ MEMORY → Takes (I.left input.old) (I.left input.new) (λ bytes. length bytes ≤ MOST_BYTES) }
+    ensures bounded { Takes (I.left input.old) (I.left input.new) (λ bytes. length bytes ≤ MOST_BYTES + 1) }
     // Else the input was read to its end, and its bytes and the words say what comes of them.
     ensures answers { IfSome (said words.now.items) (λ line. (¬ GaveUp result.status) → ReadsAll (I.left input.old) (I.left input.new) (λ bytes. Answers line bytes (O.written output.old) (O.written output.new) result)) }
     // Want of memory may come anywhere: a beginning of the text may be written by then.

@@ -1,8 +1,8 @@
 //! Characters and UTF-16 units, as a report prints them.
 
-ghost use Rattle.std.specs.Prelude.{◌≡◌, ◌<◌, ◌++◌, true, OnOk, codes, string_bytes};
+ghost use Rattle.std.specs.Prelude.{◌≡◌, ◌<◌, ◌++◌, true, false, OnOk, codes, string_bytes};
 ghost use Rattle.std.specs.List.{flat_map};
-ghost use Rattle.js_lex_tool.specs.Units.{is_plain, hex_digit, unit_digits, unit_text, units_text, text_in_units, number_text};
+ghost use Rattle.js_lex_tool.specs.Units.{is_plain, four_digits, unit_text, units_text, text_in_units, number_text};
 
 use std::alloc::AllocError;
 use std::fmt::Write;
@@ -12,29 +12,13 @@ fn is_plain_unit(unit: u16) -> bool
     ensures plain { result ≡ is_plain unit }
     ensures ascii { result ≡ true → unit < 128 }
 {
-    unit >= 0x20 && unit <= 0x7e && unit != 0x5c
-}
-
-fn hex_digit_of(n: u16) -> char
-    requires { n < 16 }
-    ensures digit { result ≡ hex_digit n }
-    ensures ascii { result < 128 }
-{
-    if n < 10 {
-        char::from(b'0' + n as u8)
-    } else {
-        char::from(b'a' + (n as u8 - 10))
-    }
+    matches!(unit, 0x20..=0x7e) && unit != 0x5c
 }
 
 fn push_escape(text: &mut String, unit: u16) -> Result<(), AllocError>
-    ensures { OnOk result (string_bytes text.new ≡ string_bytes text.old ++ codes "\\u" ++ unit_digits unit) }
+    ensures { OnOk result (string_bytes text.new ≡ string_bytes text.old ++ codes "\\u" ++ four_digits false unit) }
 {
-    text.push_str("\\u")?;
-    text.push(hex_digit_of(unit / 4096 % 16))?;
-    text.push(hex_digit_of(unit / 256 % 16))?;
-    text.push(hex_digit_of(unit / 16 % 16))?;
-    text.push(hex_digit_of(unit % 16))
+    write!(text, "\\u{unit:04x}")
 }
 
 fn push_unit(text: &mut String, unit: u16) -> Result<(), AllocError>

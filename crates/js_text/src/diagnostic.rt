@@ -10,13 +10,17 @@ use crate::span::Span;
 pub enum Diagnostic {
     /// The character may not stand here, or may not be what an escape stands for.
     InvalidCharacter { c: char, span: Span },
+    /// The source ends where more has to follow.
     UnexpectedEnd { span: Span },
+    /// U+FFFD stands where a token may begin: the bytes of the file were no text.
     FileAppearsToBeBinary,
     /// A name or a digit directly follows a number.
     InvalidNumberEnd { span: Span },
     /// A string or a template has no end.
     UnterminatedString { span: Span },
+    /// A `/*` has no `*/` after it.
     UnterminatedMultiLineComment { span: Span },
+    /// A regular expression has no end.
     UnterminatedRegExp { span: Span },
     /// An escape in a name is none.
     UnicodeEscapeSequence { span: Span },
@@ -24,9 +28,11 @@ pub enum Diagnostic {
     InvalidEscapeSequence { span: Span },
     /// The letter is no flag of a regular expression.
     RegExpFlag { c: char, span: Span },
+    /// The flag stands twice.
     RegExpFlagTwice { c: char, span: Span },
     /// The character may not stand in the text of a JSX child.
     UnexpectedJsxEnd { c: char, span: Span },
+    /// A comment like that of HTML stands in a module (ECMA-262 B.1.1).
     HtmlCommentInModule { span: Span },
 }
 

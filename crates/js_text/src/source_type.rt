@@ -6,7 +6,9 @@ ghost use Rattle.js_text.specs.SourceType.{is_module, is_strict, is_unambiguous}
 /// As what a source text is read (ECMA-262 16.1 and 16.2).
 #[derive(Clone, Copy, PartialEq, Eq, Debug)]
 pub enum SourceType {
+    /// A module (ECMA-262 16.2): always strict mode code, without HTML-like comments.
     Module,
+    /// A script (ECMA-262 16.1).
     Script,
     /// A module if it has an import or an export, else a script: the lexer can't tell yet.
     Unambiguous,

@@ -5,7 +5,7 @@ ghost use Rattle.std.specs.Prelude.{None};
 use crate::memory_in::{MemoryIn, SureIn};
 use crate::memory_out::{MemoryOut, SureOut};
 use crate::outside::{ByteIn, InAnswer};
-use crate::read_all::{MOST, ReadFault, read_to_end};
+use crate::read_all::{MOST_BYTES, ReadFault, read_to_end};
 use crate::write_all::{WriteFault, write_all};
 use std::alloc::Global;
 use std::test::Fail;
@@ -52,7 +52,7 @@ impl ByteIn for RecordingIn {
 fn sizes_of_buffers(rt: HostRuntime) -> Result<(), Fail> {
     let cases: [(usize, usize, Option<usize>, &[usize]); 5] = [
         (0, 5000, Some(0), &[4096]),
-        (10_000, MOST, Some(10_000), &[4096, 4096, 4096, 4096]),
+        (10_000, MOST_BYTES, Some(10_000), &[4096, 4096, 4096, 4096]),
         (10_000, 10_000, Some(10_000), &[4096, 4096, 1809, 1]),
         (5000, 5000, Some(5000), &[4096, 905, 1]),
         (10_000, 5000, None, &[4096, 905]),
@@ -74,8 +74,8 @@ fn sizes_of_buffers(rt: HostRuntime) -> Result<(), Fail> {
 #[test]
 fn most_bytes(rt: HostRuntime) -> Result<(), Fail> {
     for more in [0, 1] {
-        let mut input = RecordingIn::new(rt.alloc(), MOST + more);
-        match read_to_end(rt.alloc(), &mut input, MOST) {
+        let mut input = RecordingIn::new(rt.alloc(), MOST_BYTES + more);
+        match read_to_end(rt.alloc(), &mut input, MOST_BYTES) {
             Ok(source) => assert_eq!(rt; source.len() + more, 67_108_864),
             Err(fault) => assert_eq!(rt; (fault, more), (ReadFault::TooLong, 1)),
         }
@@ -93,7 +93,7 @@ fn reads_that_fail(rt: HostRuntime) -> Result<(), Fail> {
     for call in 0..6 {
         let failing = [call];
         let mut input = MemoryIn::new(b"foo(a);", 2, &failing);
-        match read_to_end(rt.alloc(), &mut input, MOST) {
+        match read_to_end(rt.alloc(), &mut input, MOST_BYTES) {
             Ok(source) => {
                 assert_eq!(rt; call, 5);
                 assert_eq!(rt; source.as_slice(), b"foo(a);".as_slice());
@@ -134,7 +134,7 @@ fn writes_that_fail(rt: HostRuntime) -> Result<(), Fail> {
 #[test]
 fn ends_that_never_fail(rt: HostRuntime) -> Result<(), Fail> {
     let mut input = SureIn::new(b"foo(a);", 3);
-    match read_to_end(rt.alloc(), &mut input, MOST) {
+    match read_to_end(rt.alloc(), &mut input, MOST_BYTES) {
         Ok(source) => assert_eq!(rt; source.as_slice(), b"foo(a);".as_slice()),
         Err(fault) => assert!(rt; false, "{fault:?}"),
     }
