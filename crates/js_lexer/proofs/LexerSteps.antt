@@ -11,8 +11,8 @@ use Rattle.js_source.specs.Source.{At}
 use Rattle.js_grammar.specs.Hashbang.{Goal}
 use Rattle.js_grammar.proofs.Clean.{goal_reads-clean, clean_reads}
 use Rattle.js_grammar.proofs.Spans.{goal_reads_span, goal_reads_places}
-use Rattle.js_lexer.specs.Lexed.{ReadsGoal, goal_of}
-use Rattle.js_lexer.specs.Lexer.{LexerState, IsOnPlaces, collected, ReadsToken, Checkpoint, checkpoint_of, put_back, rewound, BeginsAlike, GoesOnFrom}
+use Rattle.js_lexer.specs.Lexed.{HasGrown, ReadsGoal, goal_of}
+use Rattle.js_lexer.specs.Lexer.{LexerState, IsOnPlaces, collected, ReadsToken, MovesOn, Checkpoint, checkpoint_of, put_back, rewound, BeginsAlike, GoesOnFrom}
 
 abbrev pub source_of : LexerState → At
 source_of l = record { text = l.text; place = l.place }
@@ -39,6 +39,11 @@ reads_token l is_first token at tokens reports u r c = record {
   places = read_places l is_first token at reports u r;
   some_text = (goal_reads_span l.text l.source_type (goal_of is_first) l.is_fresh l.place _ u r.reads).some_text;
 }
+
+-- a reading that found no memory
+pub moves_on : (l : LexerState) (at : At) (reports : List Diagnostic) → HasGrown (source_of l) at l.errors reports
+    → MovesOn l (record l { text = at.text; place = at.place; errors = reports })
+moves_on l at reports h = record { place = at.place; more = h.more; after = rw (h.text, h.reports_are) refl }
 
 -- a list that has only grown, cut back
 pub cut_back : {A : Type 0} (xs more ys : List A) → ys ≡ xs ++ more → take (length xs) ys ≡ xs

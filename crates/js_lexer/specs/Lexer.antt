@@ -69,6 +69,12 @@ pub record ReadsToken (goal : Goal) (old : LexerState) (token : TokenParts) (new
   pub places : IsOnPlaces old.text token
   pub some_text : token.kind ≢ Eof → token.start < token.end
 
+-- The lexer moved on and reported, and nothing else changed.
+pub record MovesOn (old new : LexerState) : Type 0 where
+  pub place : ℕ
+  pub more : List Diagnostic
+  pub after : new ≡ record old { place = place; errors = old.errors ++ more }
+
 -- A checkpoint: the place, whether nothing was read, the last token, the last collected one, and how long the lists were.
 pub record Checkpoint : Type 0 where
   pub place : ℕ

@@ -5,7 +5,7 @@ ghost use Rattle.std.specs.List.{last_or};
 ghost use Rattle.std.specs.Str.{IsCharBoundary, IsUtf8};
 ghost use Rattle.js_grammar.specs.Hashbang.Goal.{first, next};
 ghost use Rattle.js_lexer.specs.Lexed.{goal_of};
-ghost use Rattle.js_lexer.specs.Lexer.{LexerState, fresh, ReadsToken, IsOnPlaces, Peeks, checkpoint_of, CanRewind, rewound, GoesOnFrom, collected, is_hashbang};
+ghost use Rattle.js_lexer.specs.Lexer.{LexerState, fresh, ReadsToken, MovesOn, IsOnPlaces, Peeks, checkpoint_of, CanRewind, rewound, GoesOnFrom, collected, is_hashbang};
 
 use crate::checkpoint::{LexerCheckpoint, is_on_places, is_place, put_back};
 use crate::comment::CommentTables;
@@ -130,33 +130,34 @@ impl<'a, C: LexerConfig + Drop> Lexer<'a, C> {
         self.read(false)
     }
 
-    fn read(&mut self, is_first: bool) -> Result<Token, AllocError>
+    /// Reads a token. Where there is no memory, the lexer may have moved on and reported.
+    fn read_on(&mut self, is_first: bool) -> Result<Token, AllocError>
         ensures ok { IfOk result (λ token. ReadsToken (goal_of is_first) self.old token self.new) }
-        ensures err { OnErr result (self.new ≡ self.old) }
+        ensures err { OnErr result (MovesOn self.old self.new) }
     {
-        let start = self.source.position();
-        let reported = self.errors.len();
-        let collects = self.config.tokens();
-        match read_goal(
+        let token = read_goal(
             &mut self.source,
             &self.tables,
             self.source_type,
             is_first,
             self.is_fresh,
             &mut self.errors,
-        ) {
-            Ok(token) => match collect(&mut self.tokens, collects, &token) {
-                Ok(()) => {
-                    self.is_fresh = false;
-                    self.token = token;
-                    Ok(token)
-                }
-                Err(error) => {
-                    self.source.set_position(start);
-                    self.errors.truncate(reported);
-                    Err(error)
-                }
-            },
+        )?;
+        collect(&mut self.tokens, self.config.tokens(), &token)?;
+        self.is_fresh = false;
+        self.token = token;
+        Ok(token)
+    }
+
+    /// Reads a token, or leaves the lexer as it was.
+    fn read(&mut self, is_first: bool) -> Result<Token, AllocError>
+        ensures ok { IfOk result (λ token. ReadsToken (goal_of is_first) self.old token self.new) }
+        ensures err { OnErr result (self.new ≡ self.old) }
+    {
+        let start = self.source.position();
+        let reported = self.errors.len();
+        match self.read_on(is_first) {
+            Ok(token) => Ok(token),
             Err(error) => {
                 self.source.set_position(start);
                 self.errors.truncate(reported);

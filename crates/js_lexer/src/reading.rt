@@ -1,9 +1,9 @@
 //! Readings of the plain goal.
 
-ghost use Rattle.std.specs.Prelude.{◌≡◌, Bool, false, IfOk, OnErr};
+ghost use Rattle.std.specs.Prelude.{◌≡◌, Bool, false, IfOk, IfSome, OnOk, OnErr};
 ghost use Rattle.js_text.specs.declared.source_type.SourceType.{SourceType};
 ghost use Rattle.js_grammar.specs.Gap.{is_reported};
-ghost use Rattle.js_source.specs.Source.{rest};
+ghost use Rattle.js_source.specs.Source.{rest, IsPlaced};
 ghost use Rattle.js_lexer.specs.Lexed.{ReadsSpelling, ReadsBehind, ReadsHashbang, ReadsGoal, HasGrown};
 
 use crate::comment::{CommentTables, skip_line};
@@ -37,6 +37,7 @@ fn read_behind_gap(
     errors: &mut DiagnosticList,
 ) -> Result<Token, AllocError>
     ensures ok { IfOk result (λ token. ReadsBehind source_type nl source.old errors.old token source.new errors.new) }
+    ensures placed { OnOk result (IsPlaced source.new) }
     ensures err { OnErr result (HasGrown source.old source.new errors.old errors.new) }
 {
     let ended = skip_whole_gap(source, tables, source_type, nl, errors)?;
@@ -54,7 +55,8 @@ fn read_behind_gap(
 
 /// Reads a hashbang comment, where one stands at the start of the text (ECMA-262 12.5).
 fn read_hashbang(source: &mut Source<'_>, tables: &CommentTables, nl: bool) -> Option<Token>
-    ensures { ReadsHashbang nl source.old result source.new }
+    ensures reads { ReadsHashbang nl source.old result source.new }
+    ensures placed { IfSome result (λ _. IsPlaced source.new) }
 {
     if source.offset() != 0 {
         return None;
@@ -77,6 +79,7 @@ pub(crate) fn read_goal(
     errors: &mut DiagnosticList,
 ) -> Result<Token, AllocError>
     ensures ok { IfOk result (λ token. ReadsGoal source_type is_first nl source.old errors.old token source.new errors.new) }
+    ensures placed { OnOk result (IsPlaced source.new) }
     ensures err { OnErr result (HasGrown source.old source.new errors.old errors.new) }
 {
     if is_first {
