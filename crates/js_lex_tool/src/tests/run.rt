@@ -47,149 +47,153 @@ const CALL: &str = concat!(
     "token Eof 7..7 -\n",
 );
 
+/// Words, a source, and the text that is written.
+static TEXTS: [(&str, &str, &str); 14] = [
+    ("module no-tokens next*5", "foo(a);", CALL),
+    (
+        "module no-tokens",
+        "",
+        "row 0 first 0 1 Eof 0..0 n\ntoken Eof 0..0 n\n",
+    ),
+    (
+        "module no-tokens next",
+        "let\n$x",
+        concat!(
+            "row 0 first 0 1 Let 0..3 n =let\n",
+            "row 1 next 3 1 Ident 4..6 n =$x\n",
+            "token Let 0..3 n\n",
+            "token Ident 4..6 n\n",
+        ),
+    ),
+    (
+        "script tokens next",
+        "a",
+        concat!(
+            "row 0 first 0 1 Ident 0..1 n =a\n",
+            "row 1 next 1 1 Eof 1..1 -\n",
+            "token Ident 0..1 n\n",
+            "token Eof 1..1 -\n",
+            "collected Ident 0..1 n\n",
+            "collected Eof 1..1 -\n",
+        ),
+    ),
+    (
+        "module no-tokens mark next rewind peek next",
+        "a /*c*/ b",
+        concat!(
+            "row 0 first 0 1 Ident 0..1 n =a\n",
+            "row 1 next 1 1 Ident 8..9 - =b\n",
+            "row 2 peek 1 1 Ident 8..9 - =b\n",
+            "row 3 next 1 1 Ident 8..9 - =b\n",
+            "token Ident 0..1 n\n",
+            "token Ident 8..9 -\n",
+        ),
+    ),
+    (
+        "module tokens next",
+        "#!x\na",
+        concat!(
+            "row 0 first 0 1 HashbangComment 0..3 n\n",
+            "row 1 next 3 1 Ident 4..5 n =a\n",
+            "token HashbangComment 0..3 n\n",
+            "token Ident 4..5 n\n",
+            "collected Ident 4..5 n\n",
+        ),
+    ),
+    (
+        "module no-tokens",
+        "<!--x\na",
+        concat!(
+            "row 0 first 0 1 Ident 6..7 n =a\n",
+            "token Ident 6..7 n\n",
+            "diagnostic HtmlCommentInModule 0..4\n",
+        ),
+    ),
+    (
+        "script no-tokens",
+        "<!--x\na",
+        "row 0 first 0 1 Ident 6..7 n =a\ntoken Ident 6..7 n\n",
+    ),
+    (
+        "unambiguous no-tokens next",
+        "a\n--> x",
+        concat!(
+            "row 0 first 0 1 Ident 0..1 n =a\n",
+            "row 1 next 1 1 Eof 7..7 n\n",
+            "token Ident 0..1 n\n",
+            "token Eof 7..7 n\n",
+        ),
+    ),
+    (
+        "module no-tokens",
+        "/* a",
+        concat!(
+            "row 0 first 0 1 Eof 0..4 n\n",
+            "token Eof 0..4 n\n",
+            "diagnostic UnterminatedMultiLineComment 0..4\n",
+        ),
+    ),
+    (
+        "module no-tokens",
+        "\u{1}",
+        concat!(
+            "row 0 first 0 1 Undetermined 0..1 n\n",
+            "token Undetermined 0..1 n\n",
+            "diagnostic InvalidCharacter 0..1 U+0001\n",
+        ),
+    ),
+    (
+        "module no-tokens",
+        "\u{fffd}a",
+        concat!(
+            "row 0 first 0 1 Eof 0..4 n\n",
+            "token Eof 0..4 n\n",
+            "diagnostic FileAppearsToBeBinary -\n",
+        ),
+    ),
+    (
+        "module no-tokens",
+        "\u{e9}",
+        "row 0 first 0 1 Ident 0..2 n =\\u00e9\ntoken Ident 0..2 n\n",
+    ),
+    (
+        "module no-tokens",
+        "\u{10400}",
+        "row 0 first 0 1 Ident 0..4 n =\\ud801\\udc00\ntoken Ident 0..4 n\n",
+    ),
+];
+
 #[test]
 fn texts(rt: HostRuntime) -> Result<(), Fail> {
-    let cases = [
-        ("module no-tokens next*5", "foo(a);", CALL),
-        (
-            "module no-tokens",
-            "",
-            "row 0 first 0 1 Eof 0..0 n\ntoken Eof 0..0 n\n",
-        ),
-        (
-            "module no-tokens next",
-            "let\n$x",
-            concat!(
-                "row 0 first 0 1 Let 0..3 n =let\n",
-                "row 1 next 3 1 Ident 4..6 n =$x\n",
-                "token Let 0..3 n\n",
-                "token Ident 4..6 n\n",
-            ),
-        ),
-        (
-            "script tokens next",
-            "a",
-            concat!(
-                "row 0 first 0 1 Ident 0..1 n =a\n",
-                "row 1 next 1 1 Eof 1..1 -\n",
-                "token Ident 0..1 n\n",
-                "token Eof 1..1 -\n",
-                "collected Ident 0..1 n\n",
-                "collected Eof 1..1 -\n",
-            ),
-        ),
-        (
-            "module no-tokens mark next rewind peek next",
-            "a /*c*/ b",
-            concat!(
-                "row 0 first 0 1 Ident 0..1 n =a\n",
-                "row 1 next 1 1 Ident 8..9 - =b\n",
-                "row 2 peek 1 1 Ident 8..9 - =b\n",
-                "row 3 next 1 1 Ident 8..9 - =b\n",
-                "token Ident 0..1 n\n",
-                "token Ident 8..9 -\n",
-            ),
-        ),
-        (
-            "module tokens next",
-            "#!x\na",
-            concat!(
-                "row 0 first 0 1 HashbangComment 0..3 n\n",
-                "row 1 next 3 1 Ident 4..5 n =a\n",
-                "token HashbangComment 0..3 n\n",
-                "token Ident 4..5 n\n",
-                "collected Ident 4..5 n\n",
-            ),
-        ),
-        (
-            "module no-tokens",
-            "<!--x\na",
-            concat!(
-                "row 0 first 0 1 Ident 6..7 n =a\n",
-                "token Ident 6..7 n\n",
-                "diagnostic HtmlCommentInModule 0..4\n",
-            ),
-        ),
-        (
-            "script no-tokens",
-            "<!--x\na",
-            "row 0 first 0 1 Ident 6..7 n =a\ntoken Ident 6..7 n\n",
-        ),
-        (
-            "unambiguous no-tokens next",
-            "a\n--> x",
-            concat!(
-                "row 0 first 0 1 Ident 0..1 n =a\n",
-                "row 1 next 1 1 Eof 7..7 n\n",
-                "token Ident 0..1 n\n",
-                "token Eof 7..7 n\n",
-            ),
-        ),
-        (
-            "module no-tokens",
-            "/* a",
-            concat!(
-                "row 0 first 0 1 Eof 0..4 n\n",
-                "token Eof 0..4 n\n",
-                "diagnostic UnterminatedMultiLineComment 0..4\n",
-            ),
-        ),
-        (
-            "module no-tokens",
-            "\u{1}",
-            concat!(
-                "row 0 first 0 1 Undetermined 0..1 n\n",
-                "token Undetermined 0..1 n\n",
-                "diagnostic InvalidCharacter 0..1 U+0001\n",
-            ),
-        ),
-        (
-            "module no-tokens",
-            "\u{fffd}a",
-            concat!(
-                "row 0 first 0 1 Eof 0..4 n\n",
-                "token Eof 0..4 n\n",
-                "diagnostic FileAppearsToBeBinary -\n",
-            ),
-        ),
-        (
-            "module no-tokens",
-            "\u{e9}",
-            "row 0 first 0 1 Ident 0..2 n =\\u00e9\ntoken Ident 0..2 n\n",
-        ),
-        (
-            "module no-tokens",
-            "\u{10400}",
-            "row 0 first 0 1 Ident 0..4 n =\\ud801\\udc00\ntoken Ident 0..4 n\n",
-        ),
-    ];
-    for (words, source, text) in cases {
+    for (words, source, text) in TEXTS.iter() {
         let mut input = MemoryIn::new(source.as_bytes(), 2, &[]);
         let (outcome, output) = run(rt.alloc(), words, &mut input)?;
         assert_eq!(rt; outcome.status, DONE, "{source:?}");
         let written = str::from_utf8(output.written()).or(Err("not UTF-8"))?;
-        assert_eq!(rt; written, text, "{source:?}");
+        assert_eq!(rt; written, *text, "{source:?}");
     }
     Ok(())
 }
 
+/// Words, a source, and the status that comes of them.
+static REFUSALS: [(&str, &[u8], u8); 9] = [
+    ("module no-tokens nxt", b"a", USAGE),
+    ("module no-tokens next*0", b"a\xff", USAGE),
+    ("module no-tokens next*1000000 next", b"a", USAGE),
+    ("module no-tokens", b"a1", NOT_BUILT),
+    ("module no-tokens", b"a\xe2\x82", NOT_UTF8),
+    ("module no-tokens", b"1\xff", NOT_UTF8),
+    ("module no-tokens rewind", b"1", NOT_BUILT),
+    ("module no-tokens mark rewind rewind next", b"a", NO_MARK),
+    ("module no-tokens commit", b"", NO_MARK),
+];
+
 #[test]
 fn refusals(rt: HostRuntime) -> Result<(), Fail> {
-    let cases: [(&str, &[u8], u8); 9] = [
-        ("module no-tokens nxt", b"a", USAGE),
-        ("module no-tokens next*0", b"a\xff", USAGE),
-        ("module no-tokens next*1000000 next", b"a", USAGE),
-        ("module no-tokens", b"a1", NOT_BUILT),
-        ("module no-tokens", b"a\xe2\x82", NOT_UTF8),
-        ("module no-tokens", b"1\xff", NOT_UTF8),
-        ("module no-tokens rewind", b"1", NOT_BUILT),
-        ("module no-tokens mark rewind rewind next", b"a", NO_MARK),
-        ("module no-tokens commit", b"", NO_MARK),
-    ];
-    for (words, source, status) in cases {
+    for (words, source, status) in REFUSALS.iter() {
         let mut input = MemoryIn::new(source, 2, &[]);
         let (outcome, output) = run(rt.alloc(), words, &mut input)?;
-        assert_eq!(rt; outcome.status, status, "{words}");
+        assert_eq!(rt; outcome.status, *status, "{words}");
         assert!(rt; outcome.ran.is_none(), "{words}");
         assert_eq!(rt; output.written().len(), 0, "{words}");
     }
