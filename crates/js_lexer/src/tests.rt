@@ -346,48 +346,79 @@ fn no_punctuator_before_a_digit(rt: HostRuntime) -> Result<(), Fail> {
     Ok(())
 }
 
-/// Reads `a b`, with a peek and a rewind on the way, at one configuration.
-fn goes_back<C: LexerConfig + Drop>(
+/// Peeks at the first token, reads it, and goes back before it.
+fn rereads_a_hashbang<C: LexerConfig + Drop>(
     rt: &impl std::process::Abort,
     alloc: Global,
     config: C,
-    collected: usize,
 ) -> Result<(), Fail> {
-    let mut lexer = lexer_of(alloc, "#!x\na \u{1}b", SourceType::Module, config)?;
-    assert_eq!(rt; lexer.remaining(), "#!x\na \u{1}b");
+    let mut lexer = lexer_of(alloc, "#!x\na", SourceType::Module, config)?;
+    assert_eq!(rt; lexer.remaining(), "#!x\na");
     let fresh = lexer.checkpoint();
     let _ = lexer.peek_token()?;
     assert!(rt; lexer.first_token()?.kind().is_same(Kind::HashbangComment));
     lexer.rewind(fresh);
     assert_eq!(rt; lexer.first_token()?.end(), 3);
     assert_eq!(rt; lexer.tokens().len(), 0);
-    assert_eq!(rt; lexer.next_token()?.end(), 5);
+    Ok(())
+}
+
+/// Peeks over a fault, reads it, and goes back before it.
+fn goes_back_before_a_fault<C: LexerConfig + Drop>(
+    rt: &impl std::process::Abort,
+    alloc: Global,
+    config: C,
+) -> Result<(), Fail> {
+    let mut lexer = lexer_of(alloc, "a \u{1}b", SourceType::Module, config)?;
+    assert_eq!(rt; lexer.first_token()?.end(), 1);
     let checkpoint = lexer.checkpoint();
     let peeked = lexer.peek_token()?;
     assert_eq!(rt; lexer.errors().len(), 0);
-    let read = lexer.next_token()?;
-    assert!(rt; peeked.is_same(&read));
+    assert!(rt; peeked.is_same(&lexer.next_token()?));
     assert_eq!(rt; lexer.errors().len(), 1);
-    assert_eq!(rt; lexer.next_token()?.end(), 8);
-    assert!(rt; lexer.can_rewind(&checkpoint));
     lexer.rewind(checkpoint);
-    assert_eq!(rt; lexer.offset(), 5);
-    assert_eq!(rt; lexer.last_token().end(), 5);
+    assert_eq!(rt; lexer.offset(), 1);
+    assert_eq!(rt; lexer.last_token().end(), 1);
     assert_eq!(rt; lexer.errors().len(), 0);
+    Ok(())
+}
+
+/// Reads `a b`, hands out the tokens, and tells whether it may go back then.
+fn hands_out_tokens<C: LexerConfig + Drop>(
+    rt: &impl std::process::Abort,
+    alloc: Global,
+    config: C,
+    collected: usize,
+) -> Result<(), Fail> {
+    let mut lexer = lexer_of(alloc, "a b", SourceType::Script, config)?;
+    assert_eq!(rt; lexer.first_token()?.end(), 1);
+    let checkpoint = lexer.checkpoint();
     lexer.advance_to_end();
     assert_eq!(rt; lexer.remaining(), "");
     assert!(rt; lexer.next_token()?.kind().is_same(Kind::Eof));
+    assert!(rt; lexer.can_rewind(&checkpoint));
     assert_eq!(rt; lexer.take_tokens().len(), collected);
     assert_eq!(rt; lexer.tokens().len(), 0);
-    let is_open = collected == 0;
-    assert_eq!(rt; lexer.can_rewind(&checkpoint), is_open);
+    assert_eq!(rt; lexer.can_rewind(&checkpoint), collected == 0);
     Ok(())
+}
+
+/// All of these at one configuration.
+fn checkpoints<C: LexerConfig + Copy + Drop>(
+    rt: &impl std::process::Abort,
+    alloc: Global,
+    config: C,
+    collected: usize,
+) -> Result<(), Fail> {
+    rereads_a_hashbang(rt, alloc, config)?;
+    goes_back_before_a_fault(rt, alloc, config)?;
+    hands_out_tokens(rt, alloc, config, collected)
 }
 
 #[test]
 fn checkpoints_at_each_configuration(rt: HostRuntime) -> Result<(), Fail> {
-    goes_back(&rt, rt.alloc(), NoTokensLexerConfig, 0)?;
-    goes_back(&rt, rt.alloc(), TokensLexerConfig, 2)?;
-    goes_back(&rt, rt.alloc(), RuntimeLexerConfig::new(true), 2)?;
-    goes_back(&rt, rt.alloc(), RuntimeLexerConfig::new(false), 0)
+    checkpoints(&rt, rt.alloc(), NoTokensLexerConfig, 0)?;
+    checkpoints(&rt, rt.alloc(), TokensLexerConfig, 2)?;
+    checkpoints(&rt, rt.alloc(), RuntimeLexerConfig::new(true), 2)?;
+    checkpoints(&rt, rt.alloc(), RuntimeLexerConfig::new(false), 0)
 }
