@@ -55,11 +55,12 @@ fn full_token() -> Token {
     token
 }
 
-/// A token's start, end, newline flag, escaped flag and separator flag.
-fn numbers(token: &Token) -> (u32, u32, bool, bool, bool) {
+/// A token's start, end, name of its kind, newline flag, escaped flag and separator flag.
+fn parts(token: &Token) -> (u32, u32, &'static str, bool, bool, bool) {
     (
         token.start(),
         token.end(),
+        token.kind().name(),
         token.is_on_new_line(),
         token.escaped(),
         token.has_separator(),
@@ -69,58 +70,42 @@ fn numbers(token: &Token) -> (u32, u32, bool, bool, bool) {
 #[test]
 fn made_tokens(rt: HostRuntime) {
     let default = Token::default();
-    assert_eq!(rt; numbers(&default), (0, 0, false, false, false));
-    assert_eq!(rt; default.kind(), Kind::Eof);
+    assert_eq!(rt; parts(&default), (0, 0, "Eof", false, false, false));
     assert_eq!(rt; default.span(), Span { start: 0, end: 0 });
     let first = Token::new_on_new_line();
-    assert_eq!(rt; numbers(&first), (0, 0, true, false, false));
-    assert_eq!(rt; first.kind(), Kind::Eof);
+    assert_eq!(rt; parts(&first), (0, 0, "Eof", true, false, false));
     let made = Token::new(Kind::Let, Span { start: 2, end: 5 }, true);
-    assert_eq!(rt; numbers(&made), (2, 5, true, false, false));
-    assert_eq!(rt; made.kind(), Kind::Let);
+    assert_eq!(rt; parts(&made), (2, 5, "Let", true, false, false));
 }
 
 #[test]
-fn set_parts(rt: HostRuntime) {
-    let full = full_token();
-    assert_eq!(rt; numbers(&full), (3, 9, true, true, true));
-    assert_eq!(rt; full.kind(), Kind::Decimal);
-
-    let mut token = full;
+fn set_places(rt: HostRuntime) {
+    let mut token = full_token();
+    assert_eq!(rt; parts(&token), (3, 9, "Decimal", true, true, true));
     token.set_span(Span { start: 4, end: 4 });
-    assert_eq!(rt; numbers(&token), (4, 4, true, true, true));
-    assert_eq!(rt; token.kind(), Kind::Decimal);
-
-    let mut token = full;
-    token.set_start(20);
-    assert_eq!(rt; numbers(&token), (20, 9, true, true, true));
-    assert_eq!(rt; token.span(), Span { start: 20, end: 9 });
-    assert_eq!(rt; token.kind(), Kind::Decimal);
-
-    let mut token = full;
+    assert_eq!(rt; parts(&token), (4, 4, "Decimal", true, true, true));
     token.set_end(4_294_967_295);
-    assert_eq!(rt; numbers(&token), (3, 4_294_967_295, true, true, true));
-    assert_eq!(rt; token.kind(), Kind::Decimal);
+    assert_eq!(rt;
+        parts(&token),
+        (4, 4_294_967_295, "Decimal", true, true, true)
+    );
+    token.set_end(9);
+    token.set_start(20);
+    assert_eq!(rt; parts(&token), (20, 9, "Decimal", true, true, true));
+    assert_eq!(rt; token.span(), Span { start: 20, end: 9 });
+}
 
-    let mut token = full;
+#[test]
+fn set_kind_and_flags(rt: HostRuntime) {
+    let mut token = full_token();
     token.set_kind(Kind::At);
-    assert_eq!(rt; numbers(&token), (3, 9, true, true, true));
-    assert_eq!(rt; token.kind(), Kind::At);
-
-    let mut token = full;
+    assert_eq!(rt; parts(&token), (3, 9, "At", true, true, true));
     token.set_is_on_new_line(false);
-    assert_eq!(rt; numbers(&token), (3, 9, false, true, true));
-    assert_eq!(rt; token.kind(), Kind::Decimal);
-
-    let mut token = full;
+    assert_eq!(rt; parts(&token), (3, 9, "At", false, true, true));
     token.set_escaped(false);
-    assert_eq!(rt; numbers(&token), (3, 9, true, false, true));
-    assert_eq!(rt; token.kind(), Kind::Decimal);
-
-    let mut token = full;
+    assert_eq!(rt; parts(&token), (3, 9, "At", false, false, true));
     token.set_has_separator(false);
-    assert_eq!(rt; numbers(&token), (3, 9, true, true, false));
-    assert_eq!(rt; token.kind(), Kind::Decimal);
+    assert_eq!(rt; parts(&token), (3, 9, "At", false, false, false));
 }
 
 #[test]
