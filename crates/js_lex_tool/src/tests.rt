@@ -4,4 +4,5 @@ mod ends;
 mod report;
 mod run;
 mod status;
+mod streams;
 mod words;

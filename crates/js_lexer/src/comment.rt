@@ -103,6 +103,7 @@ pub(crate) fn skip_block(
     None
 }
 
+/// Whether one of the two holds: as a call, it keeps what is known of both.
 pub(crate) fn either(a: bool, b: bool) -> bool
     ensures { result ≡ (a || b) }
 {

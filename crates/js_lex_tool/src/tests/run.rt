@@ -13,7 +13,7 @@ use js_text::SourceType;
 use std::alloc::{AllocError, Global};
 use std::test::Fail;
 
-fn owned(alloc: Global, words: &str) -> Result<Vec<String>, AllocError> {
+pub fn owned(alloc: Global, words: &str) -> Result<Vec<String>, AllocError> {
     let mut owned = Vec::new(alloc);
     for word in words.split(' ') {
         owned.push(String::from_str(alloc, word)?)?;
