@@ -1,6 +1,6 @@
 //! Standard input and standard output: the trusted edge, which tells nothing of content.
 
-ghost use Rattle.std.specs.Prelude.{None};
+ghost use Rattle.std.specs.Prelude.{◌≡◌, None};
 
 use crate::outside::{ByteIn, ByteOut, FlushAnswer, InAnswer, OutAnswer};
 use std::io::{Read, Write};
@@ -14,7 +14,9 @@ pub struct StdIn<R: Read + Drop> {
 
 impl<R: Read + Drop> StdIn<R> {
     /// An input that has not failed yet.
-    pub fn new(reader: R) -> StdIn<R> {
+    pub fn new(reader: R) -> StdIn<R>
+        ensures { result.faults ≡ 0 }
+    {
         StdIn { reader, faults: 0 }
     }
 }
@@ -46,7 +48,9 @@ pub struct StdOut<W: Write + Drop> {
 
 impl<W: Write + Drop> StdOut<W> {
     /// An output that has not failed yet.
-    pub fn new(writer: W) -> StdOut<W> {
+    pub fn new(writer: W) -> StdOut<W>
+        ensures { result.faults ≡ 0 }
+    {
         StdOut { writer, faults: 0 }
     }
 }
