@@ -137,7 +137,7 @@ fn many_marks(rt: HostRuntime) -> Result<(), Fail> {
     Ok(())
 }
 
-/// The report of `a b` after a step that is taken back and one that stays.
+/// The report of `a b` after a step that is taken back, a mark that is committed, and a step that stays.
 fn run<L: Ledger, C: LexerConfig + Drop>(
     alloc: Global,
     config: C,
@@ -157,6 +157,12 @@ fn run<L: Ledger, C: LexerConfig + Drop>(
     }
     if session.marks() > 0 {
         session.rewind();
+    }
+    if session.mark().is_err() {
+        return Err(NewFault::Memory);
+    }
+    if session.marks() > 0 {
+        session.commit();
     }
     if session.step(Command::Next, &mut steps).is_err() || session.rows().len() != 3 {
         return Err(NewFault::Memory);
