@@ -5,5 +5,6 @@ pub mod PieceLemmas
 pub mod PunctuatorLeaves
 pub mod PunctuatorLemmas
 pub mod Spans
+pub mod Reported
 pub mod Tests
 pub mod Unique

@@ -1,6 +1,8 @@
+pub mod Built
 pub mod Gap
 pub mod Goals
 pub mod Hashbang
+pub mod Outcome
 pub mod Punctuators
 pub mod Reads
 pub mod Recovery

@@ -359,3 +359,7 @@ kind_text TemplateTail = codes "}"
 kind_text PrivateIdentifier = codes "#identifier"
 kind_text JSXText = codes "jsx"
 kind_text At = codes "@"
+
+-- the kinds of numbers
+abbrev pub is_number : Kind → Bool
+is_number k = nat_le 149 (number k) && nat_le (number k) 159

@@ -1,2 +1,3 @@
 pub mod Lexed
 pub mod Lexer
+pub mod Reader

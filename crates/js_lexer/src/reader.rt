@@ -1,0 +1,29 @@
+//! What the steps of a reading work on.
+
+use crate::comment::CommentTables;
+use js_source::Source;
+use js_text::{DiagnosticList, SourceType};
+use std::marker::Model;
+
+/// The source and its type, whether a line has ended before the place where it stands, and what was reported.
+#[derive(Drop)]
+pub(crate) struct Reader<'a> {
+    pub source: Source<'a>,
+    pub source_type: SourceType,
+    pub tables: CommentTables,
+    pub line_has_ended: bool,
+    pub errors: DiagnosticList,
+}
+
+impl<'a> Model for Reader<'a> {
+    ghost use Rattle.js_lexer.specs.Reader.{ReaderState};
+
+    ghost Value = { ReaderState };
+
+    ghost view = { λ r. record {
+      at = r.source;
+      source_type = r.source_type;
+      line_has_ended = r.line_has_ended;
+      errors = r.errors;
+    } };
+}
