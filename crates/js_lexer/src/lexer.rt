@@ -8,8 +8,8 @@ ghost use Rattle.js_lexer.specs.Lexed.{goal_of};
 ghost use Rattle.js_lexer.specs.Lexer.{LexerState, fresh, ReadsToken, MovesOn, IsOnPlaces, Peeks, checkpoint_of, CanRewind, rewound, GoesOnFrom, collected, is_hashbang};
 
 use crate::checkpoint::{LexerCheckpoint, is_on_places, is_place, put_back};
-use crate::comment::CommentTables;
 use crate::reading::read_goal;
+use crate::tables::ByteTables;
 use js_kind::{Kind, LexerConfig, Token, TokenList};
 use js_source::Source;
 use js_text::{Diagnostic, DiagnosticList, SourceType};
@@ -60,7 +60,7 @@ pub struct Lexer<'a, C: LexerConfig + Drop> {
     source_type: SourceType,
     config: C,
     alloc: Global,
-    tables: CommentTables,
+    tables: ByteTables,
     is_fresh: bool,
     token: Token,
     tokens: TokenList,
@@ -105,7 +105,7 @@ impl<'a, C: LexerConfig + Drop> Lexer<'a, C> {
             source_type,
             config,
             alloc,
-            tables: CommentTables::new(),
+            tables: ByteTables::new(),
             is_fresh: true,
             token: Token::default(),
             tokens: TokenList::new_in(alloc),
