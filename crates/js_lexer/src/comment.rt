@@ -5,44 +5,13 @@ ghost use Rattle.js_text.specs.Characters.{from_first, is_line_terminator};
 ghost use Rattle.js_grammar.specs.Gap.{is_prefix, cut_behind};
 ghost use Rattle.js_source.specs.Source.{rest, BeginsWith, Reads};
 ghost use Rattle.js_source.specs.Search.{matches_char};
-ghost use Rattle.js_lexer.specs.Lexed.{StopsAtLineEnds, StopsInBlocks, ReadsCut, stopping_bytes};
+ghost use Rattle.js_lexer.specs.Lexed.{StopsAtLineEnds, StopsInBlocks, ReadsCut};
 
 use js_source::{SafeByteMatchTable, Source};
 use js_text::is_line_terminator;
 
-/// The tables of the searches through comments.
-#[derive(Drop)]
-pub(crate) struct CommentTables {
-    /// Stops at every line terminator.
-    pub line: SafeByteMatchTable,
-    /// Stops at `*` too.
-    pub block: SafeByteMatchTable,
-    ghost line_ends: { StopsAtLineEnds line },
-    ghost block_ends: { StopsInBlocks block },
-}
-
-/// The first bytes of the line terminators, LF, CR and that of U+2028 and U+2029, and with them `*` where it is wanted.
-fn bytes_to_stop_at(star: bool) -> [bool; 256]
-    ensures { result ≡ stopping_bytes star }
-{
-    let mut bytes = [false; 256];
-    bytes[0x0A] = true;
-    bytes[0x0D] = true;
-    bytes[0x2A] = star;
-    bytes[0xE2] = true;
-    bytes
-}
-
-impl CommentTables {
-    /// None never comes: both tables are safe.
-    pub fn new() -> CommentTables {
-        let line = SafeByteMatchTable::new(bytes_to_stop_at(false)).unwrap();
-        let block = SafeByteMatchTable::new(bytes_to_stop_at(true)).unwrap();
-        CommentTables { line, block }
-    }
-}
-
 /// Goes to the first character whose first byte the table has, or to the end.
+#[inline(always)]
 fn advance_to_match(source: &mut Source<'_>, table: &SafeByteMatchTable) -> Option<char>
     ensures text { source.new.text ≡ source.old.text }
     ensures rest { rest source.new ≡ from_first (matches_char table.now) (rest source.old) }

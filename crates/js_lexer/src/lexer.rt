@@ -7,7 +7,7 @@ ghost use Rattle.js_grammar.specs.Built.{IsBuilt};
 ghost use Rattle.js_lexer.specs.Lexer.{LexerState, fresh, token_or_default, ReadsToken, IsRestored, IsOnPlaces, Peeks, checkpoint_of, CanRewind, rewound, GoesOnFrom, collected, is_hashbang};
 
 use crate::checkpoint::{LexerCheckpoint, is_on_places_if_some, is_place, put_back};
-use crate::comment::CommentTables;
+use crate::tables::ByteTables;
 use crate::reader::Reader;
 use js_grammar::Goal;
 use js_kind::{Kind, LexerConfig, Token, TokenList};
@@ -101,7 +101,7 @@ impl<'a, C: LexerConfig + Drop> Lexer<'a, C> {
             reader: Reader {
                 source: Source::new(source_text),
                 source_type,
-                tables: CommentTables::new(),
+                tables: ByteTables::new(),
                 line_has_ended: true,
                 errors: DiagnosticList::new_in(alloc),
             },

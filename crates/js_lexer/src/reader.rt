@@ -1,6 +1,6 @@
 //! What the steps of a reading work on.
 
-use crate::comment::CommentTables;
+use crate::tables::ByteTables;
 use js_source::Source;
 use js_text::{DiagnosticList, SourceType};
 use std::marker::Model;
@@ -10,7 +10,7 @@ use std::marker::Model;
 pub(crate) struct Reader<'a> {
     pub source: Source<'a>,
     pub source_type: SourceType,
-    pub tables: CommentTables,
+    pub tables: ByteTables,
     pub line_has_ended: bool,
     pub errors: DiagnosticList,
 }
