@@ -53,7 +53,9 @@ reports_if false x y h k = k
 
 recovered_reports : (nl : Bool) (place : ℕ) (here : List ℕ) → Reports (recovered nl place here)
 recovered_reports nl place here =
-    reports_if (is_prefix (codes "/*") here) _ _ (λ e. cc) (reports_if (begins (λ c. c == 0xFFFD) here) _ _ (λ e. cc) (character here))
+    reports_if (is_prefix (codes "/*") here) _ _ (λ e. cc) (
+    reports_if (is_prefix (codes "#!") here) _ _ (λ e. cc) (
+    reports_if (begins (λ c. c == 0xFFFD) here) _ _ (λ e. cc) (character here)))
   where
     character : (here : List ℕ) → Reports (recovered_character nl place here)
     character [] = tt

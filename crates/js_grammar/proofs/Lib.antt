@@ -1,10 +1,11 @@
 pub mod Clean
+pub mod Flags
 pub mod GapLemmas
 pub mod NameLemmas
 pub mod PieceLemmas
 pub mod PunctuatorLeaves
 pub mod PunctuatorLemmas
-pub mod Spans
 pub mod Reported
+pub mod Spans
 pub mod Tests
 pub mod Unique

@@ -1,15 +1,18 @@
 -- Reported comments: where none stands, a whole gap is a longest gap.
-use Rattle.std.proofs.Common.{◌≡◌, ℕ, ◌+◌, Bool, true, false, not, List, [], ◌∷◌, ◌++◌, ◌==◌, ◌&&◌, ◌||◌, drop, length, refl, sym, ◌∙◌, ap, subst, Option, Some, None}
+use Rattle.std.proofs.Common.{◌≡◌, ℕ, ◌+◌, Bool, true, false, not, List, [], ◌∷◌, ◌++◌, ◌==◌, ◌&&◌, ◌||◌, drop, length, refl, sym, ◌∙◌, ap, subst, arith, append_assoc, length-append, add-zero, Option, Some, None}
 use Rattle.std.specs.Prelude.{codes, if◌then◌else◌, IfSome}
 use Rattle.std.specs.List.{list_any}
 use Rattle.std.specs.Option.{option_map}
+use Rattle.std.specs.Str.{encode_utf8_all}
+use Rattle.std.proofs.lemmas.Str.{encodes-append}
 use Rattle.js_text.specs.Characters.{is_white_space, is_line_terminator}
+use Rattle.js_text.proofs.TextLemmas.{before_from}
 use Rattle.js_text.specs.SourceType.{is_module}
 use Rattle.js_text.specs.declared.source_type.SourceType.{SourceType}
 use Rattle.js_grammar.specs.Gap.{is_prefix, is_reported, Cut, cut_behind, Piece, piece, whole_gap_piece, has_html_comments, line_comment, Pieces, AllPieces, LongestGap, WholeGap}
 use Rattle.js_grammar.specs.Gap.PieceKind.{multi_line_comment, html_open_comment, reported_comment}
 use Rattle.js_grammar.specs.Outcome.{piece_diagnostics, gap_diagnostics, place_behind}
-use Rattle.js_grammar.proofs.GapLemmas.{unreported, none_behind}
+use Rattle.js_grammar.proofs.GapLemmas.{unreported, reported, none_behind, piece_text}
 use Rattle.js_grammar.proofs.PieceLemmas.{piece-angle}
 use Rattle.js_grammar.proofs.Tests.{and_true, and_false, prefix_is}
 
@@ -96,3 +99,40 @@ whole_pieces_of t nl cs (x ∷ xs) e r g = (whole_gap_piece_of t nl cs x g.0, wh
 -- a longest gap behind which no reported comment stands is a whole gap
 pub whole_of_longest : (t : SourceType) (nl : Bool) (cs : List ℕ) (e : Bool) (r : List ℕ) (g : LongestGap t nl cs e r) → is_reported t e r ≡ false → WholeGap t nl cs g.pieces e r
 whole_of_longest t nl cs e r g none = record { pieces_are = whole_pieces_of t nl cs g.pieces e r g.all.pieces_are; longest = unreported t e r none ∙ g.all.longest }
+
+-- the characters of pieces
+abbrev pub piece_texts : List Piece → List ℕ
+piece_texts [] = []
+piece_texts (x ∷ xs) = x.text ++ piece_texts xs
+
+-- a piece of a whole gap is the characters that it carries
+pub whole_gap_piece_text : (t : SourceType) (nl : Bool) (cs : List ℕ) (x : Piece) → whole_gap_piece t nl cs ≡ Some x → cs ≡ x.text ++ x.rest
+whole_gap_piece_text t nl cs x e =
+    let family : Bool → Type 0 = λ b. is_reported t nl cs ≡ b → cs ≡ x.text ++ x.rest in
+    elim (is_reported t nl cs) as family [
+      | true ↦ λ h. let same : Some (line_comment reported_comment nl cs) ≡ Some x = sym (reported t nl cs h) ∙ e in
+          let is : line_comment reported_comment nl cs ≡ x = cc in
+          sym (before_from is_line_terminator cs) ∙ ap (λ p. p.text ++ p.rest) is
+      | false ↦ λ h. piece_text t nl cs x (sym (unreported t nl cs h) ∙ e)
+    ] refl
+
+pub pieces_text : (t : SourceType) (nl : Bool) (cs : List ℕ) (xs : List Piece) (e : Bool) (r : List ℕ) → Pieces (whole_gap_piece t) nl cs xs e r → cs ≡ piece_texts xs ++ r
+pieces_text t nl cs [] e r g = sym g.1
+pieces_text t nl cs (x ∷ xs) e r g =
+    whole_gap_piece_text t nl cs x g.0 ∙ ap (λ ys. x.text ++ ys) (pieces_text t x.line_has_ended x.rest xs e r g.1) ∙ sym (append_assoc x.text (piece_texts xs) r)
+
+-- pieces behind pieces
+pub pieces-append : (step : Bool → List ℕ → Option Piece) (nl : Bool) (cs : List ℕ) (xs ys : List Piece) (e f : Bool) (r s : List ℕ)
+    → Pieces step nl cs xs e r → Pieces step e r ys f s → Pieces step nl cs (xs ++ ys) f s
+pieces-append step nl cs [] ys e f r s g h = subst (λ b. Pieces step b cs ys f s) g.0 (subst (λ zs. Pieces step e zs ys f s) g.1 h)
+pieces-append step nl cs (x ∷ xs) ys e f r s g h = (g.0, pieces-append step x.line_has_ended x.rest xs ys e f r s g.1 h)
+
+pub place_behind-append : (place : ℕ) (xs ys : List ℕ) → place_behind (place_behind place xs) ys ≡ place_behind place (xs ++ ys)
+place_behind-append place xs ys = omega (arith, ap length (encodes-append xs ys), length-append (encode_utf8_all xs) (encode_utf8_all ys))
+
+pub gap_diagnostics-append : (place : ℕ) (xs ys : List Piece) → gap_diagnostics place (xs ++ ys) ≡ gap_diagnostics place xs ++ gap_diagnostics (place_behind place (piece_texts xs)) ys
+gap_diagnostics-append place [] ys = ap (λ p. gap_diagnostics p ys) (sym (add-zero place))
+gap_diagnostics-append place (x ∷ xs) ys =
+    ap (λ ds. piece_diagnostics place x.kind ++ ds) (gap_diagnostics-append (place_behind place x.text) xs ys)
+    ∙ ap (λ p. piece_diagnostics place x.kind ++ (gap_diagnostics (place_behind place x.text) xs ++ gap_diagnostics p ys)) (place_behind-append place x.text (piece_texts xs))
+    ∙ sym (append_assoc (piece_diagnostics place x.kind) (gap_diagnostics (place_behind place x.text) xs) (gap_diagnostics (place_behind place (x.text ++ piece_texts xs)) ys))

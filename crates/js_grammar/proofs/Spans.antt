@@ -62,7 +62,8 @@ each_recovery P false x y h k = k
 recovered_leaves : (nl : Bool) (place : ℕ) (here : List ℕ) → IfSome (recovered nl place here) (LeavesBehind here)
 recovered_leaves nl place here =
     each_recovery (LeavesBehind here) (is_prefix (codes "/*") here) _ _ (inl (refl, refl))
-    (each_recovery (LeavesBehind here) (begins (λ c. c == 0xFFFD) here) _ _ (inl (refl, refl)) (character here))
+    (each_recovery (LeavesBehind here) (is_prefix (codes "#!") here) _ _ (inl (refl, refl))
+    (each_recovery (LeavesBehind here) (begins (λ c. c == 0xFFFD) here) _ _ (inl (refl, refl)) (character here)))
   where
     character : (here : List ℕ) → IfSome (recovered_character nl place here) (LeavesBehind here)
     character [] = tt
@@ -115,7 +116,8 @@ goal_reads_places text t goal before place o u (behind_gap begins read) = (read.
 recovered_value : (a b : ℕ) (nl : Bool) (place : ℕ) (here : List ℕ) → IfSome (recovered nl place here) (λ r. r.value ≡ value_of r.kind a b)
 recovered_value a b nl place here =
     each_recovery (λ r. r.value ≡ value_of r.kind a b) (is_prefix (codes "/*") here) _ _ refl
-    (each_recovery (λ r. r.value ≡ value_of r.kind a b) (begins (λ c. c == 0xFFFD) here) _ _ refl (character here))
+    (each_recovery (λ r. r.value ≡ value_of r.kind a b) (is_prefix (codes "#!") here) _ _ refl
+    (each_recovery (λ r. r.value ≡ value_of r.kind a b) (begins (λ c. c == 0xFFFD) here) _ _ refl (character here)))
   where
     character : (here : List ℕ) → IfSome (recovered_character nl place here) (λ r. r.value ≡ value_of r.kind a b)
     character [] = tt

@@ -1,6 +1,7 @@
 -- What is read where nothing is spelled, and what is reported of it.
-use Rattle.std.specs.Prelude.{ℕ, Bool, false, List, [], ◌∷◌, ◌==◌, ◌||◌, nat_lt, nat_le, codes, Option, Some, None, if◌then◌else◌}
+use Rattle.std.specs.Prelude.{ℕ, ◌+◌, Bool, false, List, [], ◌∷◌, ◌==◌, ◌||◌, nat_lt, nat_le, codes, Option, Some, None, if◌then◌else◌}
 use Rattle.std.specs.List.{list_any}
+use Rattle.js_text.specs.Ascii.{exclamation_mark}
 use Rattle.js_text.specs.Characters.{is_line_terminator, begins}
 use Rattle.js_text.specs.declared.diagnostic.Diagnostic.{Diagnostic}
 use Rattle.js_text.specs.declared.diagnostic.Diagnostic.TheVariants.{InvalidCharacter, FileAppearsToBeBinary, UnterminatedMultiLineComment}
@@ -43,6 +44,12 @@ unterminated_comment line_has_ended place here =
 abbrev pub binary_file : Bool → Reading
 binary_file line_has_ended = faulty Eof [] line_has_ended FileAppearsToBeBinary
 
+-- `#!` where no hashbang is read: a `#` begins no private name before `!`, which is reported; the rest of the source
+abbrev pub number_sign : Bool → ℕ → Reading
+number_sign line_has_ended place =
+    faulty Eof [] line_has_ended
+    (InvalidCharacter exclamation_mark (record { start = place + 1; end = place + 2 }))
+
 -- the control characters of ASCII, and all characters beyond it
 abbrev pub is_control_or_wide : ℕ → Bool
 is_control_or_wide c = nat_lt c 32 || nat_le 127 c
@@ -63,5 +70,6 @@ recovered_character line_has_ended place (c ∷ cs) =
 abbrev pub recovered : Bool → ℕ → List ℕ → Option Reading
 recovered line_has_ended place here =
     if is_prefix (codes "/*") here then Some (unterminated_comment line_has_ended place here)
+    else if is_prefix (codes "#!") here then Some (number_sign line_has_ended place)
     else if begins (λ c. c == 0xFFFD) here then Some (binary_file line_has_ended)
     else recovered_character line_has_ended place here

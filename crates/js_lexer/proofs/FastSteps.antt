@@ -3,7 +3,7 @@ use Rattle.std.proofs.Common.{◌≡◌, ℕ, ◌<◌, Bool, true, false, not, r
 use Rattle.std.specs.Prelude.{MatchBool}
 use Rattle.std.proofs.lemmas.Bool.{ne_eqb}
 use Rattle.js_text.specs.Characters.{is_white_space, is_irregular_whitespace, is_line_terminator}
-use Rattle.js_lexer.specs.Lexed.{BeginsNoPiece}
+use Rattle.js_lexer.specs.Gaps.{BeginsNoPiece}
 
 pub space_is_white : is_white_space 32 ≡ true
 unfolding is_white_space is_irregular_whitespace
@@ -42,7 +42,7 @@ unfolding is_line_terminator
 in_line c low high = rw (ne_eqb c 10 (λ e. omega arith), ne_eqb c 13 (λ e. omega arith), ne_eqb c 0x2028 (λ e. omega arith), ne_eqb c 0x2029 (λ e. omega arith)) refl
 
 pub begins_none : (b : ℕ) → 32 < b → b < 128 → (b ≡ 47 → ⊥) → (b ≡ 60 → ⊥) → (b ≡ 45 → ⊥) → BeginsNoPiece b
-begins_none b low high slash angle minus = record { ascii = high; dark = dark b low high; in_line = in_line b low high; slash = slash; angle = angle; minus = minus }
+begins_none b low high slash angle minus = record { ascii = high; no_white_space = dark b low high; no_line_terminator = in_line b low high; no_slash = slash; no_angle = angle; no_minus = minus }
 
 pub tells_none : (b : ℕ) → 32 < b → b < 128 → (b ≡ 47 → ⊥) → (b ≡ 60 → ⊥) → MatchBool (not (b == 45)) (BeginsNoPiece b) (Unit {0})
 tells_none b low high slash angle = by_test (b == 45) refl

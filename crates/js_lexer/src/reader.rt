@@ -3,7 +3,6 @@
 use crate::tables::ByteTables;
 use js_source::Source;
 use js_text::{DiagnosticList, SourceType};
-use std::marker::Model;
 
 /// The source and its type, whether a line has ended before the place where it stands, and what was reported.
 #[derive(Drop)]
@@ -13,17 +12,4 @@ pub(crate) struct Reader<'a> {
     pub tables: ByteTables,
     pub line_has_ended: bool,
     pub errors: DiagnosticList,
-}
-
-impl<'a> Model for Reader<'a> {
-    ghost use Rattle.js_lexer.specs.Reader.{ReaderState};
-
-    ghost Value = { ReaderState };
-
-    ghost view = { λ r. record {
-      at = r.source;
-      source_type = r.source_type;
-      line_has_ended = r.line_has_ended;
-      errors = r.errors;
-    } };
 }

@@ -1,7 +1,7 @@
 //! Tables of bytes: the ASCII characters of a class, and where a search through a comment stops.
 
 ghost use Rattle.std.specs.Prelude.{◌≡◌, false};
-ghost use Rattle.js_lexer.specs.Lexed.{StopsAtLineEnds, StopsInBlocks, stopping_bytes};
+ghost use Rattle.js_lexer.specs.Comments.{StopsAtLineEnds, StopsInBlocks, stopping_bytes};
 ghost use Rattle.js_lexer.specs.Tables.{TellsParts, TellsStarts, TellsBlanks};
 
 use js_source::SafeByteMatchTable;
