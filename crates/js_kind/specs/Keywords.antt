@@ -1,12 +1,16 @@
 -- The keyword table.
-use Rattle.std.specs.Prelude.{◌≡◌, ◌≢◌, ◌⊎◌, ℕ, true, List, [], ◌∷◌, ◌==◌, if◌then◌else◌}
-use Rattle.std.specs.List.{filter}
+use Rattle.std.specs.Prelude.{◌≡◌, ◌≢◌, ◌⊎◌, ℕ, Bool, true, List, [], ◌∷◌, ◌==◌, if◌then◌else◌}
+use Rattle.std.specs.List.{filter, list_any}
 use Rattle.std.specs.Str.{bytes_eq}
 use Rattle.js_text.specs.Characters.{begins}
 use Rattle.js_kind.specs.declared.kind.Kind.{Kind}
 use Rattle.js_kind.specs.declared.kind.Kind.TheVariants.{Ident}
 use Rattle.js_kind.specs.Kinds.{is_name_kind, kind_text}
 pub use Rattle.js_kind.specs.Kinds.{keywords}
+
+-- the character is one of these
+abbrev pub is_among : List ℕ → ℕ → Bool
+is_among letters c = list_any (λ letter. c == letter) letters
 
 -- the first of these kinds that has this text, and `Ident` where none has
 abbrev pub kind_in : List Kind → List ℕ → Kind
@@ -17,9 +21,9 @@ kind_in (kind ∷ kinds) text = if bytes_eq text (kind_text kind) then kind else
 unfoldable pub name_kind : List ℕ → Kind
 name_kind text = kind_in keywords text
 
--- the kinds of the words that begin with this letter
-abbrev pub keywords_of : ℕ → List Kind
-keywords_of letter = filter (λ kind. begins (λ c. c == letter) (kind_text kind)) keywords
+-- the kinds of the words that begin with one of these letters
+abbrev pub keywords_of : List ℕ → List Kind
+keywords_of letters = filter (λ kind. begins (is_among letters) (kind_text kind)) keywords
 
 -- the kind is that of the word that the text is, and `Ident` where it is none
 abbrev pub IsKindOfName : List ℕ → Kind → Type 0
