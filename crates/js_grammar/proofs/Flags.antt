@@ -8,14 +8,14 @@ use Rattle.unicode_ident.proofs.Computing.{unicode_ident}
 use Rattle.js_text.specs.Characters.{is_identifier_start, is_identifier_part}
 use Rattle.js_text.specs.declared.source_type.SourceType.{SourceType}
 use Rattle.js_kind.specs.Keywords.{name_kind}
-use Rattle.js_kind.specs.Kinds.{is_number}
+use Rattle.js_kind.specs.Kinds.{is_number_kind}
 use Rattle.js_kind.specs.declared.kind.Kind.{Kind}
-use Rattle.js_kind.proofs.NameKinds.{name_is_no_number}
+use Rattle.js_kind.proofs.NameKinds.{name_kind-is_identifier_name, identifier_name-is_no_number}
 use Rattle.js_grammar.specs.Punctuators.{Punctuator, punctuators, IsIn}
 use Rattle.js_grammar.specs.Spelling.{Spelling, IsName, is_escaped, has_separator}
 use Rattle.js_grammar.specs.Spelling.Spelling.{name, punctuator, end_of_source}
 use Rattle.js_grammar.proofs.PunctuatorLemmas.{passes_at}
-use Rattle.js_grammar.proofs.Tests.{and_true}
+use Rattle.js_grammar.proofs.Tests.{and_true, and_false}
 
 backslash_begins_no_name : is_identifier_start 92 ≡ false
 unfolding is_identifier_start unicode_ident
@@ -26,7 +26,7 @@ unfolding is_identifier_part unicode_ident
 backslash_is_no_part = refl
 
 other : (p : ℕ → Bool) (c : ℕ) → p 92 ≡ false → p c ≡ true → (c == 92) ≡ false
-other p c no is = by_test (c == 92) refl
+other p c none is = by_test (c == 92) refl
   where
     by_test : (b : Bool) → (c == 92) ≡ b → b ≡ false
     by_test true e = let same : p c ≡ p 92 = ap p (eqb-true c 92 e) in absurd (cc)
@@ -42,9 +42,10 @@ name_unescaped [] is = absurd is
 name_unescaped (c ∷ cs) is = rw (other is_identifier_start c backslash_begins_no_name is.0) (parts_unescaped cs is.1)
 
 abbrev unflagged : Punctuator → Bool
-unflagged p = not (is_escaped p.text) && not (is_number p.kind)
+unflagged p = not (is_escaped p.text) && not (is_number_kind p.kind)
 
 punctuators_unflagged : list_all unflagged punctuators ≡ true
+unfolding is_number_kind
 punctuators_unflagged = refl
 
 not_true : (b : Bool) → not b ≡ true → b ≡ false
@@ -53,11 +54,12 @@ not_true false e = refl
 
 -- no flag is set for what is spelled
 pub spelling_flags : (t : SourceType) (nl : Bool) (xs ys : List ℕ) (k : Kind) → Spelling t nl xs ys k → (is_escaped xs ≡ false) × (has_separator k xs ≡ false)
+unfolding is_number_kind
 spelling_flags t nl xs ys k (name is end kind) =
-    let none : is_number k ≡ false = ap is_number kind ∙ name_is_no_number (encode_utf8_all xs) in
+    let none : is_number_kind k ≡ false = ap is_number_kind kind ∙ identifier_name-is_no_number (name_kind (encode_utf8_all xs)) (name_kind-is_identifier_name (encode_utf8_all xs)) in
     (name_unescaped xs is, rw none refl)
 spelling_flags t nl xs ys k (punctuator p i same allowed kind) =
-    let both = and_true (not (is_escaped p.text)) (not (is_number p.kind)) (passes_at unflagged p punctuators i punctuators_unflagged) in
-    let none : is_number k ≡ false = ap is_number kind ∙ not_true _ both.1 in
+    let both = and_true (not (is_escaped p.text)) (not (is_number_kind p.kind)) (passes_at unflagged p punctuators i punctuators_unflagged) in
+    let none : is_number_kind k ≡ false = ap is_number_kind kind ∙ not_true _ both.1 in
     (ap is_escaped same ∙ not_true _ both.0, rw none refl)
-spelling_flags t nl xs ys k (end_of_source none end kind) = (ap is_escaped none, rw (kind, none) refl)
+spelling_flags t nl xs ys k (end_of_source none end kind) = (ap is_escaped none, ap (has_separator k) none ∙ and_false (is_number_kind k))

@@ -3,6 +3,7 @@ pub mod Flags
 pub mod GapLemmas
 pub mod NameLemmas
 pub mod PieceLemmas
+pub mod Printable
 pub mod PunctuatorLeaves
 pub mod PunctuatorLemmas
 pub mod Reported

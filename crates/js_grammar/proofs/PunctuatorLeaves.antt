@@ -13,7 +13,7 @@ use Rattle.js_grammar.proofs.Tests.{and_true}
 use Rattle.js_kind.specs.declared.kind.Kind.TheVariants.{Amp, Amp2, Amp2Eq, AmpEq, Bang, Caret, CaretEq, Colon, Comma, Dot, Dot3, Eq, Eq2, Eq3, LAngle, LBrack, LCurly, LParen, LtEq, Minus, Minus2, MinusEq, Neq, Neq2, Percent, PercentEq, Pipe, Pipe2, Pipe2Eq, PipeEq, Plus, Plus2, PlusEq, Question, Question2, Question2Eq, QuestionDot, RAngle, RBrack, RCurly, RParen, Semicolon, ShiftLeft, ShiftLeftEq, Slash, SlashEq, Star, Star2, Star2Eq, StarEq, Tilde, Arrow, At}
 
 -- the punctuator at an index of the table
-abbrev entry : List Punctuator → ℕ → Option Punctuator
+abbrev pub entry : List Punctuator → ℕ → Option Punctuator
 entry [] n = None
 entry (p ∷ ps) zero = Some p
 entry (p ∷ ps) (suc n) = entry ps n
@@ -23,7 +23,7 @@ in_list p [] n e = absurd (cc)
 in_list p (q ∷ ps) zero e = inl (let same : q ≡ p = cc in sym same)
 in_list p (q ∷ ps) (suc n) e = inr (in_list p ps n e)
 
-listed : {p : Punctuator} (n : ℕ) → entry punctuators n ≡ Some p → IsIn p punctuators
+pub listed : {p : Punctuator} (n : ℕ) → entry punctuators n ≡ Some p → IsIn p punctuators
 listed {p} n e = in_list p punctuators n e
 
 punctuators_have_text : list_all (λ p. nat_lt 0 (length p.text)) punctuators ≡ true

@@ -36,7 +36,7 @@ no_name_begins text (u ∷ us) vs none e is =
     let here : begins is_identifier_start text ≡ true = ap (begins is_identifier_start) e ∙ is.0 in cc
 
 -- a text that the punctuator begins, with a rest that may follow it
-spelled_at : (t : SourceType) (nl : Bool) (p : Punctuator) (vs : List ℕ) → p.excluded t nl vs ≡ false → is_spelled t nl (p.text ++ vs) p ≡ true
+pub spelled_at : (t : SourceType) (nl : Bool) (p : Punctuator) (vs : List ℕ) → p.excluded t nl vs ≡ false → is_spelled t nl (p.text ++ vs) p ≡ true
 spelled_at t nl p vs e = rw (prefix_of p.text vs) (rw drop-append_seam (rw e refl))
 
 -- what a test of each entry says of one that is spelled

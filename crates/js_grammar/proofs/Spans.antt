@@ -7,6 +7,7 @@ use Rattle.js_text.specs.Characters.{from_place, from_first, before_first, is_li
 use Rattle.js_text.specs.declared.source_type.SourceType.{SourceType}
 use Rattle.js_text.specs.declared.diagnostic.Diagnostic.{Diagnostic}
 use Rattle.js_text.proofs.TextLemmas.{place_past, before_from}
+use Rattle.js_kind.specs.Kinds.{is_identifier_name}
 use Rattle.js_kind.specs.TokenParts.{TokenParts}
 use Rattle.js_kind.specs.declared.kind.Kind.{Kind}
 use Rattle.js_kind.specs.declared.kind.Kind.TheVariants.{Eof}
@@ -69,7 +70,7 @@ recovered_leaves nl place here =
     character [] = tt
     character (c ∷ cs) = each_recovery (LeavesBehind (c ∷ cs)) (is_control_or_wide c) _ None (inr (c, refl)) tt
 
-here_span : (text : List ℕ) (t : SourceType) (nl : Bool) (start end : ℕ) (r : Reading) → IsUtf8 text → IsCharBoundary text start → IsCharBoundary text end
+pub here_span : (text : List ℕ) (t : SourceType) (nl : Bool) (start end : ℕ) (r : Reading) → IsUtf8 text → IsCharBoundary text start → IsCharBoundary text end
     → r.rest ≡ from_place text end → ReadsHere t nl start (from_place text start) r → (start ≤ end) × (r.kind ≢ Eof → start < end)
 here_span text t nl start end r u b d rest (spelled_here xs spelling is) =
     let way = leads text start end xs u b d (spelling.here ∙ ap (λ ys. xs ++ ys) rest) in
@@ -114,6 +115,7 @@ goal_reads_places text t goal before place o u (behind_gap begins read) = (read.
 
 -- the value of what is read to recover is that of its kind: none
 recovered_value : (a b : ℕ) (nl : Bool) (place : ℕ) (here : List ℕ) → IfSome (recovered nl place here) (λ r. r.value ≡ value_of r.kind a b)
+unfolding is_identifier_name
 recovered_value a b nl place here =
     each_recovery (λ r. r.value ≡ value_of r.kind a b) (is_prefix (codes "/*") here) _ _ refl
     (each_recovery (λ r. r.value ≡ value_of r.kind a b) (is_prefix (codes "#!") here) _ _ refl
@@ -133,6 +135,7 @@ here_value text t nl start end r u b d rest (recovers nothing e) =
 -- The value of a reading is that of its token's kind and span.
 pub goal_reads_value : (text : List ℕ) (t : SourceType) (goal : Goal) (before : Option TokenParts) (place : ℕ) (o : Outcome) → IsUtf8 text
     → GoalReads text t goal before place o → o.value ≡ value_of o.token.kind o.token.start o.token.end
+unfolding is_identifier_name
 goal_reads_value text t goal before place o u (hashbang_read begins read) =
     ap (λ x. x.value) read.alone ∙ ap (λ k. value_of k o.token.start o.token.end) (sym read.is_hashbang.kind)
 goal_reads_value text t goal before place o u (behind_gap begins read) =

@@ -9,7 +9,7 @@ use Rattle.js_text.specs.declared.value.RowValue.{RowValue}
 use Rattle.js_text.specs.declared.value.RowValue.TheVariants.{Nothing, Slice}
 use Rattle.js_grammar.specs.Punctuators.{Punctuator, punctuators, IsIn}
 use Rattle.js_kind.specs.Keywords.{name_kind}
-use Rattle.js_kind.specs.Kinds.{is_identifier_name, is_number}
+use Rattle.js_kind.specs.Kinds.{is_identifier_name, is_number_kind}
 use Rattle.js_kind.specs.declared.kind.Kind.{Kind}
 use Rattle.js_kind.specs.declared.kind.Kind.TheVariants.{Eof}
 
@@ -48,7 +48,7 @@ is_escaped xs = list_any (λ c. c == backslash) xs
 
 -- a separator stands in the characters of a spelling of this kind: a `_` in a number
 abbrev pub has_separator : Kind → List ℕ → Bool
-has_separator kind xs = is_number kind && list_any (λ c. c == low_line) xs
+has_separator kind xs = is_number_kind kind && list_any (λ c. c == low_line) xs
 
 -- The value of a token of this kind, from start to end: its stretch of the source for an identifier name.
 abbrev pub value_of : Kind → ℕ → ℕ → RowValue

@@ -6,7 +6,7 @@ use Rattle.std.specs.Str.{IsCharBoundary}
 use Rattle.js_text.specs.Characters.{from_place, place_before}
 use Rattle.js_text.specs.declared.diagnostic.Diagnostic.TheVariants.{HtmlCommentInModule}
 use Rattle.js_text.proofs.TextLemmas.{length-from_first, place_before-from_place, place_past}
-use Rattle.js_grammar.proofs.GapLemmas.{piece_takes, longest_gap-cons}
+use Rattle.js_grammar.proofs.GapLemmas.{piece_takes, longest_gap-cons, longest_gap-nil}
 use Rattle.js_grammar.proofs.Tests.{and_true}
 use Rattle.std.specs.Prelude.{codes}
 use Rattle.js_text.specs.Characters.{is_line_terminator, from_first}
@@ -23,6 +23,8 @@ use Rattle.js_grammar.specs.Gap.{is_prefix, Piece as GapPiece, cut_behind, one_c
 use Rattle.js_grammar.specs.Gap.PieceKind.{white_space, line_terminator, single_line_comment, html_open_comment, html_close_comment}
 use Rattle.js_lexer.specs.Comments.{ReadsCut}
 use Rattle.js_lexer.specs.Gaps.{EndsPiece, TakesReported}
+use Rattle.js_lexer.specs.Reader.{IsBehindPiece, SkipsPiece}
+use Rattle.js_lexer.specs.declared.reader.Reader.{Reader}
 use Rattle.js_lexer.specs.declared.skipped.Skipped.{Skipped}
 use Rattle.js_lexer.specs.declared.skipped.Skipped.TheVariants.{Piece, Nothing}
 
@@ -130,16 +132,6 @@ no_piece t nl c old begins white line slash angle minus =
     let found = split c old begins in
     ap (piece t nl) found.1 ∙ piece-other t nl c found.0 white line slash angle minus
 
--- a piece before a longest gap
-pub gap_step : (t : SourceType) (nl : Bool) (old new : At) (now : Bool) → EndsPiece (piece t nl (rest old)) new (Piece now) → (e : Bool) (r : List ℕ) → LongestGap t now (rest new) e r
-    → LongestGap t nl (rest old) e r
-gap_step t nl old new now h e r g =
-    longest_gap-cons t nl (rest old) h.0 e r h.1
-    (subst (λ (b : Bool). LongestGap t b h.0.rest e r) (sym h.2) (subst (λ (xs : List ℕ). LongestGap t now xs e r) (sym h.3) g))
-
-pub gap_step_shorter : (t : SourceType) (nl : Bool) (old new : At) (now : Bool) → EndsPiece (piece t nl (rest old)) new (Piece now) → length (rest new) < length (rest old)
-gap_step_shorter t nl old new now h = subst (λ (xs : List ℕ). length xs < length (rest old)) h.3 (piece_takes t nl (rest old) h.0 h.1)
-
 -- a reported comment stands where a line has ended
 pub line_ended_before_reported : (t : SourceType) (ended : Bool) (here : List ℕ) → is_reported t ended here ≡ true → ended ≡ true
 line_ended_before_reported t ended here e =
@@ -153,3 +145,19 @@ behind_mark old adv h g text e =
     place_past old.text old.place adv.place (codes "<!--") h.utf8 h.boundary
     (subst (λ (u : List ℕ). IsCharBoundary u adv.place) text g.boundary) (e ∙ ap (λ u. codes "<!--" ++ from_place u adv.place) text)
 
+-- a piece that was skipped, before a longest gap
+pub piece_before : (t : SourceType) (old new : Reader) → old.source_type ≡ t → IsBehindPiece old new → (e : Bool) (r : List ℕ) → LongestGap t new.line_has_ended (rest new.source) e r
+    → LongestGap t old.line_has_ended (rest old.source) e r
+piece_before t old new same p e r g =
+    longest_gap-cons t old.line_has_ended (rest old.source) p.x e r (ap (λ u. piece u old.line_has_ended (rest old.source)) (sym same) ∙ p.is_next)
+    (subst (λ (b : Bool). LongestGap t b p.x.rest e r) (sym p.line_has_ended) (subst (λ (xs : List ℕ). LongestGap t new.line_has_ended xs e r) (sym p.behind) g))
+
+pub piece_shorter : (old new : Reader) → IsBehindPiece old new → length (rest new.source) < length (rest old.source)
+piece_shorter old new p = subst (λ (xs : List ℕ). length xs < length (rest old.source)) p.behind (piece_takes old.source_type old.line_has_ended (rest old.source) p.x p.is_next)
+
+-- where no piece begins, the longest gap is empty
+pub no_piece_left : (t : SourceType) (old new : Reader) → old.source_type ≡ t → SkipsPiece old false new → LongestGap t old.line_has_ended (rest old.source) new.line_has_ended (rest new.source)
+no_piece_left t old new same p =
+    let none : piece t old.line_has_ended (rest old.source) ≡ None = ap (λ u. piece u old.line_has_ended (rest old.source)) (sym same) ∙ p.1 in
+    subst (λ (b : Bool). LongestGap t old.line_has_ended (rest old.source) b (rest new.source)) (sym p.0.stays.line_has_ended)
+    (subst (λ (a : At). LongestGap t old.line_has_ended (rest old.source) old.line_has_ended (rest a)) (sym p.0.source) (longest_gap-nil t old.line_has_ended (rest old.source) none))

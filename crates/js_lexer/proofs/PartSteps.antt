@@ -1,5 +1,6 @@
 -- The table of the parts of names in ASCII, and the runs that it passes.
-use Rattle.std.proofs.Common.{◌≡◌, ℕ, ◌+◌, ◌<◌, ◌≤◌, Bool, true, false, not, ◌&&◌, ◌||◌, ◌==◌, ltb, List, [], ◌∷◌, ◌++◌, length, length-append, get_or, zero, suc, refl, sym, ◌∙◌, ap, subst, arith, add-zero}
+use Rattle.std.proofs.Common.{◌≡◌, ℕ, ◌+◌, ◌<◌, ◌≤◌, Bool, true, false, not, ◌&&◌, ◌||◌, ◌==◌, ltb, List, [], ◌∷◌, ◌++◌}
+use Rattle.std.proofs.Common.{length, length-append, get_or, zero, suc, refl, sym, ◌∙◌, ap, subst, arith, add-zero}
 use Rattle.std.specs.Char.{is_ascii_alphabetic, is_ascii_alphanumeric}
 use Rattle.std.proofs.lemmas.Bool.{ltb-true, ltb-false}
 use Rattle.std.proofs.Math.ListN.{get_or-eq_default}
@@ -51,14 +52,16 @@ module _ (f : ℕ → Bool) where
   tells b [] = true
   tells b (x ∷ xs) = same x (ltb b 128 && f b) && tells (suc b) xs
 
-  told : (b : ℕ) (xs : List Bool) (k : ℕ) → tells b xs ≡ true → k < length xs → get_or xs k false ≡ (ltb (b + k) 128 && f (b + k))
+  told : (b : ℕ) (xs : List Bool) (k : ℕ) → tells b xs ≡ true → k < length xs
+      → get_or xs k false ≡ (ltb (b + k) 128 && f (b + k))
   told b [] k e lt = absurd (omega arith)
   told b (x ∷ xs) zero e lt = same_true x _ (and_true _ _ e).0 ∙ ap (λ n. ltb n 128 && f n) (sym (add-zero b))
   told b (x ∷ xs) (suc k) e lt =
       let next : suc b + k ≡ b + suc k = omega arith in
       told (suc b) xs k (and_true _ _ e).1 (omega arith) ∙ ap (λ n. ltb n 128 && f n) next
 
-  entry : (xs : List Bool) (b : ℕ) → tells 0 xs ≡ true → length xs ≡ 256 → b < 256 → matches_at xs b ≡ (ltb b 128 && f b)
+  entry : (xs : List Bool) (b : ℕ) → tells 0 xs ≡ true → length xs ≡ 256 → b < 256
+      → matches_at xs b ≡ (ltb b 128 && f b)
   entry xs b e n lt =
       let at : 0 + b ≡ b = omega arith in
       told 0 xs b e (omega arith) ∙ ap (λ n. ltb n 128 && f n) at
@@ -83,44 +86,65 @@ abbrev pub is_blank : ℕ → Bool
 is_blank b = (b == 9) || (b == 32)
 
 pub tells_parts : (xs : List Bool) → tells is_part 0 xs ≡ true → length xs ≡ 256 → TellsParts xs
-tells_parts xs e n = record { ascii = ascii_alone is_part xs e n; tells = λ b lt. entry_low is_part xs e n b lt ∙ sym (part_in_ascii b lt) }
+tells_parts xs e n =
+    record
+    { ascii = ascii_alone is_part xs e n; tells = λ b lt. entry_low is_part xs e n b lt ∙ sym (part_in_ascii b lt) }
 
 pub tells_starts : (xs : List Bool) → tells is_start 0 xs ≡ true → length xs ≡ 256 → TellsStarts xs
-tells_starts xs e n = record { ascii = ascii_alone is_start xs e n; tells = λ b lt. entry_low is_start xs e n b lt ∙ sym (start_in_ascii b lt) }
+tells_starts xs e n =
+    record
+    { ascii = ascii_alone is_start xs e n; tells = λ b lt. entry_low is_start xs e n b lt ∙ sym (start_in_ascii b lt) }
 
 white : (b : ℕ) → is_blank b ≡ true → is_white_space b ≡ true
 unfolding is_white_space
 white b e = rw e refl
 
 pub tells_blanks : (xs : List Bool) → tells is_blank 0 xs ≡ true → length xs ≡ 256 → TellsBlanks xs
-tells_blanks xs e n = record { ascii = ascii_alone is_blank xs e n; tells = λ b lt m. white b (sym (entry_low is_blank xs e n b lt) ∙ m) }
+tells_blanks xs e n =
+    record { ascii = ascii_alone is_blank xs e n; tells = λ b lt m. white b (sym (entry_low is_blank xs e n b lt) ∙ m) }
 
 pub parts_passed : (table : List Bool) (old new : At) → TellsParts table → new.text ≡ old.text
     → PassesRun table old.text old.place new.place → from_first is_no_part (rest new) ≡ from_first is_no_part (rest old)
 parts_passed table old new tells text run =
     ap (λ u. from_first is_no_part (from_place u new.place)) text
-    ∙ sym (ap (from_first is_no_part) run.here ∙ from_first-run is_no_part table (λ b small m. rw (sym (tells.tells b small) ∙ m) refl) run.run _ run.all)
+    ∙ sym
+    (ap (from_first is_no_part) run.here
+    ∙ from_first-run is_no_part table (λ b small m. rw (sym (tells.tells b small) ∙ m) refl) run.run _ run.all)
 
-pub run_fewer : (table : List Bool) (old new : At) → new.text ≡ old.text → PassesRun table old.text old.place new.place → length (rest new) ≤ length (rest old)
+pub run_fewer : (table : List Bool) (old new : At) → new.text ≡ old.text → PassesRun table old.text old.place new.place
+    → length (rest new) ≤ length (rest old)
 run_fewer table old new text run =
-    omega (arith, ap length run.here, length-append run.run (from_place old.text new.place), ap (λ u. length (from_place u new.place)) text)
+    omega (
+      arith,
+      ap length run.here,
+      length-append run.run (from_place old.text new.place),
+      ap (λ u. length (from_place u new.place)) text,
+    )
 
-blanks_before : (table : List Bool) → TellsBlanks table → (t : SourceType) (nl : Bool) (xs cs : List ℕ) (ended : Bool) (left : List ℕ) → IsRun table xs
+blanks_before : (table : List Bool) → TellsBlanks table
+    → (t : SourceType) (nl : Bool) (xs cs : List ℕ) (ended : Bool) (left : List ℕ) → IsRun table xs
     → LongestGap t nl cs ended left → LongestGap t nl (xs ++ cs) ended left
 blanks_before table tells t nl [] cs ended left h g = g
 blanks_before table tells t nl (b ∷ bs) cs ended left h g =
     longest_gap-cons t nl (b ∷ (bs ++ cs)) (one_character white_space nl b (bs ++ cs)) ended left
     (piece-white t nl b (bs ++ cs) (tells.tells b h.0 h.1)) (blanks_before table tells t nl bs cs ended left h.2 g)
 
-pub blanks_passed : (table : List Bool) (old new : At) → TellsBlanks table → new.text ≡ old.text → PassesRun table old.text old.place new.place
-    → (t : SourceType) (nl ended : Bool) (left : List ℕ) → LongestGap t nl (rest new) ended left → LongestGap t nl (rest old) ended left
+pub blanks_passed : (table : List Bool) (old new : At) → TellsBlanks table → new.text ≡ old.text
+    → PassesRun table old.text old.place new.place
+    → (t : SourceType) (nl ended : Bool) (left : List ℕ) → LongestGap t nl (rest new) ended left
+    → LongestGap t nl (rest old) ended left
 blanks_passed table old new tells text run t nl ended left g =
     let here : rest old ≡ run.run ++ rest new = run.here ∙ ap (λ u. run.run ++ from_place u new.place) (sym text) in
-    subst (λ (xs : List ℕ). LongestGap t nl xs ended left) (sym here) (blanks_before table tells t nl run.run (rest new) ended left run.all g)
+    subst (λ (xs : List ℕ). LongestGap t nl xs ended left) (sym here)
+    (blanks_before table tells t nl run.run (rest new) ended left run.all g)
 
 pub starts_with : (p : ℕ → Bool) (c : ℕ) (xs : List ℕ) → BeginsWith c xs → p c ≡ true → begins_text p xs ≡ true
 starts_with p c [] h e = absurd h
 starts_with p c (d ∷ ds) h e = ap p h ∙ e
+
+pub none_begins : (p : ℕ → Bool) (c : ℕ) (xs : List ℕ) → begins_text p xs ≡ false → BeginsWith c xs → p c ≡ false
+none_begins p c [] e h = absurd h
+none_begins p c (d ∷ ds) e h = ap p (sym h) ∙ e
 
 pub part_ends : (c : ℕ) (xs : List ℕ) → BeginsWith c xs → is_identifier_part c ≡ false → from_first is_no_part xs ≡ xs
 part_ends c [] b e = absurd b

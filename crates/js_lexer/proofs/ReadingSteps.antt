@@ -1,160 +1,247 @@
 -- The steps of a reading.
-use Rattle.std.proofs.Common.{◌≡◌, ◌≢◌, ℕ, ◌≤◌, Bool, true, false, List, [], ◌∷◌, ◌++◌, zero, suc, refl, sym, ◌∙◌, ap, subst, arith, append_assoc, append-nil}
-use Rattle.std.specs.Prelude.{codes}
+use Rattle.std.proofs.Common.{◌≡◌, ◌≢◌, ℕ, ◌≤◌, Bool, true, false, List, [], ◌∷◌, ◌++◌, zero, suc, refl, sym, ◌∙◌, ap, subst, arith, append_assoc, append-nil, Option, Some, None}
+use Rattle.std.specs.Prelude.{codes, IfOk, OnErr, Result}
+use Rattle.std.specs.declared.alloc.AllocError.{AllocError}
+use Rattle.std.proofs.lemmas.Result.{IfOk-weaker, on_err_weaker}
 use Rattle.std.specs.Str.{IsCharBoundary}
-use Rattle.js_text.specs.Characters.{from_place, from_first, is_line_terminator}
-use Rattle.js_text.specs.declared.source_type.SourceType.{SourceType}
+use Rattle.js_text.specs.Characters.{from_place, from_first, is_line_terminator, begins, is_identifier_start}
 use Rattle.js_text.specs.declared.diagnostic.Diagnostic.{Diagnostic}
-use Rattle.js_text.proofs.TextLemmas.{place_past}
+use Rattle.js_text.specs.declared.source_type.SourceType.{SourceType}
 use Rattle.js_kind.specs.TokenParts.{TokenParts, default_parts}
 use Rattle.js_kind.specs.declared.kind.Kind.{Kind}
-use Rattle.js_kind.specs.declared.kind.Kind.TheVariants.{HashbangComment, Eof}
+use Rattle.js_kind.specs.declared.kind.Kind.TheVariants.{HashbangComment}
 use Rattle.js_source.specs.Source.{At, rest, IsPlaced}
-use Rattle.js_grammar.specs.Gap.{is_prefix, is_reported, WholeGap}
-use Rattle.js_grammar.specs.Goals.{reported_diagnostics}
+use Rattle.js_grammar.specs.Gap.{is_prefix, WholeGap, whole_gap_piece, Pieces}
+use Rattle.js_grammar.specs.Goals.{ReadsHere, GoalReads, spelled_reading, outcome_behind, token_of, token_alone, line_has_ended_behind, ReadsBehindGap}
 use Rattle.js_grammar.specs.Goals.ReadsHere.{spelled, recovers}
 use Rattle.js_grammar.specs.Goals.GoalReads.{hashbang, behind_gap}
 use Rattle.js_grammar.specs.Hashbang.{begins_hashbang}
-use Rattle.js_grammar.specs.Hashbang.Goal.{first}
-use Rattle.js_grammar.specs.Recovery.{recovered}
-use Rattle.js_grammar.specs.Spelling.{LongestSpelling, NothingSpelled}
-use Rattle.js_grammar.specs.Spelling.Spelling.{end_of_source}
+use Rattle.js_grammar.specs.Recovery.{Reading, faulty, recovered}
+use Rattle.js_grammar.specs.Spelling.{LongestSpelling, NothingSpelled, is_escaped, has_separator}
+use Rattle.js_grammar.specs.declared.goal.Goal.{Goal}
+use Rattle.js_grammar.specs.declared.goal.Goal.TheVariants.{First, Next}
+use Rattle.js_grammar.proofs.Flags.{spelling_flags}
 use Rattle.js_grammar.proofs.PieceLemmas.{from_first-hashbang}
-use Rattle.js_grammar.proofs.Spans.{not_reported_behind}
+use Rattle.js_grammar.proofs.PunctuatorLemmas.{nothing_spelled}
+use Rattle.js_grammar.proofs.Spans.{here_span}
 use Rattle.js_grammar.proofs.Tests.{prefix_of}
+use Rattle.js_lexer.specs.Gaps.{TakesMark}
+use Rattle.js_lexer.specs.Reader.{StaysWithin, SkipsWholeGap, ReadsLexeme, lexeme_of, ReadsBehind, IsHashbangRead, ReadsGoal, NothingHere, MovesOn, IsUnmoved}
+use Rattle.js_lexer.specs.Spellings.{Spells, Recovers}
+use Rattle.js_lexer.specs.declared.lexeme.Lexeme.{Lexeme}
+use Rattle.js_lexer.specs.declared.reader.Reader.{Reader}
 use Rattle.js_lexer.specs.declared.recovery.Recovered.{Recovered}
-use Rattle.js_lexer.specs.Lexed.{SkipsWholeGap, HasGrown, Spells, Recovers, ReadsBehind, TakesMark, IsHashbangRead, ReadsGoal, goal_of}
 
--- behind a whole gap no reported comment stands
-pub none_reported : (t : SourceType) (nl : Bool) (old mid : At) (errors reports : List Diagnostic) (ended : Bool) → SkipsWholeGap t nl old errors ended mid reports → is_reported t ended (rest mid) ≡ false
-none_reported t nl old mid errors reports ended gap = not_reported_behind t nl (rest old) gap.reported ended (rest mid) gap.gap
+abbrev pub plain_lexeme : Kind → Bool → Lexeme
+plain_lexeme kind line_has_ended = record { kind = kind; is_on_new_line = line_has_ended; escaped = false; has_separator = false }
 
--- a spelling leads on
-pub spells_onward : (t : SourceType) (nl : Bool) (mid new : At) (k : Kind) → IsPlaced mid → IsPlaced new → Spells t nl mid new k → mid.place ≤ new.place
-spells_onward t nl mid new k h g s =
-    let there : IsCharBoundary mid.text new.place = subst (λ (u : List ℕ). IsCharBoundary u new.place) s.text g.boundary in
-    let way : from_place mid.text mid.place ≡ s.spelled ++ from_place mid.text new.place = s.spelling.here ∙ ap (λ u. s.spelled ++ from_place u new.place) s.text in
-    omega (arith, place_past mid.text mid.place new.place s.spelled h.utf8 h.boundary there way)
+unflagged : (k : Kind) (nl e s : Bool) → e ≡ false → s ≡ false → plain_lexeme k nl ≡ record { kind = k; is_on_new_line = nl; escaped = e; has_separator = s }
+unflagged k nl e s f g = rw (f, g) refl
 
--- where nothing is spelled, the text is not at its end
-pub not_at_end : (t : SourceType) (nl : Bool) (cs : List ℕ) → NothingSpelled t nl cs → cs ≢ []
-not_at_end t nl cs none e = none [] cs Eof refl (end_of_source refl e refl)
+-- a spelling was read
+pub lexeme_spelled : (old new : Reader) (k : Kind) (l : Lexeme) → StaysWithin old new → Spells old.source_type old.line_has_ended old.source new.source k
+    → l ≡ plain_lexeme k new.line_has_ended → ReadsLexeme old l new
+lexeme_spelled old new k l within s is =
+    let flags = spelling_flags old.source_type old.line_has_ended s.spelled (rest new.source) k s.spelling.spelling in
+    record {
+      text = s.text;
+      source_type = within.source_type;
+      reading = spelled_reading old.line_has_ended old.source.place s.spelled (rest new.source) k;
+      here = spelled s.spelled s.spelling refl;
+      behind = refl;
+      lexeme_is = is ∙ ap (plain_lexeme k) within.line_has_ended ∙ unflagged k old.line_has_ended (is_escaped s.spelled) (has_separator k s.spelled) flags.0 flags.1;
+      errors = within.errors ∙ sym (append-nil old.errors);
+    }
 
-abbrev pub spelled_token : Kind → ℕ → ℕ → Bool → TokenParts
-spelled_token k start end nl = record default_parts { start = start; end = end; kind = k; is_on_new_line = nl }
+-- where no name and no punctuator begins, nothing is spelled
+pub nothing_here : (t : SourceType) (nl : Bool) (here : List ℕ) → NothingHere t nl here → NothingSpelled t nl here
+nothing_here t nl [] n = absurd (n.some refl)
+nothing_here t nl (c ∷ cs) n = nothing_spelled t nl c cs n.no_name n.no_punctuator
 
--- the token of a spelling behind a whole gap
-pub spelled_behind : (t : SourceType) (nl ended : Bool) (old mid new : At) (errors reports : List Diagnostic) (k : Kind) (token : TokenParts) → IsPlaced mid → IsPlaced new
-    → SkipsWholeGap t nl old errors ended mid reports → Spells t ended mid new k → token ≡ spelled_token k mid.place new.place ended → ReadsBehind t nl old errors token new reports
-spelled_behind t nl ended old mid new errors reports k token h g gap s e =
-    let text : new.text ≡ old.text = s.text ∙ gap.text in
-    let whole : ReadsBehind t nl old errors (spelled_token k mid.place new.place ended) new reports = record {
+-- what was read to recover, and reported
+pub lexeme_recovered : (old new : Reader) (r : Recovered) → Recovers old.line_has_ended old.source r new.source → NothingHere old.source_type old.line_has_ended (rest old.source)
+    → new.source_type ≡ old.source_type → new.errors ≡ old.errors ++ r.diagnostic ∷ []
+    → ReadsLexeme old (record { kind = r.kind; is_on_new_line = r.is_on_new_line; escaped = false; has_separator = false }) new
+lexeme_recovered old new r rec nothing source_type errors = record {
+  text = rec.text;
+  source_type = source_type;
+  reading = faulty r.kind (rest new.source) r.is_on_new_line r.diagnostic;
+  here = recovers (nothing_here old.source_type old.line_has_ended (rest old.source) nothing) rec.recovery;
+  behind = refl;
+  lexeme_is = refl;
+  errors = errors;
+}
+
+abbrev pub lexeme_token : ℕ → ℕ → Lexeme → TokenParts
+lexeme_token start end l =
+    record { start = start; end = end; kind = l.kind; is_on_new_line = l.is_on_new_line; escaped = l.escaped; has_separator = l.has_separator }
+
+-- what was read leads on
+pub lexeme_onward : (old new : Reader) (l : Lexeme) → IsPlaced old.source → IsPlaced new.source → ReadsLexeme old l new → old.source.place ≤ new.source.place
+lexeme_onward old new l h g r =
+    let there : IsCharBoundary old.source.text new.source.place = subst (λ (u : List ℕ). IsCharBoundary u new.source.place) r.text g.boundary in
+    (here_span old.source.text old.source_type old.line_has_ended old.source.place new.source.place r.reading h.utf8 h.boundary there
+    (r.behind ∙ ap (λ u. from_place u new.source.place) r.text) r.here).0
+
+-- the token of a lexeme behind a whole gap
+pub token_behind : (old mid new : Reader) (l : Lexeme) (token : TokenParts) → IsPlaced mid.source → IsPlaced new.source → SkipsWholeGap old mid → ReadsLexeme mid l new
+    → token ≡ lexeme_token mid.source.place new.source.place l → ReadsBehind old token new
+token_behind old mid new l token h g gap read is =
+    let text : new.source.text ≡ old.source.text = read.text ∙ gap.skips.text in
+    let start = mid.source.place in
+    let end = new.source.place in
+    let pieces = gap.skips.pieces in
+    let outcome = outcome_behind old.source.place pieces start end read.reading in
+    let t = old.source_type in
+    record {
       text = text;
-      end = refl;
-      faults = reported_diagnostics old.text gap.reported;
+      source_type = read.source_type ∙ gap.skips.source_type;
+      end = ap (λ x. x.end) (sym is);
+      outcome = outcome;
+      token_is = is ∙ ap (lexeme_token start end) read.lexeme_is;
       reads = record {
-        reported = gap.reported;
-        ended = ended;
-        gap = subst (λ (u : List ℕ). WholeGap t nl (rest old) gap.reported ended (from_place u mid.place)) gap.text gap.gap;
-        start = subst (λ (u : List ℕ). IsCharBoundary u mid.place) gap.text h.boundary;
-        end = subst (λ (u : List ℕ). IsCharBoundary u new.place) text g.boundary;
-        faults = [];
-        here = spelled s.spelled
-            (subst (λ (u : List ℕ). LongestSpelling t ended (from_place u mid.place) s.spelled (from_place old.text new.place) k) gap.text
-            (subst (λ (u : List ℕ). LongestSpelling t ended (rest mid) s.spelled (from_place u new.place) k) text s.spelling))
-            refl refl;
-        diagnostics = sym (append-nil (reported_diagnostics old.text gap.reported));
+        pieces = pieces;
+        line_has_ended = mid.line_has_ended;
+        gap = record {
+          pieces_are = subst (λ (u : List ℕ). Pieces (whole_gap_piece t) old.line_has_ended (rest old.source) pieces mid.line_has_ended (from_place u start)) gap.skips.text gap.skips.pieces_are;
+          longest = subst (λ (u : List ℕ). whole_gap_piece t mid.line_has_ended (from_place u start) ≡ None) gap.skips.text
+              (subst (λ s. whole_gap_piece s mid.line_has_ended (rest mid.source) ≡ None) gap.skips.source_type gap.longest);
+        };
+        start = subst (λ (u : List ℕ). IsCharBoundary u start) gap.skips.text h.boundary;
+        end = subst (λ (u : List ℕ). IsCharBoundary u end) text g.boundary;
+        reading = read.reading;
+        here = subst (λ s. ReadsHere s mid.line_has_ended start (from_place old.source.text start) read.reading) gap.skips.source_type
+            (subst (λ (u : List ℕ). ReadsHere mid.source_type mid.line_has_ended start (from_place u start) read.reading) gap.skips.text read.here);
+        rest = read.behind ∙ ap (λ u. from_place u end) text;
+        outcome_is = refl;
       };
-      reports_are = gap.reports_are;
-      escaped = refl;
-      has_separator = refl;
-    } in
-    subst (λ (u : TokenParts). ReadsBehind t nl old errors u new reports) (sym e) whole
+      findings = refl;
+      errors = read.errors ∙ ap (λ ds. ds ++ read.reading.diagnostics) gap.skips.errors ∙ append_assoc old.errors _ read.reading.diagnostics;
+    }
 
--- the token of a recovery behind a whole gap
-pub recovered_behind : (t : SourceType) (nl ended : Bool) (old mid new : At) (errors before reports : List Diagnostic) (r : Recovered) (token : TokenParts) → IsPlaced mid → IsPlaced new
-    → SkipsWholeGap t nl old errors ended mid before → NothingSpelled t ended (rest mid) → Recovers t ended mid r new → reports ≡ before ++ r.diagnostic ∷ []
-    → token ≡ spelled_token r.kind mid.place new.place r.is_on_new_line → ReadsBehind t nl old errors token new reports
-recovered_behind t nl ended old mid new errors before reports r token h g gap none rec grown e =
-    let text : new.text ≡ old.text = rec.text ∙ gap.text in
-    let recovery : recovered old.text t ended (from_place old.text mid.place)
-    ≡ record { kind = r.kind; rest = from_place old.text new.place; is_on_new_line = r.is_on_new_line; diagnostics = r.diagnostic ∷ [] } =
-    ap (λ u. recovered u t ended (from_place u mid.place)) (sym gap.text) ∙ rec.recovery
-    ∙ ap (λ u. record { kind = r.kind; rest = from_place u new.place; is_on_new_line = r.is_on_new_line; diagnostics = r.diagnostic ∷ [] }) text in
-    let whole : ReadsBehind t nl old errors (spelled_token r.kind mid.place new.place r.is_on_new_line) new reports = record {
-      text = text;
-      end = refl;
-      faults = reported_diagnostics old.text gap.reported ++ r.diagnostic ∷ [];
-      reads = record {
-        reported = gap.reported;
-        ended = ended;
-        gap = subst (λ (u : List ℕ). WholeGap t nl (rest old) gap.reported ended (from_place u mid.place)) gap.text gap.gap;
-        start = subst (λ (u : List ℕ). IsCharBoundary u mid.place) gap.text h.boundary;
-        end = subst (λ (u : List ℕ). IsCharBoundary u new.place) text g.boundary;
-        faults = r.diagnostic ∷ [];
-        here = recovers (subst (λ (u : List ℕ). NothingSpelled t ended (from_place u mid.place)) gap.text none) recovery;
-        diagnostics = refl;
-      };
-      reports_are = grown ∙ ap (λ ds. ds ++ r.diagnostic ∷ []) gap.reports_are ∙ append_assoc errors (reported_diagnostics old.text gap.reported) (r.diagnostic ∷ []);
-      escaped = refl;
-      has_separator = refl;
-    } in
-    subst (λ (u : TokenParts). ReadsBehind t nl old errors u new reports) (sym e) whole
-
--- the reports have only grown where memory was wanted for the last
-pub recovery_fails : (t : SourceType) (nl ended : Bool) (old mid new : At) (errors before : List Diagnostic) (r : Recovered) → SkipsWholeGap t nl old errors ended mid before → Recovers t ended mid r new
-    → HasGrown old new errors before
-recovery_fails t nl ended old mid new errors before r gap rec = record { text = rec.text ∙ gap.text; more = reported_diagnostics old.text gap.reported; reports_are = gap.reports_are }
-
-begins_at_start : (text : List ℕ) (place : ℕ) → place ≡ 0 → begins_hashbang first text place ≡ is_prefix (codes "#!") (from_place text 0)
+begins_at_start : (text : List ℕ) (place : ℕ) → place ≡ 0 → begins_hashbang First text place ≡ is_prefix (codes "#!") (from_place text 0)
 begins_at_start text place e = rw e refl
 
-pub no_hashbang_inside : (old : At) → (old.place ≡ 0 → ⊥) → begins_hashbang first old.text old.place ≡ false
+pub no_hashbang_inside : (old : At) → (old.place ≡ 0 → ⊥) → begins_hashbang First old.text old.place ≡ false
 no_hashbang_inside old inside = at old.place inside
   where
-    at : (place : ℕ) → (place ≡ 0 → ⊥) → begins_hashbang first old.text place ≡ false
+    at : (place : ℕ) → (place ≡ 0 → ⊥) → begins_hashbang First old.text place ≡ false
     at zero inside = absurd (inside refl)
     at (suc place) inside = refl
 
-pub no_hashbang_mark : (old : At) → old.place ≡ 0 → is_prefix (codes "#!") (rest old) ≡ false → begins_hashbang first old.text old.place ≡ false
+pub no_hashbang_mark : (old : At) → old.place ≡ 0 → is_prefix (codes "#!") (rest old) ≡ false → begins_hashbang First old.text old.place ≡ false
 no_hashbang_mark old start e = begins_at_start old.text old.place start ∙ ap (λ p. is_prefix (codes "#!") (from_place old.text p)) (sym start) ∙ e
 
-pub hashbang_read : (nl : Bool) (old mid new : At) (token : TokenParts) (end : ℕ) → old.place ≡ 0 → IsPlaced new → TakesMark (codes "#!") old true mid → new.text ≡ mid.text
-    → rest new ≡ from_first is_line_terminator (rest mid) → end ≡ new.place → token ≡ spelled_token HashbangComment 0 end nl → IsHashbangRead nl old token new
-hashbang_read nl old mid new token end start g takes same to f e =
-    let text : new.text ≡ old.text = same ∙ takes.0 in
-    let here : from_place old.text 0 ≡ codes "#!" ++ rest mid = ap (from_place old.text) (sym start) ∙ takes.1 in
-    let begins : begins_hashbang first old.text old.place ≡ true = begins_at_start old.text old.place start ∙ ap (is_prefix (codes "#!")) here ∙ prefix_of (codes "#!") (rest mid) in
-    let up_to : from_place old.text end ≡ from_first is_line_terminator (from_place old.text 0) =
-    ap (from_place old.text) f ∙ ap (λ u. from_place u new.place) (sym text) ∙ to ∙ sym (ap (from_first is_line_terminator) here ∙ from_first-hashbang (rest mid)) in
-    let boundary : IsCharBoundary old.text end = subst (λ (n : ℕ). IsCharBoundary old.text n) (sym f) (subst (λ (u : List ℕ). IsCharBoundary u new.place) text g.boundary) in
-    let whole : IsHashbangRead nl old (spelled_token HashbangComment 0 end nl) new = record {
+pub hashbang_read : (old new : Reader) (mid : At) (token : TokenParts) (end : ℕ) → old.source.place ≡ 0 → IsPlaced new.source → StaysWithin old new → TakesMark (codes "#!") old.source true mid
+    → new.source.text ≡ mid.text → rest new.source ≡ from_first is_line_terminator (rest mid) → end ≡ new.source.place
+    → token ≡ record default_parts { start = 0; end = end; kind = HashbangComment; is_on_new_line = new.line_has_ended } → IsHashbangRead old token new
+hashbang_read old new mid token end start g within takes same to f e =
+    let text : new.source.text ≡ old.source.text = same ∙ takes.0 in
+    let here : from_place old.source.text 0 ≡ codes "#!" ++ rest mid = ap (from_place old.source.text) (sym start) ∙ takes.1 in
+    let up_to : from_place old.source.text end ≡ from_first is_line_terminator (from_place old.source.text 0) =
+    ap (from_place old.source.text) f ∙ ap (λ u. from_place u new.source.place) (sym text) ∙ to ∙ sym (ap (from_first is_line_terminator) here ∙ from_first-hashbang (rest mid)) in
+    let boundary : IsCharBoundary old.source.text end = subst (λ (n : ℕ). IsCharBoundary old.source.text n) (sym f) (subst (λ (u : List ℕ). IsCharBoundary u new.source.place) text g.boundary) in
+    let made : TokenParts = record default_parts { start = 0; end = end; kind = HashbangComment; is_on_new_line = new.line_has_ended } in
+    let whole : IsHashbangRead old made new = record {
       text = text;
+      within = within;
       end = sym f;
-      begins = begins;
-      hashbang = record { kind = refl; start = refl; end = boundary; up_to_line_end = up_to };
-      is_on_new_line = refl;
+      begins = begins_at_start old.source.text old.source.place start ∙ ap (is_prefix (codes "#!")) here ∙ prefix_of (codes "#!") (rest mid);
+      is_hashbang = record { kind = refl; start = refl; end = boundary; up_to_line_end = up_to };
+      is_on_new_line = within.line_has_ended;
       escaped = refl;
       has_separator = refl;
     } in
-    subst (λ (u : TokenParts). IsHashbangRead nl old u new) (sym e) whole
+    subst (λ (u : TokenParts). IsHashbangRead old u new) (sym e) whole
 
 -- the two ways to read a goal
-pub goal_hashbang : (t : SourceType) (nl : Bool) (old new : At) (errors : List Diagnostic) (token : TokenParts) → IsHashbangRead nl old token new → ReadsGoal t true nl old errors token new errors
-goal_hashbang t nl old new errors token h = record {
+pub goal_hashbang : (before : Option TokenParts) (old new : Reader) (token : TokenParts) → line_has_ended_behind before ≡ old.line_has_ended → IsHashbangRead old token new
+    → ReadsGoal First before old token new
+goal_hashbang before old new token nl h = record {
   text = h.text;
+  source_type = h.within.source_type;
   end = h.end;
-  faults = [];
-  reads = hashbang h.begins h.hashbang h.is_on_new_line h.escaped h.has_separator refl;
-  reports_are = sym (append-nil errors);
+  outcome = token_alone token;
+  token_is = refl;
+  reads = hashbang h.begins record { is_hashbang = h.is_hashbang; is_on_new_line = h.is_on_new_line ∙ sym nl; escaped = h.escaped; has_separator = h.has_separator; alone = refl };
+  findings = refl;
+  errors = h.within.errors ∙ sym (append-nil old.errors);
 }
 
-pub goal_behind : (t : SourceType) (is_first nl : Bool) (old new : At) (errors reports : List Diagnostic) (token : TokenParts) → begins_hashbang (goal_of is_first) old.text old.place ≡ false
-    → ReadsBehind t nl old errors token new reports → ReadsGoal t is_first nl old errors token new reports
-goal_behind t is_first nl old new errors reports token none b = record {
+pub goal_behind : (goal : Goal) (before : Option TokenParts) (old new : Reader) (token : TokenParts) → line_has_ended_behind before ≡ old.line_has_ended
+    → begins_hashbang goal old.source.text old.source.place ≡ false → ReadsBehind old token new → ReadsGoal goal before old token new
+goal_behind goal before old new token nl none b = record {
   text = b.text;
+  source_type = b.source_type;
   end = b.end;
-  faults = b.faults;
-  reads = behind_gap none b.reads b.escaped b.has_separator;
-  reports_are = b.reports_are;
+  outcome = b.outcome;
+  token_is = b.token_is;
+  reads = behind_gap none (subst (λ e. ReadsBehindGap old.source.text old.source_type e old.source.place b.outcome) (sym nl) b.reads);
+  findings = b.findings;
+  errors = b.errors;
 }
+
+-- a reading from a reader that has not moved is one from the reader before
+pub lexeme_from : (old mid new : Reader) (l : Lexeme) → IsUnmoved old mid → ReadsLexeme mid l new → ReadsLexeme old l new
+lexeme_from old mid new l same r = record {
+  text = r.text ∙ ap (λ s. s.text) same.source;
+  source_type = r.source_type ∙ same.stays.source_type;
+  reading = r.reading;
+  here = moved same.stays.source_type same.stays.line_has_ended same.source r.here;
+  behind = r.behind;
+  lexeme_is = r.lexeme_is;
+  errors = r.errors ∙ ap (λ es. es ++ r.reading.diagnostics) same.stays.errors;
+}
+  where
+    moved : mid.source_type ≡ old.source_type → mid.line_has_ended ≡ old.line_has_ended → mid.source ≡ old.source → ReadsHere mid.source_type mid.line_has_ended mid.source.place (rest mid.source) r.reading
+        → ReadsHere old.source_type old.line_has_ended old.source.place (rest old.source) r.reading
+    moved e f g h =
+        subst (λ t. ReadsHere t old.line_has_ended old.source.place (rest old.source) r.reading) e
+        (subst (λ b. ReadsHere mid.source_type b old.source.place (rest old.source) r.reading) f
+        (subst (λ (a : At). ReadsHere mid.source_type mid.line_has_ended a.place (rest a) r.reading) g h))
+
+pub moves_on_from : (old mid new : Reader) → IsUnmoved old mid → MovesOn mid new → MovesOn old new
+moves_on_from old mid new same m = record {
+  text = m.text ∙ ap (λ s. s.text) same.source;
+  source_type = m.source_type ∙ same.stays.source_type;
+  more = m.more;
+  errors = m.errors ∙ ap (λ es. es ++ m.more) same.stays.errors;
+}
+
+-- and so for what a call answers
+pub answers_from : (old mid new : Reader) (r : Result Lexeme AllocError) → IsUnmoved old mid → IfOk r (λ l. ReadsLexeme mid l new) → IfOk r (λ l. ReadsLexeme old l new)
+answers_from old mid new r same h = IfOk-weaker r (λ l. ReadsLexeme mid l new) (λ l. ReadsLexeme old l new) (λ l x. lexeme_from old mid new l same x) h
+
+pub fails_from : (old mid new : Reader) (r : Result Lexeme AllocError) → IsUnmoved old mid → OnErr r (MovesOn mid new) → OnErr r (MovesOn old new)
+fails_from old mid new r same h = on_err_weaker r (moves_on_from old mid new same) h
+
+-- a token behind a whole gap, from a reader that has not moved
+behind_from : (old mid new : Reader) (token : TokenParts) → IsUnmoved old mid → ReadsBehind mid token new → ReadsBehind old token new
+behind_from old mid new token same b = record {
+  text = b.text ∙ ap (λ s. s.text) same.source;
+  source_type = b.source_type ∙ same.stays.source_type;
+  end = b.end;
+  outcome = b.outcome;
+  token_is = b.token_is;
+  reads = moved same.stays.source_type same.stays.line_has_ended same.source b.reads;
+  findings = b.findings;
+  errors = b.errors ∙ ap (λ es. es ++ b.outcome.findings.diagnostics) same.stays.errors;
+}
+  where
+    moved : mid.source_type ≡ old.source_type → mid.line_has_ended ≡ old.line_has_ended → mid.source ≡ old.source
+        → ReadsBehindGap mid.source.text mid.source_type mid.line_has_ended mid.source.place b.outcome → ReadsBehindGap old.source.text old.source_type old.line_has_ended old.source.place b.outcome
+    moved e f g h =
+        subst (λ t. ReadsBehindGap old.source.text t old.line_has_ended old.source.place b.outcome) e
+        (subst (λ x. ReadsBehindGap old.source.text mid.source_type x old.source.place b.outcome) f
+        (subst (λ (a : At). ReadsBehindGap a.text mid.source_type mid.line_has_ended a.place b.outcome) g h))
+
+-- what a goal answers where no hashbang stands
+pub goal_answers : (goal : Goal) (old mid new : Reader) (r : Result TokenParts AllocError) → IsUnmoved old mid → begins_hashbang goal old.source.text old.source.place ≡ false
+    → IfOk r (λ token. ReadsBehind mid token new)
+    → IfOk r (λ token. (before : Option TokenParts) → line_has_ended_behind before ≡ old.line_has_ended → ReadsGoal goal before old token new)
+goal_answers goal old mid new r same none h =
+    IfOk-weaker r (λ token. ReadsBehind mid token new) (λ token. (before : Option TokenParts) → line_has_ended_behind before ≡ old.line_has_ended → ReadsGoal goal before old token new)
+    (λ token b before nl. goal_behind goal before old new token nl none (behind_from old mid new token same b)) h
+
+pub goal_fails : (old mid new : Reader) (r : Result TokenParts AllocError) → IsUnmoved old mid → OnErr r (MovesOn mid new) → OnErr r (MovesOn old new)
+goal_fails old mid new r same h = on_err_weaker r (moves_on_from old mid new same) h

@@ -7,11 +7,10 @@ use Rattle.js_text.proofs.TextLemmas.{before_from}
 use Rattle.js_kind.specs.Keywords.{name_kind}
 use Rattle.js_kind.specs.declared.kind.Kind.{Kind}
 use Rattle.js_kind.specs.declared.kind.Kind.TheVariants.{Eof}
-use Rattle.js_source.specs.Source.{At, rest, BeginsWith, StepsPast}
-use Rattle.js_source.proofs.Places.{begins_with}
+use Rattle.js_source.specs.Source.{At, rest, StepsPast}
 use Rattle.js_grammar.specs.Spelling.{LongestSpelling, is_no_part}
 use Rattle.js_grammar.specs.Spelling.Spelling.{end_of_source}
-use Rattle.js_grammar.proofs.PunctuatorLemmas.{longest_of_name, longest_of_punctuator, nothing_spelled}
+use Rattle.js_grammar.proofs.PunctuatorLemmas.{longest_of_name, longest_of_punctuator}
 use Rattle.js_lexer.specs.Spellings.{Spells, ReadsPunctuator}
 
 begun : (p : ℕ → Bool) (xs : List ℕ) → begins p xs ≡ true → (c : ℕ) × (cs : List ℕ) × (xs ≡ c ∷ cs) × (p c ≡ true)
@@ -53,12 +52,6 @@ end_spelled t nl old e = record {
   spelling = rw e record { here = refl; spelling = end_of_source refl refl refl; longest = λ us vs j whole s. empty_longest us vs whole };
 }
 
--- where no name begins, a punctuator or nothing is spelled
-pub by_punctuator : (t : SourceType) (nl : Bool) (old new : At) (r : Option Kind) (c : ℕ) → BeginsWith c (rest old) → is_identifier_start c ≡ false → ReadsPunctuator t nl old new r
-    → ReadsSpelling t nl old new r
-by_punctuator t nl old new None c b no_name read =
-    let found = begins_with c (rest old) b in
-    (read.0, rw found.1 (nothing_spelled t nl c found.0 no_name (rw found.1 at read.1)))
-by_punctuator t nl old new (Some k) c b no_name read =
-    let found = begins_with c (rest old) b in
-    record { text = read.0; spelled = read.1.it.text; spelling = longest_of_punctuator t nl _ _ k (rw found.1 no_name) read.1 }
+-- where no name begins, the longest punctuator is spelled
+pub punctuator_spelled : (t : SourceType) (nl : Bool) (old new : At) (k : Kind) → begins is_identifier_start (rest old) ≡ false → ReadsPunctuator t nl old new (Some k) → Spells t nl old new k
+punctuator_spelled t nl old new k no_name read = record { text = read.0; spelled = read.1.it.text; spelling = longest_of_punctuator t nl (rest old) (rest new) k no_name read.1 }

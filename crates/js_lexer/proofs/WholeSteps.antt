@@ -50,43 +50,44 @@ gap_pieces old new s =
     let quiet = gap_reports_nothing old.source_type old.line_has_ended (rest old.source) s.gap.pieces new.line_has_ended (rest new.source) old.source.place s.gap.all.pieces_are in
     record {
       text = s.text;
-      source_type = ap (λ r. r.source_type) s.within;
+      source_type = s.within.source_type;
       pieces = s.gap.pieces;
       pieces_are = whole_pieces_of old.source_type old.line_has_ended (rest old.source) s.gap.pieces new.line_has_ended (rest new.source) s.gap.all.pieces_are;
-      errors = ap (λ r. r.errors) s.within ∙ sym (append-nil old.errors) ∙ ap (λ ds. old.errors ++ ds) (sym quiet);
+      errors = s.within.errors ∙ sym (append-nil old.errors) ∙ ap (λ ds. old.errors ++ ds) (sym quiet);
     }
 
 pub ends_in_gap : (old new : Reader) → SkipsGap old new → piece new.source_type new.line_has_ended (rest new.source) ≡ None
-ends_in_gap old new s = ap (λ t. piece t new.line_has_ended (rest new.source)) (ap (λ r. r.source_type) s.within) ∙ s.gap.all.longest
+ends_in_gap old new s = ap (λ t. piece t new.line_has_ended (rest new.source)) s.within.source_type ∙ s.gap.all.longest
 
--- the reader behind a reported comment
-abbrev pub behind_reported : Reader → At → Diagnostic → Reader
-behind_reported old line diagnostic = record old { source = line; errors = old.errors ++ diagnostic ∷ [] }
-
-pub reported_piece : (old : Reader) (adv line : At) (start end : ℕ) → IsPlaced old.source → IsPlaced adv → TakesReported old.source_type old.line_has_ended old.source true adv
-    → line.text ≡ adv.text → rest line ≡ from_first is_line_terminator (rest adv) → start ≡ old.source.place → end ≡ adv.place
-    → SkipsPieces old (behind_reported old line (HtmlCommentInModule (record { start = start; end = end })))
-reported_piece old adv line start end h g takes text from s e =
-    let here : from_first is_line_terminator (rest old.source) ≡ rest line = ap (from_first is_line_terminator) takes.1 ∙ from_first-html_open (rest adv) ∙ sym from in
+-- a reported comment, and the longest gap behind it
+pub reported_skips : (old mid new : Reader) (adv : At) (start end : ℕ) → IsPlaced old.source → IsPlaced adv → TakesReported old.source_type old.line_has_ended old.source true adv
+    → mid.source.text ≡ adv.text → rest mid.source ≡ from_first is_line_terminator (rest adv) → start ≡ old.source.place → end ≡ adv.place
+    → mid.source_type ≡ old.source_type → mid.line_has_ended ≡ old.line_has_ended
+    → mid.errors ≡ old.errors ++ HtmlCommentInModule (record { start = start; end = end }) ∷ [] → SkipsGap mid new → SkipsReported old true new
+reported_skips old mid new adv start end h g takes text from s e source_type line errors gap =
+    let t = old.source_type in
+    let comment = line_comment reported_comment old.line_has_ended (rest old.source) in
+    let here : rest mid.source ≡ comment.rest = from ∙ sym (ap (from_first is_line_terminator) takes.1 ∙ from_first-html_open (rest adv)) in
     let to_end : end ≡ old.source.place + 4 = e ∙ behind_mark old.source adv h g takes.0 takes.1 in
-    record {
-      text = text ∙ takes.0;
-      source_type = refl;
-      pieces = line_comment reported_comment old.line_has_ended (rest old.source) ∷ [];
-      pieces_are = (reported old.source_type old.line_has_ended (rest old.source) takes.2, (refl, sym here));
-      errors = rw (s, to_end) refl;
-    }
-
-pub reported_skips : (old mid new : Reader) (adv line : At) (start end : ℕ) → IsPlaced old.source → IsPlaced adv → IsPlaced line → TakesReported old.source_type old.line_has_ended old.source true adv
-    → line.text ≡ adv.text → rest line ≡ from_first is_line_terminator (rest adv) → start ≡ old.source.place → end ≡ adv.place
-    → mid ≡ behind_reported old line (HtmlCommentInModule (record { start = start; end = end })) → SkipsGap mid new → SkipsReported old true new
-reported_skips old mid new adv line start end h g l takes text from s e is gap =
-    let first : SkipsPieces old mid = subst (λ (r : Reader). SkipsPieces old r) (sym is) (reported_piece old adv line start end h g takes text from s e) in
-    let placed : IsPlaced mid.source = subst (λ (r : Reader). IsPlaced r.source) (sym is) l in
-    let at : rest mid.source ≡ rest line = ap (λ r. rest r.source) is in (
-      skips_further old mid new h placed first (gap_pieces mid new gap),
+    let behind = place_behind old.source.place comment.text in
+    let gap_are : Pieces (piece mid.source_type) mid.line_has_ended (rest mid.source) gap.gap.pieces new.line_has_ended (rest new.source) = gap.gap.all.pieces_are in
+    let whole = whole_pieces_of mid.source_type mid.line_has_ended (rest mid.source) gap.gap.pieces new.line_has_ended (rest new.source) gap_are in
+    let quiet = gap_reports_nothing mid.source_type mid.line_has_ended (rest mid.source) gap.gap.pieces new.line_has_ended (rest new.source) behind gap_are in
+    let moved : Pieces (whole_gap_piece t) old.line_has_ended comment.rest gap.gap.pieces new.line_has_ended (rest new.source) =
+    subst (λ cs. Pieces (whole_gap_piece t) old.line_has_ended cs gap.gap.pieces new.line_has_ended (rest new.source)) here
+    (subst (λ b. Pieces (whole_gap_piece t) b (rest mid.source) gap.gap.pieces new.line_has_ended (rest new.source)) line
+    (subst (λ u. Pieces (whole_gap_piece u) mid.line_has_ended (rest mid.source) gap.gap.pieces new.line_has_ended (rest new.source)) source_type whole)) in (
+      record {
+        text = gap.text ∙ text ∙ takes.0;
+        source_type = gap.within.source_type ∙ source_type;
+        pieces = comment ∷ gap.gap.pieces;
+        pieces_are = (reported t old.line_has_ended (rest old.source) takes.2, moved);
+        errors =
+            gap.within.errors ∙ errors
+            ∙ ap (λ ds. old.errors ++ ds) (rw (s, to_end) (ap (λ ds. HtmlCommentInModule (record { start = old.source.place; end = old.source.place + 4 }) ∷ ds) (sym quiet)));
+      },
       ends_in_gap mid new gap,
-      omega (arith, longest_gap_leaves mid.source_type mid.line_has_ended (rest mid.source) new.line_has_ended (rest new.source) gap.gap, ap length at, ap length from, length-from_first is_line_terminator (rest adv), ap length takes.1),
+      omega (arith, longest_gap_leaves mid.source_type mid.line_has_ended (rest mid.source) new.line_has_ended (rest new.source) gap.gap, ap length from, length-from_first is_line_terminator (rest adv), ap length takes.1),
     )
 
 -- a reader that has skipped pieces has moved on
@@ -109,21 +110,39 @@ whole_at_once old new gap none = record {
   longest = unreported new.source_type new.line_has_ended (rest new.source) none ∙ ends_in_gap old new gap;
 }
 
+-- no pieces yet
+pub skips_none : (old : Reader) → SkipsPieces old old
+skips_none old = record { text = refl; source_type = refl; pieces = []; pieces_are = (refl, refl); errors = sym (append-nil old.errors) }
+
 -- pieces as far as a longest gap has ended
 pub record SkipsSoFar (old now : Reader) : Type 0 where
   pub skips : SkipsPieces old now
   pub no_piece : piece now.source_type now.line_has_ended (rest now.source) ≡ None
   pub placed : IsPlaced now.source
 
-pub whole_later : (old mid new : Reader) → IsPlaced old.source → SkipsSoFar old mid → SkipsReported mid false new → SkipsWholeGap old new
-whole_later old mid new h s r = record {
-  skips = subst (λ (x : Reader). SkipsPieces old x) (sym r.0) s.skips;
-  longest = subst (λ (x : Reader). whole_gap_piece x.source_type x.line_has_ended (rest x.source) ≡ None) (sym r.0)
-      (unreported mid.source_type mid.line_has_ended (rest mid.source) r.1 ∙ s.no_piece);
-}
-
 pub so_far : (old mid new : Reader) → IsPlaced old.source → SkipsSoFar old mid → SkipsReported mid true new → IsPlaced new.source → SkipsSoFar old new
 so_far old mid new h s r g = record { skips = skips_further old mid new h s.placed s.skips r.0; no_piece = r.1; placed = g }
+
+-- and there no reported comment stands
+pub whole_here : (old mid new : Reader) → SkipsSoFar old mid → SkipsReported mid false new → SkipsWholeGap old new
+whole_here old mid new s r =
+    let same = r.0 in
+    let pieces_are = subst (λ b. Pieces (whole_gap_piece old.source_type) old.line_has_ended (rest old.source) s.skips.pieces b (rest new.source)) (sym same.stays.line_has_ended)
+        (subst (λ (a : At). Pieces (whole_gap_piece old.source_type) old.line_has_ended (rest old.source) s.skips.pieces mid.line_has_ended (rest a)) (sym same.source) s.skips.pieces_are) in
+    record {
+      skips = record {
+        text = ap (λ a. a.text) same.source ∙ s.skips.text;
+        source_type = same.stays.source_type ∙ s.skips.source_type;
+        pieces = s.skips.pieces;
+        pieces_are = pieces_are;
+        errors = same.stays.errors ∙ s.skips.errors;
+      };
+      longest =
+          ap (λ t. whole_gap_piece t new.line_has_ended (rest new.source)) same.stays.source_type
+          ∙ ap (λ b. whole_gap_piece mid.source_type b (rest new.source)) same.stays.line_has_ended
+          ∙ ap (λ a. whole_gap_piece mid.source_type mid.line_has_ended (rest a)) same.source
+          ∙ unreported mid.source_type mid.line_has_ended (rest mid.source) r.1 ∙ s.no_piece;
+    }
 
 pub whole_behind : (old mid new : Reader) → IsPlaced old.source → IsPlaced mid.source → SkipsGap old mid → SkipsWholeGap mid new → SkipsWholeGap old new
 whole_behind old mid new h g gap whole = record { skips = skips_further old mid new h g (gap_pieces old mid gap) whole.skips; longest = whole.longest }

@@ -53,14 +53,14 @@ pub record IsSound (text : List ℕ) (last : Option TokenParts) : Type 0 where
   pub last_lies : IfSome last (IsOnPlaces text)
 
 -- The parts of a lexer that a rewind, a peek and a call that cannot allocate restore.
-pub record IsRestored (then now : LexerState) : Type 0 where
-  pub text : now.text ≡ then.text
-  pub source_type : now.source_type ≡ then.source_type
-  pub collects : now.collects ≡ then.collects
-  pub place : now.place ≡ then.place
-  pub last : now.last ≡ then.last
-  pub tokens : now.tokens ≡ then.tokens
-  pub findings : now.findings ≡ then.findings
+pub record IsRestored (old now : LexerState) : Type 0 where
+  pub text : now.text ≡ old.text
+  pub source_type : now.source_type ≡ old.source_type
+  pub collects : now.collects ≡ old.collects
+  pub place : now.place ≡ old.place
+  pub last : now.last ≡ old.last
+  pub tokens : now.tokens ≡ old.tokens
+  pub findings : now.findings ≡ old.findings
 
 -- hashbang comments alone
 abbrev pub is_hashbang : Kind → Bool

@@ -1,23 +1,36 @@
 -- What the steps of a reading do to the reader that they work on.
-use Rattle.std.specs.Prelude.{◌≡◌, ℕ, ◌<◌, ◌≤◌, Bool, true, false, List, [], ◌∷◌, ◌++◌, length, Option, Some, None}
+use Rattle.std.specs.Prelude.{◌≡◌, ◌≢◌, ℕ, ◌<◌, ◌≤◌, Bool, true, false, List, [], ◌∷◌, ◌++◌, length, Option, Some, None}
+use Rattle.js_text.specs.Characters.{begins, is_identifier_start}
 use Rattle.js_text.specs.declared.diagnostic.Diagnostic.{Diagnostic}
+use Rattle.js_text.specs.declared.source_type.SourceType.{SourceType}
 use Rattle.js_grammar.specs.Gap.{Piece, piece, is_reported, whole_gap_piece, Pieces, LongestGap, WholeGap}
-use Rattle.js_grammar.specs.Goals.{GoalReads, ReadsHere}
+use Rattle.js_grammar.specs.Goals.{GoalReads, ReadsBehindGap, ReadsHere}
+use Rattle.js_grammar.specs.Hashbang.{begins_hashbang, IsHashbang}
 use Rattle.js_grammar.specs.Outcome.{Outcome, reports, gap_diagnostics}
+use Rattle.js_grammar.specs.Punctuators.{NoPunctuator}
 use Rattle.js_grammar.specs.Recovery.{Reading}
 use Rattle.js_grammar.specs.declared.goal.Goal.{Goal}
+use Rattle.js_grammar.specs.declared.goal.Goal.TheVariants.{First}
 use Rattle.js_kind.specs.TokenParts.{TokenParts}
 use Rattle.js_lexer.specs.declared.lexeme.Lexeme.{Lexeme}
 use Rattle.js_lexer.specs.declared.reader.Reader.{Reader}
 use Rattle.js_source.specs.Source.{rest}
 
 -- Nothing but the place of the source may have changed.
-abbrev pub StaysWithin : Reader → Reader → Type 0
-StaysWithin old new = new ≡ record old { source = new.source }
+pub record StaysWithin (old new : Reader) : Type 0 where
+  pub source_type : new.source_type ≡ old.source_type
+  pub line_has_ended : new.line_has_ended ≡ old.line_has_ended
+  pub errors : new.errors ≡ old.errors
 
 -- Nothing may have changed but the place of the source, and whether a line has ended.
-abbrev pub SkipsWithin : Reader → Reader → Type 0
-SkipsWithin old new = new ≡ record old { source = new.source; line_has_ended = new.line_has_ended }
+pub record SkipsWithin (old new : Reader) : Type 0 where
+  pub source_type : new.source_type ≡ old.source_type
+  pub errors : new.errors ≡ old.errors
+
+-- Nothing has changed.
+pub record IsUnmoved (old new : Reader) : Type 0 where
+  pub source : new.source ≡ old.source
+  pub stays : StaysWithin old new
 
 -- one piece of a gap, behind which the reader stands
 pub record IsBehindPiece (old new : Reader) : Type 0 where
@@ -31,7 +44,7 @@ pub record IsBehindPiece (old new : Reader) : Type 0 where
 -- A piece of a gap was skipped; or none begins here, and nothing has changed.
 abbrev pub SkipsPiece : Reader → Bool → Reader → Type 0
 SkipsPiece old true new = IsBehindPiece old new
-SkipsPiece old false new = (new ≡ old) × (piece old.source_type old.line_has_ended (rest old.source) ≡ None)
+SkipsPiece old false new = IsUnmoved old new × (piece old.source_type old.line_has_ended (rest old.source) ≡ None)
 
 -- the longest gap was skipped
 pub record SkipsGap (old new : Reader) : Type 0 where
@@ -53,7 +66,8 @@ abbrev pub SkipsReported : Reader → Bool → Reader → Type 0
 SkipsReported old true new =
     SkipsPieces old new × (piece new.source_type new.line_has_ended (rest new.source) ≡ None)
     × (length (rest new.source) < length (rest old.source))
-SkipsReported old false new = (new ≡ old) × (is_reported old.source_type old.line_has_ended (rest old.source) ≡ false)
+SkipsReported old false new =
+    IsUnmoved old new × (is_reported old.source_type old.line_has_ended (rest old.source) ≡ false)
 
 -- The whole gap was skipped: no piece of it follows.
 pub record SkipsWholeGap (old new : Reader) : Type 0 where
@@ -80,7 +94,6 @@ lexeme_of reading = record {
 pub record ReadsLexeme (old : Reader) (lexeme : Lexeme) (new : Reader) : Type 0 where
   pub text : new.source.text ≡ old.source.text
   pub source_type : new.source_type ≡ old.source_type
-  pub onward : old.source.place ≤ new.source.place
   pub reading : Reading
   pub here : ReadsHere old.source_type old.line_has_ended old.source.place (rest old.source) reading
   pub behind : reading.rest ≡ rest new.source
@@ -99,3 +112,37 @@ pub record ReadsGoal (goal : Goal) (before : Option TokenParts) (old : Reader) (
   -- what was found is reported, and nothing else was found
   pub findings : outcome.findings ≡ reports outcome.findings.diagnostics
   pub errors : new.errors ≡ old.errors ++ outcome.findings.diagnostics
+
+-- a token behind a whole gap, and what was reported up to its end
+pub record ReadsBehind (old : Reader) (token : TokenParts) (new : Reader) : Type 0 where
+  pub text : new.source.text ≡ old.source.text
+  pub source_type : new.source_type ≡ old.source_type
+  pub end : new.source.place ≡ token.end
+  pub outcome : Outcome
+  pub token_is : token ≡ outcome.token
+  pub reads : ReadsBehindGap old.source.text old.source_type old.line_has_ended old.source.place outcome
+  pub findings : outcome.findings ≡ reports outcome.findings.diagnostics
+  pub errors : new.errors ≡ old.errors ++ outcome.findings.diagnostics
+
+-- the hashbang comment from the start of the text up to the place of the reader
+pub record IsHashbangRead (old : Reader) (token : TokenParts) (new : Reader) : Type 0 where
+  pub text : new.source.text ≡ old.source.text
+  pub within : StaysWithin old new
+  pub end : new.source.place ≡ token.end
+  pub begins : begins_hashbang First old.source.text old.source.place ≡ true
+  pub is_hashbang : IsHashbang old.source.text token
+  pub is_on_new_line : token.is_on_new_line ≡ old.line_has_ended
+  pub escaped : token.escaped ≡ false
+  pub has_separator : token.has_separator ≡ false
+
+-- A hashbang comment was read; or none stands here, and nothing has changed.
+abbrev pub ReadsHashbang : Reader → Option TokenParts → Reader → Type 0
+ReadsHashbang old (Some token) new = IsHashbangRead old token new
+ReadsHashbang old None new =
+    (begins_hashbang First old.source.text old.source.place ≡ false) × IsUnmoved old new
+
+-- No name and no punctuator begins the text, which is not at its end.
+pub record NothingHere (t : SourceType) (line_has_ended : Bool) (here : List ℕ) : Type 0 where
+  pub some : here ≢ []
+  pub no_name : begins is_identifier_start here ≡ false
+  pub no_punctuator : NoPunctuator t line_has_ended here

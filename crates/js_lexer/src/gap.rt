@@ -1,6 +1,6 @@
 //! Gaps between tokens: white space, line terminators and comments (ECMA-262 12.2 to 12.4, B.1.1).
 
-ghost use Rattle.std.specs.Prelude.{◌≡◌, ◌∷◌, ◌<◌, ◌≤◌, ℕ, List, Bool, length, true, false, IfOk, OnOk, OnErr, MatchBool};
+ghost use Rattle.std.specs.Prelude.{◌≡◌, ◌∷◌, ◌<◌, ◌≤◌, ℕ, List, Bool, length, true, false, Some, None, IfOk, OnOk, OnErr, MatchBool};
 ghost use Rattle.js_text.specs.Ascii.{slash, less_than_sign, hyphen_minus};
 ghost use Rattle.js_text.specs.Characters.{is_white_space, is_line_terminator};
 ghost use Rattle.js_text.specs.declared.source_type.SourceType.{SourceType};
@@ -185,6 +185,7 @@ fn skip_blanks(source: &mut Source<'_>, table: &[bool; 256]) -> Option<u8>
     ensures gap { (t : SourceType) (before after : Bool) (left : List ℕ)
         → LongestGap t before (rest source.new) after left → LongestGap t before (rest source.old) after left }
     ensures fewer { length (rest source.new) ≤ length (rest source.old) }
+    ensures placed { IsPlaced source.new }
 {
     source.pass_ascii(table)
 }
@@ -257,7 +258,8 @@ impl Reader<'_> {
     /// Skips the longest gap.
     #[inline(always)]
     fn skip_gap(&mut self)
-        ensures { SkipsGap self.old self.new }
+        ensures skips { SkipsGap self.old self.new }
+        ensures placed { IsPlaced self.new.source }
     {
         let mut next = skip_blanks(&mut self.source, &self.tables.blanks);
         while self.skip_piece(next) {
@@ -286,10 +288,11 @@ impl Reader<'_> {
     /// Goes on with a whole gap where a longest gap has ended.
     #[inline(never)]
     fn skip_all_reported(&mut self) -> Result<(), AllocError>
+        requires placed { IsPlaced self.old.source }
+        requires gap { piece self.old.source_type self.old.line_has_ended (rest self.old.source) ≡ None }
         ensures ok { OnOk result (SkipsWholeGap self.old self.new) }
         ensures err { OnErr result (MovesOn self.old self.new) }
     {
-        self.skip_gap();
         while self.skip_reported()? {}
         Ok(())
     }
@@ -297,6 +300,7 @@ impl Reader<'_> {
     /// Skips a whole gap, and reports the comments in it that a module may not have. Most gaps have none.
     #[inline(always)]
     pub fn skip_whole_gap(&mut self) -> Result<(), AllocError>
+        requires { IsPlaced self.old.source }
         ensures ok { OnOk result (SkipsWholeGap self.old self.new) }
         ensures err { OnErr result (MovesOn self.old self.new) }
     {

@@ -1,20 +1,15 @@
 //! The lexer: readings of the plain goal, peeks and checkpoints (ECMA-262 12).
 #![tactic(auto)]
 
-mod checkpoint;
 mod comment;
 mod gap;
-mod lexer;
+mod lexeme;
 mod mark;
 mod name;
 mod punctuator;
+mod reader;
 mod reading;
 mod recover;
 mod recovery;
+mod skipped;
 mod tables;
-
-pub use checkpoint::LexerCheckpoint;
-pub use lexer::{Lexer, NewFault};
-
-#[cfg(test)]
-mod tests;

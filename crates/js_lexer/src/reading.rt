@@ -1,23 +1,25 @@
-//! Readings of the plain goal.
+//! Readings of the first and the plain goal.
 
-ghost use Rattle.std.specs.Prelude.{◌≡◌, ◌<◌, Bool, false, IfOk, IfSome, OnOk, OnErr};
-ghost use Rattle.js_text.specs.declared.source_type.SourceType.{SourceType};
-ghost use Rattle.js_grammar.specs.Gap.{is_reported};
+ghost use Rattle.std.specs.Prelude.{◌≡◌, ◌≢◌, ◌<◌, Bool, true, false, [], Option, None, IsTrue, IfOk, IfSome, OnOk, OnErr};
+ghost use Rattle.js_text.specs.Characters.{begins, is_identifier_start};
+ghost use Rattle.js_grammar.specs.Built.{IsBuilt};
+ghost use Rattle.js_grammar.specs.Gap.{whole_gap_piece};
+ghost use Rattle.js_grammar.specs.Goals.{line_has_ended_behind};
+ghost use Rattle.js_kind.specs.TokenParts.{TokenParts};
 ghost use Rattle.js_source.specs.Source.{rest, IsPlaced};
-ghost use Rattle.js_text.specs.Characters.{is_identifier_start};
+ghost use Rattle.js_lexer.specs.Reader.{ReadsLexeme, ReadsBehind, ReadsGoal, ReadsHashbang, NothingHere, MovesOn};
 ghost use Rattle.js_lexer.specs.Tables.{TellsStarts};
-ghost use Rattle.js_lexer.specs.Lexed.{ReadsSpelling, ReadsBehind, ReadsHashbang, ReadsGoal, HasGrown};
 
 use crate::comment::skip_line;
-use crate::gap::skip_whole_gap;
+use crate::lexeme::Lexeme;
 use crate::mark::advance_if_mark;
 use crate::name::read_name;
 use crate::punctuator::read_punctuator;
+use crate::reader::Reader;
 use crate::recover::recover;
-use crate::tables::ByteTables;
+use js_grammar::Goal;
 use js_kind::{Kind, Token};
-use js_source::Source;
-use js_text::{DiagnosticList, SourceType, Span, is_identifier_start};
+use js_text::{Span, is_identifier_start};
 use std::alloc::AllocError;
 
 /// Whether a name begins with the ASCII character.
@@ -30,94 +32,152 @@ fn begins_name(table: &[bool; 256], b: u8) -> bool
     table[b as usize]
 }
 
-/// Reads the longest spelling, where no reported comment stands, whatever it begins with.
-#[inline(never)]
-fn read_any_spelling(source: &mut Source<'_>, tables: &ByteTables) -> Option<Kind>
-    ensures { (t : SourceType) (nl : Bool) → is_reported t nl (rest source.old) ≡ false → ReadsSpelling t nl source.old source.new result }
-{
-    match source.peek_char() {
-        None => Some(Kind::Eof),
-        Some(c) if is_identifier_start(c) => Some(read_name(source, &tables.parts)),
-        Some(_) => read_punctuator(source),
-    }
-}
-
-/// Reads the longest spelling, where no reported comment stands.
-#[inline(always)]
-fn read_spelling(source: &mut Source<'_>, tables: &ByteTables) -> Option<Kind>
-    ensures { (t : SourceType) (nl : Bool) → is_reported t nl (rest source.old) ≡ false → ReadsSpelling t nl source.old source.new result }
-{
-    let b = match source.peek_byte() {
-        Some(b) => b,
-        None => return Some(Kind::Eof),
-    };
-    if b >= 128 {
-        return read_any_spelling(source, tables);
-    }
-    if begins_name(&tables.starts, b) {
-        return Some(read_name(source, &tables.parts));
-    }
-    read_punctuator(source)
-}
-
-/// Reads a token behind a whole gap.
-fn read_behind_gap(
-    source: &mut Source<'_>,
-    tables: &ByteTables,
-    source_type: SourceType,
-    nl: bool,
-    errors: &mut DiagnosticList,
-) -> Result<Token, AllocError>
-    ensures ok { IfOk result (λ token. ReadsBehind source_type nl source.old errors.old token source.new errors.new) }
-    ensures placed { OnOk result (IsPlaced source.new) }
-    ensures err { OnErr result (HasGrown source.old source.new errors.old errors.new) }
-{
-    let ended = skip_whole_gap(source, tables, source_type, nl, errors)?;
-    let start = source.offset();
-    match read_spelling(source, tables) {
-        Some(kind) => Ok(Token::new(kind, Span::new(start, source.offset()), ended)),
-        None => {
-            let recovered = recover(source, tables, ended);
-            errors.push(recovered.diagnostic)?;
-            let span = Span::new(start, source.offset());
-            Ok(Token::new(recovered.kind, span, recovered.is_on_new_line))
+impl Reader<'_> {
+    /// What was read without a fault and without a flag.
+    #[inline(always)]
+    fn lexeme(&self, kind: Kind) -> Lexeme
+        ensures { result ≡ record {
+            kind = kind; is_on_new_line = self.now.line_has_ended; escaped = false; has_separator = false } }
+    {
+        Lexeme {
+            kind,
+            is_on_new_line: self.line_has_ended,
+            escaped: false,
+            has_separator: false,
         }
     }
-}
 
-/// Reads a hashbang comment, where one stands at the start of the text (ECMA-262 12.5).
-fn read_hashbang(source: &mut Source<'_>, tables: &ByteTables, nl: bool) -> Option<Token>
-    ensures reads { ReadsHashbang nl source.old result source.new }
-    ensures placed { IfSome result (λ _. IsPlaced source.new) }
-{
-    if source.offset() != 0 {
-        return None;
+    /// Reads on where nothing is spelled, and reports it.
+    #[inline(never)]
+    fn recover(&mut self) -> Result<Lexeme, AllocError>
+        requires gap { whole_gap_piece self.old.source_type self.old.line_has_ended (rest self.old.source) ≡ None }
+        requires built { IsBuilt self.old.source.text }
+        requires nothing { NothingHere self.old.source_type self.old.line_has_ended (rest self.old.source) }
+        requires placed { IsPlaced self.old.source }
+        ensures ok { IfOk result (λ lexeme. ReadsLexeme self.old lexeme self.new) }
+        ensures err { OnErr result (MovesOn self.old self.new) }
+    {
+        let recovered = recover(&mut self.source, &self.tables, self.line_has_ended);
+        self.errors.push(recovered.diagnostic)?;
+        Ok(Lexeme {
+            kind: recovered.kind,
+            is_on_new_line: recovered.is_on_new_line,
+            escaped: false,
+            has_separator: false,
+        })
     }
-    if !advance_if_mark(source, b"#!") {
-        return None;
-    }
-    skip_line(source, &tables.line);
-    let span = Span::new(0, source.offset());
-    Some(Token::new(Kind::HashbangComment, span, nl))
-}
 
-/// Reads a token; the first reading of a source alone may find a hashbang comment.
-pub(crate) fn read_goal(
-    source: &mut Source<'_>,
-    tables: &ByteTables,
-    source_type: SourceType,
-    is_first: bool,
-    nl: bool,
-    errors: &mut DiagnosticList,
-) -> Result<Token, AllocError>
-    ensures ok { IfOk result (λ token. ReadsGoal source_type is_first nl source.old errors.old token source.new errors.new) }
-    ensures placed { OnOk result (IsPlaced source.new) }
-    ensures err { OnErr result (HasGrown source.old source.new errors.old errors.new) }
-{
-    if is_first {
-        if let Some(token) = read_hashbang(source, tables, nl) {
-            return Ok(token);
+    /// Reads what begins with no name.
+    #[inline(always)]
+    fn read_mark(&mut self) -> Result<Lexeme, AllocError>
+        requires gap { whole_gap_piece self.old.source_type self.old.line_has_ended (rest self.old.source) ≡ None }
+        requires placed { IsPlaced self.old.source }
+        requires built { IsBuilt self.old.source.text }
+        requires some { rest self.old.source ≢ [] }
+        requires no_name { begins is_identifier_start (rest self.old.source) ≡ false }
+        ensures ok { IfOk result (λ lexeme. ReadsLexeme self.old lexeme self.new) }
+        ensures err { OnErr result (MovesOn self.old self.new) }
+    {
+        match read_punctuator(&mut self.source) {
+            Some(kind) => Ok(self.lexeme(kind)),
+            None => self.recover(),
         }
     }
-    read_behind_gap(source, tables, source_type, nl, errors)
+
+    /// Reads the name that begins here.
+    #[inline(always)]
+    fn read_name(&mut self) -> Lexeme
+        requires { IsTrue (begins is_identifier_start (rest self.old.source)) }
+        ensures { ReadsLexeme self.old result self.new }
+    {
+        let kind = read_name(&mut self.source, &self.tables.parts);
+        self.lexeme(kind)
+    }
+
+    /// Reads what stands behind a gap, whatever it begins with.
+    #[inline(never)]
+    fn read_any(&mut self) -> Result<Lexeme, AllocError>
+        requires gap { whole_gap_piece self.old.source_type self.old.line_has_ended (rest self.old.source) ≡ None }
+        requires placed { IsPlaced self.old.source }
+        requires built { IsBuilt self.old.source.text }
+        ensures ok { IfOk result (λ lexeme. ReadsLexeme self.old lexeme self.new) }
+        ensures err { OnErr result (MovesOn self.old self.new) }
+    {
+        match self.source.peek_char() {
+            None => Ok(self.lexeme(Kind::Eof)),
+            Some(c) if is_identifier_start(c) => Ok(self.read_name()),
+            Some(_) => self.read_mark(),
+        }
+    }
+
+    /// Reads what stands behind a gap: the longest spelling, or what is read to recover.
+    #[inline(always)]
+    fn read_lexeme(&mut self) -> Result<Lexeme, AllocError>
+        requires gap { whole_gap_piece self.old.source_type self.old.line_has_ended (rest self.old.source) ≡ None }
+        requires placed { IsPlaced self.old.source }
+        requires built { IsBuilt self.old.source.text }
+        ensures ok { IfOk result (λ lexeme. ReadsLexeme self.old lexeme self.new) }
+        ensures err { OnErr result (MovesOn self.old self.new) }
+    {
+        let b = match self.source.peek_byte() {
+            Some(b) => b,
+            None => return Ok(self.lexeme(Kind::Eof)),
+        };
+        if b >= 128 {
+            return self.read_any();
+        }
+        if begins_name(&self.tables.starts, b) {
+            return Ok(self.read_name());
+        }
+        self.read_mark()
+    }
+
+    /// Reads a token behind a whole gap.
+    fn read_behind_gap(&mut self) -> Result<Token, AllocError>
+        requires placed { IsPlaced self.old.source }
+        requires built { IsBuilt self.old.source.text }
+        ensures ok { IfOk result (λ token. ReadsBehind self.old token self.new) }
+        ensures placed { OnOk result (IsPlaced self.new.source) }
+        ensures err { OnErr result (MovesOn self.old self.new) }
+    {
+        self.skip_whole_gap()?;
+        let start = self.source.offset();
+        let lexeme = self.read_lexeme()?;
+        let span = Span::new(start, self.source.offset());
+        Ok(lexeme.token(span))
+    }
+
+    /// Reads a hashbang comment, where one stands at the start of the text (ECMA-262 12.5).
+    fn read_hashbang(&mut self) -> Option<Token>
+        ensures reads { ReadsHashbang self.old result self.new }
+        ensures placed { IfSome result (λ _. IsPlaced self.new.source) }
+    {
+        if self.source.offset() != 0 {
+            return None;
+        }
+        if !advance_if_mark(&mut self.source, b"#!") {
+            return None;
+        }
+        skip_line(&mut self.source, &self.tables.line);
+        let span = Span::new(0, self.source.offset());
+        Some(Token::new(Kind::HashbangComment, span, self.line_has_ended))
+    }
+
+    /// Reads a token of a goal.
+    pub fn read_goal(&mut self, goal: Goal) -> Result<Token, AllocError>
+        requires placed { IsPlaced self.old.source }
+        requires built { IsBuilt self.old.source.text }
+        ensures ok { IfOk result (λ token. (before : Option TokenParts)
+            → line_has_ended_behind before ≡ self.old.line_has_ended → ReadsGoal goal before self.old token self.new) }
+        ensures placed { OnOk result (IsPlaced self.new.source) }
+        ensures err { OnErr result (MovesOn self.old self.new) }
+    {
+        match goal {
+            Goal::First => match self.read_hashbang() {
+                Some(token) => Ok(token),
+                None => self.read_behind_gap(),
+            },
+            Goal::Next => self.read_behind_gap(),
+        }
+    }
 }

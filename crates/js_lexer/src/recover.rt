@@ -1,11 +1,12 @@
 //! Reading on where nothing is spelled.
 
-ghost use Rattle.std.specs.Prelude.{◌≡◌, ◌≢◌, ◌||◌, [], ◌≤◌, Bool, length};
+ghost use Rattle.std.specs.Prelude.{◌≡◌, [], Bool, false, codes, length, IsSome};
 ghost use Rattle.std.specs.List.{list_any};
 ghost use Rattle.js_text.specs.Characters.{is_line_terminator};
-ghost use Rattle.js_text.specs.declared.source_type.SourceType.{SourceType};
+ghost use Rattle.js_grammar.specs.Gap.{is_prefix};
+ghost use Rattle.js_grammar.specs.Recovery.{recovered};
 ghost use Rattle.js_source.specs.Source.{rest};
-ghost use Rattle.js_lexer.specs.Lexed.{Recovers};
+ghost use Rattle.js_lexer.specs.Spellings.{Recovers};
 
 use crate::comment::{either, skip_line};
 use crate::mark::advance_if_mark;
@@ -27,28 +28,21 @@ fn skip_to_end(source: &mut Source<'_>, tables: &ByteTables) -> bool
     found
 }
 
-/// Reads a token where nothing is spelled.
-pub(crate) fn recover(source: &mut Source<'_>, tables: &ByteTables, nl: bool) -> Recovered
-    requires { rest source.old ≢ [] }
-    ensures { (t : SourceType) → Recovers t nl source.old result source.new }
+/// Reads a character that begins nothing, or, from a character that stands for bytes that were no text, up to the end.
+fn recover_character(source: &mut Source<'_>, line_has_ended: bool) -> Recovered
+    requires some { IsSome (recovered line_has_ended source.old.place (rest source.old)) }
+    requires comment { is_prefix (codes "/*") (rest source.old) ≡ false }
+    requires number_sign { is_prefix (codes "#!") (rest source.old) ≡ false }
+    ensures { Recovers line_has_ended source.old result source.new }
 {
     let start = source.offset();
-    if advance_if_mark(source, b"/*") {
-        let has_line_end = skip_to_end(source, tables);
-        let span = Span::new(start, source.offset());
-        return Recovered {
-            kind: Kind::Eof,
-            is_on_new_line: either(nl, has_line_end),
-            diagnostic: Diagnostic::UnterminatedMultiLineComment { span },
-        };
-    }
     match source.next_char() {
         None => unreachable!(),
         Some('\u{FFFD}') => {
             source.advance_to_end();
             Recovered {
                 kind: Kind::Eof,
-                is_on_new_line: nl,
+                is_on_new_line: line_has_ended,
                 diagnostic: Diagnostic::FileAppearsToBeBinary,
             }
         }
@@ -56,9 +50,41 @@ pub(crate) fn recover(source: &mut Source<'_>, tables: &ByteTables, nl: bool) ->
             let span = Span::new(start, source.offset());
             Recovered {
                 kind: Kind::Undetermined,
-                is_on_new_line: nl,
+                is_on_new_line: line_has_ended,
                 diagnostic: Diagnostic::InvalidCharacter { c, span },
             }
         }
     }
+}
+
+/// Reads what is read where nothing is spelled.
+#[inline(never)]
+pub(crate) fn recover(
+    source: &mut Source<'_>,
+    tables: &ByteTables,
+    line_has_ended: bool,
+) -> Recovered
+    requires { IsSome (recovered line_has_ended source.old.place (rest source.old)) }
+    ensures { Recovers line_has_ended source.old result source.new }
+{
+    let start = source.offset();
+    if advance_if_mark(source, b"/*") {
+        let has_line_end = skip_to_end(source, tables);
+        let span = Span::new(start, source.offset());
+        return Recovered {
+            kind: Kind::Eof,
+            is_on_new_line: either(line_has_ended, has_line_end),
+            diagnostic: Diagnostic::UnterminatedMultiLineComment { span },
+        };
+    }
+    if advance_if_mark(source, b"#!") {
+        let span = Span::new(start + 1, source.offset());
+        source.advance_to_end();
+        return Recovered {
+            kind: Kind::Eof,
+            is_on_new_line: line_has_ended,
+            diagnostic: Diagnostic::InvalidCharacter { c: '!', span },
+        };
+    }
+    recover_character(source, line_has_ended)
 }

@@ -54,4 +54,5 @@ StepsPast old new = (c : ℕ) (cs : List ℕ) → rest old ≡ c ∷ cs → (new
 
 -- the bytes spell the characters that stand between two places of the text
 abbrev pub SpellsBetween : List ℕ → ℕ → ℕ → List ℕ → Type 0
-SpellsBetween text from to bytes = (xs : List ℕ) → from_place text from ≡ xs ++ from_place text to → bytes ≡ encode_utf8_all xs
+SpellsBetween text from to bytes = (xs : List ℕ) → from_place text from ≡ xs ++ from_place text to
+    → bytes ≡ encode_utf8_all xs

@@ -1,6 +1,6 @@
 use Rattle.std.proofs.Common.{◌∙◌, sym, subst}
 use Rattle.js_source.specs.Search.{three_bytes}
-use Rattle.js_lexer.specs.Lexed.{StopsAtLineEnds, StopsInBlocks}
+use Rattle.js_lexer.specs.Comments.{StopsAtLineEnds, StopsInBlocks}
 use Rattle.js_lexer.proofs.TableFacts.{value_of, stops_at_three, stops_in_blocks}
 use Rattle.js_lexer.proofs.tables.ByteTables.new.Goals as goal
 

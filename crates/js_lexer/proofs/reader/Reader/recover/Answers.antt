@@ -1,0 +1,18 @@
+use Rattle.std.proofs.Common.{refl}
+use Rattle.std.proofs.lemmas.Result.{err_from_is_err_and}
+use Rattle.js_lexer.proofs.BuiltSteps.{recovers_some}
+use Rattle.js_lexer.proofs.ReadingSteps.{lexeme_recovered}
+use Rattle.js_lexer.proofs.WholeSteps.{stays}
+use Rattle.js_lexer.proofs.reader.Reader.recover.Goals as goal
+
+pub recover-recovered-requires : goal.recover-recovered-requires
+recover-recovered-requires c =
+    recovers_some c.args.self.now.source_type c.args.self.now.line_has_ended c.args.self.now.source c.requires.placed c.requires.built c.requires.gap c.requires.nothing
+
+pub returns-in_err-push-clause-err : goal.returns-in_err-push-clause-err
+returns-in_err-push-clause-err c =
+    let p = err_from_is_err_and c.from_residual.result c.from_residual.ensures.1 in
+    rw p.1 (stays c.args.self.now _ c.recover-recovered.ensures.text refl c.in_err-push.ensures.err)
+
+pub returns-clause-ok : goal.returns-clause-ok
+returns-clause-ok c = lexeme_recovered c.args.self.now _ c.recover-recovered.result c.recover-recovered.ensures c.requires.nothing refl c.in_ok-push.ensures.ok
