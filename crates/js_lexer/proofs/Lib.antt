@@ -2,6 +2,7 @@ pub mod BuiltSteps
 pub mod CommentSteps
 pub mod FastSteps
 pub mod GapSteps
+pub mod LexerSteps
 pub mod PartSteps
 pub mod ReadingSteps
 pub mod RecoverSteps

@@ -1,12 +1,13 @@
 -- How contracts see a lexer, its checkpoints and its readings.
-use Rattle.std.specs.Prelude.{◌≡◌, ◌≢◌, ℕ, ◌<◌, ◌≤◌, Bool, true, false, List, [], ◌∷◌, ◌++◌, ◌&&◌, ◌==◌, not, length, take, Option, Some, None, IfSome, unwrap_or, if◌then◌else◌}
+use Rattle.std.specs.Prelude.{◌≡◌, ◌≢◌, ℕ, ◌<◌, ◌≤◌, Bool, List, [], ◌∷◌, ◌++◌, ◌&&◌, ◌==◌, not, length, take, Option, Some, None, IfSome, unwrap_or, if◌then◌else◌}
 use Rattle.std.specs.List.{last_or}
 use Rattle.std.specs.Str.{IsCharBoundary}
 use Rattle.js_text.specs.Lists.{with_last}
+use Rattle.js_text.specs.declared.diagnostic.Diagnostic.{Diagnostic}
 use Rattle.js_text.specs.declared.source_type.SourceType.{SourceType}
 use Rattle.js_grammar.specs.Built.{IsBuilt}
 use Rattle.js_grammar.specs.Goals.{GoalReads, AgreesWithGrammar}
-use Rattle.js_grammar.specs.Outcome.{Findings, FindingLengths, no_findings, joined, lengths_of, cut_to, AreWithin, Outcome}
+use Rattle.js_grammar.specs.Outcome.{Findings, FindingLengths, no_findings, joined, reports, lengths_of, cut_to, AreWithin, Outcome}
 use Rattle.js_grammar.specs.declared.goal.Goal.{Goal}
 use Rattle.js_grammar.specs.declared.goal.Goal.TheVariants.{Next}
 use Rattle.js_kind.specs.Kinds.{number}
@@ -53,14 +54,14 @@ pub record IsSound (text : List ℕ) (last : Option TokenParts) : Type 0 where
   pub last_lies : IfSome last (IsOnPlaces text)
 
 -- The parts of a lexer that a rewind, a peek and a call that cannot allocate restore.
-pub record IsRestored (old now : LexerState) : Type 0 where
-  pub text : now.text ≡ old.text
-  pub source_type : now.source_type ≡ old.source_type
-  pub collects : now.collects ≡ old.collects
-  pub place : now.place ≡ old.place
-  pub last : now.last ≡ old.last
-  pub tokens : now.tokens ≡ old.tokens
-  pub findings : now.findings ≡ old.findings
+pub record IsRestored (old new : LexerState) : Type 0 where
+  pub text : new.text ≡ old.text
+  pub source_type : new.source_type ≡ old.source_type
+  pub collects : new.collects ≡ old.collects
+  pub place : new.place ≡ old.place
+  pub last : new.last ≡ old.last
+  pub tokens : new.tokens ≡ old.tokens
+  pub findings : new.findings ≡ old.findings
 
 -- hashbang comments alone
 abbrev pub is_hashbang : Kind → Bool
@@ -101,6 +102,12 @@ pub record ReadsToken (goal : Goal) (old : LexerState) (token : TokenParts) (new
   pub reads : ReadsOutcome goal old outcome
   pub agrees : AgreesWithGrammar old.text old.source_type goal old.last old.place outcome
   pub after : IsRestored (after_outcome old outcome) new
+
+-- A reading that could not allocate: the lexer may have moved on and reported, and nothing else has changed.
+pub record HasMovedOn (old new : LexerState) : Type 0 where
+  pub place : ℕ
+  pub more : List Diagnostic
+  pub after : new ≡ record old { place = place; findings = joined old.findings (reports more) }
 
 -- A checkpoint: the place, the last token, the last collected one, and how long the lists were.
 pub record Checkpoint : Type 0 where

@@ -1,9 +1,11 @@
 //! The lexer: readings of the plain goal, peeks and checkpoints (ECMA-262 12).
 #![tactic(auto)]
 
+mod checkpoint;
 mod comment;
 mod gap;
 mod lexeme;
+mod lexer;
 mod mark;
 mod name;
 mod punctuator;
@@ -13,3 +15,9 @@ mod recover;
 mod recovery;
 mod skipped;
 mod tables;
+
+pub use checkpoint::LexerCheckpoint;
+pub use lexer::{Lexer, NewFault};
+
+#[cfg(test)]
+mod tests;

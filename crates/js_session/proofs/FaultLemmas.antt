@@ -10,7 +10,7 @@ use Rattle.js_grammar.specs.Gap.{is_prefix}
 use Rattle.std.proofs.lemmas.Option.{slice_get_within, get_or_from_slice_get, slice_get-get_or}
 use Rattle.js_session.specs.declared.command.Command.{Command}
 use Rattle.js_session.specs.Faults.{ClosesNoMark, FirstWithoutMark, HasMarks}
-use Rattle.js_session.specs.Live.{opens, closes}
+use Rattle.js_session.specs.Effects.{opens_one, closes}
 
 -- one more command is counted
 count_more_by : (p : Command → Bool) (xs : List Command) (i : ℕ) (d : Command) → i < length xs → (b : Bool) → p (get_or xs i d) ≡ b → count_by p (take (i + 1) xs) ≡ count_by p (take i xs) + cond b 1 0
@@ -26,7 +26,7 @@ counts_bound p xs i h = omega (arith, count_by-le-length p (take i xs), length-t
 
 -- The command at an index closes a mark where none is open.
 pub first_without : (commands : List Command) (index now : ℕ) (d : Command) → index < length commands → now ≡ 0 → closes (get_or commands index d) ≡ true
-    → now + count_by closes (take index commands) ≡ count_by opens (take index commands) → ((i : ℕ) → i < index → ¬ (ClosesNoMark commands i)) → FirstWithoutMark commands index
+    → now + count_by closes (take index commands) ≡ count_by opens_one (take index commands) → ((i : ℕ) → i < index → ¬ (ClosesNoMark commands i)) → FirstWithoutMark commands index
 first_without commands index now d within none is balance earlier = record {
   here = record {
     command = get_or commands index d;
@@ -39,7 +39,7 @@ first_without commands index now d within none is balance earlier = record {
 
 -- Where a command that closes a mark has one to close, no mark too many was closed up to it.
 pub none_without : (commands : List Command) (index now : ℕ) (d : Command) → (closes (get_or commands index d) ≡ true → 0 < now)
-    → now + count_by closes (take index commands) ≡ count_by opens (take index commands) → ((i : ℕ) → i < index → ¬ (ClosesNoMark commands i))
+    → now + count_by closes (take index commands) ≡ count_by opens_one (take index commands) → ((i : ℕ) → i < index → ¬ (ClosesNoMark commands i))
     → (i : ℕ) → i < index + 1 → ¬ (ClosesNoMark commands i)
 none_without commands index now d can balance earlier i below h =
     elim (cases_lt i index) [
@@ -65,10 +65,10 @@ begins_hash (a ∷ b ∷ xs) = rw (eqb_turned 35 a, eqb_turned 33 b) refl
 
 -- one command more
 pub keeps_count : (commands : List Command) (index marks now : ℕ) (d : Command) → index < length commands
-    → now + cond (closes (get_or commands index d)) 1 0 ≡ marks + cond (opens (get_or commands index d)) 1 0
+    → now + cond (closes (get_or commands index d)) 1 0 ≡ marks + cond (opens_one (get_or commands index d)) 1 0
     → (closes (get_or commands index d) ≡ true → 0 < marks)
-    → (marks + count_by closes (take index commands) ≡ count_by opens (take index commands)) × ((i : ℕ) → i < index → ¬ (ClosesNoMark commands i))
-    → (now + count_by closes (take (index + 1) commands) ≡ count_by opens (take (index + 1) commands)) × ((i : ℕ) → i < index + 1 → ¬ (ClosesNoMark commands i))
+    → (marks + count_by closes (take index commands) ≡ count_by opens_one (take index commands)) × ((i : ℕ) → i < index → ¬ (ClosesNoMark commands i))
+    → (now + count_by closes (take (index + 1) commands) ≡ count_by opens_one (take (index + 1) commands)) × ((i : ℕ) → i < index + 1 → ¬ (ClosesNoMark commands i))
 keeps_count commands index marks now d within some can h =
-    let balance : marks + count_by closes (take index commands) ≡ count_by opens (take index commands) = h.0 in
-    (omega (arith, balance, some, count_more closes commands index d within, count_more opens commands index d within), none_without commands index marks d can h.0 h.1)
+    let balance : marks + count_by closes (take index commands) ≡ count_by opens_one (take index commands) = h.0 in
+    (omega (arith, balance, some, count_more closes commands index d within, count_more opens_one commands index d within), none_without commands index marks d can h.0 h.1)

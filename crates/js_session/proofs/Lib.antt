@@ -1,5 +1,6 @@
 pub mod Causes
 pub mod FaultLemmas
+pub mod LexerLemmas
 pub mod LiveLemmas
 pub mod MarkLemmas
 pub mod ReadLemmas

@@ -1,74 +1,114 @@
--- What a reading makes of a row, and of what a lexer may go back to.
-use Rattle.std.proofs.Common.{◌≡◌, List, [], ◌∷◌, ◌++◌, length, drop, refl, sym, ◌∙◌, ap, subst, arith, Option, length-append}
-use Rattle.std.proofs.lemmas.List.{take_at}
-use Rattle.std.proofs.Math.Seq.{drop-append_seam}
+-- What a reading makes of a row.
+use Rattle.std.proofs.Common.{◌≡◌, ℕ, Bool, true, false, cond, List, [], ◌∷◌, length, take, drop, refl, sym, ◌∙◌, ap, subst, Option, None}
+use Rattle.std.proofs.Math.Seq.{drop-append_seam, take-append_seam}
+use Rattle.std.specs.Str.{IsUtf8}
 use Rattle.js_text.specs.declared.diagnostic.Diagnostic.{Diagnostic}
+use Rattle.js_text.specs.declared.source_type.SourceType.{SourceType}
+use Rattle.js_text.specs.declared.value.RowValue.TheVariants.{Nothing, Slice}
+use Rattle.js_grammar.specs.Goals.{GoalReads}
+use Rattle.js_grammar.specs.Goals.GoalReads.{hashbang, behind_gap}
+use Rattle.js_grammar.specs.Outcome.{Findings, Outcome, reports, joined}
+use Rattle.js_grammar.specs.Spelling.{value_of}
+use Rattle.js_grammar.specs.declared.goal.Goal.{Goal}
+use Rattle.js_grammar.proofs.Spans.{goal_reads_value}
+use Rattle.js_kind.specs.Kinds.{is_identifier_name}
 use Rattle.js_kind.specs.TokenParts.{TokenParts}
-use Rattle.js_grammar.specs.Hashbang.{Goal}
-use Rattle.js_lexer.specs.Lexer.{LexerState, Checkpoint, CanRewind, BeginsAlike, GoesOnFrom, ReadsToken, after_token, collected}
+use Rattle.js_lexer.specs.Lexer.{LexerState, IsRestored, IsOnPlaces, ReadsToken, Checkpoint, checkpoint_of}
+use Rattle.js_lexer.proofs.LexerSteps.{reading_goes_on}
 use Rattle.js_session.specs.declared.command.Command.{Command}
 use Rattle.js_session.specs.declared.row.Row.{Row}
-use Rattle.js_session.specs.Live.{Live, place_after}
-use Rattle.js_session.specs.Report.{IsRow, goal_of, is_first}
-use Rattle.js_session.specs.Session.{ReadsRow, row_of}
+use Rattle.js_session.specs.Effects.{row_effect}
+use Rattle.js_session.specs.Live.{Live, outcome_of}
+use Rattle.js_session.specs.Marks.{lexer_behind}
+use Rattle.js_session.specs.Report.{IsRow, IsRead, IsOfEffect, LiesOnPlaces, IsSliceOnPlaces}
+use Rattle.js_session.specs.RowReader.{RowReaderState, ReadsRow, AddsLive, AddsPeek, GoesBack}
 
--- a lexer that has read a token may go back to where it could go before
-pub can_rewind_after : (old : LexerState) (c : Checkpoint) (token : TokenParts) (faults : List Diagnostic) → CanRewind old c → CanRewind (after_token old token faults) c
-can_rewind_after old c token faults h = record {
-  place = h.place;
-  token = h.token;
-  tokens = let le = h.tokens in omega (arith, length-append old.tokens (collected old.collects token));
-  errors = let le = h.errors in omega (arith, length-append old.errors faults);
+-- no reading finds a regular expression
+regex_none : (text : List ℕ) (t : SourceType) (goal : Goal) (before : Option TokenParts) (place : ℕ) (o : Outcome) → GoalReads text t goal before place o → o.regex ≡ None
+regex_none text t goal before place o (hashbang begins read) = ap (λ x. x.regex) read.alone
+regex_none text t goal before place o (behind_gap begins read) = ap (λ x. x.regex) read.outcome_is
+
+same_outcome : (a b : Outcome) → a.token ≡ b.token → a.value ≡ b.value → a.regex ≡ b.regex → a.findings ≡ b.findings → a ≡ b
+same_outcome a b e1 e2 e3 e4 = rw (e1, e2, e3, e4) refl
+
+-- what was found is what was reported since
+found_since_is : (before found : Findings) (old new : List Diagnostic) → before ≡ reports old → joined before found ≡ reports new → reports (drop (length old) new) ≡ found
+found_since_is before found old new is now =
+    let whole : joined (reports old) found ≡ reports new = ap (λ f. joined f found) (sym is) ∙ now in
+    let diagnostics : drop (length old) new ≡ found.diagnostics = ap (drop (length old)) (sym (ap (λ f. f.diagnostics) whole)) ∙ drop-append_seam old found.diagnostics in
+    let deferred : found.deferred ≡ [] = ap (λ f. f.deferred) whole in
+    let comments : found.comments ≡ [] = ap (λ f. f.comments) whole in
+    let irregular : found.irregular ≡ [] = ap (λ f. f.irregular) whole in
+    rw (diagnostics, ← deferred, ← comments, ← irregular) refl
+
+-- the outcome of a row that was made of a token and of what was reported since
+pub made_outcome : (goal : Goal) (old new : LexerState) (token : TokenParts) (errors errors' : List Diagnostic) (row : Outcome) → IsUtf8 old.text → (r : ReadsToken goal old token new)
+    → old.findings ≡ reports errors → new.findings ≡ reports errors'
+    → row ≡ record { token = token; value = value_of token.kind token.start token.end; regex = None; findings = reports (drop (length errors) errors') } → row ≡ r.outcome
+made_outcome goal old new token errors errors' row u r before after made =
+    let reads = r.reads.reads in
+    let value : value_of token.kind token.start token.end ≡ r.outcome.value =
+    ap (λ x. value_of x.kind x.start x.end) r.token_is ∙ sym (goal_reads_value old.text old.source_type goal old.last old.place r.outcome u reads)
+    in
+    let regex : None ≡ r.outcome.regex = sym (regex_none old.text old.source_type goal old.last old.place r.outcome reads) in
+    let found = found_since_is old.findings r.outcome.findings errors errors' before (sym r.after.findings ∙ after) in
+    made ∙ same_outcome _ r.outcome r.token_is value regex found
+
+-- the value of a token lies on places
+slice_by_name : (b : Bool) (text : List ℕ) (token : TokenParts) → IsOnPlaces text token → IsSliceOnPlaces text (cond b (Slice (record { start = token.start; end = token.end })) Nothing)
+slice_by_name true text token h = (h.start, h.end, h.ordered)
+slice_by_name false text token h = tt
+
+value_lies : (text : List ℕ) (token : TokenParts) → IsOnPlaces text token → IsSliceOnPlaces text (value_of token.kind token.start token.end)
+value_lies text token h = slice_by_name (is_identifier_name token.kind) text token h
+
+-- and so a row that was made of a token lies on places
+pub made_lies : (goal : Goal) (old new : LexerState) (row : Row) → IsUtf8 old.text → (r : ReadsToken goal old row.token new) → outcome_of row ≡ r.outcome → LiesOnPlaces old.text row
+made_lies goal old new row u r is =
+    let text = old.text in
+    let places : IsOnPlaces text row.token = subst (IsOnPlaces text) (sym r.token_is) r.reads.places in
+    let value : row.value ≡ value_of row.token.kind row.token.start row.token.end =
+    ap (λ x. x.value) is ∙ goal_reads_value text old.source_type goal old.last old.place r.outcome u r.reads.reads
+    ∙ ap (λ x. value_of x.kind x.start x.end) (sym r.token_is)
+    in
+    record { token = places; value = subst (IsSliceOnPlaces text) (sym value) (value_lies text row.token places) }
+
+-- a row that was made of a token
+pub made_row : (goal : Goal) (command : Option Command) (old new : LexerState) (errors errors' : List Diagnostic) (row : Row) → IsUtf8 old.text → ReadsToken goal old row.token new
+    → old.findings ≡ reports errors → new.findings ≡ reports errors' → row.command ≡ command → row.place ≡ old.place → row.taken ≡ true
+    → outcome_of row ≡ record { token = row.token; value = value_of row.token.kind row.token.start row.token.end; regex = None; findings = reports (drop (length errors) errors') }
+    → ReadsRow goal command old row new
+made_row goal command old new errors errors' row u r before after command_is place taken made =
+    let is = made_outcome goal old new row.token errors errors' (outcome_of row) u r before after made in
+    record { reads = r; outcome_is = is; command_is = command_is; place = place; taken = taken; places = made_lies goal old new row u r is }
+
+-- a row that was added, and the reader gone back
+pub goes_back_peeks : (goal : Goal) (command : Option Command) (old between new : RowReaderState) (c : Checkpoint) (live : ℕ) → AddsLive goal command old between
+    → GoesBack c live between new → c ≡ checkpoint_of old.lexer → live ≡ length old.tokens → AddsPeek goal command old new
+goes_back_peeks goal command old between new c live added back point tokens = record {
+  row = added.row;
+  behind = between.lexer;
+  reads = added.reads;
+  rows = back.rows ∙ added.rows;
+  lexer = back.lexer old.lexer point (reading_goes_on goal old.lexer between.lexer added.row.token added.reads.reads);
+  tokens = back.tokens ∙ ap (λ n. take n between.tokens) tokens ∙ ap (take (length old.tokens)) added.tokens ∙ take-append_seam old.tokens (added.row.token ∷ []);
 }
-
--- a list that goes on begins alike
-pub begins_alike-append : (xs ys : List TokenParts) → BeginsAlike xs (xs ++ ys)
-begins_alike-append [] ys = tt
-begins_alike-append (x ∷ []) ys = tt
-begins_alike-append (x ∷ y ∷ xs) ys = (refl, begins_alike-append (y ∷ xs) ys)
-
-pub goes_on_after : (old : LexerState) (token : TokenParts) (faults : List Diagnostic) → GoesOnFrom old (after_token old token faults)
-goes_on_after old token faults = record {
-  text = refl;
-  source_type = refl;
-  collects = refl;
-  tokens = begins_alike-append old.tokens (collected old.collects token);
-  errors = take_at old.errors faults (length old.errors) refl;
-}
-
--- a lexer that has read a token went on, and may go back to where it could go before
-pub reading_goes_on : (goal : Goal) (old new : LexerState) (token : TokenParts) → ReadsToken goal old token new → GoesOnFrom old new
-reading_goes_on goal old new token read = subst (GoesOnFrom old) (sym read.after) (goes_on_after old token read.faults)
-
-pub reading_can_rewind : (goal : Goal) (old new : LexerState) (token : TokenParts) (c : Checkpoint) → ReadsToken goal old token new → CanRewind old c → CanRewind new c
-reading_can_rewind goal old new token c read h = subst (λ l. CanRewind l c) (sym read.after) (can_rewind_after old c token read.faults h)
-
--- a token that was read, as a row
-pub made_reads : (goal : Goal) (command : Option Command) (old new : LexerState) (token : TokenParts) (row : Row) → ReadsToken goal old token new
-    → row ≡ row_of command old.place token (drop (length old.errors) new.errors) → ReadsRow goal command old row new
-made_reads goal command old new token row read made =
-    let errors : new.errors ≡ old.errors ++ read.faults = ap (λ l. l.errors) read.after in
-    let added : drop (length old.errors) new.errors ≡ read.faults = ap (drop (length old.errors)) errors ∙ drop-append_seam old.errors read.faults in
-    rw made (record { reads = read; row_is = ap (row_of command old.place token) added })
 
 -- A row that was read behind what is live is the row of its command.
-pub read_is_row : (old new : LexerState) (now : Live) (command : Option Command) (row : Row) → old.is_fresh ≡ is_first command → old.place ≡ place_after now.tokens
-    → ReadsRow (goal_of command) command old row new → IsRow old.text old.source_type now command row
-read_is_row old new now command row fresh place read =
-    let there : row.place ≡ old.place = ap (λ r. r.place) read.row_is in
-    let faults : row.diagnostics ≡ read.reads.faults = ap (λ r. r.diagnostics) read.row_is in
+pub read_is_row : (goal : Goal) (command : Option Command) (lexer new : LexerState) (now : Live) (row : Row)
+    → IsRestored (lexer_behind lexer.text lexer.source_type lexer.collects now) lexer → ReadsRow goal command lexer row new
+    → (IsRead lexer.text lexer.source_type now goal row → IsOfEffect lexer.text lexer.source_type now (row_effect command) row)
+    → IsRow lexer.text lexer.source_type now command row
+read_is_row goal command lexer new now row behind r give =
+    let token : row.token ≡ r.reads.outcome.token = r.reads.token_is in
     record {
-      command_is = ap (λ r. r.command) read.row_is;
-      place = there ∙ place;
-      taken = ap (λ r. r.taken) read.row_is;
-      reads = rw (there, faults, ← fresh) read.reads.reads;
-      value = ap (λ r. r.value) read.row_is;
-      regex = ap (λ r. r.regex) read.row_is;
-      deferred = ap (λ r. r.deferred) read.row_is;
-      comments = ap (λ r. r.comments) read.row_is;
-      irregular = ap (λ r. r.irregular) read.row_is;
-      clean = rw (there, faults, ← fresh) read.reads.clean;
-      plain = rw (there, faults, ← fresh) read.reads.plain;
-      places = read.reads.places;
-      some_text = read.reads.some_text;
+      command_is = r.command_is;
+      place = r.place ∙ behind.place;
+      gives = give (record {
+        taken = r.taken;
+        reads = rw (r.place, ← behind.last, r.outcome_is) r.reads.reads.reads;
+        agrees = λ plain. rw (r.place, ← behind.last, r.outcome_is) r.reads.agrees;
+        some_text = rw token r.reads.reads.some_text;
+      });
+      places = r.places;
     }

@@ -1,173 +1,273 @@
 -- What the calls of a session make of its state.
-use Rattle.std.proofs.Common.{◌≡◌, ℕ, ◌<◌, Bool, true, false, List, [], ◌∷◌, ◌++◌, length, take, refl, sym, ◌∙◌, ap, subst, arith, Option, Some, None, Result, Ok, Err, append-nil}
-use Rattle.std.proofs.lemmas.List.{reverse-append, length-reverse, take_all}
+use Rattle.std.proofs.Common.{◌≡◌, ℕ, ◌<◌, Bool, true, false, List, [], ◌∷◌, ◌++◌, length, take, refl, sym, ◌∙◌, ap, subst, arith, Option, Some, None, Result, Ok, Err}
+use Rattle.std.proofs.lemmas.List.{reverse-append, length-reverse}
+use Rattle.std.specs.List.{AllByRecursion}
 use Rattle.std.specs.Prelude.{reverse, OnOk, OnErr, IsSome, ◌↔◌, option_to_list}
 use Rattle.js_text.specs.declared.source_type.SourceType.{SourceType}
-use Rattle.js_grammar.specs.Hashbang.Goal.{first}
-use Rattle.js_lexer.specs.Lexer.{LexerState, CanRewind, GoesOnFrom, checkpoint_of, collected, fresh}
-use Rattle.js_session.specs.declared.command.Command.TheVariants.{Next, Peek, Rewind, Commit}
-use Rattle.js_session.specs.declared.keep.LiveLists.{LiveLists}
-use Rattle.js_session.specs.declared.keep.SessionMark.{SessionMark}
-use Rattle.js_session.specs.declared.row.Row.{Row}
-use Rattle.js_session.specs.Live.{after_step, after_mark, nothing_live}
-use Rattle.js_session.specs.Marks.{now_of, front, saved, stands, lexer_behind, AreMarks, IsHeld}
-use Rattle.js_session.specs.Session.{SessionState, AddsLive, AddsPeek, AddsRow, Begins, ReadsRow, marked}
-use Rattle.js_session.proofs.MarkLemmas.{held_next, saved_push, marks_commit, length-saved, behind_rewound}
+use Rattle.js_text.specs.Lists.{with_last}
+use Rattle.js_grammar.specs.declared.goal.Goal.{Goal}
+use Rattle.js_grammar.specs.declared.goal.Goal.TheVariants.{First, Next as NextGoal}
+use Rattle.js_lexer.specs.Lexer.{LexerState, IsRestored, CanRewind, GoesOnFrom, IsOnPlaces, after_outcome, checkpoint_of, fresh, token_or_default, put_back}
+use Rattle.js_session.specs.declared.command.Command.{Command}
+use Rattle.js_session.specs.declared.command.Command.TheVariants.{Next, Peek, Mark, Rewind, Commit}
+use Rattle.js_session.specs.declared.mark.SessionMark.{SessionMark}
+use Rattle.js_session.specs.Live.{with_outcome, outcome_of, after_mark, nothing_live}
+use Rattle.js_session.specs.Effects.{effect_of}
+use Rattle.js_session.specs.Marks.{live_now, front, fronts, state_of, lexer_behind, AreMarks, IsInOrder}
+use Rattle.js_session.specs.Report.{LiesOnPlaces}
+use Rattle.js_session.specs.RowReader.{RowReaderState, AddsLive, AddsPeek, IsUndone, IsMarkOf, GoesToMark}
+use Rattle.js_session.specs.Session.{SessionState, AddsRow, Begins, LieOnPlaces, after_command}
+use Rattle.js_session.proofs.LexerLemmas.{goes_on-restored, goes_on-trans, restored-trans, restored-sym, restored-refl, can_rewind-on}
+use Rattle.js_session.proofs.LiveLemmas.{same_live, replaced, read_behind, all-push}
+use Rattle.js_session.proofs.MarkLemmas.{marks-outcome, fronts-outcome, marks-commit, length-fronts, front_all, none_at, all-put_back}
 use Rattle.js_session.proofs.ReadLemmas.{read_is_row}
 
+-- how contracts see a session of these parts
+abbrev pub seen : RowReaderState → List SessionMark → SessionState
+seen r marks = record {
+  text = r.lexer.text;
+  source_type = r.lexer.source_type;
+  collects = r.lexer.collects;
+  rows = r.rows;
+  state = state_of (live_now r) marks;
+}
+
+at_lexer : (P : List ℕ → SourceType → Bool → Type 0) (text : List ℕ) (t : SourceType) (c : Bool) (r : RowReaderState) → r.lexer.text ≡ text → r.lexer.source_type ≡ t → r.lexer.collects ≡ c
+    → P text t c → P r.lexer.text r.lexer.source_type r.lexer.collects
+at_lexer P text t c r texts types collects p =
+    subst (λ x. P x r.lexer.source_type r.lexer.collects) (sym texts) (subst (λ y. P text y r.lexer.collects) (sym types) (subst (λ z. P text t z) (sym collects) p))
+
+-- a session is in order over the text of an earlier lexer
+order : (text : List ℕ) (t : SourceType) (c : Bool) (r : RowReaderState) (marks : List SessionMark) → r.lexer.text ≡ text → r.lexer.source_type ≡ t → r.lexer.collects ≡ c
+    → IsRestored (lexer_behind text t c (live_now r)) r.lexer → AreMarks text t c (live_now r) marks → AllByRecursion (LiesOnPlaces text) r.rows
+    → AllByRecursion (IsOnPlaces text) r.tokens → IsInOrder r marks
+order text t c r marks texts types collects behind are rows tokens = record {
+  behind = at_lexer (λ x y z. IsRestored (lexer_behind x y z (live_now r)) r.lexer) text t c r texts types collects behind;
+  are_marks = at_lexer (λ x y z. AreMarks x y z (live_now r) marks) text t c r texts types collects are;
+  rows_lie = subst (λ x. AllByRecursion (LiesOnPlaces x) r.rows) (sym texts) rows;
+  tokens_lie = subst (λ x. AllByRecursion (IsOnPlaces x) r.tokens) (sym texts) tokens;
+}
+
+-- rows and live tokens of a session that is in order lie on places
+pub in_order_lies : (r : RowReaderState) (marks : List SessionMark) (order : List SessionMark) → IsInOrder r order → LieOnPlaces (seen r marks)
+in_order_lies r marks order h = record { rows = h.rows_lie; tokens = h.tokens_lie }
+
+-- what is live once a row was added
+added_restored : (goal : Goal) (command : Option Command) (old new : RowReaderState) → (a : AddsLive goal command old new) → IsRestored (after_outcome old.lexer (outcome_of a.row)) new.lexer
+added_restored goal command old new a = subst (λ o. IsRestored (after_outcome old.lexer o) new.lexer) (sym a.reads.outcome_is) a.reads.reads.after
+
+live_added : (goal : Goal) (command : Option Command) (old new : RowReaderState) → (a : AddsLive goal command old new) → live_now new ≡ with_outcome (live_now old) (outcome_of a.row)
+live_added goal command old new a = same_live (live_now new) (with_outcome (live_now old) (outcome_of a.row)) a.tokens (added_restored goal command old new a).findings
+
+-- a row was added, and its token is live
+pub order_added : (goal : Goal) (command : Option Command) (old new : RowReaderState) (marks : List SessionMark) → IsInOrder old marks → AddsLive goal command old new → IsInOrder new marks
+order_added goal command old new marks h a =
+    let text = old.lexer.text in
+    let t = old.lexer.source_type in
+    let c = old.lexer.collects in
+    let after = added_restored goal command old new a in
+    let live = live_added goal command old new a in
+    order text t c new marks after.text after.source_type after.collects
+    (subst (λ l. IsRestored (lexer_behind text t c l) new.lexer) (sym live) (read_behind text t c (live_now old) old.lexer new.lexer (outcome_of a.row) h.behind after))
+    (subst (λ l. AreMarks text t c l marks) (sym live) (marks-outcome text t c (live_now old) (outcome_of a.row) marks h.are_marks))
+    (subst (AllByRecursion (LiesOnPlaces text)) (sym a.rows) (all-push (LiesOnPlaces text) old.rows a.row h.rows_lie a.reads.places))
+    (subst (AllByRecursion (IsOnPlaces text)) (sym a.tokens) (all-push (IsOnPlaces text) old.tokens a.row.token h.tokens_lie a.reads.places.token))
+
+pub next_adds_row : (old new : RowReaderState) (ms : List SessionMark) → IsInOrder old (reverse ms) → AddsLive NextGoal (Some Next) old new → AddsRow Next (seen old ms) (seen new ms)
+next_adds_row old new ms h a =
+    let after = added_restored NextGoal (Some Next) old new a in
+    let live = live_added NextGoal (Some Next) old new a in
+    let marks = fronts-outcome old.lexer.text old.lexer.source_type old.lexer.collects (live_now old) (outcome_of a.row) (reverse ms) h.are_marks in
+    record {
+      row = a.row;
+      is_row = read_is_row NextGoal (Some Next) old.lexer new.lexer (live_now old) a.row h.behind a.reads (λ is. is);
+      after = rw (after.text, after.source_type, after.collects, a.rows, live, marks) refl;
+    }
+
+-- all but the rows is as before
+order_restored : (old new : RowReaderState) (marks : List SessionMark) → IsInOrder old marks → IsRestored old.lexer new.lexer → new.tokens ≡ old.tokens
+    → AllByRecursion (LiesOnPlaces old.lexer.text) new.rows → IsInOrder new marks
+order_restored old new marks h back tokens rows =
+    let text = old.lexer.text in
+    let t = old.lexer.source_type in
+    let c = old.lexer.collects in
+    let live : live_now new ≡ live_now old = same_live (live_now new) (live_now old) tokens back.findings in
+    order text t c new marks back.text back.source_type back.collects
+    (subst (λ l. IsRestored (lexer_behind text t c l) new.lexer) (sym live) (restored-trans _ old.lexer new.lexer h.behind back))
+    (subst (λ l. AreMarks text t c l marks) (sym live) h.are_marks) rows
+    (subst (AllByRecursion (IsOnPlaces text)) (sym tokens) h.tokens_lie)
+
+pub order_peeked : (goal : Goal) (command : Option Command) (old new : RowReaderState) (marks : List SessionMark) → IsInOrder old marks → AddsPeek goal command old new → IsInOrder new marks
+order_peeked goal command old new marks h a =
+    order_restored old new marks h a.lexer a.tokens
+    (subst (AllByRecursion (LiesOnPlaces old.lexer.text)) (sym a.rows) (all-push (LiesOnPlaces old.lexer.text) old.rows a.row h.rows_lie a.reads.places))
+
+pub order_undone : (old new : RowReaderState) (marks : List SessionMark) → IsInOrder old marks → IsUndone old new → IsInOrder new marks
+order_undone old new marks h u = order_restored old new marks h u.lexer u.tokens (subst (AllByRecursion (LiesOnPlaces old.lexer.text)) (sym u.rows) h.rows_lie)
+
+pub peek_adds_row : (old new : RowReaderState) (ms : List SessionMark) → IsInOrder old (reverse ms) → AddsPeek NextGoal (Some Peek) old new → AddsRow Peek (seen old ms) (seen new ms)
+peek_adds_row old new ms h a =
+    let back = a.lexer in
+    let live : live_now new ≡ live_now old = same_live (live_now new) (live_now old) a.tokens back.findings in
+    record {
+      row = a.row;
+      is_row = read_is_row NextGoal (Some Peek) old.lexer a.behind (live_now old) a.row h.behind a.reads (λ is. is);
+      after = rw (back.text, back.source_type, back.collects, a.rows, live) refl;
+    }
+
+pub undone_is : (old new : RowReaderState) (ms : List SessionMark) → IsUndone old new → seen new ms ≡ seen old ms
+undone_is old new ms u =
+    let live : live_now new ≡ live_now old = same_live (live_now new) (live_now old) u.tokens u.lexer.findings in
+    rw (u.lexer.text, u.lexer.source_type, u.lexer.collects, u.rows, live) refl
+
+-- before the first row
+abbrev pub at_start : LexerState → RowReaderState
+at_start lexer = record { lexer = lexer; rows = []; tokens = [] }
+
+order_start : (text : List ℕ) (t : SourceType) (c : Bool) → IsInOrder (at_start (fresh text t c)) []
+order_start text t c = record { behind = restored-refl (fresh text t c); are_marks = tt; rows_lie = tt; tokens_lie = tt }
+
+pub order_first : (text : List ℕ) (t : SourceType) (c : Bool) (old new : RowReaderState) (ms : List SessionMark) → old ≡ at_start (fresh text t c) → ms ≡ []
+    → AddsLive First None old new → IsInOrder new (reverse ms)
+order_first text t c old new ms start none a =
+    let begins : IsInOrder old [] = subst (λ r. IsInOrder r []) (sym start) (order_start text t c) in
+    subst (λ m. IsInOrder new (reverse m)) (sym none) (order_added First None old new [] begins a)
+
+begins_fresh : (text : List ℕ) (t : SourceType) (c : Bool) (new : RowReaderState) → AddsLive First None (at_start (fresh text t c)) new → Begins text t c (seen new [])
+begins_fresh text t c new a =
+    let start = at_start (fresh text t c) in
+    let after = added_restored First None start new a in
+    let live = live_added First None start new a in
+    record {
+      row = a.row;
+      is_row = read_is_row First None (fresh text t c) new.lexer nothing_live a.row (restored-refl (fresh text t c)) a.reads (λ is. is);
+      after = rw (after.text, after.source_type, after.collects, a.rows, live) refl;
+    }
+
+pub begins_with : (text : List ℕ) (t : SourceType) (c : Bool) (old new : RowReaderState) (ms : List SessionMark) → old ≡ at_start (fresh text t c) → ms ≡ []
+    → AddsLive First None old new → Begins text t c (seen new ms)
+begins_with text t c old new ms start none a =
+    subst (λ m. Begins text t c (seen new m)) (sym none) (begins_fresh text t c new (subst (λ r. AddsLive First None r new) start a))
+
+-- the marks without the last one
+commit_popped : (r : RowReaderState) (ms ms' : List SessionMark) (popped : Option SessionMark) → ms ≡ ms' ++ option_to_list popped → (IsSome popped ↔ (0 < length ms)) → 0 < length ms
+    → IsInOrder r (reverse ms) → IsInOrder r (reverse ms') × (state_of (live_now r) ms' ≡ after_mark (effect_of Commit) (state_of (live_now r) ms))
+commit_popped r ms ms' None e found some h = absurd (let no : false ≡ true = found.1 some in cc)
+commit_popped r ms ms' (Some m) e found some h =
+    let turned : reverse ms ≡ m ∷ reverse ms' = ap reverse e ∙ reverse-append ms' (m ∷ []) in
+    let marks = marks-commit r.lexer.text r.lexer.source_type r.lexer.collects (live_now r) m (reverse ms') (rw turned at h.are_marks) in (
+      record { behind = h.behind; are_marks = marks.0; rows_lie = h.rows_lie; tokens_lie = h.tokens_lie },
+      rw (turned, marks.1) refl,
+    )
+
+some_marks : (r : RowReaderState) (ms : List SessionMark) → 0 < length (fronts (live_now r) (reverse ms)) → 0 < length ms
+some_marks r ms some = omega (arith, some, length-fronts (live_now r) (reverse ms), length-reverse ms)
+
+pub order_commit : (r : RowReaderState) (ms ms' : List SessionMark) (popped : Option SessionMark) → ms ≡ ms' ++ option_to_list popped → (IsSome popped ↔ (0 < length ms))
+    → 0 < length (fronts (live_now r) (reverse ms)) → IsInOrder r (reverse ms) → IsInOrder r (reverse ms')
+order_commit r ms ms' popped e found some h = (commit_popped r ms ms' popped e found (some_marks r ms some) h).0
+
+pub commit_is : (r : RowReaderState) (ms ms' : List SessionMark) (popped : Option SessionMark) → ms ≡ ms' ++ option_to_list popped → (IsSome popped ↔ (0 < length ms))
+    → 0 < length (fronts (live_now r) (reverse ms)) → IsInOrder r (reverse ms) → seen r ms' ≡ after_command Commit (seen r ms)
+commit_is r ms ms' popped e found some h = let state = (commit_popped r ms ms' popped e found (some_marks r ms some) h).1 in rw state refl
+
+pub length_marks : (r : RowReaderState) (ms : List SessionMark) → length ms ≡ length (fronts (live_now r) (reverse ms))
+length_marks r ms = sym (length-fronts (live_now r) (reverse ms) ∙ length-reverse ms)
+
+-- one more mark: all that is live is live at it
+mark_front : (r : RowReaderState) (ms : List SessionMark) (m : SessionMark) → IsMarkOf r m → IsInOrder r (reverse ms) → front (live_now r) m ≡ live_now r
+mark_front r ms m is h = front_all (live_now r) m r.lexer r.lexer.text r.lexer.source_type r.lexer.collects is.tokens is.checkpoint h.behind
+
+checkpoint_restored : (a b : LexerState) → IsRestored a b → checkpoint_of b ≡ checkpoint_of a
+checkpoint_restored a b h = rw (h.place, h.last, h.tokens, h.findings) refl
+
+pub order_mark : (r : RowReaderState) (ms ms' : List SessionMark) (m : SessionMark) → ms' ≡ ms ++ m ∷ [] → IsMarkOf r m → IsInOrder r (reverse ms) → IsInOrder r (reverse ms')
+order_mark r ms ms' m e is h =
+    let text = r.lexer.text in
+    let t = r.lexer.source_type in
+    let c = r.lexer.collects in
+    let now = live_now r in
+    let turned : reverse ms' ≡ m ∷ reverse ms = ap reverse e ∙ reverse-append ms (m ∷ []) in
+    let whole : front now m ≡ now = mark_front r ms m is h in
+    let behind = lexer_behind text t c now in
+    subst (IsInOrder r) (sym turned) (record {
+      behind = h.behind;
+      are_marks = (
+        record {
+          tokens = omega (arith, is.tokens);
+          checkpoint = is.checkpoint ∙ checkpoint_restored behind r.lexer h.behind ∙ ap (λ l. checkpoint_of (lexer_behind text t c l)) (sym whole);
+          goes_on = subst (λ l. GoesOnFrom (lexer_behind text t c l) behind) (sym whole) (goes_on-restored behind behind (restored-refl behind));
+          can_rewind = can_rewind-on r.lexer behind m.checkpoint is.can_rewind (goes_on-restored r.lexer behind (restored-sym behind r.lexer h.behind));
+        },
+        subst (λ l. AreMarks text t c l (reverse ms)) (sym whole) h.are_marks,
+      );
+      rows_lie = h.rows_lie;
+      tokens_lie = h.tokens_lie;
+    })
+
+pub mark_is : (r : RowReaderState) (ms ms' : List SessionMark) (m : SessionMark) → ms' ≡ ms ++ m ∷ [] → IsMarkOf r m → IsInOrder r (reverse ms)
+    → seen r ms' ≡ after_command Mark (seen r ms)
+mark_is r ms ms' m e is h =
+    let turned : reverse ms' ≡ m ∷ reverse ms = ap reverse e ∙ reverse-append ms (m ∷ []) in
+    let whole : front (live_now r) m ≡ live_now r = mark_front r ms m is h in
+    rw (turned, whole) refl
+
+-- the lexer may go back to the last mark
+last_mark : (r : RowReaderState) (ms ms' : List SessionMark) (m : SessionMark) → ms ≡ ms' ++ m ∷ [] → IsInOrder r (reverse ms)
+    → AreMarks r.lexer.text r.lexer.source_type r.lexer.collects (live_now r) (m ∷ reverse ms')
+last_mark r ms ms' m e h =
+    subst (AreMarks r.lexer.text r.lexer.source_type r.lexer.collects (live_now r)) (ap reverse e ∙ reverse-append ms' (m ∷ [])) h.are_marks
+
+pub may_rewind : (r : RowReaderState) (ms ms' : List SessionMark) (m : SessionMark) → ms ≡ ms' ++ m ∷ [] → IsInOrder r (reverse ms) → CanRewind r.lexer m.checkpoint
+may_rewind r ms ms' m e h = can_rewind-on _ r.lexer m.checkpoint (last_mark r ms ms' m e h).0.can_rewind (goes_on-restored _ r.lexer h.behind)
+
+-- back at the last mark
+pub record IsBack (r new : RowReaderState) (ms ms' : List SessionMark) (m : SessionMark) : Type 0 where
+  pub ends : ms ≡ ms' ++ m ∷ []
+  pub in_order : IsInOrder r (reverse ms)
+  pub back : GoesToMark m r new
+
+pub record LivesAgain (r new : RowReaderState) (m : SessionMark) : Type 0 where
+  pub lexer : IsRestored (lexer_behind r.lexer.text r.lexer.source_type r.lexer.collects (front (live_now r) m)) new.lexer
+  pub rows : new.rows ≡ r.rows
+  pub live : live_now new ≡ front (live_now r) m
+
+lives_again : (r new : RowReaderState) (ms ms' : List SessionMark) (m : SessionMark) → IsBack r new ms ms' m → LivesAgain r new m
+lives_again r new ms ms' m h =
+    let text = r.lexer.text in
+    let t = r.lexer.source_type in
+    let c = r.lexer.collects in
+    let now = live_now r in
+    let is = (last_mark r ms ms' m h.ends h.in_order).0 in
+    let restored = h.back.lexer (lexer_behind text t c (front now m)) is.checkpoint (goes_on-trans _ _ _ is.goes_on (goes_on-restored _ r.lexer h.in_order.behind)) in
+    let last : new.lexer.last ≡ m.checkpoint.last = restored.last ∙ sym (ap (λ x. x.last) is.checkpoint) in
+    let none : m.checkpoint.last ≡ None → take m.tokens r.tokens ≡ [] = λ none. ap (λ n. take n r.tokens) (none_at text t c now m is none) in
+    let tokens : new.tokens ≡ put_back (take m.tokens r.tokens) m.checkpoint.last =
+    h.back.tokens ∙ ap (λ x. with_last (take m.tokens r.tokens) (token_or_default x)) last ∙ replaced (take m.tokens r.tokens) m.checkpoint.last none
+    in
+    record { lexer = restored; rows = h.back.rows; live = same_live (live_now new) (front now m) tokens restored.findings }
+
+pub order_rewind : (r new : RowReaderState) (ms ms' : List SessionMark) (m : SessionMark) → IsBack r new ms ms' m → IsInOrder new (reverse ms')
+order_rewind r new ms ms' m h =
+    let text = r.lexer.text in
+    let t = r.lexer.source_type in
+    let c = r.lexer.collects in
+    let l = lives_again r new ms ms' m h in
+    let marks = last_mark r ms ms' m h.ends h.in_order in
+    order text t c new (reverse ms') l.lexer.text l.lexer.source_type l.lexer.collects
+    (subst (λ x. IsRestored (lexer_behind text t c x) new.lexer) (sym l.live) l.lexer)
+    (subst (λ x. AreMarks text t c x (reverse ms')) (sym l.live) marks.1)
+    (subst (AllByRecursion (LiesOnPlaces text)) (sym l.rows) h.in_order.rows_lie)
+    (subst (AllByRecursion (IsOnPlaces text)) (sym (ap (λ x. x.tokens) l.live))
+    (all-put_back (IsOnPlaces text) m.tokens r.tokens m.checkpoint.last h.in_order.tokens_lie marks.0.can_rewind.last))
+
+pub rewind_is : (r new : RowReaderState) (ms ms' : List SessionMark) (m : SessionMark) → IsBack r new ms ms' m → seen new ms' ≡ after_command Rewind (seen r ms)
+rewind_is r new ms ms' m h =
+    let l = lives_again r new ms ms' m h in
+    let turned : reverse ms ≡ m ∷ reverse ms' = ap reverse h.ends ∙ reverse-append ms' (m ∷ []) in
+    rw (l.lexer.text, l.lexer.source_type, l.lexer.collects, l.rows, l.live, turned) refl
+
+-- either way, whether a call could allocate
 pub either_way : {T E A B C : Type 0} → (r : Result T E) → OnOk r A → OnErr r B → (A → C) → (B → C) → C
 either_way (Ok x) a b f g = f a
 either_way (Err e) a b f g = g b
-
--- how contracts see a session with these fields
-abbrev pub seen : LexerState → List Row → LiveLists → List SessionMark → SessionState
-seen lexer rows lists marks = record { text = lexer.text; source_type = lexer.source_type; collects = lexer.collects; rows = rows; state = stands lists marks }
-
--- the lists, cut back to a mark
-abbrev pub cut_at : LiveLists → SessionMark → LiveLists
-cut_at lists m = record { tokens = take m.tokens lists.tokens; diagnostics = take m.diagnostics lists.diagnostics }
-
--- the lists with one more row
-abbrev pub longer : LiveLists → Row → LiveLists
-longer lists row = record { tokens = lists.tokens ++ row.token ∷ []; diagnostics = lists.diagnostics ++ row.diagnostics }
-
-stands_next : (text : List ℕ) (t : SourceType) (c : Bool) (lists : LiveLists) (ms : List SessionMark) (row : Row) → AreMarks text t c (now_of lists) (reverse ms)
-    → row.deferred ≡ [] → row.comments ≡ [] → row.irregular ≡ [] → stands (longer lists row) ms ≡ after_step Next row (stands lists ms)
-stands_next text t c lists ms row marks deferred comments irregular =
-    rw (saved_push text t c (now_of lists) (row.token ∷ []) row.diagnostics (reverse ms) marks, deferred, comments, irregular) refl
-
-pub held_adds : (old new : LexerState) (rows rows' : List Row) (lists lists' : LiveLists) (ms : List SessionMark) → IsHeld old (now_of lists) ms
-    → AddsLive old rows lists new rows' lists' → IsHeld new (now_of lists') ms
-held_adds old new rows rows' lists lists' ms h a =
-    let faults : a.row.diagnostics ≡ a.read.reads.faults = ap (λ r. r.diagnostics) a.read.row_is in
-    let held_longer : IsHeld new (now_of (longer lists a.row)) ms =
-    rw faults (held_next old new lists a.row.token a.read.reads.faults ms h a.read.reads.after)
-    in
-    subst (λ l. IsHeld new (now_of l) ms) (sym a.live_is) held_longer
-
-pub next_adds_row : (old new : LexerState) (rows rows' : List Row) (lists lists' : LiveLists) (ms : List SessionMark) → IsHeld old (now_of lists) (reverse ms)
-    → AddsLive old rows lists new rows' lists' → AddsRow Next (seen old rows lists ms) (seen new rows' lists' ms)
-next_adds_row old new rows rows' lists lists' ms h a =
-    let is = read_is_row old new (now_of lists) (Some Next) a.row (ap (λ l. l.is_fresh) h.behind) (ap (λ l. l.place) h.behind) a.read in
-    let after = a.read.reads.after in
-    let state : stands lists' ms ≡ after_step Next a.row (stands lists ms) =
-    ap (λ l. stands l ms) a.live_is ∙ stands_next old.text old.source_type old.collects lists ms a.row h.are_marks is.deferred is.comments is.irregular
-    in
-    let texts : new.text ≡ old.text = ap (λ l. l.text) after in
-    let types : new.source_type ≡ old.source_type = ap (λ l. l.source_type) after in
-    let collects : new.collects ≡ old.collects = ap (λ l. l.collects) after in
-    let rows_are : rows' ≡ rows ++ a.row ∷ [] = a.rows_are in
-    record { row = a.row; is_row = is; after = rw (texts, types, collects, state, rows_are) refl }
-
-pub peek_adds_row : (old : LexerState) (rows rows' : List Row) (lists : LiveLists) (ms : List SessionMark) → IsHeld old (now_of lists) (reverse ms)
-    → AddsPeek old rows rows' → AddsRow Peek (seen old rows lists ms) (seen old rows' lists ms)
-peek_adds_row old rows rows' lists ms h a =
-    let is = read_is_row old a.after (now_of lists) (Some Peek) a.row (ap (λ l. l.is_fresh) h.behind) (ap (λ l. l.place) h.behind) a.read in
-    let rows_are : rows' ≡ rows ++ a.row ∷ [] = a.rows_are in
-    record { row = a.row; is_row = is; after = rw rows_are refl }
-
--- the first row
-pub held_first : (text : List ℕ) (t : SourceType) (c : Bool) (new : LexerState) (row : Row) → ReadsRow first None (fresh text t c) row new
-    → IsHeld new (now_of (record { tokens = [] ++ row.token ∷ []; diagnostics = [] ++ row.diagnostics })) []
-held_first text t c new row read =
-    let faults : row.diagnostics ≡ read.reads.faults = ap (λ r. r.diagnostics) read.row_is in
-    let after = read.reads.after in
-    rw (after, faults) (record { behind = rw (append-nil (collected c row.token)) refl; are_marks = tt })
-
-pub first_begins : (text : List ℕ) (t : SourceType) (c : Bool) (new : LexerState) (row : Row) → ReadsRow first None (fresh text t c) row new
-    → Begins text t c (seen new ([] ++ row ∷ []) (record { tokens = [] ++ row.token ∷ []; diagnostics = [] ++ row.diagnostics }) [])
-first_begins text t c new row read =
-    let is = read_is_row (fresh text t c) new nothing_live None row refl refl read in
-    let after = read.reads.after in
-    let texts : new.text ≡ text = ap (λ l. l.text) after in
-    let types : new.source_type ≡ t = ap (λ l. l.source_type) after in
-    let collects : new.collects ≡ c = ap (λ l. l.collects) after in
-    let deferred : row.deferred ≡ [] = is.deferred in
-    let comments : row.comments ≡ [] = is.comments in
-    let irregular : row.irregular ≡ [] = is.irregular in
-    record { row = row; is_row = is; after = rw (texts, types, collects, deferred, comments, irregular) refl }
-
--- what a session with the first row holds begins it
-pub begins_with : (text : List ℕ) (t : SourceType) (c : Bool) (lexer new : LexerState) (row : Row) (rows rows' : List Row) (lists lists' : LiveLists) (ms : List SessionMark)
-    → lexer ≡ fresh text t c → ReadsRow first None lexer row new → rows ≡ [] → lists ≡ record { tokens = []; diagnostics = [] } → ms ≡ []
-    → (rows' ≡ rows ++ row ∷ []) × (lists' ≡ record { tokens = lists.tokens ++ row.token ∷ []; diagnostics = lists.diagnostics ++ row.diagnostics })
-    → Begins text t c (seen new rows' lists' ms)
-begins_with text t c lexer new row rows rows' lists lists' ms is_fresh read no_rows empty no_marks kept =
-    let begins = first_begins text t c new row (subst (λ l. ReadsRow first None l row new) is_fresh read) in
-    let rows_are : rows' ≡ [] ++ row ∷ [] = kept.0 ∙ ap (λ rs. rs ++ row ∷ []) no_rows in
-    let lists_are : lists' ≡ record { tokens = [] ++ row.token ∷ []; diagnostics = [] ++ row.diagnostics } =
-    kept.1 ∙ ap (λ l. longer l row) empty
-    in
-    subst (λ rs. Begins text t c (seen new rs lists' ms)) (sym rows_are)
-    (subst (λ l. Begins text t c (seen new ([] ++ row ∷ []) l ms)) (sym lists_are)
-    (subst (λ m. Begins text t c (seen new ([] ++ row ∷ []) (record { tokens = [] ++ row.token ∷ []; diagnostics = [] ++ row.diagnostics }) m)) (sym no_marks) begins))
-
--- the marks without the last one
-commit_popped : (ms ms' : List SessionMark) (popped : Option SessionMark) (lexer : LexerState) (lists : LiveLists) → ms ≡ ms' ++ option_to_list popped → (IsSome popped ↔ (0 < length ms)) → 0 < length ms
-    → IsHeld lexer (now_of lists) (reverse ms) → IsHeld lexer (now_of lists) (reverse ms') × (stands lists ms' ≡ after_mark Commit (stands lists ms))
-commit_popped ms ms' None lexer lists e found some h = absurd (let no : false ≡ true = found.1 some in cc)
-commit_popped ms ms' (Some m) lexer lists e found some h =
-    let turned : reverse ms ≡ m ∷ reverse ms' = ap reverse e ∙ reverse-append ms' (m ∷ []) in
-    let marks = marks_commit lexer.text lexer.source_type lexer.collects (now_of lists) m (reverse ms') (rw turned at h.are_marks) in
-    (record { behind = h.behind; are_marks = marks.0 }, rw (turned, marks.1) refl)
-
-pub held_commit : (ms ms' : List SessionMark) (popped : Option SessionMark) (lexer : LexerState) (lists : LiveLists) → ms ≡ ms' ++ option_to_list popped → (IsSome popped ↔ (0 < length ms))
-    → 0 < length (saved (now_of lists) (reverse ms)) → IsHeld lexer (now_of lists) (reverse ms) → IsHeld lexer (now_of lists) (reverse ms')
-held_commit ms ms' popped lexer lists e found some h =
-    (commit_popped ms ms' popped lexer lists e found (omega (arith, some, length-saved (now_of lists) (reverse ms), length-reverse ms)) h).0
-
-pub stands_commit : (ms ms' : List SessionMark) (popped : Option SessionMark) (lexer : LexerState) (rows : List Row) (lists : LiveLists) → ms ≡ ms' ++ option_to_list popped → (IsSome popped ↔ (0 < length ms))
-    → 0 < length (saved (now_of lists) (reverse ms)) → IsHeld lexer (now_of lists) (reverse ms) → seen lexer rows lists ms' ≡ marked Commit (seen lexer rows lists ms)
-stands_commit ms ms' popped lexer rows lists e found some h =
-    let state = (commit_popped ms ms' popped lexer lists e found (omega (arith, some, length-saved (now_of lists) (reverse ms), length-reverse ms)) h).1 in
-    rw state refl
-
-pub length_marks : (lists : LiveLists) (ms : List SessionMark) → length ms ≡ length (saved (now_of lists) (reverse ms))
-length_marks lists ms = sym (length-saved (now_of lists) (reverse ms) ∙ length-reverse ms)
-
--- back at the last mark
-pub held_rewind : (ms ms' : List SessionMark) (m : SessionMark) (lexer new : LexerState) (lists : LiveLists) → ms ≡ ms' ++ m ∷ [] → IsHeld lexer (now_of lists) (reverse ms)
-    → ((then : LexerState) → m.checkpoint ≡ checkpoint_of then → GoesOnFrom then lexer → new ≡ then)
-    → IsHeld new (front (now_of lists) m) (reverse ms') × (new ≡ lexer_behind lexer.text lexer.source_type lexer.collects (front (now_of lists) m)) × (stands (cut_at lists m) ms' ≡ after_mark Rewind (stands lists ms))
-held_rewind ms ms' m lexer new lists e h restores =
-    let turned : reverse ms ≡ m ∷ reverse ms' = ap reverse e ∙ reverse-append ms' (m ∷ []) in
-    let held_still : IsHeld lexer (now_of lists) (m ∷ reverse ms') = subst (IsHeld lexer (now_of lists)) turned h in
-    let there = behind_rewound lexer new (now_of lists) m (reverse ms') held_still restores in
-    (rw there (record { behind = refl; are_marks = held_still.are_marks.1 }), there, rw turned refl)
-
-pub stands_rewind : (ms ms' : List SessionMark) (m : SessionMark) (lexer new : LexerState) (rows : List Row) (lists : LiveLists) → ms ≡ ms' ++ m ∷ [] → IsHeld lexer (now_of lists) (reverse ms)
-    → ((then : LexerState) → m.checkpoint ≡ checkpoint_of then → GoesOnFrom then lexer → new ≡ then)
-    → seen new rows (cut_at lists m) ms' ≡ marked Rewind (seen lexer rows lists ms)
-stands_rewind ms ms' m lexer new rows lists e h restores =
-    let all = held_rewind ms ms' m lexer new lists e h restores in
-    let there = all.1 in
-    let texts : new.text ≡ lexer.text = ap (λ l. l.text) there in
-    let types : new.source_type ≡ lexer.source_type = ap (λ l. l.source_type) there in
-    let collects : new.collects ≡ lexer.collects = ap (λ l. l.collects) there in
-    let state : stands (cut_at lists m) ms' ≡ after_mark Rewind (stands lists ms) = all.2 in
-    rw (texts, types, collects, state) refl
-
--- one more mark
-pub held_mark : (ms ms' : List SessionMark) (m : SessionMark) (lexer : LexerState) (lists : LiveLists) → ms' ≡ ms ++ m ∷ [] → m.tokens ≡ length lists.tokens → m.diagnostics ≡ length lists.diagnostics
-    → m.checkpoint ≡ checkpoint_of lexer → CanRewind lexer m.checkpoint → IsHeld lexer (now_of lists) (reverse ms) → IsHeld lexer (now_of lists) (reverse ms')
-held_mark ms ms' m lexer lists e tokens diagnostics point open_still h =
-    let turned : reverse ms' ≡ m ∷ reverse ms = ap reverse e ∙ reverse-append ms (m ∷ []) in
-    let whole : front (now_of lists) m ≡ now_of lists = rw (tokens, diagnostics, take_all (length lists.tokens) lists.tokens (omega arith), take_all (length lists.diagnostics) lists.diagnostics (omega arith)) refl in
-    let behind : lexer ≡ lexer_behind lexer.text lexer.source_type lexer.collects (now_of lists) = h.behind in
-    let at : m.checkpoint ≡ checkpoint_of (lexer_behind lexer.text lexer.source_type lexer.collects (front (now_of lists) m)) =
-    point ∙ ap checkpoint_of behind ∙ ap (λ l. checkpoint_of (lexer_behind lexer.text lexer.source_type lexer.collects l)) (sym whole)
-    in
-    subst (IsHeld lexer (now_of lists)) (sym turned) (record {
-      behind = behind;
-      are_marks = (
-        record { tokens = omega (arith, tokens); diagnostics = omega (arith, diagnostics); checkpoint = at; open_still = subst (λ l. CanRewind l m.checkpoint) behind open_still },
-        subst (λ l. AreMarks lexer.text lexer.source_type lexer.collects l (reverse ms)) (sym whole) h.are_marks,
-      );
-    })
-
--- the lexer may go back to the last mark
-pub may_rewind : (ms ms' : List SessionMark) (m : SessionMark) (lexer : LexerState) (lists : LiveLists) → ms ≡ ms' ++ m ∷ [] → IsHeld lexer (now_of lists) (reverse ms) → CanRewind lexer m.checkpoint
-may_rewind ms ms' m lexer lists e h =
-    let turned : reverse ms ≡ m ∷ reverse ms' = ap reverse e ∙ reverse-append ms' (m ∷ []) in
-    let marks : AreMarks lexer.text lexer.source_type lexer.collects (now_of lists) (m ∷ reverse ms') = subst (AreMarks lexer.text lexer.source_type lexer.collects (now_of lists)) turned h.are_marks in
-    subst (λ l. CanRewind l m.checkpoint) (sym h.behind) marks.0.open_still

@@ -1,16 +1,53 @@
 -- There is at most one report.
-use Rattle.std.proofs.Common.{◌≡◌, ℕ, Bool, false, List, [], ◌∷◌, refl, sym, ◌∙◌, ap, subst, Option, Some, None}
+use Rattle.std.proofs.Common.{◌≡◌, ℕ, Bool, true, false, List, [], ◌∷◌, refl, sym, ◌∙◌, ap, subst, Option, Some, None}
+use Rattle.std.specs.Prelude.{MatchBool}
 use Rattle.std.specs.Str.{IsUtf8}
 use Rattle.js_text.specs.declared.source_type.SourceType.{SourceType}
 use Rattle.js_grammar.specs.Goals.{GoalReads}
-use Rattle.js_grammar.specs.Hashbang.Goal.{next}
+use Rattle.js_grammar.specs.declared.goal.Goal.{Goal}
 use Rattle.js_grammar.proofs.Unique.{goal_reads_unique}
+use Rattle.js_lexer.specs.Lexer.{token_or_default}
 use Rattle.js_session.specs.declared.command.Command.{Command}
-use Rattle.js_session.specs.declared.command.Command.TheVariants.{Next, Peek, Mark, Rewind, Commit}
+use Rattle.js_session.specs.declared.command.Command.TheVariants.{Next, Peek}
 use Rattle.js_session.specs.declared.report.Report.{Report}
 use Rattle.js_session.specs.declared.row.Row.{Row}
-use Rattle.js_session.specs.Live.{Live, State, is_step, after_step, after_mark, begun, nothing_live, live}
-use Rattle.js_session.specs.Report.{IsRow, Run, AreRows, ReportOf, goal_of, is_first, value_of, all_collected}
+use Rattle.js_session.specs.Effects.{Effect, effect_of, row_effect, is_step}
+use Rattle.js_session.specs.Effects.Effect.{reads, peeks, re_lexes, opens, rewinds, commits}
+use Rattle.js_session.specs.Live.{Live, State, outcome_of, last_live, after_row, after_mark, state_after_first, nothing_live, live}
+use Rattle.js_session.specs.Report.{IsRead, IsReLexed, IsNotTaken, IsOfEffect, IsRow, fits, HasMark, Run, AreRows, ReportOf, all_collected}
+
+-- what an effect decides of a row
+record SameOfEffect (a b : Row) : Type 0 where
+  pub taken : a.taken ≡ b.taken
+  pub outcome : outcome_of a ≡ outcome_of b
+
+read_unique : (text : List ℕ) (t : SourceType) (now : Live) (goal : Goal) (a b : Row) → IsUtf8 text → a.place ≡ b.place → IsRead text t now goal a → IsRead text t now goal b → SameOfEffect a b
+read_unique text t now goal a b utf8 place h g =
+    let there = subst (λ p. GoalReads text t goal (last_live now) p (outcome_of b)) (sym place) g.reads in
+    record {
+      taken = h.taken ∙ sym g.taken;
+      outcome = goal_reads_unique text t goal (last_live now) a.place (outcome_of a) (outcome_of b) utf8 h.reads there;
+    }
+
+re_lex_unique : (text : List ℕ) (t : SourceType) (now : Live) (goal : Goal) (a b : Row) → IsUtf8 text → (taken : Bool) → MatchBool taken (IsReLexed text t now goal a) (IsNotTaken now a)
+    → MatchBool taken (IsReLexed text t now goal b) (IsNotTaken now b) → SameOfEffect a b
+re_lex_unique text t now goal a b utf8 true h g = record {
+  taken = h.taken ∙ sym g.taken;
+  outcome = goal_reads_unique text t goal (last_live now) (token_or_default (last_live now)).start (outcome_of a) (outcome_of b) utf8 h.reads g.reads;
+}
+re_lex_unique text t now goal a b utf8 false h g = record {
+  taken = h.taken ∙ sym g.taken;
+  outcome = rw (h.token, h.value, h.regex, h.findings, g.token, g.value, g.regex, g.findings) refl;
+}
+
+effect_unique : (text : List ℕ) (t : SourceType) (now : Live) (effect : Effect) (a b : Row) → IsUtf8 text → a.place ≡ b.place → IsOfEffect text t now effect a → IsOfEffect text t now effect b
+    → SameOfEffect a b
+effect_unique text t now (reads goal) a b utf8 place h g = read_unique text t now goal a b utf8 place h g
+effect_unique text t now (peeks goal) a b utf8 place h g = read_unique text t now goal a b utf8 place h g
+effect_unique text t now (re_lexes goal) a b utf8 place h g = re_lex_unique text t now goal a b utf8 (fits goal (token_or_default (last_live now))) h g
+effect_unique text t now opens a b utf8 place h g = absurd h
+effect_unique text t now rewinds a b utf8 place h g = absurd h
+effect_unique text t now commits a b utf8 place h g = absurd h
 
 same_row : (a b : Row) → a.command ≡ b.command → a.place ≡ b.place → a.taken ≡ b.taken → a.token ≡ b.token → a.value ≡ b.value → a.regex ≡ b.regex
     → a.diagnostics ≡ b.diagnostics → a.deferred ≡ b.deferred → a.comments ≡ b.comments → a.irregular ≡ b.irregular → a ≡ b
@@ -19,63 +56,53 @@ same_row a b e1 e2 e3 e4 e5 e6 e7 e8 e9 e10 = rw (e1, e2, e3, e4, e5, e6, e7, e8
 pub row_unique : (text : List ℕ) (t : SourceType) (now : Live) (command : Option Command) (a b : Row) → IsUtf8 text → IsRow text t now command a → IsRow text t now command b → a ≡ b
 row_unique text t now command a b utf8 h g =
     let place : a.place ≡ b.place = h.place ∙ sym g.place in
-    let there : GoalReads text t (goal_of command) (is_first command) a.place (record { token = b.token; diagnostics = b.diagnostics }) =
-    subst (λ p. GoalReads text t (goal_of command) (is_first command) p (record { token = b.token; diagnostics = b.diagnostics })) (sym place) g.reads
-    in
-    let same = goal_reads_unique text t (goal_of command) (is_first command) a.place _ _ utf8 h.reads there in
-    let token : a.token ≡ b.token = ap (λ o. o.token) same in
-    let faults : a.diagnostics ≡ b.diagnostics = ap (λ o. o.diagnostics) same in
-    let value : a.value ≡ b.value = h.value ∙ ap value_of token ∙ sym g.value in
-    let commands : a.command ≡ b.command = h.command_is ∙ sym g.command_is in
-    let taken : a.taken ≡ b.taken = h.taken ∙ sym g.taken in
-    let regex : a.regex ≡ b.regex = h.regex ∙ sym g.regex in
-    let deferred : a.deferred ≡ b.deferred = h.deferred ∙ sym g.deferred in
-    let comments : a.comments ≡ b.comments = h.comments ∙ sym g.comments in
-    let irregular : a.irregular ≡ b.irregular = h.irregular ∙ sym g.irregular in
-    same_row a b commands place taken token value regex faults deferred comments irregular
+    let same = effect_unique text t now (row_effect command) a b utf8 place h.gives g.gives in
+    let o = same.outcome in
+    same_row a b (h.command_is ∙ sym g.command_is) place same.taken (ap (λ x. x.token) o) (ap (λ x. x.value) o) (ap (λ x. x.regex) o)
+    (ap (λ x. x.findings.diagnostics) o) (ap (λ x. x.findings.deferred) o) (ap (λ x. x.findings.comments) o) (ap (λ x. x.findings.irregular) o)
 
 -- a peek and the next step
 pub peek_is_next : (text : List ℕ) (t : SourceType) (now : Live) (peek row : Row) → IsUtf8 text → IsRow text t now (Some Peek) peek → IsRow text t now (Some Next) row
-    → (peek.token ≡ row.token) × (peek.diagnostics ≡ row.diagnostics)
-peek_is_next text t now peek row utf8 h g =
-    let place : peek.place ≡ row.place = h.place ∙ sym g.place in
-    let there : GoalReads text t next false peek.place (record { token = row.token; diagnostics = row.diagnostics }) =
-    subst (λ p. GoalReads text t next false p (record { token = row.token; diagnostics = row.diagnostics })) (sym place) g.reads
-    in
-    let same = goal_reads_unique text t next false peek.place _ _ utf8 h.reads there in
-    (ap (λ o. o.token) same, ap (λ o. o.diagnostics) same)
-
--- what is left of a run behind a command that gives no row
-run_rest : (text : List ℕ) (t : SourceType) (s : State) (c : Command) (cs : List Command) (rows : List Row) → is_step c ≡ false → Run text t s (c ∷ cs) rows → Run text t (after_mark c s) cs rows
-run_rest text t s c cs [] e h = (rw e at h).1
-run_rest text t s c cs (row ∷ rows) e h = (rw e at h).1
+    → outcome_of peek ≡ outcome_of row
+peek_is_next text t now peek row utf8 h g = (read_unique text t now _ peek row utf8 (h.place ∙ sym g.place) h.gives g.gives).outcome
 
 run_unique : (text : List ℕ) (t : SourceType) (s : State) (commands : List Command) (xs ys : List Row) → IsUtf8 text → Run text t s commands xs → Run text t s commands ys → xs ≡ ys
 run_unique text t s [] xs ys utf8 h g = h ∙ sym g
-run_unique text t s (Next ∷ cs) [] ys utf8 h g = absurd h
-run_unique text t s (Next ∷ cs) (a ∷ xs) [] utf8 h g = absurd g
-run_unique text t s (Next ∷ cs) (a ∷ xs) (b ∷ ys) utf8 h g =
-    let same = row_unique text t s.now (Some Next) a b utf8 h.0 g.0 in
-    let there = subst (λ r. Run text t (after_step Next r s) cs ys) (sym same) g.1 in
-    let rest = run_unique text t (after_step Next a s) cs xs ys utf8 h.1 there in
-    ap (λ r. r ∷ xs) same ∙ ap (λ rs. b ∷ rs) rest
-run_unique text t s (Peek ∷ cs) [] ys utf8 h g = absurd h
-run_unique text t s (Peek ∷ cs) (a ∷ xs) [] utf8 h g = absurd g
-run_unique text t s (Peek ∷ cs) (a ∷ xs) (b ∷ ys) utf8 h g =
-    let same = row_unique text t s.now (Some Peek) a b utf8 h.0 g.0 in
-    let rest = run_unique text t s cs xs ys utf8 h.1 g.1 in
-    ap (λ r. r ∷ xs) same ∙ ap (λ rs. b ∷ rs) rest
-run_unique text t s (Mark ∷ cs) xs ys utf8 h g = run_unique text t _ cs xs ys utf8 (run_rest text t s Mark cs xs refl h) (run_rest text t s Mark cs ys refl g)
-run_unique text t s (Rewind ∷ cs) xs ys utf8 h g = run_unique text t _ cs xs ys utf8 (run_rest text t s Rewind cs xs refl h) (run_rest text t s Rewind cs ys refl g)
-run_unique text t s (Commit ∷ cs) xs ys utf8 h g = run_unique text t _ cs xs ys utf8 (run_rest text t s Commit cs xs refl h) (run_rest text t s Commit cs ys refl g)
+run_unique text t s (c ∷ cs) [] [] utf8 h g = refl
+run_unique text t s (c ∷ cs) [] (b ∷ ys) utf8 h g = by_step (is_step c) (run_unique text t (after_mark (effect_of c) s) cs [] (b ∷ ys) utf8) h g
+  where
+    by_step : (step : Bool) → (Run text t (after_mark (effect_of c) s) cs [] → Run text t (after_mark (effect_of c) s) cs (b ∷ ys) → [] ≡ b ∷ ys)
+        → MatchBool step ⊥ (HasMark c s × Run text t (after_mark (effect_of c) s) cs [])
+        → MatchBool step (IsRow text t s.now (Some c) b × Run text t (after_row (effect_of c) b s) cs ys) (HasMark c s × Run text t (after_mark (effect_of c) s) cs (b ∷ ys)) → [] ≡ b ∷ ys
+    by_step true all h g = absurd h
+    by_step false all h g = all h.1 g.1
+run_unique text t s (c ∷ cs) (a ∷ xs) [] utf8 h g = by_step (is_step c) (run_unique text t (after_mark (effect_of c) s) cs (a ∷ xs) [] utf8) h g
+  where
+    by_step : (step : Bool) → (Run text t (after_mark (effect_of c) s) cs (a ∷ xs) → Run text t (after_mark (effect_of c) s) cs [] → a ∷ xs ≡ [])
+        → MatchBool step (IsRow text t s.now (Some c) a × Run text t (after_row (effect_of c) a s) cs xs) (HasMark c s × Run text t (after_mark (effect_of c) s) cs (a ∷ xs))
+        → MatchBool step ⊥ (HasMark c s × Run text t (after_mark (effect_of c) s) cs []) → a ∷ xs ≡ []
+    by_step true all h g = absurd g
+    by_step false all h g = all h.1 g.1
+run_unique text t s (c ∷ cs) (a ∷ xs) (b ∷ ys) utf8 h g =
+    by_step (is_step c) (run_unique text t (after_row (effect_of c) a s) cs xs ys utf8) (run_unique text t (after_mark (effect_of c) s) cs (a ∷ xs) (b ∷ ys) utf8) h g
+  where
+    by_step : (step : Bool) → (Run text t (after_row (effect_of c) a s) cs xs → Run text t (after_row (effect_of c) a s) cs ys → xs ≡ ys)
+        → (Run text t (after_mark (effect_of c) s) cs (a ∷ xs) → Run text t (after_mark (effect_of c) s) cs (b ∷ ys) → a ∷ xs ≡ b ∷ ys)
+        → MatchBool step (IsRow text t s.now (Some c) a × Run text t (after_row (effect_of c) a s) cs xs) (HasMark c s × Run text t (after_mark (effect_of c) s) cs (a ∷ xs))
+        → MatchBool step (IsRow text t s.now (Some c) b × Run text t (after_row (effect_of c) b s) cs ys) (HasMark c s × Run text t (after_mark (effect_of c) s) cs (b ∷ ys)) → a ∷ xs ≡ b ∷ ys
+    by_step true rest all h g =
+        let same = row_unique text t s.now (Some c) a b utf8 h.0 g.0 in
+        let there = subst (λ r. Run text t (after_row (effect_of c) r s) cs ys) (sym same) g.1 in
+        ap (λ r. r ∷ xs) same ∙ ap (λ rs. b ∷ rs) (rest h.1 there)
+    by_step false rest all h g = all h.1 g.1
 
 pub rows_unique : (text : List ℕ) (t : SourceType) (commands : List Command) (xs ys : List Row) → IsUtf8 text → AreRows text t commands xs → AreRows text t commands ys → xs ≡ ys
 rows_unique text t commands [] ys utf8 h g = absurd h
 rows_unique text t commands (a ∷ xs) [] utf8 h g = absurd g
 rows_unique text t commands (a ∷ xs) (b ∷ ys) utf8 h g =
     let same = row_unique text t nothing_live None a b utf8 h.0 g.0 in
-    let there = subst (λ r. Run text t (begun r) commands ys) (sym same) g.1 in
-    ap (λ r. r ∷ xs) same ∙ ap (λ rs. b ∷ rs) (run_unique text t (begun a) commands xs ys utf8 h.1 there)
+    let there = subst (λ r. Run text t (state_after_first r) commands ys) (sym same) g.1 in
+    ap (λ r. r ∷ xs) same ∙ ap (λ rs. b ∷ rs) (run_unique text t (state_after_first a) commands xs ys utf8 h.1 there)
 
 same_report : (a b : Report) → a.rows ≡ b.rows → a.tokens ≡ b.tokens → a.collected ≡ b.collected → a.diagnostics ≡ b.diagnostics → a.deferred ≡ b.deferred → a.comments ≡ b.comments
     → a.irregular ≡ b.irregular → a ≡ b
@@ -86,5 +113,5 @@ report_unique source t collects commands a b h g =
     let rows : a.rows ≡ b.rows = rows_unique source t commands a.rows b.rows h.utf8 h.rows g.rows in
     let lists = h.lists ∙ ap (live commands) rows ∙ sym g.lists in
     let tokens : a.tokens ≡ b.tokens = ap (λ l. l.tokens) lists in
-    same_report a b rows tokens (h.collected_are ∙ ap (all_collected collects) tokens ∙ sym g.collected_are) (ap (λ l. l.diagnostics) lists)
-    (h.deferred ∙ sym g.deferred) (h.comments ∙ sym g.comments) (h.irregular ∙ sym g.irregular)
+    same_report a b rows tokens (h.collected_are ∙ ap (all_collected collects) tokens ∙ sym g.collected_are) (ap (λ l. l.findings.diagnostics) lists)
+    (ap (λ l. l.findings.deferred) lists) (ap (λ l. l.findings.comments) lists) (ap (λ l. l.findings.irregular) lists)

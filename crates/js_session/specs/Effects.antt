@@ -5,8 +5,8 @@ use Rattle.js_grammar.specs.declared.goal.Goal.TheVariants.{First, Next as NextG
 use Rattle.js_session.specs.declared.command.Command.{Command}
 use Rattle.js_session.specs.declared.command.Command.TheVariants.{Next, Peek, Mark, Rewind, Commit}
 
--- Reading a goal from behind the last live token, with the token live from then on, or only to look; reading the last live
--- token again; opening a mark; going back to the last open mark; or closing it.
+-- Reading a goal from behind the last live token, with the token live from then on, or only to look; reading the last
+-- live token again; opening a mark; going back to the last open mark; or closing it.
 pub data Effect : Type 0 where
   reads : Goal → Effect
   peeks : Goal → Effect

@@ -1,5 +1,5 @@
 -- Why a source or a list of commands gives no report.
-use Rattle.std.specs.Prelude.{◌≡◌, ℕ, ◌<◌, ◌≤◌, ◌^◌, Bool, true, false, List, length, take, slice_index, slice_get, count_by, codes, ◌==◌, ◌&&◌, ◌||◌, not, nat_le, Some}
+use Rattle.std.specs.Prelude.{◌≡◌, ℕ, ◌<◌, ◌≤◌, ◌^◌, true, false, List, length, take, slice_get, count_by, Some}
 use Rattle.std.specs.Str.{IsUtf8}
 use Rattle.std.specs.Str.Lossy.{utf8_valid_len}
 pub use Rattle.js_grammar.specs.Built.{is_unbuilt_byte, is_unbuilt_at, IsBuilt}
@@ -36,7 +36,7 @@ pub record IsReadable (source : List ℕ) : Type 0 where
   pub utf8 : IsUtf8 source
   pub built : IsBuilt source
 
--- The cause of a fault: that of one is none of those tested before it. Want of memory has none.
+-- The cause of a fault: that of one is none of those tested before it. A lack of memory has none here.
 abbrev pub Cause : List ℕ → List Command → LexFault → Type 0
 Cause source commands Overlong = 2 ^ 32 ≤ length source
 Cause source commands (NotUtf8 at) = (length source < 2 ^ 32) × (¬ (IsUtf8 source)) × (at ≡ utf8_valid_len source)

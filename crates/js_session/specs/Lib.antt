@@ -3,4 +3,5 @@ pub mod Faults
 pub mod Live
 pub mod Marks
 pub mod Report
+pub mod RowReader
 pub mod Session

@@ -1,5 +1,5 @@
 -- What is live in a session: a fold over its commands and rows.
-use Rattle.std.specs.Prelude.{ℕ, Bool, List, [], ◌∷◌, ◌++◌, Option, None, if◌then◌else◌}
+use Rattle.std.specs.Prelude.{ℕ, List, [], ◌∷◌, ◌++◌, Option, None, if◌then◌else◌}
 use Rattle.std.specs.List.{last_or}
 use Rattle.js_text.specs.Lists.{with_last}
 use Rattle.js_grammar.specs.Outcome.{Findings, no_findings, joined, Outcome}
@@ -105,5 +105,10 @@ live commands (row ∷ rows) = (state_after (state_after_first row) commands row
 abbrev pub report_live : Report → Live
 report_live r = record {
   tokens = r.tokens;
-  findings = record { diagnostics = r.diagnostics; deferred = r.deferred; comments = r.comments; irregular = r.irregular };
+  findings = record {
+    diagnostics = r.diagnostics;
+    deferred = r.deferred;
+    comments = r.comments;
+    irregular = r.irregular;
+  };
 }

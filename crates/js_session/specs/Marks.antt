@@ -2,17 +2,21 @@
 use Rattle.std.specs.Prelude.{◌≡◌, ℕ, ◌≤◌, Bool, List, [], ◌∷◌, length, take, reverse}
 use Rattle.std.specs.List.{AllByRecursion}
 use Rattle.js_text.specs.declared.source_type.SourceType.{SourceType}
-use Rattle.js_grammar.specs.Outcome.{Findings, cut_to, AreWithin}
+use Rattle.js_grammar.specs.Outcome.{Findings, cut_to}
 use Rattle.js_kind.specs.TokenParts.{TokenParts}
-use Rattle.js_lexer.specs.Lexer.{LexerState, IsRestored, GoesOnFrom, Checkpoint, checkpoint_of, put_back, IsOnPlaces}
+use Rattle.js_lexer.specs.Lexer.{LexerState, IsRestored, GoesOnFrom, CanRewind, checkpoint_of, put_back, IsOnPlaces}
 use Rattle.js_session.specs.Live.{Live, State, last_live, place_behind_last}
 use Rattle.js_session.specs.Report.{all_collected, LiesOnPlaces}
-use Rattle.js_session.specs.declared.keep.SessionMark.{SessionMark}
-use Rattle.js_session.specs.declared.row.Row.{Row}
+use Rattle.js_session.specs.RowReader.{RowReaderState}
+use Rattle.js_session.specs.declared.mark.SessionMark.{SessionMark}
 
 -- what is live, by a session's tokens and what its lexer has found
 abbrev pub live_of : List TokenParts → Findings → Live
 live_of tokens findings = record { tokens = tokens; findings = findings }
+
+-- what is live of what was read
+abbrev pub live_now : RowReaderState → Live
+live_now r = live_of r.tokens r.lexer.findings
 
 -- What was live at a mark. Its last token may have been read again since: the checkpoint has it as it was.
 abbrev pub front : Live → SessionMark → Live
@@ -42,22 +46,22 @@ lexer_behind text t collects now = record {
   findings = now.findings;
 }
 
--- A mark: its checkpoint is of the lexer behind what was live then, and the lexer has gone on from there.
+-- A mark: its checkpoint is of the lexer behind what was live then. The lexer has gone on from there, and may go back.
 pub record IsMark (text : List ℕ) (t : SourceType) (collects : Bool) (now : Live) (m : SessionMark) : Type 0 where
   pub tokens : m.tokens ≤ length now.tokens
-  pub findings : AreWithin m.checkpoint.lengths now.findings
   pub checkpoint : m.checkpoint ≡ checkpoint_of (lexer_behind text t collects (front now m))
   pub goes_on : GoesOnFrom (lexer_behind text t collects (front now m)) (lexer_behind text t collects now)
+  pub can_rewind : CanRewind (lexer_behind text t collects now) m.checkpoint
 
 -- the marks, the last one first
 abbrev pub AreMarks : List ℕ → SourceType → Bool → Live → List SessionMark → Type 0
 AreMarks text t collects now [] = Unit {0}
 AreMarks text t collects now (m ∷ ms) = IsMark text t collects now m × AreMarks text t collects (front now m) ms
 
--- A session is in order: its lexer is behind the last live token, its marks are of what was live, and rows and live tokens
--- lie on places of the text.
-pub record IsInOrder (lexer : LexerState) (rows : List Row) (now : Live) (marks : List SessionMark) : Type 0 where
-  pub behind : IsRestored (lexer_behind lexer.text lexer.source_type lexer.collects now) lexer
-  pub are_marks : AreMarks lexer.text lexer.source_type lexer.collects now marks
-  pub rows_lie : AllByRecursion (LiesOnPlaces lexer.text) rows
-  pub tokens_lie : AllByRecursion (IsOnPlaces lexer.text) now.tokens
+-- A session is in order: its lexer is behind the last live token, its marks are of what was live, and rows and live
+-- tokens lie on places of the text.
+pub record IsInOrder (r : RowReaderState) (marks : List SessionMark) : Type 0 where
+  pub behind : IsRestored (lexer_behind r.lexer.text r.lexer.source_type r.lexer.collects (live_now r)) r.lexer
+  pub are_marks : AreMarks r.lexer.text r.lexer.source_type r.lexer.collects (live_now r) marks
+  pub rows_lie : AllByRecursion (LiesOnPlaces r.lexer.text) r.rows
+  pub tokens_lie : AllByRecursion (IsOnPlaces r.lexer.text) r.tokens

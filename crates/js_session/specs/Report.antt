@@ -1,5 +1,5 @@
 -- What a session reports: which rows answer its commands, and what is live after them.
-use Rattle.std.specs.Prelude.{◌≡◌, ◌≢◌, ℕ, ◌<◌, ◌≤◌, ◌^◌, Bool, true, false, List, [], ◌∷◌, ◌++◌, length, Option, Some, None, MatchBool}
+use Rattle.std.specs.Prelude.{◌≡◌, ◌≢◌, ℕ, ◌<◌, ◌≤◌, ◌^◌, Bool, true, false, List, [], ◌∷◌, length, Option, Some, None, MatchBool}
 use Rattle.std.specs.List.{flat_map}
 use Rattle.std.specs.Str.{IsUtf8, IsCharBoundary}
 use Rattle.js_text.specs.declared.source_type.SourceType.{SourceType}
@@ -89,7 +89,8 @@ Run text t s (c ∷ cs) (row ∷ rows) =
 -- The rows answer the first step, and then the commands.
 abbrev pub AreRows : List ℕ → SourceType → List Command → List Row → Type 0
 AreRows text t commands [] = ⊥
-AreRows text t commands (row ∷ rows) = IsRow text t nothing_live None row × Run text t (state_after_first row) commands rows
+AreRows text t commands (row ∷ rows) =
+    IsRow text t nothing_live None row × Run text t (state_after_first row) commands rows
 
 -- What is collected of tokens: nothing where tokens are not collected, else all but a hashbang comment.
 abbrev pub all_collected : Bool → List TokenParts → List TokenParts

@@ -1,12 +1,11 @@
 -- How contracts see a session, and what its calls do.
-use Rattle.std.specs.Prelude.{◌≡◌, ℕ, Bool, true, List, [], ◌∷◌, ◌++◌, Option, Some, None, MatchBool}
+use Rattle.std.specs.Prelude.{◌≡◌, ℕ, Bool, List, [], ◌∷◌, ◌++◌, Some, None, MatchBool}
+use Rattle.std.specs.List.{AllByRecursion}
 use Rattle.js_text.specs.declared.source_type.SourceType.{SourceType}
-use Rattle.js_grammar.specs.Outcome.{Outcome}
-use Rattle.js_grammar.specs.declared.goal.Goal.{Goal}
-use Rattle.js_lexer.specs.Lexer.{LexerState, ReadsToken}
+use Rattle.js_lexer.specs.Lexer.{IsOnPlaces}
 use Rattle.js_session.specs.Effects.{effect_of, is_step}
-use Rattle.js_session.specs.Live.{State, outcome_of, nothing_live, state_after_first, after_row, after_mark}
-use Rattle.js_session.specs.Report.{IsRow, all_collected}
+use Rattle.js_session.specs.Live.{State, nothing_live, state_after_first, after_row, after_mark}
+use Rattle.js_session.specs.Report.{IsRow, LiesOnPlaces, all_collected}
 use Rattle.js_session.specs.declared.command.Command.{Command}
 use Rattle.js_session.specs.declared.report.Report.{Report}
 use Rattle.js_session.specs.declared.row.Row.{Row}
@@ -53,13 +52,10 @@ report_of s = let now = s.state.now in record {
   irregular = now.findings.irregular;
 }
 
--- A row was read for a goal from where the lexer stands, and the lexer is behind its token.
-pub record ReadsRow (goal : Goal) (command : Option Command) (old : LexerState) (row : Row) (new : LexerState) : Type 0 where
-  pub reads : ReadsToken goal old row.token new
-  pub outcome_is : outcome_of row ≡ reads.outcome
-  pub command_is : row.command ≡ command
-  pub place : row.place ≡ old.place
-  pub taken : row.taken ≡ true
+-- The rows of a session, and its live tokens, lie on places of its text.
+pub record LieOnPlaces (s : SessionState) : Type 0 where
+  pub rows : AllByRecursion (LiesOnPlaces s.text) s.rows
+  pub tokens : AllByRecursion (IsOnPlaces s.text) s.state.now.tokens
 
 -- One command of any kind: a step adds its row, and any other command changes the state alone.
 abbrev pub Follows : Command → SessionState → SessionState → Type 0

@@ -1,7 +1,7 @@
 //! Commands.
 
 ghost use Rattle.std.specs.Prelude.{◌≡◌};
-ghost use Rattle.js_session.specs.Live.{is_step};
+ghost use Rattle.js_session.specs.Effects.{is_step};
 
 use js_text::ItemList;
 

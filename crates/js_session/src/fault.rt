@@ -2,7 +2,7 @@
 
 ghost use Rattle.std.specs.Prelude.{◌≡◌, ◌+◌, ◌<◌, List, length, cond, codes, true, IfOk, IfErr, IfSome, IfNone, MatchOption};
 ghost use Rattle.js_grammar.specs.Gap.{is_prefix};
-ghost use Rattle.js_session.specs.Live.{opens, closes};
+ghost use Rattle.js_session.specs.Effects.{opens_one, closes};
 ghost use Rattle.js_session.specs.declared.command.Command.{Command};
 ghost use Rattle.js_session.specs.Faults.{is_unbuilt_byte, is_unbuilt_at, FirstUnbuilt, IsBuilt, FirstWithoutMark, HasMarks, IsReadable, Cause};
 
@@ -60,7 +60,7 @@ fn first_unbuilt(source: &[u8]) -> Option<usize>
 fn marks_after(marks: usize, command: Command) -> Option<usize>
     requires { marks < usize.MAX }
     ensures none { IfNone result ((marks ≡ 0) × (closes command ≡ true)) }
-    ensures some { IfSome result (λ n. n + cond (closes command) 1 0 ≡ marks + cond (opens command) 1 0) }
+    ensures some { IfSome result (λ n. n + cond (closes command) 1 0 ≡ marks + cond (opens_one command) 1 0) }
     ensures can_close { IfSome result (λ _. closes command ≡ true → 0 < marks) }
 {
     match command {
@@ -85,7 +85,7 @@ fn first_without_mark(commands: &[Command]) -> Option<usize>
 }
 
 /// The source as a text that can be read.
-fn readable(source: &[u8]) -> Result<&str, LexFault>
+fn text_of(source: &[u8]) -> Result<&str, LexFault>
     ensures ok { IfOk result (λ text. (text.now ≡ source.now) × IsReadable source.now) }
     ensures err { IfErr result (λ fault. (commands : List Command) → Cause source.now commands fault) }
 {
@@ -102,12 +102,12 @@ fn readable(source: &[u8]) -> Result<&str, LexFault>
     }
 }
 
-/// The source as a text, where nothing but want of memory can keep a session from its report.
-pub(crate) fn checked<'a>(source: &'a [u8], commands: &[Command]) -> Result<&'a str, LexFault>
+/// The source as a text, where nothing but a lack of memory can keep a session from its report.
+pub(crate) fn check<'a>(source: &'a [u8], commands: &[Command]) -> Result<&'a str, LexFault>
     ensures ok { IfOk result (λ text. (text.now ≡ source.now) × IsReadable source.now × HasMarks commands.now) }
     ensures err { IfErr result (Cause source.now commands.now) }
 {
-    let text = readable(source)?;
+    let text = text_of(source)?;
     match first_without_mark(commands) {
         Some(index) => Err(LexFault::NoMark(index)),
         None => Ok(text),

@@ -1,16 +1,22 @@
 //! Laws of the definitions alone: each function carries one for all arguments, and does nothing.
 
-ghost use Rattle.std.specs.Prelude.{◌≡◌, ℕ, Bool, List, Some};
+ghost use Rattle.std.specs.Prelude.{◌≡◌, ℕ, Bool, List, Option, Some};
 ghost use Rattle.std.specs.Str.{IsUtf8};
 ghost use Rattle.js_text.specs.declared.source_type.SourceType.{SourceType};
 ghost use Rattle.js_session.specs.declared.command.Command.{Command};
 ghost use Rattle.js_session.specs.declared.report.Report.{Report};
 ghost use Rattle.js_session.specs.declared.row.Row.{Row};
-ghost use Rattle.js_session.specs.Live.{Live};
+ghost use Rattle.js_session.specs.Live.{Live, outcome_of};
 ghost use Rattle.js_session.specs.Report.{IsRow, ReportOf};
 
 use crate::command::Command;
 pub use js_grammar::laws::{one_piece_starts_at_a_place, one_token_is_read};
+
+/// A command gives at most one row, where so much is live.
+pub fn one_row_is_given()
+    ensures { (text : List ℕ) (t : SourceType) (now : Live) (command : Option Command) (a b : Row) → IsUtf8 text
+        → IsRow text t now command a → IsRow text t now command b → a ≡ b }
+{}
 
 /// For a source, its type, whether tokens are collected, and commands, there is at most one report.
 pub fn one_report_is_given()
@@ -18,9 +24,9 @@ pub fn one_report_is_given()
         → ReportOf source t collects commands a → ReportOf source t collects commands b → a ≡ b }
 {}
 
-/// A peek gives the token that the next step gives, and reports what that reports.
+/// A peek gives the token that the next step gives, with its value, and finds what that finds.
 pub fn a_peek_is_what_comes_next()
     ensures { (text : List ℕ) (t : SourceType) (now : Live) (peek row : Row) → IsUtf8 text
         → IsRow text t now (Some Command.Peek) peek → IsRow text t now (Some Command.Next) row
-        → (peek.token ≡ row.token) × (peek.diagnostics ≡ row.diagnostics) }
+        → outcome_of peek ≡ outcome_of row }
 {}

@@ -2,13 +2,13 @@
 
 ghost use Rattle.std.specs.Prelude.{◌≡◌, ◌<◌, ◌^◌, ◌⊎◌, length, IfOk, OnOk, IfErr, IsOk};
 ghost use Rattle.std.specs.List.{AllByRecursion};
-ghost use Rattle.js_session.specs.Faults.{IsReadable, HasMarks, Cause};
+ghost use Rattle.js_session.specs.Faults.{IsBuilt, IsReadable, HasMarks, Cause};
 ghost use Rattle.js_session.specs.Report.{ReportOf, HasMark, IsSliceOnPlaces};
 ghost use Rattle.js_session.specs.Session.{Follows};
 ghost use Rattle.js_session.specs.declared.fault.LexFault.{LexFault};
 
 use crate::command::Command;
-use crate::fault::{LexFault, checked};
+use crate::fault::{LexFault, check};
 use crate::report::Report;
 use crate::session::Session;
 use crate::steps::Steps;
@@ -51,6 +51,7 @@ fn lex_text<L: Ledger>(
     steps: &mut Steps<L>,
 ) -> Result<Report, AllocError>
     requires short { length text.now < 2 ^ 32 }
+    requires built { IsBuilt text.now }
     requires marks { HasMarks commands.now }
     ensures { IfOk result (ReportOf text.now source_type tokens commands.now) }
 {
@@ -81,7 +82,7 @@ fn lex_uncounted<L: Ledger>(
     ensures ok { OnOk result (IsReadable source.now × HasMarks commands.now) }
     ensures cause { IfErr result (λ fault. (fault ≡ LexFault.Memory) ⊎ Cause source.now commands.now fault) }
 {
-    let text = match checked(source, commands) {
+    let text = match check(source, commands) {
         Ok(text) => text,
         Err(fault) => return Err(fault),
     };
@@ -104,9 +105,10 @@ pub fn lex_session(
     ensures report { IfOk result (ReportOf source.now source_type tokens commands.now) }
     ensures slices { IfOk result (λ r. AllByRecursion (λ row. IsSliceOnPlaces source.now row.value) r.rows) }
     ensures ok { OnOk result (IsReadable source.now × HasMarks commands.now) }
-    // Each fault comes for its cause alone, and where its cause is there, nothing but want of memory comes in its place.
+    // Each fault comes for its cause alone, and where its cause is there, nothing but a lack of memory comes in its place.
     ensures cause { IfErr result (λ fault. (fault ≡ LexFault.Memory) ⊎ Cause source.now commands.now fault) }
-    ensures exact { (fault : LexFault) → Cause source.now commands.now fault → (result ≡ Err fault) ⊎ (result ≡ Err LexFault.Memory) }
+    ensures exact { (fault : LexFault) → Cause source.now commands.now fault
+        → (result ≡ Err fault) ⊎ (result ≡ Err LexFault.Memory) }
     ensures complete { IsReadable source.now → HasMarks commands.now → IsOk result ⊎ (result ≡ Err LexFault.Memory) }
 {
     lex_uncounted::<Brand>(alloc, source, source_type, tokens, commands, Blank::new(1))

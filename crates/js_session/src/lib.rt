@@ -3,9 +3,9 @@
 
 mod command;
 mod fault;
-mod keep;
 pub mod laws;
 mod lex;
+mod mark;
 mod read;
 mod report;
 mod row;
@@ -18,9 +18,10 @@ mod tests;
 pub use command::{Command, CommandList};
 pub use fault::LexFault;
 pub use js_lexer::NewFault;
+pub use js_text::{RegexInfo, RowValue};
 pub use lex::lex_session;
 pub use report::Report;
-pub use row::{RegexInfo, Row, RowValue};
+pub use row::Row;
 pub use row_list::RowList;
 pub use session::Session;
 pub use steps::Steps;

@@ -1,20 +1,25 @@
 //! Rows that are read from a lexer.
 
-ghost use Rattle.std.specs.Prelude.{◌≡◌, ◌≤◌, true, length, drop, Some, None, IfOk, OnErr};
-ghost use Rattle.js_grammar.specs.Hashbang.Goal.{first, next};
-ghost use Rattle.js_session.specs.Report.{value_of};
-ghost use Rattle.js_session.specs.Session.{row_of, ReadsRow};
+ghost use Rattle.std.specs.Prelude.{◌≡◌, ◌≤◌, [], length, drop, None, IfOk, OnOk, OnErr, MatchBool};
+ghost use Rattle.js_grammar.specs.Outcome.{reports};
+ghost use Rattle.js_grammar.specs.Spelling.{value_of};
+ghost use Rattle.js_lexer.specs.Lexer.{LexerState, ReadsToken, IsRestored, CanRewind, GoesOnFrom};
+ghost use Rattle.js_session.specs.RowReader.{RowReaderState, ReadsRow, AddsLive, AddsPeek, MayGoOn, IsUndone, GoesBack, IsMarkOf, GoesToMark};
 
 use crate::command::Command;
-use crate::row::{Row, RowValue};
-use js_kind::{LexerConfig, Token};
-use js_lexer::Lexer;
-use js_text::{CommentList, DiagnosticList, SpanList};
+use crate::mark::SessionMark;
+use crate::row::Row;
+use crate::row_list::RowList;
+use js_grammar::Goal;
+use js_kind::{LexerConfig, Token, TokenList};
+use js_lexer::{Lexer, LexerCheckpoint};
+use js_text::{CommentList, DiagnosticList, RowValue, SpanList};
 use std::alloc::{AllocError, Global};
+use std::marker::Model;
 
 /// The value of a token.
 fn value_of(token: &Token) -> RowValue
-    ensures { result ≡ value_of token.now }
+    ensures { result ≡ value_of token.now.kind token.now.start token.now.end }
 {
     if token.kind().is_identifier_name() {
         RowValue::Slice(token.span())
@@ -23,20 +28,51 @@ fn value_of(token: &Token) -> RowValue
     }
 }
 
-/// The row of a token that the lexer read from `place` on. It had reported so many diagnostics before.
-fn make_row<C: LexerConfig + Drop>(
+/// Reads a token of the goal.
+fn read_token<C: LexerConfig + Drop>(
+    lexer: &mut Lexer<'_, C>,
+    goal: Goal,
+) -> Result<Token, AllocError>
+    requires { goal ≡ Goal.First → lexer.old.last ≡ None }
+    ensures ok { IfOk result (λ token. ReadsToken goal lexer.old token lexer.new) }
+    ensures err { OnErr result (IsRestored lexer.old lexer.new) }
+{
+    match goal {
+        Goal::First => lexer.first_token(),
+        Goal::Next => lexer.next_token(),
+    }
+}
+
+/// What the lexer has reported beyond so many diagnostics.
+fn errors_since<C: LexerConfig + Drop>(
     lexer: &Lexer<'_, C>,
     alloc: Global,
-    command: Option<Command>,
-    place: u32,
-    token: Token,
     reported: usize,
-) -> Result<Row, AllocError>
-    requires { reported ≤ length lexer.now.errors }
-    ensures { IfOk result (λ row. row ≡ row_of command place token (drop reported lexer.now.errors)) }
+) -> Result<DiagnosticList, AllocError>
+    requires { reported ≤ length lexer.now.findings.diagnostics }
+    ensures errors { IfOk result (λ errors. errors ≡ drop reported lexer.now.findings.diagnostics) }
+    ensures nothing_else { lexer.now.findings ≡ reports lexer.now.findings.diagnostics }
 {
-    let mut diagnostics = DiagnosticList::new_in(alloc);
-    diagnostics.extend_from_slice(&lexer.errors()[reported..])?;
+    let mut errors = DiagnosticList::new_in(alloc);
+    errors.extend_from_slice(&lexer.errors()[reported..])?;
+    Ok(errors)
+}
+
+/// Reads a row. Where it cannot allocate, the lexer may have gone on.
+fn read_row<C: LexerConfig + Drop>(
+    lexer: &mut Lexer<'_, C>,
+    alloc: Global,
+    command: Option<Command>,
+    goal: Goal,
+) -> Result<Row, AllocError>
+    requires { goal ≡ Goal.First → lexer.old.last ≡ None }
+    ensures ok { IfOk result (λ row. ReadsRow goal command lexer.old row lexer.new) }
+    ensures err { OnErr result (GoesOnFrom lexer.old lexer.new) }
+{
+    let place = lexer.offset();
+    let reported = lexer.errors().len();
+    let token = read_token(lexer, goal)?;
+    let diagnostics = errors_since(lexer, alloc, reported)?;
     Ok(Row {
         command,
         place,
@@ -51,38 +87,102 @@ fn make_row<C: LexerConfig + Drop>(
     })
 }
 
-/// Reads the first row.
-pub(crate) fn read_first<C: LexerConfig + Drop>(
-    lexer: &mut Lexer<'_, C>,
-    alloc: Global,
-) -> Result<Row, AllocError>
-    requires { lexer.old.is_fresh ≡ true }
-    ensures { IfOk result (λ row. ReadsRow first None lexer.old row lexer.new) }
-{
-    let place = lexer.offset();
-    let reported = lexer.errors().len();
-    let token = lexer.first_token()?;
-    make_row(lexer, alloc, None, place, token, reported)
+/// A lexer, the rows that were read from it, and the tokens that are live.
+#[derive(Drop)]
+pub(crate) struct RowReader<'a, C: LexerConfig + Drop> {
+    pub lexer: Lexer<'a, C>,
+    pub alloc: Global,
+    pub rows: RowList,
+    pub tokens: TokenList,
 }
 
-/// Reads the row of a command that reads the next token.
-pub(crate) fn read_next<C: LexerConfig + Drop>(
-    lexer: &mut Lexer<'_, C>,
-    alloc: Global,
-    command: Command,
-) -> Result<Row, AllocError>
-    ensures ok { IfOk result (λ row. ReadsRow next (Some command) lexer.old row lexer.new) }
-    ensures err { OnErr result (lexer.new ≡ lexer.old) }
-{
-    let checkpoint = lexer.checkpoint();
-    let place = lexer.offset();
-    let reported = lexer.errors().len();
-    let token = lexer.next_token()?;
-    match make_row(lexer, alloc, Some(command), place, token, reported) {
-        Ok(row) => Ok(row),
-        Err(error) => {
-            lexer.rewind(checkpoint);
-            Err(error)
+impl<'a, C: LexerConfig + Drop> Model for RowReader<'a, C> {
+    ghost use Rattle.js_session.specs.RowReader.{RowReaderState};
+
+    ghost Value = { RowReaderState };
+
+    ghost view = { λ r. record { lexer = r.lexer; rows = r.rows; tokens = r.tokens } };
+}
+
+impl<'a, C: LexerConfig + Drop> RowReader<'a, C> {
+    /// Nothing is read from the lexer yet.
+    pub fn new(alloc: Global, lexer: Lexer<'a, C>) -> RowReader<'a, C>
+        ensures { result ≡ record { lexer = lexer.entry; rows = []; tokens = [] } }
+    {
+        RowReader {
+            lexer,
+            alloc,
+            rows: RowList::new_in(alloc),
+            tokens: TokenList::new_in(alloc),
         }
+    }
+
+    /// Reads a row and adds it, with its token live. Where it cannot allocate, lexer and live tokens may have gone on.
+    fn read_on(&mut self, command: Option<Command>, goal: Goal) -> Result<(), AllocError>
+        requires { goal ≡ Goal.First → self.old.lexer.last ≡ None }
+        ensures ok { OnOk result (AddsLive goal command self.old self.new) }
+        ensures err { OnErr result (MayGoOn self.old self.new) }
+    {
+        let row = read_row(&mut self.lexer, self.alloc, command, goal)?;
+        self.tokens.push(row.token)?;
+        self.rows.push(row)
+    }
+
+    /// Goes back to the checkpoint, and to so many live tokens.
+    fn go_back(&mut self, checkpoint: LexerCheckpoint, tokens: usize)
+        requires { CanRewind self.old.lexer checkpoint }
+        ensures { GoesBack checkpoint tokens self.old self.new }
+    {
+        self.lexer.rewind(checkpoint);
+        self.tokens.truncate(tokens);
+    }
+
+    /// Adds the row of a reading, with its token live, or else, for a peek, with all but the rows as before. Where it
+    /// cannot allocate, all is as before.
+    pub fn add_row(
+        &mut self,
+        command: Option<Command>,
+        goal: Goal,
+        is_peek: bool,
+    ) -> Result<(), AllocError>
+        requires { goal ≡ Goal.First → self.old.lexer.last ≡ None }
+        ensures ok { OnOk result
+            (MatchBool is_peek (AddsPeek goal command self.old self.new) (AddsLive goal command self.old self.new)) }
+        ensures err { OnErr result (IsUndone self.old self.new) }
+    {
+        let checkpoint = self.lexer.checkpoint();
+        let live = self.tokens.len();
+        match self.read_on(command, goal) {
+            Ok(()) => {
+                if is_peek {
+                    self.go_back(checkpoint, live);
+                }
+                Ok(())
+            }
+            Err(error) => {
+                self.go_back(checkpoint, live);
+                Err(error)
+            }
+        }
+    }
+
+    /// A mark of what is live.
+    pub fn mark(&self) -> SessionMark
+        ensures { IsMarkOf self.now result }
+    {
+        SessionMark {
+            checkpoint: self.lexer.checkpoint(),
+            tokens: self.tokens.len(),
+        }
+    }
+
+    /// Goes back to what was live at the mark.
+    pub fn rewind(&mut self, mark: SessionMark)
+        requires { CanRewind self.old.lexer mark.checkpoint }
+        ensures { GoesToMark mark self.old self.new }
+    {
+        self.go_back(mark.checkpoint, mark.tokens);
+        let last = self.lexer.last_token();
+        self.tokens.replace_last(last);
     }
 }

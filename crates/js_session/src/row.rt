@@ -1,29 +1,11 @@
 //! Rows.
 
-ghost use Rattle.std.specs.Prelude.{◌≡◌, ◌≤◌, IfOk};
+ghost use Rattle.std.specs.Prelude.{◌≡◌, IfOk};
 
 use crate::command::Command;
 use js_kind::Token;
-use js_text::{CommentList, DiagnosticList, RegExpFlags, Span, SpanList};
+use js_text::{CommentList, DiagnosticList, RegexInfo, RowValue, SpanList};
 use std::alloc::{AllocError, Global};
-
-/// The value of a token.
-#[derive(Clone, Copy, PartialEq, Eq, Debug)]
-pub enum RowValue {
-    Nothing,
-    /// This stretch of the source, in bytes.
-    Slice(Span),
-}
-
-/// What is known of a regular expression beside its token.
-#[derive(Clone, Copy, PartialEq, Eq, Debug)]
-pub struct RegexInfo {
-    /// Where its pattern ends, as an offset in bytes.
-    pub pattern_end: u32,
-    pub flags: RegExpFlags,
-    /// Whether a flag is unknown or stands twice.
-    pub flags_error: bool,
-}
 
 /// What a step gave.
 #[derive(Drop)]
@@ -52,6 +34,7 @@ impl Row {
     pub fn copy(&self, alloc: Global) -> Result<Row, AllocError>
         ensures { IfOk result (λ row. row ≡ self.now) }
     {
+        let value = self.value.copy(alloc)?;
         let diagnostics = self.diagnostics.copy(alloc)?;
         let deferred = self.deferred.copy(alloc)?;
         let comments = self.comments.copy(alloc)?;
@@ -61,7 +44,7 @@ impl Row {
             place: self.place,
             taken: self.taken,
             token: self.token,
-            value: self.value,
+            value,
             regex: self.regex,
             diagnostics,
             deferred,

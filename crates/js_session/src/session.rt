@@ -1,16 +1,20 @@
 //! Sessions.
 
 ghost use Rattle.std.specs.Prelude.{◌≡◌, ◌≤◌, ◌<◌, ◌+◌, ◌^◌, ◌↔◌, true, [], ◌∷◌, ◌++◌, length, IfOk, OnOk, OnErr};
-ghost use Rattle.js_session.specs.Live.{is_step};
-ghost use Rattle.js_session.specs.Session.{Begins, AddsRow, AddsLive, AddsPeek, marked, report_of};
+ghost use Rattle.std.specs.List.{AllByRecursion};
+ghost use Rattle.js_grammar.specs.Built.{IsBuilt};
+ghost use Rattle.js_lexer.specs.Lexer.{IsOnPlaces};
+ghost use Rattle.js_session.specs.Effects.{is_step};
+ghost use Rattle.js_session.specs.Report.{LiesOnPlaces};
+ghost use Rattle.js_session.specs.Session.{Begins, AddsRow, LieOnPlaces, after_command, report_of};
 
 use crate::command::Command;
-use crate::keep::{LiveLists, SessionMark, keep_row};
-use crate::read::{read_first, read_next};
+use crate::mark::SessionMark;
+use crate::read::RowReader;
 use crate::report::Report;
 use crate::row::Row;
-use crate::row_list::RowList;
 use crate::steps::Steps;
+use js_grammar::Goal;
 use js_kind::LexerConfig;
 use js_lexer::{Lexer, NewFault};
 use js_text::{CommentList, DiagnosticList, ItemList, SourceType, SpanList};
@@ -18,69 +22,29 @@ use std::alloc::{AllocError, Global};
 use std::marker::Model;
 use std::sync::ledger::Ledger;
 
-/// A session over a source text: its rows, what is live, and the open marks.
+/// A session over a source text: its lexer, its rows, the live tokens, and the open marks.
 #[derive(Drop)]
 pub struct Session<'a, C: LexerConfig + Drop> {
-    lexer: Lexer<'a, C>,
-    alloc: Global,
-    rows: RowList,
-    live: LiveLists,
+    reader: RowReader<'a, C>,
     marks: ItemList<SessionMark>,
 }
 
 impl<'a, C: LexerConfig + Drop> Model for Session<'a, C> {
     ghost use Rattle.std.specs.Prelude.{reverse};
-    ghost use Rattle.js_session.specs.Marks.{now_of, stands, IsHeld};
+    ghost use Rattle.js_session.specs.Marks.{live_now, state_of, IsInOrder};
     ghost use Rattle.js_session.specs.Session.{SessionState};
 
     ghost Value = { SessionState };
 
     ghost view = { λ s. record {
-      text = s.lexer.text;
-      source_type = s.lexer.source_type;
-      collects = s.lexer.collects;
-      rows = s.rows;
-      state = stands s.live s.marks;
+      text = s.reader.lexer.text;
+      source_type = s.reader.lexer.source_type;
+      collects = s.reader.lexer.collects;
+      rows = s.reader.rows;
+      state = state_of (live_now s.reader) s.marks;
     } };
 
-    ghost invariant = { λ s. IsHeld s.lexer (now_of s.live) (reverse s.marks) };
-}
-
-/// Reads the next token, which is live from then on.
-fn add_next<C: LexerConfig + Drop>(
-    lexer: &mut Lexer<'_, C>,
-    alloc: Global,
-    rows: &mut RowList,
-    live: &mut LiveLists,
-) -> Result<(), AllocError>
-    ensures ok { OnOk result (AddsLive lexer.old rows.old live.old lexer.new rows.new live.new) }
-    ensures err { OnErr result ((lexer.new ≡ lexer.old) × (rows.new ≡ rows.old) × (live.new ≡ live.old)) }
-{
-    let checkpoint = lexer.checkpoint();
-    let row = read_next(lexer, alloc, Command::Next)?;
-    match keep_row(rows, live, row) {
-        Ok(()) => Ok(()),
-        Err(error) => {
-            lexer.rewind(checkpoint);
-            Err(error)
-        }
-    }
-}
-
-/// Reads the next token, and goes back.
-fn add_peek<C: LexerConfig + Drop>(
-    lexer: &mut Lexer<'_, C>,
-    alloc: Global,
-    rows: &mut RowList,
-) -> Result<(), AllocError>
-    ensures lexer { lexer.new ≡ lexer.old }
-    ensures ok { OnOk result (AddsPeek lexer.old rows.old rows.new) }
-    ensures err { OnErr result (rows.new ≡ rows.old) }
-{
-    let checkpoint = lexer.checkpoint();
-    let row = read_next(lexer, alloc, Command::Peek)?;
-    lexer.rewind(checkpoint);
-    rows.push(row)
+    ghost invariant = { λ s. IsInOrder s.reader (reverse s.marks) };
 }
 
 impl<'a, C: LexerConfig + Drop> Session<'a, C> {
@@ -92,46 +56,45 @@ impl<'a, C: LexerConfig + Drop> Session<'a, C> {
         config: C,
         steps: &mut Steps<L>,
     ) -> Result<Session<'a, C>, NewFault>
+        requires { IsBuilt text.now }
         ensures ok { IfOk result (Begins text.now source_type (C.collects config)) }
+        ensures places { IfOk result LieOnPlaces }
         ensures overlong { (result ≡ Err NewFault.Overlong) ↔ (2 ^ 32 ≤ length text.now) }
         ensures ticks { OnOk result (steps.new ≡ steps.old + 1) }
-        ensures ticks_err { OnErr result (steps.new ≤ steps.old + 1) }
+        ensures ticks_at_least { OnErr result (steps.old ≤ steps.new) }
+        ensures ticks_at_most { OnErr result (steps.new ≤ steps.old + 1) }
     {
-        let mut lexer = match Lexer::new(alloc, text, source_type, config) {
+        let lexer = match Lexer::new(alloc, text, source_type, config) {
             Ok(lexer) => lexer,
             Err(fault) => return Err(fault),
         };
         steps.tick();
-        let mut rows = RowList::new_in(alloc);
-        let mut live = LiveLists::new_in(alloc);
-        let row = match read_first(&mut lexer, alloc) {
-            Ok(row) => row,
-            Err(_) => return Err(NewFault::Memory),
-        };
-        match keep_row(&mut rows, &mut live, row) {
+        let mut reader = RowReader::new(alloc, lexer);
+        match reader.add_row(None, Goal::First, false) {
             Ok(()) => Ok(Session {
-                lexer,
-                alloc,
-                rows,
-                live,
+                reader,
                 marks: ItemList::new_in(alloc),
             }),
             Err(_) => Err(NewFault::Memory),
         }
     }
 
+    /// Adds the row of a reading, with its token live.
     fn step_next(&mut self) -> Result<(), AllocError>
         ensures ok { OnOk result (AddsRow Command.Next self.old self.new) }
         ensures err { OnErr result (self.new ≡ self.old) }
+        ensures places { LieOnPlaces self.new }
     {
-        add_next(&mut self.lexer, self.alloc, &mut self.rows, &mut self.live)
+        self.reader.add_row(Some(Command::Next), Goal::Next, false)
     }
 
+    /// Adds the row of a reading, and changes nothing else.
     fn step_peek(&mut self) -> Result<(), AllocError>
         ensures ok { OnOk result (AddsRow Command.Peek self.old self.new) }
         ensures err { OnErr result (self.new ≡ self.old) }
+        ensures places { LieOnPlaces self.new }
     {
-        add_peek(&mut self.lexer, self.alloc, &mut self.rows)
+        self.reader.add_row(Some(Command::Peek), Goal::Next, true)
     }
 
     /// One step: adds one row.
@@ -143,8 +106,10 @@ impl<'a, C: LexerConfig + Drop> Session<'a, C> {
         requires { is_step command ≡ true }
         ensures ok { OnOk result (AddsRow command self.old self.new) }
         ensures err { OnErr result (self.new ≡ self.old) }
+        ensures places { LieOnPlaces self.new }
         ensures ticks { OnOk result (steps.new ≡ steps.old + 1) }
-        ensures ticks_err { OnErr result (steps.new ≤ steps.old + 1) }
+        ensures ticks_at_least { OnErr result (steps.old ≤ steps.new) }
+        ensures ticks_at_most { OnErr result (steps.new ≤ steps.old + 1) }
     {
         steps.tick();
         match command {
@@ -156,41 +121,37 @@ impl<'a, C: LexerConfig + Drop> Session<'a, C> {
 
     /// Marks what is live.
     pub fn mark(&mut self) -> Result<(), AllocError>
-        ensures ok { OnOk result (self.new ≡ marked Command.Mark self.old) }
+        ensures ok { OnOk result (self.new ≡ after_command Command.Mark self.old) }
         ensures err { OnErr result (self.new ≡ self.old) }
     {
-        let mark = SessionMark {
-            checkpoint: self.lexer.checkpoint(),
-            tokens: self.live.tokens.len(),
-            diagnostics: self.live.diagnostics.len(),
-        };
-        self.marks.push(mark)
+        self.marks.push(self.reader.mark())
     }
 
     /// Goes back to the last open mark, and closes it.
     pub fn rewind(&mut self)
         requires { 0 < length self.old.state.marks }
-        ensures { self.new ≡ marked Command.Rewind self.old }
+        ensures state { self.new ≡ after_command Command.Rewind self.old }
+        ensures places { LieOnPlaces self.new }
     {
         if let Some(mark) = self.marks.pop() {
-            self.live.cut_back(mark.tokens, mark.diagnostics);
-            self.lexer.rewind(mark.checkpoint);
+            self.reader.rewind(mark);
         }
     }
 
     /// Closes the last open mark.
     pub fn commit(&mut self)
         requires { 0 < length self.old.state.marks }
-        ensures { self.new ≡ marked Command.Commit self.old }
+        ensures { self.new ≡ after_command Command.Commit self.old }
     {
         self.marks.pop();
     }
 
-    /// The rows so far: one for the first step and one for each step after it, those that a rewind took back among them.
+    /// The rows so far: one for the first step and one for each step after it, with those that a rewind took back.
     pub fn rows(&self) -> &[Row]
-        ensures { result.now ≡ self.now.rows }
+        ensures rows { result.now ≡ self.now.rows }
+        ensures places { AllByRecursion (LiesOnPlaces self.now.text) result.now }
     {
-        self.rows.as_slice()
+        self.reader.rows.as_slice()
     }
 
     /// How many marks are open.
@@ -203,21 +164,22 @@ impl<'a, C: LexerConfig + Drop> Session<'a, C> {
     /// The report of the calls so far. A mark may still be open.
     pub fn finish(self) -> Report
         ensures report { result ≡ report_of self.entry }
-        ensures unfilled { (result.deferred ≡ []) × (result.comments ≡ []) × (result.irregular ≡ []) }
+        ensures rows_lie { AllByRecursion (LiesOnPlaces self.entry.text) result.rows }
+        ensures tokens_lie { AllByRecursion (IsOnPlaces self.entry.text) result.tokens }
     {
-        let Session {
+        let Session { reader, marks: _ } = self;
+        let RowReader {
             lexer,
             alloc,
             rows,
-            live,
-            marks: _,
-        } = self;
+            tokens,
+        } = reader;
         let mut lexer = lexer;
         Report {
             rows,
-            tokens: live.tokens,
+            tokens,
             collected: lexer.take_tokens(),
-            diagnostics: live.diagnostics,
+            diagnostics: lexer.take_errors(),
             deferred: DiagnosticList::new_in(alloc),
             comments: CommentList::new_in(alloc),
             irregular: SpanList::new_in(alloc),

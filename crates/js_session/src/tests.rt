@@ -2,129 +2,134 @@
 
 ghost use Rattle.std.specs.Prelude.{◌≡◌, ◌<◌};
 
-use crate::{Command, LexFault, NewFault, Report, RowList, Session, Steps, lex_session};
+use crate::{Command, LexFault, NewFault, Report, Row, RowList, Session, Steps, lex_session};
 use js_kind::{
     Kind, LexerConfig, NoTokensLexerConfig, RuntimeLexerConfig, Token, TokensLexerConfig,
 };
 use js_text::SourceType;
-use std::alloc::Global;
+use std::alloc::{AllocError, Global};
 use std::marker::Brand;
 use std::sync::ledger::{Blank, Ledger};
 use std::test::Fail;
 
+/// A source, commands, and where the names of its rows and of its live tokens begin and end.
+struct Case<'a> {
+    source: &'a str,
+    commands: &'a [Command],
+    rows: &'a [(u32, u32)],
+    tokens: &'a [(u32, u32)],
+}
+
+static CASES: [Case; 3] = [
+    Case {
+        source: "a b",
+        commands: &[
+            Command::Mark,
+            Command::Next,
+            Command::Rewind,
+            Command::Peek,
+            Command::Next,
+        ],
+        rows: &[(0, 1), (2, 3), (2, 3), (2, 3)],
+        tokens: &[(0, 1), (2, 3)],
+    },
+    Case {
+        source: "a b c d",
+        commands: &[
+            Command::Mark,
+            Command::Next,
+            Command::Mark,
+            Command::Next,
+            Command::Rewind,
+            Command::Commit,
+            Command::Next,
+        ],
+        rows: &[(0, 1), (2, 3), (4, 5), (4, 5)],
+        tokens: &[(0, 1), (2, 3), (4, 5)],
+    },
+    Case {
+        source: "a b",
+        commands: &[Command::Peek, Command::Peek, Command::Peek],
+        rows: &[(0, 1), (2, 3), (2, 3), (2, 3)],
+        tokens: &[(0, 1)],
+    },
+];
+
+static FAULTS: [(&[u8], &[Command], LexFault); 4] = [
+    (
+        b"a",
+        &[Command::Mark, Command::Rewind, Command::Rewind],
+        LexFault::NoMark(2),
+    ),
+    (b"a 1", &[Command::Commit], LexFault::NotBuilt(2)),
+    (b"#!a\n#", &[], LexFault::NotBuilt(4)),
+    (b"\"a \xFF", &[], LexFault::NotUtf8(3)),
+];
+
+fn is_name(token: &Token, place: (u32, u32)) -> bool {
+    token.kind() == Kind::Ident && token.start() == place.0 && token.end() == place.1
+}
+
 fn are_names(tokens: &[Token], places: &[(u32, u32)]) -> bool {
     let mut same = tokens.len() == places.len();
     for (token, place) in tokens.iter().zip(places) {
-        let is_name = token.kind() == Kind::Ident;
-        same = same && is_name && token.start() == place.0 && token.end() == place.1;
+        same = same && is_name(token, *place);
     }
     same
 }
 
-fn rows_are_names(rows: &RowList, places: &[(u32, u32)]) -> bool {
+fn rows_are_names(rows: &[Row], places: &[(u32, u32)]) -> bool {
     let mut same = rows.len() == places.len();
-    for (row, place) in rows.as_slice().iter().zip(places) {
-        let is_name = row.token.kind() == Kind::Ident;
-        same = same && is_name && row.token.start() == place.0 && row.token.end() == place.1;
+    for (row, place) in rows.iter().zip(places) {
+        same = same && is_name(&row.token, *place);
     }
     same
+}
+
+fn gives(case: &Case, report: &Report) -> bool {
+    rows_are_names(report.rows.as_slice(), case.rows)
+        && are_names(report.tokens.as_slice(), case.tokens)
+        && are_names(report.collected.as_slice(), case.tokens)
 }
 
 #[test]
-fn marks_and_peeks(rt: HostRuntime) -> Result<(), Fail> {
-    let a_b = [
-        Command::Mark,
-        Command::Next,
-        Command::Rewind,
-        Command::Peek,
-        Command::Next,
-    ];
-    let a_b_c_d = [
-        Command::Mark,
-        Command::Next,
-        Command::Mark,
-        Command::Next,
-        Command::Rewind,
-        Command::Commit,
-        Command::Next,
-    ];
-    let peeks = [Command::Peek; 6];
-    for (source, commands, rows, tokens) in [
-        (
-            "a b",
-            &a_b[..],
-            &[(0, 1), (2, 3), (2, 3), (2, 3)][..],
-            &[(0, 1), (2, 3)][..],
-        ),
-        (
-            "a b c d",
-            &a_b_c_d[..],
-            &[(0, 1), (2, 3), (4, 5), (4, 5)][..],
-            &[(0, 1), (2, 3), (4, 5)][..],
-        ),
-        (
-            "a b",
-            &peeks[..],
-            &[(0, 1), (2, 3), (2, 3), (2, 3), (2, 3), (2, 3), (2, 3)][..],
-            &[(0, 1)][..],
-        ),
-    ] {
-        let bytes = source.as_bytes();
-        let report = lex_session(rt.alloc(), bytes, SourceType::Script, true, commands)
+fn rows_and_live_tokens(rt: HostRuntime) -> Result<(), Fail> {
+    for case in &CASES {
+        let bytes = case.source.as_bytes();
+        let report = lex_session(rt.alloc(), bytes, SourceType::Script, true, case.commands)
             .ok()
             .ok_or("no report")?;
-        assert!(rt; rows_are_names(&report.rows, rows), "rows of {source}");
-        assert!(rt;
-            are_names(report.tokens.as_slice(), tokens),
-            "tokens of {source}"
-        );
-        assert!(rt;
-            are_names(report.collected.as_slice(), tokens),
-            "collected of {source}"
-        );
+        assert!(rt; gives(case, &report));
     }
     Ok(())
 }
 
 #[test]
 fn faults(rt: HostRuntime) {
-    let too_many = [
-        Command::Mark,
-        Command::Rewind,
-        Command::Rewind,
-        Command::Next,
-    ];
-    for (source, commands, fault) in [
-        (&b"a"[..], &too_many[..], LexFault::NoMark(2)),
-        (&b"a 1"[..], &too_many[..], LexFault::NotBuilt(2)),
-        (&b"#!a\n#"[..], &[][..], LexFault::NotBuilt(4)),
-        (&b"\"a \xFF"[..], &[][..], LexFault::NotUtf8(3)),
-    ] {
+    for (source, commands, fault) in &FAULTS {
         let result = lex_session(rt.alloc(), source, SourceType::Module, false, commands);
-        assert_eq!(rt; result.err(), Some(fault));
+        assert_eq!(rt; result.err(), Some(*fault));
     }
+}
+
+/// So many times a command, behind the commands that are there.
+fn add_times(commands: &mut Vec<Command>, command: Command, times: u32) -> Result<(), AllocError> {
+    for _ in 0..times {
+        commands.push(command)?;
+    }
+    Ok(())
 }
 
 #[test]
 fn many_marks(rt: HostRuntime) -> Result<(), Fail> {
-    let mut source = Vec::new(rt.alloc());
-    for _ in 0..100 {
-        source.extend_from_slice(b"a ")?;
-    }
     let mut commands = Vec::new(rt.alloc());
-    for _ in 0..99 {
-        commands.push(Command::Next)?;
-    }
-    for _ in 0..100_000 {
-        commands.push(Command::Mark)?;
-    }
-    for _ in 0..100_000 {
-        commands.push(Command::Rewind)?;
-    }
-    let bytes = source.as_slice();
+    add_times(&mut commands, Command::Next, 99)?;
+    add_times(&mut commands, Command::Mark, 100_000)?;
+    add_times(&mut commands, Command::Rewind, 100_000)?;
+    let source = [b'('; 100];
     let report = lex_session(
         rt.alloc(),
-        bytes,
+        &source,
         SourceType::Script,
         false,
         commands.as_slice(),
@@ -133,7 +138,6 @@ fn many_marks(rt: HostRuntime) -> Result<(), Fail> {
     .ok_or("no report")?;
     assert_eq!(rt; report.rows.len(), 100);
     assert_eq!(rt; report.tokens.len(), 100);
-    assert_eq!(rt; report.collected.len(), 0);
     Ok(())
 }
 
@@ -171,9 +175,9 @@ fn run<L: Ledger, C: LexerConfig + Drop>(
 }
 
 fn is_right(report: &Report, collected: &[(u32, u32)]) -> bool {
-    let rows = rows_are_names(&report.rows, &[(0, 1), (2, 3), (2, 3)]);
-    let tokens = are_names(report.tokens.as_slice(), &[(0, 1), (2, 3)]);
-    rows && tokens && are_names(report.collected.as_slice(), collected)
+    rows_are_names(report.rows.as_slice(), &[(0, 1), (2, 3), (2, 3)])
+        && are_names(report.tokens.as_slice(), &[(0, 1), (2, 3)])
+        && are_names(report.collected.as_slice(), collected)
 }
 
 #[test]
@@ -190,16 +194,21 @@ fn each_configuration(rt: HostRuntime) -> Result<(), Fail> {
     Ok(())
 }
 
+/// A copy of the rows, with its last row copied once more.
+fn copy_twice(alloc: Global, rows: &RowList) -> Result<RowList, AllocError> {
+    let mut rows = rows.copy(alloc)?;
+    if let Some(row) = rows.pop() {
+        rows.push(row.copy(alloc)?)?;
+    }
+    Ok(rows)
+}
+
 #[test]
 fn copies(rt: HostRuntime) -> Result<(), Fail> {
     let report = lex_session(rt.alloc(), b"a", SourceType::Script, false, &[])
         .ok()
         .ok_or("no report")?;
-    let mut rows = report.rows.copy(rt.alloc())?;
-    assert!(rt; rows_are_names(&rows, &[(0, 1)]));
-    let row = rows.pop().ok_or("no row")?;
-    let row = row.copy(rt.alloc())?;
-    rows.push(row)?;
-    assert!(rt; rows_are_names(&rows, &[(0, 1)]));
+    let rows = copy_twice(rt.alloc(), &report.rows)?;
+    assert!(rt; rows_are_names(rows.as_slice(), &[(0, 1)]));
     Ok(())
 }

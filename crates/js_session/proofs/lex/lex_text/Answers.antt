@@ -1,4 +1,4 @@
-use Rattle.std.proofs.Common.{◌∙◌, ap, sym, subst, get_or}
+use Rattle.std.proofs.Common.{sym, subst, get_or}
 use Rattle.js_session.specs.declared.command.Command.TheVariants.{Next}
 use Rattle.js_session.specs.Report.{ReportOf}
 use Rattle.js_session.specs.Session.{Begins}
@@ -27,9 +27,6 @@ loop-command-preserved g c =
 
 pub returns : goal.returns
 returns g c =
-    let report = c.finish.ensures.report in
-    let unfilled = c.finish.ensures.unfilled in
-    subst (ReportOf c.args.text.now c.args.source_type c.args.tokens c.args.commands.now) (sym report)
+    subst (ReportOf c.args.text.now c.args.source_type c.args.tokens c.args.commands.now) (sym c.finish.ensures.report)
     (progress_end c.args.text.now c.args.source_type c.args.tokens c.args.commands.now c.loop-command.command-index c.loop-command.session c.utf8.text c.requires.short
-    c.loop-command-test.false c.loop-command.invariant
-    (sym (ap (λ r. r.deferred) report) ∙ unfilled.0) (sym (ap (λ r. r.comments) report) ∙ unfilled.1) (sym (ap (λ r. r.irregular) report) ∙ unfilled.2))
+    c.loop-command-test.false c.loop-command.invariant)

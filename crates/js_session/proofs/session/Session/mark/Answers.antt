@@ -1,11 +1,20 @@
-use Rattle.std.proofs.Common.{sym, subst}
+use Rattle.std.proofs.Common.{◌∙◌, ap, sym, subst}
+use Rattle.std.proofs.lemmas.Result.{on_ok_weaker}
 use Rattle.std.specs.Prelude.{reverse}
-use Rattle.js_session.specs.Marks.{now_of, IsHeld}
-use Rattle.js_session.proofs.StepLemmas.{either_way, held_mark}
+use Rattle.js_session.specs.declared.command.Command.TheVariants.{Mark}
+use Rattle.js_session.specs.Marks.{IsInOrder}
+use Rattle.js_session.specs.Session.{after_command}
+use Rattle.js_session.proofs.StepLemmas.{either_way, order_mark, mark_is}
 use Rattle.js_session.proofs.session.Session.mark.Goals as goal
 
 pub invariant_of-self : goal.invariant_of-self
 invariant_of-self g c =
     either_way c.push.result c.push.ensures.ok c.push.ensures.err
-    (λ pushed. held_mark c.self.inside.marks c.push.new.self _ c.self.inside.lexer c.self.inside.live pushed c.len.ensures c.len-2.ensures c.checkpoint.ensures.state c.checkpoint.ensures.open c.self.invariant)
-    (λ same. subst (λ ms. IsHeld c.self.inside.lexer (now_of c.self.inside.live) (reverse ms)) (sym same) c.self.invariant)
+    (λ pushed. order_mark c.self.inside.reader c.self.inside.marks c.push.new.self c.mark.result pushed c.mark.ensures c.self.invariant)
+    (λ same. subst (λ ms. IsInOrder c.self.inside.reader (reverse ms)) (sym same) c.self.invariant)
+
+pub returns-clause-ok : goal.returns-clause-ok
+returns-clause-ok g c =
+    on_ok_weaker c.push.result
+    (λ pushed. mark_is c.self.inside.reader c.self.inside.marks c.push.new.self c.mark.result pushed c.mark.ensures c.self.invariant ∙ ap (after_command Mark) c.self.view_is)
+    c.push.ensures.ok

@@ -1,22 +1,23 @@
-use Rattle.std.proofs.Common.{◌≡◌, ◌∙◌, ap, sym, subst}
-use Rattle.js_session.specs.declared.command.Command.TheVariants.{Rewind}
-use Rattle.js_session.specs.Session.{marked}
-use Rattle.js_session.specs.Marks.{now_of, IsHeld}
+use Rattle.std.proofs.Common.{◌∙◌, ap}
 use Rattle.std.specs.Prelude.{reverse}
-use Rattle.js_session.proofs.StepLemmas.{held_rewind, may_rewind, stands_rewind, seen}
+use Rattle.js_session.specs.declared.command.Command.TheVariants.{Rewind}
+use Rattle.js_session.specs.Session.{after_command}
+use Rattle.js_session.proofs.StepLemmas.{may_rewind, order_rewind, rewind_is, in_order_lies}
 use Rattle.js_session.proofs.session.Session.rewind.Goals as goal
+
+pub rewind-requires : goal.rewind-requires
+rewind-requires g c = may_rewind c.self.inside.reader c.self.inside.marks c.pop.new.self c.in-Some.mark c.in-Some.ensures.items c.self.invariant
 
 pub invariant_of-self : goal.invariant_of-self
 invariant_of-self g c =
-    subst (λ l. IsHeld c.rewind.new.self (now_of l) (reverse c.pop.new.self)) (sym c.cut_back.ensures)
-    (held_rewind c.self.inside.marks c.pop.new.self c.in-Some.mark c.self.inside.lexer c.rewind.new.self c.self.inside.live c.in-Some.ensures.items c.self.invariant c.rewind.ensures.restores).0
+    order_rewind c.self.inside.reader c.rewind.new.self c.self.inside.marks c.pop.new.self c.in-Some.mark
+    (record { ends = c.in-Some.ensures.items; in_order = c.self.invariant; back = c.rewind.ensures })
 
-pub returns-in-Some : goal.returns-in-Some
-returns-in-Some g c =
-    subst (λ l. seen c.rewind.new.self c.self.inside.rows l c.pop.new.self ≡ marked Rewind c.args.self.now) (sym c.cut_back.ensures)
-    (stands_rewind c.self.inside.marks c.pop.new.self c.in-Some.mark c.self.inside.lexer c.rewind.new.self c.self.inside.rows c.self.inside.live c.in-Some.ensures.items c.self.invariant c.rewind.ensures.restores
-    ∙ ap (marked Rewind) c.self.view_is)
+pub returns-in-Some-clause-state : goal.returns-in-Some-clause-state
+returns-in-Some-clause-state g c =
+    rewind_is c.self.inside.reader c.rewind.new.self c.self.inside.marks c.pop.new.self c.in-Some.mark
+    (record { ends = c.in-Some.ensures.items; in_order = c.self.invariant; back = c.rewind.ensures })
+    ∙ ap (after_command Rewind) c.self.view_is
 
-pub rewind-requires : goal.rewind-requires
-rewind-requires g c =
-    may_rewind c.self.inside.marks c.pop.new.self c.in-Some.mark c.self.inside.lexer c.self.inside.live c.in-Some.ensures.items c.self.invariant
+pub returns-in-Some-clause-places : goal.returns-in-Some-clause-places
+returns-in-Some-clause-places g c = in_order_lies c.rewind.new.self c.pop.new.self (reverse c.pop.new.self) (invariant_of-self g c)

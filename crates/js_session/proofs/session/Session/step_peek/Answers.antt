@@ -1,14 +1,23 @@
+use Rattle.std.proofs.Common.{subst}
 use Rattle.std.proofs.lemmas.Result.{on_ok_weaker}
-use Rattle.std.proofs.Common.{sym, subst}
+use Rattle.std.specs.Prelude.{reverse}
 use Rattle.js_session.specs.declared.command.Command.TheVariants.{Peek}
 use Rattle.js_session.specs.Session.{AddsRow}
-use Rattle.js_session.proofs.StepLemmas.{peek_adds_row, seen}
+use Rattle.js_session.proofs.StepLemmas.{either_way, order_peeked, order_undone, peek_adds_row, in_order_lies, seen}
 use Rattle.js_session.proofs.session.Session.step_peek.Goals as goal
+
+pub invariant_of-self : goal.invariant_of-self
+invariant_of-self g c =
+    either_way c.add_row.result c.add_row.ensures.ok c.add_row.ensures.err
+    (λ adds. order_peeked _ _ c.self.inside.reader c.add_row.new.self (reverse c.self.inside.marks) c.self.invariant adds)
+    (λ undone. order_undone c.self.inside.reader c.add_row.new.self (reverse c.self.inside.marks) c.self.invariant undone)
 
 pub returns-clause-ok : goal.returns-clause-ok
 returns-clause-ok g c =
-    on_ok_weaker c.add_peek.result
-    (λ adds. subst (λ s. AddsRow Peek s (seen c.add_peek.new.lexer c.add_peek.new.rows c.self.inside.live c.self.inside.marks)) c.self.view_is
-    (subst (λ l. AddsRow Peek (seen c.self.inside.lexer c.self.inside.rows c.self.inside.live c.self.inside.marks) (seen l c.add_peek.new.rows c.self.inside.live c.self.inside.marks)) (sym c.add_peek.ensures.lexer)
-    (peek_adds_row c.self.inside.lexer c.self.inside.rows c.add_peek.new.rows c.self.inside.live c.self.inside.marks c.self.invariant adds)))
-    c.add_peek.ensures.ok
+    on_ok_weaker c.add_row.result
+    (λ adds. subst (λ s. AddsRow Peek s (seen c.add_row.new.self c.self.inside.marks)) c.self.view_is
+    (peek_adds_row c.self.inside.reader c.add_row.new.self c.self.inside.marks c.self.invariant adds))
+    c.add_row.ensures.ok
+
+pub returns-clause-places : goal.returns-clause-places
+returns-clause-places g c = in_order_lies c.add_row.new.self c.self.inside.marks (reverse c.self.inside.marks) (invariant_of-self g c)

@@ -1,0 +1,14 @@
+use Rattle.js_grammar.specs.declared.goal.Goal.TheVariants.{Next}
+use Rattle.js_lexer.proofs.LexerSteps.{reading_goes_on}
+use Rattle.js_lexer.proofs.lexer.Lexer.peek_token.Goals as goal
+
+pub returns-clause-ok : goal.returns-clause-ok
+returns-clause-ok g c =
+    let read = c.in_ok-token.ensures.ok in
+    record {
+      restored = c.rewind.ensures.restores c.args.self.now c.checkpoint-checkpoint.ensures.state (reading_goes_on Next c.args.self.now c.next_token.new.self c.in_ok-token.token read);
+      outcome = read.outcome;
+      token_is = read.token_is;
+      reads = read.reads;
+      agrees = read.agrees;
+    }

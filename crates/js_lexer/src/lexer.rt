@@ -1,0 +1,288 @@
+//! The lexer: a source, the last token, and the lists that its readings fill.
+
+ghost use Rattle.std.specs.Prelude.{◌≡◌, ◌≤◌, ◌^◌, ◌↔◌, ◌++◌, [], length, drop, None, IsTrue, IfOk, OnOk, OnErr};
+ghost use Rattle.std.specs.List.{last_or};
+ghost use Rattle.std.specs.Str.{IsCharBoundary, IsUtf8};
+ghost use Rattle.js_grammar.specs.Built.{IsBuilt};
+ghost use Rattle.js_grammar.specs.Outcome.{no_findings, reports};
+ghost use Rattle.js_source.specs.Source.{IsPlaced};
+ghost use Rattle.js_lexer.specs.Lexer.{LexerState, fresh, token_or_default, ReadsToken, IsRestored, HasMovedOn, IsOnPlaces, Peeks, checkpoint_of, CanRewind, rewound, GoesOnFrom, collected, is_hashbang};
+
+use crate::checkpoint::{LexerCheckpoint, is_on_places_if_some, is_place, put_back};
+use crate::reader::Reader;
+use crate::tables::ByteTables;
+use js_grammar::Goal;
+use js_kind::{Kind, LexerConfig, Token, TokenList};
+use js_source::Source;
+use js_text::{Diagnostic, DiagnosticList, SourceType};
+use std::alloc::{AllocError, Global};
+use std::marker::Model;
+
+/// Whether the kind is that of hashbang comments.
+fn is_hashbang(kind: Kind) -> bool
+    ensures { result ≡ is_hashbang kind }
+{
+    kind.number() == Kind::HashbangComment.number()
+}
+
+/// Collects the token, where tokens are collected and it is no hashbang comment.
+fn collect(tokens: &mut TokenList, collects: bool, token: &Token) -> Result<(), AllocError>
+    ensures ok { OnOk result (tokens.new ≡ tokens.old ++ collected collects token.now) }
+    ensures err { OnErr result (tokens.new ≡ tokens.old) }
+{
+    if !collects {
+        return Ok(());
+    }
+    if is_hashbang(token.kind()) {
+        return Ok(());
+    }
+    tokens.push(*token)
+}
+
+/// The last token of a list.
+fn last_of(tokens: &[Token]) -> Option<Token>
+    ensures { result ≡ last_or None tokens.now }
+{
+    tokens.last().copied()
+}
+
+/// Why there is no lexer for a text.
+#[derive(Clone, Copy, PartialEq, Eq, Debug)]
+pub enum NewFault {
+    /// The text has more than `u32::MAX` bytes.
+    Overlong,
+    Memory,
+}
+
+/// A lexer over a source text, with the last token that it gave, the tokens that it collected where its configuration
+/// says so, and what its readings reported.
+#[derive(Drop)]
+pub struct Lexer<'a, C: LexerConfig + Drop> {
+    reader: Reader<'a>,
+    config: C,
+    alloc: Global,
+    last: Option<Token>,
+    tokens: TokenList,
+}
+
+impl<'a, C: LexerConfig + Drop> Model for Lexer<'a, C> {
+    ghost use Rattle.js_grammar.specs.Outcome.{reports};
+    ghost use Rattle.js_lexer.specs.Lexer.{LexerState, IsSound};
+
+    ghost Value = { LexerState };
+
+    ghost view = { λ l. record {
+      text = l.reader.source.text;
+      source_type = l.reader.source_type;
+      collects = C.collects l.config;
+      place = l.reader.source.place;
+      last = l.last;
+      tokens = l.tokens;
+      findings = reports l.reader.errors;
+    } };
+
+    ghost invariant = { λ l. IsSound l.reader.source.text l.last };
+}
+
+impl<'a, C: LexerConfig + Drop> Lexer<'a, C> {
+    /// A lexer at the start of the text. Its first reading counts as standing on a new line.
+    pub fn new(
+        alloc: Global,
+        source_text: &'a str,
+        source_type: SourceType,
+        config: C,
+    ) -> Result<Lexer<'a, C>, NewFault>
+        requires { IsBuilt source_text.now }
+        ensures ok { IfOk result (λ l. l ≡ fresh source_text.now source_type (C.collects config)) }
+        ensures overlong { (result ≡ Err NewFault.Overlong) ↔ (2 ^ 32 ≤ length source_text.now) }
+    {
+        if source_text.len() > u32::MAX as usize {
+            return Err(NewFault::Overlong);
+        }
+        Ok(Lexer {
+            reader: Reader {
+                source: Source::new(source_text),
+                source_type,
+                tables: ByteTables::new(),
+                line_has_ended: true,
+                errors: DiagnosticList::new_in(alloc),
+            },
+            config,
+            alloc,
+            last: None,
+            tokens: TokenList::new_in(alloc),
+        })
+    }
+
+    /// Reads the first token, a hashbang comment among them (ECMA-262 12.5), which is not collected.
+    pub fn first_token(&mut self) -> Result<Token, AllocError>
+        requires { self.old.last ≡ None }
+        ensures ok { IfOk result (λ token. ReadsToken Goal.First self.old token self.new) }
+        ensures err { OnErr result (IsRestored self.old self.new) }
+    {
+        self.read(Goal::First)
+    }
+
+    /// Reads the next token.
+    pub fn next_token(&mut self) -> Result<Token, AllocError>
+        ensures ok { IfOk result (λ token. ReadsToken Goal.Next self.old token self.new) }
+        ensures err { OnErr result (IsRestored self.old self.new) }
+    {
+        self.read(Goal::Next)
+    }
+
+    /// Reads a token. Where it cannot allocate, the lexer may have moved on and reported.
+    fn read_on(&mut self, goal: Goal) -> Result<Token, AllocError>
+        requires { IsPlaced (record { text = self.old.text; place = self.old.place }) }
+        ensures ok { IfOk result (λ token. ReadsToken goal self.old token self.new) }
+        ensures err { OnErr result (HasMovedOn self.old self.new) }
+    {
+        self.reader.line_has_ended = self.last.is_none();
+        let token = self.reader.read_goal(goal)?;
+        collect(&mut self.tokens, self.config.tokens(), &token)?;
+        self.last = Some(token);
+        Ok(token)
+    }
+
+    /// Reads a token, or leaves the lexer as it was.
+    fn read(&mut self, goal: Goal) -> Result<Token, AllocError>
+        ensures ok { IfOk result (λ token. ReadsToken goal self.old token self.new) }
+        ensures err { OnErr result (IsRestored self.old self.new) }
+    {
+        let start = self.reader.source.position();
+        let reported = self.reader.errors.len();
+        match self.read_on(goal) {
+            Ok(token) => Ok(token),
+            Err(error) => {
+                self.reader.source.set_position(start);
+                self.reader.errors.truncate(reported);
+                Err(error)
+            }
+        }
+    }
+
+    /// Tells what `next_token` gives next, and leaves the lexer as it was.
+    pub fn peek_token(&mut self) -> Result<Token, AllocError>
+        ensures ok { IfOk result (λ token. Peeks self.old token self.new) }
+        ensures err { OnErr result (IsRestored self.old self.new) }
+    {
+        let checkpoint = self.checkpoint();
+        let token = self.next_token()?;
+        self.rewind(checkpoint);
+        Ok(token)
+    }
+
+    /// The last token that was read; a default token before the first.
+    pub fn last_token(&self) -> Token
+        ensures { result ≡ token_or_default self.now.last }
+    {
+        self.last.unwrap_or(Token::default())
+    }
+
+    /// The place of the lexer, as an offset in bytes.
+    pub fn offset(&self) -> u32
+        ensures place { result ≡ self.now.place }
+        ensures boundary { IsCharBoundary self.now.text result }
+        ensures utf8 { IsUtf8 self.now.text }
+    {
+        self.reader.source.offset()
+    }
+
+    /// The text from the lexer's place on.
+    pub fn remaining(&self) -> &'a str
+        ensures { result.now ≡ drop self.now.place self.now.text }
+    {
+        self.reader.source.remaining()
+    }
+
+    /// Goes to the end of the text.
+    pub fn advance_to_end(&mut self)
+        ensures { self.new ≡ record self.old { place = length self.old.text } }
+    {
+        self.reader.source.advance_to_end();
+    }
+
+    /// What was reported, in the order in which it was met. Readings find nothing else yet.
+    pub fn errors(&self) -> &[Diagnostic]
+        ensures { self.now.findings ≡ reports result.now }
+    {
+        self.reader.errors.as_slice()
+    }
+
+    /// Hands out what was reported, and leaves nothing.
+    pub fn take_errors(&mut self) -> DiagnosticList
+        ensures errors { self.old.findings ≡ reports result }
+        ensures after { self.new ≡ record self.old { findings = no_findings } }
+    {
+        std::mem::replace(&mut self.reader.errors, DiagnosticList::new_in(self.alloc))
+    }
+
+    /// The tokens that were collected.
+    pub fn tokens(&self) -> &[Token]
+        ensures { result.now ≡ self.now.tokens }
+    {
+        self.tokens.as_slice()
+    }
+
+    /// Hands out the collected tokens, and leaves none.
+    pub fn take_tokens(&mut self) -> TokenList
+        ensures tokens { result ≡ self.old.tokens }
+        ensures after { self.new ≡ record self.old { tokens = [] } }
+    {
+        std::mem::replace(&mut self.tokens, TokenList::new_in(self.alloc))
+    }
+
+    /// What `rewind` goes back to: places and lengths alone, so it takes no memory.
+    pub fn checkpoint(&self) -> LexerCheckpoint
+        ensures state { result ≡ checkpoint_of self.now }
+        ensures open { CanRewind self.now result }
+    {
+        LexerCheckpoint {
+            position: self.reader.source.position(),
+            last: self.last,
+            last_collected: last_of(self.tokens.as_slice()),
+            tokens: self.tokens.len(),
+            errors: self.reader.errors.len(),
+        }
+    }
+
+    /// Whether the lexer may go back to the checkpoint: its places are places of this text, in order, and no list is
+    /// shorter than it was.
+    pub fn can_rewind(&self, checkpoint: &LexerCheckpoint) -> bool
+        ensures { IsTrue result ↔ CanRewind self.now checkpoint.now }
+    {
+        if checkpoint.tokens > self.tokens.len() {
+            return false;
+        }
+        if checkpoint.errors > self.reader.errors.len() {
+            return false;
+        }
+        let source = &self.reader.source;
+        if !is_place(source, source.offset_of(checkpoint.position)) {
+            return false;
+        }
+        is_on_places_if_some(source, &checkpoint.last)
+    }
+
+    /// Goes back to the checkpoint. The lists are cut back to the lengths that they had, and the last collected token is
+    /// put back. Where the lists begin as they did at the checkpoint, this restores the lexer as it was.
+    pub fn rewind(&mut self, checkpoint: LexerCheckpoint)
+        requires { CanRewind self.old checkpoint }
+        ensures state { self.new ≡ rewound self.old checkpoint }
+        ensures restores { (earlier : LexerState) → checkpoint ≡ checkpoint_of earlier → GoesOnFrom earlier self.old
+            → IsRestored earlier self.new }
+    {
+        let LexerCheckpoint {
+            position,
+            last,
+            last_collected,
+            tokens,
+            errors,
+        } = checkpoint;
+        self.reader.source.set_position(position);
+        self.last = last;
+        self.tokens.truncate(tokens);
+        put_back(&mut self.tokens, last_collected);
+        self.reader.errors.truncate(errors);
+    }
+}

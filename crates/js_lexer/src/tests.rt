@@ -1,0 +1,424 @@
+//! Rows from outside, and that each call can succeed.
+
+ghost use Rattle.std.specs.Prelude.{◌≡◌, true, IfOk};
+
+use crate::lexer::Lexer;
+use js_kind::{
+    Kind, LexerConfig, NoTokensLexerConfig, RuntimeLexerConfig, Token, TokensLexerConfig,
+};
+use js_text::{Diagnostic, SourceType};
+use std::alloc::{AllocError, Global};
+use std::fmt::Write;
+use std::test::Fail;
+
+/// A lexer that has read nothing, over a text that is short.
+fn lexer_of<C: LexerConfig + Drop>(
+    alloc: Global,
+    text: &str,
+    source_type: SourceType,
+    config: C,
+) -> Result<Lexer<'_, C>, Fail>
+    ensures { IfOk result (λ lexer. lexer.is_fresh ≡ true) }
+{
+    match Lexer::new(alloc, text, source_type, config) {
+        Ok(lexer) => Ok(lexer),
+        Err(_) => Err(Fail::from("no lexer")),
+    }
+}
+
+fn push_token(text: &mut String, token: &Token) -> Result<(), AllocError> {
+    let name = token.kind().name();
+    let start = token.start();
+    let end = token.end();
+    let newline = if token.is_on_new_line() { " n" } else { "" };
+    write!(text, "{name} {start}..{end}{newline};")
+}
+
+fn push_diagnostic(text: &mut String, diagnostic: &Diagnostic) -> Result<(), AllocError> {
+    let name = diagnostic.name();
+    match diagnostic.span() {
+        Some(span) => {
+            let start = span.start;
+            let end = span.end;
+            write!(text, "{name} {start}..{end};")
+        }
+        None => write!(text, "{name};"),
+    }
+}
+
+/// All tokens of a source and what they report, as text.
+fn lexed(alloc: Global, source: &str, source_type: SourceType) -> Result<String, Fail> {
+    let mut lexer = lexer_of(alloc, source, source_type, NoTokensLexerConfig)?;
+    let mut text = String::new(alloc);
+    let mut token = lexer.first_token()?;
+    push_token(&mut text, &token)?;
+    for _ in 0..source.len() {
+        if !token.kind().is_same(Kind::Eof) {
+            token = lexer.next_token()?;
+            push_token(&mut text, &token)?;
+        }
+    }
+    for diagnostic in lexer.errors() {
+        push_diagnostic(&mut text, diagnostic)?;
+    }
+    Ok(text)
+}
+
+/// A source type, a source, its tokens and what is reported.
+static READINGS: [(SourceType, &str, &str); 30] = [
+    (SourceType::Module, "", "Eof 0..0 n;"),
+    (SourceType::Module, "\u{A0}a", "Ident 2..3 n;Eof 3..3;"),
+    (
+        SourceType::Module,
+        "\u{FEFF}\u{3000}a",
+        "Ident 6..7 n;Eof 7..7;",
+    ),
+    (
+        SourceType::Module,
+        "a\u{2028}b",
+        "Ident 0..1 n;Ident 4..5 n;Eof 5..5;",
+    ),
+    (
+        SourceType::Module,
+        "a /* x */ b",
+        "Ident 0..1 n;Ident 10..11;Eof 11..11;",
+    ),
+    (
+        SourceType::Module,
+        "a // x\nb",
+        "Ident 0..1 n;Ident 7..8 n;Eof 8..8;",
+    ),
+    (
+        SourceType::Module,
+        "a /* \r */ b",
+        "Ident 0..1 n;Ident 10..11 n;Eof 11..11;",
+    ),
+    (
+        SourceType::Module,
+        "/***/a/*\u{2028}*/b",
+        "Ident 5..6 n;Ident 13..14 n;Eof 14..14;",
+    ),
+    (
+        SourceType::Module,
+        "<!--x\na",
+        "Ident 6..7 n;Eof 7..7;HtmlCommentInModule 0..4;",
+    ),
+    (SourceType::Script, "<!--x\na", "Ident 6..7 n;Eof 7..7;"),
+    (
+        SourceType::Unambiguous,
+        "a\n--> x",
+        "Ident 0..1 n;Eof 7..7 n;",
+    ),
+    (SourceType::Script, "--> x\na", "Ident 6..7 n;Eof 7..7;"),
+    (
+        SourceType::Module,
+        "--> x",
+        "Minus2 0..2 n;RAngle 2..3;Ident 4..5;Eof 5..5;",
+    ),
+    (
+        SourceType::Module,
+        "b <!--x",
+        "Ident 0..1 n;LAngle 2..3;Bang 3..4;Minus2 4..6;Ident 6..7;Eof 7..7;",
+    ),
+    (
+        SourceType::Module,
+        "<!--\n<!--x\n\n<!--",
+        "Eof 16..16 n;HtmlCommentInModule 0..4;HtmlCommentInModule 5..9;HtmlCommentInModule 12..16;",
+    ),
+    (
+        SourceType::Module,
+        "/* a",
+        "Eof 0..4 n;UnterminatedMultiLineComment 0..4;",
+    ),
+    (
+        SourceType::Module,
+        "a/*\n",
+        "Ident 0..1 n;Eof 1..4 n;UnterminatedMultiLineComment 1..4;",
+    ),
+    (
+        SourceType::Module,
+        "a=>b>=c",
+        "Ident 0..1 n;Arrow 1..3;Ident 3..4;RAngle 4..5;Eq 5..6;Ident 6..7;Eof 7..7;",
+    ),
+    (
+        SourceType::Module,
+        "\u{1}",
+        "Undetermined 0..1 n;Eof 1..1;InvalidCharacter 0..1;",
+    ),
+    (
+        SourceType::Module,
+        "a\u{7F}",
+        "Ident 0..1 n;Undetermined 1..2;Eof 2..2;InvalidCharacter 1..2;",
+    ),
+    (
+        SourceType::Module,
+        "\u{FFFD}a",
+        "Eof 0..4 n;FileAppearsToBeBinary;",
+    ),
+    (
+        SourceType::Module,
+        "#!x\na",
+        "HashbangComment 0..3 n;Ident 4..5 n;Eof 5..5;",
+    ),
+    (SourceType::Module, "#!", "HashbangComment 0..2 n;Eof 2..2;"),
+    (SourceType::Module, "\u{E9}", "Ident 0..2 n;Eof 2..2;"),
+    (
+        SourceType::Module,
+        "\u{E9}t\u{E9}",
+        "Ident 0..5 n;Eof 5..5;",
+    ),
+    (SourceType::Module, "\u{10400}", "Ident 0..4 n;Eof 4..4;"),
+    (SourceType::Module, "a\u{200D}b", "Ident 0..5 n;Eof 5..5;"),
+    (
+        SourceType::Module,
+        "\u{200D}",
+        "Undetermined 0..3 n;Eof 3..3;InvalidCharacter 0..3;",
+    ),
+    (
+        SourceType::Module,
+        "let\n$x",
+        "Let 0..3 n;Ident 4..6 n;Eof 6..6;",
+    ),
+    (
+        SourceType::Module,
+        "instanceof $ _x",
+        "Instanceof 0..10 n;Ident 11..12;Ident 13..15;Eof 15..15;",
+    ),
+];
+
+#[test]
+fn gaps_names_and_faults(rt: HostRuntime) -> Result<(), Fail> {
+    for (source_type, source, expected) in READINGS.iter() {
+        let text = lexed(rt.alloc(), source, *source_type)?;
+        assert_eq!(rt; text.as_str(), *expected, "{source}");
+    }
+    Ok(())
+}
+
+/// The kinds of the tokens of a source that has no gap: each token begins where the one before it ends.
+fn kinds(rt: &impl std::process::Abort, alloc: Global, source: &str) -> Result<String, Fail> {
+    let mut lexer = lexer_of(alloc, source, SourceType::Module, NoTokensLexerConfig)?;
+    let mut text = String::new(alloc);
+    let mut end = 0;
+    for _ in 0..source.len() {
+        let token = lexer.next_token()?;
+        assert_eq!(rt; token.start(), end, "{source}");
+        end = token.end();
+        let name = token.kind().name();
+        write!(text, "{name} ")?;
+        if end as usize == source.len() {
+            return Ok(text);
+        }
+    }
+    Ok(text)
+}
+
+/// A source without gaps, and the kinds of its tokens.
+static PUNCTUATORS: [(&str, &str); 108] = [
+    ("&", "Amp "),
+    ("&&", "Amp2 "),
+    ("&&=", "Amp2Eq "),
+    ("&=", "AmpEq "),
+    ("!", "Bang "),
+    ("^", "Caret "),
+    ("^=", "CaretEq "),
+    (":", "Colon "),
+    (",", "Comma "),
+    (".", "Dot "),
+    ("...", "Dot3 "),
+    ("=", "Eq "),
+    ("==", "Eq2 "),
+    ("===", "Eq3 "),
+    ("<", "LAngle "),
+    ("[", "LBrack "),
+    ("{", "LCurly "),
+    ("(", "LParen "),
+    ("<=", "LtEq "),
+    ("-", "Minus "),
+    ("--", "Minus2 "),
+    ("-=", "MinusEq "),
+    ("!=", "Neq "),
+    ("!==", "Neq2 "),
+    ("%", "Percent "),
+    ("%=", "PercentEq "),
+    ("|", "Pipe "),
+    ("||", "Pipe2 "),
+    ("||=", "Pipe2Eq "),
+    ("|=", "PipeEq "),
+    ("+", "Plus "),
+    ("++", "Plus2 "),
+    ("+=", "PlusEq "),
+    ("?", "Question "),
+    ("??", "Question2 "),
+    ("??=", "Question2Eq "),
+    ("?.", "QuestionDot "),
+    (">", "RAngle "),
+    ("]", "RBrack "),
+    ("}", "RCurly "),
+    (")", "RParen "),
+    (";", "Semicolon "),
+    ("<<", "ShiftLeft "),
+    ("<<=", "ShiftLeftEq "),
+    ("/", "Slash "),
+    ("/=", "SlashEq "),
+    ("*", "Star "),
+    ("**", "Star2 "),
+    ("**=", "Star2Eq "),
+    ("*=", "StarEq "),
+    ("~", "Tilde "),
+    ("=>", "Arrow "),
+    ("@", "At "),
+    ("+++", "Plus2 Plus "),
+    ("++=", "Plus2 Eq "),
+    ("+-", "Plus Minus "),
+    ("---", "Minus2 Minus "),
+    ("--=", "Minus2 Eq "),
+    ("-->", "Minus2 RAngle "),
+    ("&&&", "Amp2 Amp "),
+    ("&&&=", "Amp2 AmpEq "),
+    ("&&==", "Amp2Eq Eq "),
+    ("&|", "Amp Pipe "),
+    ("|||", "Pipe2 Pipe "),
+    ("|||=", "Pipe2 PipeEq "),
+    ("||==", "Pipe2Eq Eq "),
+    ("====", "Eq3 Eq "),
+    ("===>", "Eq3 RAngle "),
+    ("==>", "Eq2 RAngle "),
+    ("=>=", "Arrow Eq "),
+    ("=>>", "Arrow RAngle "),
+    (">=", "RAngle Eq "),
+    (">>", "RAngle RAngle "),
+    (">>>", "RAngle RAngle RAngle "),
+    (">>=", "RAngle RAngle Eq "),
+    (">>>=", "RAngle RAngle RAngle Eq "),
+    ("<<<", "ShiftLeft LAngle "),
+    ("<<==", "ShiftLeftEq Eq "),
+    ("<==", "LtEq Eq "),
+    ("<!", "LAngle Bang "),
+    ("<!-", "LAngle Bang Minus "),
+    ("<>", "LAngle RAngle "),
+    ("!!", "Bang Bang "),
+    ("!===", "Neq2 Eq "),
+    ("!==>", "Neq2 RAngle "),
+    ("..", "Dot Dot "),
+    ("....", "Dot3 Dot "),
+    (".....", "Dot3 Dot Dot "),
+    ("?..", "QuestionDot Dot "),
+    ("?...", "QuestionDot Dot Dot "),
+    ("???", "Question2 Question "),
+    ("???.", "Question2 QuestionDot "),
+    ("??==", "Question2Eq Eq "),
+    ("?=", "Question Eq "),
+    ("***", "Star2 Star "),
+    ("***=", "Star2 StarEq "),
+    ("**==", "Star2Eq Eq "),
+    ("*/", "Star Slash "),
+    ("/==", "SlashEq Eq "),
+    ("%%", "Percent Percent "),
+    ("%==", "PercentEq Eq "),
+    ("^^", "Caret Caret "),
+    ("~~", "Tilde Tilde "),
+    (":::", "Colon Colon Colon "),
+    ("()", "LParen RParen "),
+    ("[]{}", "LBrack RBrack LCurly RCurly "),
+    (",;", "Comma Semicolon "),
+    ("@@", "At At "),
+];
+
+#[test]
+fn punctuators(rt: HostRuntime) -> Result<(), Fail> {
+    for (source, expected) in PUNCTUATORS.iter() {
+        assert_eq!(rt;
+            kinds(&rt, rt.alloc(), source)?.as_str(),
+            *expected,
+            "{source}"
+        );
+    }
+    Ok(())
+}
+
+#[test]
+fn no_punctuator_before_a_digit(rt: HostRuntime) -> Result<(), Fail> {
+    let mut lexer = lexer_of(rt.alloc(), "?.5", SourceType::Script, NoTokensLexerConfig)?;
+    let token = lexer.next_token()?;
+    assert!(rt; token.kind().is_same(Kind::Question));
+    assert_eq!(rt; token.end(), 1);
+    Ok(())
+}
+
+/// Peeks at the first token, reads it, and goes back before it.
+fn rereads_a_hashbang<C: LexerConfig + Drop>(
+    rt: &impl std::process::Abort,
+    alloc: Global,
+    config: C,
+) -> Result<(), Fail> {
+    let mut lexer = lexer_of(alloc, "#!x\na", SourceType::Module, config)?;
+    assert_eq!(rt; lexer.remaining(), "#!x\na");
+    let fresh = lexer.checkpoint();
+    let _ = lexer.peek_token()?;
+    assert!(rt; lexer.first_token()?.kind().is_same(Kind::HashbangComment));
+    lexer.rewind(fresh);
+    assert_eq!(rt; lexer.first_token()?.end(), 3);
+    assert_eq!(rt; lexer.tokens().len(), 0);
+    Ok(())
+}
+
+/// Peeks over a fault, reads it, and goes back before it.
+fn goes_back_before_a_fault<C: LexerConfig + Drop>(
+    rt: &impl std::process::Abort,
+    alloc: Global,
+    config: C,
+) -> Result<(), Fail> {
+    let mut lexer = lexer_of(alloc, "a \u{1}b", SourceType::Module, config)?;
+    assert_eq!(rt; lexer.first_token()?.end(), 1);
+    let checkpoint = lexer.checkpoint();
+    let peeked = lexer.peek_token()?;
+    assert_eq!(rt; lexer.errors().len(), 0);
+    assert!(rt; peeked.is_same(&lexer.next_token()?));
+    assert_eq!(rt; lexer.errors().len(), 1);
+    lexer.rewind(checkpoint);
+    assert_eq!(rt; lexer.offset(), 1);
+    assert_eq!(rt; lexer.last_token().end(), 1);
+    assert_eq!(rt; lexer.errors().len(), 0);
+    Ok(())
+}
+
+/// Reads `a b`, hands out the tokens, and tells whether it may go back then.
+fn hands_out_tokens<C: LexerConfig + Drop>(
+    rt: &impl std::process::Abort,
+    alloc: Global,
+    config: C,
+    collected: usize,
+) -> Result<(), Fail> {
+    let mut lexer = lexer_of(alloc, "a b", SourceType::Script, config)?;
+    assert_eq!(rt; lexer.first_token()?.end(), 1);
+    let checkpoint = lexer.checkpoint();
+    lexer.advance_to_end();
+    assert_eq!(rt; lexer.remaining(), "");
+    assert!(rt; lexer.next_token()?.kind().is_same(Kind::Eof));
+    assert!(rt; lexer.can_rewind(&checkpoint));
+    assert_eq!(rt; lexer.take_tokens().len(), collected);
+    assert_eq!(rt; lexer.tokens().len(), 0);
+    assert_eq!(rt; lexer.can_rewind(&checkpoint), collected == 0);
+    Ok(())
+}
+
+/// All of these at one configuration.
+fn checkpoints<C: LexerConfig + Copy + Drop>(
+    rt: &impl std::process::Abort,
+    alloc: Global,
+    config: C,
+    collected: usize,
+) -> Result<(), Fail> {
+    rereads_a_hashbang(rt, alloc, config)?;
+    goes_back_before_a_fault(rt, alloc, config)?;
+    hands_out_tokens(rt, alloc, config, collected)
+}
+
+#[test]
+fn checkpoints_at_each_configuration(rt: HostRuntime) -> Result<(), Fail> {
+    checkpoints(&rt, rt.alloc(), NoTokensLexerConfig, 0)?;
+    checkpoints(&rt, rt.alloc(), TokensLexerConfig, 2)?;
+    checkpoints(&rt, rt.alloc(), RuntimeLexerConfig::new(true), 2)?;
+    checkpoints(&rt, rt.alloc(), RuntimeLexerConfig::new(false), 0)
+}

@@ -1,0 +1,22 @@
+use Rattle.std.proofs.Common.{refl}
+use Rattle.std.proofs.lemmas.Result.{err_from_is_err_and}
+use Rattle.js_lexer.proofs.LexerSteps.{reading_goes_on}
+use Rattle.js_session.proofs.LexerLemmas.{goes_on-restored}
+use Rattle.js_session.proofs.ReadLemmas.{made_row}
+use Rattle.js_session.proofs.read.read_row.Goals as goal
+
+pub returns-in_err-token-clause-err : goal.returns-in_err-token-clause-err
+returns-in_err-token-clause-err g c =
+    let p = err_from_is_err_and c.from_residual.result c.from_residual.ensures.1 in
+    rw p.1 (goes_on-restored _ _ c.in_err-token.ensures.err)
+
+pub returns-in_err-diagnostics-clause-err : goal.returns-in_err-diagnostics-clause-err
+returns-in_err-diagnostics-clause-err g c =
+    let p = err_from_is_err_and c.from_residual-in_err-diagnostics.result c.from_residual-in_err-diagnostics.ensures.1 in
+    rw p.1 (reading_goes_on _ c.args.lexer.now c.read_token.new.lexer c.in_ok-token.token c.in_ok-token.ensures.ok)
+
+pub returns-clause-ok : goal.returns-clause-ok
+returns-clause-ok g c =
+    made_row c.args.goal c.args.command c.args.lexer.now c.read_token.new.lexer c.errors-reported.result.now c.read_token.new.lexer.findings.diagnostics _ c.offset-place.ensures.utf8
+    c.in_ok-token.ensures.ok c.errors-reported.ensures c.in_ok-diagnostics.ensures.nothing_else refl c.offset-place.ensures.place refl
+    (rw (c.value_of.ensures, c.in_ok-diagnostics.ensures.errors, c.new_in.ensures, c.new_in-2.ensures, c.new_in-3.ensures) refl)

@@ -1,0 +1,76 @@
+-- How rows are read from a lexer.
+use Rattle.std.specs.Prelude.{◌≡◌, ℕ, true, List, [], ◌∷◌, ◌++◌, length, take, Option}
+use Rattle.js_text.specs.Lists.{with_last}
+use Rattle.js_grammar.specs.declared.goal.Goal.{Goal}
+use Rattle.js_kind.specs.TokenParts.{TokenParts}
+use Rattle.js_lexer.specs.Lexer.{LexerState, ReadsToken, IsRestored, GoesOnFrom, CanRewind, Checkpoint, checkpoint_of, token_or_default}
+use Rattle.js_session.specs.Live.{outcome_of}
+use Rattle.js_session.specs.Report.{LiesOnPlaces}
+use Rattle.js_session.specs.declared.command.Command.{Command}
+use Rattle.js_session.specs.declared.mark.SessionMark.{SessionMark}
+use Rattle.js_session.specs.declared.row.Row.{Row}
+
+-- A lexer, the rows that were read from it, and the tokens that are live.
+pub record RowReaderState : Type 0 where
+  pub lexer : LexerState
+  pub rows : List Row
+  pub tokens : List TokenParts
+
+-- A row was read for a goal from where the lexer stands, and the lexer is behind its token, which lies on places.
+pub record ReadsRow (goal : Goal) (command : Option Command) (old : LexerState) (row : Row) (new : LexerState)
+    : Type 0 where
+  pub reads : ReadsToken goal old row.token new
+  pub outcome_is : outcome_of row ≡ reads.outcome
+  pub command_is : row.command ≡ command
+  pub place : row.place ≡ old.place
+  pub taken : row.taken ≡ true
+  pub places : LiesOnPlaces old.text row
+
+-- a row was read and added, and its token is live
+pub record AddsLive (goal : Goal) (command : Option Command) (old new : RowReaderState) : Type 0 where
+  pub row : Row
+  pub reads : ReadsRow goal command old.lexer row new.lexer
+  pub rows : new.rows ≡ old.rows ++ row ∷ []
+  pub tokens : new.tokens ≡ old.tokens ++ row.token ∷ []
+
+-- a row was read and added, and lexer and live tokens are as before
+pub record AddsPeek (goal : Goal) (command : Option Command) (old new : RowReaderState) : Type 0 where
+  pub row : Row
+  pub behind : LexerState
+  pub reads : ReadsRow goal command old.lexer row behind
+  pub rows : new.rows ≡ old.rows ++ row ∷ []
+  pub lexer : IsRestored old.lexer new.lexer
+  pub tokens : new.tokens ≡ old.tokens
+
+-- a reading that could not allocate: the lexer may have gone on, and one token more may be live
+pub record MayGoOn (old new : RowReaderState) : Type 0 where
+  pub lexer : GoesOnFrom old.lexer new.lexer
+  pub rows : new.rows ≡ old.rows
+  pub tokens : take (length old.tokens) new.tokens ≡ old.tokens
+
+-- all is as before
+pub record IsUndone (old new : RowReaderState) : Type 0 where
+  pub lexer : IsRestored old.lexer new.lexer
+  pub rows : new.rows ≡ old.rows
+  pub tokens : new.tokens ≡ old.tokens
+
+-- The lexer is what it was at the checkpoint, if it has gone on from there, and so many tokens are live at most.
+pub record GoesBack (checkpoint : Checkpoint) (live : ℕ) (old new : RowReaderState) : Type 0 where
+  pub lexer : (earlier : LexerState) → checkpoint ≡ checkpoint_of earlier → GoesOnFrom earlier old.lexer
+      → IsRestored earlier new.lexer
+  pub rows : new.rows ≡ old.rows
+  pub tokens : new.tokens ≡ take live old.tokens
+
+-- what a mark keeps: a checkpoint of the lexer, which may go back to it, and how many tokens are live
+pub record IsMarkOf (r : RowReaderState) (m : SessionMark) : Type 0 where
+  pub tokens : m.tokens ≡ length r.tokens
+  pub checkpoint : m.checkpoint ≡ checkpoint_of r.lexer
+  pub can_rewind : CanRewind r.lexer m.checkpoint
+
+-- The lexer is what it was at the mark, if it has gone on from there, and so many tokens are live at most. The last of
+-- them is the lexer's: it may have been read again since the mark.
+pub record GoesToMark (m : SessionMark) (old new : RowReaderState) : Type 0 where
+  pub lexer : (earlier : LexerState) → m.checkpoint ≡ checkpoint_of earlier → GoesOnFrom earlier old.lexer
+      → IsRestored earlier new.lexer
+  pub rows : new.rows ≡ old.rows
+  pub tokens : new.tokens ≡ with_last (take m.tokens old.tokens) (token_or_default new.lexer.last)
