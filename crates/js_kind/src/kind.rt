@@ -2,8 +2,8 @@
 
 ghost use Rattle.std.specs.Prelude.{◌≡◌, ◌↔◌, IsTrue};
 ghost use Rattle.std.specs.Int.{is_in_range};
-ghost use Rattle.js_kind.specs.Kinds.{number, is_one_of, is_name_kind, is_identifier_name, is_number_kind, ListsByNumber};
-ghost use Rattle.js_kind.specs.Digits.{integer_kinds, is_digit_of};
+ghost use Rattle.js_kind.specs.Kinds.{number, is_name_kind, is_identifier_name, is_number_kind};
+ghost use Rattle.js_kind.specs.Digits.{is_integer_kind, is_digit_of, radix_of};
 
 /// What a token is.
 #[derive(Clone, Copy, PartialEq, Eq, Debug, Default)]
@@ -189,179 +189,6 @@ pub enum Kind {
 }
 
 impl Kind {
-    /// All kinds, in the order of their numbers.
-    pub const VARIANTS: [Kind; 169] = [
-        Kind::Eof,
-        Kind::Undetermined,
-        Kind::Skip,
-        Kind::HashbangComment,
-        Kind::Ident,
-        Kind::Await,
-        Kind::Break,
-        Kind::Case,
-        Kind::Catch,
-        Kind::Class,
-        Kind::Const,
-        Kind::Continue,
-        Kind::Debugger,
-        Kind::Default,
-        Kind::Delete,
-        Kind::Do,
-        Kind::Else,
-        Kind::Enum,
-        Kind::Export,
-        Kind::Extends,
-        Kind::Finally,
-        Kind::For,
-        Kind::Function,
-        Kind::If,
-        Kind::Import,
-        Kind::In,
-        Kind::Instanceof,
-        Kind::New,
-        Kind::Return,
-        Kind::Super,
-        Kind::Switch,
-        Kind::This,
-        Kind::Throw,
-        Kind::Try,
-        Kind::Typeof,
-        Kind::Var,
-        Kind::Void,
-        Kind::While,
-        Kind::With,
-        Kind::Async,
-        Kind::From,
-        Kind::Get,
-        Kind::Meta,
-        Kind::Of,
-        Kind::Set,
-        Kind::Target,
-        Kind::Accessor,
-        Kind::Source,
-        Kind::Defer,
-        Kind::Abstract,
-        Kind::As,
-        Kind::Asserts,
-        Kind::Assert,
-        Kind::Any,
-        Kind::Boolean,
-        Kind::Constructor,
-        Kind::Declare,
-        Kind::Infer,
-        Kind::Intrinsic,
-        Kind::Is,
-        Kind::KeyOf,
-        Kind::Module,
-        Kind::Namespace,
-        Kind::Never,
-        Kind::Out,
-        Kind::Readonly,
-        Kind::Require,
-        Kind::Number,
-        Kind::Object,
-        Kind::Satisfies,
-        Kind::String,
-        Kind::Symbol,
-        Kind::TypeKw,
-        Kind::Undefined,
-        Kind::Unique,
-        Kind::Using,
-        Kind::Unknown,
-        Kind::Global,
-        Kind::BigInt,
-        Kind::Override,
-        Kind::Implements,
-        Kind::Interface,
-        Kind::Let,
-        Kind::Package,
-        Kind::Private,
-        Kind::Protected,
-        Kind::Public,
-        Kind::Static,
-        Kind::Yield,
-        Kind::True,
-        Kind::False,
-        Kind::Null,
-        Kind::Amp,
-        Kind::Amp2,
-        Kind::Amp2Eq,
-        Kind::AmpEq,
-        Kind::Bang,
-        Kind::Caret,
-        Kind::CaretEq,
-        Kind::Colon,
-        Kind::Comma,
-        Kind::Dot,
-        Kind::Dot3,
-        Kind::Eq,
-        Kind::Eq2,
-        Kind::Eq3,
-        Kind::GtEq,
-        Kind::LAngle,
-        Kind::LBrack,
-        Kind::LCurly,
-        Kind::LParen,
-        Kind::LtEq,
-        Kind::Minus,
-        Kind::Minus2,
-        Kind::MinusEq,
-        Kind::Neq,
-        Kind::Neq2,
-        Kind::Percent,
-        Kind::PercentEq,
-        Kind::Pipe,
-        Kind::Pipe2,
-        Kind::Pipe2Eq,
-        Kind::PipeEq,
-        Kind::Plus,
-        Kind::Plus2,
-        Kind::PlusEq,
-        Kind::Question,
-        Kind::Question2,
-        Kind::Question2Eq,
-        Kind::QuestionDot,
-        Kind::RAngle,
-        Kind::RBrack,
-        Kind::RCurly,
-        Kind::RParen,
-        Kind::Semicolon,
-        Kind::ShiftLeft,
-        Kind::ShiftLeftEq,
-        Kind::ShiftRight,
-        Kind::ShiftRight3,
-        Kind::ShiftRight3Eq,
-        Kind::ShiftRightEq,
-        Kind::Slash,
-        Kind::SlashEq,
-        Kind::Star,
-        Kind::Star2,
-        Kind::Star2Eq,
-        Kind::StarEq,
-        Kind::Tilde,
-        Kind::Arrow,
-        Kind::Decimal,
-        Kind::Float,
-        Kind::Binary,
-        Kind::Octal,
-        Kind::Hex,
-        Kind::PositiveExponential,
-        Kind::NegativeExponential,
-        Kind::DecimalBigInt,
-        Kind::BinaryBigInt,
-        Kind::OctalBigInt,
-        Kind::HexBigInt,
-        Kind::Str,
-        Kind::RegExp,
-        Kind::NoSubstitutionTemplate,
-        Kind::TemplateHead,
-        Kind::TemplateMiddle,
-        Kind::TemplateTail,
-        Kind::PrivateIdentifier,
-        Kind::JSXText,
-        Kind::At,
-    ];
-
     /// The number of the kind, from 0 on.
     pub const fn number(self) -> u8
         ensures { result ≡ number self }
@@ -408,9 +235,10 @@ impl Kind {
     }
 
     /// Whether the byte is a digit of numbers of the kind, which is `Decimal`, `Binary`, `Octal` or `Hex`.
+    #[tactic(auto, unfolding(crate::specs::Digits::is_digit_of))]
     pub const fn matches_number_byte(self, b: u8) -> bool
-        requires { IsTrue (is_one_of integer_kinds self) }
-        ensures { result ≡ is_digit_of self b }
+        requires { IsTrue (is_integer_kind self) }
+        ensures { result ≡ is_digit_of (radix_of self) b }
     {
         match self {
             Kind::Binary => b'0' <= b && b <= b'1',
@@ -420,8 +248,3 @@ impl Kind {
         }
     }
 }
-
-/// The array of kinds has each kind at the place of its number.
-pub fn variants_by_number()
-    ensures { ListsByNumber Kind.VARIANTS }
-{}
