@@ -1,21 +1,22 @@
 -- What a run answers once its input was read.
-use Rattle.std.proofs.Common.{◌≡◌, ℕ, ◌≤◌, ◌⊎◌, List, length, arith, refl, inl, inr, Option, None, Some}
-use Rattle.std.specs.Io.KnownBytes.{Appends}
+use Rattle.std.proofs.Common.{◌≡◌, ℕ, ◌≤◌, ◌⊎◌, List, [], ◌∷◌, length, arith, refl, inl, inr, Option, None, Some}
+use Rattle.std.proofs.KnownBytes.{Keeps-refl}
+use Rattle.std.specs.Str.{IsUtf8}
 use Rattle.js_session.specs.Faults.{IsBuilt, IsReadable, HasMarks, Cause, FirstUnbuilt, FirstWithoutMark}
 use Rattle.js_session.specs.declared.fault.LexFault.{LexFault}
-use Rattle.js_session.specs.declared.fault.LexFault.TheVariants.{Overlong, NotUtf8, NotBuilt, NoMark, Memory}
-use Rattle.js_lex_tool.specs.Outside.{WritesPrefix}
+use Rattle.js_session.specs.declared.fault.LexFault.TheVariants.{Overlong, NotUtf8 as NotUtf8Fault, NotBuilt as NotBuiltFault, NoMark as NoMarkFault, Memory}
+use Rattle.js_lex_tool.specs.Outside.{OutputState}
 use Rattle.js_lex_tool.specs.ReportText.{report_text_of}
-use Rattle.js_lex_tool.specs.Run.{status_of, Answers, IsRunOver, HasRun}
-use Rattle.js_lex_tool.specs.declared.read_all.TheConstants.{MOST_BYTES}
-use Rattle.js_lex_tool.specs.declared.status.TheConstants.{DONE, MEMORY}
+use Rattle.js_lex_tool.specs.Run.{most_bytes, status_of, Counts, Answers, HasReport, IsRunOver, Writes}
+use Rattle.js_lex_tool.specs.Status.{number, IsOneOf, HasPassed, Tests}
+use Rattle.js_lex_tool.specs.Status.Status.{OutOfMemory, WriteFailed, NotUtf8, NotBuilt, NoMark}
 use Rattle.js_lex_tool.specs.declared.tool.Ran.{Ran}
 use Rattle.js_lex_tool.specs.declared.tool.ToolOutcome.{ToolOutcome}
 use Rattle.js_lex_tool.specs.declared.words.CommandLine.{CommandLine}
 
--- an outcome with no run
-abbrev ended : ℕ → ToolOutcome
-ended status = record { status = status; ran = None }
+-- the outcome of a run that has no report
+abbrev pub without_run : ℕ → ToolOutcome
+without_run n = record { status = n; ran = None }
 
 unbuilt : (bytes : List ℕ) (at : ℕ) → FirstUnbuilt bytes at → ¬ (IsBuilt bytes)
 unbuilt bytes at first built = let here = first.here in let not_here = built at first.within in cc
@@ -23,50 +24,79 @@ unbuilt bytes at first built = let here = first.here in let not_here = built at 
 without_mark : (line : CommandLine) (index : ℕ) → FirstWithoutMark line.commands index → ¬ (HasMarks line.commands)
 without_mark line index first marks = marks index first.here
 
+-- A run without a report has written nothing; what is left to show are its three tests.
+refusal : (line : CommandLine) (bytes : List ℕ) (output : OutputState) (n : ℕ) → IsOneOf (OutOfMemory ∷ NotUtf8 ∷ NotBuilt ∷ NoMark ∷ []) n → Tests NotUtf8 n (¬ (IsUtf8 bytes)) (IsUtf8 bytes) → Tests NotBuilt n (¬ (IsBuilt bytes)) (IsBuilt bytes) → Tests NoMark n (¬ (HasMarks line.commands)) (HasMarks line.commands) → Answers line bytes output output (without_run n)
+refusal line bytes output n is utf8 built marks = record {
+  known = grind (arith, is);
+  utf8 = utf8;
+  built = built;
+  marks = marks;
+  has_run = (λ some. absurd cc, λ passed. absurd (omega (arith, is, passed)));
+  ran = tt;
+  text = tt;
+  faults = record { rises = λ e. absurd (omega (arith, is, e)); stays = λ _. refl };
+  quiet = λ _ _. refl;
+  memory = λ _. inl (Keeps-refl output.written);
+}
+
 -- A fault's status is the one that its bytes and commands call for.
-pub answers_at_fault : (line : CommandLine) (bytes : List ℕ) (old new : Option (List ℕ)) (fault : LexFault) → length bytes ≤ MOST_BYTES → Cause bytes line.commands fault → Answers line bytes old new (ended (status_of fault))
-answers_at_fault line bytes old new Overlong few cause = absurd (omega (arith, few, cause))
-answers_at_fault line bytes old new (NotUtf8 at) few cause = record {
-  not_utf8 = (λ _. cause.1, λ _. refl);
-  not_built = (λ e. absurd (omega (arith, e)), λ h. absurd (cause.1 h.0));
-  no_mark = (λ e. absurd (omega (arith, e)), λ h. absurd (cause.1 h.0.utf8));
-  ran = tt;
-  done = λ e. tt;
-  partly = λ e. tt;
-}
-answers_at_fault line bytes old new (NotBuilt at) few cause = record {
-  not_utf8 = (λ e. absurd (omega (arith, e)), λ h. absurd (h cause.1));
-  not_built = (λ _. (cause.1, unbuilt bytes at cause.2), λ _. refl);
-  no_mark = (λ e. absurd (omega (arith, e)), λ h. absurd (unbuilt bytes at cause.2 h.0.built));
-  ran = tt;
-  done = λ e. tt;
-  partly = λ e. tt;
-}
-answers_at_fault line bytes old new (NoMark index) few cause = record {
-  not_utf8 = (λ e. absurd (omega (arith, e)), λ h. absurd (h cause.0.utf8));
-  not_built = (λ e. absurd (omega (arith, e)), λ h. absurd (h.1 cause.0.built));
-  no_mark = (λ _. (cause.0, without_mark line index cause.1), λ _. refl);
-  ran = tt;
-  done = λ e. tt;
-  partly = λ e. tt;
-}
-answers_at_fault line bytes old new Memory few cause = absurd cause
+pub answers_at_fault : (line : CommandLine) (bytes : List ℕ) (output : OutputState) (fault : LexFault) → length bytes ≤ most_bytes → Cause bytes line.commands fault → Answers line bytes output output (without_run (number (status_of fault)))
+answers_at_fault line bytes output Overlong few cause = absurd (omega (arith, few, cause))
+answers_at_fault line bytes output (NotUtf8Fault at) few cause = refusal line bytes output 6 (inr (inl refl))
+    (record { fails = λ _. cause.1; passes = λ h. absurd (omega (arith, h)) })
+    (record { fails = λ e. absurd (omega (arith, e)); passes = λ h. absurd (omega (arith, h)) })
+    (record { fails = λ e. absurd (omega (arith, e)); passes = λ h. absurd (omega (arith, h)) })
+answers_at_fault line bytes output (NotBuiltFault at) few cause = refusal line bytes output 8 (inr (inr (inl refl)))
+    (record { fails = λ e. absurd (omega (arith, e)); passes = λ _. cause.1 })
+    (record { fails = λ _. unbuilt bytes at cause.2; passes = λ h. absurd (omega (arith, h)) })
+    (record { fails = λ e. absurd (omega (arith, e)); passes = λ h. absurd (omega (arith, h)) })
+answers_at_fault line bytes output (NoMarkFault index) few cause = refusal line bytes output 7 (inr (inr (inr (inl refl))))
+    (record { fails = λ e. absurd (omega (arith, e)); passes = λ _. cause.0.utf8 })
+    (record { fails = λ e. absurd (omega (arith, e)); passes = λ _. cause.0.built })
+    (record { fails = λ _. without_mark line index cause.1; passes = λ h. absurd (omega (arith, h)) })
+answers_at_fault line bytes output Memory few cause = absurd cause
 
--- The same of a session's answer, where it is not want of memory.
-pub answers_at_refusal : (line : CommandLine) (bytes : List ℕ) (old new : Option (List ℕ)) (fault : LexFault) → length bytes ≤ MOST_BYTES → (fault ≡ Memory) ⊎ Cause bytes line.commands fault → (status_of fault ≡ MEMORY → ⊥) → Answers line bytes old new (ended (status_of fault))
-answers_at_refusal line bytes old new fault few (inl e) other = absurd (other (rw e refl))
-answers_at_refusal line bytes old new fault few (inr cause) other = answers_at_fault line bytes old new fault few cause
+-- a run that is out of memory has failed none of the tests, and passed none
+pub answers_at_memory : (line : CommandLine) (bytes : List ℕ) (output : OutputState) → Answers line bytes output output (without_run 1)
+answers_at_memory line bytes output = refusal line bytes output 1 (inl refl)
+    (record { fails = λ e. absurd (omega (arith, e)); passes = λ h. absurd (omega (arith, h)) })
+    (record { fails = λ e. absurd (omega (arith, e)); passes = λ h. absurd (omega (arith, h)) })
+    (record { fails = λ e. absurd (omega (arith, e)); passes = λ h. absurd (omega (arith, h)) })
 
--- What was written of the text of a report over bytes that can be read.
-pub answers_at_report : (line : CommandLine) (bytes : List ℕ) (ran : Ran) (old new : Option (List ℕ)) (outcome : ToolOutcome) → IsReadable bytes → HasMarks line.commands → IsRunOver line bytes ran → (outcome.status ≡ DONE → Appends old new (report_text_of bytes ran.report)) → WritesPrefix old new (report_text_of bytes ran.report) → (outcome ≡ ended MEMORY) ⊎ (HasRun outcome.status × (outcome.ran ≡ Some ran)) → (outcome.status ≡ MEMORY → ⊥) → Answers line bytes old new outcome
-answers_at_report line bytes ran old new outcome readable marks over done prefix (inl e) other = absurd (other (rw e refl))
-answers_at_report line bytes ran old new outcome readable marks over done prefix (inr has) other =
-    let status = has.0 in
+-- What a session's fault comes to.
+pub answers_at_refusal : (line : CommandLine) (bytes : List ℕ) (output : OutputState) (fault : LexFault) → length bytes ≤ most_bytes → (fault ≡ Memory) ⊎ Cause bytes line.commands fault → Answers line bytes output output (without_run (number (status_of fault)))
+answers_at_refusal line bytes output fault few (inl e) = rw e (answers_at_memory line bytes output)
+answers_at_refusal line bytes output fault few (inr cause) = answers_at_fault line bytes output fault few cause
+
+-- the report of what ran is one over the bytes
+report_over : (line : CommandLine) (bytes : List ℕ) (ran : Ran) → IsRunOver line bytes ran → HasReport line bytes ran.report
+report_over line bytes ran over = rw (over.source, over.source_type, over.tokens, over.commands) at over.report
+
+-- A run that has its report has passed all three tests, or is out of memory.
+pub answers_at_report : (line : CommandLine) (bytes : List ℕ) (ran : Ran) (old new : OutputState) (outcome : ToolOutcome) → IsReadable bytes → HasMarks line.commands → IsRunOver line bytes ran → (outcome ≡ without_run 1) ⊎ (HasPassed NoMark outcome.status × (outcome.ran ≡ Some ran)) → Writes (report_text_of bytes ran.report) old new outcome.status → Counts WriteFailed outcome.status old.faults new.faults → Answers line bytes old new outcome
+answers_at_report line bytes ran old new outcome readable marks over (inl e) writes faults = record {
+  known = rw e (inl refl);
+  utf8 = rw e (record { fails = λ h. absurd (omega (arith, h)); passes = λ h. absurd (omega (arith, h)) });
+  built = rw e (record { fails = λ h. absurd (omega (arith, h)); passes = λ h. absurd (omega (arith, h)) });
+  marks = rw e (record { fails = λ h. absurd (omega (arith, h)); passes = λ h. absurd (omega (arith, h)) });
+  has_run = rw e (λ some. absurd cc, λ passed. absurd (omega (arith, passed)));
+  ran = rw e tt;
+  text = rw e tt;
+  faults = faults;
+  quiet = rw e (λ _ other. absurd (other refl));
+  memory = λ _. inr (ran.report, report_over line bytes ran over, writes.partly);
+}
+answers_at_report line bytes ran old new outcome readable marks over (inr has) writes faults =
+    let passed = has.0 in
     record {
-      not_utf8 = (λ e. absurd (omega (arith, e, status)), λ h. absurd (h readable.utf8));
-      not_built = (λ e. absurd (omega (arith, e, status)), λ h. absurd (h.1 readable.built));
-      no_mark = (λ e. absurd (omega (arith, e, status)), λ h. absurd (h.1 marks));
+      known = grind (arith, passed);
+      utf8 = record { fails = λ e. absurd (omega (arith, e, passed)); passes = λ _. readable.utf8 };
+      built = record { fails = λ e. absurd (omega (arith, e, passed)); passes = λ _. readable.built };
+      marks = record { fails = λ e. absurd (omega (arith, e, passed)); passes = λ _. marks };
+      has_run = (λ _. passed, λ _. rw has.1 refl);
       ran = rw has.1 over;
-      done = λ e. rw has.1 (done e);
-      partly = λ e. rw has.1 prefix;
+      text = rw has.1 writes;
+      faults = faults;
+      quiet = λ other. absurd (other passed);
+      memory = λ e. absurd (omega (arith, e, passed));
     }

@@ -1,14 +1,15 @@
--- A run that can only be done, or want memory.
-use Rattle.std.proofs.Common.{◌≡◌, ◌≢◌, ℕ, ◌+◌, ◌≤◌, ◌⊎◌, List, length, zero, suc, arith, refl, sym, inl, inr, Option, None, Some, append-nil, length-append, IfSome}
-use Rattle.std.specs.Io.KnownBytes.{Consumes, Keeps, IsAtEnd}
-use Rattle.std.proofs.KnownBytes.{Keeps-refl}
-use Rattle.js_session.specs.Faults.{IsReadable, HasMarks}
-use Rattle.js_lex_tool.specs.Outside.{Takes}
-use Rattle.js_lex_tool.specs.Run.{Answers, CanRun, GaveUp, ReadsAll}
-use Rattle.js_lex_tool.specs.declared.read_all.TheConstants.{MOST_BYTES}
-use Rattle.js_lex_tool.specs.declared.status.TheConstants.{DONE, MEMORY, USAGE, READ_FAILED, WRITE_FAILED, TOO_LONG, NOT_UTF8, NO_MARK, NOT_BUILT}
+-- What a run comes to whose words are a command line, and one that has none.
+use Rattle.std.proofs.Common.{◌≡◌, ◌≢◌, ℕ, ◌+◌, ◌≤◌, ◌⊎◌, ◌↔◌, List, [], ◌∷◌, length, arith, refl, sym, inl, inr, Option, None, Some, append-nil, length-append}
+use Rattle.std.specs.Io.KnownBytes.{Consumes, IsAtEnd}
+use Rattle.std.proofs.KnownBytes.{Consumes-nil}
+use Rattle.js_session.specs.Faults.{HasMarks}
+use Rattle.js_lex_tool.specs.Outside.{InputState, OutputState, Rises}
+use Rattle.js_lex_tool.specs.Run.{CanRun, RunsLine, RunsTool}
+use Rattle.js_lex_tool.specs.Status.{number, later_than, order, IsOneOf}
+use Rattle.js_lex_tool.specs.Status.Status.{Done, OutOfMemory, Usage, ReadFailed, TooLong}
 use Rattle.js_lex_tool.specs.declared.tool.ToolOutcome.{ToolOutcome}
 use Rattle.js_lex_tool.specs.declared.words.CommandLine.{CommandLine}
+use Rattle.js_lex_tool.proofs.Answering.{without_run}
 
 -- What was taken of known bytes up to the end is all of them.
 pub all_taken : (bytes taken : List ℕ) (new : Option (List ℕ)) → Consumes (Some bytes) new taken → IsAtEnd new → taken ≡ bytes
@@ -20,36 +21,71 @@ taken_few : (bytes taken : List ℕ) (new : Option (List ℕ)) → Consumes (Som
 taken_few bytes taken None took = absurd took
 taken_few bytes taken (Some left) took = rw took (omega (arith, length-append taken left))
 
-two_left : (n : ℕ) → n ≤ NOT_BUILT → n ≢ USAGE → n ≢ READ_FAILED → n ≢ WRITE_FAILED → n ≢ TOO_LONG → n ≢ NOT_UTF8 → n ≢ NO_MARK → n ≢ NOT_BUILT → (n ≡ DONE) ⊎ (n ≡ MEMORY)
-two_left zero h a b c d e f g = inl refl
-two_left (suc zero) h a b c d e f g = inr refl
-two_left (suc (suc n)) h a b c d e f g = absurd (omega arith)
+two_left : (n : ℕ) → IsOneOf (OutOfMemory ∷ later_than TooLong) n → n ≢ 4 → n ≢ 6 → n ≢ 7 → n ≢ 8 → IsOneOf (Done ∷ OutOfMemory ∷ []) n
+two_left n known a b c d = grind (arith, known)
 
--- Where the bytes can be read and the commands have their marks, a run that has read its input refuses neither.
-refuses_neither : (line : CommandLine) (bytes : List ℕ) (old new : Option (List ℕ)) (outcome : ToolOutcome) → IsReadable bytes → HasMarks line.commands → Answers line bytes old new outcome → (outcome.status ≢ NOT_UTF8) × (outcome.status ≢ NO_MARK) × (outcome.status ≢ NOT_BUILT)
-refuses_neither line bytes old new outcome readable marks a = (λ e. a.not_utf8.0 e readable.utf8, λ e. (a.no_mark.0 e).1 marks, λ e. (a.not_built.0 e).1 readable.built)
+one_left : (n : ℕ) → IsOneOf (OutOfMemory ∷ ReadFailed ∷ TooLong ∷ []) n → n ≢ 3 → n ≢ 5 → IsOneOf (Done ∷ OutOfMemory ∷ []) n
+one_left n known a b = grind (arith, known)
 
-refuses_no_run : (line : CommandLine) (bytes : List ℕ) (left old new : Option (List ℕ)) (outcome : ToolOutcome) → IsReadable bytes → HasMarks line.commands → ReadsAll (Some bytes) left (λ taken. Answers line taken old new outcome) → (outcome.status ≢ NOT_UTF8) × (outcome.status ≢ NO_MARK) × (outcome.status ≢ NOT_BUILT)
-refuses_no_run line bytes left old new outcome readable marks all =
-    let same = all_taken bytes all.0 left all.1 all.2 in
-    refuses_neither line bytes old new outcome readable marks (rw same at all.3)
-
--- A run that neither end fails, over words and bytes that it can run, is done or wants memory.
-pub completes : (line : CommandLine) (was left old new : Option (List ℕ)) (outcome : ToolOutcome) → CanRun (Some line) was → outcome.status ≤ NOT_BUILT → outcome.status ≢ USAGE → outcome.status ≢ READ_FAILED → outcome.status ≢ WRITE_FAILED → (outcome.status ≡ TOO_LONG → Takes was left (λ bytes. length bytes ≡ MOST_BYTES + 1)) → ((¬ (GaveUp outcome.status)) → ReadsAll was left (λ bytes. Answers line bytes old new outcome)) → (outcome.status ≡ DONE) ⊎ (outcome.status ≡ MEMORY)
-completes line was left old new outcome can known usage read write long answers =
+-- A run over words and bytes that can be run, whose two ends don't fail, is done or out of memory.
+pub completes : (line : CommandLine) (input input_new : InputState) (output output_new : OutputState) (outcome : ToolOutcome) → RunsLine line input input_new output output_new outcome → CanRun (Some line) input.left → ¬ (Rises input.faults input_new.faults) → ¬ (Rises output.faults output_new.faults) → IsOneOf (Done ∷ OutOfMemory ∷ []) outcome.status
+completes line input input_new output output_new outcome runs can no_read_fault no_write_fault =
     let same : line ≡ can.line = cc in
     let marks : HasMarks line.commands = rw same can.marks in
-    let readable : IsReadable can.bytes = record { short = omega (arith, can.few); utf8 = can.utf8; built = can.built } in
-    let not_long : outcome.status ≢ TOO_LONG = λ e. let taken = rw can.left_is at long e in
-    omega (arith, taken_few can.bytes taken.0 left taken.1, taken.2, can.few) in
-    let refuses : (¬ (GaveUp outcome.status)) → (outcome.status ≢ NOT_UTF8) × (outcome.status ≢ NO_MARK) × (outcome.status ≢ NOT_BUILT) =
-    λ went_on. refuses_no_run line can.bytes left old new outcome readable marks (rw can.left_is at answers went_on) in
-    two_left outcome.status known usage read write not_long
-    (λ e. (refuses (λ gave_up. omega (arith, gave_up, e))).0 e)
-    (λ e. (refuses (λ gave_up. omega (arith, gave_up, e))).1 e)
-    (λ e. (refuses (λ gave_up. omega (arith, gave_up, e))).2 e)
+    let took : Consumes (Some can.bytes) input_new.left runs.bytes = rw can.left_is at runs.read in
+    let few = taken_few can.bytes runs.bytes input_new.left took in
+    elim runs.ends [
+      | inl gave ↦ one_left outcome.status gave.known (λ e. no_read_fault (runs.faults.rises e))
+          (λ e. omega (arith, few, can.few, (runs.long (λ other. omega (arith, e, other))).0 e))
+      | inr answers ↦
+          let all = all_taken can.bytes runs.bytes input_new.left took answers.0 in
+          let a = rw all at answers.1 in
+          two_left outcome.status a.known (λ e. no_write_fault (a.faults.rises e)) (λ e. a.utf8.fails e can.utf8) (λ e. a.marks.fails e marks) (λ e. a.built.fails e can.built)
+    ]
 
--- Where nothing was written, want of memory has nothing to show.
-pub kept_anyhow : (said : Option CommandLine) (status : ℕ) (old : Option (List ℕ)) (Q : CommandLine → Type 0) → IfSome said (λ line. status ≡ MEMORY → Keeps old old ⊎ Q line)
-kept_anyhow None status old Q = tt
-kept_anyhow (Some line) status old Q = λ _. inl (Keeps-refl old)
+-- every status of a run of a command line is one that is known
+known_line : (line : CommandLine) (input input_new : InputState) (output output_new : OutputState) (outcome : ToolOutcome) → RunsLine line input input_new output output_new outcome → IsOneOf (later_than Usage) outcome.status ⊎ (outcome.status ≡ number OutOfMemory)
+known_line line input input_new output output_new outcome runs = elim runs.ends [
+  | inl gave ↦ let known = gave.known in grind (arith, known)
+  | inr answers ↦ let known = answers.1.known in grind (arith, known)
+]
+
+-- The words of a run are a command line, and it has run.
+pub runs_line : (words : Option CommandLine) (line : CommandLine) (input input_new : InputState) (output output_new : OutputState) (outcome : ToolOutcome) → words ≡ Some line → RunsLine line input input_new output output_new outcome → RunsTool words input input_new output output_new outcome
+runs_line words line input input_new output output_new outcome is runs =
+    let known = known_line line input input_new output output_new outcome runs in
+    rw is (record {
+      known = grind (arith, known);
+      usage = record { fails = λ e. absurd (omega (arith, e, known)); passes = λ _. refl };
+      unread = λ e. absurd cc;
+      runs = runs;
+      complete = completes line input input_new output output_new outcome runs;
+    })
+
+-- The words are no command line.
+pub refuses_words : (input : InputState) (output : OutputState) → RunsTool None input input output output (without_run 2)
+refuses_words input output = record {
+  known = inr (inl refl);
+  usage = record { fails = λ _. refl; passes = λ h. absurd (omega (arith, h)) };
+  unread = λ _. (refl, refl, refl);
+  runs = tt;
+  complete = λ can. absurd (let e = can.words_are in cc);
+}
+
+-- there was no memory for the command line
+pub runs_out : (words : Option CommandLine) (input : InputState) (output : OutputState) → RunsTool words input input output output (without_run 1)
+runs_out None input output = record {
+  known = inl refl;
+  usage = record { fails = λ e. absurd (omega (arith, e)); passes = λ h. absurd (omega (arith, h)) };
+  unread = λ _. (refl, refl, refl);
+  runs = tt;
+  complete = λ can. absurd (let e = can.words_are in cc);
+}
+runs_out (Some line) input output = runs_line (Some line) line input input output output (without_run 1) refl (record {
+  bytes = [];
+  read = Consumes-nil input.left;
+  bounded = omega arith;
+  long = λ other. absurd (other refl);
+  faults = record { rises = λ e. absurd (omega (arith, e)); stays = λ _. refl };
+  ends = inl (record { known = inl refl; ran = refl; quiet = refl });
+})

@@ -1,5 +1,5 @@
 -- Inputs and outputs in memory: their states, and what each call answers and leaves.
-use Rattle.std.specs.Prelude.{◌≡◌, ℕ, ◌+◌, ◌-◌, ◌^◌, Bool, List, ◌++◌, min, length, take, drop, if◌then◌else◌, ◌==◌, ⊤, MatchBool}
+use Rattle.std.specs.Prelude.{Some, ◌≡◌, ℕ, ◌+◌, ◌-◌, ◌^◌, Bool, List, ◌++◌, min, length, take, drop, if◌then◌else◌, ◌==◌, ⊤, MatchBool}
 use Rattle.std.specs.List.{list_any}
 use Rattle.js_lex_tool.specs.declared.outside.InAnswer.{InAnswer}
 use Rattle.js_lex_tool.specs.declared.outside.InAnswer.TheVariants.{Took, End, Failed}
@@ -7,6 +7,7 @@ use Rattle.js_lex_tool.specs.declared.outside.OutAnswer.{OutAnswer}
 use Rattle.js_lex_tool.specs.declared.outside.OutAnswer.TheVariants.{Took as TookOut, NoMemory, Failed as FailedOut}
 use Rattle.js_lex_tool.specs.declared.outside.FlushAnswer.{FlushAnswer}
 use Rattle.js_lex_tool.specs.declared.outside.FlushAnswer.TheVariants.{Done, Failed as FailedFlush}
+use Rattle.js_lex_tool.specs.Outside.{InputState, OutputState}
 
 -- The calls of an end in memory: the numbers of those that fail, the number of the next one, and how many failed.
 pub record Calls : Type 0 where
@@ -30,58 +31,79 @@ next_fails c = list_any (λ n. n == c.next) c.failing
 abbrev pub after_call : Calls → Calls
 after_call c = record c { next = one_more c.next; faults = if next_fails c then one_more c.faults else c.faults }
 
--- An input in memory: the bytes left, how many a read gives at most, and its calls.
-pub record MemorySource : Type 0 where
-  pub left : List ℕ
-  pub piece : ℕ
-  pub calls : Calls
-
 -- An input in memory that never fails: the bytes left, and how many a read gives at most.
 pub record SureSource : Type 0 where
   pub left : List ℕ
   pub piece : ℕ
 
+-- An input in memory, and its calls.
+pub record MemorySource : Type 0 where
+  pub input : SureSource
+  pub calls : Calls
+
+-- what an input in memory tells that never fails
+abbrev pub sure_input : SureSource → InputState
+sure_input s = record { left = Some s.left; faults = 0 }
+
+-- what an input in memory tells
+abbrev pub memory_input : MemorySource → InputState
+memory_input s = record { left = Some s.input.left; faults = s.calls.faults }
+
 -- what a read with this room answers that doesn't fail: the end, or the least of the piece, the room and the bytes left
-abbrev pub sure_read : List ℕ → ℕ → ℕ → InAnswer
-sure_read left piece room = if length left == 0 then End else Took (min piece (min room (length left)))
+abbrev pub sure_read : SureSource → ℕ → InAnswer
+sure_read s room = if length s.left == 0 then End else Took (min s.piece (min room (length s.left)))
 
 -- what a read with this room answers
 abbrev pub read_answer : MemorySource → ℕ → InAnswer
-read_answer s room = if next_fails s.calls then Failed else sure_read s.left s.piece room
+read_answer s room = if next_fails s.calls then Failed else sure_read s.input room
 
--- the bytes left after a read with this answer
-abbrev pub left_after : List ℕ → InAnswer → List ℕ
-left_after left (Took n) = drop n left
-left_after left End = left
-left_after left Failed = left
+-- the input after a read with this answer
+abbrev pub after_read : SureSource → InAnswer → SureSource
+after_read s (Took n) = record s { left = drop n s.left }
+after_read s End = s
+after_read s Failed = s
 
--- An output in memory: the bytes written, how many a write takes at most, and its calls.
-pub record MemorySink : Type 0 where
-  pub written : List ℕ
-  pub piece : ℕ
-  pub calls : Calls
-
--- An output in memory that never fails: the bytes written, and how many a write takes at most.
+-- An output in memory that never fails: the bytes written, how many of them were flushed, and how many a write takes at
+-- most.
 pub record SureSink : Type 0 where
   pub written : List ℕ
+  pub flushed : ℕ
   pub piece : ℕ
 
+-- An output in memory, and its calls.
+pub record MemorySink : Type 0 where
+  pub output : SureSink
+  pub calls : Calls
+
+-- what an output in memory tells that never fails
+abbrev pub sure_output : SureSink → OutputState
+sure_output s = record { written = Some s.written; flushed = Some (take s.flushed s.written); faults = 0 }
+
+-- what an output in memory tells
+abbrev pub memory_output : MemorySink → OutputState
+memory_output s = record (sure_output s.output) { faults = s.calls.faults }
+
 -- a write of so many bytes that doesn't fail takes the lesser of them and the piece, or finds no memory
-abbrev pub IsSureWrite : ℕ → ℕ → OutAnswer → Type 0
-IsSureWrite piece len (TookOut n) = n ≡ min piece len
-IsSureWrite piece len NoMemory = ⊤
-IsSureWrite piece len FailedOut = ⊥
+abbrev pub IsSureWrite : SureSink → ℕ → OutAnswer → Type 0
+IsSureWrite s len (TookOut n) = n ≡ min s.piece len
+IsSureWrite s len NoMemory = ⊤
+IsSureWrite s len FailedOut = ⊥
 
 -- a write of so many bytes may answer this
 abbrev pub IsWriteAnswer : MemorySink → ℕ → OutAnswer → Type 0
-IsWriteAnswer s len answer = MatchBool (next_fails s.calls) (answer ≡ FailedOut) (IsSureWrite s.piece len answer)
+IsWriteAnswer s len answer = MatchBool (next_fails s.calls) (answer ≡ FailedOut) (IsSureWrite s.output len answer)
 
--- the bytes written after a write of the bytes with this answer
-abbrev pub written_after : List ℕ → List ℕ → OutAnswer → List ℕ
-written_after written bytes (TookOut n) = written ++ take n bytes
-written_after written bytes NoMemory = written
-written_after written bytes FailedOut = written
+-- the output after a write of the bytes with this answer
+abbrev pub after_write : SureSink → List ℕ → OutAnswer → SureSink
+after_write s bytes (TookOut n) = record s { written = s.written ++ take n bytes }
+after_write s bytes NoMemory = s
+after_write s bytes FailedOut = s
 
 -- what a flush answers
 abbrev pub flush_answer : MemorySink → FlushAnswer
 flush_answer s = if next_fails s.calls then FailedFlush else Done
+
+-- the output after a flush with this answer
+abbrev pub after_flush : SureSink → FlushAnswer → SureSink
+after_flush s Done = record s { flushed = length s.written }
+after_flush s FailedFlush = s

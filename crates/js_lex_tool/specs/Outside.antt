@@ -9,9 +9,21 @@ use Rattle.js_lex_tool.specs.declared.outside.OutAnswer.TheVariants.{Took as Too
 use Rattle.js_lex_tool.specs.declared.outside.FlushAnswer.{FlushAnswer}
 use Rattle.js_lex_tool.specs.declared.outside.FlushAnswer.TheVariants.{Done, Failed as FailedFlush}
 
--- a count of faults rose, or stands at the end of a `u64`
-abbrev pub Rose : ℕ → ℕ → Type 0
-Rose before now = (before < now) ⊎ (now ≡ 2 ^ 64 - 1)
+-- What an input tells: the bytes that are left, where it tells them, and how many of its calls have failed.
+pub record InputState : Type 0 where
+  pub left : Option (List ℕ)
+  pub faults : ℕ
+
+-- What an output tells: the bytes that were written and those of them that were flushed, where it tells them, and how many
+-- of its calls have failed.
+pub record OutputState : Type 0 where
+  pub written : Option (List ℕ)
+  pub flushed : Option (List ℕ)
+  pub faults : ℕ
+
+-- a count of faults has risen, or stands at the end of a `u64`
+abbrev pub Rises : ℕ → ℕ → Type 0
+Rises before now = (before < now) ⊎ ((before ≡ now) × (now ≡ 2 ^ 64 - 1))
 
 -- a read gives at least one byte and at most the buffer
 abbrev pub TakesAtMost : InAnswer → ℕ → Type 0
@@ -25,11 +37,11 @@ TakesBytes (Took n) old new buf = Consumes old new (take n buf)
 TakesBytes End old new buf = Keeps old new × IsAtEnd new
 TakesBytes Failed old new buf = Keeps old new
 
--- the count never falls, and a read fails only where it rose
-abbrev pub HasReadCause : InAnswer → ℕ → ℕ → Type 0
-HasReadCause (Took n) before now = before ≤ now
-HasReadCause End before now = before ≤ now
-HasReadCause Failed before now = (before ≤ now) × Rose before now
+-- the count of faults rises exactly where a read fails
+abbrev pub CountsRead : InAnswer → ℕ → ℕ → Type 0
+CountsRead (Took n) before now = now ≡ before
+CountsRead End before now = now ≡ before
+CountsRead Failed before now = Rises before now
 
 -- a write takes at least one byte and at most those that it was given
 abbrev pub GivesAtMost : OutAnswer → ℕ → Type 0
@@ -43,21 +55,35 @@ GivesBytes (TookOut n) old new bytes = Appends old new (take n bytes)
 GivesBytes NoMemory old new bytes = Keeps old new
 GivesBytes FailedOut old new bytes = Keeps old new
 
--- the count stands still but where a write fails, and a write fails only where it rose
-abbrev pub HasWriteCause : OutAnswer → ℕ → ℕ → Type 0
-HasWriteCause (TookOut n) before now = now ≡ before
-HasWriteCause NoMemory before now = now ≡ before
-HasWriteCause FailedOut before now = (before ≤ now) × Rose before now
+-- the count of faults rises exactly where a write fails
+abbrev pub CountsWrite : OutAnswer → ℕ → ℕ → Type 0
+CountsWrite (TookOut n) before now = now ≡ before
+CountsWrite NoMemory before now = now ≡ before
+CountsWrite FailedOut before now = Rises before now
 
--- the count stands still but where a flush fails, and a flush fails only where it rose
-abbrev pub HasFlushCause : FlushAnswer → ℕ → ℕ → Type 0
-HasFlushCause Done before now = now ≡ before
-HasFlushCause FailedFlush before now = (before ≤ now) × Rose before now
+-- all that was written was flushed, where the output tells what was
+abbrev pub IsFlushed : OutputState → Type 0
+IsFlushed output = Keeps output.flushed output.written
+
+-- a flush that is done has flushed all that was written
+abbrev pub Flushes : FlushAnswer → OutputState → Type 0
+Flushes Done now = IsFlushed now
+Flushes FailedFlush now = ⊤
+
+-- the count of faults rises exactly where a flush fails
+abbrev pub CountsFlush : FlushAnswer → ℕ → ℕ → Type 0
+CountsFlush Done before now = now ≡ before
+CountsFlush FailedFlush before now = Rises before now
 
 -- bytes that have P were taken from an input, where it tells what is left
-abbrev pub Takes : Option (List ℕ) → Option (List ℕ) → (List ℕ → Type 0) → Type 0
-Takes old new P = (bytes : List ℕ) × Consumes old new bytes × P bytes
+abbrev pub Takes : InputState → InputState → (List ℕ → Type 0) → Type 0
+Takes old new P = (bytes : List ℕ) × Consumes old.left new.left bytes × P bytes
+
+-- all of the text was written and flushed, where the output tells what was
+pub record WritesAll (old new : OutputState) (text : List ℕ) : Type 0 where
+  pub written : Appends old.written new.written text
+  pub flushed : IsFlushed new
 
 -- a beginning of the text was written, where the output tells what was
-abbrev pub WritesPrefix : Option (List ℕ) → Option (List ℕ) → List ℕ → Type 0
-WritesPrefix old new text = (n : ℕ) × (n ≤ length text) × Appends old new (take n text)
+abbrev pub WritesPrefix : OutputState → OutputState → List ℕ → Type 0
+WritesPrefix old new text = (n : ℕ) × (n ≤ length text) × Appends old.written new.written (take n text)

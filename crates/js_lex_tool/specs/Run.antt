@@ -1,39 +1,36 @@
 -- What a run reads, answers and writes.
-use Rattle.std.specs.Prelude.{◌≡◌, ℕ, ◌≤◌, ◌⊎◌, ◌↔◌, List, length, Option, Some, IfSome}
-use Rattle.std.specs.Io.KnownBytes.{Appends, Consumes, Keeps, IsAtEnd}
+use Rattle.std.specs.Prelude.{◌≡◌, ◌≢◌, ℕ, ◌+◌, ◌≤◌, ◌⊎◌, ◌↔◌, List, [], ◌∷◌, length, Option, Some, None, IfSome, IsSome}
+use Rattle.std.specs.Io.KnownBytes.{Consumes, Keeps, IsAtEnd}
 use Rattle.std.specs.Str.{IsUtf8}
-use Rattle.js_session.specs.Faults.{IsBuilt, IsReadable, HasMarks}
+use Rattle.js_session.specs.Faults.{IsBuilt, HasMarks}
 use Rattle.js_session.specs.Report.{ReportOf}
 use Rattle.js_session.specs.declared.fault.LexFault.{LexFault}
-use Rattle.js_session.specs.declared.fault.LexFault.TheVariants.{Overlong, NotUtf8, NotBuilt, NoMark, Memory}
+use Rattle.js_session.specs.declared.fault.LexFault.TheVariants.{Overlong, NotUtf8 as NotUtf8Fault, NotBuilt as NotBuiltFault, NoMark as NoMarkFault, Memory}
 use Rattle.js_session.specs.declared.report.Report.{Report}
-use Rattle.js_lex_tool.specs.Outside.{WritesPrefix}
+use Rattle.js_lex_tool.specs.Outside.{InputState, OutputState, Rises, WritesAll, WritesPrefix}
 use Rattle.js_lex_tool.specs.ReportText.{report_text_of}
-use Rattle.js_lex_tool.specs.declared.read_all.TheConstants.{MOST_BYTES}
-use Rattle.js_lex_tool.specs.declared.status.TheConstants.{DONE, MEMORY, USAGE, READ_FAILED, WRITE_FAILED, TOO_LONG, NOT_UTF8, NO_MARK, NOT_BUILT}
+use Rattle.js_lex_tool.specs.Status.{Status, number, order, later_than, IsOneOf, HasPassed, Tests}
+use Rattle.js_lex_tool.specs.Status.Status.{Done, OutOfMemory, Usage, ReadFailed, WriteFailed, TooLong, NotUtf8, NoMark, NotBuilt}
 use Rattle.js_lex_tool.specs.declared.tool.Ran.{Ran}
 use Rattle.js_lex_tool.specs.declared.tool.ToolOutcome.{ToolOutcome}
 use Rattle.js_lex_tool.specs.declared.words.CommandLine.{CommandLine}
 
+-- the most bytes that an input may have
+abbrev pub most_bytes : ℕ
+most_bytes = 67108864
+
 -- the status of a run whose session has this fault
-abbrev pub status_of : LexFault → ℕ
-status_of Overlong = TOO_LONG
-status_of (NotUtf8 at) = NOT_UTF8
-status_of (NotBuilt at) = NOT_BUILT
-status_of (NoMark index) = NO_MARK
-status_of Memory = MEMORY
+abbrev pub status_of : LexFault → Status
+status_of Overlong = TooLong
+status_of (NotUtf8Fault at) = NotUtf8
+status_of (NotBuiltFault at) = NotBuilt
+status_of (NoMarkFault index) = NoMark
+status_of Memory = OutOfMemory
 
--- the text was written, or the output failed: the run has its source and its report
-abbrev pub HasRun : ℕ → Type 0
-HasRun status = (status ≡ DONE) ⊎ (status ≡ WRITE_FAILED)
-
--- the run gave up before it read the input to its end, or for want of memory
-abbrev pub GaveUp : ℕ → Type 0
-GaveUp status = (status ≡ MEMORY) ⊎ (status ≡ USAGE) ⊎ (status ≡ READ_FAILED) ⊎ (status ≡ TOO_LONG)
-
--- the report of a session over the bytes, with the command line's source type, tokens and commands
-abbrev pub HasReport : CommandLine → List ℕ → Report → Type 0
-HasReport line bytes report = ReportOf bytes line.source_type line.tokens line.commands report
+-- a count of faults rises exactly in a run with this status
+pub record Counts (status : Status) (n before now : ℕ) : Type 0 where
+  pub rises : n ≡ number status → Rises before now
+  pub stays : n ≢ number status → now ≡ before
 
 -- What a run over the bytes was: its source is exactly these bytes, its source type, tokens and commands are those of the
 -- command line, and its report is that of a session over them.
@@ -44,34 +41,73 @@ pub record IsRunOver (line : CommandLine) (bytes : List ℕ) (ran : Ran) : Type 
   pub commands : ran.commands ≡ line.commands
   pub report : ReportOf ran.source ran.source_type ran.tokens ran.commands ran.report
 
--- What a run comes to that has read its input to its end, by the bytes, by what the output had and has.
-pub record Answers (line : CommandLine) (bytes : List ℕ) (old new : Option (List ℕ)) (outcome : ToolOutcome) : Type 0 where
-  -- these statuses come exactly where the bytes and the commands call for them
-  pub not_utf8 : (outcome.status ≡ NOT_UTF8) ↔ (¬ (IsUtf8 bytes))
-  pub not_built : (outcome.status ≡ NOT_BUILT) ↔ (IsUtf8 bytes × (¬ (IsBuilt bytes)))
-  pub no_mark : (outcome.status ≡ NO_MARK) ↔ (IsReadable bytes × (¬ (HasMarks line.commands)))
-  -- what ran, where the text was written or the output failed
-  pub ran : IfSome outcome.ran (IsRunOver line bytes)
-  -- the text was written whole, or a beginning of it
-  pub done : outcome.status ≡ DONE → IfSome outcome.ran (λ ran. Appends old new (report_text_of bytes ran.report))
-  pub partly : outcome.status ≡ WRITE_FAILED → IfSome outcome.ran (λ ran. WritesPrefix old new (report_text_of bytes ran.report))
+-- What was written of a text: a beginning of it, and all of it, flushed, where the run is done.
+pub record Writes (text : List ℕ) (old new : OutputState) (n : ℕ) : Type 0 where
+  pub partly : WritesPrefix old new text
+  pub whole : n ≡ number Done → WritesAll old new text
+
+-- the report of a session over the bytes, with the command line's source type, tokens and commands
+abbrev pub HasReport : CommandLine → List ℕ → Report → Type 0
+HasReport line bytes report = ReportOf bytes line.source_type line.tokens line.commands report
 
 -- nothing was written, or a beginning of the text of a report over the bytes
-abbrev pub MayWrite : CommandLine → List ℕ → Option (List ℕ) → Option (List ℕ) → Type 0
-MayWrite line bytes old new = Keeps old new ⊎ ((report : Report) × HasReport line bytes report × WritesPrefix old new (report_text_of bytes report))
+abbrev pub MayWrite : CommandLine → List ℕ → OutputState → OutputState → Type 0
+MayWrite line bytes old new =
+    Keeps old.written new.written
+    ⊎ ((report : Report) × HasReport line bytes report × WritesPrefix old new (report_text_of bytes report))
 
--- bytes that have P were taken from an input, which was read to its end
-abbrev pub ReadsAll : Option (List ℕ) → Option (List ℕ) → (List ℕ → Type 0) → Type 0
-ReadsAll old new P = (bytes : List ℕ) × Consumes old new bytes × IsAtEnd new × P bytes
+-- What a run of a command line comes to that has read its input to its end, by the bytes that it read.
+pub record Answers (line : CommandLine) (bytes : List ℕ) (old new : OutputState) (outcome : ToolOutcome) : Type 0 where
+  pub known : IsOneOf (OutOfMemory ∷ later_than TooLong) outcome.status
+  -- the tests of the bytes and the commands
+  pub utf8 : Tests NotUtf8 outcome.status (¬ (IsUtf8 bytes)) (IsUtf8 bytes)
+  pub built : Tests NotBuilt outcome.status (¬ (IsBuilt bytes)) (IsBuilt bytes)
+  pub marks : Tests NoMark outcome.status (¬ (HasMarks line.commands)) (HasMarks line.commands)
+  -- where all of these were passed, the outcome tells what ran, and its text was written or the output failed
+  pub has_run : IsSome outcome.ran ↔ HasPassed NoMark outcome.status
+  pub ran : IfSome outcome.ran (IsRunOver line bytes)
+  pub text : IfSome outcome.ran (λ ran. Writes (report_text_of bytes ran.report) old new outcome.status)
+  pub faults : Counts WriteFailed outcome.status old.faults new.faults
+  -- else nothing was written, but for lack of memory, which may be found while the text is written
+  pub quiet : (¬ (HasPassed NoMark outcome.status)) → outcome.status ≢ number OutOfMemory → new ≡ old
+  pub memory : outcome.status ≡ number OutOfMemory → MayWrite line bytes old new
 
--- A run that can only be done, or want memory, if neither the input nor the output fails: the words say something, the
--- commands close no mark too many, and the bytes of the input are few enough, UTF-8 and built.
-pub record CanRun (said : Option CommandLine) (left : Option (List ℕ)) : Type 0 where
+-- a run that gave up before its input was read to its end, and has written nothing
+pub record GivesUp (old new : OutputState) (outcome : ToolOutcome) : Type 0 where
+  pub known : IsOneOf (OutOfMemory ∷ ReadFailed ∷ TooLong ∷ []) outcome.status
+  pub ran : outcome.ran ≡ None
+  pub quiet : new ≡ old
+
+-- What a run of a command line comes to, by what its input and its output tell before and after it.
+pub record RunsLine (line : CommandLine) (input input_new : InputState) (output output_new : OutputState) (outcome : ToolOutcome) : Type 0 where
+  -- the bytes that it read: one too many exactly where the input is too long
+  pub bytes : List ℕ
+  pub read : Consumes input.left input_new.left bytes
+  pub bounded : length bytes ≤ most_bytes + 1
+  pub long : outcome.status ≢ number OutOfMemory → (outcome.status ≡ number TooLong) ↔ (length bytes ≡ most_bytes + 1)
+  pub faults : Counts ReadFailed outcome.status input.faults input_new.faults
+  -- it gave up while it read, or has read all bytes and answers
+  pub ends : GivesUp output output_new outcome ⊎ (IsAtEnd input_new.left × Answers line bytes output output_new outcome)
+
+-- A run that can only be done, or out of memory, if neither the input nor the output fails: the words are a command line,
+-- the commands close no mark too many, and the bytes of the input are few enough, UTF-8 and built.
+pub record CanRun (words : Option CommandLine) (left : Option (List ℕ)) : Type 0 where
   pub line : CommandLine
-  pub said_is : said ≡ Some line
+  pub words_are : words ≡ Some line
   pub marks : HasMarks line.commands
   pub bytes : List ℕ
   pub left_is : left ≡ Some bytes
-  pub few : length bytes ≤ MOST_BYTES
+  pub few : length bytes ≤ most_bytes
   pub utf8 : IsUtf8 bytes
   pub built : IsBuilt bytes
+
+-- What a run of the program comes to, by the command line that its words are, and by what its input and its output tell
+-- before and after it.
+pub record RunsTool (words : Option CommandLine) (input input_new : InputState) (output output_new : OutputState) (outcome : ToolOutcome) : Type 0 where
+  pub known : IsOneOf (OutOfMemory ∷ order) outcome.status
+  -- the words are read first: where they are no command line, nothing else is done
+  pub usage : Tests Usage outcome.status (words ≡ None) (IsSome words)
+  pub unread : words ≡ None → (outcome.ran ≡ None) × (input_new ≡ input) × (output_new ≡ output)
+  pub runs : IfSome words (λ line. RunsLine line input input_new output output_new outcome)
+  -- no other status comes of a command line and of bytes that can be run, where neither end fails
+  pub complete : CanRun words input.left → (¬ (Rises input.faults input_new.faults)) → (¬ (Rises output.faults output_new.faults)) → IsOneOf (Done ∷ OutOfMemory ∷ []) outcome.status

@@ -67,6 +67,6 @@ command_line_in (first ∷ []) = None
 command_line_in (first ∷ second ∷ words) =
     option_and_then (λ source_type. option_and_then (λ tokens. option_map (λ commands. record { source_type = source_type; tokens = tokens; commands = commands }) (few_commands_in words)) (entry_for tokens_words second)) (entry_for source_type_words first)
 
--- the command line that the words of a run say
-abbrev pub said : List (String Global) → Option CommandLine
-said words = command_line_in (map string_bytes words)
+-- the command line that the words of a run are
+abbrev pub command_line_of : List (String Global) → Option CommandLine
+command_line_of words = command_line_in (map string_bytes words)

@@ -1,9 +1,8 @@
 //! The calls of an input or output in memory, and which of them fail.
 
-ghost use Rattle.std.specs.Prelude.{◌≡◌, ◌≤◌};
-ghost use Rattle.std.specs.Bool.{OnTrue};
+ghost use Rattle.std.specs.Prelude.{◌≡◌, MatchBool};
 ghost use Rattle.js_lex_tool.specs.Memory.{no_calls, next_fails, after_call};
-ghost use Rattle.js_lex_tool.specs.Outside.{Rose};
+ghost use Rattle.js_lex_tool.specs.Outside.{Rises};
 
 use std::marker::Model;
 
@@ -46,8 +45,7 @@ impl<'b> FailingCalls<'b> {
     pub fn count_call(&mut self) -> bool
         ensures fails { result ≡ next_fails self.old }
         ensures counted { self.new ≡ after_call self.old }
-        ensures never_falls { self.old.faults ≤ self.new.faults }
-        ensures rose { OnTrue result (Rose self.old.faults self.new.faults) }
+        ensures faults { MatchBool result (Rises self.old.faults self.new.faults) (self.new.faults ≡ self.old.faults) }
     {
         let fails = self.failing.contains(&self.next);
         self.next = self.next.saturating_add(1);

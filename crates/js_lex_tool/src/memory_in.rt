@@ -1,96 +1,12 @@
 //! Inputs over bytes in memory.
 
 ghost use Rattle.std.specs.Prelude.{◌≡◌, ◌≤◌, ◌<◌, length, take, Some, min};
-ghost use Rattle.js_lex_tool.specs.Memory.{no_calls, after_call, read_answer, sure_read, left_after};
-ghost use Rattle.js_lex_tool.specs.Outside.{TakesAtMost, TakesBytes, HasReadCause};
+ghost use Rattle.js_lex_tool.specs.Memory.{no_calls, after_call, read_answer, sure_read, after_read, sure_input, memory_input};
+ghost use Rattle.js_lex_tool.specs.Outside.{TakesAtMost, TakesBytes, CountsRead};
 
 use crate::calls::FailingCalls;
 use crate::outside::{ByteIn, InAnswer};
 use std::marker::Model;
-
-/// An input over bytes in memory. A read gives at most `piece` bytes, and fails where its number, from 0, is in a list.
-#[derive(Drop)]
-pub struct MemoryIn<'b> {
-    bytes: &'b [u8],
-    piece: usize,
-    calls: FailingCalls<'b>,
-}
-
-impl<'b> Model for MemoryIn<'b> {
-    ghost use Rattle.std.specs.Prelude.{◌≤◌};
-    ghost use Rattle.js_lex_tool.specs.Memory.{MemorySource};
-
-    ghost Value = { MemorySource };
-
-    ghost view = { λ s. record { left = s.bytes.now; piece = s.piece; calls = s.calls } };
-
-    ghost invariant = { λ s. 1 ≤ s.piece };
-}
-
-impl<'b> MemoryIn<'b> {
-    /// An input of these bytes, in reads of at most `piece` bytes. The reads whose numbers are in `failing` fail.
-    pub fn new(bytes: &'b [u8], piece: usize, failing: &'b [u64]) -> MemoryIn<'b>
-        requires { 1 ≤ piece }
-        ensures { result ≡ record { left = bytes.now; piece = piece; calls = no_calls failing.now } }
-    {
-        MemoryIn {
-            bytes,
-            piece,
-            calls: FailingCalls::new(failing),
-        }
-    }
-
-    /// How many reads have failed.
-    pub fn faults(&self) -> u64
-        ensures { result ≡ self.now.calls.faults }
-    {
-        self.calls.faults()
-    }
-}
-
-/// Copies the first bytes into the buffer, and tells how many.
-fn copy_front(bytes: &[u8], piece: usize, buf: &mut [u8]) -> usize
-    ensures count { result ≡ min piece (min (length buf.new) (length bytes.now)) }
-    ensures bytes { take result buf.new ≡ take result bytes.now }
-{
-    let count = piece.min(buf.len().min(bytes.len()));
-    buf[..count].copy_from_slice(&bytes[..count]);
-    count
-}
-
-/// Moves the first bytes into the buffer, where there are any.
-fn move_front<'b>(bytes: &mut &'b [u8], piece: usize, buf: &mut [u8]) -> InAnswer
-    ensures answer { result ≡ sure_read bytes.old.now piece (length buf.new) }
-    ensures left { bytes.new.now ≡ left_after bytes.old.now result }
-    ensures bytes { TakesBytes result (Some bytes.old.now) (Some bytes.new.now) buf.new }
-{
-    if bytes.is_empty() {
-        return InAnswer::End;
-    }
-    let count = copy_front(bytes, piece, buf);
-    *bytes = &bytes[count..];
-    InAnswer::Took(count)
-}
-
-impl ByteIn for MemoryIn<'_> {
-    ghost left = { λ s. Some s.left };
-
-    ghost faults = { λ s. s.calls.faults };
-
-    fn read(&mut self, buf: &mut [u8]) -> InAnswer
-        requires { 0 < length buf.old }
-        ensures bound { TakesAtMost result (length buf.old) }
-        ensures bytes { TakesBytes result (Some self.old.left) (Some self.new.left) buf.new }
-        ensures cause { HasReadCause result self.old.calls.faults self.new.calls.faults }
-        ensures answer { result ≡ read_answer self.old (length buf.old) }
-        ensures after { self.new ≡ record self.old { left = left_after self.old.left result; calls = after_call self.old.calls } }
-    {
-        if self.calls.count_call() {
-            return InAnswer::Failed;
-        }
-        move_front(&mut self.bytes, self.piece, buf)
-    }
-}
 
 /// An input over bytes in memory that never fails. A read gives at most `piece` bytes.
 #[derive(Drop)]
@@ -120,19 +36,87 @@ impl<'b> SureIn<'b> {
     }
 }
 
-impl ByteIn for SureIn<'_> {
-    ghost left = { λ s. Some s.left };
+/// Copies the first bytes into the buffer, and tells how many.
+fn copy_front(bytes: &[u8], piece: usize, buf: &mut [u8]) -> usize
+    ensures count { result ≡ min piece (min (length buf.new) (length bytes.now)) }
+    ensures bytes { take result buf.new ≡ take result bytes.now }
+{
+    let count = piece.min(buf.len().min(bytes.len()));
+    buf[..count].copy_from_slice(&bytes[..count]);
+    count
+}
 
-    ghost faults = { λ _. 0 };
+impl ByteIn for SureIn<'_> {
+    ghost state = { sure_input };
 
     fn read(&mut self, buf: &mut [u8]) -> InAnswer
         requires { 0 < length buf.old }
         ensures bound { TakesAtMost result (length buf.old) }
         ensures bytes { TakesBytes result (Some self.old.left) (Some self.new.left) buf.new }
-        ensures cause { HasReadCause result 0 0 }
-        ensures answer { result ≡ sure_read self.old.left self.old.piece (length buf.old) }
-        ensures after { self.new ≡ record self.old { left = left_after self.old.left result } }
+        ensures faults { CountsRead result 0 0 }
+        ensures answer { result ≡ sure_read self.old (length buf.old) }
+        ensures after { self.new ≡ after_read self.old result }
     {
-        move_front(&mut self.bytes, self.piece, buf)
+        if self.bytes.is_empty() {
+            return InAnswer::End;
+        }
+        let count = copy_front(self.bytes, self.piece, buf);
+        self.bytes = &self.bytes[count..];
+        InAnswer::Took(count)
+    }
+}
+
+/// An input over bytes in memory. A read gives at most `piece` bytes, and fails where its number, from 0, is in a list.
+#[derive(Drop)]
+pub struct MemoryIn<'b> {
+    input: SureIn<'b>,
+    calls: FailingCalls<'b>,
+}
+
+impl<'b> Model for MemoryIn<'b> {
+    ghost use Rattle.js_lex_tool.specs.Memory.{MemorySource};
+
+    ghost Value = { MemorySource };
+
+    ghost view = { λ s. record { input = s.input; calls = s.calls } };
+}
+
+impl<'b> MemoryIn<'b> {
+    /// An input of these bytes, in reads of at most `piece` bytes. The reads whose numbers are in `failing` fail.
+    pub fn new(bytes: &'b [u8], piece: usize, failing: &'b [u64]) -> MemoryIn<'b>
+        requires { 1 ≤ piece }
+        ensures input { result.input ≡ record { left = bytes.now; piece = piece } }
+        ensures calls { result.calls ≡ no_calls failing.now }
+    {
+        MemoryIn {
+            input: SureIn::new(bytes, piece),
+            calls: FailingCalls::new(failing),
+        }
+    }
+
+    /// How many reads have failed.
+    pub fn faults(&self) -> u64
+        ensures { result ≡ self.now.calls.faults }
+    {
+        self.calls.faults()
+    }
+}
+
+impl ByteIn for MemoryIn<'_> {
+    ghost state = { memory_input };
+
+    fn read(&mut self, buf: &mut [u8]) -> InAnswer
+        requires { 0 < length buf.old }
+        ensures bound { TakesAtMost result (length buf.old) }
+        ensures bytes { TakesBytes result (Some self.old.input.left) (Some self.new.input.left) buf.new }
+        ensures faults { CountsRead result self.old.calls.faults self.new.calls.faults }
+        ensures answer { result ≡ read_answer self.old (length buf.old) }
+        ensures input { self.new.input ≡ after_read self.old.input result }
+        ensures calls { self.new.calls ≡ after_call self.old.calls }
+    {
+        if self.calls.count_call() {
+            return InAnswer::Failed;
+        }
+        self.input.read(buf)
     }
 }

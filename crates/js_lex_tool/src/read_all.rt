@@ -2,7 +2,7 @@
 
 ghost use Rattle.std.specs.Prelude.{◌≡◌, ◌+◌, ◌-◌, ◌<◌, ◌≤◌, min, length, IfOk, OnOk, IsErrOf};
 ghost use Rattle.std.specs.Io.KnownBytes.{Consumes, IsAtEnd};
-ghost use Rattle.js_lex_tool.specs.Outside.{Rose, Takes};
+ghost use Rattle.js_lex_tool.specs.Outside.{Rises, Takes};
 
 use crate::outside::{ByteIn, InAnswer};
 use js_text::ByteList;
@@ -48,14 +48,14 @@ pub fn read_to_end<I: ByteIn>(
     most: usize,
 ) -> Result<ByteList, ReadFault>
     requires { most < usize.MAX }
-    ensures all { IfOk result (λ source. Consumes (I.left input.old) (I.left input.new) source) }
-    ensures end { OnOk result (IsAtEnd (I.left input.new)) }
+    ensures all { IfOk result (λ source. Consumes (I.state input.old).left (I.state input.new).left source) }
+    ensures end { OnOk result (IsAtEnd (I.state input.new).left) }
     ensures short { IfOk result (λ source. length source ≤ most) }
-    ensures failed { IsErrOf result ReadFault.Failed → Rose (I.faults input.old) (I.faults input.new) }
-    ensures failed_early { IsErrOf result ReadFault.Failed → Takes (I.left input.old) (I.left input.new) (λ bytes. length bytes ≤ most) }
-    ensures too_long { IsErrOf result ReadFault.TooLong → Takes (I.left input.old) (I.left input.new) (λ bytes. length bytes ≡ most + 1) }
-    ensures bounded { Takes (I.left input.old) (I.left input.new) (λ bytes. length bytes ≤ most + 1) }
-    ensures faults { I.faults input.old ≤ I.faults input.new }
+    ensures failed { IsErrOf result ReadFault.Failed → Takes (I.state input.old) (I.state input.new) (λ bytes. length bytes ≤ most) }
+    ensures too_long { IsErrOf result ReadFault.TooLong → Takes (I.state input.old) (I.state input.new) (λ bytes. length bytes ≡ most + 1) }
+    ensures bounded { Takes (I.state input.old) (I.state input.new) (λ bytes. length bytes ≤ most + 1) }
+    ensures fault { IsErrOf result ReadFault.Failed → Rises (I.state input.old).faults (I.state input.new).faults }
+    ensures no_fault { (¬ (IsErrOf result ReadFault.Failed)) → (I.state input.new).faults ≡ (I.state input.old).faults }
 {
     let mut source = ByteList::new_in(alloc);
     let mut buf = [0u8; BUFFER];

@@ -1,11 +1,11 @@
-//! Standard input and standard output: the trusted edge, which tells nothing of content.
+//! Standard input and standard output: readers and writers of the system as inputs and outputs.
 
 ghost use Rattle.std.specs.Prelude.{◌≡◌, None};
 
 use crate::outside::{ByteIn, ByteOut, FlushAnswer, InAnswer, OutAnswer};
 use std::io::{Read, Write};
 
-/// A reader of the system as an input. It counts the reads that fail, up to the end of a `u64`.
+/// A reader as an input. It counts the reads that fail, up to the end of a `u64`.
 #[derive(Drop)]
 pub struct StdIn<R: Read + Drop> {
     reader: R,
@@ -15,16 +15,15 @@ pub struct StdIn<R: Read + Drop> {
 impl<R: Read + Drop> StdIn<R> {
     /// An input that has not failed yet.
     pub fn new(reader: R) -> StdIn<R>
-        ensures { result.faults ≡ 0 }
+        ensures reader { result.reader ≡ reader }
+        ensures faults { result.faults ≡ 0 }
     {
         StdIn { reader, faults: 0 }
     }
 }
 
 impl<R: Read + Drop> ByteIn for StdIn<R> {
-    ghost left = { λ _. None };
-
-    ghost faults = { λ s. s.faults };
+    ghost state = { λ s. record { left = R.remaining s.reader; faults = s.faults } };
 
     fn read(&mut self, buf: &mut [u8]) -> InAnswer {
         match self.reader.read(buf) {
@@ -38,8 +37,8 @@ impl<R: Read + Drop> ByteIn for StdIn<R> {
     }
 }
 
-/// A writer of the system as an output. It counts the writes and flushes that fail, up to the end of a `u64`;
-/// a write that takes no byte fails.
+/// A writer as an output. It counts the writes and flushes that fail, up to the end of a `u64`; a write that takes no byte
+/// fails. What was flushed it cannot tell, since a `Write` does not tell it.
 #[derive(Drop)]
 pub struct StdOut<W: Write + Drop> {
     writer: W,
@@ -49,16 +48,15 @@ pub struct StdOut<W: Write + Drop> {
 impl<W: Write + Drop> StdOut<W> {
     /// An output that has not failed yet.
     pub fn new(writer: W) -> StdOut<W>
-        ensures { result.faults ≡ 0 }
+        ensures writer { result.writer ≡ writer }
+        ensures faults { result.faults ≡ 0 }
     {
         StdOut { writer, faults: 0 }
     }
 }
 
 impl<W: Write + Drop> ByteOut for StdOut<W> {
-    ghost written = { λ _. None };
-
-    ghost faults = { λ s. s.faults };
+    ghost state = { λ s. record { written = W.contents s.writer; flushed = None; faults = s.faults } };
 
     fn write(&mut self, bytes: &[u8]) -> OutAnswer {
         match self.writer.write(bytes) {

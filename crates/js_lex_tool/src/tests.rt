@@ -1,8 +1,6 @@
 //! What no clause says.
 
-mod ends;
-mod report;
+mod buffers;
 mod run;
 mod status;
 mod streams;
-mod words;

@@ -1,14 +1,15 @@
 //! A run of the program: from words and bytes to a status and a text.
 
-ghost use Rattle.std.specs.Prelude.{◌≡◌, ◌≢◌, ◌+◌, ◌<◌, ◌≤◌, ◌⊎◌, ◌↔◌, length, string_bytes, IfOk, IfSome, IsSome, MatchOption};
-ghost use Rattle.std.specs.Io.KnownBytes.{Appends, Keeps};
+ghost use Rattle.std.specs.Prelude.{◌≡◌, ◌≢◌, ◌≤◌, ◌⊎◌, length, string_bytes, IfOk};
 ghost use Rattle.std.specs.List.{AllByRecursion};
 ghost use Rattle.std.specs.Str.{IsUtf8};
 ghost use Rattle.js_session.specs.Report.{IsSliceOnPlaces};
-ghost use Rattle.js_lex_tool.specs.Outside.{Rose, Takes, WritesPrefix};
+ghost use Rattle.js_lex_tool.specs.Memory.{sure_input, sure_output};
 ghost use Rattle.js_lex_tool.specs.ReportText.{report_text_of};
-ghost use Rattle.js_lex_tool.specs.Run.{status_of, HasRun, GaveUp, Answers, MayWrite, ReadsAll, CanRun};
-ghost use Rattle.js_lex_tool.specs.Words.{said};
+ghost use Rattle.js_lex_tool.specs.Run.{most_bytes, status_of, Counts, Writes, Answers, RunsLine, RunsTool};
+ghost use Rattle.js_lex_tool.specs.Status.{number, HasPassed};
+ghost use Rattle.js_lex_tool.specs.Status.Status.{OutOfMemory, ReadFailed, WriteFailed, NoMark};
+ghost use Rattle.js_lex_tool.specs.Words.{command_line_of};
 
 use crate::memory_in::SureIn;
 use crate::memory_out::SureOut;
@@ -41,17 +42,19 @@ pub struct Ran {
 pub struct ToolOutcome {
     /// The exit status of the program.
     pub status: u8,
-    /// Some where the text of the report was written, or the output failed.
+    /// What was run over. It is Some where the text of the report was written, or the output failed.
     pub ran: Option<Ran>,
 }
 
-fn without_run(status: u8) -> ToolOutcome
+/// The outcome of a run that has no report.
+fn outcome_without_run(status: u8) -> ToolOutcome
     ensures { result ≡ record { status = status; ran = None } }
 {
     ToolOutcome { status, ran: None }
 }
 
-fn with_run(status: u8, ran: Ran) -> ToolOutcome
+/// The outcome of a run that has a report.
+fn outcome_of(status: u8, ran: Ran) -> ToolOutcome
     ensures { result ≡ record { status = status; ran = Some ran } }
 {
     ToolOutcome {
@@ -62,7 +65,7 @@ fn with_run(status: u8, ran: Ran) -> ToolOutcome
 
 /// The status for a fault of a session.
 fn status_of(fault: LexFault) -> u8
-    ensures { result ≡ status_of fault }
+    ensures { result ≡ number (status_of fault) }
 {
     match fault {
         LexFault::Overlong => TOO_LONG,
@@ -87,20 +90,18 @@ fn text_of(alloc: Global, ran: &Ran) -> Result<String, AllocError>
 fn write_report<O: ByteOut>(alloc: Global, ran: Ran, output: &mut O) -> ToolOutcome
     requires utf8 { IsUtf8 ran.source }
     requires slices { AllByRecursion (λ row. IsSliceOnPlaces ran.source row.value) ran.report.rows }
-    ensures outcome { (result ≡ record { status = MEMORY; ran = None }) ⊎ (HasRun result.status × (result.ran ≡ Some ran)) }
-    ensures done { result.status ≡ DONE → Appends (O.written output.old) (O.written output.new) (report_text_of ran.source ran.report) }
-    ensures prefix { WritesPrefix (O.written output.old) (O.written output.new) (report_text_of ran.source ran.report) }
-    ensures failed { result.status ≡ WRITE_FAILED → Rose (O.faults output.old) (O.faults output.new) }
-    ensures unfailed { result.status ≡ DONE → O.faults output.new ≡ O.faults output.old }
+    ensures outcome { (result ≡ record { status = number OutOfMemory; ran = None }) ⊎ (HasPassed NoMark result.status × (result.ran ≡ Some ran)) }
+    ensures text { Writes (report_text_of ran.source ran.report) (O.state output.old) (O.state output.new) result.status }
+    ensures faults { Counts WriteFailed result.status (O.state output.old).faults (O.state output.new).faults }
 {
     let text = match text_of(alloc, &ran) {
         Ok(text) => text,
-        Err(_) => return without_run(MEMORY),
+        Err(_) => return outcome_without_run(MEMORY),
     };
     match write_all(output, text.as_bytes()) {
-        Ok(()) => with_run(DONE, ran),
-        Err(WriteFault::Memory) => without_run(MEMORY),
-        Err(WriteFault::Failed) => with_run(WRITE_FAILED, ran),
+        Ok(()) => outcome_of(DONE, ran),
+        Err(WriteFault::Memory) => outcome_without_run(MEMORY),
+        Err(WriteFault::Failed) => outcome_of(WRITE_FAILED, ran),
     }
 }
 
@@ -111,14 +112,8 @@ fn answer<O: ByteOut>(
     source: ByteList,
     output: &mut O,
 ) -> ToolOutcome
-    requires { length source ≤ MOST_BYTES }
-    ensures known { (result.status ≡ MEMORY) ⊎ HasRun result.status ⊎ (result.status ≡ NOT_UTF8) ⊎ (result.status ≡ NO_MARK) ⊎ (result.status ≡ NOT_BUILT) }
-    ensures answers { result.status ≢ MEMORY → Answers line source (O.written output.old) (O.written output.new) result }
-    ensures memory { result.status ≡ MEMORY → MayWrite line source (O.written output.old) (O.written output.new) }
-    ensures ran { IsSome result.ran ↔ HasRun result.status }
-    ensures quiet { (¬ HasRun result.status) → result.status ≢ MEMORY → Keeps (O.written output.old) (O.written output.new) }
-    ensures failed { result.status ≡ WRITE_FAILED → Rose (O.faults output.old) (O.faults output.new) }
-    ensures unfailed { result.status ≡ DONE → O.faults output.new ≡ O.faults output.old }
+    requires { length source ≤ most_bytes }
+    ensures { Answers line source (O.state output.old) (O.state output.new) result }
 {
     let report = match lex_session(
         alloc,
@@ -128,7 +123,7 @@ fn answer<O: ByteOut>(
         line.commands.as_slice(),
     ) {
         Ok(report) => report,
-        Err(fault) => return without_run(status_of(fault)),
+        Err(fault) => return outcome_without_run(status_of(fault)),
     };
     let ran = Ran {
         source,
@@ -147,58 +142,31 @@ fn run_line<I: ByteIn, O: ByteOut>(
     input: &mut I,
     output: &mut O,
 ) -> ToolOutcome
-    ensures known { (result.status ≤ NOT_BUILT) × (result.status ≢ USAGE) }
-    ensures read_failed { result.status ≡ READ_FAILED → Rose (I.faults input.old) (I.faults input.new) }
-    ensures write_failed { result.status ≡ WRITE_FAILED → Rose (O.faults output.old) (O.faults output.new) }
-    ensures unfailed { result.status ≡ DONE → O.faults output.new ≡ O.faults output.old }
-    ensures too_long { result.status ≡ TOO_LONG → Takes (I.left input.old) (I.left input.new) (λ bytes. length bytes ≡ MOST_BYTES + 1) }
-    ensures not_too_long { result.status ≢ TOO_LONG → result.status ≢ MEMORY → Takes (I.left input.old) (I.left input.new) (λ bytes. length bytes ≤ MOST_BYTES) }
-    ensures bounded { Takes (I.left input.old) (I.left input.new) (λ bytes. length bytes ≤ MOST_BYTES + 1) }
-    ensures answers { (¬ GaveUp result.status) → ReadsAll (I.left input.old) (I.left input.new) (λ bytes. Answers line bytes (O.written output.old) (O.written output.new) result) }
-    ensures memory { result.status ≡ MEMORY → Keeps (O.written output.old) (O.written output.new) ⊎ ReadsAll (I.left input.old) (I.left input.new) (λ bytes. MayWrite line bytes (O.written output.old) (O.written output.new)) }
-    ensures ran { IsSome result.ran ↔ HasRun result.status }
-    ensures quiet { (¬ HasRun result.status) → result.status ≢ MEMORY → Keeps (O.written output.old) (O.written output.new) }
+    ensures { RunsLine line (I.state input.old) (I.state input.new) (O.state output.old) (O.state output.new) result }
 {
     match read_to_end(alloc, input, MOST_BYTES) {
         Ok(source) => answer(alloc, line, source, output),
-        Err(ReadFault::Failed) => without_run(READ_FAILED),
-        Err(ReadFault::TooLong) => without_run(TOO_LONG),
-        Err(ReadFault::Memory) => without_run(MEMORY),
+        Err(ReadFault::Failed) => outcome_without_run(READ_FAILED),
+        Err(ReadFault::TooLong) => outcome_without_run(TOO_LONG),
+        Err(ReadFault::Memory) => outcome_without_run(MEMORY),
     }
 }
 
-/// Runs the program: reads what the words say, then the input to its end, and writes the report of a session over it.
+/// Runs the program: reads what the words mean, then the input to its end, and writes the report of a session over it.
 pub fn lex_tool_run<I: ByteIn, O: ByteOut>(
     alloc: Global,
     words: &Vec<String>,
     input: &mut I,
     output: &mut O,
 ) -> ToolOutcome
-    ensures known { result.status ≤ NOT_BUILT }
-    // The words are read first. Where they say nothing, nothing is read and nothing is written.
-    ensures usage { MatchOption (said words.now.items) (((result.status ≡ USAGE) ⊎ (result.status ≡ MEMORY)) × (input.new ≡ input.old) × (output.new ≡ output.old)) (λ _. result.status ≢ USAGE) }
-    // An end that fails has counted it, and a run that is done has met no failure of its output.
-    ensures read_failed { result.status ≡ READ_FAILED → Rose (I.faults input.old) (I.faults input.new) }
-    ensures write_failed { result.status ≡ WRITE_FAILED → Rose (O.faults output.old) (O.faults output.new) }
-    ensures unfailed { result.status ≡ DONE → O.faults output.new ≡ O.faults output.old }
-    // One byte too many is read exactly where there are too many.
-    ensures too_long { result.status ≡ TOO_LONG → Takes (I.left input.old) (I.left input.new) (λ bytes. length bytes ≡ MOST_BYTES + 1) }
-    ensures not_too_long { result.status ≢ TOO_LONG → result.status ≢ MEMORY → Takes (I.left input.old) (I.left input.new) (λ bytes. length bytes ≤ MOST_BYTES) }
-    ensures bounded { Takes (I.left input.old) (I.left input.new) (λ bytes. length bytes ≤ MOST_BYTES + 1) }
-    // Else the input was read to its end, and its bytes and the words say what comes of them.
-    ensures answers { IfSome (said words.now.items) (λ line. (¬ GaveUp result.status) → ReadsAll (I.left input.old) (I.left input.new) (λ bytes. Answers line bytes (O.written output.old) (O.written output.new) result)) }
-    // Want of memory may come anywhere: a beginning of the text may be written by then.
-    ensures memory { IfSome (said words.now.items) (λ line. result.status ≡ MEMORY → Keeps (O.written output.old) (O.written output.new) ⊎ ReadsAll (I.left input.old) (I.left input.new) (λ bytes. MayWrite line bytes (O.written output.old) (O.written output.new))) }
-    ensures ran { IsSome result.ran ↔ HasRun result.status }
-    // Nothing is written with any other status.
-    ensures quiet { (¬ HasRun result.status) → result.status ≢ MEMORY → Keeps (O.written output.old) (O.written output.new) }
-    // No other status comes of words and bytes that can be run, where neither end fails.
-    ensures complete { CanRun (said words.now.items) (I.left input.old) → (¬ Rose (I.faults input.old) (I.faults input.new)) → (¬ Rose (O.faults output.old) (O.faults output.new)) → (result.status ≡ DONE) ⊎ (result.status ≡ MEMORY) }
+    ensures run { RunsTool (command_line_of words.now.items) (I.state input.old) (I.state input.new) (O.state output.old) (O.state output.new) result }
+    // Where the words are no command line, nothing is read and nothing is written.
+    ensures unread { command_line_of words.now.items ≡ None → (input.new ≡ input.old) × (output.new ≡ output.old) }
 {
     match read_words(alloc, words) {
         Ok(Some(line)) => run_line(alloc, line, input, output),
-        Ok(None) => without_run(USAGE),
-        Err(_) => without_run(MEMORY),
+        Ok(None) => outcome_without_run(USAGE),
+        Err(_) => outcome_without_run(MEMORY),
     }
 }
 
@@ -209,9 +177,8 @@ pub fn lex_tool_run_sure(
     input: &mut SureIn<'_>,
     output: &mut SureOut,
 ) -> ToolOutcome
-    ensures never { (result.status ≢ READ_FAILED) × (result.status ≢ WRITE_FAILED) }
-    ensures answers { IfSome (said words.now.items) (λ line. (¬ GaveUp result.status) → ReadsAll (Some input.old.left) (Some input.new.left) (λ bytes. Answers line bytes (Some output.old.written) (Some output.new.written) result)) }
-    ensures complete { CanRun (said words.now.items) (Some input.old.left) → (result.status ≡ DONE) ⊎ (result.status ≡ MEMORY) }
+    ensures never { (result.status ≢ number ReadFailed) × (result.status ≢ number WriteFailed) }
+    ensures run { RunsTool (command_line_of words.now.items) (sure_input input.old) (sure_input input.new) (sure_output output.old) (sure_output output.new) result }
 {
     lex_tool_run(alloc, words, input, output)
 }

@@ -1,7 +1,7 @@
 //! The words of the program.
 
 ghost use Rattle.std.specs.Prelude.{◌≡◌, ◌++◌, IfOk, OnOk, map, replicate, string_bytes};
-ghost use Rattle.js_lex_tool.specs.Words.{entry_for, source_type_words, tokens_words, command_of, count_in, repeated_command, few_commands_in, said};
+ghost use Rattle.js_lex_tool.specs.Words.{entry_for, source_type_words, tokens_words, command_of, count_in, repeated_command, few_commands_in, command_line_of};
 
 use crate::command::{COMMANDS, command_word};
 use js_session::{Command, CommandList};
@@ -11,7 +11,7 @@ use std::alloc::{AllocError, Global};
 /// The most commands, and the most repetitions of one.
 const MOST_COMMANDS: usize = 1_000_000;
 
-/// What the words of a run say.
+/// What the words of a run mean.
 #[derive(Drop)]
 pub struct CommandLine {
     pub source_type: SourceType,
@@ -105,9 +105,9 @@ fn read_commands(alloc: Global, words: &[String]) -> Result<Option<CommandList>,
     Ok(Some(commands))
 }
 
-/// What the words after the program's name say. None: they say nothing.
+/// The command line that the words after the program's name are. None: they are not valid.
 pub fn read_words(alloc: Global, words: &Vec<String>) -> Result<Option<CommandLine>, AllocError>
-    ensures { IfOk result (λ line. line ≡ said words.now.items) }
+    ensures { IfOk result (λ line. line ≡ command_line_of words.now.items) }
 {
     let Some((first, words)) = words.split_first() else {
         return Ok(None);

@@ -1,8 +1,7 @@
 //! Writing a text to an output.
 
 ghost use Rattle.std.specs.Prelude.{◌≡◌, OnOk, OnErr, IsErrOf};
-ghost use Rattle.std.specs.Io.KnownBytes.{Appends};
-ghost use Rattle.js_lex_tool.specs.Outside.{Rose, WritesPrefix};
+ghost use Rattle.js_lex_tool.specs.Outside.{Rises, WritesAll, WritesPrefix};
 
 use crate::outside::{ByteOut, FlushAnswer, OutAnswer};
 
@@ -15,10 +14,10 @@ pub enum WriteFault {
 
 /// Writes all of a text and flushes it.
 pub fn write_all<O: ByteOut>(output: &mut O, text: &[u8]) -> Result<(), WriteFault>
-    ensures all { OnOk result (Appends (O.written output.old) (O.written output.new) text.now) }
-    ensures prefix { OnErr result (WritesPrefix (O.written output.old) (O.written output.new) text.now) }
-    ensures failed { IsErrOf result WriteFault.Failed → Rose (O.faults output.old) (O.faults output.new) }
-    ensures unfailed { OnOk result (O.faults output.new ≡ O.faults output.old) }
+    ensures all { OnOk result (WritesAll (O.state output.old) (O.state output.new) text.now) }
+    ensures prefix { OnErr result (WritesPrefix (O.state output.old) (O.state output.new) text.now) }
+    ensures fault { IsErrOf result WriteFault.Failed → Rises (O.state output.old).faults (O.state output.new).faults }
+    ensures no_fault { (¬ (IsErrOf result WriteFault.Failed)) → (O.state output.new).faults ≡ (O.state output.old).faults }
 {
     let mut at = 0;
     while at < text.len() {

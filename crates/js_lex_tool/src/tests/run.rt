@@ -2,34 +2,27 @@
 
 use crate::memory_in::{MemoryIn, SureIn};
 use crate::memory_out::{MemoryOut, SureOut};
-use crate::outside::ByteIn;
-use crate::status::{
-    DONE, NO_MARK, NOT_BUILT, NOT_UTF8, READ_FAILED, TOO_LONG, USAGE, WRITE_FAILED,
-};
-use crate::tests::ends::RecordingIn;
-use crate::tool::{ToolOutcome, lex_tool_run, lex_tool_run_sure};
-use js_session::Command;
-use js_text::SourceType;
+use crate::status::{DONE, NO_MARK, NOT_BUILT, NOT_UTF8, READ_FAILED, USAGE, WRITE_FAILED};
+use crate::tool::{lex_tool_run, lex_tool_run_sure};
 use std::alloc::{AllocError, Global};
 use std::test::Fail;
 
-pub fn owned(alloc: Global, words: &str) -> Result<Vec<String>, AllocError> {
-    let mut owned = Vec::new(alloc);
+/// The words of a command line, which stand between spaces.
+pub fn strings_of(alloc: Global, words: &str) -> Result<Vec<String>, AllocError> {
+    let mut strings = Vec::new(alloc);
     for word in words.split(' ') {
-        owned.push(String::from_str(alloc, word)?)?;
+        strings.push(String::from_str(alloc, word)?)?;
     }
-    Ok(owned)
+    Ok(strings)
 }
 
-/// A run over an input, with what it came to and what it wrote.
-fn run<I: ByteIn>(
-    alloc: Global,
-    words: &str,
-    input: &mut I,
-) -> Result<(ToolOutcome, MemoryOut<'static>), AllocError> {
-    let mut output = MemoryOut::new(alloc, 10, &[]);
-    let outcome = lex_tool_run(alloc, &owned(alloc, words)?, input, &mut output);
-    Ok((outcome, output))
+/// A run over ends that never fail: its status, and its output.
+fn run_sure(alloc: Global, words: &str, source: &[u8]) -> Result<(u8, SureOut), AllocError> {
+    let mut input = SureIn::new(source, 3);
+    let mut output = SureOut::new(alloc, 10);
+    let words = strings_of(alloc, words)?;
+    let outcome = lex_tool_run_sure(alloc, &words, &mut input, &mut output);
+    Ok((outcome.status, output))
 }
 
 const CALL: &str = concat!(
@@ -166,20 +159,26 @@ static TEXTS: [(&str, &str, &str); 14] = [
 #[test]
 fn texts(rt: HostRuntime) -> Result<(), Fail> {
     for (words, source, text) in TEXTS.iter() {
-        let mut input = MemoryIn::new(source.as_bytes(), 2, &[]);
-        let (outcome, output) = run(rt.alloc(), words, &mut input)?;
-        assert_eq!(rt; outcome.status, DONE, "{source:?}");
-        let written = str::from_utf8(output.written()).or(Err("not UTF-8"))?;
-        assert_eq!(rt; written, *text, "{source:?}");
+        let (status, output) = run_sure(rt.alloc(), words, source.as_bytes())?;
+        assert_eq!(rt; status, DONE, "{words}: {source:?}");
+        assert_eq!(rt; output.written(), text.as_bytes(), "{words}: {source:?}");
     }
     Ok(())
 }
 
 /// Words, a source, and the status that comes of them.
-static REFUSALS: [(&str, &[u8], u8); 9] = [
+static REFUSALS: [(&str, &[u8], u8); 17] = [
+    ("module", b"a", USAGE),
+    ("tokens module", b"a", USAGE),
     ("module no-tokens nxt", b"a", USAGE),
+    ("module no-tokens next*", b"a", USAGE),
+    ("module no-tokens *2", b"a", USAGE),
     ("module no-tokens next*0", b"a\xff", USAGE),
-    ("module no-tokens next*1000000 next", b"a", USAGE),
+    ("module no-tokens next*01", b"a", USAGE),
+    ("module no-tokens next*+1", b"a", USAGE),
+    ("module no-tokens next*2*2", b"a", USAGE),
+    ("module no-tokens next*1000001", b"a", USAGE),
+    ("module no-tokens next*600000 peek*400001", b"a", USAGE),
     ("module no-tokens", b"a1", NOT_BUILT),
     ("module no-tokens", b"a\xe2\x82", NOT_UTF8),
     ("module no-tokens", b"1\xff", NOT_UTF8),
@@ -190,92 +189,68 @@ static REFUSALS: [(&str, &[u8], u8); 9] = [
 
 #[test]
 fn refusals(rt: HostRuntime) -> Result<(), Fail> {
-    for (words, source, status) in REFUSALS.iter() {
-        let mut input = MemoryIn::new(source, 2, &[]);
-        let (outcome, output) = run(rt.alloc(), words, &mut input)?;
-        assert_eq!(rt; outcome.status, *status, "{words}");
-        assert!(rt; outcome.ran.is_none(), "{words}");
-        assert_eq!(rt; output.written().len(), 0, "{words}");
+    for (words, source, wanted) in REFUSALS.iter() {
+        let (status, _) = run_sure(rt.alloc(), words, source)?;
+        assert_eq!(rt; status, *wanted, "{words} of {wanted}");
     }
     Ok(())
 }
 
-#[test]
-fn what_ran(rt: HostRuntime) -> Result<(), Fail> {
-    let mut input = MemoryIn::new(b"foo(a);", 3, &[]);
-    let (outcome, _) = run(rt.alloc(), "script tokens next*2 peek", &mut input)?;
-    let ran = outcome.ran.ok_or("nothing ran")?;
-    assert_eq!(rt; ran.source.as_slice(), b"foo(a);".as_slice());
-    assert_eq!(rt; ran.source_type, SourceType::Script);
-    assert!(rt; ran.tokens);
-    let commands = [Command::Next, Command::Next, Command::Peek];
-    assert_eq!(rt; ran.commands.as_slice(), commands.as_slice());
-    assert_eq!(rt; ran.report.rows.len(), 4);
-    Ok(())
+/// What a run came to whose calls may fail: its status, how many bytes it wrote and how many it flushed, and how many calls
+/// have failed.
+#[derive(Clone, Copy, PartialEq, Eq, Debug)]
+struct Ends {
+    status: u8,
+    written: usize,
+    flushed: usize,
+    faults: (u64, u64),
 }
 
-// Six calls read seven bytes in pieces of two; the call after them is never made.
+/// A run over seven bytes, of which some reads, writes and flushes fail.
+fn run_failing(alloc: Global, reads: &[u64], writes: &[u64]) -> Result<Ends, AllocError> {
+    let mut input = MemoryIn::new(b"foo(a);", 2, reads);
+    let mut output = MemoryOut::new(alloc, 10, writes);
+    let words = strings_of(alloc, "module no-tokens next*5")?;
+    let outcome = lex_tool_run(alloc, &words, &mut input, &mut output);
+    Ok(Ends {
+        status: outcome.status,
+        written: output.written().len(),
+        flushed: output.flushed(),
+        faults: (input.faults(), output.faults()),
+    })
+}
+
+// Four reads give seven bytes in pieces of two, the fifth finds the end, and no read is made after it.
 #[test]
 fn reads_that_fail(rt: HostRuntime) -> Result<(), Fail> {
     for call in 0..6 {
-        let failing = [call];
-        let mut input = MemoryIn::new(b"foo(a);", 2, &failing);
-        let (outcome, output) = run(rt.alloc(), "module no-tokens next*5", &mut input)?;
-        let (status, faults, written) = if call < 5 {
-            (READ_FAILED, 1, 0)
+        let ends = run_failing(rt.alloc(), &[call], &[])?;
+        let (status, faults) = if call < 5 {
+            (READ_FAILED, 1)
         } else {
-            (DONE, 0, CALL.len())
+            (DONE, 0)
         };
-        assert_eq!(rt; outcome.status, status, "call {call}");
-        assert_eq!(rt; input.faults(), faults, "call {call}");
-        assert_eq!(rt; output.written().len(), written, "call {call}");
+        assert_eq!(rt; ends.status, status, "at call {call}");
+        assert_eq!(rt; ends.faults, (faults, 0), "at call {call}");
+        assert!(rt; call == 5 || ends.written == 0, "at call {call}");
     }
     Ok(())
 }
 
+// The text is written in pieces of ten, and then flushed; nothing is called after that.
 #[test]
 fn writes_that_fail(rt: HostRuntime) -> Result<(), Fail> {
     let writes = CALL.len().div_ceil(10);
     for call in 0..writes + 2 {
-        let failing = [call as u64];
-        let mut input = SureIn::new(b"foo(a);", 2);
-        let mut output = MemoryOut::new(rt.alloc(), 10, &failing);
-        let words = owned(rt.alloc(), "module no-tokens next*5")?;
-        let outcome = lex_tool_run(rt.alloc(), &words, &mut input, &mut output);
+        let ends = run_failing(rt.alloc(), &[], &[call as u64])?;
         let (status, faults) = if call <= writes {
             (WRITE_FAILED, 1)
         } else {
             (DONE, 0)
         };
-        assert_eq!(rt; outcome.status, status, "call {call}");
-        assert!(rt; outcome.ran.is_some(), "call {call}");
-        assert_eq!(rt; output.faults(), faults, "call {call}");
-        let written = CALL.len().min(10 * call);
-        assert_eq!(rt;
-            output.written(),
-            &CALL.as_bytes()[..written],
-            "call {call}"
-        );
+        assert_eq!(rt; ends.status, status, "at call {call}");
+        assert_eq!(rt; ends.faults, (0, faults), "at call {call}");
+        assert_eq!(rt; ends.written, CALL.len().min(10 * call), "at call {call}");
     }
-    Ok(())
-}
-
-#[test]
-fn too_many_bytes(rt: HostRuntime) -> Result<(), Fail> {
-    let mut input = RecordingIn::new(rt.alloc(), 67_108_865);
-    let (outcome, output) = run(rt.alloc(), "module no-tokens", &mut input)?;
-    assert_eq!(rt; outcome.status, TOO_LONG);
-    assert_eq!(rt; output.written().len(), 0);
-    Ok(())
-}
-
-#[test]
-fn ends_that_never_fail(rt: HostRuntime) -> Result<(), Fail> {
-    let mut input = SureIn::new(b"foo(a);", 3);
-    let mut output = SureOut::new(rt.alloc(), 3);
-    let words = owned(rt.alloc(), "module no-tokens next*5")?;
-    let outcome = lex_tool_run_sure(rt.alloc(), &words, &mut input, &mut output);
-    assert_eq!(rt; outcome.status, DONE);
-    assert_eq!(rt; output.written(), CALL.as_bytes());
     Ok(())
 }

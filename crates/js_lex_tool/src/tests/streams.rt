@@ -2,7 +2,7 @@
 
 use crate::status::{DONE, READ_FAILED, WRITE_FAILED};
 use crate::std_streams::{StdIn, StdOut};
-use crate::tests::run::owned;
+use crate::tests::run::strings_of;
 use crate::tool::lex_tool_run;
 use std::alloc::{AllocError, Global};
 use std::io::{self, Read, Write};
@@ -49,31 +49,33 @@ impl Write for Sink {
     }
 }
 
-fn status(alloc: Global, source: Source<'_>, sink: Sink) -> Result<u8, AllocError> {
-    let words = owned(alloc, "module no-tokens next*5")?;
+fn run_status(alloc: Global, source: Source<'_>, sink: Sink) -> Result<u8, AllocError> {
+    let words = strings_of(alloc, "module no-tokens next*5")?;
     let (mut input, mut output) = (StdIn::new(source), StdOut::new(sink));
     Ok(lex_tool_run(alloc, &words, &mut input, &mut output).status)
 }
 
+/// Whether the reader fails behind its bytes, how many bytes the writer takes, whether its flush fails, and the status.
+static CASES: [(bool, usize, bool, u8); 5] = [
+    (false, 1000, false, DONE),
+    (true, 1000, false, READ_FAILED),
+    (false, 100, false, WRITE_FAILED),
+    (false, 0, false, WRITE_FAILED),
+    (false, 1000, true, WRITE_FAILED),
+];
+
 #[test]
 fn streams_that_fail(rt: HostRuntime) -> Result<(), Fail> {
-    for (read_fails, room, flush_fails, wanted) in [
-        (false, 1000, false, DONE),
-        (true, 1000, false, READ_FAILED),
-        (false, 100, false, WRITE_FAILED),
-        (false, 0, false, WRITE_FAILED),
-        (false, 1000, true, WRITE_FAILED),
-    ] {
+    for (read_fails, room, flush_fails, wanted) in CASES.iter() {
         let source = Source {
             left: b"foo(a);",
-            fails: read_fails,
+            fails: *read_fails,
         };
         let sink = Sink {
-            room,
-            fails: flush_fails,
+            room: *room,
+            fails: *flush_fails,
         };
-        let got = status(rt.alloc(), source, sink)?;
-        assert_eq!(rt; got, wanted, "{read_fails} {room} {flush_fails}");
+        assert_eq!(rt; run_status(rt.alloc(), source, sink)?, *wanted, "{room}");
     }
     Ok(())
 }

@@ -1,12 +1,11 @@
-use Rattle.std.proofs.Common.{sym}
-use Rattle.js_lex_tool.proofs.Completing.{completes, kept_anyhow}
+use Rattle.std.proofs.Common.{sym, ◌∙◌}
+use Rattle.js_lex_tool.proofs.Completing.{runs_line, runs_out}
 use Rattle.js_lex_tool.proofs.tool.lex_tool_run.Goals as goal
 
-pub returns-in-Ok-Some-clause-complete : goal.returns-in-Ok-Some-clause-complete
-returns-in-Ok-Some-clause-complete g c can no_read_fault no_write_fault =
-    let run = c.run_line.ensures in
-    let said = rw c.in-Ok-Some.field-0-is at c.in-Ok-Some.ensures in
-    completes c.in-Ok-Some.line _ _ _ _ c.run_line.result (rw (sym said) at can) run.known.0 run.known.1 (λ e. no_read_fault (run.read_failed e)) (λ e. no_write_fault (run.write_failed e)) run.too_long run.answers
+pub returns-in-Ok-Some-clause-run : goal.returns-in-Ok-Some-clause-run
+returns-in-Ok-Some-clause-run g c =
+    let words = rw c.in-Ok-Some.field-0-is at c.in-Ok-Some.ensures in
+    runs_line _ c.in-Ok-Some.line _ _ _ _ c.run_line.result (sym words) c.run_line.ensures
 
-pub returns-in-Err-clause-memory : goal.returns-in-Err-clause-memory
-returns-in-Err-clause-memory g c = kept_anyhow _ _ _ _
+pub returns-in-Err-clause-run : goal.returns-in-Err-clause-run
+returns-in-Err-clause-run g c = rw c.outcome_without_run-in-Err.ensures (runs_out _ _ _)

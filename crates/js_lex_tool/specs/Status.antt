@@ -1,0 +1,73 @@
+-- The statuses of the program: their numbers, their lines, and the order in which a run tests for them.
+use Rattle.std.specs.Prelude.{◌≡◌, ◌≢◌, ℕ, ◌==◌, ◌⊎◌, List, [], ◌∷◌, codes, Option, option_map, find}
+use Rattle.std.specs.List.{after_first}
+
+-- what the program can come to
+pub data Status : Type 0 where
+  Done : Status
+  OutOfMemory : Status
+  Usage : Status
+  ReadFailed : Status
+  WriteFailed : Status
+  TooLong : Status
+  NotUtf8 : Status
+  NoMark : Status
+  NotBuilt : Status
+  NoArguments : Status
+
+-- the exit status that the system is given
+abbrev pub number : Status → ℕ
+number Done = 0
+number OutOfMemory = 1
+number Usage = 2
+number ReadFailed = 3
+number WriteFailed = 4
+number TooLong = 5
+number NotUtf8 = 6
+number NoMark = 7
+number NotBuilt = 8
+number NoArguments = 10
+
+-- the line that the program prints for a status, without its line end; it prints none where it is done
+abbrev pub line : Status → List ℕ
+line Done = []
+line OutOfMemory = codes "js_lex: out of memory"
+line Usage = codes "js_lex: usage: js_lex module|script|unambiguous tokens|no-tokens all|COMMAND[*N].. or js_lex gen N"
+line ReadFailed = codes "js_lex: cannot read input"
+line WriteFailed = codes "js_lex: cannot write output"
+line TooLong = codes "js_lex: input is longer than 67108864 bytes"
+line NotUtf8 = codes "js_lex: input is not UTF-8"
+line NoMark = codes "js_lex: rewind or commit without a mark"
+line NotBuilt = codes "js_lex: source has a form that is not built yet"
+line NoArguments = codes "js_lex: cannot read arguments"
+
+-- each status but Done
+abbrev pub failures : List Status
+failures =
+    OutOfMemory ∷ Usage ∷ ReadFailed ∷ WriteFailed ∷ TooLong ∷ NotUtf8 ∷ NoMark ∷ NotBuilt ∷ NoArguments ∷ []
+
+-- the line for an exit status
+abbrev pub line_for : ℕ → Option (List ℕ)
+line_for n = option_map line (find (λ s. number s == n) failures)
+
+-- The statuses in the order in which a run tests for them. OutOfMemory is not among them: it may come at any time.
+abbrev pub order : List Status
+order = Usage ∷ ReadFailed ∷ TooLong ∷ NotUtf8 ∷ NotBuilt ∷ NoMark ∷ WriteFailed ∷ Done ∷ []
+
+-- the statuses that are tested after one
+abbrev pub later_than : Status → List Status
+later_than status = after_first (λ s. number s == number status) order
+
+-- an exit status is that of one of these
+abbrev pub IsOneOf : List Status → ℕ → Type 0
+IsOneOf [] n = ⊥
+IsOneOf (status ∷ statuses) n = (n ≡ number status) ⊎ IsOneOf statuses n
+
+-- a run with this exit status has passed the test of a status: its own is tested later
+abbrev pub HasPassed : Status → ℕ → Type 0
+HasPassed status n = IsOneOf (later_than status) n
+
+-- A test that a run makes: what is known where its status comes, and what is known where one comes that is tested later.
+pub record Tests (status : Status) (n : ℕ) (Fails Passes : Type 0) : Type 0 where
+  pub fails : n ≡ number status → Fails
+  pub passes : HasPassed status n → Passes
