@@ -4,7 +4,9 @@ use Rattle.std.proofs.KnownBytes.{Keeps-refl}
 use Rattle.std.specs.Str.{IsUtf8}
 use Rattle.js_session.specs.Faults.{IsBuilt, IsReadable, HasMarks, Cause, FirstUnbuilt, FirstWithoutMark}
 use Rattle.js_session.specs.declared.fault.LexFault.{LexFault}
-use Rattle.js_session.specs.declared.fault.LexFault.TheVariants.{Overlong, NotUtf8 as NotUtf8Fault, NotBuilt as NotBuiltFault, NoMark as NoMarkFault, Memory}
+use Rattle.js_session.specs.declared.fault.LexFault.TheVariants.{Overlong, NotUtf8 as NotUtf8Fault}
+use Rattle.js_session.specs.declared.fault.LexFault.TheVariants.{NotBuilt as NotBuiltFault, NoMark as NoMarkFault}
+use Rattle.js_session.specs.declared.fault.LexFault.TheVariants.{Memory}
 use Rattle.js_lex_tool.specs.Outside.{OutputState}
 use Rattle.js_lex_tool.specs.ReportText.{report_text_of}
 use Rattle.js_lex_tool.specs.Run.{most_bytes, status_of, Counts, Answers, HasReport, IsRunOver, Writes}
@@ -25,7 +27,11 @@ without_mark : (line : CommandLine) (index : ℕ) → FirstWithoutMark line.comm
 without_mark line index first marks = marks index first.here
 
 -- A run without a report has written nothing; what is left to show are its three tests.
-refusal : (line : CommandLine) (bytes : List ℕ) (output : OutputState) (n : ℕ) → IsOneOf (OutOfMemory ∷ NotUtf8 ∷ NotBuilt ∷ NoMark ∷ []) n → Tests NotUtf8 n (¬ (IsUtf8 bytes)) (IsUtf8 bytes) → Tests NotBuilt n (¬ (IsBuilt bytes)) (IsBuilt bytes) → Tests NoMark n (¬ (HasMarks line.commands)) (HasMarks line.commands) → Answers line bytes output output (without_run n)
+refusal : (line : CommandLine) (bytes : List ℕ) (output : OutputState) (n : ℕ)
+    → IsOneOf (OutOfMemory ∷ NotUtf8 ∷ NotBuilt ∷ NoMark ∷ []) n → Tests NotUtf8 n (¬ (IsUtf8 bytes)) (IsUtf8 bytes)
+    → Tests NotBuilt n (¬ (IsBuilt bytes)) (IsBuilt bytes)
+    → Tests NoMark n (¬ (HasMarks line.commands)) (HasMarks line.commands)
+    → Answers line bytes output output (without_run n)
 refusal line bytes output n is utf8 built marks = record {
   known = grind (arith, is);
   utf8 = utf8;
@@ -40,7 +46,9 @@ refusal line bytes output n is utf8 built marks = record {
 }
 
 -- A fault's status is the one that its bytes and commands call for.
-pub answers_at_fault : (line : CommandLine) (bytes : List ℕ) (output : OutputState) (fault : LexFault) → length bytes ≤ most_bytes → Cause bytes line.commands fault → Answers line bytes output output (without_run (number (status_of fault)))
+pub answers_at_fault : (line : CommandLine) (bytes : List ℕ) (output : OutputState) (fault : LexFault)
+    → length bytes ≤ most_bytes → Cause bytes line.commands fault
+    → Answers line bytes output output (without_run (number (status_of fault)))
 answers_at_fault line bytes output Overlong few cause = absurd (omega (arith, few, cause))
 answers_at_fault line bytes output (NotUtf8Fault at) few cause = refusal line bytes output 6 (inr (inl refl))
     (record { fails = λ _. cause.1; passes = λ h. absurd (omega (arith, h)) })
@@ -50,30 +58,39 @@ answers_at_fault line bytes output (NotBuiltFault at) few cause = refusal line b
     (record { fails = λ e. absurd (omega (arith, e)); passes = λ _. cause.1 })
     (record { fails = λ _. unbuilt bytes at cause.2; passes = λ h. absurd (omega (arith, h)) })
     (record { fails = λ e. absurd (omega (arith, e)); passes = λ h. absurd (omega (arith, h)) })
-answers_at_fault line bytes output (NoMarkFault index) few cause = refusal line bytes output 7 (inr (inr (inr (inl refl))))
+answers_at_fault line bytes output (NoMarkFault index) few cause =
+    refusal line bytes output 7 (inr (inr (inr (inl refl))))
     (record { fails = λ e. absurd (omega (arith, e)); passes = λ _. cause.0.utf8 })
     (record { fails = λ e. absurd (omega (arith, e)); passes = λ _. cause.0.built })
     (record { fails = λ _. without_mark line index cause.1; passes = λ h. absurd (omega (arith, h)) })
 answers_at_fault line bytes output Memory few cause = absurd cause
 
 -- a run that is out of memory has failed none of the tests, and passed none
-pub answers_at_memory : (line : CommandLine) (bytes : List ℕ) (output : OutputState) → Answers line bytes output output (without_run 1)
+pub answers_at_memory : (line : CommandLine) (bytes : List ℕ) (output : OutputState)
+    → Answers line bytes output output (without_run 1)
 answers_at_memory line bytes output = refusal line bytes output 1 (inl refl)
     (record { fails = λ e. absurd (omega (arith, e)); passes = λ h. absurd (omega (arith, h)) })
     (record { fails = λ e. absurd (omega (arith, e)); passes = λ h. absurd (omega (arith, h)) })
     (record { fails = λ e. absurd (omega (arith, e)); passes = λ h. absurd (omega (arith, h)) })
 
 -- What a session's fault comes to.
-pub answers_at_refusal : (line : CommandLine) (bytes : List ℕ) (output : OutputState) (fault : LexFault) → length bytes ≤ most_bytes → (fault ≡ Memory) ⊎ Cause bytes line.commands fault → Answers line bytes output output (without_run (number (status_of fault)))
+pub answers_at_refusal : (line : CommandLine) (bytes : List ℕ) (output : OutputState) (fault : LexFault)
+    → length bytes ≤ most_bytes → (fault ≡ Memory) ⊎ Cause bytes line.commands fault
+    → Answers line bytes output output (without_run (number (status_of fault)))
 answers_at_refusal line bytes output fault few (inl e) = rw e (answers_at_memory line bytes output)
 answers_at_refusal line bytes output fault few (inr cause) = answers_at_fault line bytes output fault few cause
 
 -- the report of what ran is one over the bytes
-report_over : (line : CommandLine) (bytes : List ℕ) (ran : Ran) → IsRunOver line bytes ran → HasReport line bytes ran.report
+report_over : (line : CommandLine) (bytes : List ℕ) (ran : Ran) → IsRunOver line bytes ran
+    → HasReport line bytes ran.report
 report_over line bytes ran over = rw (over.source, over.source_type, over.tokens, over.commands) at over.report
 
 -- A run that has its report has passed all three tests, or is out of memory.
-pub answers_at_report : (line : CommandLine) (bytes : List ℕ) (ran : Ran) (old new : OutputState) (outcome : ToolOutcome) → IsReadable bytes → HasMarks line.commands → IsRunOver line bytes ran → (outcome ≡ without_run 1) ⊎ (HasPassed NoMark outcome.status × (outcome.ran ≡ Some ran)) → Writes (report_text_of bytes ran.report) old new outcome.status → Counts WriteFailed outcome.status old.faults new.faults → Answers line bytes old new outcome
+pub answers_at_report : (line : CommandLine) (bytes : List ℕ) (ran : Ran) (old new : OutputState)
+    (outcome : ToolOutcome) → IsReadable bytes → HasMarks line.commands → IsRunOver line bytes ran
+    → (outcome ≡ without_run 1) ⊎ (HasPassed NoMark outcome.status × (outcome.ran ≡ Some ran))
+    → Writes (report_text_of bytes ran.report) old new outcome.status
+    → Counts WriteFailed outcome.status old.faults new.faults → Answers line bytes old new outcome
 answers_at_report line bytes ran old new outcome readable marks over (inl e) writes faults = record {
   known = rw e (inl refl);
   utf8 = rw e (record { fails = λ h. absurd (omega (arith, h)); passes = λ h. absurd (omega (arith, h)) });

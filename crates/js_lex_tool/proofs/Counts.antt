@@ -1,11 +1,13 @@
 -- What a text has to be for a count to be read from it.
-use Rattle.std.proofs.Common.{◌≡◌, ℕ, ◌<◌, ◌≤◌, ◌^◌, ◌&&◌, Bool, true, false, List, length, get_or, zero, suc, arith, refl, sym, ap, ◌∙◌, None, Some, Ok, Err, Result, nat_lt, nat_le, if◌then◌else◌}
+use Rattle.std.proofs.Common.{◌≡◌, ℕ, ◌<◌, ◌≤◌, ◌^◌, ◌&&◌, Bool, true, false, List, length, get_or, zero, suc, arith}
+use Rattle.std.proofs.Common.{refl, sym, ap, ◌∙◌, None, Some, Ok, Err, Result, nat_lt, nat_le, if◌then◌else◌}
 use Rattle.std.specs.Fmt.{decimal}
 use Rattle.std.specs.Str.{bytes_eq}
 use Rattle.std.specs.Str.Parse.{digits_value, AllDigits, ParsesUnsigned}
 use Rattle.std.specs.Result.{result_ok}
 use Rattle.std.proofs.lemmas.Str.Parse.{IsNumeralModel, numerals_by_value, tells_digits, parse_plain}
-use Rattle.std.proofs.lemmas.Fmt.{digits_value-decimal, decimal-digits_value, decimal_digit, first_decimal, parse-decimal}
+use Rattle.std.proofs.lemmas.Fmt.{digits_value-decimal, decimal-digits_value, decimal_digit, first_decimal}
+use Rattle.std.proofs.lemmas.Fmt.{parse-decimal}
 use Rattle.std.proofs.lemmas.Slice.Eq.{bytes_eq-Decides}
 use Rattle.std.proofs.lemmas.Bool.Decides.{nat_tests}
 use Rattle.js_lex_tool.specs.Words.{count_in, most_commands}
@@ -28,38 +30,50 @@ count_in-decimal text n e low high =
     rw value (checked-decimal text n e low high)
 
 -- nothing is given where the test can't hold
-none_unless : (same : Bool) (n : ℕ) → (same ≡ true → 0 < n → n ≤ most_commands → ⊥) → (if same && (nat_lt 0 n && nat_le n most_commands) then Some n else None) ≡ None
+none_unless : (same : Bool) (n : ℕ) → (same ≡ true → 0 < n → n ≤ most_commands → ⊥)
+    → (if same && (nat_lt 0 n && nat_le n most_commands) then Some n else None) ≡ None
 none_unless false n h = refl
 none_unless true n h = grind (arith, nat_tests, h refl)
 
 -- What is no number in decimal is not read.
-pub count_in-none : (text : List ℕ) → ((n : ℕ) → 0 < n → n ≤ most_commands → text ≡ decimal n → ⊥) → count_in text ≡ None
+pub count_in-none : (text : List ℕ) → ((n : ℕ) → 0 < n → n ≤ most_commands → text ≡ decimal n → ⊥)
+    → count_in text ≡ None
 count_in-none text h =
     let n = digits_value 10 text in
-    none_unless (bytes_eq text (decimal n)) n (λ same low high. h n low high ((bytes_eq-Decides text (decimal n)).0 same))
+    none_unless (bytes_eq text (decimal n)) n
+    (λ same low high. h n low high ((bytes_eq-Decides text (decimal n)).0 same))
 
 -- A text that begins below `1` is not read.
 pub count_in-low : (text : List ℕ) → get_or text 0 0 ≤ 48 → count_in text ≡ None
-count_in-low text low = count_in-none text (λ n some few e. omega (arith, first_decimal n some (omega arith), ap (λ ds. get_or ds 0 0) e))
+count_in-low text low =
+    count_in-none text (λ n some few e. omega (arith, first_decimal n some (omega arith), ap (λ ds. get_or ds 0 0) e))
 
 -- What can't be parsed is not read.
-pub count_in-err : {E : Type 0} (text : List ℕ) (r : Result ℕ E) → result_ok r ≡ None → ParsesUnsigned 64 10 text r → count_in text ≡ None
+pub count_in-err : {E : Type 0} (text : List ℕ) (r : Result ℕ E) → result_ok r ≡ None → ParsesUnsigned 64 10 text r
+    → count_in text ≡ None
 count_in-err text r none parses =
-    count_in-none text (λ n some few same. let ok : r ≡ Ok n = parse-decimal 64 n text r (omega arith) (omega arith) same parses in
+    count_in-none text (λ n some few same.
+    let ok : r ≡ Ok n = parse-decimal 64 n text r (omega arith) (omega arith) same parses in
     let is : result_ok r ≡ Some n = ap result_ok ok in
     cc)
 
 -- What is parsed, and begins above `0`, is the number in decimal.
-decimal_from_parse : {E : Type 0} (text : List ℕ) (r : Result ℕ E) (n : ℕ) → result_ok r ≡ Some n → ParsesUnsigned 64 10 text r → 48 < get_or text 0 0 → text ≡ decimal n
+decimal_from_parse : {E : Type 0} (text : List ℕ) (r : Result ℕ E) (n : ℕ) → result_ok r ≡ Some n
+    → ParsesUnsigned 64 10 text r → 48 < get_or text 0 0 → text ≡ decimal n
 decimal_from_parse text (Err e) n is parses first = absurd cc
 decimal_from_parse {E} text (Ok m) n is parses first =
-    let plain : (AllDigits 10 text × (0 < length text) × (digits_value 10 text < 2 ^ 64)) × (m ≡ digits_value 10 text) = parse_plain numerals {E = E} 64 text (Ok m) parses (omega arith) in
-    let digits : decimal (digits_value 10 text) ≡ text = decimal-digits_value numerals text plain.0.0 plain.0.1 (λ zero. absurd (omega arith)) plain.0.2 in
+    let plain : (AllDigits 10 text × (0 < length text) × (digits_value 10 text < 2 ^ 64)) × (m ≡ digits_value 10 text) =
+    parse_plain numerals {E = E} 64 text (Ok m) parses (omega arith) in
+    let digits : decimal (digits_value 10 text) ≡ text =
+    decimal-digits_value numerals text plain.0.0 plain.0.1 (λ zero. absurd (omega arith)) plain.0.2 in
     let same : n ≡ digits_value 10 text = cc in
     rw same (sym digits)
 
 -- What is parsed, begins above `0` and is not too many, is read.
-pub count_in-parsed : {E : Type 0} (text : List ℕ) (r : Result ℕ E) (n : ℕ) → result_ok r ≡ Some n → ParsesUnsigned 64 10 text r → 48 < get_or text 0 0 → n ≤ most_commands → count_in text ≡ Some n
+pub count_in-parsed : {E : Type 0} (text : List ℕ) (r : Result ℕ E) (n : ℕ) → result_ok r ≡ Some n
+    → ParsesUnsigned 64 10 text r → 48 < get_or text 0 0 → n ≤ most_commands → count_in text ≡ Some n
 count_in-parsed text r zero is parses first few =
-    absurd (omega (arith, ap (λ ds. get_or ds 0 0) (decimal_from_parse text r 0 is parses first ∙ decimal_digit 0 (omega arith))))
-count_in-parsed text r (suc n) is parses first few = count_in-decimal text (suc n) (decimal_from_parse text r (suc n) is parses first) (omega arith) few
+    let zero_text : text ≡ _ = decimal_from_parse text r 0 is parses first ∙ decimal_digit 0 (omega arith) in
+    absurd (omega (arith, ap (λ ds. get_or ds 0 0) zero_text))
+count_in-parsed text r (suc n) is parses first few =
+    count_in-decimal text (suc n) (decimal_from_parse text r (suc n) is parses first) (omega arith) few

@@ -6,8 +6,10 @@ use Rattle.std.proofs.lemmas.Grind.{common_steps}
 use Rattle.std.proofs.Math.Seq.{take-add}
 
 -- A piece that is written after a beginning makes a longer beginning.
-pub appends_more : (was mid now : Option (List ℕ)) (text piece : List ℕ) (at n : ℕ) → piece ≡ drop at text → Appends was mid (take at text) → Appends mid now (take n piece) → Appends was now (take (at + n) text)
-appends_more was mid now text piece at n e h k = rw (take-add at n text, ← e) (Appends-trans was mid now (take at text) (take n piece) h k)
+pub appends_more : (was mid now : Option (List ℕ)) (text piece : List ℕ) (at n : ℕ) → piece ≡ drop at text
+    → Appends was mid (take at text) → Appends mid now (take n piece) → Appends was now (take (at + n) text)
+appends_more was mid now text piece at n e h k =
+    rw (take-add at n text, ← e) (Appends-trans was mid now (take at text) (take n piece) h k)
 
 -- What was read stays within the bound with a piece that fits.
 pub length_within : (xs ys : List ℕ) (n most : ℕ) → length xs + n ≤ most → length (xs ++ take n ys) ≤ most

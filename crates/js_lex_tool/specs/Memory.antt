@@ -1,5 +1,6 @@
 -- Inputs and outputs in memory: their states, and what each call answers and leaves.
-use Rattle.std.specs.Prelude.{Some, ◌≡◌, ℕ, ◌+◌, ◌-◌, ◌^◌, Bool, List, ◌++◌, min, length, take, drop, if◌then◌else◌, ◌==◌, ⊤, MatchBool}
+use Rattle.std.specs.Prelude.{Some, ◌≡◌, ℕ, ◌+◌, ◌-◌, ◌^◌, Bool, List, ◌++◌, min, length, take, drop, if◌then◌else◌}
+use Rattle.std.specs.Prelude.{◌==◌, ⊤, MatchBool}
 use Rattle.std.specs.List.{list_any}
 use Rattle.js_lex_tool.specs.declared.outside.InAnswer.{InAnswer}
 use Rattle.js_lex_tool.specs.declared.outside.InAnswer.TheVariants.{Took, End, Failed}

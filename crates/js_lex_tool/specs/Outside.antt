@@ -14,7 +14,8 @@ pub record InputState : Type 0 where
   pub left : Option (List ℕ)
   pub faults : ℕ
 
--- What an output tells: the bytes that were written and those of them that were flushed, where it tells them, and how many
+-- What an output tells: the bytes that were written and those of them that were flushed, where it tells them, and how
+-- many
 -- of its calls have failed.
 pub record OutputState : Type 0 where
   pub written : Option (List ℕ)

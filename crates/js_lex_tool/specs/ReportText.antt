@@ -31,12 +31,14 @@ span_text start end = decimal start ++ codes ".." ++ decimal end
 
 -- a token: its kind, its span and its flags
 unfoldable pub token_text : TokenParts → List ℕ
-token_text t = kind_name t.kind ++ codes " " ++ decimal t.start ++ codes ".." ++ decimal t.end ++ codes " " ++ flags_text t.is_on_new_line t.escaped t.has_separator
+token_text t =
+    kind_name t.kind ++ codes " " ++ decimal t.start ++ codes ".." ++ decimal t.end ++ codes " "
+    ++ flags_text t.is_on_new_line t.escaped t.has_separator
 
--- the word for a row's command, which the first step has not
-abbrev pub step_word : Option Command → List ℕ
-step_word None = codes "first"
-step_word (Some c) = command_word c
+-- the name of a row's step: the word for its command, which the first step has not
+abbrev pub step_name : Option Command → List ℕ
+step_name None = codes "first"
+step_name (Some c) = command_word c
 
 -- 1 where it holds, else 0
 abbrev pub bit_text : Bool → List ℕ
@@ -45,7 +47,9 @@ bit_text false = codes "0"
 
 -- what stands before the token of a row
 unfoldable pub row_head : ℕ → Row → List ℕ
-row_head i row = codes "row " ++ decimal i ++ codes " " ++ step_word row.command ++ codes " " ++ decimal row.place ++ codes " " ++ bit_text row.taken ++ codes " "
+row_head i row =
+    codes "row " ++ decimal i ++ codes " " ++ step_name row.command ++ codes " " ++ decimal row.place ++ codes " "
+    ++ bit_text row.taken ++ codes " "
 
 -- the value of a row behind an equals sign, or nothing
 abbrev pub value_text : List ℕ → RowValue → List ℕ
@@ -61,9 +65,9 @@ abbrev pub row_lines : List ℕ → ℕ → List Row → List ℕ
 row_lines source i [] = []
 row_lines source i (row ∷ rows) = row_line source i row ++ row_lines source (i + 1) rows
 
--- a token behind a word
+-- a token behind a label
 abbrev pub token_line : List ℕ → TokenParts → List ℕ
-token_line word t = word ++ codes " " ++ token_text t ++ 10 ∷ []
+token_line label t = label ++ codes " " ++ token_text t ++ 10 ∷ []
 
 -- the span of a diagnostic, or a dash
 abbrev pub span_or_dash : Option Span → List ℕ
@@ -77,14 +81,18 @@ named_character (Some c) = number_text c
 
 -- a diagnostic: its name, its span and its character
 unfoldable pub diagnostic_text : Diagnostic → List ℕ
-diagnostic_text d = diagnostic_name d ++ codes " " ++ span_or_dash (diagnostic_span d) ++ named_character (diagnostic_character d)
+diagnostic_text d =
+    diagnostic_name d ++ codes " " ++ span_or_dash (diagnostic_span d) ++ named_character (diagnostic_character d)
 
--- a diagnostic behind a word
+-- a diagnostic behind a label
 abbrev pub diagnostic_line : List ℕ → Diagnostic → List ℕ
-diagnostic_line word d = word ++ codes " " ++ diagnostic_text d ++ 10 ∷ []
+diagnostic_line label d = label ++ codes " " ++ diagnostic_text d ++ 10 ∷ []
 
 -- The text of a report: its rows, then what is live. No session reports comments or irregular white space yet.
 abbrev pub report_text_of : List ℕ → Report → List ℕ
 report_text_of source report =
-    row_lines source 0 report.rows ++ flat_map (token_line (codes "token")) report.tokens ++ flat_map (token_line (codes "collected")) report.collected
-    ++ flat_map (diagnostic_line (codes "diagnostic")) report.diagnostics ++ flat_map (diagnostic_line (codes "deferred")) report.deferred
+    row_lines source 0 report.rows
+    ++ flat_map (token_line (codes "token")) report.tokens
+    ++ flat_map (token_line (codes "collected")) report.collected
+    ++ flat_map (diagnostic_line (codes "diagnostic")) report.diagnostics
+    ++ flat_map (diagnostic_line (codes "deferred")) report.deferred

@@ -1,16 +1,20 @@
 -- What a run reads, answers and writes.
-use Rattle.std.specs.Prelude.{◌≡◌, ◌≢◌, ℕ, ◌+◌, ◌≤◌, ◌⊎◌, ◌↔◌, List, [], ◌∷◌, length, Option, Some, None, IfSome, IsSome}
+use Rattle.std.specs.Prelude.{◌≡◌, ◌≢◌, ℕ, ◌+◌, ◌≤◌, ◌⊎◌, ◌↔◌, List, [], ◌∷◌, length, Option, Some, None, IfSome}
+use Rattle.std.specs.Prelude.{IsSome}
 use Rattle.std.specs.Io.KnownBytes.{Consumes, Keeps, IsAtEnd}
 use Rattle.std.specs.Str.{IsUtf8}
 use Rattle.js_session.specs.Faults.{IsBuilt, HasMarks}
 use Rattle.js_session.specs.Report.{ReportOf}
 use Rattle.js_session.specs.declared.fault.LexFault.{LexFault}
-use Rattle.js_session.specs.declared.fault.LexFault.TheVariants.{Overlong, NotUtf8 as NotUtf8Fault, NotBuilt as NotBuiltFault, NoMark as NoMarkFault, Memory}
+use Rattle.js_session.specs.declared.fault.LexFault.TheVariants.{Overlong, NotUtf8 as NotUtf8Fault}
+use Rattle.js_session.specs.declared.fault.LexFault.TheVariants.{NotBuilt as NotBuiltFault, NoMark as NoMarkFault}
+use Rattle.js_session.specs.declared.fault.LexFault.TheVariants.{Memory}
 use Rattle.js_session.specs.declared.report.Report.{Report}
 use Rattle.js_lex_tool.specs.Outside.{InputState, OutputState, Rises, WritesAll, WritesPrefix}
 use Rattle.js_lex_tool.specs.ReportText.{report_text_of}
 use Rattle.js_lex_tool.specs.Status.{Status, number, order, later_than, IsOneOf, HasPassed, Tests}
-use Rattle.js_lex_tool.specs.Status.Status.{Done, OutOfMemory, Usage, ReadFailed, WriteFailed, TooLong, NotUtf8, NoMark, NotBuilt}
+use Rattle.js_lex_tool.specs.Status.Status.{Done, OutOfMemory, Usage, ReadFailed, WriteFailed, TooLong, NotUtf8, NoMark}
+use Rattle.js_lex_tool.specs.Status.Status.{NotBuilt}
 use Rattle.js_lex_tool.specs.declared.tool.Ran.{Ran}
 use Rattle.js_lex_tool.specs.declared.tool.ToolOutcome.{ToolOutcome}
 use Rattle.js_lex_tool.specs.declared.words.CommandLine.{CommandLine}
@@ -32,7 +36,8 @@ pub record Counts (status : Status) (n before now : ℕ) : Type 0 where
   pub rises : n ≡ number status → Rises before now
   pub stays : n ≢ number status → now ≡ before
 
--- What a run over the bytes was: its source is exactly these bytes, its source type, tokens and commands are those of the
+-- What a run over the bytes was: its source is exactly these bytes, its source type, tokens and commands are those of
+-- the
 -- command line, and its report is that of a session over them.
 pub record IsRunOver (line : CommandLine) (bytes : List ℕ) (ran : Ran) : Type 0 where
   pub source : ran.source ≡ bytes
@@ -79,7 +84,8 @@ pub record GivesUp (old new : OutputState) (outcome : ToolOutcome) : Type 0 wher
   pub quiet : new ≡ old
 
 -- What a run of a command line comes to, by what its input and its output tell before and after it.
-pub record RunsLine (line : CommandLine) (input input_new : InputState) (output output_new : OutputState) (outcome : ToolOutcome) : Type 0 where
+pub record RunsLine (line : CommandLine) (input input_new : InputState) (output output_new : OutputState)
+    (outcome : ToolOutcome) : Type 0 where
   -- the bytes that it read: one too many exactly where the input is too long
   pub bytes : List ℕ
   pub read : Consumes input.left input_new.left bytes
@@ -89,7 +95,8 @@ pub record RunsLine (line : CommandLine) (input input_new : InputState) (output 
   -- it gave up while it read, or has read all bytes and answers
   pub ends : GivesUp output output_new outcome ⊎ (IsAtEnd input_new.left × Answers line bytes output output_new outcome)
 
--- A run that can only be done, or out of memory, if neither the input nor the output fails: the words are a command line,
+-- A run that can only be done, or out of memory, if neither the input nor the output fails: the words are a command
+-- line,
 -- the commands close no mark too many, and the bytes of the input are few enough, UTF-8 and built.
 pub record CanRun (words : Option CommandLine) (left : Option (List ℕ)) : Type 0 where
   pub line : CommandLine
@@ -103,11 +110,13 @@ pub record CanRun (words : Option CommandLine) (left : Option (List ℕ)) : Type
 
 -- What a run of the program comes to, by the command line that its words are, and by what its input and its output tell
 -- before and after it.
-pub record RunsTool (words : Option CommandLine) (input input_new : InputState) (output output_new : OutputState) (outcome : ToolOutcome) : Type 0 where
+pub record RunsTool (words : Option CommandLine) (input input_new : InputState) (output output_new : OutputState)
+    (outcome : ToolOutcome) : Type 0 where
   pub known : IsOneOf (OutOfMemory ∷ order) outcome.status
   -- the words are read first: where they are no command line, nothing else is done
   pub usage : Tests Usage outcome.status (words ≡ None) (IsSome words)
   pub unread : words ≡ None → (outcome.ran ≡ None) × (input_new ≡ input) × (output_new ≡ output)
   pub runs : IfSome words (λ line. RunsLine line input input_new output output_new outcome)
   -- no other status comes of a command line and of bytes that can be run, where neither end fails
-  pub complete : CanRun words input.left → (¬ (Rises input.faults input_new.faults)) → (¬ (Rises output.faults output_new.faults)) → IsOneOf (Done ∷ OutOfMemory ∷ []) outcome.status
+  pub complete : CanRun words input.left → (¬ (Rises input.faults input_new.faults))
+      → (¬ (Rises output.faults output_new.faults)) → IsOneOf (Done ∷ OutOfMemory ∷ []) outcome.status

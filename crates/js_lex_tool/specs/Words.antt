@@ -1,5 +1,7 @@
--- The words of the program, and what they say.
-use Rattle.std.specs.Prelude.{ℕ, String, map, string_bytes, Bool, true, false, List, [], ◌∷◌, ◌++◌, ◌&&◌, ◌==◌, length, replicate, nat_lt, nat_le, if◌then◌else◌, codes, Option, Some, None, option_map, option_and_then, find}
+-- The words of the program, and what they mean.
+use Rattle.std.specs.Prelude.{ℕ, String, map, string_bytes, Bool, true, false, List, [], ◌∷◌, ◌++◌, ◌&&◌, ◌==◌, length}
+use Rattle.std.specs.Prelude.{replicate, nat_lt, nat_le, if◌then◌else◌, codes, Option, Some, None, option_map}
+use Rattle.std.specs.Prelude.{option_and_then, find}
 use Rattle.std.specs.declared.alloc.Global.{Global}
 use Rattle.std.specs.Fmt.{decimal}
 use Rattle.std.specs.List.{list_any, before_first, after_first}
@@ -34,7 +36,9 @@ command_of word = find (λ c. bytes_eq (command_word c) word) all_commands
 
 -- the number from 1 to 1,000,000 that the text is in decimal, with no sign and no leading zero
 abbrev pub count_in : List ℕ → Option ℕ
-count_in text = let n = digits_value 10 text in if bytes_eq text (decimal n) && (nat_lt 0 n && nat_le n most_commands) then Some n else None
+count_in text =
+    let n = digits_value 10 text in
+    if bytes_eq text (decimal n) && (nat_lt 0 n && nat_le n most_commands) then Some n else None
 
 abbrev pub is_star : ℕ → Bool
 is_star c = c == 42
@@ -45,27 +49,31 @@ times_in word = if list_any is_star word then count_in (after_first is_star word
 
 -- the command of a command word, and how often it is meant
 abbrev pub repeated_command : List ℕ → Option (Command × ℕ)
-repeated_command word = option_and_then (λ command. option_map (λ n. (command, n)) (times_in word)) (command_of (before_first is_star word))
+repeated_command word =
+    option_and_then (λ command. option_map (λ n. (command, n)) (times_in word)) (command_of (before_first is_star word))
 
--- the commands that command words say
+-- the commands that command words mean
 abbrev pub commands_in : List (List ℕ) → Option (List Command)
 commands_in [] = Some []
-commands_in (word ∷ words) = option_and_then (λ c. option_map (λ commands. replicate c.1 c.0 ++ commands) (commands_in words)) (repeated_command word)
+commands_in (word ∷ words) =
+    option_and_then (λ c. option_map (λ more. replicate c.1 c.0 ++ more) (commands_in words)) (repeated_command word)
 
 -- the commands, where there are not too many
-abbrev pub few : List Command → Option (List Command)
-few commands = if nat_le (length commands) most_commands then Some commands else None
+abbrev pub allowed_commands : List Command → Option (List Command)
+allowed_commands commands = if nat_le (length commands) most_commands then Some commands else None
 
--- the commands that command words say, where there are not too many
-abbrev pub few_commands_in : List (List ℕ) → Option (List Command)
-few_commands_in words = option_and_then few (commands_in words)
+-- the commands that command words mean, where there are not too many
+abbrev pub allowed_commands_in : List (List ℕ) → Option (List Command)
+allowed_commands_in words = option_and_then allowed_commands (commands_in words)
 
--- the command line that words say: a source type, tokens or none, and commands
+-- the command line that words are: a source type, tokens or none, and commands
 abbrev pub command_line_in : List (List ℕ) → Option CommandLine
 command_line_in [] = None
 command_line_in (first ∷ []) = None
 command_line_in (first ∷ second ∷ words) =
-    option_and_then (λ source_type. option_and_then (λ tokens. option_map (λ commands. record { source_type = source_type; tokens = tokens; commands = commands }) (few_commands_in words)) (entry_for tokens_words second)) (entry_for source_type_words first)
+    option_and_then (λ source_type. option_and_then (λ tokens. option_map (λ commands.
+    record { source_type = source_type; tokens = tokens; commands = commands })
+    (allowed_commands_in words)) (entry_for tokens_words second)) (entry_for source_type_words first)
 
 -- the command line that the words of a run are
 abbrev pub command_line_of : List (String Global) → Option CommandLine

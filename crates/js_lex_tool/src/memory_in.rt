@@ -1,7 +1,8 @@
 //! Inputs over bytes in memory.
 
 ghost use Rattle.std.specs.Prelude.{◌≡◌, ◌≤◌, ◌<◌, length, take, Some, min};
-ghost use Rattle.js_lex_tool.specs.Memory.{no_calls, after_call, read_answer, sure_read, after_read, sure_input, memory_input};
+ghost use Rattle.js_lex_tool.specs.Memory.{no_calls, after_call, read_answer, sure_read, after_read, sure_input};
+ghost use Rattle.js_lex_tool.specs.Memory.{memory_input};
 ghost use Rattle.js_lex_tool.specs.Outside.{TakesAtMost, TakesBytes, CountsRead};
 
 use crate::calls::FailingCalls;

@@ -2,7 +2,8 @@
 
 ghost use Rattle.std.specs.Prelude.{◌≡◌, ◌≤◌, ◌<◌, [], length, Some};
 ghost use Rattle.std.specs.Io.KnownBytes.{Keeps};
-ghost use Rattle.js_lex_tool.specs.Memory.{no_calls, after_call, IsWriteAnswer, IsSureWrite, after_write, flush_answer, after_flush, sure_output, memory_output};
+ghost use Rattle.js_lex_tool.specs.Memory.{no_calls, after_call, IsWriteAnswer, IsSureWrite, after_write, flush_answer};
+ghost use Rattle.js_lex_tool.specs.Memory.{after_flush, sure_output, memory_output};
 ghost use Rattle.js_lex_tool.specs.Outside.{GivesAtMost, GivesBytes, CountsWrite, Flushes, CountsFlush};
 
 use crate::calls::FailingCalls;
@@ -87,7 +88,8 @@ impl ByteOut for SureOut {
     }
 }
 
-/// An output in memory. A write takes at most `piece` bytes; a write or flush fails where its number, from 0, is in a list.
+/// An output in memory. A write takes at most `piece` bytes; a write or flush fails where its number, from 0, is in a
+/// list.
 #[derive(Drop)]
 pub struct MemoryOut<'b> {
     output: SureOut,

@@ -2,7 +2,8 @@
 
 ghost use Rattle.std.specs.Prelude.{ℕ, List, ◌<◌, length};
 ghost use Rattle.std.specs.Io.KnownBytes.{Keeps};
-ghost use Rattle.js_lex_tool.specs.Outside.{InputState, OutputState, TakesAtMost, TakesBytes, CountsRead, GivesAtMost, GivesBytes, CountsWrite, Flushes, CountsFlush};
+ghost use Rattle.js_lex_tool.specs.Outside.{InputState, OutputState, TakesAtMost, TakesBytes, CountsRead, GivesAtMost};
+ghost use Rattle.js_lex_tool.specs.Outside.{GivesBytes, CountsWrite, Flushes, CountsFlush};
 
 /// What a read answers: how many bytes it put at the buffer's front, that none is left, or that it failed.
 #[derive(Clone, Copy, PartialEq, Eq, Debug)]

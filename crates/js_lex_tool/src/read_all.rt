@@ -51,8 +51,10 @@ pub fn read_to_end<I: ByteIn>(
     ensures all { IfOk result (λ source. Consumes (I.state input.old).left (I.state input.new).left source) }
     ensures end { OnOk result (IsAtEnd (I.state input.new).left) }
     ensures short { IfOk result (λ source. length source ≤ most) }
-    ensures failed { IsErrOf result ReadFault.Failed → Takes (I.state input.old) (I.state input.new) (λ bytes. length bytes ≤ most) }
-    ensures too_long { IsErrOf result ReadFault.TooLong → Takes (I.state input.old) (I.state input.new) (λ bytes. length bytes ≡ most + 1) }
+    ensures failed { IsErrOf result ReadFault.Failed
+        → Takes (I.state input.old) (I.state input.new) (λ bytes. length bytes ≤ most) }
+    ensures too_long { IsErrOf result ReadFault.TooLong
+        → Takes (I.state input.old) (I.state input.new) (λ bytes. length bytes ≡ most + 1) }
     ensures bounded { Takes (I.state input.old) (I.state input.new) (λ bytes. length bytes ≤ most + 1) }
     ensures fault { IsErrOf result ReadFault.Failed → Rises (I.state input.old).faults (I.state input.new).faults }
     ensures no_fault { (¬ (IsErrOf result ReadFault.Failed)) → (I.state input.new).faults ≡ (I.state input.old).faults }

@@ -3,7 +3,9 @@
 ghost use Rattle.std.specs.Prelude.{◌≡◌, ◌+◌, ◌++◌, IfOk, OnOk, codes, string_bytes};
 ghost use Rattle.std.specs.List.{AllByRecursion, flat_map};
 ghost use Rattle.js_session.specs.Report.{IsSliceOnPlaces};
-ghost use Rattle.js_lex_tool.specs.ReportText.{flags_text, token_text, step_word, bit_text, row_head, value_text, row_line, row_lines, token_line, span_or_dash, named_character, diagnostic_text, diagnostic_line, report_text_of};
+ghost use Rattle.js_lex_tool.specs.ReportText.{flags_text, token_text, step_name, bit_text, row_head, value_text};
+ghost use Rattle.js_lex_tool.specs.ReportText.{row_line, row_lines, token_line, span_or_dash, named_character};
+ghost use Rattle.js_lex_tool.specs.ReportText.{diagnostic_text, diagnostic_line, report_text_of};
 
 use crate::command::command_word;
 use crate::units::{push_number, push_text_in_units};
@@ -33,8 +35,8 @@ fn flags(token: &Token) -> &'static str
     }
 }
 
-fn step_word(command: Option<Command>) -> &'static str
-    ensures { result.now ≡ step_word command }
+fn step_name(command: Option<Command>) -> &'static str
+    ensures { result.now ≡ step_name command }
 {
     match command {
         None => "first",
@@ -63,10 +65,10 @@ fn push_token(text: &mut String, token: &Token) -> Result<(), AllocError>
 fn push_head(text: &mut String, index: usize, row: &Row) -> Result<(), AllocError>
     ensures { OnOk result (string_bytes text.new ≡ string_bytes text.old ++ row_head index row.now) }
 {
-    let word = step_word(row.command);
+    let step = step_name(row.command);
     let place = row.place;
     let taken = bit(row.taken);
-    write!(text, "row {index} {word} {place} {taken} ")
+    write!(text, "row {index} {step} {place} {taken} ")
 }
 
 fn push_value(text: &mut String, source: &str, value: &RowValue) -> Result<(), AllocError>
@@ -102,20 +104,20 @@ fn push_rows(text: &mut String, source: &str, rows: &[Row]) -> Result<(), AllocE
     Ok(())
 }
 
-fn push_token_line(text: &mut String, word: &str, token: &Token) -> Result<(), AllocError>
-    ensures { OnOk result (string_bytes text.new ≡ string_bytes text.old ++ token_line word.now token.now) }
+fn push_token_line(text: &mut String, label: &str, token: &Token) -> Result<(), AllocError>
+    ensures { OnOk result (string_bytes text.new ≡ string_bytes text.old ++ token_line label.now token.now) }
 {
-    text.push_str(word)?;
+    text.push_str(label)?;
     text.push_str(" ")?;
     push_token(text, token)?;
     text.push_str("\n")
 }
 
-fn push_tokens(text: &mut String, word: &str, tokens: &[Token]) -> Result<(), AllocError>
-    ensures { OnOk result (string_bytes text.new ≡ string_bytes text.old ++ flat_map (token_line word.now) tokens.now) }
+fn push_tokens(text: &mut String, label: &str, tokens: &[Token]) -> Result<(), AllocError>
+    ensures { OnOk result (string_bytes text.new ≡ string_bytes text.old ++ flat_map (token_line label.now) tokens.now) }
 {
     for token in tokens {
-        push_token_line(text, word, token)?;
+        push_token_line(text, label, token)?;
     }
     Ok(())
 }
@@ -154,12 +156,12 @@ fn push_diagnostic(text: &mut String, diagnostic: &Diagnostic) -> Result<(), All
 
 fn push_diagnostic_line(
     text: &mut String,
-    word: &str,
+    label: &str,
     diagnostic: &Diagnostic,
 ) -> Result<(), AllocError>
-    ensures { OnOk result (string_bytes text.new ≡ string_bytes text.old ++ diagnostic_line word.now diagnostic.now) }
+    ensures { OnOk result (string_bytes text.new ≡ string_bytes text.old ++ diagnostic_line label.now diagnostic.now) }
 {
-    text.push_str(word)?;
+    text.push_str(label)?;
     text.push_str(" ")?;
     push_diagnostic(text, diagnostic)?;
     text.push_str("\n")
@@ -167,13 +169,14 @@ fn push_diagnostic_line(
 
 fn push_diagnostics(
     text: &mut String,
-    word: &str,
+    label: &str,
     diagnostics: &[Diagnostic],
 ) -> Result<(), AllocError>
-    ensures { OnOk result (string_bytes text.new ≡ string_bytes text.old ++ flat_map (diagnostic_line word.now) diagnostics.now) }
+    ensures { OnOk result (string_bytes text.new
+        ≡ string_bytes text.old ++ flat_map (diagnostic_line label.now) diagnostics.now) }
 {
     for diagnostic in diagnostics {
-        push_diagnostic_line(text, word, diagnostic)?;
+        push_diagnostic_line(text, label, diagnostic)?;
     }
     Ok(())
 }

@@ -90,8 +90,10 @@ fn text_of(alloc: Global, ran: &Ran) -> Result<String, AllocError>
 fn write_report<O: ByteOut>(alloc: Global, ran: Ran, output: &mut O) -> ToolOutcome
     requires utf8 { IsUtf8 ran.source }
     requires slices { AllByRecursion (λ row. IsSliceOnPlaces ran.source row.value) ran.report.rows }
-    ensures outcome { (result ≡ record { status = number OutOfMemory; ran = None }) ⊎ (HasPassed NoMark result.status × (result.ran ≡ Some ran)) }
-    ensures text { Writes (report_text_of ran.source ran.report) (O.state output.old) (O.state output.new) result.status }
+    ensures outcome { (result ≡ record { status = number OutOfMemory; ran = None })
+        ⊎ (HasPassed NoMark result.status × (result.ran ≡ Some ran)) }
+    ensures text { Writes (report_text_of ran.source ran.report)
+        (O.state output.old) (O.state output.new) result.status }
     ensures faults { Counts WriteFailed result.status (O.state output.old).faults (O.state output.new).faults }
 {
     let text = match text_of(alloc, &ran) {
@@ -159,7 +161,8 @@ pub fn lex_tool_run<I: ByteIn, O: ByteOut>(
     input: &mut I,
     output: &mut O,
 ) -> ToolOutcome
-    ensures run { RunsTool (command_line_of words.now.items) (I.state input.old) (I.state input.new) (O.state output.old) (O.state output.new) result }
+    ensures run { RunsTool (command_line_of words.now.items)
+        (I.state input.old) (I.state input.new) (O.state output.old) (O.state output.new) result }
     // Where the words are no command line, nothing is read and nothing is written.
     ensures unread { command_line_of words.now.items ≡ None → (input.new ≡ input.old) × (output.new ≡ output.old) }
 {
@@ -178,7 +181,8 @@ pub fn lex_tool_run_sure(
     output: &mut SureOut,
 ) -> ToolOutcome
     ensures never { (result.status ≢ number ReadFailed) × (result.status ≢ number WriteFailed) }
-    ensures run { RunsTool (command_line_of words.now.items) (sure_input input.old) (sure_input input.new) (sure_output output.old) (sure_output output.new) result }
+    ensures run { RunsTool (command_line_of words.now.items)
+        (sure_input input.old) (sure_input input.new) (sure_output output.old) (sure_output output.new) result }
 {
     lex_tool_run(alloc, words, input, output)
 }

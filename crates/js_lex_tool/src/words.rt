@@ -1,7 +1,8 @@
 //! The words of the program.
 
 ghost use Rattle.std.specs.Prelude.{◌≡◌, ◌++◌, IfOk, OnOk, map, replicate, string_bytes};
-ghost use Rattle.js_lex_tool.specs.Words.{entry_for, source_type_words, tokens_words, command_of, count_in, repeated_command, few_commands_in, command_line_of};
+ghost use Rattle.js_lex_tool.specs.Words.{entry_for, source_type_words, tokens_words, command_of, count_in};
+ghost use Rattle.js_lex_tool.specs.Words.{repeated_command, allowed_commands_in, command_line_of};
 
 use crate::command::{COMMANDS, command_word};
 use js_session::{Command, CommandList};
@@ -90,7 +91,7 @@ fn push_repeated(
 }
 
 fn read_commands(alloc: Global, words: &[String]) -> Result<Option<CommandList>, AllocError>
-    ensures { IfOk result (λ commands. commands ≡ few_commands_in (map string_bytes words.now)) }
+    ensures { IfOk result (λ commands. commands ≡ allowed_commands_in (map string_bytes words.now)) }
 {
     let mut commands = CommandList::new_in(alloc);
     for word in words {

@@ -17,7 +17,8 @@ pub fn write_all<O: ByteOut>(output: &mut O, text: &[u8]) -> Result<(), WriteFau
     ensures all { OnOk result (WritesAll (O.state output.old) (O.state output.new) text.now) }
     ensures prefix { OnErr result (WritesPrefix (O.state output.old) (O.state output.new) text.now) }
     ensures fault { IsErrOf result WriteFault.Failed → Rises (O.state output.old).faults (O.state output.new).faults }
-    ensures no_fault { (¬ (IsErrOf result WriteFault.Failed)) → (O.state output.new).faults ≡ (O.state output.old).faults }
+    ensures no_fault { (¬ (IsErrOf result WriteFault.Failed))
+        → (O.state output.new).faults ≡ (O.state output.old).faults }
 {
     let mut at = 0;
     while at < text.len() {

@@ -196,7 +196,8 @@ fn refusals(rt: HostRuntime) -> Result<(), Fail> {
     Ok(())
 }
 
-/// What a run came to whose calls may fail: its status, how many bytes it wrote and how many it flushed, and how many calls
+/// What a run came to whose calls may fail: its status, how many bytes it wrote and how many it flushed, and how many
+/// calls
 /// have failed.
 #[derive(Clone, Copy, PartialEq, Eq, Debug)]
 struct Ends {

@@ -4,7 +4,9 @@ use Rattle.js_lex_tool.proofs.read_all.read_to_end.Given as goal
 
 -- What was read so far was taken from the input, and no read has failed.
 abbrev pub invariant-loop-buf : goal.invariant-loop-buf
-invariant-loop-buf g l = Consumes (g.I.ByteIn.state l.initial.input).left (g.I.ByteIn.state l.input).left l.source × (length l.source ≤ l.most + 1) × ((g.I.ByteIn.state l.input).faults ≡ (g.I.ByteIn.state l.initial.input).faults)
+invariant-loop-buf g l =
+    Consumes (g.I.ByteIn.state l.initial.input).left (g.I.ByteIn.state l.input).left l.source
+    × (length l.source ≤ l.most + 1) × ((g.I.ByteIn.state l.input).faults ≡ (g.I.ByteIn.state l.initial.input).faults)
 
 abbrev pub decreases-loop-buf : goal.decreases-loop-buf
 decreases-loop-buf g l = l.most + 1 - length l.source

@@ -5,4 +5,6 @@ use Rattle.js_lex_tool.proofs.report.push_diagnostics.Given as goal
 
 -- The lines of the diagnostics so far were appended.
 abbrev pub invariant-loop-diagnostic : goal.invariant-loop-diagnostic
-invariant-loop-diagnostic l = string_bytes l.text ≡ string_bytes l.initial.text ++ flat_map (diagnostic_line l.word) (take l.diagnostic-index l.diagnostics)
+invariant-loop-diagnostic l =
+    string_bytes l.text
+    ≡ string_bytes l.initial.text ++ flat_map (diagnostic_line l.label) (take l.diagnostic-index l.diagnostics)

@@ -5,4 +5,5 @@ use Rattle.js_lex_tool.proofs.report.push_tokens.Given as goal
 
 -- The lines of the tokens so far were appended.
 abbrev pub invariant-loop-token : goal.invariant-loop-token
-invariant-loop-token l = string_bytes l.text ≡ string_bytes l.initial.text ++ flat_map (token_line l.word) (take l.token-index l.tokens)
+invariant-loop-token l =
+    string_bytes l.text ≡ string_bytes l.initial.text ++ flat_map (token_line l.label) (take l.token-index l.tokens)

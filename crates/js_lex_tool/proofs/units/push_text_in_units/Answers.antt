@@ -7,5 +7,7 @@ use Rattle.js_lex_tool.proofs.units.push_text_in_units.Goals as goal
 
 pub returns : goal.returns
 returns c =
-    let done = YieldsList-end (YieldsList-from_chars c.args.value.now c.utf8.value cc) c.loop-c.yielded _ c.loop-c.yielded_by _ _ c.in-None.is c.next.ensures.steps in
-    c.loop-c.invariant ∙ ap (λ cs. string_bytes c.args.text.now ++ flat_map units_text cs) (sym (map-id c.loop-c.yielded) ∙ done.0)
+    let characters = YieldsList-from_chars c.args.value.now c.utf8.value cc in
+    let done = YieldsList-end characters c.loop-c.yielded _ c.loop-c.yielded_by _ _ c.in-None.is c.next.ensures.steps in
+    c.loop-c.invariant
+    ∙ ap (λ cs. string_bytes c.args.text.now ++ flat_map units_text cs) (sym (map-id c.loop-c.yielded) ∙ done.0)

@@ -5,4 +5,5 @@ use Rattle.js_lex_tool.proofs.units.push_units.Given as goal
 
 -- The units so far were appended.
 abbrev pub invariant-loop-unit : goal.invariant-loop-unit
-invariant-loop-unit l = string_bytes l.text ≡ string_bytes l.initial.text ++ flat_map unit_text (take l.unit-index l.units)
+invariant-loop-unit l =
+    string_bytes l.text ≡ string_bytes l.initial.text ++ flat_map unit_text (take l.unit-index l.units)

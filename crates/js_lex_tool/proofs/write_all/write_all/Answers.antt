@@ -4,4 +4,7 @@ use Rattle.std.proofs.lemmas.Grind.{common_steps}
 use Rattle.js_lex_tool.proofs.write_all.write_all.Goals as goal
 
 pub loop-at-preserved : goal.loop-at-preserved
-loop-at-preserved g c = (appends_more _ _ _ c.args.text.now _ _ _ (grind (arith, common_steps)) c.loop-at.invariant.0 c.in-Took.ensures.bytes, search rules, search rules)
+loop-at-preserved g c =
+    let before = c.loop-at.invariant.0 in
+    let piece = c.in-Took.ensures.bytes in
+    (appends_more _ _ _ c.args.text.now _ _ _ (grind (arith, common_steps)) before piece, search rules, search rules)

@@ -4,7 +4,9 @@ use Rattle.js_lex_tool.proofs.write_all.write_all.Given as goal
 
 -- The text up to here was written, and no write has failed.
 abbrev pub invariant-loop-at : goal.invariant-loop-at
-invariant-loop-at g l = Appends (g.O.ByteOut.state l.initial.output).written (g.O.ByteOut.state l.output).written (take l.at l.text) × (l.at ≤ length l.text) × ((g.O.ByteOut.state l.output).faults ≡ (g.O.ByteOut.state l.initial.output).faults)
+invariant-loop-at g l =
+    Appends (g.O.ByteOut.state l.initial.output).written (g.O.ByteOut.state l.output).written (take l.at l.text)
+    × (l.at ≤ length l.text) × ((g.O.ByteOut.state l.output).faults ≡ (g.O.ByteOut.state l.initial.output).faults)
 
 abbrev pub decreases-loop-at : goal.decreases-loop-at
 decreases-loop-at g l = length l.text - l.at
