@@ -66,14 +66,20 @@ allowed_commands commands = if nat_le (length commands) most_commands then Some 
 abbrev pub allowed_commands_in : List (List ℕ) → Option (List Command)
 allowed_commands_in words = option_and_then allowed_commands (commands_in words)
 
+-- the command line of these parts, where each is there
+abbrev pub command_line : Option SourceType → Option Bool → Option (List Command) → Option CommandLine
+command_line None tokens commands = None
+command_line (Some source_type) None commands = None
+command_line (Some source_type) (Some tokens) None = None
+command_line (Some source_type) (Some tokens) (Some commands) =
+    Some (record { source_type = source_type; tokens = tokens; commands = commands })
+
 -- the command line that words are: a source type, tokens or none, and commands
 abbrev pub command_line_in : List (List ℕ) → Option CommandLine
 command_line_in [] = None
 command_line_in (first ∷ []) = None
 command_line_in (first ∷ second ∷ words) =
-    option_and_then (λ source_type. option_and_then (λ tokens. option_map (λ commands.
-    record { source_type = source_type; tokens = tokens; commands = commands })
-    (allowed_commands_in words)) (entry_for tokens_words second)) (entry_for source_type_words first)
+    command_line (entry_for source_type_words first) (entry_for tokens_words second) (allowed_commands_in words)
 
 -- the command line that the words of a run are
 abbrev pub command_line_of : List (String Global) → Option CommandLine
