@@ -32,7 +32,7 @@ next_fails c = list_any (λ n. n == c.next) c.failing
 abbrev pub after_call : Calls → Calls
 after_call c = record c { next = one_more c.next; faults = if next_fails c then one_more c.faults else c.faults }
 
--- An input in memory that never fails: the bytes left, and how many a read gives at most.
+-- An input in memory that never fails: the bytes left, and the most that a read gives.
 pub record SureSource : Type 0 where
   pub left : List ℕ
   pub piece : ℕ
@@ -64,8 +64,8 @@ after_read s (Took n) = record s { left = drop n s.left }
 after_read s End = s
 after_read s Failed = s
 
--- An output in memory that never fails: the bytes written, how many of them were flushed, and how many a write takes at
--- most.
+-- An output in memory that never fails: the bytes written, how many of them were flushed, and the most that a write
+-- takes.
 pub record SureSink : Type 0 where
   pub written : List ℕ
   pub flushed : ℕ

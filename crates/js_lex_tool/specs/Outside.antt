@@ -9,14 +9,13 @@ use Rattle.js_lex_tool.specs.declared.outside.OutAnswer.TheVariants.{Took as Too
 use Rattle.js_lex_tool.specs.declared.outside.FlushAnswer.{FlushAnswer}
 use Rattle.js_lex_tool.specs.declared.outside.FlushAnswer.TheVariants.{Done, Failed as FailedFlush}
 
--- What an input tells: the bytes that are left, where it tells them, and how many of its calls have failed.
+-- What an input tells: the bytes that are left, where it tells them; and how many of its calls have failed.
 pub record InputState : Type 0 where
   pub left : Option (List ℕ)
   pub faults : ℕ
 
--- What an output tells: the bytes that were written and those of them that were flushed, where it tells them, and how
--- many
--- of its calls have failed.
+-- What an output tells: the bytes that were written, and those of them that were flushed, where it tells them; and how
+-- many of its calls have failed.
 pub record OutputState : Type 0 where
   pub written : Option (List ℕ)
   pub flushed : Option (List ℕ)

@@ -37,8 +37,7 @@ pub record Counts (status : Status) (n before now : ℕ) : Type 0 where
   pub stays : n ≢ number status → now ≡ before
 
 -- What a run over the bytes was: its source is exactly these bytes, its source type, tokens and commands are those of
--- the
--- command line, and its report is that of a session over them.
+-- the command line, and its report is that of a session over them.
 pub record IsRunOver (line : CommandLine) (bytes : List ℕ) (ran : Ran) : Type 0 where
   pub source : ran.source ≡ bytes
   pub source_type : ran.source_type ≡ line.source_type
@@ -73,7 +72,7 @@ pub record Answers (line : CommandLine) (bytes : List ℕ) (old new : OutputStat
   pub ran : IfSome outcome.ran (IsRunOver line bytes)
   pub text : IfSome outcome.ran (λ ran. Writes (report_text_of bytes ran.report) old new outcome.status)
   pub faults : Counts WriteFailed outcome.status old.faults new.faults
-  -- else nothing was written, but for lack of memory, which may be found while the text is written
+  -- else nothing was written; a run that is out of memory may have begun to write
   pub quiet : (¬ (HasPassed NoMark outcome.status)) → outcome.status ≢ number OutOfMemory → new ≡ old
   pub memory : outcome.status ≡ number OutOfMemory → MayWrite line bytes old new
 
@@ -96,8 +95,7 @@ pub record RunsLine (line : CommandLine) (input input_new : InputState) (output 
   pub ends : GivesUp output output_new outcome ⊎ (IsAtEnd input_new.left × Answers line bytes output output_new outcome)
 
 -- A run that can only be done, or out of memory, if neither the input nor the output fails: the words are a command
--- line,
--- the commands close no mark too many, and the bytes of the input are few enough, UTF-8 and built.
+-- line, the commands close no mark too many, and the bytes of the input are few enough, UTF-8 and built.
 pub record CanRun (words : Option CommandLine) (left : Option (List ℕ)) : Type 0 where
   pub line : CommandLine
   pub words_are : words ≡ Some line

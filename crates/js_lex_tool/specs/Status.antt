@@ -67,8 +67,7 @@ IsOneOf (status ∷ statuses) n = (n ≡ number status) ⊎ IsOneOf statuses n
 abbrev pub HasPassed : Status → ℕ → Type 0
 HasPassed status n = IsOneOf (later_than status) n
 
--- A test that a run makes: what is known where its status comes, and what is known where one comes that is tested
--- later.
+-- A test that a run makes: what is known where its status comes, and what is known where a later one comes.
 pub record Tests (status : Status) (n : ℕ) (Fails Passes : Type 0) : Type 0 where
   pub fails : n ≡ number status → Fails
   pub passes : HasPassed status n → Passes

@@ -88,7 +88,7 @@ impl ByteOut for SureOut {
     }
 }
 
-/// An output in memory. A write takes at most `piece` bytes; a write or flush fails where its number, from 0, is in a
+/// An output in memory. A write takes at most `piece` bytes. A write or flush fails where its number, from 0, is in a
 /// list.
 #[derive(Drop)]
 pub struct MemoryOut<'b> {

@@ -38,8 +38,7 @@ impl<R: Read + Drop> ByteIn for StdIn<R> {
 }
 
 /// A writer as an output. It counts the writes and flushes that fail, up to the end of a `u64`; a write that takes no
-/// byte
-/// fails. What was flushed it cannot tell, since a `Write` does not tell it.
+/// byte fails. What was flushed it does not tell, since a `Write` does not.
 #[derive(Drop)]
 pub struct StdOut<W: Write + Drop> {
     writer: W,

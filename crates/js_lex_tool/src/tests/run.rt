@@ -196,9 +196,8 @@ fn refusals(rt: HostRuntime) -> Result<(), Fail> {
     Ok(())
 }
 
-/// What a run came to whose calls may fail: its status, how many bytes it wrote and how many it flushed, and how many
-/// calls
-/// have failed.
+/// What a run came to whose calls may fail: its status, how many bytes were written and how many of them flushed, and
+/// how many calls failed.
 #[derive(Clone, Copy, PartialEq, Eq, Debug)]
 struct Ends {
     status: u8,
@@ -221,19 +220,29 @@ fn run_failing(alloc: Global, reads: &[u64], writes: &[u64]) -> Result<Ends, All
     })
 }
 
+/// What a run comes to none of whose calls fails.
+fn whole() -> Ends {
+    Ends {
+        status: DONE,
+        written: CALL.len(),
+        flushed: CALL.len(),
+        faults: (0, 0),
+    }
+}
+
 // Four reads give seven bytes in pieces of two, the fifth finds the end, and no read is made after it.
 #[test]
 fn reads_that_fail(rt: HostRuntime) -> Result<(), Fail> {
+    let failed = Ends {
+        status: READ_FAILED,
+        written: 0,
+        flushed: 0,
+        faults: (1, 0),
+    };
     for call in 0..6 {
         let ends = run_failing(rt.alloc(), &[call], &[])?;
-        let (status, faults) = if call < 5 {
-            (READ_FAILED, 1)
-        } else {
-            (DONE, 0)
-        };
-        assert_eq!(rt; ends.status, status, "at call {call}");
-        assert_eq!(rt; ends.faults, (faults, 0), "at call {call}");
-        assert!(rt; call == 5 || ends.written == 0, "at call {call}");
+        let wanted = if call < 5 { failed } else { whole() };
+        assert_eq!(rt; ends, wanted, "at call {call}");
     }
     Ok(())
 }
@@ -241,17 +250,17 @@ fn reads_that_fail(rt: HostRuntime) -> Result<(), Fail> {
 // The text is written in pieces of ten, and then flushed; nothing is called after that.
 #[test]
 fn writes_that_fail(rt: HostRuntime) -> Result<(), Fail> {
-    let writes = CALL.len().div_ceil(10);
+    let writes = CALL.len().div_ceil(10) as u64;
     for call in 0..writes + 2 {
-        let ends = run_failing(rt.alloc(), &[], &[call as u64])?;
-        let (status, faults) = if call <= writes {
-            (WRITE_FAILED, 1)
-        } else {
-            (DONE, 0)
+        let ends = run_failing(rt.alloc(), &[], &[call])?;
+        let failed = Ends {
+            status: WRITE_FAILED,
+            written: CALL.len().min(10 * call as usize),
+            flushed: 0,
+            faults: (0, 1),
         };
-        assert_eq!(rt; ends.status, status, "at call {call}");
-        assert_eq!(rt; ends.faults, (0, faults), "at call {call}");
-        assert_eq!(rt; ends.written, CALL.len().min(10 * call), "at call {call}");
+        let wanted = if call <= writes { failed } else { whole() };
+        assert_eq!(rt; ends, wanted, "at call {call}");
     }
     Ok(())
 }
