@@ -1,5 +1,5 @@
 -- What a run answers once its input was read.
-use Rattle.std.proofs.Common.{◌≡◌, ℕ, ◌≤◌, ◌⊎◌, List, [], ◌∷◌, length, arith, refl, inl, inr, Option, None, Some}
+use Rattle.std.proofs.Common.{◌≡◌, ℕ, ◌≤◌, ◌⊎◌, List, [], ◌∷◌, length, arith, refl, inl, inr, None, Some}
 use Rattle.std.proofs.KnownBytes.{Keeps-refl}
 use Rattle.std.specs.Str.{IsUtf8}
 use Rattle.js_session.specs.Faults.{IsBuilt, IsReadable, HasMarks, Cause, FirstUnbuilt, FirstWithoutMark}
@@ -9,7 +9,7 @@ use Rattle.js_session.specs.declared.fault.LexFault.TheVariants.{NotBuilt as Not
 use Rattle.js_session.specs.declared.fault.LexFault.TheVariants.{Memory}
 use Rattle.js_lex_tool.specs.Outside.{OutputState}
 use Rattle.js_lex_tool.specs.ReportText.{report_text_of}
-use Rattle.js_lex_tool.specs.Run.{most_bytes, status_of, Counts, Answers, HasReport, IsRunOver, Writes}
+use Rattle.js_lex_tool.specs.Run.{most_bytes, status_of, CountsFault, Answers, HasReport, IsRunOver, Writes}
 use Rattle.js_lex_tool.specs.Status.{number, IsOneOf, HasPassed, Tests}
 use Rattle.js_lex_tool.specs.Status.Status.{OutOfMemory, WriteFailed, NotUtf8, NotBuilt, NoMark}
 use Rattle.js_lex_tool.specs.declared.tool.Ran.{Ran}
@@ -90,7 +90,7 @@ pub answers_at_report : (line : CommandLine) (bytes : List ℕ) (ran : Ran) (old
     (outcome : ToolOutcome) → IsReadable bytes → HasMarks line.commands → IsRunOver line bytes ran
     → (outcome ≡ without_run 1) ⊎ (HasPassed NoMark outcome.status × (outcome.ran ≡ Some ran))
     → Writes (report_text_of bytes ran.report) old new outcome.status
-    → Counts WriteFailed outcome.status old.faults new.faults → Answers line bytes old new outcome
+    → CountsFault WriteFailed outcome.status old.faults new.faults → Answers line bytes old new outcome
 answers_at_report line bytes ran old new outcome readable marks over (inl e) writes faults = record {
   known = rw e (inl refl);
   utf8 = rw e (record { fails = λ h. absurd (omega (arith, h)); passes = λ h. absurd (omega (arith, h)) });

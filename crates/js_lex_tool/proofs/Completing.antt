@@ -1,12 +1,12 @@
 -- What a run comes to whose words are a command line, and one that has none.
-use Rattle.std.proofs.Common.{◌≡◌, ◌≢◌, ℕ, ◌+◌, ◌≤◌, ◌⊎◌, ◌↔◌, List, [], ◌∷◌, length, arith, refl, sym, inl, inr}
+use Rattle.std.proofs.Common.{◌≡◌, ◌≢◌, ℕ, ◌≤◌, ◌⊎◌, List, [], ◌∷◌, length, arith, refl, sym, inl, inr}
 use Rattle.std.proofs.Common.{Option, None, Some, append-nil, length-append}
 use Rattle.std.specs.Io.KnownBytes.{Consumes, IsAtEnd}
 use Rattle.std.proofs.KnownBytes.{Consumes-nil}
 use Rattle.js_session.specs.Faults.{HasMarks}
 use Rattle.js_lex_tool.specs.Outside.{InputState, OutputState, Rises}
 use Rattle.js_lex_tool.specs.Run.{CanRun, RunsLine, RunsTool}
-use Rattle.js_lex_tool.specs.Status.{number, later_than, order, IsOneOf}
+use Rattle.js_lex_tool.specs.Status.{number, later_than, IsOneOf}
 use Rattle.js_lex_tool.specs.Status.Status.{Done, OutOfMemory, Usage, ReadFailed, TooLong}
 use Rattle.js_lex_tool.specs.declared.tool.ToolOutcome.{ToolOutcome}
 use Rattle.js_lex_tool.specs.declared.words.CommandLine.{CommandLine}

@@ -32,7 +32,7 @@ status_of (NoMarkFault index) = NoMark
 status_of Memory = OutOfMemory
 
 -- a count of faults rises exactly in a run with this status
-pub record Counts (status : Status) (n before now : ℕ) : Type 0 where
+pub record CountsFault (status : Status) (n before now : ℕ) : Type 0 where
   pub rises : n ≡ number status → Rises before now
   pub stays : n ≢ number status → now ≡ before
 
@@ -71,7 +71,7 @@ pub record Answers (line : CommandLine) (bytes : List ℕ) (old new : OutputStat
   pub has_run : IsSome outcome.ran ↔ HasPassed NoMark outcome.status
   pub ran : IfSome outcome.ran (IsRunOver line bytes)
   pub text : IfSome outcome.ran (λ ran. Writes (report_text_of bytes ran.report) old new outcome.status)
-  pub faults : Counts WriteFailed outcome.status old.faults new.faults
+  pub faults : CountsFault WriteFailed outcome.status old.faults new.faults
   -- else nothing was written; a run that is out of memory may have begun to write
   pub quiet : (¬ (HasPassed NoMark outcome.status)) → outcome.status ≢ number OutOfMemory → new ≡ old
   pub memory : outcome.status ≡ number OutOfMemory → MayWrite line bytes old new
@@ -90,7 +90,7 @@ pub record RunsLine (line : CommandLine) (input input_new : InputState) (output 
   pub read : Consumes input.left input_new.left bytes
   pub bounded : length bytes ≤ most_bytes + 1
   pub long : outcome.status ≢ number OutOfMemory → (outcome.status ≡ number TooLong) ↔ (length bytes ≡ most_bytes + 1)
-  pub faults : Counts ReadFailed outcome.status input.faults input_new.faults
+  pub faults : CountsFault ReadFailed outcome.status input.faults input_new.faults
   -- it gave up while it read, or has read all bytes and answers
   pub ends : GivesUp output output_new outcome ⊎ (IsAtEnd input_new.left × Answers line bytes output output_new outcome)
 

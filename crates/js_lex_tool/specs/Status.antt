@@ -1,5 +1,5 @@
 -- The statuses of the program: their numbers, their lines, and the order in which a run tests for them.
-use Rattle.std.specs.Prelude.{◌≡◌, ◌≢◌, ℕ, ◌==◌, ◌⊎◌, List, [], ◌∷◌, codes, Option, option_map, find}
+use Rattle.std.specs.Prelude.{◌≡◌, ℕ, ◌==◌, ◌⊎◌, List, [], ◌∷◌, codes, Option, option_map, find}
 use Rattle.std.specs.List.{after_first}
 
 -- what the program can come to

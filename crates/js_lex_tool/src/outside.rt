@@ -1,6 +1,6 @@
 //! Where bytes come from and where they go.
 
-ghost use Rattle.std.specs.Prelude.{ℕ, List, ◌<◌, length};
+ghost use Rattle.std.specs.Prelude.{◌<◌, length};
 ghost use Rattle.std.specs.Io.KnownBytes.{Keeps};
 ghost use Rattle.js_lex_tool.specs.Outside.{InputState, OutputState, TakesAtMost, TakesBytes, CountsRead, GivesAtMost};
 ghost use Rattle.js_lex_tool.specs.Outside.{GivesBytes, CountsWrite, Flushes, CountsFlush};

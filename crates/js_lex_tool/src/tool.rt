@@ -1,14 +1,14 @@
 //! A run of the program: from words and bytes to a status and a text.
 
-ghost use Rattle.std.specs.Prelude.{◌≡◌, ◌≢◌, ◌≤◌, ◌⊎◌, length, string_bytes, IfOk};
+ghost use Rattle.std.specs.Prelude.{◌≡◌, ◌≢◌, ◌≤◌, ◌⊎◌, [], ◌∷◌, length, string_bytes, IfOk, Some};
 ghost use Rattle.std.specs.List.{AllByRecursion};
 ghost use Rattle.std.specs.Str.{IsUtf8};
 ghost use Rattle.js_session.specs.Report.{IsSliceOnPlaces};
 ghost use Rattle.js_lex_tool.specs.Memory.{sure_input, sure_output};
 ghost use Rattle.js_lex_tool.specs.ReportText.{report_text_of};
-ghost use Rattle.js_lex_tool.specs.Run.{most_bytes, status_of, Counts, Writes, Answers, RunsLine, RunsTool};
-ghost use Rattle.js_lex_tool.specs.Status.{number, HasPassed};
-ghost use Rattle.js_lex_tool.specs.Status.Status.{OutOfMemory, ReadFailed, WriteFailed, NoMark};
+ghost use Rattle.js_lex_tool.specs.Run.{most_bytes, status_of, CountsFault, Writes, Answers, RunsLine, RunsTool, CanRun};
+ghost use Rattle.js_lex_tool.specs.Status.{number, IsOneOf, HasPassed};
+ghost use Rattle.js_lex_tool.specs.Status.Status.{Done, OutOfMemory, ReadFailed, WriteFailed, NoMark};
 ghost use Rattle.js_lex_tool.specs.Words.{command_line_of};
 
 use crate::memory_in::SureIn;
@@ -94,7 +94,7 @@ fn write_report<O: ByteOut>(alloc: Global, ran: Ran, output: &mut O) -> ToolOutc
         ⊎ (HasPassed NoMark result.status × (result.ran ≡ Some ran)) }
     ensures text { Writes (report_text_of ran.source ran.report)
         (O.state output.old) (O.state output.new) result.status }
-    ensures faults { Counts WriteFailed result.status (O.state output.old).faults (O.state output.new).faults }
+    ensures faults { CountsFault WriteFailed result.status (O.state output.old).faults (O.state output.new).faults }
 {
     let text = match text_of(alloc, &ran) {
         Ok(text) => text,
@@ -181,6 +181,8 @@ pub fn lex_tool_run_sure(
     output: &mut SureOut,
 ) -> ToolOutcome
     ensures never { (result.status ≢ number ReadFailed) × (result.status ≢ number WriteFailed) }
+    ensures complete { CanRun (command_line_of words.now.items) (Some input.old.left)
+        → IsOneOf (Done ∷ OutOfMemory ∷ []) result.status }
     ensures run { RunsTool (command_line_of words.now.items)
         (sure_input input.old) (sure_input input.new) (sure_output output.old) (sure_output output.new) result }
 {

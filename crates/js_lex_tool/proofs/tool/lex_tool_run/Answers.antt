@@ -1,4 +1,4 @@
-use Rattle.std.proofs.Common.{sym, ◌∙◌}
+use Rattle.std.proofs.Common.{sym}
 use Rattle.js_lex_tool.proofs.Completing.{runs_line, runs_out}
 use Rattle.js_lex_tool.proofs.tool.lex_tool_run.Goals as goal
 
