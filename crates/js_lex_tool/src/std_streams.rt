@@ -1,6 +1,7 @@
 //! Standard input and standard output: readers and writers of the system as inputs and outputs.
 
-ghost use Rattle.std.specs.Prelude.{◌≡◌, None};
+ghost use Rattle.std.specs.Prelude.{◌≡◌, ◌≢◌, ◌<◌, length, None};
+ghost use Rattle.js_lex_tool.specs.Outside.{GivesAtMost, GivesBytes, CountsWrite};
 
 use crate::outside::{ByteIn, ByteOut, FlushAnswer, InAnswer, OutAnswer};
 use std::io::{Read, Write};
@@ -38,7 +39,7 @@ impl<R: Read + Drop> ByteIn for StdIn<R> {
 }
 
 /// A writer as an output. It counts the writes and flushes that fail, up to the end of a `u64`; a write that takes no
-/// byte fails. What was flushed it does not tell, since a `Write` does not.
+/// byte fails, and so does one that finds no memory. What was flushed it does not tell, since a `Write` does not.
 #[derive(Drop)]
 pub struct StdOut<W: Write + Drop> {
     writer: W,
@@ -58,7 +59,13 @@ impl<W: Write + Drop> StdOut<W> {
 impl<W: Write + Drop> ByteOut for StdOut<W> {
     ghost state = { λ s. record { written = W.contents s.writer; flushed = None; faults = s.faults } };
 
-    fn write(&mut self, bytes: &[u8]) -> OutAnswer {
+    fn write(&mut self, bytes: &[u8]) -> OutAnswer
+        requires { 0 < length bytes.now }
+        ensures bound { GivesAtMost result (length bytes.now) }
+        ensures bytes { GivesBytes result (W.contents self.old.writer) (W.contents self.new.writer) bytes.now }
+        ensures faults { CountsWrite result self.old.faults self.new.faults }
+        ensures memory { result ≢ OutAnswer.NoMemory }
+    {
         match self.writer.write(bytes) {
             Ok(0) | Err(_) => {
                 self.faults = self.faults.saturating_add(1);
