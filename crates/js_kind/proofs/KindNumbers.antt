@@ -9,7 +9,7 @@ use Rattle.js_kind.specs.contracts.kind.Kind.{the_type}
 use Rattle.js_kind.specs.declared.kind.Kind.{Kind}
 use Rattle.js_kind.specs.declared.kind.Kind.TheVariants as variant
 use Rattle.js_kind.specs.declared.kind.TheConstants.Kind.{VARIANTS}
-use Rattle.js_kind.specs.declared.kind_text.Row.{Row}
+use Rattle.js_kind.specs.declared.kind_rows.Row.{Row}
 use Rattle.js_kind.specs.KindRows.{kind_row}
 use Rattle.js_kind.specs.Kinds.{number, row_of, HasEachRow}
 
@@ -26,11 +26,16 @@ kind_at_number _ = refl
 pub has_each_row : (rows : List Row) → length rows ≡ 169 → map row_of rows ≡ map kind_row VARIANTS → HasEachRow rows
 has_each_row rows count all = record {
   count = count;
-  at_number = λ kind. ap (λ xs. slice_get xs (number kind)) all ∙ slice_get-map kind_row VARIANTS (number kind) ∙ ap (option_map kind_row) (kind_at_number kind);
+  at_number = λ kind.
+      ap (λ xs. slice_get xs (number kind)) all
+      ∙ slice_get-map kind_row VARIANTS (number kind)
+      ∙ ap (option_map kind_row) (kind_at_number kind);
 }
 
 -- What such a table has at the number of a kind.
-pub row_at : (rows : List Row) (n : ℕ) (kind : Kind) (d : Row) → HasEachRow rows → n ≡ number kind → row_of (get_or rows n d) ≡ kind_row kind
+pub row_at : (rows : List Row) (n : ℕ) (kind : Kind) (d : Row) → HasEachRow rows → n ≡ number kind
+    → row_of (get_or rows n d) ≡ kind_row kind
 row_at rows n kind d has is =
-    sym (get_or-map row_of rows n d)
-    ∙ get_or_from_slice_get (map row_of rows) n (kind_row kind) (row_of d) (ap (slice_get (map row_of rows)) is ∙ has.at_number kind)
+    let at : slice_get (map row_of rows) n ≡ Some (kind_row kind) =
+    ap (slice_get (map row_of rows)) is ∙ has.at_number kind
+    in sym (get_or-map row_of rows n d) ∙ get_or_from_slice_get (map row_of rows) n (kind_row kind) (row_of d) at

@@ -1,12 +1,14 @@
 -- What the keyword table finds.
-use Rattle.std.proofs.Common.{◌≡◌, ◌≢◌, ◌⊎◌, ◌==◌, ◌&&◌, not, ℕ, Bool, true, false, List, [], ◌∷◌, refl, sym, ◌∙◌, ap, inl, inr, if◌then◌else◌}
-use Rattle.std.proofs.lemmas.Bool.{both_ways, and_parts, not-true, eqb-true}
+use Rattle.std.proofs.Common.{◌≡◌, ◌≢◌, ◌⊎◌, ◌==◌, not, ℕ, Bool, true, false, List, [], ◌∷◌, refl, sym, ◌∙◌, ap}
+use Rattle.std.proofs.Common.{inl, inr, if◌then◌else◌}
+use Rattle.std.proofs.lemmas.Bool.{both_ways, not-true, eqb-true}
 use Rattle.std.specs.List.{list_all}
 use Rattle.std.proofs.lemmas.Slice.Eq.{bytes_eq-Decides}
 use Rattle.std.specs.Str.{bytes_eq}
 use Rattle.js_kind.specs.declared.kind.Kind.{Kind}
 use Rattle.js_kind.specs.declared.kind.Kind.TheVariants.{Ident, Eof}
-use Rattle.js_kind.specs.Kinds.{number, is_one_of, keywords, is_name_kind, is_identifier_name, is_number_kind, kind_text}
+use Rattle.js_kind.specs.Kinds.{number, is_one_of, keywords, kind_text}
+use Rattle.js_kind.specs.Kinds.{is_name_kind, is_identifier_name, is_number_kind}
 use Rattle.js_kind.specs.Keywords.{name_kind, kind_in, IsKindOfName}
 use Rattle.js_kind.proofs.KindNumbers.{number_injective}
 use Rattle.js_kind.proofs.Members.{is_first, is_later, one_passes}
@@ -28,7 +30,8 @@ keyword_of_text kind word = number_injective _ kind (eqb-true _ _ (one_passes is
 abbrev IsWordOf : List Kind → List ℕ → Kind → Type 0
 IsWordOf kinds text kind = (is_one_of kinds kind ≡ true) × (kind_text kind ≡ text)
 
-found_at : (kind : Kind) (kinds : List Kind) (text : List ℕ) (other : Kind) (same : Bool) → (same ≡ true → text ≡ kind_text kind)
+found_at : (kind : Kind) (kinds : List Kind) (text : List ℕ) (other : Kind) (same : Bool)
+    → (same ≡ true → text ≡ kind_text kind)
     → IsWordOf kinds text other ⊎ (other ≡ Ident)
     → IsWordOf (kind ∷ kinds) text (if same then kind else other) ⊎ ((if same then kind else other) ≡ Ident)
 found_at kind kinds text other true is rest = inl (is_first kind kinds, sym (is refl))
@@ -38,19 +41,22 @@ found_at kind kinds text other false is (inr none) = inr none
 found_in : (kinds : List Kind) (text : List ℕ) → IsWordOf kinds text (kind_in kinds text) ⊎ (kind_in kinds text ≡ Ident)
 found_in [] text = inr refl
 found_in (k ∷ ks) text =
-    found_at k ks text (kind_in ks text) (bytes_eq text (kind_text k)) (bytes_eq-Decides text (kind_text k)).0 (found_in ks text)
+    let same : bytes_eq text (kind_text k) ≡ true → text ≡ kind_text k = (bytes_eq-Decides text (kind_text k)).0
+    in found_at k ks text (kind_in ks text) (bytes_eq text (kind_text k)) same (found_in ks text)
 
 found : (text : List ℕ) → IsWordOf keywords text (name_kind text) ⊎ (name_kind text ≡ Ident)
 unfolding name_kind
 found text = found_in keywords text
 
-not_found : (text : List ℕ) → name_kind text ≡ Ident → (other : Kind) → is_name_kind other ≡ true → kind_text other ≢ text
+not_found : (text : List ℕ) → name_kind text ≡ Ident → (other : Kind) → is_name_kind other ≡ true
+    → kind_text other ≢ text
 unfolding is_name_kind
 not_found text none other word is =
     let ident : other ≡ Ident = sym (keyword_of_text other word) ∙ (ap name_kind is ∙ none)
     in both_ways (is_name_kind Ident) refl (sym (ap is_name_kind ident) ∙ word)
 
-word_or_ident : (text : List ℕ) (kind : Kind) → kind ≡ name_kind text → IsWordOf keywords text kind ⊎ (kind ≡ Ident) → IsKindOfName text kind
+word_or_ident : (text : List ℕ) (kind : Kind) → kind ≡ name_kind text
+    → IsWordOf keywords text kind ⊎ (kind ≡ Ident) → IsKindOfName text kind
 unfolding is_name_kind
 word_or_ident text kind is (inl word) = inl word
 word_or_ident text kind is (inr none) = inr (none, not_found text (sym is ∙ none))
@@ -59,7 +65,8 @@ word_or_ident text kind is (inr none) = inr (none, not_found text (sym is ∙ no
 pub name_kind-is_kind_of_name : (text : List ℕ) → IsKindOfName text (name_kind text)
 name_kind-is_kind_of_name text = word_or_ident text (name_kind text) refl (found text)
 
-name_or_ident : (text : List ℕ) (kind : Kind) → IsWordOf keywords text kind ⊎ (kind ≡ Ident) → is_identifier_name kind ≡ true
+name_or_ident : (text : List ℕ) (kind : Kind) → IsWordOf keywords text kind ⊎ (kind ≡ Ident)
+    → is_identifier_name kind ≡ true
 unfolding is_identifier_name
 name_or_ident text kind (inl word) = is_later kind Ident keywords word.0
 name_or_ident text kind (inr none) = ap is_identifier_name none
@@ -85,4 +92,5 @@ identifier_name-is_no_number kind name =
 -- A kind of identifier names is not `Eof`.
 pub identifier_name-is_not_end : (kind : Kind) → is_identifier_name kind ≡ true → kind ≢ Eof
 unfolding is_identifier_name
-identifier_name-is_not_end kind name end = both_ways (is_identifier_name Eof) refl (sym (ap is_identifier_name end) ∙ name)
+identifier_name-is_not_end kind name end =
+    both_ways (is_identifier_name Eof) refl (sym (ap is_identifier_name end) ∙ name)

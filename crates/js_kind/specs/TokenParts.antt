@@ -14,4 +14,11 @@ pub record TokenParts : Type 0 where
 
 -- the token of no bytes at 0, of kind `Eof`, with no flag
 abbrev pub default_parts : TokenParts
-default_parts = record { start = 0; end = 0; kind = Eof; is_on_new_line = false; escaped = false; has_separator = false }
+default_parts = record {
+  start = 0;
+  end = 0;
+  kind = Eof;
+  is_on_new_line = false;
+  escaped = false;
+  has_separator = false;
+}

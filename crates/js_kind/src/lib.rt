@@ -4,7 +4,6 @@
 mod config;
 mod keyword;
 mod kind;
-#[cfg(test)]
 mod kind_rows;
 mod kind_text;
 #[cfg(test)]
@@ -13,5 +12,6 @@ mod token;
 
 pub use config::{LexerConfig, NoTokensLexerConfig, RuntimeLexerConfig, TokensLexerConfig};
 pub use keyword::{keyword_is_kind_of_name, keyword_of_text, match_keyword};
-pub use kind::{Kind, variants_by_number};
+pub use kind::Kind;
+pub use kind_rows::variants_by_number;
 pub use token::{Token, TokenList};

@@ -23,9 +23,23 @@ impl Model for Token {
 
     ghost Value = { TokenParts };
 
-    ghost view = { λ t. record { start = t.start; end = t.end; kind = t.kind; is_on_new_line = t.is_on_new_line; escaped = t.escaped; has_separator = t.has_separator } };
+    ghost view = { λ t. record {
+      start = t.start;
+      end = t.end;
+      kind = t.kind;
+      is_on_new_line = t.is_on_new_line;
+      escaped = t.escaped;
+      has_separator = t.has_separator;
+    } };
 
-    ghost inverse = { λ p. record { start = p.start; end = p.end; kind = p.kind; is_on_new_line = p.is_on_new_line; escaped = p.escaped; has_separator = p.has_separator } };
+    ghost inverse = { λ p. record {
+      start = p.start;
+      end = p.end;
+      kind = p.kind;
+      is_on_new_line = p.is_on_new_line;
+      escaped = p.escaped;
+      has_separator = p.has_separator;
+    } };
 }
 
 impl Default for Token {
