@@ -37,7 +37,7 @@ kind_text kind = (kind_row kind).text
 abbrev pub is_one_of : List Kind → Kind → Bool
 is_one_of kinds kind = list_any (λ other. number kind == number other) kinds
 
--- the keywords of the standard, but `let`, `static` and `yield`, and the literals that are words
+-- the reserved words (ECMA-262 12.7.2, ReservedWord), without `yield` and the literals
 abbrev pub plain_keywords : List Kind
 plain_keywords =
     variant.Await ∷ variant.Break ∷ variant.Case ∷ variant.Catch ∷ variant.Class ∷ variant.Const
@@ -47,13 +47,13 @@ plain_keywords =
     ∷ variant.Super ∷ variant.Switch ∷ variant.This ∷ variant.Throw ∷ variant.Try ∷ variant.Typeof
     ∷ variant.Var ∷ variant.Void ∷ variant.While ∷ variant.With ∷ []
 
--- words that are keywords at some places of a script or module
+-- words with a meaning of their own at some places
 abbrev pub contextual_words : List Kind
 contextual_words =
     variant.Async ∷ variant.From ∷ variant.Get ∷ variant.Meta ∷ variant.Of ∷ variant.Set ∷ variant.Target
     ∷ variant.Accessor ∷ variant.Source ∷ variant.Defer ∷ []
 
--- words that are keywords at some places in TypeScript
+-- words with a meaning of their own at some places in TypeScript
 abbrev pub typescript_words : List Kind
 typescript_words =
     variant.Abstract ∷ variant.As ∷ variant.Asserts ∷ variant.Assert ∷ variant.Any ∷ variant.Boolean
@@ -63,7 +63,7 @@ typescript_words =
     ∷ variant.Undefined ∷ variant.Unique ∷ variant.Using ∷ variant.Unknown ∷ variant.Global ∷ variant.BigInt
     ∷ variant.Override ∷ []
 
--- words that strict mode code reserves
+-- words that strict mode code reserves (`let`, `static` and `yield` among them)
 abbrev pub strict_words : List Kind
 strict_words =
     variant.Implements ∷ variant.Interface ∷ variant.Let ∷ variant.Package ∷ variant.Private

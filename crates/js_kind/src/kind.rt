@@ -2,8 +2,8 @@
 
 ghost use Rattle.std.specs.Prelude.{◌≡◌, ◌↔◌, IsTrue};
 ghost use Rattle.std.specs.Int.{is_in_range};
-ghost use Rattle.js_kind.specs.Kinds.{number, is_one_of, is_name_kind, is_identifier_name, is_number_kind};
-ghost use Rattle.js_kind.specs.Digits.{integer_kinds, is_digit_of};
+ghost use Rattle.js_kind.specs.Kinds.{number, is_name_kind, is_identifier_name, is_number_kind};
+ghost use Rattle.js_kind.specs.Digits.{is_integer_kind, is_digit_of};
 
 /// What a token is.
 #[derive(Clone, Copy, PartialEq, Eq, Debug, Default)]
@@ -236,7 +236,7 @@ impl Kind {
 
     /// Whether the byte is a digit of numbers of the kind, which is `Decimal`, `Binary`, `Octal` or `Hex`.
     pub const fn matches_number_byte(self, b: u8) -> bool
-        requires { IsTrue (is_one_of integer_kinds self) }
+        requires { IsTrue (is_integer_kind self) }
         ensures { result ≡ is_digit_of self b }
     {
         match self {

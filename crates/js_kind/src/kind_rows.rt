@@ -212,6 +212,7 @@ pub(crate) struct Row {
 /// The names and texts of all kinds, in the order of their numbers.
 static ROWS: [Row; 169] = with_kinds!(rows);
 
+/// The table of names and texts.
 fn rows() -> &'static [Row; 169]
     ensures { HasEachRow result.now }
 {
