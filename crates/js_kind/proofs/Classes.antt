@@ -1,8 +1,6 @@
--- Classes of kinds, and the digits of numbers.
-use Rattle.std.proofs.Common.{◌≡◌, ℕ, refl, arith}
-use Rattle.std.proofs.lemmas.Bool.Decides.{nat_tests}
+-- Classes of kinds as rows of numbers.
+use Rattle.std.proofs.Common.{◌≡◌, refl}
 use Rattle.std.specs.Int.{is_in_range}
-use Rattle.std.specs.Char.{is_digit, is_ascii_digit, is_ascii_hexdigit}
 use Rattle.js_kind.specs.declared.kind.Kind.{Kind}
 use Rattle.js_kind.specs.declared.kind.Kind.TheVariants as variant
 use Rattle.js_kind.specs.Kinds.{number, is_name_kind, is_identifier_name, is_number_kind}
@@ -27,16 +25,3 @@ pub numbers_are_between : (kind : Kind) → is_in_range (number variant.Decimal)
 unfolding is_number_kind
 numbers_are_between variant.Eof = refl
 numbers_are_between _ = refl
-
--- The digits of each base.
-pub digits_of_2 : (c : ℕ) → is_in_range 48 49 c ≡ is_digit c 2
-digits_of_2 c = grind (arith, nat_tests)
-
-pub digits_of_8 : (c : ℕ) → is_in_range 48 55 c ≡ is_digit c 8
-digits_of_8 c = grind (arith, nat_tests)
-
-pub digits_of_10 : (c : ℕ) → is_ascii_digit c ≡ is_digit c 10
-digits_of_10 c = grind (arith, nat_tests)
-
-pub digits_of_16 : (c : ℕ) → is_ascii_hexdigit c ≡ is_digit c 16
-digits_of_16 c = grind (arith, nat_tests)

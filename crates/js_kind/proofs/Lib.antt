@@ -1,4 +1,5 @@
 pub mod Classes
+pub mod Digits
 pub mod KindNumbers
 pub mod Letters
 pub mod Members

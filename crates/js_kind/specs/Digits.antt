@@ -13,7 +13,11 @@ integer_kinds = variant.Decimal ∷ variant.Binary ∷ variant.Octal ∷ variant
 abbrev pub is_integer_kind : Kind → Bool
 is_integer_kind = is_one_of integer_kinds
 
--- the base of the digits of a number, by its kind
+-- the digits of a radix
+unfoldable pub is_digit_of : ℕ → ℕ → Bool
+is_digit_of radix c = is_digit c radix
+
+-- the radix of the digits of a number, by its kind
 abbrev pub radix_of : Kind → ℕ
 radix_of variant.Binary = 2
 radix_of variant.BinaryBigInt = 2
@@ -22,7 +26,3 @@ radix_of variant.OctalBigInt = 8
 radix_of variant.Hex = 16
 radix_of variant.HexBigInt = 16
 radix_of _ = 10
-
--- the character is a digit of numbers of the kind
-abbrev pub is_digit_of : Kind → ℕ → Bool
-is_digit_of kind c = is_digit c (radix_of kind)

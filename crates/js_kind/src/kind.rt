@@ -3,7 +3,7 @@
 ghost use Rattle.std.specs.Prelude.{◌≡◌, ◌↔◌, IsTrue};
 ghost use Rattle.std.specs.Int.{is_in_range};
 ghost use Rattle.js_kind.specs.Kinds.{number, is_name_kind, is_identifier_name, is_number_kind};
-ghost use Rattle.js_kind.specs.Digits.{is_integer_kind, is_digit_of};
+ghost use Rattle.js_kind.specs.Digits.{is_integer_kind, is_digit_of, radix_of};
 
 /// What a token is.
 #[derive(Clone, Copy, PartialEq, Eq, Debug, Default)]
@@ -235,9 +235,10 @@ impl Kind {
     }
 
     /// Whether the byte is a digit of numbers of the kind, which is `Decimal`, `Binary`, `Octal` or `Hex`.
+    #[tactic(auto, unfolding(crate::specs::Digits::is_digit_of))]
     pub const fn matches_number_byte(self, b: u8) -> bool
         requires { IsTrue (is_integer_kind self) }
-        ensures { result ≡ is_digit_of self b }
+        ensures { result ≡ is_digit_of (radix_of self) b }
     {
         match self {
             Kind::Binary => b'0' <= b && b <= b'1',
