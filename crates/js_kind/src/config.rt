@@ -14,6 +14,7 @@ pub trait LexerConfig: Default {
 
     ghost collects: { Self → Bool };
 
+    /// Whether tokens are collected.
     fn tokens(&self) -> bool
         ensures { result ≡ collects self.now };
 
