@@ -1,5 +1,6 @@
 -- A reading reports nothing exactly where the grammar reads a token, and then it is this one.
-use Rattle.std.proofs.Common.{◌≡◌, ◌≢◌, ℕ, ◌+◌, Bool, true, false, not, cond, List, [], ◌∷◌, ◌++◌, ◌==◌, ◌&&◌, ◌||◌, drop, length, refl, sym, ◌∙◌, ap, subst, Option, Some, None}
+use Rattle.std.proofs.Common.{◌≡◌, ◌≢◌, ℕ, ◌+◌, Bool, true, false, not, cond, List, [], ◌∷◌, ◌++◌, ◌==◌, ◌&&◌, ◌||◌}
+use Rattle.std.proofs.Common.{drop, length, refl, sym, ◌∙◌, ap, subst, Option, Some, None}
 use Rattle.std.specs.Prelude.{codes, if◌then◌else◌, ◌↔◌, IfSome}
 use Rattle.unicode_ident.proofs.Computing.{unicode_ident}
 use Rattle.js_text.specs.Characters.{from_place, begins, is_identifier_start}
@@ -31,17 +32,26 @@ unfolding is_identifier_start unicode_ident
 angle_begins_no_name = refl
 
 -- Where a reported comment stands, nothing is spelled.
-pub reported_spells_nothing : (t : SourceType) (nl : Bool) (here : List ℕ) → is_reported t nl here ≡ true → NothingSpelled t nl here
-reported_spells_nothing t nl here e =
-    let both = and_true (is_prefix (codes "<!--") here) (is_module t && nl) e in
+pub reported_spells_nothing : (t : SourceType) (line_has_ended : Bool) (here : List ℕ)
+    → is_reported t line_has_ended here ≡ true → NothingSpelled t line_has_ended here
+reported_spells_nothing t line_has_ended here e =
+    let both = and_true (is_prefix (codes "<!--") here) (is_module t && line_has_ended) e in
     let text : here ≡ codes "<!--" ++ drop 4 here = prefix_is (codes "<!--") here both.0 in
-    subst (NothingSpelled t nl) (sym text) (nothing_spelled t nl 60 _ angle_begins_no_name (none_reported t nl (drop 4 here) both.1))
+    subst (NothingSpelled t line_has_ended) (sym text)
+    (nothing_spelled t line_has_ended 60 _ angle_begins_no_name
+    (none_reported t line_has_ended (drop 4 here) both.1))
 
 -- and so where something is spelled, no reported comment stands
-pub spelled_is_not_reported : (t : SourceType) (nl : Bool) (here xs ys : List ℕ) (k : Kind) → LongestSpelling t nl here xs ys k → is_reported t nl here ≡ false
-spelled_is_not_reported t nl here xs ys k s =
-    let family : Bool → Type 0 = λ b. is_reported t nl here ≡ b → is_reported t nl here ≡ false in
-    elim (is_reported t nl here) as family [ true ↦ λ e. absurd (reported_spells_nothing t nl here e xs ys k s.here s.spelling) | false ↦ λ e. e ] refl
+pub spelled_is_not_reported : (t : SourceType) (line_has_ended : Bool) (here xs ys : List ℕ) (k : Kind)
+    → LongestSpelling t line_has_ended here xs ys k → is_reported t line_has_ended here ≡ false
+spelled_is_not_reported t line_has_ended here xs ys k s =
+    let family : Bool → Type 0 = λ b. is_reported t line_has_ended here ≡ b
+    → is_reported t line_has_ended here ≡ false in
+    elim (is_reported t line_has_ended here) as family [
+      | true ↦ λ e. absurd
+          (reported_spells_nothing t line_has_ended here e xs ys k s.here s.spelling)
+      | false ↦ λ e. e
+    ] refl
 
 -- what is read to recover reports something
 abbrev Reports : Option Reading → Type 0
@@ -51,39 +61,54 @@ reports_if : (b : Bool) (x y : Option Reading) → Reports x → Reports y → R
 reports_if true x y h k = h
 reports_if false x y h k = k
 
-recovered_reports : (nl : Bool) (place : ℕ) (here : List ℕ) → Reports (recovered nl place here)
-recovered_reports nl place here =
+recovered_reports : (line_has_ended : Bool) (place : ℕ) (here : List ℕ) → Reports (recovered line_has_ended place here)
+recovered_reports line_has_ended place here =
     reports_if (is_prefix (codes "/*") here) _ _ (λ e. cc) (
     reports_if (is_prefix (codes "#!") here) _ _ (λ e. cc) (
     reports_if (begins (λ c. c == 0xFFFD) here) _ _ (λ e. cc) (character here)))
   where
-    character : (here : List ℕ) → Reports (recovered_character nl place here)
+    character : (here : List ℕ) → Reports (recovered_character line_has_ended place here)
     character [] = tt
     character (c ∷ cs) = reports_if (is_control_or_wide c) _ None (λ e. cc) tt
 
-pub recovery_reports : (nl : Bool) (place : ℕ) (here : List ℕ) (r : Reading) → recovered nl place here ≡ Some r → r.diagnostics ≢ []
-recovery_reports nl place here r e = subst Reports e (recovered_reports nl place here)
+pub recovery_reports : (line_has_ended : Bool) (place : ℕ) (here : List ℕ) (r : Reading)
+    → recovered line_has_ended place here ≡ Some r → r.diagnostics ≢ []
+recovery_reports line_has_ended place here r e = subst Reports e (recovered_reports line_has_ended place here)
 
 -- what is read behind a gap without a report is spelled
-spelled_clean : (t : SourceType) (nl : Bool) (place : ℕ) (here : List ℕ) (r : Reading) → ReadsHere t nl place here r → r.diagnostics ≡ []
-    → (r.is_on_new_line ≡ nl) × (xs : List ℕ) × LongestSpelling t nl here xs r.rest r.kind
-spelled_clean t nl place here r (spelled_here xs spelling is) clean = (ap (λ x. x.is_on_new_line) is, xs, spelling)
-spelled_clean t nl place here r (recovers nothing e) clean = absurd (recovery_reports nl place here r e clean)
+spelled_clean : (t : SourceType) (line_has_ended : Bool) (place : ℕ) (here : List ℕ) (r : Reading)
+    → ReadsHere t line_has_ended place here r → r.diagnostics ≡ []
+    → (r.is_on_new_line ≡ line_has_ended) × (xs : List ℕ) × LongestSpelling t line_has_ended here xs r.rest r.kind
+spelled_clean t line_has_ended place here r (spelled_here xs spelling is) clean =
+    (ap (λ x. x.is_on_new_line) is, xs, spelling)
+spelled_clean t line_has_ended place here r (recovers nothing e) clean =
+    absurd (recovery_reports line_has_ended place here r e clean)
 
 -- A reading that reports nothing is the grammar's.
-pub clean_reads : (text : List ℕ) (t : SourceType) (goal : Goal) (before : Option TokenParts) (place : ℕ) (o : Outcome) → GoalReads text t goal before place o
+pub clean_reads : (text : List ℕ) (t : SourceType) (goal : Goal) (before : Option TokenParts) (place : ℕ) (o : Outcome)
+    → GoalReads text t goal before place o
     → o.findings.diagnostics ≡ [] → PlainReads text t goal (line_has_ended_behind before) place o.token
-clean_reads text t goal before place o (hashbang_read begins read) clean = hashbang begins read.is_hashbang read.is_on_new_line
+clean_reads text t goal before place o (hashbang_read begins read) clean =
+    hashbang begins read.is_hashbang read.is_on_new_line
 clean_reads text t goal before place o (behind_gap begins read) clean =
-    let both = append_nil (gap_diagnostics place read.pieces) read.reading.diagnostics (sym (ap (λ x. x.findings.diagnostics) read.outcome_is) ∙ clean) in
-    let parts = spelled_clean t read.line_has_ended o.token.start (from_place text o.token.start) read.reading read.here both.1 in
-    let gap = longest_of_whole t (line_has_ended_behind before) (from_place text place) read.pieces read.line_has_ended (from_place text o.token.start) place read.gap both.0 in
-    let newline : o.token.is_on_new_line ≡ read.line_has_ended = ap (λ x. x.token.is_on_new_line) read.outcome_is ∙ parts.0 in
+    let both =
+    append_nil (gap_diagnostics place read.pieces) read.reading.diagnostics
+    (sym (ap (λ x. x.findings.diagnostics) read.outcome_is) ∙ clean) in
+    let parts =
+    spelled_clean t read.line_has_ended o.token.start
+    (from_place text o.token.start) read.reading read.here both.1 in
+    let gap =
+    longest_of_whole t (line_has_ended_behind before) (from_place text place) read.pieces read.line_has_ended
+    (from_place text o.token.start) place read.gap both.0 in
+    let newline : o.token.is_on_new_line ≡ read.line_has_ended =
+    ap (λ x. x.token.is_on_new_line) read.outcome_is ∙ parts.0 in
     let kind : o.token.kind ≡ read.reading.kind = ap (λ x. x.token.kind) read.outcome_is in
     let here = from_place text o.token.start in
     let end = from_place text o.token.end in
-    let there : LongestSpelling t read.line_has_ended here parts.1 end read.reading.kind = subst (λ ys. LongestSpelling t read.line_has_ended here parts.1 ys read.reading.kind) read.rest parts.2 in
-    let kinds : LongestSpelling t read.line_has_ended here parts.1 end o.token.kind = subst (LongestSpelling t read.line_has_ended here parts.1 end) (sym kind) there in
+    let there : LongestSpelling t read.line_has_ended here parts.1 end read.reading.kind =
+    subst (λ ys. LongestSpelling t read.line_has_ended here parts.1 ys read.reading.kind) read.rest parts.2 in
+    let kinds : LongestSpelling t read.line_has_ended here parts.1 end o.token.kind =
+    subst (LongestSpelling t read.line_has_ended here parts.1 end) (sym kind) there in
     spelled begins record {
       gap = subst (λ b. LongestGap t (line_has_ended_behind before) (from_place text place) b here) (sym newline) gap;
       start = read.start;
@@ -93,33 +118,52 @@ clean_reads text t goal before place o (behind_gap begins read) clean =
     }
 
 -- where something is spelled, what is read there reports nothing
-here_clean : (t : SourceType) (nl : Bool) (place : ℕ) (here : List ℕ) (r : Reading) → ReadsHere t nl place here r → (NothingSpelled t nl here → ⊥) → r.diagnostics ≡ []
-here_clean t nl place here r (spelled_here xs spelling is) some = ap (λ x. x.diagnostics) is
-here_clean t nl place here r (recovers nothing e) some = absurd (some nothing)
+here_clean : (t : SourceType) (line_has_ended : Bool) (place : ℕ) (here : List ℕ) (r : Reading)
+    → ReadsHere t line_has_ended place here r → (NothingSpelled t line_has_ended here → ⊥) → r.diagnostics ≡ []
+here_clean t line_has_ended place here r (spelled_here xs spelling is) some = ap (λ x. x.diagnostics) is
+here_clean t line_has_ended place here r (recovers nothing e) some = absurd (some nothing)
 
 -- Where the grammar reads a token, nothing is reported.
-pub reads_clean : (text : List ℕ) (t : SourceType) (goal : Goal) (before : Option TokenParts) (place : ℕ) (o : Outcome) (token : TokenParts)
-    → GoalReads text t goal before place o → PlainReads text t goal (line_has_ended_behind before) place token → o.findings.diagnostics ≡ []
-reads_clean text t goal before place o token (hashbang_read begins read) reads = ap (λ x. x.findings.diagnostics) read.alone
+pub reads_clean : (text : List ℕ) (t : SourceType) (goal : Goal) (before : Option TokenParts) (place : ℕ) (o : Outcome)
+    (token : TokenParts)
+    → GoalReads text t goal before place o → PlainReads text t goal (line_has_ended_behind before) place token
+    → o.findings.diagnostics ≡ []
+reads_clean text t goal before place o token (hashbang_read begins read) reads =
+    ap (λ x. x.findings.diagnostics) read.alone
 reads_clean text t goal before place o token (behind_gap begins read) (hashbang other is newline) = absurd (cc)
 reads_clean text t goal before place o token (behind_gap begins read) (spelled other is) =
-    let nl = line_has_ended_behind before in
-    let quiet = spelled_is_not_reported t token.is_on_new_line (from_place text token.start) is.spelled (from_place text token.end) token.kind is.spelling in
-    let whole = whole_of_longest t nl (from_place text place) token.is_on_new_line (from_place text token.start) is.gap quiet in
-    let same = whole_gap_unique t nl (from_place text place) is.gap.pieces read.pieces token.is_on_new_line read.line_has_ended (from_place text token.start) (from_place text o.token.start) whole read.gap in
+    let line_has_ended = line_has_ended_behind before in
+    let quiet =
+    spelled_is_not_reported t token.is_on_new_line (from_place text token.start) is.spelled
+    (from_place text token.end) token.kind is.spelling in
+    let whole =
+    whole_of_longest t line_has_ended (from_place text place) token.is_on_new_line
+    (from_place text token.start) is.gap quiet in
+    let same =
+    whole_gap_unique t line_has_ended
+    (from_place text place) is.gap.pieces read.pieces token.is_on_new_line read.line_has_ended
+    (from_place text token.start) (from_place text o.token.start) whole read.gap in
     let none : gap_diagnostics place read.pieces ≡ [] =
-    ap (gap_diagnostics place) (sym same.0) ∙ gap_reports_nothing t nl (from_place text place) is.gap.pieces token.is_on_new_line (from_place text token.start) place is.gap.all.pieces_are in
+    ap (gap_diagnostics place) (sym same.0)
+    ∙ gap_reports_nothing t line_has_ended (from_place text place) is.gap.pieces token.is_on_new_line
+    (from_place text token.start) place is.gap.all.pieces_are in
     let some : NothingSpelled t read.line_has_ended (from_place text o.token.start) → ⊥ = λ nothing.
     let moved : NothingSpelled t token.is_on_new_line (from_place text token.start) =
-    subst (λ b. NothingSpelled t b (from_place text token.start)) (sym same.1) (subst (NothingSpelled t read.line_has_ended) (sym same.2) nothing) in
+    subst (λ b. NothingSpelled t b (from_place text token.start)) (sym same.1)
+    (subst (NothingSpelled t read.line_has_ended) (sym same.2) nothing) in
     moved is.spelled (from_place text token.end) token.kind is.spelling.here is.spelling.spelling in
     ap (λ x. x.findings.diagnostics) read.outcome_is
-    ∙ ap (λ ds. ds ++ read.reading.diagnostics) none ∙ here_clean t read.line_has_ended o.token.start (from_place text o.token.start) read.reading read.here some
+    ∙ ap (λ ds. ds ++ read.reading.diagnostics) none
+    ∙ here_clean t read.line_has_ended o.token.start (from_place text o.token.start) read.reading read.here some
 
 -- The headline of one reading.
-pub agrees_with_grammar : (text : List ℕ) (t : SourceType) (goal : Goal) (before : Option TokenParts) (place : ℕ) (o : Outcome)
+pub agrees_with_grammar : (text : List ℕ) (t : SourceType) (goal : Goal) (before : Option TokenParts) (place : ℕ)
+    (o : Outcome)
     → GoalReads text t goal before place o → AgreesWithGrammar text t goal before place o
 agrees_with_grammar text t goal before place o reads = record {
-  clean = (λ clean. (o.token, clean_reads text t goal before place o reads clean), λ found. reads_clean text t goal before place o found.0 reads found.1);
+  clean = (
+    λ clean. (o.token, clean_reads text t goal before place o reads clean),
+    λ found. reads_clean text t goal before place o found.0 reads found.1,
+  );
   plain = clean_reads text t goal before place o reads;
 }

@@ -1,5 +1,6 @@
 -- The flags of spellings.
-use Rattle.std.proofs.Common.{◌≡◌, ℕ, Bool, true, false, not, ◌&&◌, ◌||◌, ◌==◌, List, [], ◌∷◌, refl, sym, ◌∙◌, ap, subst}
+use Rattle.std.proofs.Common.{◌≡◌, ℕ, Bool, true, false, not, ◌&&◌, ◌||◌, ◌==◌, List, [], ◌∷◌, refl, sym, ◌∙◌, ap}
+use Rattle.std.proofs.Common.{subst}
 use Rattle.std.specs.Prelude.{IsTrue}
 use Rattle.std.specs.List.{list_all, list_any, AllByRecursion}
 use Rattle.std.specs.Str.{encode_utf8_all}
@@ -53,13 +54,20 @@ not_true true e = absurd (cc)
 not_true false e = refl
 
 -- no flag is set for what is spelled
-pub spelling_flags : (t : SourceType) (nl : Bool) (xs ys : List ℕ) (k : Kind) → Spelling t nl xs ys k → (is_escaped xs ≡ false) × (has_separator k xs ≡ false)
+pub spelling_flags : (t : SourceType) (line_has_ended : Bool) (xs ys : List ℕ) (k : Kind)
+    → Spelling t line_has_ended xs ys k → (is_escaped xs ≡ false) × (has_separator k xs ≡ false)
 unfolding is_number_kind
-spelling_flags t nl xs ys k (name is end kind) =
-    let none : is_number_kind k ≡ false = ap is_number_kind kind ∙ identifier_name-is_no_number (name_kind (encode_utf8_all xs)) (name_kind-is_identifier_name (encode_utf8_all xs)) in
+spelling_flags t line_has_ended xs ys k (name is end kind) =
+    let none : is_number_kind k ≡ false =
+    ap is_number_kind kind
+    ∙ identifier_name-is_no_number (name_kind (encode_utf8_all xs))
+    (name_kind-is_identifier_name (encode_utf8_all xs)) in
     (name_unescaped xs is, rw none refl)
-spelling_flags t nl xs ys k (punctuator p i same allowed kind) =
-    let both = and_true (not (is_escaped p.text)) (not (is_number_kind p.kind)) (passes_at unflagged p punctuators i punctuators_unflagged) in
+spelling_flags t line_has_ended xs ys k (punctuator p i same allowed kind) =
+    let both =
+    and_true (not (is_escaped p.text)) (not (is_number_kind p.kind))
+    (passes_at unflagged p punctuators i punctuators_unflagged) in
     let none : is_number_kind k ≡ false = ap is_number_kind kind ∙ not_true _ both.1 in
     (ap is_escaped same ∙ not_true _ both.0, rw none refl)
-spelling_flags t nl xs ys k (end_of_source none end kind) = (ap is_escaped none, ap (has_separator k) none ∙ and_false (is_number_kind k))
+spelling_flags t line_has_ended xs ys k (end_of_source none end kind) =
+    (ap is_escaped none, ap (has_separator k) none ∙ and_false (is_number_kind k))

@@ -1,5 +1,6 @@
 -- The printable characters of ASCII: each begins a name, a punctuator, a form that is not built, or is white space.
-use Rattle.std.proofs.Common.{◌≡◌, ℕ, ◌+◌, ◌<◌, ◌≤◌, Bool, true, false, not, ◌||◌, ◌==◌, zero, suc, List, [], ◌∷◌, ◌++◌, refl, sym, ◌∙◌, ap, subst, arith, inl, inr}
+use Rattle.std.proofs.Common.{◌≡◌, ℕ, ◌+◌, ◌<◌, ◌≤◌, Bool, true, false, not, ◌||◌, ◌==◌, zero, suc, List, [], ◌∷◌, ◌++◌}
+use Rattle.std.proofs.Common.{refl, sym, ◌∙◌, ap, subst, arith, inl, inr}
 use Rattle.std.specs.Prelude.{codes}
 use Rattle.std.specs.List.{list_all, list_any, AllByRecursion, range_with_len}
 use Rattle.std.proofs.lemmas.Bool.{eqb-true, or_cases}
@@ -13,9 +14,11 @@ use Rattle.js_grammar.proofs.PunctuatorLemmas.{passes_at, spelled_at}
 use Rattle.js_grammar.proofs.Tests.{and_true}
 
 -- a punctuator that stands there, with what may follow it
-pub spelled_there : (t : SourceType) (nl : Bool) (p : Punctuator) (vs : List ℕ) → IsIn p punctuators → p.excluded t nl vs ≡ false → NoPunctuator t nl (p.text ++ vs) → ⊥
-spelled_there t nl p vs i allowed none =
-    not_both _ (spelled_at t nl p vs allowed) (passes_at (λ q. not (is_spelled t nl (p.text ++ vs) q)) p punctuators i none)
+pub spelled_there : (t : SourceType) (line_has_ended : Bool) (p : Punctuator) (vs : List ℕ) → IsIn p punctuators
+    → p.excluded t line_has_ended vs ≡ false → NoPunctuator t line_has_ended (p.text ++ vs) → ⊥
+spelled_there t line_has_ended p vs i allowed none =
+    not_both _ (spelled_at t line_has_ended p vs allowed)
+    (passes_at (λ q. not (is_spelled t line_has_ended (p.text ++ vs) q)) p punctuators i none)
   where
     not_both : (b : Bool) → b ≡ true → not b ≡ true → ⊥
     not_both true e f = cc
@@ -26,18 +29,67 @@ abbrev pub lone_characters : List ℕ
 lone_characters = codes "&!^:,=[{(-%|+?>]});*~@"
 
 -- where no punctuator stands, none of these begins the text
-pub lone_begin : (t : SourceType) (nl : Bool) (cs : List ℕ) → AllByRecursion (λ x. NoPunctuator t nl (x ∷ cs) → ⊥) lone_characters
-lone_begin t nl cs =
-    ((λ n. cc), ((λ n. cc), ((λ n. cc), ((λ n. cc), ((λ n. cc), ((λ n. cc), ((λ n. cc), ((λ n. cc), ((λ n. cc), ((λ n. cc), ((λ n. cc), ((λ n. cc), ((λ n. cc), ((λ n. cc), ((λ n. cc), ((λ n. cc), ((λ n. cc), ((λ n. cc), ((λ n. cc), ((λ n. cc), ((λ n. cc), ((λ n. cc), tt))))))))))))))))))))))
+pub lone_begin : (t : SourceType) (line_has_ended : Bool) (cs : List ℕ)
+    → AllByRecursion (λ x. NoPunctuator t line_has_ended (x ∷ cs) → ⊥) lone_characters
+lone_begin t line_has_ended cs = (
+  (λ n. cc),
+  (
+    (λ n. cc),
+    (
+      (λ n. cc),
+      (
+        (λ n. cc),
+        (
+          (λ n. cc),
+          (
+            (λ n. cc),
+            (
+              (λ n. cc),
+              (
+                (λ n. cc),
+                (
+                  (λ n. cc),
+                  (
+                    (λ n. cc),
+                    (
+                      (λ n. cc),
+                      (
+                        (λ n. cc),
+                        (
+                          (λ n. cc),
+                          (
+                            (λ n. cc),
+                            (
+                              (λ n. cc),
+                              ((λ n. cc), ((λ n. cc), ((λ n. cc), ((λ n. cc), ((λ n. cc), ((λ n. cc), ((λ n. cc), tt))))))),
+                            ),
+                          ),
+                        ),
+                      ),
+                    ),
+                  ),
+                ),
+              ),
+            ),
+          ),
+        ),
+      ),
+    ),
+  ),
+)
 
 pub none_of : (P : ℕ → Type 0) (c : ℕ) (xs : List ℕ) → AllByRecursion P xs → list_any (λ x. x == c) xs ≡ true → P c
 none_of P c [] all e = absurd (cc)
-none_of P c (x ∷ xs) all e = elim (or_cases (x == c) (list_any (λ y. y == c) xs) e) [ inl here ↦ subst P (eqb-true x c here) all.0 | inr there ↦ none_of P c xs all.1 there ]
+none_of P c (x ∷ xs) all e =
+    elim (or_cases (x == c) (list_any (λ y. y == c) xs) e)
+    [ inl here ↦ subst P (eqb-true x c here) all.0 | inr there ↦ none_of P c xs all.1 there ]
 
 -- what a printable character of ASCII is
 abbrev pub is_known : ℕ → Bool
 is_known c =
-    is_identifier_start c || (is_white_space c || (is_unbuilt_byte c || (list_any (λ x. x == c) lone_characters || ((c == 46) || ((c == 47) || (c == 60))))))
+    is_identifier_start c ||
+    (is_white_space c ||
+    (is_unbuilt_byte c || (list_any (λ x. x == c) lone_characters || ((c == 46) || ((c == 47) || (c == 60))))))
 
 pub printable_known : list_all is_known (range_with_len 32 95) ≡ true
 unfolding is_identifier_start is_white_space is_irregular_whitespace unicode_ident
@@ -52,4 +104,3 @@ known_at P a (suc n) c e low high =
     by_test : (b : Bool) → (a == c) ≡ b → P a ≡ true → (a + 1 ≤ c → P c ≡ true) → P c ≡ true
     by_test true t here later = ap P (sym (eqb-true a c t)) ∙ here
     by_test false t here later = later (grind (arith, nat_tests))
-

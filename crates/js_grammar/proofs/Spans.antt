@@ -1,5 +1,7 @@
 -- The spans of what is read: in order, and not empty but for the end of the source.
-use Rattle.std.proofs.Common.{◌≡◌, ◌≢◌, ℕ, ◌+◌, ◌-◌, ◌<◌, ◌≤◌, Bool, true, false, List, [], ◌∷◌, ◌++◌, ◌==◌, ◌||◌, length, drop, refl, sym, ◌∙◌, ap, subst, arith, zero, suc, append-nil, append_assoc, ◌⊎◌, inl, inr, Option, Some, None}
+use Rattle.std.proofs.Common.{◌≡◌, ◌≢◌, ℕ, ◌+◌, ◌-◌, ◌<◌, ◌≤◌, Bool, true, false, List, [], ◌∷◌, ◌++◌, ◌==◌, ◌||◌}
+use Rattle.std.proofs.Common.{length, drop, refl, sym, ◌∙◌, ap, subst, arith, zero, suc, append-nil, append_assoc, ◌⊎◌}
+use Rattle.std.proofs.Common.{inl, inr, Option, Some, None}
 use Rattle.std.specs.Prelude.{codes, if◌then◌else◌, IfSome}
 use Rattle.std.proofs.lemmas.Str.{length-le-encodes, IsCharBoundary-start}
 use Rattle.std.specs.Str.{IsCharBoundary, IsUtf8, encode_utf8_all}
@@ -33,13 +35,15 @@ pub record IsSpan (token : TokenParts) : Type 0 where
   pub some_text : token.kind ≢ Eof → token.start < token.end
 
 -- where a spelling is no end of the source, it has a character
-spelling_has_text : (t : SourceType) (nl : Bool) (xs ys : List ℕ) (k : Kind) → Spelling t nl xs ys k → k ≢ Eof → xs ≢ []
-spelling_has_text t nl xs ys k (name is end kind) some e = subst IsName e is
-spelling_has_text t nl xs ys k (punctuator p i same allowed kind) some e = some_text p i (sym same ∙ e)
-spelling_has_text t nl xs ys k (end_of_source none end kind) some e = some kind
+spelling_has_text : (t : SourceType) (line_has_ended : Bool) (xs ys : List ℕ) (k : Kind)
+    → Spelling t line_has_ended xs ys k → k ≢ Eof → xs ≢ []
+spelling_has_text t line_has_ended xs ys k (name is end kind) some e = subst IsName e is
+spelling_has_text t line_has_ended xs ys k (punctuator p i same allowed kind) some e = some_text p i (sym same ∙ e)
+spelling_has_text t line_has_ended xs ys k (end_of_source none end kind) some e = some kind
 
 -- a place from which these characters lead to another is not behind it, and before it where there are any
-leads : (text : List ℕ) (p q : ℕ) (xs : List ℕ) → IsUtf8 text → IsCharBoundary text p → IsCharBoundary text q → from_place text p ≡ xs ++ from_place text q → (p ≤ q) × (xs ≢ [] → p < q)
+leads : (text : List ℕ) (p q : ℕ) (xs : List ℕ) → IsUtf8 text → IsCharBoundary text p → IsCharBoundary text q
+    → from_place text p ≡ xs ++ from_place text q → (p ≤ q) × (xs ≢ [] → p < q)
 leads text p q xs u b d e =
     let past = place_past text p q xs u b d e in
     (omega (arith, past), λ some. omega (arith, past, length-le-encodes xs, some_length xs some))
@@ -48,97 +52,131 @@ leads text p q xs u b d e =
     some_length [] some = absurd (some refl)
     some_length (x ∷ xs) some = omega arith
 
-to_end : (text : List ℕ) (p q : ℕ) → IsUtf8 text → IsCharBoundary text p → IsCharBoundary text q → from_place text q ≡ [] → p ≤ q
-to_end text p q u b d e = (leads text p q (from_place text p) u b d (sym (append-nil (from_place text p)) ∙ ap (λ r. from_place text p ++ r) (sym e))).0
+to_end : (text : List ℕ) (p q : ℕ) → IsUtf8 text → IsCharBoundary text p → IsCharBoundary text q
+    → from_place text q ≡ [] → p ≤ q
+to_end text p q u b d e =
+    (leads text p q (from_place text p) u b d
+    (sym (append-nil (from_place text p)) ∙ ap (λ r. from_place text p ++ r) (sym e))).0
 
 -- what is read to recover is the rest of the source, or a character
 abbrev LeavesBehind : List ℕ → Reading → Type 0
 LeavesBehind here r = ((r.kind ≡ Eof) × (r.rest ≡ [])) ⊎ ((c : ℕ) × (here ≡ c ∷ r.rest))
 
 -- what holds of each way to recover
-each_recovery : (P : Reading → Type 0) (b : Bool) (x y : Option Reading) → IfSome x P → IfSome y P → IfSome (if b then x else y) P
+each_recovery : (P : Reading → Type 0) (b : Bool) (x y : Option Reading) → IfSome x P → IfSome y P
+    → IfSome (if b then x else y) P
 each_recovery P true x y h k = h
 each_recovery P false x y h k = k
 
-recovered_leaves : (nl : Bool) (place : ℕ) (here : List ℕ) → IfSome (recovered nl place here) (LeavesBehind here)
-recovered_leaves nl place here =
+recovered_leaves : (line_has_ended : Bool) (place : ℕ) (here : List ℕ)
+    → IfSome (recovered line_has_ended place here) (LeavesBehind here)
+recovered_leaves line_has_ended place here =
     each_recovery (LeavesBehind here) (is_prefix (codes "/*") here) _ _ (inl (refl, refl))
     (each_recovery (LeavesBehind here) (is_prefix (codes "#!") here) _ _ (inl (refl, refl))
     (each_recovery (LeavesBehind here) (begins (λ c. c == 0xFFFD) here) _ _ (inl (refl, refl)) (character here)))
   where
-    character : (here : List ℕ) → IfSome (recovered_character nl place here) (LeavesBehind here)
+    character : (here : List ℕ) → IfSome (recovered_character line_has_ended place here) (LeavesBehind here)
     character [] = tt
     character (c ∷ cs) = each_recovery (LeavesBehind (c ∷ cs)) (is_control_or_wide c) _ None (inr (c, refl)) tt
 
-pub here_span : (text : List ℕ) (t : SourceType) (nl : Bool) (start end : ℕ) (r : Reading) → IsUtf8 text → IsCharBoundary text start → IsCharBoundary text end
-    → r.rest ≡ from_place text end → ReadsHere t nl start (from_place text start) r → (start ≤ end) × (r.kind ≢ Eof → start < end)
-here_span text t nl start end r u b d rest (spelled_here xs spelling is) =
+pub here_span : (text : List ℕ) (t : SourceType) (line_has_ended : Bool) (start end : ℕ) (r : Reading) → IsUtf8 text
+    → IsCharBoundary text start → IsCharBoundary text end
+    → r.rest ≡ from_place text end → ReadsHere t line_has_ended start (from_place text start) r
+    → (start ≤ end) × (r.kind ≢ Eof → start < end)
+here_span text t line_has_ended start end r u b d rest (spelled_here xs spelling is) =
     let way = leads text start end xs u b d (spelling.here ∙ ap (λ ys. xs ++ ys) rest) in
-    (way.0, λ some. way.1 (spelling_has_text t nl xs r.rest r.kind spelling.spelling some))
-here_span text t nl start end r u b d rest (recovers nothing e) =
-    let leaves = subst (λ found. IfSome found (LeavesBehind (from_place text start))) e (recovered_leaves nl start (from_place text start)) in
+    (way.0, λ some. way.1 (spelling_has_text t line_has_ended xs r.rest r.kind spelling.spelling some))
+here_span text t line_has_ended start end r u b d rest (recovers nothing e) =
+    let leaves =
+    subst (λ found. IfSome found (LeavesBehind (from_place text start))) e
+    (recovered_leaves line_has_ended start (from_place text start)) in
     elim leaves [
       | inl whole ↦ (to_end text start end u b d (sym rest ∙ whole.1), λ some. absurd (some whole.0))
-      | inr one ↦ let way = leads text start end (one.0 ∷ []) u b d (one.1 ∙ ap (λ ys. one.0 ∷ ys) rest) in (way.0, λ some. way.1 (λ none. cc))
+      | inr one ↦ let way = leads text start end (one.0 ∷ []) u b d (one.1 ∙ ap (λ ys. one.0 ∷ ys) rest) in
+          (way.0, λ some. way.1 (λ none. cc))
     ]
 
-hashbang_start : (goal : Goal) (text : List ℕ) (place : ℕ) → begins_hashbang goal text place ≡ true → is_prefix (codes "#!") (from_place text 0) ≡ true
+hashbang_start : (goal : Goal) (text : List ℕ) (place : ℕ) → begins_hashbang goal text place ≡ true
+    → is_prefix (codes "#!") (from_place text 0) ≡ true
 hashbang_start First text zero e = e
 hashbang_start First text (suc place) e = absurd (cc)
 hashbang_start Next text place e = absurd (cc)
 
-hashbang_span : (text : List ℕ) (token : TokenParts) → IsUtf8 text → is_prefix (codes "#!") (from_place text 0) ≡ true → IsHashbang text token → IsSpan token
+hashbang_span : (text : List ℕ) (token : TokenParts) → IsUtf8 text → is_prefix (codes "#!") (from_place text 0) ≡ true
+    → IsHashbang text token → IsSpan token
 hashbang_span text token u e h =
     let cs = drop 2 (from_place text 0) in
     let begins : from_place text 0 ≡ codes "#!" ++ cs = prefix_is (codes "#!") (from_place text 0) e in
-    let end : from_place text token.end ≡ from_first is_line_terminator cs = h.up_to_line_end ∙ ap (from_first is_line_terminator) begins ∙ from_first-hashbang cs in
+    let end : from_place text token.end ≡ from_first is_line_terminator cs =
+    h.up_to_line_end ∙ ap (from_first is_line_terminator) begins ∙ from_first-hashbang cs in
     let whole : from_place text 0 ≡ (codes "#!" ++ before_first is_line_terminator cs) ++ from_place text token.end =
-    begins ∙ ap (λ r. codes "#!" ++ r) (sym (before_from is_line_terminator cs)) ∙ sym (append_assoc (codes "#!") (before_first is_line_terminator cs) (from_first is_line_terminator cs))
+    begins ∙ ap (λ r. codes "#!" ++ r) (sym (before_from is_line_terminator cs))
+    ∙ sym (append_assoc (codes "#!") (before_first is_line_terminator cs) (from_first is_line_terminator cs))
     ∙ ap (λ r. (codes "#!" ++ before_first is_line_terminator cs) ++ r) (sym end) in
-    let way = leads text 0 token.end (codes "#!" ++ before_first is_line_terminator cs) u (IsCharBoundary-start text u) h.end whole in
-    record { ordered = subst (λ (n : ℕ). n ≤ token.end) (sym h.start) way.0; some_text = λ some. subst (λ (n : ℕ). n < token.end) (sym h.start) (way.1 (λ none. cc)) }
+    let way =
+    leads text 0 token.end (codes "#!" ++ before_first is_line_terminator cs) u
+    (IsCharBoundary-start text u) h.end whole in
+    record {
+      ordered = subst (λ (n : ℕ). n ≤ token.end) (sym h.start) way.0;
+      some_text =
+          λ some. subst (λ (n : ℕ). n < token.end) (sym h.start) (way.1 (λ none. cc));
+    }
 
 -- Each token that is read has a span in order, with a byte at least but for the end of the source.
-pub goal_reads_span : (text : List ℕ) (t : SourceType) (goal : Goal) (before : Option TokenParts) (place : ℕ) (o : Outcome) → IsUtf8 text
+pub goal_reads_span : (text : List ℕ) (t : SourceType) (goal : Goal) (before : Option TokenParts) (place : ℕ)
+    (o : Outcome) → IsUtf8 text
     → GoalReads text t goal before place o → IsSpan o.token
-goal_reads_span text t goal before place o u (hashbang_read begins read) = hashbang_span text o.token u (hashbang_start goal text place begins) read.is_hashbang
+goal_reads_span text t goal before place o u (hashbang_read begins read) =
+    hashbang_span text o.token u (hashbang_start goal text place begins) read.is_hashbang
 goal_reads_span text t goal before place o u (behind_gap begins read) =
-    let span = here_span text t read.line_has_ended o.token.start o.token.end read.reading u read.start read.end read.rest read.here in
+    let span =
+    here_span text t read.line_has_ended o.token.start o.token.end read.reading u read.start read.end read.rest
+    read.here in
     record { ordered = span.0; some_text = λ some. span.1 (λ e. some (ap (λ x. x.token.kind) read.outcome_is ∙ e)) }
 
 -- and its ends are places
-pub goal_reads_places : (text : List ℕ) (t : SourceType) (goal : Goal) (before : Option TokenParts) (place : ℕ) (o : Outcome) → IsUtf8 text
+pub goal_reads_places : (text : List ℕ) (t : SourceType) (goal : Goal) (before : Option TokenParts) (place : ℕ)
+    (o : Outcome) → IsUtf8 text
     → GoalReads text t goal before place o → IsCharBoundary text o.token.start × IsCharBoundary text o.token.end
 goal_reads_places text t goal before place o u (hashbang_read begins read) =
     (subst (IsCharBoundary text) (sym read.is_hashbang.start) (IsCharBoundary-start text u), read.is_hashbang.end)
 goal_reads_places text t goal before place o u (behind_gap begins read) = (read.start, read.end)
 
 -- the value of what is read to recover is that of its kind: none
-recovered_value : (a b : ℕ) (nl : Bool) (place : ℕ) (here : List ℕ) → IfSome (recovered nl place here) (λ r. r.value ≡ value_of r.kind a b)
+recovered_value : (a b : ℕ) (line_has_ended : Bool) (place : ℕ) (here : List ℕ)
+    → IfSome (recovered line_has_ended place here) (λ r. r.value ≡ value_of r.kind a b)
 unfolding is_identifier_name
-recovered_value a b nl place here =
+recovered_value a b line_has_ended place here =
     each_recovery (λ r. r.value ≡ value_of r.kind a b) (is_prefix (codes "/*") here) _ _ refl
     (each_recovery (λ r. r.value ≡ value_of r.kind a b) (is_prefix (codes "#!") here) _ _ refl
     (each_recovery (λ r. r.value ≡ value_of r.kind a b) (begins (λ c. c == 0xFFFD) here) _ _ refl (character here)))
   where
-    character : (here : List ℕ) → IfSome (recovered_character nl place here) (λ r. r.value ≡ value_of r.kind a b)
+    character : (here : List ℕ)
+        → IfSome (recovered_character line_has_ended place here) (λ r. r.value ≡ value_of r.kind a b)
     character [] = tt
     character (c ∷ cs) = each_recovery (λ r. r.value ≡ value_of r.kind a b) (is_control_or_wide c) _ None refl tt
 
-here_value : (text : List ℕ) (t : SourceType) (nl : Bool) (start end : ℕ) (r : Reading) → IsUtf8 text → IsCharBoundary text start → IsCharBoundary text end
-    → r.rest ≡ from_place text end → ReadsHere t nl start (from_place text start) r → r.value ≡ value_of r.kind start end
-here_value text t nl start end r u b d rest (spelled_here xs spelling is) =
-    ap (λ x. x.value) is ∙ ap (value_of r.kind start) (sym (place_past text start end xs u b d (spelling.here ∙ ap (λ ys. xs ++ ys) rest)))
-here_value text t nl start end r u b d rest (recovers nothing e) =
-    subst (λ found. IfSome found (λ x. x.value ≡ value_of x.kind start end)) e (recovered_value start end nl start (from_place text start))
+here_value : (text : List ℕ) (t : SourceType) (line_has_ended : Bool) (start end : ℕ) (r : Reading) → IsUtf8 text
+    → IsCharBoundary text start → IsCharBoundary text end
+    → r.rest ≡ from_place text end → ReadsHere t line_has_ended start (from_place text start) r
+    → r.value ≡ value_of r.kind start end
+here_value text t line_has_ended start end r u b d rest (spelled_here xs spelling is) =
+    ap (λ x. x.value) is
+    ∙ ap (value_of r.kind start)
+    (sym (place_past text start end xs u b d (spelling.here ∙ ap (λ ys. xs ++ ys) rest)))
+here_value text t line_has_ended start end r u b d rest (recovers nothing e) =
+    subst (λ found. IfSome found (λ x. x.value ≡ value_of x.kind start end)) e
+    (recovered_value start end line_has_ended start (from_place text start))
 
 -- The value of a reading is that of its token's kind and span.
-pub goal_reads_value : (text : List ℕ) (t : SourceType) (goal : Goal) (before : Option TokenParts) (place : ℕ) (o : Outcome) → IsUtf8 text
+pub goal_reads_value : (text : List ℕ) (t : SourceType) (goal : Goal) (before : Option TokenParts) (place : ℕ)
+    (o : Outcome) → IsUtf8 text
     → GoalReads text t goal before place o → o.value ≡ value_of o.token.kind o.token.start o.token.end
 unfolding is_identifier_name
 goal_reads_value text t goal before place o u (hashbang_read begins read) =
     ap (λ x. x.value) read.alone ∙ ap (λ k. value_of k o.token.start o.token.end) (sym read.is_hashbang.kind)
 goal_reads_value text t goal before place o u (behind_gap begins read) =
     ap (λ x. x.value) read.outcome_is
-    ∙ here_value text t read.line_has_ended o.token.start o.token.end read.reading u read.start read.end read.rest read.here
+    ∙ here_value text t read.line_has_ended o.token.start o.token.end read.reading u read.start read.end read.rest
+    read.here
     ∙ ap (λ x. value_of x.token.kind o.token.start o.token.end) (sym read.outcome_is)

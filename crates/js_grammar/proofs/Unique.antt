@@ -1,5 +1,6 @@
 -- What the grammar reads is one.
-use Rattle.std.proofs.Common.{◌≡◌, ℕ, ◌+◌, ◌-◌, ◌<◌, ◌≤◌, Bool, true, false, List, [], ◌∷◌, ◌++◌, length, take, drop, refl, sym, ◌∙◌, ap, subst, arith, Option, Some, None, inl, inr, length-append}
+use Rattle.std.proofs.Common.{◌≡◌, ℕ, ◌+◌, ◌-◌, ◌<◌, ◌≤◌, Bool, true, false, List, [], ◌∷◌, ◌++◌, length, take, drop}
+use Rattle.std.proofs.Common.{refl, sym, ◌∙◌, ap, subst, arith, Option, Some, None, inl, inr, length-append}
 use Rattle.std.specs.Prelude.{if◌then◌else◌}
 use Rattle.std.specs.Str.{IsCharBoundary, IsUtf8, encode_utf8_all, bytes_eq}
 use Rattle.js_text.specs.Characters.{from_place, begins, is_line_terminator, from_first}
@@ -8,7 +9,8 @@ use Rattle.js_text.proofs.TextLemmas.{place_unique}
 use Rattle.js_kind.specs.TokenParts.{TokenParts}
 use Rattle.js_kind.specs.declared.kind.Kind.{Kind}
 use Rattle.js_grammar.specs.Gap.{LongestGap, WholeGap}
-use Rattle.js_grammar.specs.Goals.{ReadsHere, ReadsBehindGap, ReadsHashbang, GoalReads, spelled_reading, outcome_behind, token_alone, line_has_ended_behind}
+use Rattle.js_grammar.specs.Goals.{ReadsHere, ReadsBehindGap, ReadsHashbang, GoalReads, spelled_reading, outcome_behind}
+use Rattle.js_grammar.specs.Goals.{token_alone, line_has_ended_behind}
 use Rattle.js_grammar.specs.Goals.ReadsHere.{spelled as spelled_here, recovers}
 use Rattle.js_grammar.specs.Goals.GoalReads.{hashbang as hashbang_read, behind_gap}
 use Rattle.js_grammar.specs.Hashbang.{begins_hashbang, IsHashbang}
@@ -46,38 +48,193 @@ Firsts all [] = Unit {0}
 Firsts all (p ∷ ps) = (kind_of all p.text ≡ Some p.kind) × Firsts all ps
 
 firsts : Firsts punctuators punctuators
-firsts =
-    (refl, (refl, (refl, (refl, (refl, (refl, (refl, (refl, (refl, (refl, (refl, (refl, (refl, (refl, (refl, (refl, (refl, (refl, (refl, (refl, (refl, (refl, (refl, (refl, (refl, (refl, (refl, (refl, (refl, (refl, (refl, (refl, (refl, (refl, (refl, (refl, (refl, (refl, (refl, (refl, (refl, (refl, (refl, (refl, (refl, (refl, (refl, (refl, (refl, (refl, (refl, (refl, (refl, tt)))))))))))))))))))))))))))))))))))))))))))))))))))))
+firsts = (
+  refl,
+  (
+    refl,
+    (
+      refl,
+      (
+        refl,
+        (
+          refl,
+          (
+            refl,
+            (
+              refl,
+              (
+                refl,
+                (
+                  refl,
+                  (
+                    refl,
+                    (
+                      refl,
+                      (
+                        refl,
+                        (
+                          refl,
+                          (
+                            refl,
+                            (
+                              refl,
+                              (
+                                refl,
+                                (
+                                  refl,
+                                  (
+                                    refl,
+                                    (
+                                      refl,
+                                      (
+                                        refl,
+                                        (
+                                          refl,
+                                          (
+                                            refl,
+                                            (
+                                              refl,
+                                              (
+                                                refl,
+                                                (
+                                                  refl,
+                                                  (
+                                                    refl,
+                                                    (
+                                                      refl,
+                                                      (
+                                                        refl,
+                                                        (
+                                                          refl,
+                                                          (
+                                                            refl,
+                                                            (
+                                                              refl,
+                                                              (
+                                                                refl,
+                                                                (
+                                                                  refl,
+                                                                  (
+                                                                    refl,
+                                                                    (
+                                                                      refl,
+                                                                      (
+                                                                        refl,
+                                                                        (
+                                                                          refl,
+                                                                          (
+                                                                            refl,
+                                                                            (
+                                                                              refl,
+                                                                              (
+                                                                                refl,
+                                                                                (
+                                                                                  refl,
+                                                                                  (
+                                                                                    refl,
+                                                                                    (
+                                                                                      refl,
+                                                                                      (
+                                                                                        refl,
+                                                                                        (
+                                                                                          refl,
+                                                                                          (refl, (refl, (refl, (refl, (refl, (refl, (refl, (refl, tt)))))))),
+                                                                                        ),
+                                                                                      ),
+                                                                                    ),
+                                                                                  ),
+                                                                                ),
+                                                                              ),
+                                                                            ),
+                                                                          ),
+                                                                        ),
+                                                                      ),
+                                                                    ),
+                                                                  ),
+                                                                ),
+                                                              ),
+                                                            ),
+                                                          ),
+                                                        ),
+                                                      ),
+                                                    ),
+                                                  ),
+                                                ),
+                                              ),
+                                            ),
+                                          ),
+                                        ),
+                                      ),
+                                    ),
+                                  ),
+                                ),
+                              ),
+                            ),
+                          ),
+                        ),
+                      ),
+                    ),
+                  ),
+                ),
+              ),
+            ),
+          ),
+        ),
+      ),
+    ),
+  ),
+)
 
-first_at : (all : List Punctuator) (p : Punctuator) (ps : List Punctuator) → IsIn p ps → Firsts all ps → kind_of all p.text ≡ Some p.kind
+first_at : (all : List Punctuator) (p : Punctuator) (ps : List Punctuator) → IsIn p ps → Firsts all ps
+    → kind_of all p.text ≡ Some p.kind
 first_at all p [] i h = absurd i
-first_at all p (q ∷ ps) i h = elim i [ inl here ↦ subst (λ r. kind_of all r.text ≡ Some r.kind) (sym here) h.0 | inr there ↦ first_at all p ps there h.1 ]
+first_at all p (q ∷ ps) i h =
+    elim i [
+      | inl here ↦ subst (λ r. kind_of all r.text ≡ Some r.kind)
+          (sym here) h.0
+      | inr there ↦ first_at all p ps there h.1
+    ]
 
 -- a text has one kind
-kind_unique : (t : SourceType) (nl : Bool) (xs ys : List ℕ) (j k : Kind) → Spelling t nl xs ys j → Spelling t nl xs ys k → j ≡ k
-kind_unique t nl xs ys j k (name is end kind) (name is' end' kind') = kind ∙ sym kind'
-kind_unique t nl xs ys j k (name is end kind) (punctuator p i same allowed kind') = absurd (name_begins_no_punctuator xs p is i same)
-kind_unique t nl xs ys j k (name is end kind) (end_of_source none end' kind') = absurd (subst IsName none is)
-kind_unique t nl xs ys j k (punctuator p i same allowed kind) (name is end kind') = absurd (name_begins_no_punctuator xs p is i same)
-kind_unique t nl xs ys j k (punctuator p i same allowed kind) (punctuator q i' same' allowed' kind') =
+kind_unique : (t : SourceType) (line_has_ended : Bool) (xs ys : List ℕ) (j k : Kind)
+    → Spelling t line_has_ended xs ys j → Spelling t line_has_ended xs ys k → j ≡ k
+kind_unique t line_has_ended xs ys j k (name is end kind) (name is' end' kind') = kind ∙ sym kind'
+kind_unique t line_has_ended xs ys j k (name is end kind) (punctuator p i same allowed kind') =
+    absurd (name_begins_no_punctuator xs p is i same)
+kind_unique t line_has_ended xs ys j k (name is end kind) (end_of_source none end' kind') =
+    absurd (subst IsName none is)
+kind_unique t line_has_ended xs ys j k (punctuator p i same allowed kind) (name is end kind') =
+    absurd (name_begins_no_punctuator xs p is i same)
+kind_unique t line_has_ended xs ys j k (punctuator p i same allowed kind) (punctuator q i' same' allowed' kind') =
     let texts : p.text ≡ q.text = sym same ∙ same' in
-    let kinds : Some p.kind ≡ Some q.kind = sym (first_at punctuators p punctuators i firsts) ∙ ap (kind_of punctuators) texts ∙ first_at punctuators q punctuators i' firsts in
+    let kinds : Some p.kind ≡ Some q.kind =
+    sym (first_at punctuators p punctuators i firsts) ∙ ap (kind_of punctuators) texts
+    ∙ first_at punctuators q punctuators i' firsts in
     cc
-kind_unique t nl xs ys j k (punctuator p i same allowed kind) (end_of_source none end kind') = absurd (some_text p i (sym same ∙ none))
-kind_unique t nl xs ys j k (end_of_source none end kind) (name is end' kind') = absurd (subst IsName none is)
-kind_unique t nl xs ys j k (end_of_source none end kind) (punctuator p i same allowed kind') = absurd (some_text p i (sym same ∙ none))
-kind_unique t nl xs ys j k (end_of_source none end kind) (end_of_source none' end' kind') = kind ∙ sym kind'
+kind_unique t line_has_ended xs ys j k (punctuator p i same allowed kind) (end_of_source none end kind') =
+    absurd (some_text p i (sym same ∙ none))
+kind_unique t line_has_ended xs ys j k (end_of_source none end kind) (name is end' kind') =
+    absurd (subst IsName none is)
+kind_unique t line_has_ended xs ys j k (end_of_source none end kind) (punctuator p i same allowed kind') =
+    absurd (some_text p i (sym same ∙ none))
+kind_unique t line_has_ended xs ys j k (end_of_source none end kind) (end_of_source none' end' kind') = kind ∙ sym kind'
 
 -- the longest spelling is one
-pub longest_unique : (t : SourceType) (nl : Bool) (text xs ys us vs : List ℕ) (j k : Kind) → LongestSpelling t nl text xs ys j → LongestSpelling t nl text us vs k → (xs ≡ us) × (ys ≡ vs) × (j ≡ k)
-longest_unique t nl text xs ys us vs j k a b =
-    let same_length : length xs ≡ length us = omega (arith, a.longest us vs k b.here b.spelling, b.longest xs ys j a.here a.spelling) in
+pub longest_unique : (t : SourceType) (line_has_ended : Bool) (text xs ys us vs : List ℕ) (j k : Kind)
+    → LongestSpelling t line_has_ended text xs ys j → LongestSpelling t line_has_ended text us vs k
+    → (xs ≡ us) × (ys ≡ vs) × (j ≡ k)
+longest_unique t line_has_ended text xs ys us vs j k a b =
+    let same_length : length xs ≡ length us =
+    omega (arith, a.longest us vs k b.here b.spelling, b.longest xs ys j a.here a.spelling) in
     let same = fronts xs ys us vs (sym a.here ∙ b.here) same_length in
-    let other : Spelling t nl xs ys k = subst (λ r. Spelling t nl xs r k) (sym same.1) (subst (λ r. Spelling t nl r vs k) (sym same.0) b.spelling) in
-    (same.0, same.1, kind_unique t nl xs ys j k a.spelling other)
+    let other : Spelling t line_has_ended xs ys k =
+    subst (λ r. Spelling t line_has_ended xs r k) (sym same.1)
+    (subst (λ r. Spelling t line_has_ended r vs k) (sym same.0) b.spelling) in
+    (same.0, same.1, kind_unique t line_has_ended xs ys j k a.spelling other)
 
-hashbang_unique : (text : List ℕ) (nl : Bool) (a b : TokenParts) → IsUtf8 text → IsHashbang text a → IsHashbang text b → a.is_on_new_line ≡ nl → b.is_on_new_line ≡ nl → SameReading a b
-hashbang_unique text nl a b utf8 h g m n = record {
+hashbang_unique : (text : List ℕ) (line_has_ended : Bool) (a b : TokenParts) → IsUtf8 text → IsHashbang text a
+    → IsHashbang text b → a.is_on_new_line ≡ line_has_ended → b.is_on_new_line ≡ line_has_ended → SameReading a b
+hashbang_unique text line_has_ended a b utf8 h g m n = record {
   start = h.start ∙ sym g.start;
   end = place_unique text a.end b.end utf8 h.end g.end (h.up_to_line_end ∙ sym g.up_to_line_end);
   kind = h.kind ∙ sym g.kind;
@@ -85,65 +242,101 @@ hashbang_unique text nl a b utf8 h g m n = record {
 }
 
 -- spellings at one place
-here_unique : (text : List ℕ) (t : SourceType) (ended : Bool) (a b : TokenParts) (xs us : List ℕ) → IsUtf8 text → a.start ≡ b.start
+here_unique : (text : List ℕ) (t : SourceType) (line_has_ended : Bool) (a b : TokenParts) (xs us : List ℕ)
+    → IsUtf8 text → a.start ≡ b.start
     → IsCharBoundary text a.end → IsCharBoundary text b.end
-    → LongestSpelling t ended (from_place text a.start) xs (from_place text a.end) a.kind
-    → LongestSpelling t ended (from_place text b.start) us (from_place text b.end) b.kind → (a.end ≡ b.end) × (a.kind ≡ b.kind)
-here_unique text t ended a b xs us utf8 start ea eb la lb =
-    let there = subst (λ p. LongestSpelling t ended (from_place text p) us (from_place text b.end) b.kind) (sym start) lb in
-    let same = longest_unique t ended _ _ _ _ _ _ _ la there in
+    → LongestSpelling t line_has_ended (from_place text a.start) xs (from_place text a.end) a.kind
+    → LongestSpelling t line_has_ended (from_place text b.start) us (from_place text b.end) b.kind
+    → (a.end ≡ b.end) × (a.kind ≡ b.kind)
+here_unique text t line_has_ended a b xs us utf8 start ea eb la lb =
+    let there =
+    subst (λ p. LongestSpelling t line_has_ended (from_place text p) us (from_place text b.end) b.kind)
+    (sym start) lb in
+    let same = longest_unique t line_has_ended _ _ _ _ _ _ _ la there in
     (place_unique text a.end b.end utf8 ea eb same.1, same.2)
 
-spelled_unique : (text : List ℕ) (t : SourceType) (nl : Bool) (place : ℕ) (a b : TokenParts) → IsUtf8 text → IsSpelled text t nl place a → IsSpelled text t nl place b → SameReading a b
-spelled_unique text t nl place a b utf8 h g =
+spelled_unique : (text : List ℕ) (t : SourceType) (line_has_ended : Bool) (place : ℕ) (a b : TokenParts) → IsUtf8 text
+    → IsSpelled text t line_has_ended place a → IsSpelled text t line_has_ended place b → SameReading a b
+spelled_unique text t line_has_ended place a b utf8 h g =
     let gaps = longest_gap_unique _ _ _ _ _ _ _ h.gap g.gap in
     let start : a.start ≡ b.start = place_unique text _ _ utf8 h.start g.start gaps.1 in
-    let there = subst (λ e. LongestSpelling t e (from_place text b.start) g.spelled (from_place text b.end) b.kind) (sym gaps.0) g.spelling in
+    let there =
+    subst (λ e. LongestSpelling t e (from_place text b.start) g.spelled (from_place text b.end) b.kind)
+    (sym gaps.0) g.spelling in
     let same = here_unique text t a.is_on_new_line a b h.spelled g.spelled utf8 start h.end g.end h.spelling there in
     record { start = start; end = same.0; kind = same.1; is_on_new_line = gaps.0 }
 
 -- the tokens that the grammar reads at a place have one span, kind and newline flag
-pub plain_reads_unique : (text : List ℕ) (t : SourceType) (goal : Goal) (nl : Bool) (place : ℕ) (a b : TokenParts) → IsUtf8 text
-    → PlainReads text t goal nl place a → PlainReads text t goal nl place b → SameReading a b
-plain_reads_unique text t goal nl place a b utf8 (hashbang x h m) (hashbang y g n) = hashbang_unique text nl a b utf8 h g m n
-plain_reads_unique text t goal nl place a b utf8 (hashbang x h m) (spelled y g) = absurd (cc)
-plain_reads_unique text t goal nl place a b utf8 (spelled x h) (hashbang y g n) = absurd (cc)
-plain_reads_unique text t goal nl place a b utf8 (spelled x h) (spelled y g) = spelled_unique text t nl place a b utf8 h g
+pub plain_reads_unique : (text : List ℕ) (t : SourceType) (goal : Goal) (line_has_ended : Bool) (place : ℕ)
+    (a b : TokenParts) → IsUtf8 text
+    → PlainReads text t goal line_has_ended place a → PlainReads text t goal line_has_ended place b → SameReading a b
+plain_reads_unique text t goal line_has_ended place a b utf8 (hashbang x h m) (hashbang y g n) =
+    hashbang_unique text line_has_ended a b utf8 h g m n
+plain_reads_unique text t goal line_has_ended place a b utf8 (hashbang x h m) (spelled y g) = absurd (cc)
+plain_reads_unique text t goal line_has_ended place a b utf8 (spelled x h) (hashbang y g n) = absurd (cc)
+plain_reads_unique text t goal line_has_ended place a b utf8 (spelled x h) (spelled y g) =
+    spelled_unique text t line_has_ended place a b utf8 h g
 
 -- what is read behind one gap is one
-reading_unique : (t : SourceType) (nl : Bool) (place : ℕ) (here : List ℕ) (r s : Reading) → ReadsHere t nl place here r → ReadsHere t nl place here s → r ≡ s
-reading_unique t nl place here r s (spelled_here xs a e) (spelled_here us b f) =
-    let same = longest_unique t nl here xs r.rest us s.rest r.kind s.kind a b in
-    e ∙ ap (λ zs. spelled_reading nl place zs r.rest r.kind) same.0 ∙ ap (λ zs. spelled_reading nl place us zs r.kind) same.1
-    ∙ ap (spelled_reading nl place us s.rest) same.2 ∙ sym f
-reading_unique t nl place here r s (spelled_here xs a e) (recovers nothing f) = absurd (nothing xs r.rest r.kind a.here a.spelling)
-reading_unique t nl place here r s (recovers nothing e) (spelled_here us b f) = absurd (nothing us s.rest s.kind b.here b.spelling)
-reading_unique t nl place here r s (recovers nothing e) (recovers nothing' f) = let same : Some r ≡ Some s = sym e ∙ f in cc
+reading_unique : (t : SourceType) (line_has_ended : Bool) (place : ℕ) (here : List ℕ) (r s : Reading)
+    → ReadsHere t line_has_ended place here r → ReadsHere t line_has_ended place here s → r ≡ s
+reading_unique t line_has_ended place here r s (spelled_here xs a e) (spelled_here us b f) =
+    let same = longest_unique t line_has_ended here xs r.rest us s.rest r.kind s.kind a b in
+    e ∙ ap (λ zs. spelled_reading line_has_ended place zs r.rest r.kind) same.0
+    ∙ ap (λ zs. spelled_reading line_has_ended place us zs r.kind) same.1
+    ∙ ap (spelled_reading line_has_ended place us s.rest) same.2 ∙ sym f
+reading_unique t line_has_ended place here r s (spelled_here xs a e) (recovers nothing f) =
+    absurd (nothing xs r.rest r.kind a.here a.spelling)
+reading_unique t line_has_ended place here r s (recovers nothing e) (spelled_here us b f) =
+    absurd (nothing us s.rest s.kind b.here b.spelling)
+reading_unique t line_has_ended place here r s (recovers nothing e) (recovers nothing' f) =
+    let same : Some r ≡ Some s = sym e ∙ f in cc
 
-behind_gap_unique : (text : List ℕ) (t : SourceType) (nl : Bool) (place : ℕ) (a b : Outcome) → IsUtf8 text → ReadsBehindGap text t nl place a → ReadsBehindGap text t nl place b → a ≡ b
-behind_gap_unique text t nl place a b utf8 h g =
-    let gaps = whole_gap_unique t nl (from_place text place) h.pieces g.pieces h.line_has_ended g.line_has_ended (from_place text a.token.start) (from_place text b.token.start) h.gap g.gap in
+behind_gap_unique : (text : List ℕ) (t : SourceType) (line_has_ended : Bool) (place : ℕ) (a b : Outcome) → IsUtf8 text
+    → ReadsBehindGap text t line_has_ended place a → ReadsBehindGap text t line_has_ended place b → a ≡ b
+behind_gap_unique text t line_has_ended place a b utf8 h g =
+    let gaps =
+    whole_gap_unique t line_has_ended (from_place text place) h.pieces g.pieces h.line_has_ended g.line_has_ended
+    (from_place text a.token.start) (from_place text b.token.start) h.gap g.gap in
     let start : a.token.start ≡ b.token.start = place_unique text _ _ utf8 h.start g.start gaps.2 in
     let there : ReadsHere t h.line_has_ended a.token.start (from_place text a.token.start) g.reading =
     subst (λ e. ReadsHere t e a.token.start (from_place text a.token.start) g.reading) (sym gaps.1)
     (subst (λ p. ReadsHere t g.line_has_ended p (from_place text p) g.reading) (sym start) g.here) in
-    let reading : h.reading ≡ g.reading = reading_unique t h.line_has_ended a.token.start (from_place text a.token.start) h.reading g.reading h.here there in
-    let end : a.token.end ≡ b.token.end = place_unique text _ _ utf8 h.end g.end (sym h.rest ∙ ap (λ r. r.rest) reading ∙ g.rest) in
+    let reading : h.reading ≡ g.reading =
+    reading_unique t h.line_has_ended a.token.start
+    (from_place text a.token.start) h.reading g.reading h.here there in
+    let end : a.token.end ≡ b.token.end =
+    place_unique text _ _ utf8 h.end g.end (sym h.rest ∙ ap (λ r. r.rest) reading ∙ g.rest) in
     h.outcome_is ∙ ap (λ ps. outcome_behind place ps a.token.start a.token.end h.reading) gaps.0
     ∙ ap (λ p. outcome_behind place g.pieces p a.token.end h.reading) start
     ∙ ap (λ p. outcome_behind place g.pieces b.token.start p h.reading) end
     ∙ ap (outcome_behind place g.pieces b.token.start b.token.end) reading ∙ sym g.outcome_is
 
-hashbang_outcome_unique : (text : List ℕ) (nl : Bool) (a b : Outcome) → IsUtf8 text → ReadsHashbang text nl a → ReadsHashbang text nl b → a ≡ b
-hashbang_outcome_unique text nl a b utf8 h g =
-    let same = hashbang_unique text nl a.token b.token utf8 h.is_hashbang g.is_hashbang h.is_on_new_line g.is_on_new_line in
-    let tokens : a.token ≡ b.token = rw (same.start, same.end, same.kind, same.is_on_new_line, h.escaped ∙ sym g.escaped, h.has_separator ∙ sym g.has_separator) refl in
+hashbang_outcome_unique : (text : List ℕ) (line_has_ended : Bool) (a b : Outcome) → IsUtf8 text
+    → ReadsHashbang text line_has_ended a → ReadsHashbang text line_has_ended b → a ≡ b
+hashbang_outcome_unique text line_has_ended a b utf8 h g =
+    let same =
+    hashbang_unique text line_has_ended a.token b.token utf8 h.is_hashbang g.is_hashbang h.is_on_new_line
+    g.is_on_new_line in
+    let tokens : a.token ≡ b.token =
+    rw (
+      same.start,
+      same.end,
+      same.kind,
+      same.is_on_new_line,
+      h.escaped ∙ sym g.escaped,
+      h.has_separator
+          ∙ sym g.has_separator,
+    ) refl in
     h.alone ∙ ap token_alone tokens ∙ sym g.alone
 
 -- A reading is one.
-pub goal_reads_unique : (text : List ℕ) (t : SourceType) (goal : Goal) (before : Option TokenParts) (place : ℕ) (a b : Outcome) → IsUtf8 text
+pub goal_reads_unique : (text : List ℕ) (t : SourceType) (goal : Goal) (before : Option TokenParts) (place : ℕ)
+    (a b : Outcome) → IsUtf8 text
     → GoalReads text t goal before place a → GoalReads text t goal before place b → a ≡ b
-goal_reads_unique text t goal before place a b utf8 (hashbang_read x h) (hashbang_read y g) = hashbang_outcome_unique text (line_has_ended_behind before) a b utf8 h g
+goal_reads_unique text t goal before place a b utf8 (hashbang_read x h) (hashbang_read y g) =
+    hashbang_outcome_unique text (line_has_ended_behind before) a b utf8 h g
 goal_reads_unique text t goal before place a b utf8 (hashbang_read x h) (behind_gap y g) = absurd (cc)
 goal_reads_unique text t goal before place a b utf8 (behind_gap x h) (hashbang_read y g) = absurd (cc)
-goal_reads_unique text t goal before place a b utf8 (behind_gap x h) (behind_gap y g) = behind_gap_unique text t (line_has_ended_behind before) place a b utf8 h g
+goal_reads_unique text t goal before place a b utf8 (behind_gap x h) (behind_gap y g) =
+    behind_gap_unique text t (line_has_ended_behind before) place a b utf8 h g

@@ -83,9 +83,9 @@ piece t line_has_ended (c ∷ cs) =
     else if is_prefix (codes "//") (c ∷ cs) then Some (line_comment single_line_comment line_has_ended (c ∷ cs))
     else if is_prefix (codes "/*") (c ∷ cs) then block_comment line_has_ended (c ∷ cs)
     else if is_prefix (codes "<!--") (c ∷ cs) && has_html_comments t
-        then Some (line_comment html_open_comment line_has_ended (c ∷ cs))
+    then Some (line_comment html_open_comment line_has_ended (c ∷ cs))
     else if is_prefix (codes "-->") (c ∷ cs) && (has_html_comments t && line_has_ended)
-        then Some (line_comment html_close_comment line_has_ended (c ∷ cs))
+    then Some (line_comment html_close_comment line_has_ended (c ∷ cs))
     else None
 
 -- a comment that a module may not have, and that is reported and skipped: `<!--` where a line has ended

@@ -12,16 +12,18 @@ ghost use Rattle.js_grammar.specs.Reads.{PlainReads, SameReading};
 
 /// At most one piece of a gap starts at a place, and it is a character long at least.
 pub fn one_piece_starts_at_a_place()
-    ensures one { (t : SourceType) (nl : Bool) (text : List ℕ) (x y : Piece)
-        → piece t nl text ≡ Some x → piece t nl text ≡ Some y → x ≡ y }
-    ensures characters { (t : SourceType) (nl : Bool) (text : List ℕ) (x : Piece)
-        → piece t nl text ≡ Some x → (text ≡ x.text ++ x.rest) × (length x.rest < length text) }
+    ensures one { (t : SourceType) (line_has_ended : Bool) (text : List ℕ) (x y : Piece)
+        → piece t line_has_ended text ≡ Some x → piece t line_has_ended text ≡ Some y → x ≡ y }
+    ensures characters { (t : SourceType) (line_has_ended : Bool) (text : List ℕ) (x : Piece)
+        → piece t line_has_ended text ≡ Some x → (text ≡ x.text ++ x.rest) × (length x.rest < length text) }
 {}
 
 /// The tokens that the grammar reads from a place on have one span, kind and newline flag.
 pub fn one_token_is_read()
-    ensures { (text : List ℕ) (t : SourceType) (goal : Goal) (nl : Bool) (place : ℕ) (a b : TokenParts) → IsUtf8 text
-        → PlainReads text t goal nl place a → PlainReads text t goal nl place b → SameReading a b }
+    ensures { (text : List ℕ) (t : SourceType) (goal : Goal) (line_has_ended : Bool) (place : ℕ) (a b : TokenParts)
+        → IsUtf8 text
+        → PlainReads text t goal line_has_ended place a → PlainReads text t goal line_has_ended place b
+        → SameReading a b }
 {}
 
 /// A reading gives one token with one value, and finds one list of each kind.
@@ -30,7 +32,8 @@ pub fn one_outcome_is_given()
         → IsUtf8 text → GoalReads text t goal before place a → GoalReads text t goal before place b → a ≡ b }
 {}
 
-/// A reading of the first or the plain goal reports nothing exactly where the grammar reads a token, and then it is this one.
+/// A reading of the first or the plain goal reports nothing exactly where the grammar reads a token, and then it is
+/// this one.
 pub fn a_clean_reading_is_the_grammars()
     ensures { (text : List ℕ) (t : SourceType) (goal : Goal) (before : Option TokenParts) (place : ℕ) (o : Outcome)
         → GoalReads text t goal before place o → AgreesWithGrammar text t goal before place o }
