@@ -1,9 +1,10 @@
 -- The steps of a lexer.
 use Rattle.std.proofs.Common.{◌≡◌, ◌-◌, Bool, true, false, not, List, [], ◌∷◌, ◌++◌, length, take, refl, sym, ◌∙◌, ap, subst, arith, append-nil, Option, Some, None}
-use Rattle.std.specs.Prelude.{slice_get}
+use Rattle.std.specs.Prelude.{slice_get, ℕ, IfSome}
 use Rattle.std.specs.Option.{is_some}
 use Rattle.std.specs.List.{last_or}
 use Rattle.std.specs.Str.{IsUtf8}
+use Rattle.std.proofs.lemmas.Str.{IsCharBoundary-start}
 use Rattle.std.proofs.Math.Seq.{take-append_seam}
 use Rattle.js_text.specs.Lists.{with_last}
 use Rattle.js_kind.specs.TokenParts.{TokenParts}
@@ -13,7 +14,7 @@ use Rattle.js_grammar.specs.Outcome.{Findings, joined, lengths_of, cut_to}
 use Rattle.js_grammar.specs.declared.goal.Goal.{Goal}
 use Rattle.js_grammar.proofs.Clean.{agrees_with_grammar}
 use Rattle.js_grammar.proofs.Spans.{goal_reads_span, goal_reads_places}
-use Rattle.js_lexer.specs.Lexer.{LexerState, IsOnPlaces, IsSound, IsRestored, collected, ReadsOutcome, ReadsToken, HasMovedOn, Checkpoint, checkpoint_of, put_back, rewound, BeginsAlike, GoesOnFrom}
+use Rattle.js_lexer.specs.Lexer.{LexerState, IsOnPlaces, IsSound, IsRestored, collected, ReadsOutcome, ReadsToken, HasMovedOn, Checkpoint, checkpoint_of, put_back, rewound, BeginsAlike, GoesOnFrom, token_or_default}
 use Rattle.js_lexer.specs.Reader.{ReadsGoal, MovesOn}
 use Rattle.js_lexer.specs.declared.reader.Reader.{Reader}
 use Rattle.js_source.specs.Source.{At}
@@ -193,3 +194,8 @@ last_at t (u ∷ ts) = last_at u ts
 pub last_is : (ts : List TokenParts) → slice_get ts (length ts - 1) ≡ last_or None ts
 last_is [] = refl
 last_is (t ∷ ts) = let same : length (t ∷ ts) - 1 ≡ length ts = omega arith in ap (slice_get (t ∷ ts)) same ∙ last_at t ts
+
+-- the last token, or the default one, lies on places
+pub default_lies : (text : List ℕ) (last : Option TokenParts) → IsUtf8 text → IfSome last (IsOnPlaces text) → IsOnPlaces text (token_or_default last)
+default_lies text None u h = record { start = IsCharBoundary-start text u; end = IsCharBoundary-start text u; ordered = omega arith }
+default_lies text (Some token) u h = h

@@ -174,8 +174,11 @@ impl<'a, C: LexerConfig + Drop> Lexer<'a, C> {
 
     /// The last token that was read; a default token before the first.
     pub fn last_token(&self) -> Token
-        ensures { result ≡ token_or_default self.now.last }
+        ensures token { result ≡ token_or_default self.now.last }
+        ensures places { IsOnPlaces self.now.text result }
     {
+        // The text is UTF-8, so the default token lies on it too.
+        let _place = self.reader.source.position();
         self.last.unwrap_or(Token::default())
     }
 

@@ -1,15 +1,14 @@
 -- The tests of a source and of a list of commands.
-use Rattle.std.proofs.Common.{◌≡◌, ℕ, ◌+◌, ◌<◌, ◌≤◌, Bool, true, false, cond, List, [], ◌∷◌, length, take, get_or, refl, sym, ◌∙◌, ap, subst, arith, count_by, inl, inr}
-use Rattle.std.proofs.lemmas.List.Sums.{count_by_more_no, count_by_more_yes, count_by-le-length}
+use Rattle.std.proofs.Common.{◌≡◌, ℕ, ◌+◌, ◌<◌, ◌≤◌, Bool, true, false, cond, List, [], ◌∷◌, length, take, get_or, refl, ◌∙◌, ap, subst, arith, count_by, inl, inr}
+use Rattle.std.proofs.lemmas.List.Sums.{count_by_more_no, count_by_more_yes}
 use Rattle.std.proofs.lemmas.Bool.{cases_lt}
 use Rattle.std.proofs.lemmas.Bool.Decides.{nat_tests}
-use Rattle.std.proofs.lemmas.List.{length-take-le}
 use Rattle.std.specs.List.{starts_with}
 use Rattle.std.specs.Prelude.{codes, nat_eq, ◌==◌}
 use Rattle.js_grammar.specs.Gap.{is_prefix}
-use Rattle.std.proofs.lemmas.Option.{slice_get_within, get_or_from_slice_get, slice_get-get_or}
+use Rattle.std.proofs.lemmas.Option.{slice_get_within, get_or_from_slice_get}
 use Rattle.js_session.specs.declared.command.Command.{Command}
-use Rattle.js_session.specs.Faults.{ClosesNoMark, FirstWithoutMark, HasMarks}
+use Rattle.js_session.specs.Faults.{ClosesNoMark, HasMarks}
 use Rattle.js_session.specs.Effects.{opens_one, closes}
 
 -- one more command is counted
@@ -19,23 +18,6 @@ count_more_by p xs i d h false e = omega (arith, count_by_more_no p xs i d h e)
 
 pub count_more : (p : Command → Bool) (xs : List Command) (i : ℕ) (d : Command) → i < length xs → count_by p (take (i + 1) xs) ≡ count_by p (take i xs) + cond (p (get_or xs i d)) 1 0
 count_more p xs i d h = count_more_by p xs i d h (p (get_or xs i d)) refl
-
--- the counts of the commands before an index
-pub counts_bound : (p : Command → Bool) (xs : List Command) (i : ℕ) → i ≤ length xs → count_by p (take i xs) ≤ i
-counts_bound p xs i h = omega (arith, count_by-le-length p (take i xs), length-take-le i xs h)
-
--- The command at an index closes a mark where none is open.
-pub first_without : (commands : List Command) (index now : ℕ) (d : Command) → index < length commands → now ≡ 0 → closes (get_or commands index d) ≡ true
-    → now + count_by closes (take index commands) ≡ count_by opens_one (take index commands) → ((i : ℕ) → i < index → ¬ (ClosesNoMark commands i)) → FirstWithoutMark commands index
-first_without commands index now d within none is balance earlier = record {
-  here = record {
-    command = get_or commands index d;
-    here = slice_get-get_or commands index d within;
-    is_close = is;
-    none_open = sym (omega (arith, none, balance));
-  };
-  earlier = earlier;
-}
 
 -- Where a command that closes a mark has one to close, no mark too many was closed up to it.
 pub none_without : (commands : List Command) (index now : ℕ) (d : Command) → (closes (get_or commands index d) ≡ true → 0 < now)

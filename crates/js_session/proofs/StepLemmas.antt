@@ -6,17 +6,17 @@ use Rattle.std.specs.Prelude.{reverse, OnOk, OnErr, IsSome, ◌↔◌, option_to
 use Rattle.js_text.specs.declared.source_type.SourceType.{SourceType}
 use Rattle.js_text.specs.Lists.{with_last}
 use Rattle.js_grammar.specs.declared.goal.Goal.{Goal}
-use Rattle.js_grammar.specs.declared.goal.Goal.TheVariants.{First, Next as NextGoal}
-use Rattle.js_lexer.specs.Lexer.{LexerState, IsRestored, CanRewind, GoesOnFrom, IsOnPlaces, after_outcome, checkpoint_of, fresh, token_or_default, put_back}
+use Rattle.js_grammar.specs.declared.goal.Goal.TheVariants.{Next as NextGoal}
+use Rattle.js_lexer.specs.Lexer.{LexerState, IsRestored, CanRewind, GoesOnFrom, IsOnPlaces, after_outcome, checkpoint_of, token_or_default, put_back}
 use Rattle.js_session.specs.declared.command.Command.{Command}
 use Rattle.js_session.specs.declared.command.Command.TheVariants.{Next, Peek, Mark, Rewind, Commit}
 use Rattle.js_session.specs.declared.mark.SessionMark.{SessionMark}
-use Rattle.js_session.specs.Live.{with_outcome, outcome_of, after_mark, nothing_live}
+use Rattle.js_session.specs.Live.{with_outcome, outcome_of, after_mark}
 use Rattle.js_session.specs.Effects.{effect_of}
 use Rattle.js_session.specs.Marks.{live_now, front, fronts, state_of, lexer_behind, AreMarks, IsInOrder}
 use Rattle.js_session.specs.Report.{LiesOnPlaces}
 use Rattle.js_session.specs.RowReader.{RowReaderState, AddsLive, AddsPeek, IsUndone, IsMarkOf, GoesToMark}
-use Rattle.js_session.specs.Session.{SessionState, AddsRow, Begins, LieOnPlaces, after_command}
+use Rattle.js_session.specs.Session.{SessionState, AddsRow, LieOnPlaces, after_command}
 use Rattle.js_session.proofs.LexerLemmas.{goes_on-restored, goes_on-trans, restored-trans, restored-sym, restored-refl, can_rewind-on}
 use Rattle.js_session.proofs.LiveLemmas.{same_live, replaced, read_behind, all-push}
 use Rattle.js_session.proofs.MarkLemmas.{marks-outcome, fronts-outcome, marks-commit, length-fronts, front_all, none_at, all-put_back}
@@ -114,40 +114,6 @@ peek_adds_row old new ms h a =
       is_row = read_is_row NextGoal (Some Peek) old.lexer a.behind (live_now old) a.row h.behind a.reads (λ is. is);
       after = rw (back.text, back.source_type, back.collects, a.rows, live) refl;
     }
-
-pub undone_is : (old new : RowReaderState) (ms : List SessionMark) → IsUndone old new → seen new ms ≡ seen old ms
-undone_is old new ms u =
-    let live : live_now new ≡ live_now old = same_live (live_now new) (live_now old) u.tokens u.lexer.findings in
-    rw (u.lexer.text, u.lexer.source_type, u.lexer.collects, u.rows, live) refl
-
--- before the first row
-abbrev pub at_start : LexerState → RowReaderState
-at_start lexer = record { lexer = lexer; rows = []; tokens = [] }
-
-order_start : (text : List ℕ) (t : SourceType) (c : Bool) → IsInOrder (at_start (fresh text t c)) []
-order_start text t c = record { behind = restored-refl (fresh text t c); are_marks = tt; rows_lie = tt; tokens_lie = tt }
-
-pub order_first : (text : List ℕ) (t : SourceType) (c : Bool) (old new : RowReaderState) (ms : List SessionMark) → old ≡ at_start (fresh text t c) → ms ≡ []
-    → AddsLive First None old new → IsInOrder new (reverse ms)
-order_first text t c old new ms start none a =
-    let begins : IsInOrder old [] = subst (λ r. IsInOrder r []) (sym start) (order_start text t c) in
-    subst (λ m. IsInOrder new (reverse m)) (sym none) (order_added First None old new [] begins a)
-
-begins_fresh : (text : List ℕ) (t : SourceType) (c : Bool) (new : RowReaderState) → AddsLive First None (at_start (fresh text t c)) new → Begins text t c (seen new [])
-begins_fresh text t c new a =
-    let start = at_start (fresh text t c) in
-    let after = added_restored First None start new a in
-    let live = live_added First None start new a in
-    record {
-      row = a.row;
-      is_row = read_is_row First None (fresh text t c) new.lexer nothing_live a.row (restored-refl (fresh text t c)) a.reads (λ is. is);
-      after = rw (after.text, after.source_type, after.collects, a.rows, live) refl;
-    }
-
-pub begins_with : (text : List ℕ) (t : SourceType) (c : Bool) (old new : RowReaderState) (ms : List SessionMark) → old ≡ at_start (fresh text t c) → ms ≡ []
-    → AddsLive First None old new → Begins text t c (seen new ms)
-begins_with text t c old new ms start none a =
-    subst (λ m. Begins text t c (seen new m)) (sym none) (begins_fresh text t c new (subst (λ r. AddsLive First None r new) start a))
 
 -- the marks without the last one
 commit_popped : (r : RowReaderState) (ms ms' : List SessionMark) (popped : Option SessionMark) → ms ≡ ms' ++ option_to_list popped → (IsSome popped ↔ (0 < length ms)) → 0 < length ms

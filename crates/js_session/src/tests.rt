@@ -2,7 +2,7 @@
 
 ghost use Rattle.std.specs.Prelude.{◌≡◌, ◌<◌};
 
-use crate::{Command, LexFault, NewFault, Report, Row, RowList, Session, Steps, lex_session};
+use crate::{Command, LexFault, Report, Row, RowList, Session, Steps, lex_session};
 use js_kind::{
     Kind, LexerConfig, NoTokensLexerConfig, RuntimeLexerConfig, Token, TokensLexerConfig,
 };
@@ -141,37 +141,46 @@ fn many_marks(rt: HostRuntime) -> Result<(), Fail> {
     Ok(())
 }
 
-/// The report of `a b` after a step that is taken back, a mark that is committed, and a step that stays.
-fn run<L: Ledger, C: LexerConfig + Drop>(
-    alloc: Global,
-    config: C,
-    blank: Blank,
-) -> Result<Report, NewFault>
+/// A step, and back to before it.
+fn step_and_go_back<L: Ledger, C: LexerConfig + Drop>(
+    session: &mut Session<'_, C>,
+    steps: &mut Steps<L>,
+) -> Result<(), AllocError> {
+    session.mark()?;
+    session.step(Command::Next, steps)?;
+    if session.marks() > 0 {
+        session.rewind();
+    }
+    Ok(())
+}
+
+/// A step behind a mark that is closed.
+fn step_and_stay<L: Ledger, C: LexerConfig + Drop>(
+    session: &mut Session<'_, C>,
+    steps: &mut Steps<L>,
+) -> Result<(), AllocError> {
+    session.mark()?;
+    if session.marks() > 0 {
+        session.commit();
+    }
+    session.step(Command::Next, steps)
+}
+
+/// The report of `a b` after a step that is taken back, and one that stays. None where there was not enough memory.
+fn run<L: Ledger, C: LexerConfig + Drop>(alloc: Global, config: C, blank: Blank) -> Option<Report>
     requires name { blank.name ≡ L.name }
     requires parts { blank.parts ≡ L.parts }
     requires some_part { 0 < L.parts }
 {
     let mut steps = Steps::<L>::new(blank);
-    let mut session = match Session::begin(alloc, "a b", SourceType::Script, config, &mut steps) {
-        Ok(session) => session,
-        Err(fault) => return Err(fault),
-    };
-    if session.mark().is_err() || session.step(Command::Next, &mut steps).is_err() {
-        return Err(NewFault::Memory);
+    let mut session = Session::begin(alloc, "a b", SourceType::Script, config, &mut steps).ok()?;
+    step_and_go_back(&mut session, &mut steps).ok()?;
+    step_and_stay(&mut session, &mut steps).ok()?;
+    if session.rows().len() == 3 {
+        Some(session.finish())
+    } else {
+        None
     }
-    if session.marks() > 0 {
-        session.rewind();
-    }
-    if session.mark().is_err() {
-        return Err(NewFault::Memory);
-    }
-    if session.marks() > 0 {
-        session.commit();
-    }
-    if session.step(Command::Next, &mut steps).is_err() || session.rows().len() != 3 {
-        return Err(NewFault::Memory);
-    }
-    Ok(session.finish())
 }
 
 fn is_right(report: &Report, collected: &[(u32, u32)]) -> bool {
@@ -185,12 +194,12 @@ fn each_configuration(rt: HostRuntime) -> Result<(), Fail> {
     let alloc = rt.alloc();
     let all = [(0, 1), (2, 3)];
     let report = run::<Brand, NoTokensLexerConfig>(alloc, NoTokensLexerConfig, Blank::new(1));
-    assert!(rt; is_right(&report.ok().ok_or("no tokens")?, &[]));
+    assert!(rt; is_right(&report.ok_or("no tokens")?, &[]));
     let report = run::<Brand, TokensLexerConfig>(alloc, TokensLexerConfig, Blank::new(1));
-    assert!(rt; is_right(&report.ok().ok_or("tokens")?, &all));
+    assert!(rt; is_right(&report.ok_or("tokens")?, &all));
     let config = RuntimeLexerConfig::new(true);
     let report = run::<Brand, RuntimeLexerConfig>(alloc, config, Blank::new(1));
-    assert!(rt; is_right(&report.ok().ok_or("at run time")?, &all));
+    assert!(rt; is_right(&report.ok_or("at run time")?, &all));
     Ok(())
 }
 
