@@ -415,6 +415,19 @@ fn goes_back_before_a_fault<C: LexerConfig + Drop>(
     Ok(())
 }
 
+/// Reads a fault, and hands out what was reported.
+fn hands_out_errors<C: LexerConfig + Drop>(
+    rt: &impl std::process::Abort,
+    alloc: Global,
+    config: C,
+) -> Result<(), Fail> {
+    let mut lexer = lexer_of(alloc, "\u{1}", SourceType::Script, config)?;
+    assert_eq!(rt; lexer.first_token()?.end(), 1);
+    assert_eq!(rt; lexer.take_errors().len(), 1);
+    assert_eq!(rt; lexer.errors().len(), 0);
+    Ok(())
+}
+
 /// Reads `a b`, hands out the tokens, and tells whether it may go back then.
 fn hands_out_tokens<C: LexerConfig + Drop>(
     rt: &impl std::process::Abort,
@@ -444,6 +457,7 @@ fn checkpoints<C: LexerConfig + Copy + Drop>(
 ) -> Result<(), Fail> {
     rereads_a_hashbang(rt, alloc, config)?;
     goes_back_before_a_fault(rt, alloc, config)?;
+    hands_out_errors(rt, alloc, config)?;
     hands_out_tokens(rt, alloc, config, collected)
 }
 
