@@ -1,6 +1,8 @@
 -- Where nothing is spelled in a text of forms that are built, something is read to recover.
-use Rattle.std.proofs.Common.{◌≡◌, ◌≢◌, ℕ, ◌+◌, ◌<◌, ◌≤◌, Bool, true, false, not, ◌&&◌, ◌||◌, ◌==◌, nat_lt, nat_le, ltb, List, [], ◌∷◌, ◌++◌, length, drop, get_or, refl, sym, ◌∙◌, ap, subst, arith, ◌⊎◌, inl, inr, Option, Some, None}
-use Rattle.std.specs.Prelude.{codes, is_some, IsSome, slice_index, if◌then◌else◌}
+use Rattle.std.proofs.Common.{◌≡◌, ℕ, ◌+◌, ◌<◌, ◌≤◌, Bool, true, false, not, ◌&&◌, ◌||◌, ◌==◌, nat_lt, nat_le, ltb}
+use Rattle.std.proofs.Common.{List, [], ◌∷◌, length, get_or, refl, sym, ◌∙◌, ap, subst, arith, ◌⊎◌, inl}
+use Rattle.std.proofs.Common.{inr, Option, Some, None}
+use Rattle.std.specs.Prelude.{codes, is_some, IsSome, if◌then◌else◌}
 use Rattle.std.specs.Char.{is_ascii_digit}
 use Rattle.std.specs.List.{list_any}
 use Rattle.std.proofs.lemmas.Bool.{eqb-true, leb-true, leb-false, ltb-false, or_cases}
@@ -9,20 +11,22 @@ use Rattle.js_text.specs.Characters.{begins, is_identifier_start, is_white_space
 use Rattle.js_text.specs.declared.source_type.SourceType.{SourceType}
 use Rattle.js_source.specs.Source.{At, rest, IsPlaced, HasFirstByte, HasFirstTwoBytes}
 use Rattle.js_source.proofs.Places.{first_byte_at, none_at_end, first_two_bytes, placed_ascii, reads_ascii}
-use Rattle.js_grammar.specs.Built.{is_unbuilt_byte, is_unbuilt_at, IsBuilt}
-use Rattle.js_grammar.specs.Gap.{is_prefix, is_reported, piece, whole_gap_piece}
+use Rattle.js_grammar.specs.Built.{is_unbuilt_byte, IsBuilt}
+use Rattle.js_grammar.specs.Gap.{is_prefix, is_reported, whole_gap_piece}
 use Rattle.js_grammar.specs.Punctuators.{NoPunctuator, before_no_digit, slash as slash_alone, left_angle}
-use Rattle.js_grammar.specs.Recovery.{Reading, recovered, recovered_character, is_control_or_wide}
+use Rattle.js_grammar.specs.Recovery.{Reading, recovered, is_control_or_wide}
 use Rattle.js_grammar.proofs.GapLemmas.{none_behind}
 use Rattle.js_grammar.proofs.PieceLemmas.{piece-white}
 use Rattle.js_grammar.proofs.PunctuatorLeaves.{listed}
-use Rattle.js_grammar.proofs.Printable.{lone_characters, lone_begin, none_of, is_known, printable_known, known_at, spelled_there}
+use Rattle.js_grammar.proofs.Printable.{lone_characters, lone_begin, none_of, is_known, printable_known, known_at}
+use Rattle.js_grammar.proofs.Printable.{spelled_there}
 use Rattle.js_grammar.proofs.Tests.{and_true, prefix_is}
 use Rattle.js_kind.specs.declared.kind.Kind.TheVariants.{Dot}
 use Rattle.js_lexer.specs.Reader.{NothingHere}
 
 -- a character of ASCII is the byte at its place
-byte_here : (s : At) (c : ℕ) (cs : List ℕ) → IsPlaced s → rest s ≡ c ∷ cs → c < 128 → (s.place < length s.text) × (c ≡ get_or s.text s.place 0)
+byte_here : (s : At) (c : ℕ) (cs : List ℕ) → IsPlaced s → rest s ≡ c ∷ cs → c < 128
+    → (s.place < length s.text) × (c ≡ get_or s.text s.place 0)
 byte_here s c cs h e low =
     let within : s.place < length s.text = by_length (ltb s.place (length s.text)) refl in
     let first = subst (λ xs. HasFirstByte (get_or s.text s.place 0) xs) e (first_byte_at s h within) in
@@ -30,7 +34,9 @@ byte_here s c cs h e low =
   where
     by_length : (b : Bool) → ltb s.place (length s.text) ≡ b → s.place < length s.text
     by_length true t = grind (arith, nat_tests)
-    by_length false t = absurd (let none = none_at_end s (ltb-false s.place (length s.text) t) in let no : c ∷ cs ≡ [] = sym e ∙ none in cc)
+    by_length false t =
+        absurd
+        (let none = none_at_end s (ltb-false s.place (length s.text) t) in let no : c ∷ cs ≡ [] = sym e ∙ none in cc)
 
 -- what is not unbuilt at a place
 unbuilt_cases : (a b : Bool) → (a && not b) ≡ false → (a ≡ false) ⊎ (b ≡ true)
@@ -39,12 +45,14 @@ unbuilt_cases true false e = absurd (cc)
 unbuilt_cases false b e = inl refl
 
 -- the marks of a hashbang, as bytes and as characters
-hashbang_bytes : (bytes : List ℕ) → is_prefix (codes "#!") bytes ≡ true → (1 < length bytes) × (get_or bytes 0 0 ≡ 35) × (get_or bytes 1 0 ≡ 33)
+hashbang_bytes : (bytes : List ℕ) → is_prefix (codes "#!") bytes ≡ true
+    → (1 < length bytes) × (get_or bytes 0 0 ≡ 35) × (get_or bytes 1 0 ≡ 33)
 hashbang_bytes bytes e =
     let text = prefix_is (codes "#!") bytes e in
     (omega (arith, ap length text), ap (λ bs. get_or bs 0 0) text, ap (λ bs. get_or bs 1 0) text)
 
-hashbang_characters : (cs : List ℕ) (a b : ℕ) → a ≡ 35 → b ≡ 33 → HasFirstTwoBytes a b cs → is_prefix (codes "#!") cs ≡ true
+hashbang_characters : (cs : List ℕ) (a b : ℕ) → a ≡ 35 → b ≡ 33 → HasFirstTwoBytes a b cs
+    → is_prefix (codes "#!") cs ≡ true
 hashbang_characters [] a b e f h = absurd h
 hashbang_characters (c ∷ []) a b e f h = absurd (h.1 (omega (arith, e)))
 hashbang_characters (c ∷ d ∷ ds) a b e f h =
@@ -53,7 +61,8 @@ hashbang_characters (c ∷ d ∷ ds) a b e f h =
     rw (first, second) refl
 
 -- The character at a place of a built text: it is built, or a hashbang stands there.
-pub built_here : (s : At) (c : ℕ) (cs : List ℕ) → IsPlaced s → IsBuilt s.text → rest s ≡ c ∷ cs → c < 128 → (is_unbuilt_byte c ≡ false) ⊎ (is_prefix (codes "#!") (rest s) ≡ true)
+pub built_here : (s : At) (c : ℕ) (cs : List ℕ) → IsPlaced s → IsBuilt s.text → rest s ≡ c ∷ cs → c < 128
+    → (is_unbuilt_byte c ≡ false) ⊎ (is_prefix (codes "#!") (rest s) ≡ true)
 built_here s c cs h built e low =
     let here = byte_here s c cs h e low in
     elim (unbuilt_cases (is_unbuilt_byte (get_or s.text s.place 0)) _ (built s.place here.0)) [
@@ -63,7 +72,8 @@ built_here s c cs h built e low =
           let bytes = hashbang_bytes s.text both.1 in
           let two = first_two_bytes s h (omega (arith, at, bytes.0)) in
           let one : s.place + 1 ≡ 1 = omega (arith, at) in
-          inr (hashbang_characters (rest s) _ _ (ap (λ p. get_or s.text p 0) at ∙ bytes.1) (ap (λ p. get_or s.text p 0) one ∙ bytes.2) two)
+          inr (hashbang_characters (rest s) _ _ (ap (λ p. get_or s.text p 0) at ∙ bytes.1)
+          (ap (λ p. get_or s.text p 0) one ∙ bytes.2) two)
     ]
 
 digit_is_unbuilt : (d : ℕ) → is_ascii_digit d ≡ true → is_unbuilt_byte d ≡ true
@@ -84,7 +94,8 @@ hashbang_begins : (d : ℕ) (ds : List ℕ) → is_prefix (codes "#!") (d ∷ ds
 hashbang_begins d ds e = eqb-true d 35 (and_true (d == 35) (is_prefix (codes "!") ds) e).0
 
 -- no digit stands behind a `.` in a built text
-no_digit_behind : (s : At) (cs : List ℕ) → IsPlaced s → IsBuilt s.text → rest s ≡ 46 ∷ cs → begins is_ascii_digit cs ≡ false
+no_digit_behind : (s : At) (cs : List ℕ) → IsPlaced s → IsBuilt s.text → rest s ≡ 46 ∷ cs
+    → begins is_ascii_digit cs ≡ false
 no_digit_behind s [] h built e = refl
 no_digit_behind s (d ∷ ds) h built e = by_test (is_ascii_digit d) refl
   where
@@ -99,11 +110,13 @@ no_digit_behind s (d ∷ ds) h built e = by_test (is_ascii_digit d) refl
         let byte : HasFirstByte 46 (rest s) = subst (λ b. HasFirstByte b (rest s)) (sym here.1) first in
         let placed : IsPlaced (record s { place = s.place + 1 }) = placed_ascii s 46 h (omega arith) byte in
         let reads = reads_ascii s 46 h (omega arith) byte in
-        let there : rest (record s { place = s.place + 1 }) ≡ d ∷ ds = let both : 46 ∷ (d ∷ ds) ≡ 46 ∷ rest (record s { place = s.place + 1 }) = sym e ∙ reads.here in cc in
+        let there : rest (record s { place = s.place + 1 }) ≡ d ∷ ds =
+        let both : 46 ∷ (d ∷ ds) ≡ 46 ∷ rest (record s { place = s.place + 1 }) = sym e ∙ reads.here in cc in
         let low = digit_is_low d t in
         absurd (elim (built_here (record s { place = s.place + 1 }) d ds placed built there (omega (arith, low))) [
           | inl known ↦ let no : true ≡ false = sym (digit_is_unbuilt d t) ∙ known in cc
-          | inr mark ↦ let is : d ≡ 35 = hashbang_begins d ds (subst (λ xs. is_prefix (codes "#!") xs ≡ true) there mark) in omega (arith, low, is)
+          | inr mark ↦ let is : d ≡ 35 =
+              hashbang_begins d ds (subst (λ xs. is_prefix (codes "#!") xs ≡ true) there mark) in omega (arith, low, is)
         ])
 
 no_star : (cs : List ℕ) → is_prefix (codes "/*") (47 ∷ cs) ≡ false → begins (λ c. c == 42) cs ≡ false
@@ -119,8 +132,10 @@ either_false true b e = absurd (cc)
 either_false false b e = (refl, e)
 
 -- No printable character of ASCII stands where nothing is spelled.
-no_printable : (t : SourceType) (nl : Bool) (s : At) (c : ℕ) (cs : List ℕ) → IsPlaced s → IsBuilt s.text → rest s ≡ c ∷ cs → whole_gap_piece t nl (c ∷ cs) ≡ None
-    → is_identifier_start c ≡ false → NoPunctuator t nl (c ∷ cs) → is_prefix (codes "/*") (c ∷ cs) ≡ false → is_prefix (codes "#!") (c ∷ cs) ≡ false → is_control_or_wide c ≡ false → ⊥
+no_printable : (t : SourceType) (nl : Bool) (s : At) (c : ℕ) (cs : List ℕ) → IsPlaced s → IsBuilt s.text
+    → rest s ≡ c ∷ cs → whole_gap_piece t nl (c ∷ cs) ≡ None
+    → is_identifier_start c ≡ false → NoPunctuator t nl (c ∷ cs) → is_prefix (codes "/*") (c ∷ cs) ≡ false
+    → is_prefix (codes "#!") (c ∷ cs) ≡ false → is_control_or_wide c ≡ false → ⊥
 no_printable t nl s c cs h built e gap no_name none no_comment no_mark printable =
     let ends = either_false (nat_lt c 32) (nat_le 127 c) printable in
     let low : 32 ≤ c = ltb-false c 32 ends.0 in
@@ -130,42 +145,50 @@ no_printable t nl s c cs h built e gap no_name none no_comment no_mark printable
     elim (or_cases (is_identifier_start c) _ known) [
       | inl start ↦ let no : true ≡ false = sym start ∙ no_name in cc
       | inr k1 ↦ elim (or_cases (is_white_space c) _ k1) [
-          | inl white ↦ let no = sym behind.1 ∙ piece-white t nl c cs white in cc
-          | inr k2 ↦ elim (or_cases (is_unbuilt_byte c) _ k2) [
-              | inl unbuilt ↦ elim (built_here s c cs h built e (omega (arith, high))) [
-                  | inl known ↦ let no : true ≡ false = sym unbuilt ∙ known in cc
-                  | inr mark ↦ let no : true ≡ false = sym (subst (λ xs. is_prefix (codes "#!") xs ≡ true) e mark) ∙ no_mark in cc
-                ]
-              | inr k3 ↦ elim (or_cases (list_any (λ x. x == c) lone_characters) _ k3) [
-                  | inl lone ↦ none_of (λ x. NoPunctuator t nl (x ∷ cs) → ⊥) c lone_characters (lone_begin t nl cs) lone none
-                  | inr k4 ↦ elim (or_cases (c == 46) _ k4) [
-                      | inl dotted ↦ let is : c ≡ 46 = eqb-true c 46 dotted in
-                          spelled_there t nl (before_no_digit Dot) cs (listed 9 refl)
-                          (no_digit_behind s cs h built (e ∙ ap (λ x. x ∷ cs) is)) (subst (λ x. NoPunctuator t nl (x ∷ cs)) is none)
-                      | inr k5 ↦ elim (or_cases (c == 47) _ k5) [
-                          | inl slashed ↦ let is : c ≡ 47 = eqb-true c 47 slashed in
-                              spelled_there t nl slash_alone cs (listed 44 refl)
-                              (no_star cs (subst (λ x. is_prefix (codes "/*") (x ∷ cs) ≡ false) is no_comment)) (subst (λ x. NoPunctuator t nl (x ∷ cs)) is none)
-                          | inr angle ↦ let is : c ≡ 60 = eqb-true c 60 angle in
-                              spelled_there t nl left_angle cs (listed 14 refl)
-                              (subst (λ x. is_reported t nl (x ∷ cs) ≡ false) is behind.0) (subst (λ x. NoPunctuator t nl (x ∷ cs)) is none)
-                        ]
-                    ]
-                ]
+        | inl white ↦ let no = sym behind.1 ∙ piece-white t nl c cs white in cc
+        | inr k2 ↦ elim (or_cases (is_unbuilt_byte c) _ k2) [
+          | inl unbuilt ↦ elim (built_here s c cs h built e (omega (arith, high))) [
+            | inl known ↦ let no : true ≡ false = sym unbuilt ∙ known in cc
+            | inr mark ↦ let no : true ≡ false =
+                sym (subst (λ xs. is_prefix (codes "#!") xs ≡ true) e mark) ∙ no_mark in cc
+          ]
+          | inr k3 ↦ elim (or_cases (list_any (λ x. x == c) lone_characters) _ k3) [
+            | inl lone ↦ none_of (λ x. NoPunctuator t nl (x ∷ cs) → ⊥) c lone_characters
+                (lone_begin t nl cs) lone none
+            | inr k4 ↦ elim (or_cases (c == 46) _ k4) [
+              | inl dotted ↦ let is : c ≡ 46 = eqb-true c 46 dotted in
+                  spelled_there t nl (before_no_digit Dot) cs (listed 9 refl)
+                  (no_digit_behind s cs h built (e ∙ ap (λ x. x ∷ cs) is))
+                  (subst (λ x. NoPunctuator t nl (x ∷ cs)) is none)
+              | inr k5 ↦ elim (or_cases (c == 47) _ k5) [
+                | inl slashed ↦ let is : c ≡ 47 = eqb-true c 47 slashed in
+                    spelled_there t nl slash_alone cs (listed 44 refl)
+                    (no_star cs (subst (λ x. is_prefix (codes "/*") (x ∷ cs) ≡ false) is no_comment))
+                    (subst (λ x. NoPunctuator t nl (x ∷ cs)) is none)
+                | inr angle ↦ let is : c ≡ 60 = eqb-true c 60 angle in
+                    spelled_there t nl left_angle cs (listed 14 refl)
+                    (subst (λ x. is_reported t nl (x ∷ cs) ≡ false) is behind.0)
+                    (subst (λ x. NoPunctuator t nl (x ∷ cs)) is none)
+              ]
             ]
+          ]
         ]
+      ]
     ]
 
-some_of : (b : Bool) (x : Reading) (y : Option Reading) → (b ≡ false → is_some y ≡ true) → is_some (if b then Some x else y) ≡ true
+some_of : (b : Bool) (x : Reading) (y : Option Reading) → (b ≡ false → is_some y ≡ true)
+    → is_some (if b then Some x else y) ≡ true
 some_of true x y h = refl
 some_of false x y h = h refl
 
 -- Where no name and no punctuator begins behind a whole gap, something is read to recover.
-pub recovers_some : (t : SourceType) (nl : Bool) (s : At) → IsPlaced s → IsBuilt s.text → whole_gap_piece t nl (rest s) ≡ None → NothingHere t nl (rest s)
+pub recovers_some : (t : SourceType) (nl : Bool) (s : At) → IsPlaced s → IsBuilt s.text
+    → whole_gap_piece t nl (rest s) ≡ None → NothingHere t nl (rest s)
     → IsSome (recovered nl s.place (rest s))
 recovers_some t nl s h built gap n = at (rest s) refl gap n
   where
-    at : (xs : List ℕ) → rest s ≡ xs → whole_gap_piece t nl xs ≡ None → NothingHere t nl xs → is_some (recovered nl s.place xs) ≡ true
+    at : (xs : List ℕ) → rest s ≡ xs → whole_gap_piece t nl xs ≡ None → NothingHere t nl xs
+        → is_some (recovered nl s.place xs) ≡ true
     at [] e gap n = absurd (n.some refl)
     at (c ∷ cs) e gap n =
         some_of (is_prefix (codes "/*") (c ∷ cs)) _ _ (λ no_comment.

@@ -39,14 +39,30 @@ dark c low high =
 
 in_line : (c : ℕ) → 32 < c → c < 128 → is_line_terminator c ≡ false
 unfolding is_line_terminator
-in_line c low high = rw (ne_eqb c 10 (λ e. omega arith), ne_eqb c 13 (λ e. omega arith), ne_eqb c 0x2028 (λ e. omega arith), ne_eqb c 0x2029 (λ e. omega arith)) refl
+in_line c low high =
+    rw (
+      ne_eqb c 10 (λ e. omega arith),
+      ne_eqb c 13 (λ e. omega arith),
+      ne_eqb c 0x2028 (λ e. omega arith),
+      ne_eqb c 0x2029 (λ e. omega arith),
+    ) refl
 
 pub begins_none : (b : ℕ) → 32 < b → b < 128 → (b ≡ 47 → ⊥) → (b ≡ 60 → ⊥) → (b ≡ 45 → ⊥) → BeginsNoPiece b
-begins_none b low high slash angle minus = record { ascii = high; no_white_space = dark b low high; no_line_terminator = in_line b low high; no_slash = slash; no_angle = angle; no_minus = minus }
+begins_none b low high slash angle minus =
+    record {
+      ascii = high;
+      no_white_space = dark b low high;
+      no_line_terminator = in_line b low high;
+      no_slash = slash;
+      no_angle = angle;
+      no_minus = minus;
+    }
 
-pub tells_none : (b : ℕ) → 32 < b → b < 128 → (b ≡ 47 → ⊥) → (b ≡ 60 → ⊥) → MatchBool (not (b == 45)) (BeginsNoPiece b) (Unit {0})
+pub tells_none : (b : ℕ) → 32 < b → b < 128 → (b ≡ 47 → ⊥) → (b ≡ 60 → ⊥)
+    → MatchBool (not (b == 45)) (BeginsNoPiece b) (Unit {0})
 tells_none b low high slash angle = by_test (b == 45) refl
   where
     by_test : (x : Bool) → (b == 45) ≡ x → MatchBool (not x) (BeginsNoPiece b) (Unit {0})
     by_test true t = tt
-    by_test false t = begins_none b low high slash angle (λ e. let both : false ≡ true = sym t ∙ ap (λ n. n == 45) e in cc)
+    by_test false t =
+        begins_none b low high slash angle (λ e. let both : false ≡ true = sym t ∙ ap (λ n. n == 45) e in cc)

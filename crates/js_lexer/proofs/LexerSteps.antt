@@ -1,5 +1,6 @@
 -- The steps of a lexer.
-use Rattle.std.proofs.Common.{◌≡◌, ◌-◌, Bool, true, false, not, List, [], ◌∷◌, ◌++◌, length, take, refl, sym, ◌∙◌, ap, subst, arith, append-nil, Option, Some, None}
+use Rattle.std.proofs.Common.{◌≡◌, ◌-◌, Bool, true, false, not, List, [], ◌∷◌, ◌++◌, length, take, refl, sym, ◌∙◌, ap}
+use Rattle.std.proofs.Common.{subst, arith, append-nil, Option, Some, None}
 use Rattle.std.specs.Prelude.{slice_get, ℕ, IfSome}
 use Rattle.std.specs.Option.{is_some}
 use Rattle.std.specs.List.{last_or}
@@ -14,7 +15,8 @@ use Rattle.js_grammar.specs.Outcome.{Findings, joined, lengths_of, cut_to}
 use Rattle.js_grammar.specs.declared.goal.Goal.{Goal}
 use Rattle.js_grammar.proofs.Clean.{agrees_with_grammar}
 use Rattle.js_grammar.proofs.Spans.{goal_reads_span, goal_reads_places}
-use Rattle.js_lexer.specs.Lexer.{LexerState, IsOnPlaces, IsSound, IsRestored, collected, ReadsOutcome, ReadsToken, HasMovedOn, Checkpoint, checkpoint_of, put_back, rewound, BeginsAlike, GoesOnFrom, token_or_default}
+use Rattle.js_lexer.specs.Lexer.{LexerState, IsOnPlaces, IsSound, IsRestored, collected, ReadsOutcome, ReadsToken}
+use Rattle.js_lexer.specs.Lexer.{HasMovedOn, Checkpoint, checkpoint_of, put_back, rewound, BeginsAlike, GoesOnFrom, token_or_default}
 use Rattle.js_lexer.specs.Reader.{ReadsGoal, MovesOn}
 use Rattle.js_lexer.specs.declared.reader.Reader.{Reader}
 use Rattle.js_source.specs.Source.{At}
@@ -26,45 +28,57 @@ pub record IsReaderOf (l : LexerState) (r : Reader) : Type 0 where
   pub errors : r.errors ≡ l.findings.diagnostics
 
 -- a line has ended where no token was read yet
-pub no_token_yet : (last : Option TokenParts) (line_has_ended : Bool) → is_some last ≡ not line_has_ended → line_has_ended_behind last ≡ line_has_ended
+pub no_token_yet : (last : Option TokenParts) (line_has_ended : Bool) → is_some last ≡ not line_has_ended
+    → line_has_ended_behind last ≡ line_has_ended
 no_token_yet None true e = refl
 no_token_yet None false e = cc
 no_token_yet (Some token) true e = cc
 no_token_yet (Some token) false e = refl
 
 -- the ends of a token that was read
-pub read_places : (goal : Goal) (before : Option TokenParts) (old new : Reader) (token : TokenParts) → IsUtf8 old.source.text
+pub read_places : (goal : Goal) (before : Option TokenParts) (old new : Reader) (token : TokenParts)
+    → IsUtf8 old.source.text
     → ReadsGoal goal before old token new → IsOnPlaces old.source.text token
 read_places goal before old new token u r =
     let places = goal_reads_places old.source.text old.source_type goal before old.source.place r.outcome u r.reads in
     let span = goal_reads_span old.source.text old.source_type goal before old.source.place r.outcome u r.reads in
-    subst (IsOnPlaces old.source.text) (sym r.token_is) (record { start = places.0; end = places.1; ordered = span.ordered })
+    subst (IsOnPlaces old.source.text) (sym r.token_is)
+    (record { start = places.0; end = places.1; ordered = span.ordered })
 
 -- and so a lexer behind it is sound
-pub sound_after : (goal : Goal) (before : Option TokenParts) (old new : Reader) (token : TokenParts) → IsUtf8 new.source.text
+pub sound_after : (goal : Goal) (before : Option TokenParts) (old new : Reader) (token : TokenParts)
+    → IsUtf8 new.source.text
     → IsBuilt old.source.text → ReadsGoal goal before old token new → IsSound new.source.text (Some token)
 sound_after goal before old new token u built r =
-    let same : IsSound old.source.text (Some token) = record { built = built; last_lies = read_places goal before old new token (subst IsUtf8 r.text u) r } in
+    let same : IsSound old.source.text (Some token) =
+    record { built = built; last_lies = read_places goal before old new token (subst IsUtf8 r.text u) r } in
     subst (λ text. IsSound text (Some token)) (sym r.text) same
 
 -- a reading of a lexer's reader is one from the lexer's place
-goal_of_lexer : (l : LexerState) (r new : Reader) (goal : Goal) (token : TokenParts) → IsReaderOf l r → (reads : ReadsGoal goal l.last r token new)
+goal_of_lexer : (l : LexerState) (r new : Reader) (goal : Goal) (token : TokenParts) → IsReaderOf l r
+    → (reads : ReadsGoal goal l.last r token new)
     → GoalReads l.text l.source_type goal l.last l.place reads.outcome
 goal_of_lexer l r new goal token is reads =
     subst (λ (a : At). GoalReads a.text l.source_type goal l.last a.place reads.outcome) is.source
     (subst (λ t. GoalReads r.source.text t goal l.last r.source.place reads.outcome) is.source_type reads.reads)
 
 -- what a reading gives
-pub reads_outcome : (l : LexerState) (r new : Reader) (goal : Goal) (token : TokenParts) → IsUtf8 l.text → IsReaderOf l r → (reads : ReadsGoal goal l.last r token new)
+pub reads_outcome : (l : LexerState) (r new : Reader) (goal : Goal) (token : TokenParts) → IsUtf8 l.text
+    → IsReaderOf l r → (reads : ReadsGoal goal l.last r token new)
     → ReadsOutcome goal l reads.outcome
 reads_outcome l r new goal token u is reads =
     let here = goal_of_lexer l r new goal token is reads in
     let places = goal_reads_places l.text l.source_type goal l.last l.place reads.outcome u here in
     let span = goal_reads_span l.text l.source_type goal l.last l.place reads.outcome u here in
-    record { reads = here; places = record { start = places.0; end = places.1; ordered = span.ordered }; some_text = span.some_text }
+    record {
+      reads = here;
+      places = record { start = places.0; end = places.1; ordered = span.ordered };
+      some_text = span.some_text;
+    }
 
 -- a reading, as contracts see it
-pub reads_token : (old new : LexerState) (r reader : Reader) (goal : Goal) (token : TokenParts) → IsUtf8 old.text → IsReaderOf old r → ReadsGoal goal old.last r token reader
+pub reads_token : (old new : LexerState) (r reader : Reader) (goal : Goal) (token : TokenParts) → IsUtf8 old.text
+    → IsReaderOf old r → ReadsGoal goal old.last r token reader
     → new ≡ record old {
       text = reader.source.text;
       source_type = reader.source_type;
@@ -78,7 +92,9 @@ reads_token old new r reader goal token u is reads e = record {
   outcome = reads.outcome;
   token_is = reads.token_is;
   reads = reads_outcome old r reader goal token u is reads;
-  agrees = agrees_with_grammar old.text old.source_type goal old.last old.place reads.outcome (goal_of_lexer old r reader goal token is reads);
+  agrees =
+      agrees_with_grammar old.text old.source_type goal old.last old.place reads.outcome
+      (goal_of_lexer old r reader goal token is reads);
   after = record {
     text = ap (λ x. x.text) e ∙ reads.text ∙ ap (λ a. a.text) is.source;
     source_type = ap (λ x. x.source_type) e ∙ reads.source_type ∙ is.source_type;
@@ -94,7 +110,14 @@ reads_token old new r reader goal token u is reads e = record {
     errors = reads.errors ∙ ap (λ es. es ++ reads.outcome.findings.diagnostics) is.errors
 
     found : record old.findings { diagnostics = reader.errors } ≡ joined old.findings reads.outcome.findings
-    found = rw (reads.findings, errors, append-nil old.findings.deferred, append-nil old.findings.comments, append-nil old.findings.irregular) refl
+    found =
+        rw (
+          reads.findings,
+          errors,
+          append-nil old.findings.deferred,
+          append-nil old.findings.comments,
+          append-nil old.findings.irregular,
+        ) refl
 
 -- a reading that could not allocate
 pub moves_on : (old new : LexerState) (r reader : Reader) → IsReaderOf old r → MovesOn r reader
@@ -112,11 +135,20 @@ moves_on old new r reader is m e =
     record {
       place = reader.source.place;
       more = m.more;
-      after = e ∙ rw (text, source_type, errors, append-nil old.findings.deferred, append-nil old.findings.comments, append-nil old.findings.irregular) refl;
+      after =
+          e ∙ rw (
+            text,
+            source_type,
+            errors,
+            append-nil old.findings.deferred,
+            append-nil old.findings.comments,
+            append-nil old.findings.irregular,
+          ) refl;
     }
 
 -- a reading has moved its reader on
-pub reads_moves_on : (goal : Goal) (before : Option TokenParts) (old new : Reader) (token : TokenParts) → ReadsGoal goal before old token new → MovesOn old new
+pub reads_moves_on : (goal : Goal) (before : Option TokenParts) (old new : Reader) (token : TokenParts)
+    → ReadsGoal goal before old token new → MovesOn old new
 reads_moves_on goal before old new token r = record {
   text = r.text;
   source_type = r.source_type;
@@ -131,11 +163,17 @@ cut_back xs more ys e = ap (take (length xs)) e ∙ take-append_seam xs more
 -- findings that have only grown, cut back
 pub cut_to-joined : (old more : Findings) → cut_to (lengths_of old) (joined old more) ≡ old
 cut_to-joined old more =
-    rw (take-append_seam old.diagnostics more.diagnostics, take-append_seam old.deferred more.deferred, take-append_seam old.comments more.comments, take-append_seam old.irregular more.irregular)
+    rw (
+      take-append_seam old.diagnostics more.diagnostics,
+      take-append_seam old.deferred more.deferred,
+      take-append_seam old.comments more.comments,
+      take-append_seam old.irregular more.irregular,
+    )
     refl
 
 -- the front of a list that begins alike, with the last token in its place
-pub put_back_last : (old now : List TokenParts) → BeginsAlike old now → put_back (take (length old) now) (last_or None old) ≡ old
+pub put_back_last : (old now : List TokenParts) → BeginsAlike old now
+    → put_back (take (length old) now) (last_or None old) ≡ old
 put_back_last [] now h = refl
 put_back_last (t ∷ ts) [] h = absurd (absent t ts h)
   where
@@ -148,26 +186,33 @@ put_back_last (t ∷ u ∷ ts) (n ∷ []) h = absurd (absent u ts h.1)
     absent : (t : TokenParts) (ts : List TokenParts) → BeginsAlike (t ∷ ts) [] → ⊥
     absent t [] h = h
     absent t (u ∷ ts) h = h
-put_back_last (t ∷ u ∷ ts) (n ∷ m ∷ ns) h = front (last_or None (u ∷ ts)) (some_last u ts) (put_back_last (u ∷ ts) (m ∷ ns) h.1)
+put_back_last (t ∷ u ∷ ts) (n ∷ m ∷ ns) h =
+    front (last_or None (u ∷ ts)) (some_last u ts) (put_back_last (u ∷ ts) (m ∷ ns) h.1)
   where
     some_last : (u : TokenParts) (ts : List TokenParts) → (x : TokenParts) × (last_or None (u ∷ ts) ≡ Some x)
     some_last u [] = (u, refl)
     some_last u (v ∷ ts) = some_last v ts
 
-    front : (o : Option TokenParts) → (x : TokenParts) × (o ≡ Some x) → put_back (m ∷ take (length ts) ns) o ≡ u ∷ ts → put_back (n ∷ m ∷ take (length ts) ns) o ≡ t ∷ u ∷ ts
+    front : (o : Option TokenParts) → (x : TokenParts) × (o ≡ Some x) → put_back (m ∷ take (length ts) ns) o ≡ u ∷ ts
+        → put_back (n ∷ m ∷ take (length ts) ns) o ≡ t ∷ u ∷ ts
     front None found e = absurd (let no = found.1 in cc)
     front (Some x) found e = ap (λ y. y ∷ with_last (m ∷ take (length ts) ns) x) h.0 ∙ ap (λ ys. t ∷ ys) e
 
 -- going back to a checkpoint of an earlier state restores that state
-pub rewound_is : (old now new : LexerState) (c : Checkpoint) → c ≡ checkpoint_of old → GoesOnFrom old now → new ≡ rewound now c → IsRestored old new
+pub rewound_is : (old now new : LexerState) (c : Checkpoint) → c ≡ checkpoint_of old → GoesOnFrom old now
+    → new ≡ rewound now c → IsRestored old new
 rewound_is old now new c e g r = record {
   text = ap (λ x. x.text) r ∙ g.text;
   source_type = ap (λ x. x.source_type) r ∙ g.source_type;
   collects = ap (λ x. x.collects) r ∙ g.collects;
   place = ap (λ x. x.place) r ∙ ap (λ x. x.place) e;
   last = ap (λ x. x.last) r ∙ ap (λ x. x.last) e;
-  tokens = ap (λ x. x.tokens) r ∙ ap (λ x. put_back (take x.tokens now.tokens) x.last_collected) e ∙ put_back_last old.tokens now.tokens g.tokens;
-  findings = ap (λ x. x.findings) r ∙ ap (λ x. cut_to x.lengths now.findings) e ∙ ap (cut_to (lengths_of old.findings)) g.goes_on ∙ cut_to-joined old.findings g.findings;
+  tokens =
+      ap (λ x. x.tokens) r ∙ ap (λ x. put_back (take x.tokens now.tokens) x.last_collected) e
+      ∙ put_back_last old.tokens now.tokens g.tokens;
+  findings =
+      ap (λ x. x.findings) r ∙ ap (λ x. cut_to x.lengths now.findings) e
+      ∙ ap (cut_to (lengths_of old.findings)) g.goes_on ∙ cut_to-joined old.findings g.findings;
 }
 
 pub begins_alike-append : (old more : List TokenParts) → BeginsAlike old (old ++ more)
@@ -176,12 +221,15 @@ begins_alike-append (t ∷ []) more = tt
 begins_alike-append (t ∷ u ∷ ts) more = (refl, begins_alike-append (u ∷ ts) more)
 
 -- a lexer that read a token went on from its state before
-pub reading_goes_on : (goal : Goal) (old new : LexerState) (token : TokenParts) → ReadsToken goal old token new → GoesOnFrom old new
+pub reading_goes_on : (goal : Goal) (old new : LexerState) (token : TokenParts) → ReadsToken goal old token new
+    → GoesOnFrom old new
 reading_goes_on goal old new token r = record {
   text = r.after.text;
   source_type = r.after.source_type;
   collects = r.after.collects;
-  tokens = subst (BeginsAlike old.tokens) (sym r.after.tokens) (begins_alike-append old.tokens (collected old.collects r.outcome.token));
+  tokens =
+      subst (BeginsAlike old.tokens) (sym r.after.tokens)
+      (begins_alike-append old.tokens (collected old.collects r.outcome.token));
   findings = r.outcome.findings;
   goes_on = r.after.findings;
 }
@@ -193,9 +241,12 @@ last_at t (u ∷ ts) = last_at u ts
 -- the last of a list
 pub last_is : (ts : List TokenParts) → slice_get ts (length ts - 1) ≡ last_or None ts
 last_is [] = refl
-last_is (t ∷ ts) = let same : length (t ∷ ts) - 1 ≡ length ts = omega arith in ap (slice_get (t ∷ ts)) same ∙ last_at t ts
+last_is (t ∷ ts) = let same : length (t ∷ ts) - 1 ≡ length ts = omega arith in
+    ap (slice_get (t ∷ ts)) same ∙ last_at t ts
 
 -- the last token, or the default one, lies on places
-pub default_lies : (text : List ℕ) (last : Option TokenParts) → IsUtf8 text → IfSome last (IsOnPlaces text) → IsOnPlaces text (token_or_default last)
-default_lies text None u h = record { start = IsCharBoundary-start text u; end = IsCharBoundary-start text u; ordered = omega arith }
+pub default_lies : (text : List ℕ) (last : Option TokenParts) → IsUtf8 text → IfSome last (IsOnPlaces text)
+    → IsOnPlaces text (token_or_default last)
+default_lies text None u h =
+    record { start = IsCharBoundary-start text u; end = IsCharBoundary-start text u; ordered = omega arith }
 default_lies text (Some token) u h = h

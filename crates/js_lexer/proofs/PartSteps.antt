@@ -87,13 +87,17 @@ is_blank b = (b == 9) || (b == 32)
 
 pub tells_parts : (xs : List Bool) → tells is_part 0 xs ≡ true → length xs ≡ 256 → TellsParts xs
 tells_parts xs e n =
-    record
-    { ascii = ascii_alone is_part xs e n; tells = λ b lt. entry_low is_part xs e n b lt ∙ sym (part_in_ascii b lt) }
+    record {
+      ascii = ascii_alone is_part xs e n;
+      tells = λ b lt. entry_low is_part xs e n b lt ∙ sym (part_in_ascii b lt);
+    }
 
 pub tells_starts : (xs : List Bool) → tells is_start 0 xs ≡ true → length xs ≡ 256 → TellsStarts xs
 tells_starts xs e n =
-    record
-    { ascii = ascii_alone is_start xs e n; tells = λ b lt. entry_low is_start xs e n b lt ∙ sym (start_in_ascii b lt) }
+    record {
+      ascii = ascii_alone is_start xs e n;
+      tells = λ b lt. entry_low is_start xs e n b lt ∙ sym (start_in_ascii b lt);
+    }
 
 white : (b : ℕ) → is_blank b ≡ true → is_white_space b ≡ true
 unfolding is_white_space

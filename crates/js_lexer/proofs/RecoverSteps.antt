@@ -1,34 +1,41 @@
 -- The steps of reading on where nothing is spelled.
-use Rattle.std.proofs.Common.{◌≡◌, ◌≢◌, ℕ, ◌+◌, ◌≤◌, Bool, true, false, not, ◌||◌, ◌==◌, List, [], ◌∷◌, ◌++◌, length, refl, sym, ◌∙◌, ap, subst, arith, Option, Some, None, append-nil}
+use Rattle.std.proofs.Common.{◌≡◌, ◌≢◌, ℕ, ◌+◌, ◌≤◌, Bool, true, false, not, ◌||◌, ◌==◌, List, [], ◌∷◌, ◌++◌, length}
+use Rattle.std.proofs.Common.{refl, sym, ◌∙◌, ap, subst, Option, Some, None, append-nil}
 use Rattle.std.specs.Prelude.{codes, IsTrue, IsSome, is_some, ◌↔◌, if◌then◌else◌}
 use Rattle.std.specs.List.{list_any}
-use Rattle.std.specs.Str.{IsCharBoundary, encode_utf8_all}
+use Rattle.std.specs.Str.{IsCharBoundary}
 use Rattle.std.proofs.lemmas.Bool.{ne_eqb}
 use Rattle.js_text.specs.Ascii.{exclamation_mark}
 use Rattle.js_text.specs.Characters.{is_line_terminator, begins, from_first, from_place}
-use Rattle.js_text.specs.declared.diagnostic.Diagnostic.TheVariants.{InvalidCharacter, FileAppearsToBeBinary, UnterminatedMultiLineComment}
+use Rattle.js_text.specs.declared.diagnostic.Diagnostic.TheVariants.{InvalidCharacter, FileAppearsToBeBinary}
+use Rattle.js_text.specs.declared.diagnostic.Diagnostic.TheVariants.{UnterminatedMultiLineComment}
 use Rattle.js_text.proofs.TextLemmas.{place_past}
 use Rattle.js_kind.specs.declared.kind.Kind.TheVariants.{Eof, Undetermined}
 use Rattle.js_source.specs.Source.{At, rest, IsPlaced, Reads}
 use Rattle.js_grammar.specs.Gap.{is_prefix}
 use Rattle.js_grammar.specs.Outcome.{place_behind}
-use Rattle.js_grammar.specs.Recovery.{Reading, faulty, recovered, recovered_character, is_control_or_wide, number_sign, binary_file, invalid_character}
+use Rattle.js_grammar.specs.Recovery.{Reading, recovered, recovered_character, is_control_or_wide}
+use Rattle.js_grammar.specs.Recovery.{binary_file, invalid_character}
 use Rattle.js_grammar.proofs.Tests.{prefix_of}
 use Rattle.js_lexer.specs.Gaps.{TakesMark}
 use Rattle.js_lexer.specs.Spellings.{Recovers}
 use lib.Utf8
 
 -- a character that passes stands in the text where something is left from the first one on
-any_from : (p : ℕ → Bool) (cs : List ℕ) → (from_first p cs ≡ [] → list_any p cs ≡ false) × (from_first p cs ≢ [] → list_any p cs ≡ true)
+any_from : (p : ℕ → Bool) (cs : List ℕ)
+    → (from_first p cs ≡ [] → list_any p cs ≡ false) × (from_first p cs ≢ [] → list_any p cs ≡ true)
 any_from p [] = (λ e. refl, λ some. absurd (some refl))
 any_from p (c ∷ cs) = by_test (p c) refl (any_from p cs)
   where
-    by_test : (b : Bool) → p c ≡ b → (from_first p cs ≡ [] → list_any p cs ≡ false) × (from_first p cs ≢ [] → list_any p cs ≡ true)
-        → ((if b then c ∷ cs else from_first p cs) ≡ [] → (b || list_any p cs) ≡ false) × ((if b then c ∷ cs else from_first p cs) ≢ [] → (b || list_any p cs) ≡ true)
+    by_test : (b : Bool) → p c ≡ b
+        → (from_first p cs ≡ [] → list_any p cs ≡ false) × (from_first p cs ≢ [] → list_any p cs ≡ true)
+        → ((if b then c ∷ cs else from_first p cs) ≡ [] → (b || list_any p cs) ≡ false)
+        × ((if b then c ∷ cs else from_first p cs) ≢ [] → (b || list_any p cs) ≡ true)
     by_test true e h = (λ none. cc, λ some. refl)
     by_test false e h = h
 
-pub line_end_found : (p : ℕ → Bool) (b : Bool) (xs cs : List ℕ) → (IsTrue b ↔ (xs ≡ [])) → xs ≡ from_first p cs → not b ≡ list_any p cs
+pub line_end_found : (p : ℕ → Bool) (b : Bool) (xs cs : List ℕ) → (IsTrue b ↔ (xs ≡ [])) → xs ≡ from_first p cs
+    → not b ≡ list_any p cs
 line_end_found p true xs cs h e = sym ((any_from p cs).0 (sym e ∙ h.0 refl))
 line_end_found p false xs cs h e = sym ((any_from p cs).1 (λ none. let no : false ≡ true = h.1 (e ∙ none) in cc))
 
@@ -37,9 +44,11 @@ unfolding is_line_terminator
 mark_has_no_line_end cs = refl
 
 -- a place behind characters that were passed
-leads_to : (old new : At) (xs : List ℕ) → IsPlaced old → IsPlaced new → new.text ≡ old.text → rest old ≡ xs ++ rest new → new.place ≡ place_behind old.place xs
+leads_to : (old new : At) (xs : List ℕ) → IsPlaced old → IsPlaced new → new.text ≡ old.text → rest old ≡ xs ++ rest new
+    → new.place ≡ place_behind old.place xs
 leads_to old new xs h g text e =
-    let there : IsCharBoundary old.text new.place = subst (λ (u : List ℕ). IsCharBoundary u new.place) text g.boundary in
+    let there : IsCharBoundary old.text new.place =
+    subst (λ (u : List ℕ). IsCharBoundary u new.place) text g.boundary in
     place_past old.text old.place new.place xs h.utf8 h.boundary there (e ∙ ap (λ u. xs ++ from_place u new.place) text)
 
 if_true : (b : Bool) (x y : Option Reading) → b ≡ true → (if b then x else y) ≡ x
@@ -48,14 +57,22 @@ if_true b x y e = rw e refl
 if_not : (b : Bool) (x y : Option Reading) → b ≡ false → (if b then x else y) ≡ y
 if_not b x y e = rw e refl
 
-pub unterminated : (nl : Bool) (old mid new : At) (b : Bool) (start end : ℕ) → IsPlaced old → IsPlaced new → TakesMark (codes "/*") old true mid → new ≡ record mid { place = length mid.text }
+pub unterminated : (nl : Bool) (old mid new : At) (b : Bool) (start end : ℕ) → IsPlaced old → IsPlaced new
+    → TakesMark (codes "/*") old true mid → new ≡ record mid { place = length mid.text }
     → rest new ≡ [] → b ≡ (nl || list_any is_line_terminator (rest mid)) → start ≡ old.place → end ≡ new.place
-    → Recovers nl old (record { kind = Eof; is_on_new_line = b; diagnostic = UnterminatedMultiLineComment (record { start = start; end = end }) }) new
+    → Recovers nl old
+    (record {
+      kind = Eof;
+      is_on_new_line = b;
+      diagnostic = UnterminatedMultiLineComment (record { start = start; end = end });
+    }) new
 unterminated nl old mid new b start end h g takes e none line s f =
     let text : new.text ≡ old.text = ap (λ a. a.text) e ∙ takes.0 in
-    let begun : is_prefix (codes "/*") (rest old) ≡ true = ap (is_prefix (codes "/*")) takes.1 ∙ prefix_of (codes "/*") (rest mid) in
+    let begun : is_prefix (codes "/*") (rest old) ≡ true =
+    ap (is_prefix (codes "/*")) takes.1 ∙ prefix_of (codes "/*") (rest mid) in
     let line_is : (nl || list_any is_line_terminator (rest old)) ≡ b =
-    ap (λ cs. nl || list_any is_line_terminator cs) takes.1 ∙ ap (λ x. nl || x) (mark_has_no_line_end (rest mid)) ∙ sym line in
+    ap (λ cs. nl || list_any is_line_terminator cs) takes.1 ∙ ap (λ x. nl || x) (mark_has_no_line_end (rest mid))
+    ∙ sym line in
     let whole : rest old ≡ rest old ++ rest new = sym (append-nil (rest old)) ∙ ap (λ xs. rest old ++ xs) (sym none) in
     let to : place_behind old.place (rest old) ≡ end = sym (f ∙ leads_to old new (rest old) h g text whole) in
     record {
@@ -68,28 +85,44 @@ behind_number_sign : (place : ℕ) → place_behind place (codes "#!") ≡ place
 unfolding lib.Utf8.encode
 behind_number_sign place = refl
 
-pub unread_hashbang : (nl : Bool) (old mid new : At) (start middle end : ℕ) → IsPlaced old → IsPlaced mid → is_prefix (codes "/*") (rest old) ≡ false → TakesMark (codes "#!") old true mid
-    → new ≡ record mid { place = length mid.text } → rest new ≡ [] → start ≡ old.place → middle ≡ start + 1 → end ≡ mid.place
-    → Recovers nl old (record { kind = Eof; is_on_new_line = nl; diagnostic = InvalidCharacter exclamation_mark (record { start = middle; end = end }) }) new
+pub unread_hashbang : (nl : Bool) (old mid new : At) (start middle end : ℕ) → IsPlaced old → IsPlaced mid
+    → is_prefix (codes "/*") (rest old) ≡ false → TakesMark (codes "#!") old true mid
+    → new ≡ record mid { place = length mid.text } → rest new ≡ [] → start ≡ old.place → middle ≡ start + 1
+    → end ≡ mid.place
+    → Recovers nl old
+    (record {
+      kind = Eof;
+      is_on_new_line = nl;
+      diagnostic = InvalidCharacter exclamation_mark (record { start = middle; end = end });
+    }) new
 unread_hashbang nl old mid new start middle end h g no_comment takes e none s m f =
-    let begun : is_prefix (codes "#!") (rest old) ≡ true = ap (is_prefix (codes "#!")) takes.1 ∙ prefix_of (codes "#!") (rest mid) in
-    let to : end ≡ old.place + 2 = f ∙ leads_to old mid (codes "#!") h g takes.0 takes.1 ∙ behind_number_sign old.place in
+    let begun : is_prefix (codes "#!") (rest old) ≡ true =
+    ap (is_prefix (codes "#!")) takes.1 ∙ prefix_of (codes "#!") (rest mid) in
+    let to : end ≡ old.place + 2 =
+    f ∙ leads_to old mid (codes "#!") h g takes.0 takes.1 ∙ behind_number_sign old.place in
     let from : middle ≡ old.place + 1 = m ∙ ap (λ n. n + 1) s in
     record {
       text = ap (λ a. a.text) e ∙ takes.0;
-      recovery = if_not (is_prefix (codes "/*") (rest old)) _ _ no_comment ∙ if_true (is_prefix (codes "#!") (rest old)) _ _ begun ∙ rw (none, from, to) refl;
+      recovery =
+          if_not (is_prefix (codes "/*") (rest old)) _ _ no_comment
+          ∙ if_true (is_prefix (codes "#!") (rest old)) _ _ begun ∙ rw (none, from, to) refl;
       onward = subst (λ (n : ℕ). old.place ≤ n) (sym (ap (λ a. a.place) e ∙ ap length takes.0)) (h.boundary.0);
     }
 
 -- where neither mark stands
 no_mark : (nl : Bool) (old : At) → is_prefix (codes "/*") (rest old) ≡ false → is_prefix (codes "#!") (rest old) ≡ false
-    → recovered nl old.place (rest old) ≡ (if begins (λ c. c == 0xFFFD) (rest old) then Some (binary_file nl) else recovered_character nl old.place (rest old))
+    → recovered nl old.place (rest old)
+    ≡ (if begins (λ c. c == 0xFFFD) (rest old) then Some (binary_file nl) else recovered_character nl old.place
+    (rest old))
 no_mark nl old e f = if_not (is_prefix (codes "/*") (rest old)) _ _ e ∙ if_not (is_prefix (codes "#!") (rest old)) _ _ f
 
-pub binary : (nl : Bool) (old mid new : At) (c : ℕ) → IsPlaced old → is_prefix (codes "/*") (rest old) ≡ false → is_prefix (codes "#!") (rest old) ≡ false → Reads old mid c → c ≡ 0xFFFD
-    → new ≡ record mid { place = length mid.text } → rest new ≡ [] → Recovers nl old (record { kind = Eof; is_on_new_line = nl; diagnostic = FileAppearsToBeBinary }) new
+pub binary : (nl : Bool) (old mid new : At) (c : ℕ) → IsPlaced old → is_prefix (codes "/*") (rest old) ≡ false
+    → is_prefix (codes "#!") (rest old) ≡ false → Reads old mid c → c ≡ 0xFFFD
+    → new ≡ record mid { place = length mid.text } → rest new ≡ []
+    → Recovers nl old (record { kind = Eof; is_on_new_line = nl; diagnostic = FileAppearsToBeBinary }) new
 binary nl old mid new c h e f reads same to none =
-    let begun : begins (λ d. d == 0xFFFD) (rest old) ≡ true = ap (begins (λ d. d == 0xFFFD)) (reads.here ∙ ap (λ d. d ∷ rest mid) same) in
+    let begun : begins (λ d. d == 0xFFFD) (rest old) ≡ true =
+    ap (begins (λ d. d == 0xFFFD)) (reads.here ∙ ap (λ d. d ∷ rest mid) same) in
     record {
       text = ap (λ a. a.text) to ∙ reads.text;
       recovery = no_mark nl old e f ∙ if_true (begins (λ d. d == 0xFFFD) (rest old)) _ _ begun ∙ rw none refl;
@@ -101,19 +134,32 @@ some_if : (b : Bool) (x : Reading) → is_some (if b then Some x else None) ≡ 
 some_if true x e = refl
 some_if false x e = absurd (cc)
 
-character_at : (nl : Bool) (place c : ℕ) (cs : List ℕ) → is_some (recovered_character nl place (c ∷ cs)) ≡ true → recovered_character nl place (c ∷ cs) ≡ Some (invalid_character nl place c cs)
-character_at nl place c cs some = if_true (is_control_or_wide c) _ None (some_if (is_control_or_wide c) (invalid_character nl place c cs) some)
+character_at : (nl : Bool) (place c : ℕ) (cs : List ℕ) → is_some (recovered_character nl place (c ∷ cs)) ≡ true
+    → recovered_character nl place (c ∷ cs) ≡ Some (invalid_character nl place c cs)
+character_at nl place c cs some =
+    if_true (is_control_or_wide c) _ None (some_if (is_control_or_wide c) (invalid_character nl place c cs) some)
 
 -- a reading that recovers needs a text
 pub some_text : (nl : Bool) (old : At) → IsSome (recovered nl old.place (rest old)) → rest old ≢ []
-some_text nl old some none = let no : is_some (recovered nl old.place []) ≡ true = subst (λ xs. is_some (recovered nl old.place xs) ≡ true) none some in absurd (cc)
+some_text nl old some none = let no : is_some (recovered nl old.place []) ≡ true =
+    subst (λ xs. is_some (recovered nl old.place xs) ≡ true) none some in absurd (cc)
 
-pub invalid : (nl : Bool) (old new : At) (c start end : ℕ) → IsPlaced old → IsPlaced new → is_prefix (codes "/*") (rest old) ≡ false → is_prefix (codes "#!") (rest old) ≡ false
-    → IsSome (recovered nl old.place (rest old)) → Reads old new c → (c ≡ 0xFFFD → ⊥) → old.place ≤ new.place → start ≡ old.place → end ≡ new.place
-    → Recovers nl old (record { kind = Undetermined; is_on_new_line = nl; diagnostic = InvalidCharacter c (record { start = start; end = end }) }) new
+pub invalid : (nl : Bool) (old new : At) (c start end : ℕ) → IsPlaced old → IsPlaced new
+    → is_prefix (codes "/*") (rest old) ≡ false → is_prefix (codes "#!") (rest old) ≡ false
+    → IsSome (recovered nl old.place (rest old)) → Reads old new c → (c ≡ 0xFFFD → ⊥) → old.place ≤ new.place
+    → start ≡ old.place → end ≡ new.place
+    → Recovers nl old
+    (record {
+      kind = Undetermined;
+      is_on_new_line = nl;
+      diagnostic = InvalidCharacter c (record { start = start; end = end });
+    }) new
 invalid nl old new c start end h g e f some reads other onward s t =
-    let begun : begins (λ d. d == 0xFFFD) (rest old) ≡ false = ap (begins (λ d. d == 0xFFFD)) reads.here ∙ ne_eqb c 0xFFFD other in
-    let same = no_mark nl old e f ∙ if_not (begins (λ d. d == 0xFFFD) (rest old)) _ _ begun ∙ ap (recovered_character nl old.place) reads.here in
+    let begun : begins (λ d. d == 0xFFFD) (rest old) ≡ false =
+    ap (begins (λ d. d == 0xFFFD)) reads.here ∙ ne_eqb c 0xFFFD other in
+    let same =
+    no_mark nl old e f ∙ if_not (begins (λ d. d == 0xFFFD) (rest old)) _ _ begun
+    ∙ ap (recovered_character nl old.place) reads.here in
     let there : is_some (recovered_character nl old.place (c ∷ rest new)) ≡ true = sym (ap is_some same) ∙ some in
     let to : end ≡ place_behind old.place (c ∷ []) = t ∙ leads_to old new (c ∷ []) h g reads.text reads.here in
     record {

@@ -1,5 +1,6 @@
 -- The longest spelling, by what begins the text.
-use Rattle.std.proofs.Common.{◌≡◌, ℕ, ◌≤◌, Bool, true, false, List, [], ◌∷◌, ◌++◌, length, refl, sym, ◌∙◌, ap, arith, Option, Some, None}
+use Rattle.std.proofs.Common.{◌≡◌, ℕ, ◌≤◌, Bool, true, false, List, [], ◌∷◌, ◌++◌, length, refl, sym, ◌∙◌, ap, arith}
+use Rattle.std.proofs.Common.{Some}
 use Rattle.std.specs.Str.{encode_utf8_all}
 use Rattle.js_text.specs.Characters.{is_identifier_start, begins, from_first, before_first, from_place}
 use Rattle.js_text.specs.declared.source_type.SourceType.{SourceType}
@@ -17,14 +18,18 @@ begun : (p : ℕ → Bool) (xs : List ℕ) → begins p xs ≡ true → (c : ℕ
 begun p [] e = absurd (cc)
 begun p (c ∷ cs) e = (c, cs, refl, e)
 
-longest_name_at : (t : SourceType) (nl : Bool) (text left : List ℕ) (k : Kind) (c : ℕ) (cs : List ℕ) → text ≡ c ∷ cs → left ≡ from_first is_no_part cs
-    → k ≡ name_kind (encode_utf8_all (c ∷ before_first is_no_part cs)) → is_identifier_start c ≡ true → LongestSpelling t nl text (c ∷ before_first is_no_part cs) left k
+longest_name_at : (t : SourceType) (nl : Bool) (text left : List ℕ) (k : Kind) (c : ℕ) (cs : List ℕ) → text ≡ c ∷ cs
+    → left ≡ from_first is_no_part cs
+    → k ≡ name_kind (encode_utf8_all (c ∷ before_first is_no_part cs)) → is_identifier_start c ≡ true
+    → LongestSpelling t nl text (c ∷ before_first is_no_part cs) left k
 longest_name_at t nl text left k c cs e f g start = rw (e, f, g) (longest_of_name t nl c cs start)
 
 -- a name was read: its first character, its parts, and its kind by the table
-pub name_spelled : (t : SourceType) (nl : Bool) (old mid new : At) (text : List ℕ) (k : Kind) → begins is_identifier_start (rest old) ≡ true → StepsPast old mid
+pub name_spelled : (t : SourceType) (nl : Bool) (old mid new : At) (text : List ℕ) (k : Kind)
+    → begins is_identifier_start (rest old) ≡ true → StepsPast old mid
     → rest new ≡ from_first is_no_part (rest mid) → new.text ≡ mid.text
-    → ((xs : List ℕ) → from_place new.text old.place ≡ xs ++ rest new → text ≡ encode_utf8_all xs) → k ≡ name_kind text → Spells t nl old new k
+    → ((xs : List ℕ) → from_place new.text old.place ≡ xs ++ rest new → text ≡ encode_utf8_all xs) → k ≡ name_kind text
+    → Spells t nl old new k
 name_spelled t nl old mid new text k start past left same slice kind =
     let found = begun is_identifier_start (rest old) start in
     let after = past found.0 found.1 found.2 in
@@ -32,7 +37,8 @@ name_spelled t nl old mid new text k start past left same slice kind =
     let left_is : rest new ≡ from_first is_no_part found.1 = left ∙ ap (from_first is_no_part) after.1 in
     let name : List ℕ = found.0 ∷ before_first is_no_part found.1 in
     let whole : from_place new.text old.place ≡ name ++ rest new =
-    ap (λ u. from_place u old.place) same_text ∙ found.2 ∙ ap (λ xs. found.0 ∷ xs) (sym (before_from is_no_part found.1)) ∙ ap (λ xs. name ++ xs) (sym left_is) in
+    ap (λ u. from_place u old.place) same_text ∙ found.2
+    ∙ ap (λ xs. found.0 ∷ xs) (sym (before_from is_no_part found.1)) ∙ ap (λ xs. name ++ xs) (sym left_is) in
     let kind_is : k ≡ name_kind (encode_utf8_all name) = kind ∙ ap name_kind (slice name whole) in
     record {
       text = same_text;
@@ -49,9 +55,20 @@ pub end_spelled : (t : SourceType) (nl : Bool) (old : At) → rest old ≡ [] �
 end_spelled t nl old e = record {
   text = refl;
   spelled = [];
-  spelling = rw e record { here = refl; spelling = end_of_source refl refl refl; longest = λ us vs j whole s. empty_longest us vs whole };
+  spelling =
+      rw e record {
+        here = refl;
+        spelling = end_of_source refl refl refl;
+        longest = λ us vs j whole s. empty_longest us vs whole;
+      };
 }
 
 -- where no name begins, the longest punctuator is spelled
-pub punctuator_spelled : (t : SourceType) (nl : Bool) (old new : At) (k : Kind) → begins is_identifier_start (rest old) ≡ false → ReadsPunctuator t nl old new (Some k) → Spells t nl old new k
-punctuator_spelled t nl old new k no_name read = record { text = read.0; spelled = read.1.it.text; spelling = longest_of_punctuator t nl (rest old) (rest new) k no_name read.1 }
+pub punctuator_spelled : (t : SourceType) (nl : Bool) (old new : At) (k : Kind)
+    → begins is_identifier_start (rest old) ≡ false → ReadsPunctuator t nl old new (Some k) → Spells t nl old new k
+punctuator_spelled t nl old new k no_name read =
+    record {
+      text = read.0;
+      spelled = read.1.it.text;
+      spelling = longest_of_punctuator t nl (rest old) (rest new) k no_name read.1;
+    }

@@ -1,5 +1,6 @@
 -- What the steps of a gap do to the source.
-use Rattle.std.specs.Prelude.{◌≡◌, ℕ, ◌<◌, ◌≤◌, Bool, true, false, List, [], ◌++◌, codes, Option, Some, None, IfNone, IfSome}
+use Rattle.std.specs.Prelude.{◌≡◌, ℕ, ◌<◌, ◌≤◌, Bool, true, false, List, [], ◌++◌, codes, Option, Some, None, IfNone}
+use Rattle.std.specs.Prelude.{IfSome}
 use Rattle.js_text.specs.Ascii.{slash, less_than_sign, hyphen_minus}
 use Rattle.js_text.specs.Characters.{is_white_space, is_line_terminator}
 use Rattle.js_text.specs.declared.source_type.SourceType.{SourceType}

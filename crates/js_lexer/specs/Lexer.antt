@@ -1,5 +1,6 @@
 -- How contracts see a lexer, its checkpoints and its readings.
-use Rattle.std.specs.Prelude.{◌≡◌, ◌≢◌, ℕ, ◌<◌, ◌≤◌, Bool, List, [], ◌∷◌, ◌++◌, ◌&&◌, ◌==◌, not, length, take, Option, Some, None, IfSome, unwrap_or, if◌then◌else◌}
+use Rattle.std.specs.Prelude.{◌≡◌, ◌≢◌, ℕ, ◌<◌, ◌≤◌, Bool, List, [], ◌∷◌, ◌++◌, ◌&&◌, ◌==◌, not, length, take, Option}
+use Rattle.std.specs.Prelude.{Some, None, IfSome, unwrap_or, if◌then◌else◌}
 use Rattle.std.specs.List.{last_or}
 use Rattle.std.specs.Str.{IsCharBoundary}
 use Rattle.js_text.specs.Lists.{with_last}
@@ -7,7 +8,8 @@ use Rattle.js_text.specs.declared.diagnostic.Diagnostic.{Diagnostic}
 use Rattle.js_text.specs.declared.source_type.SourceType.{SourceType}
 use Rattle.js_grammar.specs.Built.{IsBuilt}
 use Rattle.js_grammar.specs.Goals.{GoalReads, AgreesWithGrammar}
-use Rattle.js_grammar.specs.Outcome.{Findings, FindingLengths, no_findings, joined, reports, lengths_of, cut_to, AreWithin, Outcome}
+use Rattle.js_grammar.specs.Outcome.{Findings, FindingLengths, no_findings, joined, reports, lengths_of, cut_to}
+use Rattle.js_grammar.specs.Outcome.{AreWithin, Outcome}
 use Rattle.js_grammar.specs.declared.goal.Goal.{Goal}
 use Rattle.js_grammar.specs.declared.goal.Goal.TheVariants.{Next}
 use Rattle.js_kind.specs.Kinds.{number}

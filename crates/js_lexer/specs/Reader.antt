@@ -1,9 +1,9 @@
 -- What the steps of a reading do to the reader that they work on.
-use Rattle.std.specs.Prelude.{◌≡◌, ◌≢◌, ℕ, ◌<◌, ◌≤◌, Bool, true, false, List, [], ◌∷◌, ◌++◌, length, Option, Some, None}
+use Rattle.std.specs.Prelude.{◌≡◌, ◌≢◌, ℕ, ◌<◌, Bool, true, false, List, [], ◌++◌, length, Option, Some, None}
 use Rattle.js_text.specs.Characters.{begins, is_identifier_start}
 use Rattle.js_text.specs.declared.diagnostic.Diagnostic.{Diagnostic}
 use Rattle.js_text.specs.declared.source_type.SourceType.{SourceType}
-use Rattle.js_grammar.specs.Gap.{Piece, piece, is_reported, whole_gap_piece, Pieces, LongestGap, WholeGap}
+use Rattle.js_grammar.specs.Gap.{Piece, piece, is_reported, whole_gap_piece, Pieces, LongestGap}
 use Rattle.js_grammar.specs.Goals.{GoalReads, ReadsBehindGap, ReadsHere}
 use Rattle.js_grammar.specs.Hashbang.{begins_hashbang, IsHashbang}
 use Rattle.js_grammar.specs.Outcome.{Outcome, reports, gap_diagnostics}

@@ -63,15 +63,15 @@ pub(crate) fn skip_block(
     ensures text { source.new.text ≡ source.old.text }
     ensures cut { ReadsCut line_has_ended (cut_behind (codes "*/") (rest source.old)) source.new result }
 {
-    let mut ended = line_has_ended;
+    let mut has_ended = line_has_ended;
     while let Some(c) = advance_to_match(source, table) {
         source.next_char();
         if advance_if_block_end(source, c) {
             return Skipped::Piece {
-                line_has_ended: ended,
+                line_has_ended: has_ended,
             };
         }
-        ended = either(ended, is_line_terminator(c));
+        has_ended = either(has_ended, is_line_terminator(c));
     }
     Skipped::Nothing
 }

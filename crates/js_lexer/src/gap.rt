@@ -1,6 +1,7 @@
 //! Gaps between tokens: white space, line terminators and comments (ECMA-262 12.2 to 12.4, B.1.1).
 
-ghost use Rattle.std.specs.Prelude.{◌≡◌, ◌∷◌, ◌<◌, ◌≤◌, ℕ, List, Bool, length, true, false, Some, None, IfOk, OnOk, OnErr, MatchBool};
+ghost use Rattle.std.specs.Prelude.{◌≡◌, ◌∷◌, ◌<◌, ◌≤◌, ℕ, List, Bool, length, true, false, Some, None, IfOk, OnOk};
+ghost use Rattle.std.specs.Prelude.{OnErr, MatchBool};
 ghost use Rattle.js_text.specs.Ascii.{slash, less_than_sign, hyphen_minus};
 ghost use Rattle.js_text.specs.Characters.{is_white_space, is_line_terminator};
 ghost use Rattle.js_text.specs.declared.source_type.SourceType.{SourceType};
@@ -93,7 +94,7 @@ fn skip_html_close(
     Skipped::Piece { line_has_ended }
 }
 
-/// Reads a white character or a line terminator.
+/// Reads a character of white space or a line terminator.
 fn skip_character(source: &mut Source<'_>, c: char, line_has_ended: bool) -> Skipped
     requires next { BeginsWith c (rest source.old) }
     requires slash { c ≡ slash → ⊥ }
@@ -106,7 +107,9 @@ fn skip_character(source: &mut Source<'_>, c: char, line_has_ended: bool) -> Ski
         Skipped::Piece { line_has_ended }
     } else if is_line_terminator(c) {
         source.next_char();
-        Skipped::Piece { line_has_ended: true }
+        Skipped::Piece {
+            line_has_ended: true,
+        }
     } else {
         Skipped::Nothing
     }
@@ -131,7 +134,7 @@ fn skip_any_piece(
     }
 }
 
-/// Whether the byte is a character that begins no piece. It tells so of most, not of all.
+/// Whether the byte is a character that begins no piece; false where one may begin.
 #[inline(always)]
 fn begins_no_piece(b: u8) -> bool
     ensures { MatchBool result (BeginsNoPiece b) (Unit {0}) }
@@ -151,7 +154,7 @@ fn begins_no_piece(b: u8) -> bool
     b != b'-'
 }
 
-/// Reads the white character that is next.
+/// Reads the character of white space that is next.
 #[inline(always)]
 fn skip_blank(source: &mut Source<'_>, b: u8, line_has_ended: bool) -> Skipped
     requires ascii { b < 128 }
@@ -173,7 +176,9 @@ fn skip_line_end(source: &mut Source<'_>, b: u8, line_has_ended: bool) -> Skippe
     ensures { (t : SourceType) → ReadsPiece (piece t line_has_ended (rest source.old)) source.old source.new result }
 {
     source.next_char();
-    Skipped::Piece { line_has_ended: true }
+    Skipped::Piece {
+        line_has_ended: true,
+    }
 }
 
 /// Skips TABs and SPs, and tells the byte behind them.
@@ -190,8 +195,12 @@ fn skip_blanks(source: &mut Source<'_>, table: &[bool; 256]) -> Option<u8>
     source.pass_ascii(table)
 }
 
-/// Takes the `<!--` of a comment that a module may not have.
-fn advance_if_reported(source: &mut Source<'_>, source_type: SourceType, line_has_ended: bool) -> bool
+/// Takes the `<!--` of a comment that a module may not have, where one stands here.
+fn advance_if_reported(
+    source: &mut Source<'_>,
+    source_type: SourceType,
+    line_has_ended: bool,
+) -> bool
     ensures { TakesReported source_type line_has_ended source.old result source.new }
 {
     if !source_type.is_module() {
@@ -203,7 +212,7 @@ fn advance_if_reported(source: &mut Source<'_>, source_type: SourceType, line_ha
     advance_if_mark(source, b"<!--")
 }
 
-/// Whether it is seen at once that no reported comment stands here.
+/// Whether the next byte alone shows that no reported comment stands here.
 #[inline(always)]
 fn is_none_reported(source: &Source<'_>, line_has_ended: bool) -> bool
     ensures { MatchBool result ((t : SourceType) → is_reported t line_has_ended (rest source.now) ≡ false) (Unit {0}) }
@@ -229,7 +238,12 @@ impl Reader<'_> {
         match b {
             b' ' => skip_blank(&mut self.source, b' ', self.line_has_ended),
             b'\n' => skip_line_end(&mut self.source, b'\n', self.line_has_ended),
-            _ => skip_any_piece(&mut self.source, &self.tables, self.source_type, self.line_has_ended),
+            _ => skip_any_piece(
+                &mut self.source,
+                &self.tables,
+                self.source_type,
+                self.line_has_ended,
+            ),
         }
     }
 
@@ -267,7 +281,7 @@ impl Reader<'_> {
         }
     }
 
-    /// Reads a comment that a module may not have and the gap behind it, and tells whether there is one; it is reported.
+    /// Reads and reports a comment that a module may not have, with the gap behind it, and tells whether there is one.
     #[inline(never)]
     fn skip_reported(&mut self) -> Result<bool, AllocError>
         ensures ok { IfOk result (λ found. SkipsReported self.old found self.new) }
@@ -285,7 +299,7 @@ impl Reader<'_> {
         Ok(true)
     }
 
-    /// Goes on with a whole gap where a longest gap has ended.
+    /// Goes on with a whole gap, where a longest gap without reported comments has ended.
     #[inline(never)]
     fn skip_all_reported(&mut self) -> Result<(), AllocError>
         requires placed { IsPlaced self.old.source }

@@ -19,8 +19,13 @@ impl Lexeme {
     pub fn token(self, span: Span) -> Token
         requires { span.start ≤ span.end }
         ensures { result ≡ record {
-            start = span.start; end = span.end; kind = self.kind; is_on_new_line = self.is_on_new_line;
-            escaped = self.escaped; has_separator = self.has_separator } }
+          start = span.start;
+          end = span.end;
+          kind = self.kind;
+          is_on_new_line = self.is_on_new_line;
+          escaped = self.escaped;
+          has_separator = self.has_separator;
+        } }
     {
         let mut token = Token::new(self.kind, span, self.is_on_new_line);
         token.set_escaped(self.escaped);

@@ -6,7 +6,9 @@ ghost use Rattle.std.specs.Str.{IsCharBoundary, IsUtf8};
 ghost use Rattle.js_grammar.specs.Built.{IsBuilt};
 ghost use Rattle.js_grammar.specs.Outcome.{no_findings, reports};
 ghost use Rattle.js_source.specs.Source.{IsPlaced};
-ghost use Rattle.js_lexer.specs.Lexer.{LexerState, fresh, token_or_default, ReadsToken, IsRestored, HasMovedOn, IsOnPlaces, Peeks, checkpoint_of, CanRewind, rewound, GoesOnFrom, collected, is_hashbang};
+ghost use Rattle.js_lexer.specs.Lexer.{LexerState, fresh, token_or_default, ReadsToken, IsRestored, HasMovedOn};
+ghost use Rattle.js_lexer.specs.Lexer.{IsOnPlaces, Peeks, checkpoint_of, CanRewind, rewound, GoesOnFrom, collected};
+ghost use Rattle.js_lexer.specs.Lexer.{is_hashbang};
 
 use crate::checkpoint::{LexerCheckpoint, is_on_places_if_some, is_place, put_back};
 use crate::reader::Reader;
@@ -267,8 +269,8 @@ impl<'a, C: LexerConfig + Drop> Lexer<'a, C> {
         is_on_places_if_some(source, &checkpoint.last)
     }
 
-    /// Goes back to the checkpoint. The lists are cut back to the lengths that they had, and the last collected token is
-    /// put back. Where the lists begin as they did at the checkpoint, this restores the lexer as it was.
+    /// Goes back to the checkpoint: the lists are cut back to the lengths that they had, and the last collected token
+    /// is put back. Where the lists begin as they did at the checkpoint, the lexer is then as it was there.
     pub fn rewind(&mut self, checkpoint: LexerCheckpoint)
         requires { CanRewind self.old checkpoint }
         ensures state { self.new ≡ rewound self.old checkpoint }

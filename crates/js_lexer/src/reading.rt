@@ -1,6 +1,7 @@
 //! Readings of the first and the plain goal.
 
-ghost use Rattle.std.specs.Prelude.{◌≡◌, ◌≢◌, ◌<◌, Bool, true, false, [], Option, None, IsTrue, IfOk, IfSome, OnOk, OnErr};
+ghost use Rattle.std.specs.Prelude.{◌≡◌, ◌≢◌, ◌<◌, Bool, true, false, [], Option, None, IsTrue, IfOk, IfSome, OnOk};
+ghost use Rattle.std.specs.Prelude.{OnErr};
 ghost use Rattle.js_text.specs.Characters.{begins, is_identifier_start};
 ghost use Rattle.js_grammar.specs.Built.{IsBuilt};
 ghost use Rattle.js_grammar.specs.Gap.{whole_gap_piece};
@@ -37,7 +38,11 @@ impl Reader<'_> {
     #[inline(always)]
     fn lexeme(&self, kind: Kind) -> Lexeme
         ensures { result ≡ record {
-            kind = kind; is_on_new_line = self.now.line_has_ended; escaped = false; has_separator = false } }
+          kind = kind;
+          is_on_new_line = self.now.line_has_ended;
+          escaped = false;
+          has_separator = false;
+        } }
     {
         Lexeme {
             kind,
@@ -67,7 +72,7 @@ impl Reader<'_> {
         })
     }
 
-    /// Reads what begins with no name.
+    /// Reads what stands behind a gap, where no name begins.
     #[inline(always)]
     fn read_mark(&mut self) -> Result<Lexeme, AllocError>
         requires gap { whole_gap_piece self.old.source_type self.old.line_has_ended (rest self.old.source) ≡ None }

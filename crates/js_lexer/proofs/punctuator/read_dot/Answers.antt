@@ -14,8 +14,11 @@ pub returns-then-is_digit_next : goal.returns-then-is_digit_next
 returns-then-is_digit_next c = λ t nl.
     let first = behind 46 c.args.source.now c.next_char.new.self c.requires c.next_char.ensures.past in
     let dots = c.if-advance_if_mark.ensures in
-    let digit = sym c.is_digit_next.ensures ∙ c.if-is_digit_next.true in
-    (c.set_position.ensures ∙ rw (dots.1, first.0, c.position-start.ensures.place) refl, rw first.1 (none_dot t nl (rest c.next_char.new.self) (rw dots.1 at digit)))
+    let digit = sym c.is_digit_next.ensures ∙ c.if-is_digit_next.true in (
+      c.set_position.ensures
+          ∙ rw (dots.1, first.0, c.position-start.ensures.place) refl,
+      rw first.1 (none_dot t nl (rest c.next_char.new.self) (rw dots.1 at digit)),
+    )
 
 pub returns-else-is_digit_next : goal.returns-else-is_digit_next
 returns-else-is_digit_next c = λ t nl.

@@ -1,4 +1,5 @@
-use Rattle.js_grammar.proofs.PunctuatorLeaves.{l_paren, r_paren, comma, colon, semicolon, r_angle, at, l_brack, r_brack, l_curly, r_curly, tilde}
+use Rattle.js_grammar.proofs.PunctuatorLeaves.{l_paren, r_paren, comma, colon, semicolon, r_angle, at, l_brack, r_brack}
+use Rattle.js_grammar.proofs.PunctuatorLeaves.{l_curly, r_curly, tilde}
 use Rattle.js_lexer.proofs.punctuator.read_punctuator.Goals as goal
 
 pub read_single-requires-clause-alone : goal.read_single-requires-clause-alone

@@ -6,7 +6,9 @@ pub returns-clause-ok : goal.returns-clause-ok
 returns-clause-ok g c =
     let read = c.in_ok-token.ensures.ok in
     record {
-      restored = c.rewind.ensures.restores c.args.self.now c.checkpoint-checkpoint.ensures.state (reading_goes_on Next c.args.self.now c.next_token.new.self c.in_ok-token.token read);
+      restored =
+          c.rewind.ensures.restores c.args.self.now c.checkpoint-checkpoint.ensures.state
+          (reading_goes_on Next c.args.self.now c.next_token.new.self c.in_ok-token.token read);
       outcome = read.outcome;
       token_is = read.token_is;
       reads = read.reads;

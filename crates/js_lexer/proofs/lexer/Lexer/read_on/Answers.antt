@@ -7,14 +7,17 @@ use Rattle.js_lexer.proofs.lexer.Lexer.read_on.Goals as goal
 pub returns-in_err-token-clause-err : goal.returns-in_err-token-clause-err
 returns-in_err-token-clause-err g c =
     let p = err_from_is_err_and c.from_residual.result c.from_residual.ensures.1 in
-    rw (p.1, ← c.self.view_is) (moves_on _ _ _ c.read_goal.new.self record { source = refl; source_type = refl; errors = refl } c.in_err-token.ensures.err refl)
+    rw (p.1, ← c.self.view_is)
+    (moves_on _ _ _ c.read_goal.new.self
+    record { source = refl; source_type = refl; errors = refl } c.in_err-token.ensures.err refl)
 
 pub returns-in_err-collect-clause-err : goal.returns-in_err-collect-clause-err
 returns-in_err-collect-clause-err g c =
     let p = err_from_is_err_and c.from_residual-in_err-collect.result c.from_residual-in_err-collect.ensures.1 in
     let read = c.in_ok-token.ensures.ok _ (no_token_yet _ c.is_none-self-inside.result c.is_none-self-inside.ensures) in
     rw (p.1, ← c.self.view_is, c.in_err-collect.ensures.err)
-    (moves_on _ _ _ c.read_goal.new.self record { source = refl; source_type = refl; errors = refl } (reads_moves_on _ _ _ _ _ read) refl)
+    (moves_on _ _ _ c.read_goal.new.self record { source = refl; source_type = refl; errors = refl }
+    (reads_moves_on _ _ _ _ _ read) refl)
 
 pub invariant_of-self-2 : goal.invariant_of-self-2
 invariant_of-self-2 g c =
@@ -26,4 +29,6 @@ returns-clause-ok g c =
     let read = c.in_ok-token.ensures.ok _ (no_token_yet _ c.is_none-self-inside.result c.is_none-self-inside.ensures) in
     let tokens = rw c.tokens.ensures at c.in_ok-collect.ensures.ok in
     rw (← c.self.view_is, tokens)
-    (reads_token _ _ _ c.read_goal.new.self c.args.goal c.in_ok-token.token (subst IsUtf8 read.text c.in_ok-token.ensures.placed.utf8) record { source = refl; source_type = refl; errors = refl } read refl)
+    (reads_token _ _ _ c.read_goal.new.self c.args.goal c.in_ok-token.token
+    (subst IsUtf8 read.text c.in_ok-token.ensures.placed.utf8)
+    record { source = refl; source_type = refl; errors = refl } read refl)

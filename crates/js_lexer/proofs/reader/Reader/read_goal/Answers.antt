@@ -6,5 +6,6 @@ use Rattle.js_lexer.proofs.reader.Reader.read_goal.Goals as goal
 
 pub returns-in-Some-clause-ok : goal.returns-in-Some-clause-ok
 returns-in-Some-clause-ok c = λ before nl.
-    subst (λ (g : Goal). ReadsGoal g before c.args.self.now c.in-Some.token c.read_hashbang.new.self) (sym c.in-First.is)
+    subst (λ (g : Goal). ReadsGoal g before c.args.self.now c.in-Some.token c.read_hashbang.new.self)
+    (sym c.in-First.is)
     (goal_hashbang before c.args.self.now c.read_hashbang.new.self c.in-Some.token nl c.in-Some.ensures.reads)

@@ -1,4 +1,4 @@
-use Rattle.std.proofs.Common.{refl, sym, ap, subst, Bool, List, ℕ, ◌≡◌}
+use Rattle.std.proofs.Common.{refl, sym, subst, ◌≡◌}
 use Rattle.js_source.specs.Source.{At, rest, IsPlaced}
 use Rattle.js_grammar.specs.Built.{IsBuilt}
 use Rattle.js_grammar.specs.Gap.{whole_gap_piece}
@@ -13,8 +13,10 @@ returns-in-Some-clause-ok c =
     let t = c.args.self.now.source_type in
     let nl = c.args.self.now.line_has_ended in
     let quiet = (none_behind t nl (rest c.args.self.now.source) c.requires.gap).0 in
-    lexeme_spelled c.args.self.now _ c.in-Some.kind c.lexeme.result record { source_type = refl; line_has_ended = refl; errors = refl }
-    (punctuator_spelled t nl c.args.self.now.source c.read_punctuator.new.source c.in-Some.kind c.requires.no_name (c.in-Some.ensures t nl quiet)) c.lexeme.ensures
+    lexeme_spelled c.args.self.now _ c.in-Some.kind c.lexeme.result
+    record { source_type = refl; line_has_ended = refl; errors = refl }
+    (punctuator_spelled t nl c.args.self.now.source c.read_punctuator.new.source c.in-Some.kind c.requires.no_name
+    (c.in-Some.ensures t nl quiet)) c.lexeme.ensures
 
 pub recover-requires : goal.recover-requires
 recover-requires c =
@@ -25,7 +27,9 @@ recover-requires c =
     record {
       gap = subst (λ (a : At). whole_gap_piece t nl (rest a) ≡ _) (sym none.0) c.requires.gap;
       built = subst (λ (a : At). IsBuilt a.text) (sym none.0) c.requires.built;
-      nothing = subst (λ (a : At). NothingHere t nl (rest a)) (sym none.0) record { some = c.requires.some; no_name = c.requires.no_name; no_punctuator = none.1 };
+      nothing =
+          subst (λ (a : At). NothingHere t nl (rest a)) (sym none.0)
+          record { some = c.requires.some; no_name = c.requires.no_name; no_punctuator = none.1 };
       placed = subst (λ (a : At). IsPlaced a) (sym none.0) c.requires.placed;
     }
 
@@ -34,13 +38,17 @@ returns-in-None-clause-ok c =
     let t = c.args.self.now.source_type in
     let nl = c.args.self.now.line_has_ended in
     let none = c.in-None.ensures t nl (none_behind t nl (rest c.args.self.now.source) c.requires.gap).0 in
-    answers_from c.args.self.now (record c.args.self.now { source = c.read_punctuator.new.source }) c.recover.new.self c.recover.result
-    record { source = none.0; stays = record { source_type = refl; line_has_ended = refl; errors = refl } } c.recover.ensures.ok
+    answers_from c.args.self.now
+    (record c.args.self.now { source = c.read_punctuator.new.source }) c.recover.new.self c.recover.result
+    record { source = none.0; stays = record { source_type = refl; line_has_ended = refl; errors = refl } }
+    c.recover.ensures.ok
 
 pub returns-in-None-clause-err : goal.returns-in-None-clause-err
 returns-in-None-clause-err c =
     let t = c.args.self.now.source_type in
     let nl = c.args.self.now.line_has_ended in
     let none = c.in-None.ensures t nl (none_behind t nl (rest c.args.self.now.source) c.requires.gap).0 in
-    fails_from c.args.self.now (record c.args.self.now { source = c.read_punctuator.new.source }) c.recover.new.self c.recover.result
-    record { source = none.0; stays = record { source_type = refl; line_has_ended = refl; errors = refl } } c.recover.ensures.err
+    fails_from c.args.self.now
+    (record c.args.self.now { source = c.read_punctuator.new.source }) c.recover.new.self c.recover.result
+    record { source = none.0; stays = record { source_type = refl; line_has_ended = refl; errors = refl } }
+    c.recover.ensures.err

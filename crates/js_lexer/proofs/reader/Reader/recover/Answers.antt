@@ -7,7 +7,8 @@ use Rattle.js_lexer.proofs.reader.Reader.recover.Goals as goal
 
 pub recover-recovered-requires : goal.recover-recovered-requires
 recover-recovered-requires c =
-    recovers_some c.args.self.now.source_type c.args.self.now.line_has_ended c.args.self.now.source c.requires.placed c.requires.built c.requires.gap c.requires.nothing
+    recovers_some c.args.self.now.source_type c.args.self.now.line_has_ended c.args.self.now.source c.requires.placed
+    c.requires.built c.requires.gap c.requires.nothing
 
 pub returns-in_err-push-clause-err : goal.returns-in_err-push-clause-err
 returns-in_err-push-clause-err c =
@@ -15,4 +16,6 @@ returns-in_err-push-clause-err c =
     rw p.1 (stays c.args.self.now _ c.recover-recovered.ensures.text refl c.in_err-push.ensures.err)
 
 pub returns-clause-ok : goal.returns-clause-ok
-returns-clause-ok c = lexeme_recovered c.args.self.now _ c.recover-recovered.result c.recover-recovered.ensures c.requires.nothing refl c.in_ok-push.ensures.ok
+returns-clause-ok c =
+    lexeme_recovered c.args.self.now _ c.recover-recovered.result c.recover-recovered.ensures c.requires.nothing refl
+    c.in_ok-push.ensures.ok

@@ -4,7 +4,12 @@ use Rattle.js_lexer.proofs.GapSteps.{piece_before, piece_shorter, no_piece_left}
 use Rattle.js_lexer.proofs.reader.Reader.skip_gap.Goals as goal
 
 pub loop-self-smaller : goal.loop-self-smaller
-loop-self-smaller c = omega (arith, piece_shorter c.loop-self.self c.skip_piece.new.self c.loop-self-test.ensures, c.skip_blanks-next-in-loop-self.ensures.fewer)
+loop-self-smaller c =
+    omega (
+      arith,
+      piece_shorter c.loop-self.self c.skip_piece.new.self c.loop-self-test.ensures,
+      c.skip_blanks-next-in-loop-self.ensures.fewer,
+    )
 
 pub loop-self-preserved : goal.loop-self-preserved
 loop-self-preserved c =
@@ -15,7 +20,11 @@ loop-self-preserved c =
     record {
       is_next = blanks.next;
       placed = blanks.placed;
-      within = record { source_type = skips.within.source_type ∙ inv.within.source_type; errors = skips.within.errors ∙ inv.within.errors };
+      within =
+          record {
+            source_type = skips.within.source_type ∙ inv.within.source_type;
+            errors = skips.within.errors ∙ inv.within.errors;
+          };
       text = blanks.text ∙ skips.text ∙ inv.text;
       completes = λ ended left gap. inv.completes ended left
           (piece_before t c.loop-self.self c.skip_piece.new.self inv.within.source_type skips ended left
@@ -23,14 +32,22 @@ loop-self-preserved c =
     }
 
 pub returns-clause-placed : goal.returns-clause-placed
-returns-clause-placed c = subst (λ (a : At). IsPlaced a) (sym c.loop-self-test.ensures.0.source) c.loop-self.invariant.placed
+returns-clause-placed c =
+    subst (λ (a : At). IsPlaced a) (sym c.loop-self-test.ensures.0.source) c.loop-self.invariant.placed
 
 pub returns-clause-skips : goal.returns-clause-skips
 returns-clause-skips c =
     let inv = c.loop-self.invariant in
     let same = c.loop-self-test.ensures in
     record {
-      within = record { source_type = same.0.stays.source_type ∙ inv.within.source_type; errors = same.0.stays.errors ∙ inv.within.errors };
+      within =
+          record {
+            source_type = same.0.stays.source_type ∙ inv.within.source_type;
+            errors = same.0.stays.errors ∙ inv.within.errors;
+          };
       text = ap (λ (a : At). a.text) same.0.source ∙ inv.text;
-      gap = inv.completes _ _ (no_piece_left c.args.self.now.source_type c.loop-self.self c.skip_piece.new.self inv.within.source_type same);
+      gap =
+          inv.completes _ _
+          (no_piece_left c.args.self.now.source_type c.loop-self.self c.skip_piece.new.self inv.within.source_type
+          same);
     }
