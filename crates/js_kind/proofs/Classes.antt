@@ -1,9 +1,9 @@
 -- Classes of kinds as rows of numbers.
-use Rattle.std.proofs.Common.{◌≡◌, refl}
+use Rattle.std.proofs.Common.{◌≡◌, ◌||◌, refl}
 use Rattle.std.specs.Int.{is_in_range}
 use Rattle.js_kind.specs.declared.kind.Kind.{Kind}
 use Rattle.js_kind.specs.declared.kind.Kind.TheVariants as variant
-use Rattle.js_kind.specs.Kinds.{number, is_name_kind, is_identifier_name, is_number_kind}
+use Rattle.js_kind.specs.Kinds.{number, is_name_kind, is_identifier_name, is_number_kind, is_reserved_keyword, is_literal}
 
 -- The numbers of words stand in a row.
 pub words_are_between : (kind : Kind) → is_in_range (number variant.Await) (number variant.Null) (number kind)
@@ -25,3 +25,21 @@ pub numbers_are_between : (kind : Kind) → is_in_range (number variant.Decimal)
 unfolding is_number_kind
 numbers_are_between variant.Eof = refl
 numbers_are_between _ = refl
+
+-- The reserved words stand in two rows.
+pub reserved_words_are_between : (kind : Kind)
+    → is_in_range (number variant.Await) (number variant.With) (number kind)
+    || is_in_range (number variant.Yield) (number variant.Null) (number kind)
+    ≡ is_reserved_keyword kind
+unfolding is_reserved_keyword
+reserved_words_are_between variant.Eof = refl
+reserved_words_are_between _ = refl
+
+-- So do the literals.
+pub literals_are_between : (kind : Kind)
+    → is_in_range (number variant.True) (number variant.Null) (number kind)
+    || is_in_range (number variant.Decimal) (number variant.RegExp) (number kind)
+    ≡ is_literal kind
+unfolding is_literal
+literals_are_between variant.Eof = refl
+literals_are_between _ = refl

@@ -1,5 +1,5 @@
 -- The numbers, names, texts and classes of kinds.
-use Rattle.std.specs.Prelude.{◌≡◌, ℕ, Bool, List, [], ◌∷◌, ◌++◌, Some, length, map, slice_get, ◌==◌}
+use Rattle.std.specs.Prelude.{◌≡◌, ℕ, Bool, List, [], ◌∷◌, ◌++◌, Some, length, map, slice_get, ◌==◌, ◌&&◌, not}
 use Rattle.std.specs.List.{list_any}
 use denote.Enum.Declared.{tag_of}
 use Rattle.js_kind.specs.contracts.kind.Kind.{the_type}
@@ -95,3 +95,54 @@ number_kinds =
 -- tokens of the kind are numbers (ECMA-262 12.9.3, NumericLiteral)
 unfoldable pub is_number_kind : Kind → Bool
 is_number_kind kind = is_one_of number_kinds kind
+
+-- the reserved words (ECMA-262 12.7.2, ReservedWord)
+abbrev pub reserved_words : List Kind
+reserved_words = plain_keywords ++ literal_words ++ variant.Yield ∷ []
+
+-- tokens of the kind are reserved words
+unfoldable pub is_reserved_keyword : Kind → Bool
+is_reserved_keyword kind = is_one_of reserved_words kind
+
+-- tokens of the kind are names that are not reserved (ECMA-262 13.1, Identifier)
+unfoldable pub is_identifier : Kind → Bool
+is_identifier kind = is_identifier_name kind && not (is_reserved_keyword kind)
+
+-- the kinds of literals
+abbrev pub literal_kinds : List Kind
+literal_kinds = literal_words ++ variant.Str ∷ variant.RegExp ∷ number_kinds
+
+-- tokens of the kind are literals (ECMA-262 13.2.3 and 13.2.7)
+unfoldable pub is_literal : Kind → Bool
+is_literal kind = is_one_of literal_kinds kind
+
+-- the kinds of assignment operators
+abbrev pub assignment_operators : List Kind
+assignment_operators =
+    variant.Eq ∷ variant.PlusEq ∷ variant.MinusEq ∷ variant.StarEq ∷ variant.SlashEq ∷ variant.PercentEq
+    ∷ variant.ShiftLeftEq ∷ variant.ShiftRightEq ∷ variant.ShiftRight3Eq ∷ variant.Pipe2Eq ∷ variant.Amp2Eq
+    ∷ variant.PipeEq ∷ variant.CaretEq ∷ variant.AmpEq ∷ variant.Question2Eq ∷ variant.Star2Eq ∷ []
+
+-- tokens of the kind are assignment operators (ECMA-262 13.15)
+unfoldable pub is_assignment_operator : Kind → Bool
+is_assignment_operator kind = is_one_of assignment_operators kind
+
+-- the kinds of binary operators
+abbrev pub binary_operators : List Kind
+binary_operators =
+    variant.Eq2 ∷ variant.Neq ∷ variant.Eq3 ∷ variant.Neq2 ∷ variant.LAngle ∷ variant.LtEq ∷ variant.RAngle
+    ∷ variant.GtEq ∷ variant.ShiftLeft ∷ variant.ShiftRight ∷ variant.ShiftRight3 ∷ variant.Plus
+    ∷ variant.Minus ∷ variant.Star ∷ variant.Slash ∷ variant.Percent ∷ variant.Pipe ∷ variant.Caret
+    ∷ variant.Amp ∷ variant.In ∷ variant.Instanceof ∷ variant.Star2 ∷ []
+
+-- tokens of the kind are binary operators (ECMA-262 13.6 to 13.12)
+unfoldable pub is_binary_operator : Kind → Bool
+is_binary_operator kind = is_one_of binary_operators kind
+
+-- the kinds of logical operators
+abbrev pub logical_operators : List Kind
+logical_operators = variant.Pipe2 ∷ variant.Amp2 ∷ variant.Question2 ∷ []
+
+-- tokens of the kind are logical operators (ECMA-262 13.13)
+unfoldable pub is_logical_operator : Kind → Bool
+is_logical_operator kind = is_one_of logical_operators kind

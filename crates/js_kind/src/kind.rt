@@ -1,8 +1,8 @@
 //! Kinds of tokens.
 
-ghost use Rattle.std.specs.Prelude.{◌≡◌, ◌↔◌, IsTrue};
+ghost use Rattle.std.specs.Prelude.{◌≡◌, ◌↔◌, ◌||◌, IsTrue};
 ghost use Rattle.std.specs.Int.{is_in_range};
-ghost use Rattle.js_kind.specs.Kinds.{number, is_name_kind, is_identifier_name, is_number_kind};
+ghost use Rattle.js_kind.specs.Kinds.{number, is_name_kind, is_identifier_name, is_number_kind, is_reserved_keyword, is_identifier, is_literal, is_assignment_operator, is_binary_operator, is_logical_operator};
 ghost use Rattle.js_kind.specs.Digits.{is_integer_kind, is_digit_of, radix_of};
 
 /// What a token is.
@@ -234,6 +234,102 @@ impl Kind {
         self.is_between(Kind::Decimal, Kind::HexBigInt)
     }
 
+    /// Whether the tokens of the kind are reserved words (ECMA-262 12.7.2, ReservedWord).
+    #[tactic(auto, using(crate::proofs::Classes::reserved_words_are_between))]
+    pub const fn is_reserved_keyword(self) -> bool
+        ensures { result ≡ is_reserved_keyword self }
+    {
+        either(
+            self.is_between(Kind::Await, Kind::With),
+            self.is_between(Kind::Yield, Kind::Null),
+        )
+    }
+
+    /// Whether the tokens of the kind are names that are not reserved (ECMA-262 13.1, Identifier).
+    #[tactic(auto, unfolding(crate::specs::Kinds::is_identifier))]
+    pub const fn is_identifier(self) -> bool
+        ensures { result ≡ is_identifier self }
+    {
+        self.is_identifier_name() && !self.is_reserved_keyword()
+    }
+
+    /// Whether the tokens of the kind are literals (ECMA-262 13.2.3 and 13.2.7).
+    #[tactic(auto, using(crate::proofs::Classes::literals_are_between))]
+    pub const fn is_literal(self) -> bool
+        ensures { result ≡ is_literal self }
+    {
+        either(
+            self.is_between(Kind::True, Kind::Null),
+            self.is_between(Kind::Decimal, Kind::RegExp),
+        )
+    }
+
+    /// Whether the tokens of the kind are assignment operators (ECMA-262 13.15).
+    #[tactic(auto, unfolding(crate::specs::Kinds::is_assignment_operator))]
+    pub const fn is_assignment_operator(self) -> bool
+        ensures { result ≡ is_assignment_operator self }
+    {
+        matches!(
+            self,
+            Kind::Eq
+                | Kind::PlusEq
+                | Kind::MinusEq
+                | Kind::StarEq
+                | Kind::SlashEq
+                | Kind::PercentEq
+                | Kind::ShiftLeftEq
+                | Kind::ShiftRightEq
+                | Kind::ShiftRight3Eq
+                | Kind::Pipe2Eq
+                | Kind::Amp2Eq
+                | Kind::PipeEq
+                | Kind::CaretEq
+                | Kind::AmpEq
+                | Kind::Question2Eq
+                | Kind::Star2Eq
+        )
+    }
+
+    /// Whether the tokens of the kind are binary operators (ECMA-262 13.6 to 13.12).
+    #[tactic(auto, unfolding(crate::specs::Kinds::is_binary_operator))]
+    pub const fn is_binary_operator(self) -> bool
+        ensures { result ≡ is_binary_operator self }
+    {
+        matches!(
+            self,
+            Kind::Eq2
+                | Kind::Neq
+                | Kind::Eq3
+                | Kind::Neq2
+                | Kind::LAngle
+                | Kind::LtEq
+                | Kind::RAngle
+                | Kind::GtEq
+                | Kind::ShiftLeft
+                | Kind::ShiftRight
+                | Kind::ShiftRight3
+                | Kind::Plus
+                | Kind::Minus
+                | Kind::Star
+                | Kind::Slash
+                | Kind::Percent
+                | Kind::Pipe
+                | Kind::Caret
+                | Kind::Amp
+                | Kind::In
+                | Kind::Instanceof
+                | Kind::Star2
+        )
+    }
+
+    /// Whether the tokens of the kind are logical operators (ECMA-262 13.13).
+    #[tactic(auto, unfolding(crate::specs::Kinds::is_logical_operator))]
+    pub const fn is_logical_operator(self) -> bool
+        ensures { result ≡ is_logical_operator self }
+    {
+        matches!(self, Kind::Pipe2 | Kind::Amp2 | Kind::Question2)
+    }
+
     /// Whether the byte is a digit of numbers of the kind, which is `Decimal`, `Binary`, `Octal` or `Hex`.
     #[tactic(auto, unfolding(crate::specs::Digits::is_digit_of))]
     pub const fn matches_number_byte(self, b: u8) -> bool
@@ -247,4 +343,11 @@ impl Kind {
             _ => b.is_ascii_digit(),
         }
     }
+}
+
+/// Whether one of two things holds.
+const fn either(first: bool, second: bool) -> bool
+    ensures { result ≡ (first || second) }
+{
+    first || second
 }

@@ -3,6 +3,7 @@
 
 mod characters;
 mod comment;
+mod comment_newlines;
 mod diagnostic;
 mod list;
 mod reg_exp_flags;
@@ -17,7 +18,8 @@ pub use characters::{
     is_identifier_part, is_identifier_start, is_irregular_whitespace, is_line_terminator,
     is_white_space,
 };
-pub use comment::{Comment, CommentContent, CommentKind, CommentPosition};
+pub use comment::{Comment, CommentContent, CommentKind, CommentPosition, CommentRange};
+pub use comment_newlines::CommentNewlines;
 pub use diagnostic::Diagnostic;
 pub use list::{ByteList, CommentList, DiagnosticList, ItemList, SpanList};
 pub use reg_exp_flags::{RegExpFlags, RegexInfo};
