@@ -1,6 +1,7 @@
 pub mod Ascii
 pub mod Characters
 pub mod Diagnostic
+pub mod JsStr
 pub mod Lists
 pub mod RegExpFlags
 pub mod SourceType
