@@ -1,3 +1,4 @@
 pub mod CharacterLemmas
+pub mod JsStrLemmas
 pub mod ListLemmas
 pub mod TextLemmas

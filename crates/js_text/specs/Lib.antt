@@ -3,6 +3,8 @@ pub mod Characters
 pub mod Comment
 pub mod CommentNewlines
 pub mod Diagnostic
+pub mod JsStr
+pub mod JsText
 pub mod Lists
 pub mod RegExpFlags
 pub mod SourceType

@@ -5,6 +5,8 @@ mod characters;
 mod comment;
 mod comment_newlines;
 mod diagnostic;
+mod js_str;
+mod js_text;
 mod list;
 mod reg_exp_flags;
 mod source_text;
@@ -21,6 +23,8 @@ pub use characters::{
 pub use comment::{Comment, CommentContent, CommentKind, CommentPosition, CommentRange};
 pub use comment_newlines::CommentNewlines;
 pub use diagnostic::Diagnostic;
+pub use js_str::{JSStr, JSStrBuilder};
+pub use js_text::JsText;
 pub use list::{ByteList, CommentList, DiagnosticList, ItemList, SpanList};
 pub use reg_exp_flags::{RegExpFlags, RegexInfo};
 pub use source_text::SourceText;

@@ -2,8 +2,9 @@
 
 use crate::{
     ByteList, Comment, CommentContent, CommentKind, CommentList, CommentPosition, Diagnostic,
-    DiagnosticList, RegExpFlags, SourceText, SourceType, Span, SpanList, is_identifier_part,
-    is_identifier_start, is_irregular_whitespace, is_line_terminator, is_white_space,
+    DiagnosticList, JSStrBuilder, RegExpFlags, SourceText, SourceType, Span, SpanList,
+    is_identifier_part, is_identifier_start, is_irregular_whitespace, is_line_terminator,
+    is_white_space,
 };
 use bitflags::Flags;
 use std::test::Fail;
@@ -254,5 +255,51 @@ fn texts(rt: HostRuntime) -> Result<(), Fail> {
     text.push_str("\u{E9}b")?;
     assert_eq!(rt; text.as_str(), "a\u{E9}b");
     assert_eq!(rt; text.len(), 4);
+    Ok(())
+}
+
+#[test]
+fn units(rt: HostRuntime) -> Result<(), Fail> {
+    let mut builder = JSStrBuilder::new_in(rt.alloc());
+    builder.push_str("a")?;
+    builder.push('b')?;
+    builder.push_unit(0x63)?;
+    let text = builder.into_js_str();
+    assert_eq!(rt; text.units(), [0x61, 0x62, 0x63].as_slice());
+    let copied = text.copy(rt.alloc())?;
+    assert_eq!(rt; copied.units(), text.units());
+    Ok(())
+}
+
+#[test]
+fn pairs_of_units(rt: HostRuntime) -> Result<(), Fail> {
+    let mut builder = JSStrBuilder::new_in(rt.alloc());
+    builder.push_str("\u{E9}\u{1F600}")?;
+    builder.push('\u{1F600}')?;
+    let text = builder.into_js_str();
+    assert_eq!(rt;
+        text.units(),
+        [0xE9, 0xD83D, 0xDE00, 0xD83D, 0xDE00].as_slice()
+    );
+    Ok(())
+}
+
+#[test]
+fn texts_of_units(rt: HostRuntime) -> Result<(), Fail> {
+    let mut builder = JSStrBuilder::new_in(rt.alloc());
+    builder.push_unit(0xD83D)?;
+    builder.push_unit(0xDE00)?;
+    let text = builder.into_js_str().to_text(rt.alloc())?;
+    assert_eq!(rt; text.as_deref(), Some("\u{1F600}"));
+    Ok(())
+}
+
+#[test]
+fn lone_surrogates(rt: HostRuntime) -> Result<(), Fail> {
+    let mut builder = JSStrBuilder::new_in(rt.alloc());
+    builder.push('a')?;
+    builder.push_unit(0xD83D)?;
+    let text = builder.into_js_str().to_text(rt.alloc())?;
+    assert!(rt; text.is_none());
     Ok(())
 }

@@ -1,0 +1,111 @@
+//! Texts as lists of UTF-16 units (ECMA-262 6.1.4).
+
+ghost use Rattle.std.specs.Prelude.{◌≡◌, [], ◌∷◌, ◌++◌, IfOk, IfSome, OnOk, OnErr, is_none, string_bytes};
+ghost use Rattle.std.specs.Char.Escape.{encode_utf16};
+ghost use Rattle.std.specs.Char.Utf16.{has_unpaired_surrogate};
+ghost use Rattle.std.specs.Str.{chars};
+ghost use Rattle.js_text.specs.JsStr.{units_of, AddsPrefix};
+
+use std::alloc::{AllocError, Global};
+use std::marker::Model;
+
+/// A text of JavaScript, seen as the list of its UTF-16 units. A surrogate may stand outside a pair.
+#[derive(Drop)]
+pub struct JSStr {
+    units: Vec<u16>,
+}
+
+impl Model for JSStr {
+    ghost use Rattle.std.specs.Prelude.{ℕ, List};
+
+    ghost Value = { List ℕ };
+
+    ghost view = { λ s. s.units.items };
+}
+
+impl JSStr {
+    /// The UTF-16 units, in order.
+    pub fn units(&self) -> &[u16]
+        ensures { result.now ≡ self.now }
+    {
+        self.units.as_slice()
+    }
+
+    /// The text that the units spell; none where a surrogate stands outside a pair.
+    pub fn to_text(&self, alloc: Global) -> Result<Option<String>, AllocError>
+        ensures found { IfOk result (λ text. is_none text ≡ has_unpaired_surrogate self.now) }
+        ensures text { IfOk result (λ text. IfSome text (λ s. units_of (chars (string_bytes s)) ≡ self.now)) }
+    {
+        let text = String::from_utf16(alloc, self.units.as_slice())?;
+        Ok(text.ok())
+    }
+
+    /// An equal text.
+    pub fn copy(&self, alloc: Global) -> Result<JSStr, AllocError>
+        ensures { IfOk result (λ s. s ≡ self.now) }
+    {
+        let units = Vec::from_slice(alloc, self.units.as_slice())?;
+        Ok(JSStr { units })
+    }
+}
+
+/// A `JSStr` that is built up, seen as the list of its UTF-16 units. It keeps its allocator.
+#[derive(Drop)]
+pub struct JSStrBuilder {
+    units: Vec<u16>,
+}
+
+impl Model for JSStrBuilder {
+    ghost use Rattle.std.specs.Prelude.{ℕ, List};
+
+    ghost Value = { List ℕ };
+
+    ghost view = { λ s. s.units.items };
+}
+
+impl JSStrBuilder {
+    /// A text of no units. It takes no memory yet.
+    pub fn new_in(alloc: Global) -> JSStrBuilder
+        ensures { result ≡ [] }
+    {
+        JSStrBuilder {
+            units: Vec::new(alloc),
+        }
+    }
+
+    /// Adds the one or two units of a character.
+    pub fn push(&mut self, c: char) -> Result<(), AllocError>
+        ensures ok { OnOk result (self.new ≡ self.old ++ encode_utf16 c) }
+        ensures err { OnErr result (self.new ≡ self.old) }
+    {
+        let mut room = [0; 2];
+        self.units.extend_from_slice(c.encode_utf16(&mut room))
+    }
+
+    /// Adds the units of a text, character by character.
+    pub fn push_str(&mut self, s: &str) -> Result<(), AllocError>
+        ensures ok { OnOk result (self.new ≡ self.old ++ units_of (chars s.now)) }
+        ensures err { OnErr result (AddsPrefix (units_of (chars s.now)) self.old self.new) }
+    {
+        for c in s.chars() {
+            self.push(c)?;
+        }
+        Ok(())
+    }
+
+    /// Adds a unit. A surrogate is added as it is.
+    pub fn push_unit(&mut self, unit: u16) -> Result<(), AllocError>
+        ensures ok { OnOk result (self.new ≡ self.old ++ unit ∷ []) }
+        ensures err { OnErr result (self.new ≡ self.old) }
+    {
+        self.units.push(unit)?;
+        Ok(())
+    }
+
+    /// The text that was built.
+    pub fn into_js_str(self) -> JSStr
+        ensures { result ≡ self }
+    {
+        JSStr { units: self.units }
+    }
+}
