@@ -1,6 +1,7 @@
 pub mod Clean
 pub mod GapLemmas
 pub mod NameLemmas
+pub mod NumberRows
 pub mod PieceLemmas
 pub mod PunctuatorLeaves
 pub mod PunctuatorLemmas

@@ -1,6 +1,8 @@
 pub mod Gap
 pub mod Goals
 pub mod Hashbang
+pub mod Number
+pub mod NumberReads
 pub mod Punctuators
 pub mod Reads
 pub mod Recovery
