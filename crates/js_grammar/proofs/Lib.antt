@@ -1,6 +1,8 @@
 pub mod Clean
 pub mod GapLemmas
 pub mod NameLemmas
+pub mod NumberClasses
+pub mod NumberItems
 pub mod NumberRows
 pub mod PieceLemmas
 pub mod PunctuatorLeaves
