@@ -2,8 +2,10 @@ pub mod Clean
 pub mod GapLemmas
 pub mod NameLemmas
 pub mod NumberClasses
+pub mod NumberCuts
 pub mod NumberItems
 pub mod NumberRows
+pub mod NumberSteps
 pub mod PieceLemmas
 pub mod PunctuatorLeaves
 pub mod PunctuatorLemmas

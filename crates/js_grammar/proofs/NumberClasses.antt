@@ -35,7 +35,7 @@ contraposed true b h e = let is : b ≡ true = h refl in absurd (cc)
 contraposed false b h e = refl
 
 -- digits are digits of a greater radix too, and ASCII characters
-digit_more : (radix greater c : ℕ) → radix ≤ greater → is_digit_of radix c ≡ true → is_digit_of greater c ≡ true
+pub digit_more : (radix greater c : ℕ) → radix ≤ greater → is_digit_of radix c ≡ true → is_digit_of greater c ≡ true
 unfolding is_digit_of
 digit_more radix greater c h e = grind (arith, nat_tests)
 
@@ -69,7 +69,7 @@ or_true : (a b : Bool) → (a || b) ≡ true → (a ≡ true) ⊎ (b ≡ true)
 or_true true b e = inl refl
 or_true false b e = inr e
 
-is_exponent : (c : ℕ) → is_exponent_mark c ≡ true → (c ≡ 101) ⊎ (c ≡ 69)
+pub is_exponent : (c : ℕ) → is_exponent_mark c ≡ true → (c ≡ 101) ⊎ (c ≡ 69)
 unfolding is_exponent_mark
 is_exponent c e = elim (or_true (c == 101) (c == 69) e) [ inl small ↦ inl (eqb-true c 101 small) | inr large ↦ inr (eqb-true c 69 large) ]
 

@@ -48,6 +48,7 @@ digits_on_append radix (c ∷ cs) ys e s =
     ]
 
 pub run_append : (radix : ℕ) (xs ys : List ℕ) → Is (run radix) xs → Stops radix ys → run radix (xs ++ ys) ≡ whole xs ys
+unfolding run
 run_append radix xs ys e s =
     elim (true_or_false (begins (is_digit_of radix) xs)) [
       inl digit ↦ (
@@ -59,6 +60,7 @@ run_append radix xs ys e s =
 
 -- a run begins with a digit
 pub run_begins : (radix : ℕ) (xs : List ℕ) → Is (run radix) xs → begins (is_digit_of radix) xs ≡ true
+unfolding run
 run_begins radix xs e =
     elim (true_or_false (begins (is_digit_of radix) xs)) [
       inl digit ↦ digit
@@ -66,6 +68,7 @@ run_begins radix xs e =
     ]
 
 pub integer_append : (xs ys : List ℕ) → Is integer xs → Stops 10 ys → integer (xs ++ ys) ≡ whole xs ys
+unfolding integer run
 integer_append [] ys e s = let h : true ≡ false = ap (λ (i : Item). i.lacks_digit) e in absurd (cc)
 integer_append (c ∷ cs) ys e s =
     elim (true_or_false (c == zero_digit)) [
@@ -92,6 +95,7 @@ digits_on_text radix (c ∷ cs) =
     ]
 
 pub run_text : (radix : ℕ) (text : List ℕ) → text ≡ (run radix text).text ++ (run radix text).rest
+unfolding run
 run_text radix text =
     elim (true_or_false (begins (is_digit_of radix) text)) [
       inl digit ↦ rw digit (digits_on_text radix text)
@@ -99,6 +103,7 @@ run_text radix text =
     ]
 
 pub integer_text : (text : List ℕ) → text ≡ (integer text).text ++ (integer text).rest
+unfolding integer run
 integer_text [] = refl
 integer_text (c ∷ cs) =
     elim (true_or_false (c == zero_digit)) [
@@ -128,6 +133,7 @@ digits_on_is radix (c ∷ cs) e =
 
 -- An item that is cut from a text and lacks no digit is such an item.
 pub run_is : (radix : ℕ) (text : List ℕ) → (run radix text).lacks_digit ≡ false → Is (run radix) (run radix text).text
+unfolding run
 run_is radix text e =
     elim (true_or_false (begins (is_digit_of radix) text)) [
       inl digit ↦ (
@@ -142,6 +148,7 @@ begins_less p [] ys e = refl
 begins_less p (c ∷ cs) ys e = e
 
 pub integer_is : (text : List ℕ) → (integer text).lacks_digit ≡ false → Is integer (integer text).text
+unfolding integer
 integer_is text e =
     elim (true_or_false (begins (λ c. c == zero_digit) text)) [
       inl zero ↦ rw zero refl

@@ -56,11 +56,11 @@ digits_on radix (c ∷ cs) =
     else whole [] (c ∷ cs)
 
 -- A run: digits of a radix, at least one, with single `_` between digits.
-abbrev pub run : ℕ → List ℕ → Item
+unfoldable pub run : ℕ → List ℕ → Item
 run radix text = if begins (is_digit_of radix) text then digits_on radix text else broken [] text
 
 -- An integer: `0`, or a run that begins with another digit.
-abbrev pub integer : List ℕ → Item
+unfoldable pub integer : List ℕ → Item
 integer text = if begins (λ c. c == zero_digit) text then whole (codes "0") (drop 1 text) else run 10 text
 
 -- The characters xs are this item, whole, and no more.

@@ -35,36 +35,36 @@ sign_of [] = no_sign
 sign_of (c ∷ cs) = if c == 45 then minus else if c == 43 then plus else no_sign
 
 -- an exponent whose mark and sign are known, where the text is what follows the mark
-abbrev pub exponent_items : ℕ → Sign → List ℕ → Items
+unfoldable pub exponent_items : ℕ → Sign → List ℕ → Items
 exponent_items mark sign text = let rest = drop (length (sign_text sign)) text in
     items-cons (whole (mark ∷ sign_text sign) rest) (last_item (sign_kind sign) (run 10 rest))
 
 -- an exponent, or none, and then this kind
-abbrev pub exponent_or : Kind → List ℕ → Items
+unfoldable pub exponent_or : Kind → List ℕ → Items
 exponent_or kind [] = no_items kind []
 exponent_or kind (c ∷ cs) = if is_exponent_mark c then exponent_items c (sign_of cs) cs else no_items kind (c ∷ cs)
 
 -- a run where a digit stands, and then an exponent or none
-abbrev pub fraction_items : List ℕ → Items
+unfoldable pub fraction_items : List ℕ → Items
 fraction_items text =
     if begins (is_digit_of 10) text then items-cons (run 10 text) (exponent_or Float (run 10 text).rest)
     else exponent_or Float text
 
 -- a point and what follows it
-abbrev pub point_items : List ℕ → Items
+unfoldable pub point_items : List ℕ → Items
 point_items text = record (items-cons (whole (codes ".") (drop 1 text)) (fraction_items (drop 1 text))) { kind = Float }
 
 -- what follows the digits that a point or an exponent may follow
-abbrev pub behind_digits : List ℕ → Items
+unfoldable pub behind_digits : List ℕ → Items
 behind_digits text = if begins (λ c. c == point) text then point_items text else exponent_or Decimal text
 
 -- the suffix `n`, with its kind, or else the items that there are without it
-abbrev pub suffix_or : Kind → Items → List ℕ → Items
+unfoldable pub suffix_or : Kind → Items → List ℕ → Items
 suffix_or big_kind without text =
     if begins (λ c. c == small_n) text then last_item big_kind (whole (codes "n") (drop 1 text)) else without
 
 -- a decimal number
-abbrev pub decimal_items : List ℕ → Items
+unfoldable pub decimal_items : List ℕ → Items
 decimal_items text =
     let digits = integer text in items-cons digits (suffix_or DecimalBigInt (behind_digits digits.rest) digits.rest)
 
@@ -73,24 +73,24 @@ abbrev pub is_no_digit : ℕ → Bool
 is_no_digit c = not (is_digit_of 10 c)
 
 -- all digits that stand here, with no `_`
-abbrev pub plain_digits : List ℕ → Item
+unfoldable pub plain_digits : List ℕ → Item
 plain_digits text = whole (before_first is_no_digit text) (from_first is_no_digit text)
 
 -- a number that begins with `0` and a digit (B.1.1)
-abbrev pub legacy_items : List ℕ → Items
+unfoldable pub legacy_items : List ℕ → Items
 legacy_items text =
     let digits = plain_digits text in
     if are_digits 8 digits.text then last_item Octal digits else items-cons digits (behind_digits digits.rest)
 
 -- The digits behind a prefix, and what follows them. Where a digit is missing, nothing more is read, and all that is
 -- left of the source belongs to the token.
-abbrev pub behind_prefix : Base → Item → Items
+unfoldable pub behind_prefix : Base → Item → Items
 behind_prefix base digits =
     if digits.lacks_digit then record { items = digits ∷ []; kind = Eof; rest = [] }
     else items-cons digits (suffix_or base.big_kind (no_items base.kind digits.rest) digits.rest)
 
 -- a number that begins with `0`, which the letter of a base may follow
-abbrev pub zero_items : Option Base → List ℕ → Items
+unfoldable pub zero_items : Option Base → List ℕ → Items
 zero_items (Some base) text =
     items-cons (whole (take 2 text) (drop 2 text)) (behind_prefix base (run base.radix (drop 2 text)))
 zero_items None text = if begins (is_digit_of 10) (drop 1 text) then legacy_items text else decimal_items text
@@ -101,7 +101,7 @@ base_at [] = None
 base_at (c ∷ cs) = base_of c
 
 -- the number that the text begins with
-abbrev pub number_items : List ℕ → Items
+unfoldable pub number_items : List ℕ → Items
 number_items text =
     if begins (λ c. c == point) text then point_items text
     else if begins (λ c. c == zero_digit) text then zero_items (base_at (drop 1 text)) text
@@ -167,7 +167,7 @@ badly_ended place number = record (well_ended place number) {
 }
 
 -- what is read of items that begin at a place
-abbrev pub items_read : ℕ → Items → NumberRead
+unfoldable pub items_read : ℕ → Items → NumberRead
 items_read place number =
     if begins may_not_follow_number number.rest then badly_ended place number else well_ended place number
 
