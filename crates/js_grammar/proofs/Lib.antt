@@ -5,6 +5,7 @@ pub mod NumberClasses
 pub mod NumberCuts
 pub mod NumberItems
 pub mod NumberRows
+pub mod NumberShapes
 pub mod NumberSteps
 pub mod PieceLemmas
 pub mod PunctuatorLeaves

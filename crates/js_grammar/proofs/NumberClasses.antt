@@ -65,7 +65,7 @@ begins_no p q (c ∷ cs) h e = contraposed (p c) (q c) (h c) e
 is_mark : (mark c : ℕ) → may_not_follow_number mark ≡ true → (c == mark) ≡ true → may_not_follow_number c ≡ true
 is_mark mark c h e = ap may_not_follow_number (eqb-true c mark e) ∙ h
 
-or_true : (a b : Bool) → (a || b) ≡ true → (a ≡ true) ⊎ (b ≡ true)
+pub or_true : (a b : Bool) → (a || b) ≡ true → (a ≡ true) ⊎ (b ≡ true)
 or_true true b e = inl refl
 or_true false b e = inr e
 

@@ -35,13 +35,13 @@ pub record Cuts (items : Items) (xs ys : List ℕ) (kind : Kind) : Type 0 where
   pub kind_is : items.kind ≡ kind
   pub whole_ones : lacks_some items.items ≡ false
 
-none_cut : (kind : Kind) (ys : List ℕ) → Cuts (no_items kind ys) [] ys kind
+pub none_cut : (kind : Kind) (ys : List ℕ) → Cuts (no_items kind ys) [] ys kind
 none_cut kind ys = record { text = refl; rest = refl; kind_is = refl; whole_ones = refl }
 
-last_cut : (kind : Kind) (xs ys : List ℕ) → Cuts (last_item kind (whole xs ys)) xs ys kind
+pub last_cut : (kind : Kind) (xs ys : List ℕ) → Cuts (last_item kind (whole xs ys)) xs ys kind
 last_cut kind xs ys = record { text = append-nil xs; rest = refl; kind_is = refl; whole_ones = refl }
 
-cons_cut : (zs rest xs ys : List ℕ) (kind : Kind) (more : Items) → Cuts more xs ys kind → Cuts (items-cons (whole zs rest) more) (zs ++ xs) ys kind
+pub cons_cut : (zs rest xs ys : List ℕ) (kind : Kind) (more : Items) → Cuts more xs ys kind → Cuts (items-cons (whole zs rest) more) (zs ++ xs) ys kind
 cons_cut zs rest xs ys kind more cut = record { text = ap (λ text. zs ++ text) cut.text; rest = cut.rest; kind_is = cut.kind_is; whole_ones = cut.whole_ones }
 
 -- the sign of an exponent is found
@@ -81,7 +81,7 @@ exponent_cut without kind xs ys (exponent mark sign digits is run_is here kind_i
     rw (here, kind_is, is, signed, left, run_append 10 digits ys run_is (end.run 10 (omega arith))) cut
 
 -- what an exponent begins with
-exponent_begins : (xs ys : List ℕ) (kind : Kind) → IsExponent xs kind → begins is_exponent_mark (xs ++ ys) ≡ true
+pub exponent_begins : (xs ys : List ℕ) (kind : Kind) → IsExponent xs kind → begins is_exponent_mark (xs ++ ys) ≡ true
 exponent_begins xs ys kind (exponent mark sign digits is run_is here kind_is) = rw here is
 
 mark_begins : (p : ℕ → Bool) (ys : List ℕ) → begins is_exponent_mark ys ≡ true → ((c : ℕ) → is_exponent_mark c ≡ true → p c ≡ false) → begins p ys ≡ false
@@ -113,7 +113,7 @@ fraction_cut fs es ys (inr is) e end =
     (cut.0, rw (fraction_there (fs ++ (es ++ ys)) first, digits) (cons_cut fs (es ++ ys) es ys cut.0 (exponent_or Float (es ++ ys)) cut.1))
 
 -- a point, a fraction and an exponent
-point_cut : (fs es ys : List ℕ) → IsOptional (Is (run 10)) fs → IsOptional IsFloatExponent es → EndsNumber ys
+pub point_cut : (fs es ys : List ℕ) → IsOptional (Is (run 10)) fs → IsOptional IsFloatExponent es → EndsNumber ys
     → Cuts (point_items (point ∷ (fs ++ (es ++ ys)))) (point ∷ (fs ++ es)) ys Float
 unfolding point_items
 point_cut fs es ys f e end =
@@ -124,16 +124,16 @@ point_mark : (text : List ℕ) → begins (λ c. c == point) (point ∷ text) �
 point_mark text = refl
 
 -- behind the digits before a point: nothing, a point, or an exponent
-nothing_cut : (ys : List ℕ) → EndsNumber ys → begins (λ c. c == point) ys ≡ false → Cuts (behind_digits ys) [] ys Decimal
+pub nothing_cut : (ys : List ℕ) → EndsNumber ys → begins (λ c. c == point) ys ≡ false → Cuts (behind_digits ys) [] ys Decimal
 nothing_cut ys end none = rw (behind_digits_other ys none, exponent_missing Decimal ys end.exponent) (none_cut Decimal ys)
 
 mark_is_no_point : (ys : List ℕ) → begins is_exponent_mark ys ≡ true → begins (λ c. c == point) ys ≡ false
 mark_is_no_point ys e = mark_begins (λ c. c == point) ys e (λ c is. (exponent_is_no_mark c is).0)
 
-mark_is_no_suffix : (ys : List ℕ) → begins is_exponent_mark ys ≡ true → begins (λ c. c == small_n) ys ≡ false
+pub mark_is_no_suffix : (ys : List ℕ) → begins is_exponent_mark ys ≡ true → begins (λ c. c == small_n) ys ≡ false
 mark_is_no_suffix ys e = mark_begins (λ c. c == small_n) ys e (λ c is. (exponent_is_no_mark c is).1)
 
-powered_cut : (xs ys : List ℕ) (kind : Kind) → IsExponent xs kind → EndsNumber ys → Cuts (behind_digits (xs ++ ys)) xs ys kind
+pub powered_cut : (xs ys : List ℕ) (kind : Kind) → IsExponent xs kind → EndsNumber ys → Cuts (behind_digits (xs ++ ys)) xs ys kind
 powered_cut xs ys kind is end = rw (behind_digits_other (xs ++ ys) (mark_is_no_point (xs ++ ys) (exponent_begins xs ys kind is))) (exponent_cut Decimal kind xs ys is end)
 
 -- no letter of a base and no digit stands here
@@ -169,13 +169,13 @@ mark_names_no_base (c ∷ cs) e = elim (is_exponent c e) [ inl small ↦ ap base
 pub no_prefix_ended : (ys : List ℕ) → begins may_not_follow_number ys ≡ false → NoPrefix ys
 no_prefix_ended ys e = record { letter = follower_names_no_base ys e; stops = (ends_number ys e).run 10 (omega arith) }
 
-no_prefix_suffix : (ys : List ℕ) → NoPrefix (small_n ∷ ys)
+pub no_prefix_suffix : (ys : List ℕ) → NoPrefix (small_n ∷ ys)
 no_prefix_suffix ys = record { letter = refl; stops = suffix_stops 10 ys (omega arith) }
 
-no_prefix_point : (ys : List ℕ) → NoPrefix (point ∷ ys)
+pub no_prefix_point : (ys : List ℕ) → NoPrefix (point ∷ ys)
 no_prefix_point ys = record { letter = refl; stops = point_stops ys }
 
-no_prefix_mark : (ys : List ℕ) → begins is_exponent_mark ys ≡ true → NoPrefix ys
+pub no_prefix_mark : (ys : List ℕ) → begins is_exponent_mark ys ≡ true → NoPrefix ys
 no_prefix_mark ys e = record { letter = mark_names_no_base ys e; stops = mark_stops ys e }
 
 -- the digits of a decimal number are found
@@ -206,7 +206,7 @@ decimal_found (c ∷ cs) ys is free =
     | inr other ↦ number_decimal ((c ∷ cs) ++ ys) (integer_begins c cs is) other
     ]
 
-decimal_cut : (xs zs ws ys : List ℕ) (kind : Kind) → Is integer xs → NoPrefix zs → Cuts (suffix_or DecimalBigInt (behind_digits zs) zs) ws ys kind
+pub decimal_cut : (xs zs ws ys : List ℕ) (kind : Kind) → Is integer xs → NoPrefix zs → Cuts (suffix_or DecimalBigInt (behind_digits zs) zs) ws ys kind
     → Cuts (number_items (xs ++ zs)) (xs ++ ws) ys kind
 unfolding decimal_items
 decimal_cut xs zs ws ys kind is free cut =
@@ -268,14 +268,14 @@ zero_and radix ds b zero e = rw zero e
 legacy_digits : (ds ys : List ℕ) → are_digits 10 ds ≡ true → begins (is_digit_of 10) ys ≡ false → plain_digits (zero_digit ∷ (ds ++ ys)) ≡ whole (zero_digit ∷ ds) ys
 legacy_digits ds ys digits stops = plain_digits_append (zero_digit ∷ ds) ys (zero_and 10 ds true zero_is_digit.0 digits) stops
 
-legacy_octal_cut : (xs ys : List ℕ) → IsLegacyOctal xs → EndsNumber ys → Cuts (number_items (xs ++ ys)) xs ys Octal
+pub legacy_octal_cut : (xs ys : List ℕ) → IsLegacyOctal xs → EndsNumber ys → Cuts (number_items (xs ++ ys)) xs ys Octal
 legacy_octal_cut xs ys (legacy_octal_digits ds first digits here) end =
     let text = zero_digit ∷ (ds ++ ys) in
     let found = legacy_digits ds ys (octal_digits ds digits) (end.run 10 (omega arith)).digit in
     let octal = ap (λ (item : Item). are_digits 8 item.text) found ∙ zero_and 8 ds true zero_is_digit.1 digits in
     rw (here, legacy_found ds ys (octal_begins ds first), legacy_octal_items text octal, found) (last_cut Octal (zero_digit ∷ ds) ys)
 
-legacy_decimal_cut : (xs zs ws ys : List ℕ) (kind : Kind) → IsLegacyDecimal xs → Stops 10 zs → Cuts (behind_digits zs) ws ys kind
+pub legacy_decimal_cut : (xs zs ws ys : List ℕ) (kind : Kind) → IsLegacyDecimal xs → Stops 10 zs → Cuts (behind_digits zs) ws ys kind
     → Cuts (number_items (xs ++ zs)) (xs ++ ws) ys kind
 legacy_decimal_cut xs zs ws ys kind (legacy_decimal_digits ds digits some here) stops cut =
     let text = zero_digit ∷ (ds ++ zs) in
