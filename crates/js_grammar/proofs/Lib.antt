@@ -6,6 +6,7 @@ pub mod NumberCuts
 pub mod NumberItems
 pub mod NumberRows
 pub mod NumberShapes
+pub mod NumberSound
 pub mod NumberSteps
 pub mod PieceLemmas
 pub mod PunctuatorLeaves

@@ -13,7 +13,7 @@ use Rattle.js_grammar.proofs.NumberSteps.{suffix_there, suffix_missing, behind_d
 use Rattle.js_kind.specs.declared.kind.Kind.{Kind}
 use Rattle.js_kind.specs.declared.kind.Kind.TheVariants.{Decimal, Float, Octal, DecimalBigInt}
 
-or_false : (a b : Bool) → (a || b) ≡ false → (a ≡ false) × (b ≡ false)
+pub or_false : (a b : Bool) → (a || b) ≡ false → (a ≡ false) × (b ≡ false)
 or_false true b e = absurd (cc)
 or_false false b e = (refl, e)
 
