@@ -8,6 +8,7 @@ pub mod NumberRows
 pub mod NumberShapes
 pub mod NumberSound
 pub mod NumberSteps
+pub mod NumberWhole
 pub mod PieceLemmas
 pub mod PunctuatorLeaves
 pub mod PunctuatorLemmas

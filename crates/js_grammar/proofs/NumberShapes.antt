@@ -59,7 +59,7 @@ before_point_cut xs zs ws ys kind (inl is) free suffix cut =
     decimal_cut xs zs ws ys kind is free (rw (suffix_missing DecimalBigInt (behind_digits zs) zs suffix) cut)
 before_point_cut xs zs ws ys kind (inr is) free suffix cut = legacy_decimal_cut xs zs ws ys kind is free.stops cut
 
-point_text : (ds fs es : List ℕ) → ds ++ codes "." ++ fs ++ es ≡ ds ++ (point ∷ (fs ++ es))
+pub point_text : (ds fs es : List ℕ) → ds ++ codes "." ++ fs ++ es ≡ ds ++ (point ∷ (fs ++ es))
 point_text ds fs es = simp append_assoc
 
 point_text_before : (ds fs es ys : List ℕ) → (ds ++ codes "." ++ fs ++ es) ++ ys ≡ ds ++ (point ∷ (fs ++ (es ++ ys)))

@@ -99,7 +99,7 @@ fraction_sound text whole =
         }))
     ]
 
-first_is : (mark : ℕ) (text : List ℕ) → begins (λ c. c == mark) text ≡ true → text ≡ mark ∷ drop 1 text
+pub first_is : (mark : ℕ) (text : List ℕ) → begins (λ c. c == mark) text ≡ true → text ≡ mark ∷ drop 1 text
 first_is mark [] e = absurd (cc)
 first_is mark (c ∷ cs) e = ap (λ d. d ∷ cs) (eqb-true c mark e)
 
@@ -111,7 +111,7 @@ pub data Pointed (text xs : List ℕ) (kind : Kind) (rest : List ℕ) : Type 0 w
 point_number : (text xs : List ℕ) (kind : Kind) (rest : List ℕ) → Fraction text xs kind rest → Pointed text (point ∷ xs) Float rest
 point_number text xs kind rest (fraction fs es here f e first) = pointed fs es (ap (λ t. point ∷ t) here) f e first refl
 
-point_sound : (text : List ℕ) → begins (λ c. c == point) text ≡ true → lacks_some (point_items text).items ≡ false
+pub point_sound : (text : List ℕ) → begins (λ c. c == point) text ≡ true → lacks_some (point_items text).items ≡ false
     → Sound (Pointed (drop 1 text)) text (point_items text)
 unfolding point_items
 point_sound text first whole =
@@ -138,7 +138,7 @@ behind_other text xs kind rest here none (no_exponent e k) =
     nothing e k (let same : text ≡ rest = here ∙ ap (λ t. t ++ rest) e in ap (begins (λ c. c == point)) (sym same) ∙ none)
 behind_other text xs kind rest here none (some_exponent is) = a_power is
 
-behind_sound : (text : List ℕ) → lacks_some (behind_digits text).items ≡ false → Sound Behind text (behind_digits text)
+pub behind_sound : (text : List ℕ) → lacks_some (behind_digits text).items ≡ false → Sound Behind text (behind_digits text)
 behind_sound text whole =
     elim (true_or_false (begins (λ c. c == point) text)) [
       inl first ↦ (

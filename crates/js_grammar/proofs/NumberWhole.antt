@@ -1,0 +1,201 @@
+-- Whole items that end well are a number.
+use Rattle.std.proofs.Common.{◌≡◌, ℕ, ◌≤◌, Bool, true, false, List, [], ◌∷◌, ◌++◌, length, drop, take, refl, sym, ◌∙◌, ap, subst, arith, ◌⊎◌, inl, inr, ◌==◌, ◌||◌, not, Option, Some, None, append_assoc}
+use Rattle.std.proofs.lemmas.Bool.{eqb-true}
+use Rattle.std.proofs.lemmas.List.{append-nil}
+use Rattle.std.specs.Prelude.{codes}
+use Rattle.js_text.specs.Characters.{begins, before_first, from_first}
+use Rattle.js_grammar.specs.Number.{Item, whole, run, integer, Is, IsExponent, IsLegacyOctal, IsLegacyDecimal, IsBeforePoint, IsNumber, Base, base_of, Sign, sign_text, sign_kind, is_digit_of, are_digits, is_exponent_mark, may_not_follow_number, excluded_after, begins_number, point, small_n, zero_digit}
+use Rattle.js_grammar.specs.Number.IsExponent.{exponent}
+use Rattle.js_grammar.specs.Number.IsLegacyOctal.{legacy as legacy_octal_digits}
+use Rattle.js_grammar.specs.Number.IsLegacyDecimal.{legacy as legacy_decimal_digits}
+use Rattle.js_grammar.specs.Number.IsNumber.{prefixed, prefixed_big, decimal, decimal_big, with_point, with_exponent, point_first, legacy_octal, legacy_decimal}
+use Rattle.js_grammar.specs.Number.Sign.{no_sign, plus, minus}
+use Rattle.js_grammar.specs.NumberReads.{Items, no_items, items-cons, last_item, point_items, behind_digits, suffix_or, decimal_items, is_no_digit, plain_digits, legacy_items, behind_prefix, zero_items, base_at, number_items}
+use Rattle.js_grammar.proofs.NumberCuts.{all_text, lacks_some}
+use Rattle.js_grammar.proofs.NumberItems.{true_or_false, run_text, run_is, integer_text, integer_is}
+use Rattle.js_grammar.proofs.NumberSteps.{suffix_there, suffix_missing, legacy_octal_items, legacy_decimal_items, behind_prefix_broken, behind_prefix_whole, zero_base, zero_legacy, zero_decimal, number_point, number_zero, number_decimal}
+use Rattle.js_grammar.proofs.NumberShapes.{or_false, point_text}
+use Rattle.js_grammar.proofs.Tests.{and_true}
+use Rattle.js_grammar.proofs.NumberSound.{Sound, Pointed, Behind, behind_sound, point_sound, first_is}
+use Rattle.js_grammar.proofs.NumberSound.Pointed.{pointed}
+use Rattle.js_grammar.proofs.NumberSound.Behind.{nothing, a_point, a_power}
+use Rattle.js_kind.specs.declared.kind.Kind.{Kind}
+use Rattle.js_kind.specs.declared.kind.Kind.TheVariants.{Decimal, Float, Octal, DecimalBigInt}
+
+-- the characters are a number of the kind, and what is left may follow it, unless it may follow none
+pub record Numbers (xs : List ℕ) (kind : Kind) (rest : List ℕ) : Type 0 where
+  pub number : IsNumber xs kind
+  pub follows : begins may_not_follow_number rest ≡ false → excluded_after kind rest ≡ false
+
+-- what follows a number of another kind than `Decimal`
+abbrev Follows : Kind → List ℕ → Type 0
+Follows kind rest = begins may_not_follow_number rest ≡ false → excluded_after kind rest ≡ false
+
+follows_power : (xs : List ℕ) (kind : Kind) (rest : List ℕ) → IsExponent xs kind → Follows kind rest
+follows_power xs kind rest (exponent mark sign digits is run here kind_is) = rw kind_is (by_sign sign)
+  where
+  by_sign : (sign : Sign) → Follows (sign_kind sign) rest
+  by_sign no_sign = λ e. e
+  by_sign plus = λ e. e
+  by_sign minus = λ e. e
+
+decimal_or_legacy : (xs : List ℕ) → IsBeforePoint xs → IsNumber xs Decimal
+decimal_or_legacy xs (inl is) = decimal is refl
+decimal_or_legacy xs (inr is) = legacy_decimal is refl
+
+behind_numbers : (ds xs : List ℕ) (kind : Kind) (rest : List ℕ) → IsBeforePoint ds → Behind xs kind rest → Numbers (ds ++ xs) kind rest
+behind_numbers ds xs kind rest d (nothing none kind_is no_point) = record {
+  number = rw (kind_is, none, append-nil ds) (decimal_or_legacy ds d);
+  follows = λ e. rw (kind_is, e, no_point) refl;
+}
+behind_numbers ds xs kind rest d (a_point fs es here f e kind_is) = record {
+  number = with_point ds fs es d f e (ap (λ t. ds ++ t) here ∙ sym (point_text ds fs es)) kind_is;
+  follows = λ e. rw kind_is e;
+}
+behind_numbers ds xs kind rest d (a_power is) = record {
+  number = with_exponent ds xs d is refl;
+  follows = follows_power xs kind rest is;
+}
+
+suffix_text : (xs text : List ℕ) → begins (λ c. c == small_n) text ≡ true → xs ++ text ≡ (xs ++ codes "n") ++ drop 1 text
+suffix_text xs text first = ap (λ t. xs ++ t) (first_is small_n text first) ∙ sym (append_assoc xs (codes "n") (drop 1 text))
+
+-- a decimal number
+decimal_sound : (text : List ℕ) → lacks_some (decimal_items text).items ≡ false → Sound Numbers text (decimal_items text)
+unfolding decimal_items
+decimal_sound text whole =
+    let digits = integer text in
+    let more = suffix_or DecimalBigInt (behind_digits digits.rest) digits.rest in
+    let both = or_false digits.lacks_digit (lacks_some more.items) whole in
+    let is = integer_is text both.0 in
+    elim (true_or_false (begins (λ c. c == small_n) digits.rest)) [
+      inl first ↦ (
+        let found = suffix_there DecimalBigInt (behind_digits digits.rest) digits.rest first in
+        rw found (record {
+          here = integer_text text ∙ suffix_text digits.text digits.rest first;
+          is = record { number = decimal_big digits.text is refl refl; follows = λ e. e };
+        }))
+    | inr none ↦ (
+        let found = suffix_missing DecimalBigInt (behind_digits digits.rest) digits.rest none in
+        let end = behind_sound digits.rest (rw found at both.1) in
+        let behind = behind_digits digits.rest in
+        rw found (record {
+          here = integer_text text ∙ ap (λ t. digits.text ++ t) end.here ∙ sym (append_assoc digits.text (all_text behind.items) behind.rest);
+          is = behind_numbers digits.text (all_text behind.items) behind.kind behind.rest (inl is) end.is;
+        }))
+    ]
+
+-- digits with no `_`
+plain_text : (text : List ℕ) → text ≡ before_first is_no_digit text ++ from_first is_no_digit text
+plain_text [] = refl
+plain_text (c ∷ cs) =
+    elim (true_or_false (is_digit_of 10 c)) [
+      inl digit ↦ rw digit (ap (λ t. c ∷ t) (plain_text cs))
+    | inr none ↦ rw none refl
+    ]
+
+plain_are_digits : (text : List ℕ) → are_digits 10 (before_first is_no_digit text) ≡ true
+plain_are_digits [] = refl
+plain_are_digits (c ∷ cs) =
+    elim (true_or_false (is_digit_of 10 c)) [
+      inl digit ↦ rw digit (rw digit (plain_are_digits cs))
+    | inr none ↦ rw none refl
+    ]
+
+plain_begins : (text : List ℕ) → begins (is_digit_of 10) text ≡ true → begins (is_digit_of 10) (before_first is_no_digit text) ≡ true
+plain_begins [] e = e
+plain_begins (c ∷ cs) e = rw e e
+
+zero_is_octal : (is_digit_of 10 48 ≡ true) × (is_digit_of 8 48 ≡ true)
+unfolding is_digit_of
+zero_is_octal = (refl, refl)
+
+octal_first : (ds : List ℕ) → begins (is_digit_of 10) ds ≡ true → are_digits 8 ds ≡ true → begins (is_digit_of 8) ds ≡ true
+octal_first [] e o = absurd (cc)
+octal_first (d ∷ ds) e o = (and_true (is_digit_of 8 d) (are_digits 8 ds) o).0
+
+-- `0` and digits
+legacy_zero : (cs : List ℕ) → plain_digits (zero_digit ∷ cs) ≡ whole (zero_digit ∷ before_first is_no_digit cs) (from_first is_no_digit cs)
+unfolding plain_digits
+legacy_zero cs = rw zero_is_octal.0 refl
+
+octal_zero : (ds : List ℕ) (b : Bool) → are_digits 8 (zero_digit ∷ ds) ≡ b → are_digits 8 ds ≡ b
+octal_zero ds b e = rw zero_is_octal.1 at e
+
+legacy_sound : (cs : List ℕ) → begins (is_digit_of 10) cs ≡ true → lacks_some (legacy_items (zero_digit ∷ cs)).items ≡ false
+    → Sound Numbers (zero_digit ∷ cs) (legacy_items (zero_digit ∷ cs))
+legacy_sound cs first good =
+    let text = zero_digit ∷ cs in
+    let ds = before_first is_no_digit cs in
+    let left = from_first is_no_digit cs in
+    let found = legacy_zero cs in
+    elim (true_or_false (are_digits 8 (plain_digits text).text)) [
+      inl octal ↦ (
+        let digits = octal_zero ds true (rw found at octal) in
+        rw (legacy_octal_items text octal, found) (record {
+          here = ap (λ t. zero_digit ∷ t) (plain_text cs) ∙ ap (λ t. t ++ left) (sym (append-nil (zero_digit ∷ ds)));
+          is = record {
+            number = legacy_octal (legacy_octal_digits ds (octal_first ds (plain_begins cs first) digits) digits (append-nil (zero_digit ∷ ds))) refl;
+            follows = λ e. e;
+          };
+        }))
+    | inr some ↦ (
+        let decimal = octal_zero ds false (rw found at some) in
+        let behind = behind_digits left in
+        let end = behind_sound left (rw (legacy_decimal_items text some, found) at good) in
+        rw (legacy_decimal_items text some, found) (record {
+          here = ap (λ t. zero_digit ∷ t) (plain_text cs) ∙ ap (λ t. (zero_digit ∷ ds) ++ t) end.here
+              ∙ sym (append_assoc (zero_digit ∷ ds) (all_text behind.items) behind.rest);
+          is = behind_numbers (zero_digit ∷ ds) (all_text behind.items) behind.kind behind.rest
+            (inr (legacy_decimal_digits ds (plain_are_digits cs) decimal refl)) end.is;
+        }))
+    ]
+
+-- the kinds of a base
+some_follows : (a b : Base) (rest : List ℕ) → Some a ≡ Some b → Follows a.kind rest × Follows a.big_kind rest → Follows b.kind rest × Follows b.big_kind rest
+some_follows a b rest e h = let same : a ≡ b = cc in subst (λ (base : Base). Follows base.kind rest × Follows base.big_kind rest) same h
+
+base_follows : (c : ℕ) (base : Base) (rest : List ℕ) → base_of c ≡ Some base → Follows base.kind rest × Follows base.big_kind rest
+base_follows c base rest e =
+    elim (true_or_false ((c == 98) || (c == 66))) [
+      inl is ↦ some_follows _ base rest (rw is at e) (λ f. f, λ f. f)
+    | inr other ↦ elim (true_or_false ((c == 111) || (c == 79))) [
+        inl is ↦ some_follows _ base rest (rw (other, is) at e) (λ f. f, λ f. f)
+      | inr another ↦ elim (true_or_false ((c == 120) || (c == 88))) [
+          inl is ↦ some_follows _ base rest (rw (other, another, is) at e) (λ f. f, λ f. f)
+        | inr none ↦ (let h : None ≡ Some base = rw (other, another, none) at e in absurd (cc))
+        ]
+      ]
+    ]
+
+-- a number with a prefix
+prefixed_sound : (c : ℕ) (cs : List ℕ) (base : Base) → base_of c ≡ Some base → lacks_some (behind_prefix base (run base.radix cs)).items ≡ false
+    → Sound Numbers (zero_digit ∷ c ∷ cs) (items-cons (whole (zero_digit ∷ c ∷ []) cs) (behind_prefix base (run base.radix cs)))
+prefixed_sound c cs base letter good =
+    let digits = run base.radix cs in
+    let without = no_items base.kind digits.rest in
+    let follows = base_follows c base digits.rest letter in
+    elim (true_or_false digits.lacks_digit) [
+      inl broken ↦ (
+        let h = or_false digits.lacks_digit false (rw (behind_prefix_broken base digits broken) at good) in
+        absurd (cc))
+    | inr complete ↦ (
+        let found = behind_prefix_whole base digits complete in
+        let is = run_is base.radix cs complete in
+        elim (true_or_false (begins (λ c. c == small_n) digits.rest)) [
+          inl first ↦ rw (found, suffix_there base.big_kind without digits.rest first) (record {
+            here = ap (λ t. zero_digit ∷ c ∷ t) (run_text base.radix cs ∙ suffix_text digits.text digits.rest first);
+            is = record {
+              number = prefixed_big c base digits.text letter is refl refl;
+              follows = (base_follows c base (drop 1 digits.rest) letter).1;
+            };
+          })
+        | inr none ↦ rw (found, suffix_missing base.big_kind without digits.rest none) (record {
+            here = ap (λ t. zero_digit ∷ c ∷ t) (run_text base.radix cs ∙ ap (λ t. t ++ digits.rest) (sym (append-nil digits.text)));
+            is = record {
+              number = prefixed c base digits.text letter is (ap (λ t. zero_digit ∷ c ∷ t) (append-nil digits.text)) refl;
+              follows = follows.0;
+            };
+          })
+        ])
+    ]
