@@ -4,6 +4,7 @@ pub mod NameLemmas
 pub mod NumberClasses
 pub mod NumberCuts
 pub mod NumberItems
+pub mod NumberLaws
 pub mod NumberRows
 pub mod NumberShapes
 pub mod NumberSound

@@ -199,3 +199,58 @@ prefixed_sound c cs base letter good =
           })
         ])
     ]
+
+-- a number that begins with `0`
+zero_sound : (base : Option Base) (cs : List ℕ) → base_at cs ≡ base → lacks_some (zero_items base (zero_digit ∷ cs)).items ≡ false
+    → Sound Numbers (zero_digit ∷ cs) (zero_items base (zero_digit ∷ cs))
+zero_sound (Some base) [] e good = absurd (cc)
+zero_sound (Some base) (c ∷ cs) e good =
+    let found = zero_base base (zero_digit ∷ c ∷ cs) in
+    rw found (prefixed_sound c cs base e (rw found at good))
+zero_sound None cs e good =
+    elim (true_or_false (begins (is_digit_of 10) cs)) [
+      inl first ↦ (
+        let found = zero_legacy (zero_digit ∷ cs) first in
+        rw found (legacy_sound cs first (rw found at good)))
+    | inr none ↦ (
+        let found = zero_decimal (zero_digit ∷ cs) none in
+        rw found (decimal_sound (zero_digit ∷ cs) (rw found at good)))
+    ]
+
+pointed_numbers : (text xs : List ℕ) (kind : Kind) (rest : List ℕ) → begins (is_digit_of 10) text ≡ true → Pointed text xs kind rest → Numbers xs kind rest
+pointed_numbers text xs kind rest digit (pointed fs es here f e first kind_is) = record {
+  number = point_first fs es (first digit) e (here ∙ sym (point_text [] fs es)) kind_is;
+  follows = λ e. rw kind_is e;
+}
+
+begins_point : (c : ℕ) (cs : List ℕ) → begins_number (c ∷ cs) ≡ true → (c == point) ≡ true → begins (is_digit_of 10) cs ≡ true
+begins_point c cs e is = rw is at e
+
+-- Whole items that are cut from a text are its beginning, and a number.
+pub number_sound : (text : List ℕ) → begins_number text ≡ true → lacks_some (number_items text).items ≡ false → Sound Numbers text (number_items text)
+number_sound [] begun good = absurd (cc)
+number_sound (c ∷ cs) begun good =
+    elim (true_or_false (c == point)) [
+      inl is ↦ (
+        let text = c ∷ cs in
+        let number = point_items text in
+        let found = number_point text is in
+        let end = point_sound text is (rw found at good) in
+        rw found (record {
+          here = end.here;
+          is = pointed_numbers cs (all_text number.items) number.kind number.rest (begins_point c cs begun is) end.is;
+        }))
+    | inr other ↦ elim (true_or_false (c == zero_digit)) [
+        inl is ↦ by_zero c cs (eqb-true c zero_digit is) good
+      | inr none ↦ (
+          let found = number_decimal (c ∷ cs) other none in
+          rw found (decimal_sound (c ∷ cs) (rw found at good)))
+      ]
+    ]
+  where
+  by_zero : (c : ℕ) (cs : List ℕ) → c ≡ zero_digit → lacks_some (number_items (c ∷ cs)).items ≡ false → Sound Numbers (c ∷ cs) (number_items (c ∷ cs))
+  by_zero c cs same good =
+    let text = zero_digit ∷ cs in
+    let found : number_items text ≡ zero_items (base_at cs) text = number_zero text refl refl in
+    let good : lacks_some (number_items text).items ≡ false = subst (λ d. lacks_some (number_items (d ∷ cs)).items ≡ false) same good in
+    subst (λ d. Sound Numbers (d ∷ cs) (number_items (d ∷ cs))) (sym same) (rw found (zero_sound (base_at cs) cs refl (rw found at good)))
