@@ -1,11 +1,10 @@
 -- Which characters of a number belong to which class.
-use Rattle.std.proofs.Common.{◌≡◌, ℕ, ◌<◌, ◌≤◌, ◌+◌, Bool, true, false, List, [], ◌∷◌, refl, sym, ◌∙◌, ap, arith, ◌⊎◌, inl, inr, ◌==◌, ◌||◌, ◌&&◌, not, zero, suc}
-use Rattle.std.proofs.lemmas.Bool.{eqb-true, eq-eqb}
+use Rattle.std.proofs.Common.{◌≡◌, ℕ, ◌<◌, ◌≤◌, Bool, true, false, List, [], ◌∷◌, refl, ◌∙◌, ap, arith, ◌⊎◌, inl, inr, ◌==◌, ◌||◌, ◌&&◌, not, zero, suc}
+use Rattle.std.proofs.lemmas.Bool.{eqb-true}
 use Rattle.std.proofs.lemmas.Bool.Decides.{nat_tests}
-use Rattle.std.specs.Char.{digit_value}
 use Rattle.unicode_ident.proofs.Computing.{unicode_ident}
 use Rattle.js_text.specs.Characters.{begins, is_identifier_start}
-use Rattle.js_grammar.specs.Number.{is_digit_of, underscore, point, small_n, zero_digit, is_exponent_mark, may_not_follow_number}
+use Rattle.js_grammar.specs.Number.{is_digit_of, underscore, point, small_n, is_exponent_mark, may_not_follow_number}
 use Rattle.js_grammar.proofs.NumberItems.{Stops, true_or_false}
 use Rattle.js_grammar.proofs.Tests.{and_true}
 

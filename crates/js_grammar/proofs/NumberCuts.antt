@@ -1,19 +1,18 @@
 -- Each number is cut into its items, whole, where what follows may follow it.
-use Rattle.std.proofs.Common.{◌≡◌, ℕ, ◌<◌, ◌≤◌, Bool, true, false, List, [], ◌∷◌, ◌++◌, length, drop, refl, sym, ◌∙◌, ap, subst, arith, ◌⊎◌, inl, inr, ◌==◌, ◌||◌, ◌&&◌, not, Option, Some, None, append_assoc}
-use Rattle.std.specs.Prelude.{codes}
-use Rattle.std.specs.List.{list_any, list_all}
+use Rattle.std.proofs.Common.{◌≡◌, ℕ, Bool, true, false, List, [], ◌∷◌, ◌++◌, length, drop, refl, sym, ◌∙◌, ap, subst, arith, inl, inr, ◌==◌, None, append_assoc}
+use Rattle.std.specs.List.{list_any}
 use Rattle.std.proofs.lemmas.Bool.{eqb-true}
 use Rattle.std.proofs.lemmas.List.{append-nil}
 use Rattle.unicode_ident.proofs.Computing.{unicode_ident}
 use Rattle.js_text.specs.Characters.{is_identifier_start, begins, from_first, before_first}
-use Rattle.js_grammar.specs.Number.{Item, whole, broken, run, integer, Is, IsOptional, IsExponent, IsFloatExponent, IsLegacyOctal, IsLegacyDecimal, IsBeforePoint, IsNumber, Base, base_of, Sign, sign_text, sign_kind, is_digit_of, are_digits, is_exponent_mark, may_not_follow_number, excluded_after, underscore, point, small_n, zero_digit}
+use Rattle.js_grammar.specs.Number.{Item, whole, run, integer, Is, IsOptional, IsExponent, IsFloatExponent, IsLegacyOctal, IsLegacyDecimal, base_of, Sign, sign_text, sign_kind, is_digit_of, are_digits, is_exponent_mark, may_not_follow_number, point, small_n, zero_digit}
 use Rattle.js_grammar.specs.Number.Sign.{no_sign, plus, minus}
 use Rattle.js_grammar.specs.Number.IsExponent.{exponent}
 use Rattle.js_grammar.specs.Number.IsLegacyOctal.{legacy as legacy_octal_digits}
 use Rattle.js_grammar.specs.Number.IsLegacyDecimal.{legacy as legacy_decimal_digits}
-use Rattle.js_grammar.specs.NumberReads.{Items, no_items, items-cons, last_item, sign_of, exponent_items, exponent_or, fraction_items, point_items, behind_digits, suffix_or, decimal_items, is_no_digit, plain_digits, legacy_items, behind_prefix, zero_items, base_at, number_items}
+use Rattle.js_grammar.specs.NumberReads.{Items, no_items, items-cons, last_item, sign_of, exponent_items, exponent_or, fraction_items, point_items, behind_digits, suffix_or, decimal_items, is_no_digit, plain_digits, legacy_items, zero_items, base_at, number_items}
 use Rattle.js_grammar.proofs.NumberClasses.{EndsNumber, ends_number, point_stops, suffix_stops, exponent_stops, exponent_is_no_mark, is_exponent, digit_more}
-use Rattle.js_grammar.proofs.NumberSteps.{exponent_missing, fraction_there, fraction_missing, behind_digits_other, number_point, number_zero, number_decimal, zero_decimal, zero_legacy, legacy_octal_items, legacy_decimal_items}
+use Rattle.js_grammar.proofs.NumberSteps.{exponent_missing, fraction_there, fraction_missing, behind_digits_other, number_zero, number_decimal, zero_decimal, zero_legacy, legacy_octal_items, legacy_decimal_items}
 use Rattle.js_grammar.proofs.Tests.{and_true}
 use Rattle.js_grammar.proofs.NumberItems.{Stops, true_or_false, begins_more, run_append, run_begins, integer_append}
 use Rattle.js_kind.specs.declared.kind.Kind.{Kind}

@@ -1,9 +1,9 @@
 -- The items of a number, as they are cut from a text.
-use Rattle.std.proofs.Common.{◌≡◌, ℕ, ◌<◌, ◌≤◌, Bool, true, false, List, [], ◌∷◌, ◌++◌, length, drop, refl, sym, ◌∙◌, ap, subst, arith, ◌⊎◌, inl, inr, ◌==◌, ◌||◌, ◌&&◌, not, cond}
+use Rattle.std.proofs.Common.{◌≡◌, ℕ, Bool, true, false, List, [], ◌∷◌, ◌++◌, drop, refl, sym, ◌∙◌, ap, ◌⊎◌, inl, inr, ◌==◌}
 use Rattle.std.specs.Prelude.{codes}
-use Rattle.std.proofs.lemmas.Bool.{eqb-true, eq-eqb}
+use Rattle.std.proofs.lemmas.Bool.{eqb-true}
 use Rattle.js_text.specs.Characters.{begins}
-use Rattle.js_grammar.specs.Number.{Item, whole, broken, item-cons, digits_on, run, integer, Is, is_digit_of, underscore, zero_digit}
+use Rattle.js_grammar.specs.Number.{Item, whole, item-cons, digits_on, run, integer, Is, is_digit_of, underscore, zero_digit}
 
 pub true_or_false : (b : Bool) → (b ≡ true) ⊎ (b ≡ false)
 true_or_false true = inl refl

@@ -1,17 +1,16 @@
 -- What is read of a number is what its shape says, and a number is read without a fault exactly where it has one.
-use Rattle.std.proofs.Common.{◌≡◌, ◌≢◌, ℕ, ◌+◌, ◌≤◌, Bool, true, false, List, [], ◌∷◌, ◌++◌, length, refl, sym, ◌∙◌, ap, subst, arith, ◌⊎◌, inl, inr, ◌==◌, ◌||◌, not}
+use Rattle.std.proofs.Common.{◌≡◌, ◌≢◌, ℕ, ◌+◌, Bool, true, false, List, [], ◌∷◌, ◌++◌, length, refl, sym, ◌∙◌, ap, inl, inr, ◌==◌, ◌||◌}
 use Rattle.std.proofs.lemmas.List.{append_cancel_right}
 use Rattle.std.specs.List.{list_any}
 use Rattle.js_text.specs.Characters.{begins}
 use Rattle.js_text.specs.declared.diagnostic.Diagnostic.{Diagnostic}
-use Rattle.js_grammar.specs.Number.{Item, IsNumber, may_not_follow_number, excluded_after, begins_number, underscore, point}
-use Rattle.js_grammar.specs.NumberReads.{Items, number_items, has_separator, missing_digits, place_behind, missing_digit, invalid_number_end, NumberRead, items_read, number_read, well_ended, badly_ended}
+use Rattle.js_grammar.specs.Number.{Item, IsNumber, may_not_follow_number, excluded_after, begins_number, underscore}
+use Rattle.js_grammar.specs.NumberReads.{Items, number_items, has_separator, missing_digits, place_behind, missing_digit, invalid_number_end, NumberRead, items_read, number_read}
 use Rattle.js_grammar.proofs.NumberCuts.{all_text, lacks_some, Cuts}
 use Rattle.js_grammar.proofs.NumberItems.{true_or_false}
 use Rattle.js_grammar.proofs.NumberShapes.{or_false, excluded_begins, number_cut}
-use Rattle.js_grammar.proofs.NumberSound.{Sound}
 use Rattle.js_grammar.proofs.NumberSteps.{read_well, read_badly}
-use Rattle.js_grammar.proofs.NumberWhole.{Numbers, number_sound}
+use Rattle.js_grammar.proofs.NumberWhole.{number_sound}
 use Rattle.js_kind.specs.declared.kind.Kind.{Kind}
 use Rattle.js_kind.specs.declared.kind.Kind.TheVariants.{Decimal}
 

@@ -1,17 +1,17 @@
 -- Each number, before what may follow it, is cut into whole items, and so it is what is read.
-use Rattle.std.proofs.Common.{◌≡◌, ℕ, ◌≤◌, Bool, true, false, List, [], ◌∷◌, ◌++◌, length, drop, take, refl, sym, ◌∙◌, ap, subst, arith, ◌⊎◌, inl, inr, ◌==◌, ◌||◌, not, Option, Some, None, append_assoc}
+use Rattle.std.proofs.Common.{◌≡◌, ℕ, ◌≤◌, Bool, true, false, List, [], ◌∷◌, ◌++◌, refl, sym, ◌∙◌, ap, subst, arith, inl, inr, ◌==◌, ◌||◌, Some, None, append_assoc}
 use Rattle.std.proofs.lemmas.List.{append-nil}
 use Rattle.std.specs.Prelude.{codes}
 use Rattle.js_text.specs.Characters.{begins}
-use Rattle.js_grammar.specs.Number.{Item, whole, run, integer, Is, IsBeforePoint, IsNumber, Base, base_of, may_not_follow_number, excluded_after, point, small_n, zero_digit}
+use Rattle.js_grammar.specs.Number.{Item, whole, run, Is, IsBeforePoint, IsNumber, Base, base_of, may_not_follow_number, excluded_after, point, small_n, zero_digit}
 use Rattle.js_grammar.specs.Number.IsNumber.{prefixed, prefixed_big, decimal, decimal_big, with_point, with_exponent, point_first, legacy_octal, legacy_decimal}
-use Rattle.js_grammar.specs.NumberReads.{Items, no_items, items-cons, last_item, behind_digits, suffix_or, behind_prefix, zero_items, base_at, number_items}
-use Rattle.js_grammar.proofs.NumberClasses.{EndsNumber, ends_number, suffix_stops, or_true}
+use Rattle.js_grammar.specs.NumberReads.{no_items, items-cons, behind_digits, suffix_or, behind_prefix, zero_items, number_items}
+use Rattle.js_grammar.proofs.NumberClasses.{ends_number, suffix_stops}
 use Rattle.js_grammar.proofs.NumberCuts.{Cuts, cons_cut, last_cut, none_cut, decimal_cut, legacy_octal_cut, legacy_decimal_cut, nothing_cut, powered_cut, point_cut, exponent_begins, mark_is_no_suffix, NoPrefix, no_prefix_ended, no_prefix_suffix, no_prefix_point, no_prefix_mark}
 use Rattle.js_grammar.proofs.NumberItems.{Stops, true_or_false, run_append}
 use Rattle.js_grammar.proofs.NumberSteps.{suffix_there, suffix_missing, behind_digits_point, behind_prefix_whole, zero_base, number_zero, number_point}
 use Rattle.js_kind.specs.declared.kind.Kind.{Kind}
-use Rattle.js_kind.specs.declared.kind.Kind.TheVariants.{Decimal, Float, Octal, DecimalBigInt}
+use Rattle.js_kind.specs.declared.kind.Kind.TheVariants.{Decimal, Float, DecimalBigInt}
 
 pub or_false : (a b : Bool) → (a || b) ≡ false → (a ≡ false) × (b ≡ false)
 or_false true b e = absurd (cc)

@@ -1,22 +1,17 @@
 -- What is cut from a text into whole items is a number.
-use Rattle.std.proofs.Common.{◌≡◌, ℕ, ◌≤◌, Bool, true, false, List, [], ◌∷◌, ◌++◌, length, drop, take, refl, sym, ◌∙◌, ap, subst, arith, ◌⊎◌, inl, inr, ◌==◌, ◌||◌, not, Option, Some, None, append_assoc}
+use Rattle.std.proofs.Common.{◌≡◌, ℕ, true, false, List, [], ◌∷◌, ◌++◌, length, drop, refl, sym, ◌∙◌, ap, inl, inr, ◌==◌, append_assoc}
 use Rattle.std.proofs.lemmas.Bool.{eqb-true}
 use Rattle.std.proofs.lemmas.List.{append-nil}
-use Rattle.std.specs.Prelude.{codes}
-use Rattle.js_text.specs.Characters.{begins, before_first, from_first}
-use Rattle.js_grammar.specs.Number.{Item, whole, run, integer, Is, IsOptional, IsExponent, IsFloatExponent, IsLegacyOctal, IsLegacyDecimal, IsBeforePoint, IsNumber, Base, base_of, Sign, sign_text, sign_kind, is_digit_of, are_digits, is_exponent_mark, may_not_follow_number, excluded_after, begins_number, point, small_n, zero_digit}
+use Rattle.js_text.specs.Characters.{begins}
+use Rattle.js_grammar.specs.Number.{whole, run, Is, IsOptional, IsExponent, IsFloatExponent, Sign, sign_text, is_digit_of, is_exponent_mark, point}
 use Rattle.js_grammar.specs.Number.IsExponent.{exponent}
-use Rattle.js_grammar.specs.Number.IsLegacyOctal.{legacy as legacy_octal_digits}
-use Rattle.js_grammar.specs.Number.IsLegacyDecimal.{legacy as legacy_decimal_digits}
-use Rattle.js_grammar.specs.Number.IsNumber.{prefixed, prefixed_big, decimal, decimal_big, with_point, with_exponent, point_first, legacy_octal, legacy_decimal}
-use Rattle.js_grammar.specs.Number.Sign.{no_sign, plus, minus}
-use Rattle.js_grammar.specs.NumberReads.{Items, no_items, items-cons, last_item, sign_of, exponent_items, exponent_or, fraction_items, point_items, behind_digits, suffix_or, decimal_items, is_no_digit, plain_digits, legacy_items, behind_prefix, zero_items, base_at, number_items}
+use Rattle.js_grammar.specs.NumberReads.{Items, sign_of, exponent_items, exponent_or, fraction_items, point_items, behind_digits}
 use Rattle.js_grammar.proofs.NumberCuts.{all_text, lacks_some}
-use Rattle.js_grammar.proofs.NumberItems.{true_or_false, run_text, run_is, run_begins, integer_text, integer_is}
-use Rattle.js_grammar.proofs.NumberSteps.{exponent_there, exponent_missing, fraction_there, fraction_missing, behind_digits_point, behind_digits_other, suffix_there, suffix_missing, legacy_octal_items, legacy_decimal_items, behind_prefix_broken, behind_prefix_whole, zero_base, zero_legacy, zero_decimal, number_point, number_zero, number_decimal}
+use Rattle.js_grammar.proofs.NumberItems.{true_or_false, run_text, run_is}
+use Rattle.js_grammar.proofs.NumberSteps.{exponent_there, exponent_missing, fraction_there, fraction_missing, behind_digits_point, behind_digits_other}
 use Rattle.js_grammar.proofs.NumberShapes.{or_false}
 use Rattle.js_kind.specs.declared.kind.Kind.{Kind}
-use Rattle.js_kind.specs.declared.kind.Kind.TheVariants.{Decimal, Float, Octal, DecimalBigInt}
+use Rattle.js_kind.specs.declared.kind.Kind.TheVariants.{Decimal, Float}
 
 -- What is known of the items that a text is cut into: where they are whole, this holds of their characters, their kind
 -- and what is left.

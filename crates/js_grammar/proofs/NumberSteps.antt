@@ -1,11 +1,11 @@
 -- What the items of a number are, case by case.
-use Rattle.std.proofs.Common.{◌≡◌, ℕ, ◌+◌, Bool, true, false, List, [], ◌∷◌, ◌++◌, length, take, drop, refl, ◌∙◌, ap, Option, Some, None, ◌==◌, cond}
+use Rattle.std.proofs.Common.{◌≡◌, ℕ, Bool, true, false, List, [], ◌∷◌, take, drop, refl, ◌∙◌, Some, None, ◌==◌, cond}
 use Rattle.std.specs.Prelude.{codes}
 use Rattle.js_text.specs.Characters.{begins}
-use Rattle.js_grammar.specs.Number.{Item, whole, broken, run, integer, digits_on, Base, Sign, sign_text, sign_kind, is_digit_of, are_digits, is_exponent_mark, may_not_follow_number, point, small_n, zero_digit}
-use Rattle.js_grammar.specs.NumberReads.{Items, no_items, items-cons, last_item, sign_of, exponent_items, exponent_or, fraction_items, point_items, behind_digits, suffix_or, decimal_items, plain_digits, legacy_items, behind_prefix, zero_items, base_at, number_items, NumberRead, items_read, well_ended, badly_ended}
+use Rattle.js_grammar.specs.Number.{Item, whole, broken, run, integer, digits_on, Base, is_digit_of, are_digits, is_exponent_mark, may_not_follow_number, point, small_n, zero_digit}
+use Rattle.js_grammar.specs.NumberReads.{Items, no_items, items-cons, last_item, sign_of, exponent_items, exponent_or, fraction_items, point_items, behind_digits, suffix_or, decimal_items, plain_digits, legacy_items, behind_prefix, zero_items, base_at, number_items, items_read, well_ended, badly_ended}
 use Rattle.js_kind.specs.declared.kind.Kind.{Kind}
-use Rattle.js_kind.specs.declared.kind.Kind.TheVariants.{Eof, Decimal, Float, Octal, DecimalBigInt}
+use Rattle.js_kind.specs.declared.kind.Kind.TheVariants.{Eof, Decimal, Float, Octal}
 
 if_true : {A : Type 0} (b : Bool) (x y : A) → b ≡ true → cond b x y ≡ x
 if_true true x y e = refl

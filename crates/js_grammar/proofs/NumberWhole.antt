@@ -1,16 +1,16 @@
 -- Whole items that end well are a number.
-use Rattle.std.proofs.Common.{◌≡◌, ℕ, ◌≤◌, Bool, true, false, List, [], ◌∷◌, ◌++◌, length, drop, take, refl, sym, ◌∙◌, ap, subst, arith, ◌⊎◌, inl, inr, ◌==◌, ◌||◌, not, Option, Some, None, append_assoc}
+use Rattle.std.proofs.Common.{◌≡◌, ℕ, Bool, true, false, List, [], ◌∷◌, ◌++◌, drop, refl, sym, ◌∙◌, ap, subst, inl, inr, ◌==◌, ◌||◌, Option, Some, None, append_assoc}
 use Rattle.std.proofs.lemmas.Bool.{eqb-true}
 use Rattle.std.proofs.lemmas.List.{append-nil}
 use Rattle.std.specs.Prelude.{codes}
 use Rattle.js_text.specs.Characters.{begins, before_first, from_first}
-use Rattle.js_grammar.specs.Number.{Item, whole, run, integer, Is, IsExponent, IsLegacyOctal, IsLegacyDecimal, IsBeforePoint, IsNumber, Base, base_of, Sign, sign_text, sign_kind, is_digit_of, are_digits, is_exponent_mark, may_not_follow_number, excluded_after, begins_number, point, small_n, zero_digit}
+use Rattle.js_grammar.specs.Number.{whole, run, integer, IsExponent, IsBeforePoint, IsNumber, Base, base_of, Sign, sign_kind, is_digit_of, are_digits, may_not_follow_number, excluded_after, begins_number, point, small_n, zero_digit}
 use Rattle.js_grammar.specs.Number.IsExponent.{exponent}
 use Rattle.js_grammar.specs.Number.IsLegacyOctal.{legacy as legacy_octal_digits}
 use Rattle.js_grammar.specs.Number.IsLegacyDecimal.{legacy as legacy_decimal_digits}
 use Rattle.js_grammar.specs.Number.IsNumber.{prefixed, prefixed_big, decimal, decimal_big, with_point, with_exponent, point_first, legacy_octal, legacy_decimal}
 use Rattle.js_grammar.specs.Number.Sign.{no_sign, plus, minus}
-use Rattle.js_grammar.specs.NumberReads.{Items, no_items, items-cons, last_item, point_items, behind_digits, suffix_or, decimal_items, is_no_digit, plain_digits, legacy_items, behind_prefix, zero_items, base_at, number_items}
+use Rattle.js_grammar.specs.NumberReads.{no_items, items-cons, point_items, behind_digits, suffix_or, decimal_items, is_no_digit, plain_digits, legacy_items, behind_prefix, zero_items, base_at, number_items}
 use Rattle.js_grammar.proofs.NumberCuts.{all_text, lacks_some}
 use Rattle.js_grammar.proofs.NumberItems.{true_or_false, run_text, run_is, integer_text, integer_is}
 use Rattle.js_grammar.proofs.NumberSteps.{suffix_there, suffix_missing, legacy_octal_items, legacy_decimal_items, behind_prefix_broken, behind_prefix_whole, zero_base, zero_legacy, zero_decimal, number_point, number_zero, number_decimal}
@@ -20,7 +20,7 @@ use Rattle.js_grammar.proofs.NumberSound.{Sound, Pointed, Behind, behind_sound, 
 use Rattle.js_grammar.proofs.NumberSound.Pointed.{pointed}
 use Rattle.js_grammar.proofs.NumberSound.Behind.{nothing, a_point, a_power}
 use Rattle.js_kind.specs.declared.kind.Kind.{Kind}
-use Rattle.js_kind.specs.declared.kind.Kind.TheVariants.{Decimal, Float, Octal, DecimalBigInt}
+use Rattle.js_kind.specs.declared.kind.Kind.TheVariants.{Decimal, DecimalBigInt}
 
 -- the characters are a number of the kind, and what is left may follow it, unless it may follow none
 pub record Numbers (xs : List ℕ) (kind : Kind) (rest : List ℕ) : Type 0 where
