@@ -1,24 +1,26 @@
 -- A reading reports nothing exactly where the grammar reads a token, and then it is this one.
 use Rattle.std.proofs.Common.{◌≡◌, ◌≢◌, ℕ, ◌+◌, Bool, true, false, not, cond, List, [], ◌∷◌, ◌++◌, ◌==◌, ◌&&◌, ◌||◌, drop, length, refl, sym, ◌∙◌, ap, subst, Option, Some, None}
-use Rattle.std.specs.Prelude.{codes, map, if◌then◌else◌, ◌↔◌}
+use Rattle.std.specs.Prelude.{codes, if◌then◌else◌, ◌↔◌, IfSome}
 use Rattle.unicode_ident.proofs.Computing.{unicode_ident}
 use Rattle.js_text.specs.Characters.{from_place, begins, is_identifier_start}
 use Rattle.js_text.specs.SourceType.{is_module}
 use Rattle.js_text.specs.declared.source_type.SourceType.{SourceType}
 use Rattle.js_text.specs.declared.diagnostic.Diagnostic.{Diagnostic}
 use Rattle.js_kind.specs.TokenParts.{TokenParts}
-use Rattle.js_kind.specs.declared.kind.Kind.TheVariants.{Eof}
-use Rattle.js_grammar.specs.Gap.{is_prefix, is_reported, LongestGap, WholeGap}
-use Rattle.js_grammar.specs.Goals.{Outcome, ReadsHere, ReadsBehindGap, GoalReads, reported_diagnostics}
+use Rattle.js_kind.specs.declared.kind.Kind.{Kind}
+use Rattle.js_grammar.specs.Gap.{is_prefix, is_reported, Piece, LongestGap, WholeGap}
+use Rattle.js_grammar.specs.Goals.{ReadsHere, ReadsBehindGap, GoalReads, AgreesWithGrammar, line_has_ended_behind}
 use Rattle.js_grammar.specs.Goals.ReadsHere.{spelled as spelled_here, recovers}
 use Rattle.js_grammar.specs.Goals.GoalReads.{hashbang as hashbang_read, behind_gap}
-use Rattle.js_grammar.specs.Hashbang.{Goal, begins_hashbang, IsHashbang}
+use Rattle.js_grammar.specs.Hashbang.{begins_hashbang, IsHashbang}
+use Rattle.js_grammar.specs.Outcome.{Outcome, gap_diagnostics}
 use Rattle.js_grammar.specs.Reads.{IsSpelled, PlainReads}
 use Rattle.js_grammar.specs.Reads.PlainReads.{hashbang, spelled}
-use Rattle.js_grammar.specs.Recovery.{Recovery, recovered, unterminated_comment, binary_file, invalid_character}
-use Rattle.js_grammar.specs.Spelling.{Spelling, LongestSpelling, NothingSpelled}
-use Rattle.js_grammar.specs.Spelling.Spelling.{end_of_source}
-use Rattle.js_grammar.proofs.GapLemmas.{longest_gap_unique}
+use Rattle.js_grammar.specs.Recovery.{Reading, recovered, recovered_character, is_control_or_wide}
+use Rattle.js_grammar.specs.Spelling.{LongestSpelling, NothingSpelled}
+use Rattle.js_grammar.specs.declared.goal.Goal.{Goal}
+use Rattle.js_grammar.proofs.GapLemmas.{longest_gap_unique, whole_gap_unique}
+use Rattle.js_grammar.proofs.Reported.{longest_of_whole, whole_of_longest, gap_reports_nothing, append_nil}
 use Rattle.js_grammar.proofs.PunctuatorLeaves.{none_reported}
 use Rattle.js_grammar.proofs.PunctuatorLemmas.{nothing_spelled}
 use Rattle.js_grammar.proofs.Tests.{and_true, prefix_is}
@@ -35,71 +37,89 @@ reported_spells_nothing t nl here e =
     let text : here ≡ codes "<!--" ++ drop 4 here = prefix_is (codes "<!--") here both.0 in
     subst (NothingSpelled t nl) (sym text) (nothing_spelled t nl 60 _ angle_begins_no_name (none_reported t nl (drop 4 here) both.1))
 
--- where nothing is spelled, something is reported
-some_if : (b : Bool) (x y : Recovery) → x.diagnostics ≢ [] → y.diagnostics ≢ [] → (if b then x else y).diagnostics ≢ []
-some_if true x y h k = h
-some_if false x y h k = k
+-- and so where something is spelled, no reported comment stands
+pub spelled_is_not_reported : (t : SourceType) (nl : Bool) (here xs ys : List ℕ) (k : Kind) → LongestSpelling t nl here xs ys k → is_reported t nl here ≡ false
+spelled_is_not_reported t nl here xs ys k s =
+    let family : Bool → Type 0 = λ b. is_reported t nl here ≡ b → is_reported t nl here ≡ false in
+    elim (is_reported t nl here) as family [ true ↦ λ e. absurd (reported_spells_nothing t nl here e xs ys k s.here s.spelling) | false ↦ λ e. e ] refl
 
-pub recovered_reports : (text : List ℕ) (t : SourceType) (nl : Bool) (here : List ℕ) → NothingSpelled t nl here → (recovered text t nl here).diagnostics ≢ []
-recovered_reports text t nl [] nothing = absurd (nothing [] [] Eof refl (end_of_source refl refl refl))
-recovered_reports text t nl (c ∷ cs) nothing =
-    some_if (is_prefix (codes "/*") (c ∷ cs)) _ _ (λ e. cc) (some_if (c == 0xFFFD) _ _ (λ e. cc) (λ e. cc))
+-- what is read to recover reports something
+abbrev Reports : Option Reading → Type 0
+Reports found = IfSome found (λ r. r.diagnostics ≢ [])
 
-append_nil : {A : Type 0} (xs ys : List A) → xs ++ ys ≡ [] → (xs ≡ []) × (ys ≡ [])
-append_nil [] ys e = (refl, e)
-append_nil (x ∷ xs) ys e = absurd (cc)
+reports_if : (b : Bool) (x y : Option Reading) → Reports x → Reports y → Reports (if b then x else y)
+reports_if true x y h k = h
+reports_if false x y h k = k
 
-map_nil : (text : List ℕ) (rs : List (List ℕ)) → reported_diagnostics text rs ≡ [] → rs ≡ []
-map_nil text [] e = refl
-map_nil text (r ∷ rs) e = absurd (cc)
+recovered_reports : (nl : Bool) (place : ℕ) (here : List ℕ) → Reports (recovered nl place here)
+recovered_reports nl place here =
+    reports_if (is_prefix (codes "/*") here) _ _ (λ e. cc) (
+    reports_if (is_prefix (codes "#!") here) _ _ (λ e. cc) (
+    reports_if (begins (λ c. c == 0xFFFD) here) _ _ (λ e. cc) (character here)))
+  where
+    character : (here : List ℕ) → Reports (recovered_character nl place here)
+    character [] = tt
+    character (c ∷ cs) = reports_if (is_control_or_wide c) _ None (λ e. cc) tt
 
-spelled_clean : (text : List ℕ) (t : SourceType) (nl : Bool) (place : ℕ) (token : TokenParts) (ended : Bool) (rs : List (List ℕ)) (faults : List Diagnostic)
-    → WholeGap t nl (from_place text place) rs ended (from_place text token.start) → rs ≡ []
-    → ReadsHere text t ended token faults → faults ≡ []
-    → (LongestGap t nl (from_place text place) token.is_on_new_line (from_place text token.start)) × (xs : List ℕ) × LongestSpelling t token.is_on_new_line (from_place text token.start) xs (from_place text token.end) token.kind
-spelled_clean text t nl place token ended (r ∷ rs) faults gap none here clean = absurd (cc)
-spelled_clean text t nl place token ended [] faults gap none (spelled_here xs spelling newline e) clean = (
-  subst (λ b. LongestGap t nl (from_place text place) b (from_place text token.start)) (sym newline) gap.0,
-  xs,
-  subst (λ b. LongestSpelling t b (from_place text token.start) xs (from_place text token.end) token.kind) (sym newline) spelling,
-)
-spelled_clean text t nl place token ended [] faults gap none (recovers nothing e) clean =
-    absurd (recovered_reports text t ended (from_place text token.start) nothing (ap (λ r. r.diagnostics) e ∙ clean))
+pub recovery_reports : (nl : Bool) (place : ℕ) (here : List ℕ) (r : Reading) → recovered nl place here ≡ Some r → r.diagnostics ≢ []
+recovery_reports nl place here r e = subst Reports e (recovered_reports nl place here)
+
+-- what is read behind a gap without a report is spelled
+spelled_clean : (t : SourceType) (nl : Bool) (place : ℕ) (here : List ℕ) (r : Reading) → ReadsHere t nl place here r → r.diagnostics ≡ []
+    → (r.is_on_new_line ≡ nl) × (xs : List ℕ) × LongestSpelling t nl here xs r.rest r.kind
+spelled_clean t nl place here r (spelled_here xs spelling is) clean = (ap (λ x. x.is_on_new_line) is, xs, spelling)
+spelled_clean t nl place here r (recovers nothing e) clean = absurd (recovery_reports nl place here r e clean)
 
 -- A reading that reports nothing is the grammar's.
-pub clean_reads : (text : List ℕ) (t : SourceType) (goal : Goal) (nl : Bool) (place : ℕ) (o : Outcome) → GoalReads text t goal nl place o → o.diagnostics ≡ []
-    → PlainReads text t goal nl place o.token
-clean_reads text t goal nl place o (hashbang_read begins is newline escaped separator none) clean = hashbang begins is newline
-clean_reads text t goal nl place o (behind_gap begins read escaped separator) clean =
-    let both = append_nil (reported_diagnostics text read.reported) read.faults (sym read.diagnostics ∙ clean) in
-    let parts = spelled_clean text t nl place o.token read.ended read.reported read.faults read.gap (map_nil text read.reported both.0) read.here both.1 in
-    spelled begins record { gap = parts.0; start = read.start; spelled = parts.1; spelling = parts.2; end = read.end }
+pub clean_reads : (text : List ℕ) (t : SourceType) (goal : Goal) (before : Option TokenParts) (place : ℕ) (o : Outcome) → GoalReads text t goal before place o
+    → o.findings.diagnostics ≡ [] → PlainReads text t goal (line_has_ended_behind before) place o.token
+clean_reads text t goal before place o (hashbang_read begins read) clean = hashbang begins read.is_hashbang read.is_on_new_line
+clean_reads text t goal before place o (behind_gap begins read) clean =
+    let both = append_nil (gap_diagnostics place read.pieces) read.reading.diagnostics (sym (ap (λ x. x.findings.diagnostics) read.outcome_is) ∙ clean) in
+    let parts = spelled_clean t read.line_has_ended o.token.start (from_place text o.token.start) read.reading read.here both.1 in
+    let gap = longest_of_whole t (line_has_ended_behind before) (from_place text place) read.pieces read.line_has_ended (from_place text o.token.start) place read.gap both.0 in
+    let newline : o.token.is_on_new_line ≡ read.line_has_ended = ap (λ x. x.token.is_on_new_line) read.outcome_is ∙ parts.0 in
+    let kind : o.token.kind ≡ read.reading.kind = ap (λ x. x.token.kind) read.outcome_is in
+    let here = from_place text o.token.start in
+    let end = from_place text o.token.end in
+    let there : LongestSpelling t read.line_has_ended here parts.1 end read.reading.kind = subst (λ ys. LongestSpelling t read.line_has_ended here parts.1 ys read.reading.kind) read.rest parts.2 in
+    let kinds : LongestSpelling t read.line_has_ended here parts.1 end o.token.kind = subst (LongestSpelling t read.line_has_ended here parts.1 end) (sym kind) there in
+    spelled begins record {
+      gap = subst (λ b. LongestGap t (line_has_ended_behind before) (from_place text place) b here) (sym newline) gap;
+      start = read.start;
+      spelled = parts.1;
+      spelling = subst (λ b. LongestSpelling t b here parts.1 end o.token.kind) (sym newline) kinds;
+      end = read.end;
+    }
 
--- where the grammar reads a token, the whole gap is the longest gap, and what is read behind it is spelled
-nothing_reported : (text : List ℕ) (t : SourceType) (nl : Bool) (place : ℕ) (token read : TokenParts) (ended : Bool) (rs : List (List ℕ)) (faults : List Diagnostic)
-    → IsSpelled text t nl place token → WholeGap t nl (from_place text place) rs ended (from_place text read.start)
-    → ReadsHere text t ended read faults → (rs ≡ []) × (faults ≡ [])
-nothing_reported text t nl place token read ended (r ∷ rs) faults is gap here =
-    let same = longest_gap_unique _ _ _ _ _ _ _ is.gap gap.0 in
-    let there : is_reported t token.is_on_new_line (from_place text token.start) ≡ true = rw (same.0, same.1) gap.1 in
-    absurd (reported_spells_nothing t token.is_on_new_line (from_place text token.start) there _ _ _ is.spelling.here is.spelling.spelling)
-nothing_reported text t nl place token read ended [] faults is gap (spelled_here xs spelling newline e) = (refl, e)
-nothing_reported text t nl place token read ended [] faults is gap (recovers nothing e) =
-    let same = longest_gap_unique _ _ _ _ _ _ _ is.gap gap.0 in
-    let none : NothingSpelled t token.is_on_new_line (from_place text token.start) =
-    subst (λ b. NothingSpelled t b (from_place text token.start)) (sym same.0) (subst (NothingSpelled t ended) (sym same.1) nothing) in
-    absurd (none _ _ _ is.spelling.here is.spelling.spelling)
+-- where something is spelled, what is read there reports nothing
+here_clean : (t : SourceType) (nl : Bool) (place : ℕ) (here : List ℕ) (r : Reading) → ReadsHere t nl place here r → (NothingSpelled t nl here → ⊥) → r.diagnostics ≡ []
+here_clean t nl place here r (spelled_here xs spelling is) some = ap (λ x. x.diagnostics) is
+here_clean t nl place here r (recovers nothing e) some = absurd (some nothing)
 
 -- Where the grammar reads a token, nothing is reported.
-pub reads_clean : (text : List ℕ) (t : SourceType) (goal : Goal) (nl : Bool) (place : ℕ) (o : Outcome) (token : TokenParts) → GoalReads text t goal nl place o
-    → PlainReads text t goal nl place token → o.diagnostics ≡ []
-reads_clean text t goal nl place o token (hashbang_read begins is newline escaped separator none) reads = none
-reads_clean text t goal nl place o token (behind_gap begins read escaped separator) (hashbang other is newline) = absurd (cc)
-reads_clean text t goal nl place o token (behind_gap begins read escaped separator) (spelled other is) =
-    let none = nothing_reported text t nl place token o.token read.ended read.reported read.faults is read.gap read.here in
-    read.diagnostics ∙ ap (λ rs. reported_diagnostics text rs ++ read.faults) none.0 ∙ none.1
+pub reads_clean : (text : List ℕ) (t : SourceType) (goal : Goal) (before : Option TokenParts) (place : ℕ) (o : Outcome) (token : TokenParts)
+    → GoalReads text t goal before place o → PlainReads text t goal (line_has_ended_behind before) place token → o.findings.diagnostics ≡ []
+reads_clean text t goal before place o token (hashbang_read begins read) reads = ap (λ x. x.findings.diagnostics) read.alone
+reads_clean text t goal before place o token (behind_gap begins read) (hashbang other is newline) = absurd (cc)
+reads_clean text t goal before place o token (behind_gap begins read) (spelled other is) =
+    let nl = line_has_ended_behind before in
+    let quiet = spelled_is_not_reported t token.is_on_new_line (from_place text token.start) is.spelled (from_place text token.end) token.kind is.spelling in
+    let whole = whole_of_longest t nl (from_place text place) token.is_on_new_line (from_place text token.start) is.gap quiet in
+    let same = whole_gap_unique t nl (from_place text place) is.gap.pieces read.pieces token.is_on_new_line read.line_has_ended (from_place text token.start) (from_place text o.token.start) whole read.gap in
+    let none : gap_diagnostics place read.pieces ≡ [] =
+    ap (gap_diagnostics place) (sym same.0) ∙ gap_reports_nothing t nl (from_place text place) is.gap.pieces token.is_on_new_line (from_place text token.start) place is.gap.all.pieces_are in
+    let some : NothingSpelled t read.line_has_ended (from_place text o.token.start) → ⊥ = λ nothing.
+    let moved : NothingSpelled t token.is_on_new_line (from_place text token.start) =
+    subst (λ b. NothingSpelled t b (from_place text token.start)) (sym same.1) (subst (NothingSpelled t read.line_has_ended) (sym same.2) nothing) in
+    moved is.spelled (from_place text token.end) token.kind is.spelling.here is.spelling.spelling in
+    ap (λ x. x.findings.diagnostics) read.outcome_is
+    ∙ ap (λ ds. ds ++ read.reading.diagnostics) none ∙ here_clean t read.line_has_ended o.token.start (from_place text o.token.start) read.reading read.here some
 
 -- The headline of one reading.
-pub goal_reads-clean : (text : List ℕ) (t : SourceType) (goal : Goal) (nl : Bool) (place : ℕ) (o : Outcome) → GoalReads text t goal nl place o
-    → (o.diagnostics ≡ []) ↔ ((token : TokenParts) × PlainReads text t goal nl place token)
-goal_reads-clean text t goal nl place o reads = (λ clean. (o.token, clean_reads text t goal nl place o reads clean), λ found. reads_clean text t goal nl place o found.0 reads found.1)
+pub agrees_with_grammar : (text : List ℕ) (t : SourceType) (goal : Goal) (before : Option TokenParts) (place : ℕ) (o : Outcome)
+    → GoalReads text t goal before place o → AgreesWithGrammar text t goal before place o
+agrees_with_grammar text t goal before place o reads = record {
+  clean = (λ clean. (o.token, clean_reads text t goal before place o reads clean), λ found. reads_clean text t goal before place o found.0 reads found.1);
+  plain = clean_reads text t goal before place o reads;
+}

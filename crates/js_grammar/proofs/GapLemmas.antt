@@ -6,8 +6,8 @@ use Rattle.std.specs.Option.{option_map}
 use Rattle.js_text.specs.Characters.{is_white_space, is_line_terminator, before_first, from_first}
 use Rattle.js_text.specs.declared.source_type.SourceType.{SourceType}
 use Rattle.js_text.proofs.TextLemmas.{before_from, from_first-cons, length-from_first}
-use Rattle.js_grammar.specs.Gap.{is_prefix, Cut, cut-cons, cut_behind, Piece, PieceKind, one_character, line_comment, block_comment, has_html_comments, piece, Gap, LongestGap, is_reported, WholeGap}
-use Rattle.js_grammar.specs.Gap.PieceKind.{white_space, line_terminator, single_line_comment, multi_line_comment, html_open_comment, html_close_comment}
+use Rattle.js_grammar.specs.Gap.{is_prefix, Cut, cut-cons, cut_behind, Piece, PieceKind, one_character, line_comment, block_comment, has_html_comments, piece, Gap, LongestGap, is_reported, WholeGap, Pieces, AllPieces, whole_gap_piece}
+use Rattle.js_grammar.specs.Gap.PieceKind.{white_space, line_terminator, single_line_comment, multi_line_comment, html_open_comment, html_close_comment, reported_comment}
 use Rattle.js_grammar.proofs.Tests.{and_true, prefix_is}
 
 -- the piece stands at the beginning of the text, and has a character at least
@@ -40,7 +40,7 @@ cuts mark [] = tt
 cuts mark (c ∷ cs) = cuts_if (c ∷ cs) (is_prefix mark (c ∷ cs)) _ _ (prefix_is mark (c ∷ cs)) (cuts-cons c cs (cut_behind mark cs) (cuts mark cs))
 
 block_stands : (nl : Bool) (cs : List ℕ) (found : Option Cut) → cs ≡ codes "/*" ++ drop 2 cs → CutsText (drop 2 cs) found
-    → Stands cs (option_map (λ cut. record { kind = multi_line_comment; text = codes "/*" ++ cut.front; line_ended = nl || list_any is_line_terminator cut.front; rest = cut.rest }) found)
+    → Stands cs (option_map (λ cut. record { kind = multi_line_comment; text = codes "/*" ++ cut.front; line_has_ended = nl || list_any is_line_terminator cut.front; rest = cut.rest }) found)
 block_stands nl cs None begins h = tt
 block_stands nl cs (Some cut) begins h =
     let whole : cs ≡ codes "/*" ++ (cut.front ++ cut.rest) = begins ∙ ap (λ t. codes "/*" ++ t) h in
@@ -64,25 +64,56 @@ piece_takes t nl cs x e = let both = subst (Stands cs) e (piece_stands t nl cs) 
 pub piece_text : (t : SourceType) (nl : Bool) (cs : List ℕ) (x : Piece) → piece t nl cs ≡ Some x → cs ≡ x.text ++ x.rest
 piece_text t nl cs x e = let both = subst (Stands cs) e (piece_stands t nl cs) in both.0
 
--- The longest gap is one: its pieces, its end, and whether a line has ended in it.
-pub gap_unique : (t : SourceType) (nl : Bool) (cs : List ℕ) (xs ys : List Piece) (e f : Bool) (r s : List ℕ)
-    → Gap t nl cs xs e r → piece t e r ≡ None → Gap t nl cs ys f s → piece t f s ≡ None → (xs ≡ ys) × (e ≡ f) × (r ≡ s)
-gap_unique t nl cs [] [] e f r s g n h m = (refl, g.0 ∙ sym h.0, g.1 ∙ sym h.1)
-gap_unique t nl cs [] (y ∷ ys) e f r s g n h m =
-    let here : piece t nl cs ≡ None = ap (λ b. piece t b cs) (sym g.0) ∙ ap (λ u. piece t e u) (sym g.1) ∙ n in cc
-gap_unique t nl cs (x ∷ xs) [] e f r s g n h m =
-    let here : piece t nl cs ≡ None = ap (λ b. piece t b cs) (sym h.0) ∙ ap (λ u. piece t f u) (sym h.1) ∙ m in cc
-gap_unique t nl cs (x ∷ xs) (y ∷ ys) e f r s g n h m =
+-- All pieces of a text are one list, with one end.
+pub all_pieces_unique : (step : Bool → List ℕ → Option Piece) (nl : Bool) (cs : List ℕ) (xs ys : List Piece) (e f : Bool) (r s : List ℕ)
+    → Pieces step nl cs xs e r → step e r ≡ None → Pieces step nl cs ys f s → step f s ≡ None → (xs ≡ ys) × (e ≡ f) × (r ≡ s)
+all_pieces_unique step nl cs [] [] e f r s g n h m = (refl, g.0 ∙ sym h.0, g.1 ∙ sym h.1)
+all_pieces_unique step nl cs [] (y ∷ ys) e f r s g n h m =
+    let here : step nl cs ≡ None = ap (λ b. step b cs) (sym g.0) ∙ ap (λ u. step e u) (sym g.1) ∙ n in cc
+all_pieces_unique step nl cs (x ∷ xs) [] e f r s g n h m =
+    let here : step nl cs ≡ None = ap (λ b. step b cs) (sym h.0) ∙ ap (λ u. step f u) (sym h.1) ∙ m in cc
+all_pieces_unique step nl cs (x ∷ xs) (y ∷ ys) e f r s g n h m =
     let same : x ≡ y = cc in
-    let rest = gap_unique t y.line_ended y.rest xs ys e f r s (subst (λ z. Gap t z.line_ended z.rest xs e r) same g.1) n h.1 m in
+    let rest = all_pieces_unique step y.line_has_ended y.rest xs ys e f r s (subst (λ z. Pieces step z.line_has_ended z.rest xs e r) same g.1) n h.1 m in
     (ap (λ z. z ∷ xs) same ∙ ap (λ zs. y ∷ zs) rest.0, rest.1, rest.2)
 
 pub longest_gap_unique : (t : SourceType) (nl : Bool) (cs : List ℕ) (e f : Bool) (r s : List ℕ) → LongestGap t nl cs e r → LongestGap t nl cs f s → (e ≡ f) × (r ≡ s)
-longest_gap_unique t nl cs e f r s g h = let same = gap_unique t nl cs _ _ e f r s g.gap g.longest h.gap h.longest in (same.1, same.2)
+longest_gap_unique t nl cs e f r s g h =
+    let same = all_pieces_unique (piece t) nl cs g.pieces h.pieces e f r s g.all.pieces_are g.all.longest h.all.pieces_are h.all.longest in (same.1, same.2)
+
+pub whole_gap_unique : (t : SourceType) (nl : Bool) (cs : List ℕ) (xs ys : List Piece) (e f : Bool) (r s : List ℕ)
+    → WholeGap t nl cs xs e r → WholeGap t nl cs ys f s → (xs ≡ ys) × (e ≡ f) × (r ≡ s)
+whole_gap_unique t nl cs xs ys e f r s g h = all_pieces_unique (whole_gap_piece t) nl cs xs ys e f r s g.pieces_are g.longest h.pieces_are h.longest
+
+-- a piece before all others
+pub all_pieces-cons : (step : Bool → List ℕ → Option Piece) (nl : Bool) (cs : List ℕ) (x : Piece) (xs : List Piece) (e : Bool) (r : List ℕ)
+    → step nl cs ≡ Some x → AllPieces step x.line_has_ended x.rest xs e r → AllPieces step nl cs (x ∷ xs) e r
+all_pieces-cons step nl cs x xs e r h g = record { pieces_are = (h, g.pieces_are); longest = g.longest }
+
+pub all_pieces-nil : (step : Bool → List ℕ → Option Piece) (nl : Bool) (cs : List ℕ) → step nl cs ≡ None → AllPieces step nl cs [] nl cs
+all_pieces-nil step nl cs h = record { pieces_are = (refl, refl); longest = h }
 
 -- a piece before a longest gap
-pub longest_gap-cons : (t : SourceType) (nl : Bool) (cs : List ℕ) (x : Piece) (e : Bool) (r : List ℕ) → piece t nl cs ≡ Some x → LongestGap t x.line_ended x.rest e r → LongestGap t nl cs e r
-longest_gap-cons t nl cs x e r h g = record { pieces = x ∷ g.pieces; gap = (h, g.gap); longest = g.longest }
+pub longest_gap-cons : (t : SourceType) (nl : Bool) (cs : List ℕ) (x : Piece) (e : Bool) (r : List ℕ) → piece t nl cs ≡ Some x → LongestGap t x.line_has_ended x.rest e r → LongestGap t nl cs e r
+longest_gap-cons t nl cs x e r h g = record { pieces = x ∷ g.pieces; all = all_pieces-cons (piece t) nl cs x g.pieces e r h g.all }
 
 pub longest_gap-nil : (t : SourceType) (nl : Bool) (cs : List ℕ) → piece t nl cs ≡ None → LongestGap t nl cs nl cs
-longest_gap-nil t nl cs h = record { pieces = []; gap = (refl, refl); longest = h }
+longest_gap-nil t nl cs h = record { pieces = []; all = all_pieces-nil (piece t) nl cs h }
+
+-- Where no reported comment stands, the piece of a whole gap is that of any gap.
+pub unreported : (t : SourceType) (nl : Bool) (cs : List ℕ) → is_reported t nl cs ≡ false → whole_gap_piece t nl cs ≡ piece t nl cs
+unreported t nl cs e = rw e refl
+
+pub reported : (t : SourceType) (nl : Bool) (cs : List ℕ) → is_reported t nl cs ≡ true → whole_gap_piece t nl cs ≡ Some (line_comment reported_comment nl cs)
+reported t nl cs e = rw e refl
+
+none_if : (b : Bool) (x : Piece) (y : Option Piece) → (if b then Some x else y) ≡ None → (b ≡ false) × (y ≡ None)
+none_if true x y e = absurd (cc)
+none_if false x y e = (refl, e)
+
+-- behind a whole gap no reported comment stands, and no piece
+pub none_behind : (t : SourceType) (nl : Bool) (cs : List ℕ) → whole_gap_piece t nl cs ≡ None → (is_reported t nl cs ≡ false) × (piece t nl cs ≡ None)
+none_behind t nl cs e = none_if (is_reported t nl cs) _ (piece t nl cs) e
+
+pub not_reported_behind : (t : SourceType) (nl : Bool) (cs : List ℕ) (xs : List Piece) (e : Bool) (r : List ℕ) → WholeGap t nl cs xs e r → is_reported t e r ≡ false
+not_reported_behind t nl cs xs e r g = (none_behind t e r g.longest).0

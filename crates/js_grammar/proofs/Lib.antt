@@ -1,4 +1,5 @@
 pub mod Clean
+pub mod Flags
 pub mod GapLemmas
 pub mod NameLemmas
 pub mod NumberClasses
@@ -13,6 +14,7 @@ pub mod NumberWhole
 pub mod PieceLemmas
 pub mod PunctuatorLeaves
 pub mod PunctuatorLemmas
+pub mod Reported
 pub mod Spans
 pub mod Tests
 pub mod Unique

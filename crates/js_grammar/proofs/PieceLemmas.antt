@@ -63,7 +63,7 @@ from_first-hashbang cs = refl
 -- a gap leaves no more than there was
 gap_leaves : (t : SourceType) (nl : Bool) (cs : List ℕ) (xs : List Piece) (e : Bool) (r : List ℕ) → Gap t nl cs xs e r → length r ≤ length cs
 gap_leaves t nl cs [] e r g = omega (arith, ap length g.1)
-gap_leaves t nl cs (x ∷ xs) e r g = omega (arith, piece_takes t nl cs x g.0, gap_leaves t x.line_ended x.rest xs e r g.1)
+gap_leaves t nl cs (x ∷ xs) e r g = omega (arith, piece_takes t nl cs x g.0, gap_leaves t x.line_has_ended x.rest xs e r g.1)
 
 pub longest_gap_leaves : (t : SourceType) (nl : Bool) (cs : List ℕ) (e : Bool) (r : List ℕ) → LongestGap t nl cs e r → length r ≤ length cs
-longest_gap_leaves t nl cs e r g = gap_leaves t nl cs g.pieces e r g.gap
+longest_gap_leaves t nl cs e r g = gap_leaves t nl cs g.pieces e r g.all.pieces_are

@@ -1,13 +1,14 @@
 -- Each punctuator is the longest where what follows goes on with no other.
 use Rattle.std.proofs.Common.{◌≡◌, ℕ, ◌<◌, ◌≤◌, Bool, true, false, not, cond, ◌&&◌, ◌||◌, ◌==◌, nat_le, nat_lt, List, [], ◌∷◌, ◌++◌, length, drop, refl, sym, ap, inl, inr, zero, suc, Option, Some, None, arith}
 use Rattle.std.specs.Prelude.{codes, slice_get}
+use Rattle.std.specs.Char.{is_ascii_digit}
 use Rattle.std.specs.List.{list_all}
 use Rattle.std.proofs.lemmas.Bool.{leb-true, ne_eqb}
 use Rattle.js_text.specs.Characters.{begins}
 use Rattle.js_text.specs.SourceType.{is_module}
 use Rattle.js_text.specs.declared.source_type.SourceType.{SourceType}
 use Rattle.js_grammar.specs.Gap.{is_prefix}
-use Rattle.js_grammar.specs.Punctuators.{Punctuator, punctuators, IsIn, is_spelled, LongestPunctuator, NoPunctuator, plain, before_no_digit, slash as slash_alone, left_angle, is_decimal_digit, is_optional_dot}
+use Rattle.js_grammar.specs.Punctuators.{Punctuator, punctuators, IsIn, is_spelled, LongestPunctuator, NoPunctuator, plain, before_no_digit, slash as slash_alone, left_angle, is_optional_dot}
 use Rattle.js_grammar.proofs.Tests.{and_true}
 use Rattle.js_kind.specs.declared.kind.Kind.TheVariants.{Amp, Amp2, Amp2Eq, AmpEq, Bang, Caret, CaretEq, Colon, Comma, Dot, Dot3, Eq, Eq2, Eq3, LAngle, LBrack, LCurly, LParen, LtEq, Minus, Minus2, MinusEq, Neq, Neq2, Percent, PercentEq, Pipe, Pipe2, Pipe2Eq, PipeEq, Plus, Plus2, PlusEq, Question, Question2, Question2Eq, QuestionDot, RAngle, RBrack, RCurly, RParen, Semicolon, ShiftLeft, ShiftLeftEq, Slash, SlashEq, Star, Star2, Star2Eq, StarEq, Tilde, Arrow, At}
 
@@ -37,7 +38,7 @@ not_spelled c cs (x ∷ xs) b e f = let no : (c == x) ≡ false = not_true (c ==
     not_true true h = absurd (cc)
     not_true false h = refl
 
-digit_is_no_dot : (x : ℕ) → is_decimal_digit x ≡ true → (x == 46) ≡ false
+digit_is_no_dot : (x : ℕ) → is_ascii_digit x ≡ true → (x == 46) ≡ false
 digit_is_no_dot x e = let low : 48 ≤ x = leb-true 48 x (and_true (nat_le 48 x) (nat_le x 57) e).0 in ne_eqb x 46 (λ same. absurd (omega arith))
 
 -- no entry that is spelled at the text is longer than n
@@ -99,10 +100,10 @@ colon t nl cs = record { it = plain Colon; in_table = listed 7 refl; here = refl
 pub comma : (t : SourceType) (nl : Bool) (cs : List ℕ) → LongestPunctuator t nl (44 ∷ cs) cs Comma
 comma t nl cs = record { it = plain Comma; in_table = listed 8 refl; here = refl; allowed = refl; kind = refl; longest = refl }
 
-pub dot : (t : SourceType) (nl : Bool) (cs : List ℕ) → is_prefix (46 ∷ 46 ∷ []) cs ≡ false → begins is_decimal_digit cs ≡ false → LongestPunctuator t nl (46 ∷ cs) cs Dot
+pub dot : (t : SourceType) (nl : Bool) (cs : List ℕ) → is_prefix (46 ∷ 46 ∷ []) cs ≡ false → begins is_ascii_digit cs ≡ false → LongestPunctuator t nl (46 ∷ cs) cs Dot
 dot t nl cs e0 e1 = record { it = before_no_digit Dot; in_table = listed 9 refl; here = refl; allowed = e1; kind = refl; longest = longest cs e0 e1 }
   where
-    longest : (xs : List ℕ) → is_prefix (46 ∷ 46 ∷ []) xs ≡ false → begins is_decimal_digit xs ≡ false → none_above t nl 1 (46 ∷ xs)
+    longest : (xs : List ℕ) → is_prefix (46 ∷ 46 ∷ []) xs ≡ false → begins is_ascii_digit xs ≡ false → none_above t nl 1 (46 ∷ xs)
     longest [] e0 e1 = refl
     longest (x ∷ []) e0 e1 = rw e1 (one_dot (x == 46))
     longest (x ∷ y ∷ xs) e0 e1 = rw e1 (two_dots (x == 46) (y == 46) e0)
@@ -218,7 +219,7 @@ question t nl cs e0 e1 = record { it = plain Question; in_table = listed 33 refl
   where
     longest : (xs : List ℕ) → begins (λ c. c == 63) xs ≡ false → is_optional_dot xs ≡ false → none_above t nl 1 (63 ∷ xs)
     longest [] e0 e1 = refl
-    longest (x ∷ xs) e0 e1 = rw e0 (no_dot (x == 46) (begins is_decimal_digit xs) e1)
+    longest (x ∷ xs) e0 e1 = rw e0 (no_dot (x == 46) (begins is_ascii_digit xs) e1)
 
 pub question2 : (t : SourceType) (nl : Bool) (cs : List ℕ) → begins (λ c. c == 61) cs ≡ false → LongestPunctuator t nl (63 ∷ 63 ∷ cs) cs Question2
 question2 t nl cs e0 = record { it = plain Question2; in_table = listed 34 refl; here = refl; allowed = refl; kind = refl; longest = longest cs e0 }
@@ -230,10 +231,10 @@ question2 t nl cs e0 = record { it = plain Question2; in_table = listed 34 refl;
 pub question2_eq : (t : SourceType) (nl : Bool) (cs : List ℕ) → LongestPunctuator t nl (63 ∷ 63 ∷ 61 ∷ cs) cs Question2Eq
 question2_eq t nl cs = record { it = plain Question2Eq; in_table = listed 35 refl; here = refl; allowed = refl; kind = refl; longest = refl }
 
-pub question_dot : (t : SourceType) (nl : Bool) (cs : List ℕ) → begins is_decimal_digit cs ≡ false → LongestPunctuator t nl (63 ∷ 46 ∷ cs) cs QuestionDot
+pub question_dot : (t : SourceType) (nl : Bool) (cs : List ℕ) → begins is_ascii_digit cs ≡ false → LongestPunctuator t nl (63 ∷ 46 ∷ cs) cs QuestionDot
 question_dot t nl cs e0 = record { it = before_no_digit QuestionDot; in_table = listed 36 refl; here = refl; allowed = e0; kind = refl; longest = longest cs e0 }
   where
-    longest : (xs : List ℕ) → begins is_decimal_digit xs ≡ false → none_above t nl 2 (63 ∷ 46 ∷ xs)
+    longest : (xs : List ℕ) → begins is_ascii_digit xs ≡ false → none_above t nl 2 (63 ∷ 46 ∷ xs)
     longest [] e0 = refl
     longest (x ∷ xs) e0 = rw (e0) refl
 
@@ -306,11 +307,11 @@ pub none_reported : (t : SourceType) (nl : Bool) (cs : List ℕ) → left_angle.
 none_reported t nl cs e = rw e refl
 
 -- Before a digit a dot is no punctuator.
-pub none_dot : (t : SourceType) (nl : Bool) (cs : List ℕ) → begins is_decimal_digit cs ≡ true → NoPunctuator t nl (46 ∷ cs)
+pub none_dot : (t : SourceType) (nl : Bool) (cs : List ℕ) → begins is_ascii_digit cs ≡ true → NoPunctuator t nl (46 ∷ cs)
 none_dot t nl [] e = absurd (cc)
 none_dot t nl (x ∷ cs) e = elim_digit x cs (digit_is_no_dot x e) e
   where
-    elim_digit : (x : ℕ) (cs : List ℕ) → (x == 46) ≡ false → is_decimal_digit x ≡ true → NoPunctuator t nl (46 ∷ x ∷ cs)
+    elim_digit : (x : ℕ) (cs : List ℕ) → (x == 46) ≡ false → is_ascii_digit x ≡ true → NoPunctuator t nl (46 ∷ x ∷ cs)
     elim_digit x cs other e = rw (other, e) refl
 
 -- Before a star a slash is no punctuator.

@@ -1,6 +1,6 @@
 -- The spans of what is read: in order, and not empty but for the end of the source.
-use Rattle.std.proofs.Common.{◌≡◌, ◌≢◌, ℕ, ◌+◌, ◌-◌, ◌<◌, ◌≤◌, Bool, true, false, List, [], ◌∷◌, ◌++◌, ◌==◌, ◌||◌, length, drop, refl, sym, ◌∙◌, ap, subst, arith, zero, suc, append-nil, append_assoc, ◌⊎◌, inl, inr}
-use Rattle.std.specs.Prelude.{codes, if◌then◌else◌}
+use Rattle.std.proofs.Common.{◌≡◌, ◌≢◌, ℕ, ◌+◌, ◌-◌, ◌<◌, ◌≤◌, Bool, true, false, List, [], ◌∷◌, ◌++◌, ◌==◌, ◌||◌, length, drop, refl, sym, ◌∙◌, ap, subst, arith, zero, suc, append-nil, append_assoc, ◌⊎◌, inl, inr, Option, Some, None}
+use Rattle.std.specs.Prelude.{codes, if◌then◌else◌, IfSome}
 use Rattle.std.proofs.lemmas.Str.{length-le-encodes, IsCharBoundary-start}
 use Rattle.std.specs.Str.{IsCharBoundary, IsUtf8, encode_utf8_all}
 use Rattle.js_text.specs.Characters.{from_place, from_first, before_first, is_line_terminator, begins}
@@ -10,14 +10,17 @@ use Rattle.js_text.proofs.TextLemmas.{place_past, before_from}
 use Rattle.js_kind.specs.TokenParts.{TokenParts}
 use Rattle.js_kind.specs.declared.kind.Kind.{Kind}
 use Rattle.js_kind.specs.declared.kind.Kind.TheVariants.{Eof}
-use Rattle.js_grammar.specs.Gap.{is_prefix, WholeGap, is_reported}
-use Rattle.js_grammar.specs.Goals.{Outcome, ReadsHere, ReadsBehindGap, GoalReads}
+use Rattle.js_text.specs.declared.value.RowValue.{RowValue}
+use Rattle.js_grammar.specs.Gap.{is_prefix}
+use Rattle.js_grammar.specs.Goals.{ReadsHere, ReadsBehindGap, GoalReads}
 use Rattle.js_grammar.specs.Goals.ReadsHere.{spelled as spelled_here, recovers}
 use Rattle.js_grammar.specs.Goals.GoalReads.{hashbang as hashbang_read, behind_gap}
-use Rattle.js_grammar.specs.Hashbang.{Goal, begins_hashbang, IsHashbang}
-use Rattle.js_grammar.specs.Hashbang.Goal.{first, next}
-use Rattle.js_grammar.specs.Recovery.{Recovery, recovered, invalid_character}
-use Rattle.js_grammar.specs.Spelling.{Spelling, IsName, LongestSpelling, NothingSpelled}
+use Rattle.js_grammar.specs.Hashbang.{begins_hashbang, IsHashbang}
+use Rattle.js_grammar.specs.Outcome.{Outcome, place_behind}
+use Rattle.js_grammar.specs.Recovery.{Reading, recovered, recovered_character, is_control_or_wide}
+use Rattle.js_grammar.specs.Spelling.{Spelling, IsName, LongestSpelling, NothingSpelled, value_of}
+use Rattle.js_grammar.specs.declared.goal.Goal.{Goal}
+use Rattle.js_grammar.specs.declared.goal.Goal.TheVariants.{First, Next}
 use Rattle.js_grammar.specs.Spelling.Spelling.{name, punctuator, end_of_source}
 use Rattle.js_grammar.proofs.PieceLemmas.{from_first-hashbang}
 use Rattle.js_grammar.proofs.PunctuatorLemmas.{some_text}
@@ -48,37 +51,40 @@ to_end : (text : List ℕ) (p q : ℕ) → IsUtf8 text → IsCharBoundary text p
 to_end text p q u b d e = (leads text p q (from_place text p) u b d (sym (append-nil (from_place text p)) ∙ ap (λ r. from_place text p ++ r) (sym e))).0
 
 -- what is read to recover is the rest of the source, or a character
-abbrev LeavesBehind : List ℕ → Recovery → Type 0
+abbrev LeavesBehind : List ℕ → Reading → Type 0
 LeavesBehind here r = ((r.kind ≡ Eof) × (r.rest ≡ [])) ⊎ ((c : ℕ) × (here ≡ c ∷ r.rest))
 
-leaves_if : (here : List ℕ) (b : Bool) (x y : Recovery) → LeavesBehind here x → LeavesBehind here y → LeavesBehind here (if b then x else y)
-leaves_if here true x y h k = h
-leaves_if here false x y h k = k
+-- what holds of each way to recover
+each_recovery : (P : Reading → Type 0) (b : Bool) (x y : Option Reading) → IfSome x P → IfSome y P → IfSome (if b then x else y) P
+each_recovery P true x y h k = h
+each_recovery P false x y h k = k
 
-recovered_leaves : (text : List ℕ) (t : SourceType) (nl : Bool) (here : List ℕ) → LeavesBehind here (recovered text t nl here)
-recovered_leaves text t nl here =
-    leaves_if here (is_prefix (codes "/*") here) _ _ (inl (refl, refl)) (leaves_if here (begins (λ c. c == 0xFFFD) here) _ _ (inl (refl, refl)) (character here))
+recovered_leaves : (nl : Bool) (place : ℕ) (here : List ℕ) → IfSome (recovered nl place here) (LeavesBehind here)
+recovered_leaves nl place here =
+    each_recovery (LeavesBehind here) (is_prefix (codes "/*") here) _ _ (inl (refl, refl))
+    (each_recovery (LeavesBehind here) (is_prefix (codes "#!") here) _ _ (inl (refl, refl))
+    (each_recovery (LeavesBehind here) (begins (λ c. c == 0xFFFD) here) _ _ (inl (refl, refl)) (character here)))
   where
-    character : (here : List ℕ) → LeavesBehind here (invalid_character text nl here)
-    character [] = inl (refl, refl)
-    character (c ∷ cs) = inr (c, refl)
+    character : (here : List ℕ) → IfSome (recovered_character nl place here) (LeavesBehind here)
+    character [] = tt
+    character (c ∷ cs) = each_recovery (LeavesBehind (c ∷ cs)) (is_control_or_wide c) _ None (inr (c, refl)) tt
 
-here_span : (text : List ℕ) (t : SourceType) (ended : Bool) (token : TokenParts) (faults : List Diagnostic) → IsUtf8 text → IsCharBoundary text token.start → IsCharBoundary text token.end
-    → ReadsHere text t ended token faults → IsSpan token
-here_span text t ended token faults u b d (spelled_here xs spelling newline e) =
-    let way = leads text token.start token.end xs u b d spelling.here in
-    record { ordered = way.0; some_text = λ some. way.1 (spelling_has_text t ended xs (from_place text token.end) token.kind spelling.spelling some) }
-here_span text t ended token faults u b d (recovers nothing e) =
-    elim (recovered_leaves text t ended (from_place text token.start)) [
-      | inl rest ↦ record { ordered = to_end text token.start token.end u b d (sym (ap (λ r. r.rest) e) ∙ rest.1); some_text = λ some. absurd (some (sym (ap (λ r. r.kind) e) ∙ rest.0)) }
-      | inr one ↦ let way = leads text token.start token.end (one.0 ∷ []) u b d (one.1 ∙ ap (λ r. one.0 ∷ r.rest) e) in
-          record { ordered = way.0; some_text = λ some. way.1 (λ none. cc) }
+here_span : (text : List ℕ) (t : SourceType) (nl : Bool) (start end : ℕ) (r : Reading) → IsUtf8 text → IsCharBoundary text start → IsCharBoundary text end
+    → r.rest ≡ from_place text end → ReadsHere t nl start (from_place text start) r → (start ≤ end) × (r.kind ≢ Eof → start < end)
+here_span text t nl start end r u b d rest (spelled_here xs spelling is) =
+    let way = leads text start end xs u b d (spelling.here ∙ ap (λ ys. xs ++ ys) rest) in
+    (way.0, λ some. way.1 (spelling_has_text t nl xs r.rest r.kind spelling.spelling some))
+here_span text t nl start end r u b d rest (recovers nothing e) =
+    let leaves = subst (λ found. IfSome found (LeavesBehind (from_place text start))) e (recovered_leaves nl start (from_place text start)) in
+    elim leaves [
+      | inl whole ↦ (to_end text start end u b d (sym rest ∙ whole.1), λ some. absurd (some whole.0))
+      | inr one ↦ let way = leads text start end (one.0 ∷ []) u b d (one.1 ∙ ap (λ ys. one.0 ∷ ys) rest) in (way.0, λ some. way.1 (λ none. cc))
     ]
 
 hashbang_start : (goal : Goal) (text : List ℕ) (place : ℕ) → begins_hashbang goal text place ≡ true → is_prefix (codes "#!") (from_place text 0) ≡ true
-hashbang_start first text zero e = e
-hashbang_start first text (suc place) e = absurd (cc)
-hashbang_start next text place e = absurd (cc)
+hashbang_start First text zero e = e
+hashbang_start First text (suc place) e = absurd (cc)
+hashbang_start Next text place e = absurd (cc)
 
 hashbang_span : (text : List ℕ) (token : TokenParts) → IsUtf8 text → is_prefix (codes "#!") (from_place text 0) ≡ true → IsHashbang text token → IsSpan token
 hashbang_span text token u e h =
@@ -92,17 +98,44 @@ hashbang_span text token u e h =
     record { ordered = subst (λ (n : ℕ). n ≤ token.end) (sym h.start) way.0; some_text = λ some. subst (λ (n : ℕ). n < token.end) (sym h.start) (way.1 (λ none. cc)) }
 
 -- Each token that is read has a span in order, with a byte at least but for the end of the source.
-pub goal_reads_span : (text : List ℕ) (t : SourceType) (goal : Goal) (nl : Bool) (place : ℕ) (o : Outcome) → IsUtf8 text → GoalReads text t goal nl place o → IsSpan o.token
-goal_reads_span text t goal nl place o u (hashbang_read begins is newline escaped separator none) = hashbang_span text o.token u (hashbang_start goal text place begins) is
-goal_reads_span text t goal nl place o u (behind_gap begins read escaped separator) = here_span text t read.ended o.token read.faults u read.start read.end read.here
+pub goal_reads_span : (text : List ℕ) (t : SourceType) (goal : Goal) (before : Option TokenParts) (place : ℕ) (o : Outcome) → IsUtf8 text
+    → GoalReads text t goal before place o → IsSpan o.token
+goal_reads_span text t goal before place o u (hashbang_read begins read) = hashbang_span text o.token u (hashbang_start goal text place begins) read.is_hashbang
+goal_reads_span text t goal before place o u (behind_gap begins read) =
+    let span = here_span text t read.line_has_ended o.token.start o.token.end read.reading u read.start read.end read.rest read.here in
+    record { ordered = span.0; some_text = λ some. span.1 (λ e. some (ap (λ x. x.token.kind) read.outcome_is ∙ e)) }
 
 -- and its ends are places
-pub goal_reads_places : (text : List ℕ) (t : SourceType) (goal : Goal) (nl : Bool) (place : ℕ) (o : Outcome) → IsUtf8 text → GoalReads text t goal nl place o
-    → IsCharBoundary text o.token.start × IsCharBoundary text o.token.end
-goal_reads_places text t goal nl place o u (hashbang_read begins is newline escaped separator none) = (subst (IsCharBoundary text) (sym is.start) (IsCharBoundary-start text u), is.end)
-goal_reads_places text t goal nl place o u (behind_gap begins read escaped separator) = (read.start, read.end)
+pub goal_reads_places : (text : List ℕ) (t : SourceType) (goal : Goal) (before : Option TokenParts) (place : ℕ) (o : Outcome) → IsUtf8 text
+    → GoalReads text t goal before place o → IsCharBoundary text o.token.start × IsCharBoundary text o.token.end
+goal_reads_places text t goal before place o u (hashbang_read begins read) =
+    (subst (IsCharBoundary text) (sym read.is_hashbang.start) (IsCharBoundary-start text u), read.is_hashbang.end)
+goal_reads_places text t goal before place o u (behind_gap begins read) = (read.start, read.end)
 
--- behind a whole gap no reported comment stands
-pub not_reported_behind : (t : SourceType) (nl : Bool) (cs : List ℕ) (rs : List (List ℕ)) (e : Bool) (r : List ℕ) → WholeGap t nl cs rs e r → is_reported t e r ≡ false
-not_reported_behind t nl cs [] e r g = g.1
-not_reported_behind t nl cs (x ∷ rs) e r g = not_reported_behind t true (from_first is_line_terminator x) rs e r g.2
+-- the value of what is read to recover is that of its kind: none
+recovered_value : (a b : ℕ) (nl : Bool) (place : ℕ) (here : List ℕ) → IfSome (recovered nl place here) (λ r. r.value ≡ value_of r.kind a b)
+recovered_value a b nl place here =
+    each_recovery (λ r. r.value ≡ value_of r.kind a b) (is_prefix (codes "/*") here) _ _ refl
+    (each_recovery (λ r. r.value ≡ value_of r.kind a b) (is_prefix (codes "#!") here) _ _ refl
+    (each_recovery (λ r. r.value ≡ value_of r.kind a b) (begins (λ c. c == 0xFFFD) here) _ _ refl (character here)))
+  where
+    character : (here : List ℕ) → IfSome (recovered_character nl place here) (λ r. r.value ≡ value_of r.kind a b)
+    character [] = tt
+    character (c ∷ cs) = each_recovery (λ r. r.value ≡ value_of r.kind a b) (is_control_or_wide c) _ None refl tt
+
+here_value : (text : List ℕ) (t : SourceType) (nl : Bool) (start end : ℕ) (r : Reading) → IsUtf8 text → IsCharBoundary text start → IsCharBoundary text end
+    → r.rest ≡ from_place text end → ReadsHere t nl start (from_place text start) r → r.value ≡ value_of r.kind start end
+here_value text t nl start end r u b d rest (spelled_here xs spelling is) =
+    ap (λ x. x.value) is ∙ ap (value_of r.kind start) (sym (place_past text start end xs u b d (spelling.here ∙ ap (λ ys. xs ++ ys) rest)))
+here_value text t nl start end r u b d rest (recovers nothing e) =
+    subst (λ found. IfSome found (λ x. x.value ≡ value_of x.kind start end)) e (recovered_value start end nl start (from_place text start))
+
+-- The value of a reading is that of its token's kind and span.
+pub goal_reads_value : (text : List ℕ) (t : SourceType) (goal : Goal) (before : Option TokenParts) (place : ℕ) (o : Outcome) → IsUtf8 text
+    → GoalReads text t goal before place o → o.value ≡ value_of o.token.kind o.token.start o.token.end
+goal_reads_value text t goal before place o u (hashbang_read begins read) =
+    ap (λ x. x.value) read.alone ∙ ap (λ k. value_of k o.token.start o.token.end) (sym read.is_hashbang.kind)
+goal_reads_value text t goal before place o u (behind_gap begins read) =
+    ap (λ x. x.value) read.outcome_is
+    ∙ here_value text t read.line_has_ended o.token.start o.token.end read.reading u read.start read.end read.rest read.here
+    ∙ ap (λ x. value_of x.token.kind o.token.start o.token.end) (sym read.outcome_is)

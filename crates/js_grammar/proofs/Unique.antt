@@ -8,17 +8,19 @@ use Rattle.js_text.proofs.TextLemmas.{place_unique}
 use Rattle.js_kind.specs.TokenParts.{TokenParts}
 use Rattle.js_kind.specs.declared.kind.Kind.{Kind}
 use Rattle.js_grammar.specs.Gap.{LongestGap, WholeGap}
-use Rattle.js_grammar.specs.Goals.{Outcome, ReadsHere, ReadsBehindGap, GoalReads, reported_diagnostics}
+use Rattle.js_grammar.specs.Goals.{ReadsHere, ReadsBehindGap, ReadsHashbang, GoalReads, spelled_reading, outcome_behind, token_alone, line_has_ended_behind}
 use Rattle.js_grammar.specs.Goals.ReadsHere.{spelled as spelled_here, recovers}
 use Rattle.js_grammar.specs.Goals.GoalReads.{hashbang as hashbang_read, behind_gap}
-use Rattle.js_grammar.specs.Hashbang.{Goal, begins_hashbang, IsHashbang}
+use Rattle.js_grammar.specs.Hashbang.{begins_hashbang, IsHashbang}
+use Rattle.js_grammar.specs.Outcome.{Outcome}
+use Rattle.js_grammar.specs.declared.goal.Goal.{Goal}
 use Rattle.js_grammar.specs.Punctuators.{Punctuator, punctuators, IsIn}
 use Rattle.js_grammar.specs.Reads.{IsSpelled, PlainReads, SameReading}
 use Rattle.js_grammar.specs.Reads.PlainReads.{hashbang, spelled}
-use Rattle.js_grammar.specs.Recovery.{Recovery, recovered}
+use Rattle.js_grammar.specs.Recovery.{Reading, recovered}
 use Rattle.js_grammar.specs.Spelling.{Spelling, IsName, LongestSpelling, NothingSpelled}
 use Rattle.js_grammar.specs.Spelling.Spelling.{name, punctuator, end_of_source}
-use Rattle.js_grammar.proofs.GapLemmas.{longest_gap_unique}
+use Rattle.js_grammar.proofs.GapLemmas.{longest_gap_unique, whole_gap_unique}
 use Rattle.js_grammar.proofs.PunctuatorLemmas.{name_begins_no_punctuator, some_text}
 use Rattle.js_text.specs.declared.diagnostic.Diagnostic.{Diagnostic}
 
@@ -67,12 +69,12 @@ kind_unique t nl xs ys j k (end_of_source none end kind) (punctuator p i same al
 kind_unique t nl xs ys j k (end_of_source none end kind) (end_of_source none' end' kind') = kind ∙ sym kind'
 
 -- the longest spelling is one
-pub longest_unique : (t : SourceType) (nl : Bool) (text xs ys us vs : List ℕ) (j k : Kind) → LongestSpelling t nl text xs ys j → LongestSpelling t nl text us vs k → (ys ≡ vs) × (j ≡ k)
+pub longest_unique : (t : SourceType) (nl : Bool) (text xs ys us vs : List ℕ) (j k : Kind) → LongestSpelling t nl text xs ys j → LongestSpelling t nl text us vs k → (xs ≡ us) × (ys ≡ vs) × (j ≡ k)
 longest_unique t nl text xs ys us vs j k a b =
     let same_length : length xs ≡ length us = omega (arith, a.longest us vs k b.here b.spelling, b.longest xs ys j a.here a.spelling) in
     let same = fronts xs ys us vs (sym a.here ∙ b.here) same_length in
     let other : Spelling t nl xs ys k = subst (λ r. Spelling t nl xs r k) (sym same.1) (subst (λ r. Spelling t nl r vs k) (sym same.0) b.spelling) in
-    (same.1, kind_unique t nl xs ys j k a.spelling other)
+    (same.0, same.1, kind_unique t nl xs ys j k a.spelling other)
 
 hashbang_unique : (text : List ℕ) (nl : Bool) (a b : TokenParts) → IsUtf8 text → IsHashbang text a → IsHashbang text b → a.is_on_new_line ≡ nl → b.is_on_new_line ≡ nl → SameReading a b
 hashbang_unique text nl a b utf8 h g m n = record {
@@ -90,7 +92,7 @@ here_unique : (text : List ℕ) (t : SourceType) (ended : Bool) (a b : TokenPart
 here_unique text t ended a b xs us utf8 start ea eb la lb =
     let there = subst (λ p. LongestSpelling t ended (from_place text p) us (from_place text b.end) b.kind) (sym start) lb in
     let same = longest_unique t ended _ _ _ _ _ _ _ la there in
-    (place_unique text a.end b.end utf8 ea eb same.0, same.1)
+    (place_unique text a.end b.end utf8 ea eb same.1, same.2)
 
 spelled_unique : (text : List ℕ) (t : SourceType) (nl : Bool) (place : ℕ) (a b : TokenParts) → IsUtf8 text → IsSpelled text t nl place a → IsSpelled text t nl place b → SameReading a b
 spelled_unique text t nl place a b utf8 h g =
@@ -108,51 +110,40 @@ plain_reads_unique text t goal nl place a b utf8 (hashbang x h m) (spelled y g) 
 plain_reads_unique text t goal nl place a b utf8 (spelled x h) (hashbang y g n) = absurd (cc)
 plain_reads_unique text t goal nl place a b utf8 (spelled x h) (spelled y g) = spelled_unique text t nl place a b utf8 h g
 
--- a whole gap is one
-pub whole_gap_unique : (t : SourceType) (nl : Bool) (cs : List ℕ) (rs ss : List (List ℕ)) (e f : Bool) (r s : List ℕ)
-    → WholeGap t nl cs rs e r → WholeGap t nl cs ss f s → (rs ≡ ss) × (e ≡ f) × (r ≡ s)
-whole_gap_unique t nl cs [] [] e f r s g h = let same = longest_gap_unique t nl cs e f r s g.0 h.0 in (refl, same.0, same.1)
-whole_gap_unique t nl cs [] (y ∷ ss) e f r s g h =
-    let same = longest_gap_unique t nl cs e true r y g.0 h.0 in
-    absurd (let no : false ≡ true = sym g.1 ∙ rw (same.0, same.1) h.1 in cc)
-whole_gap_unique t nl cs (x ∷ rs) [] e f r s g h =
-    let same = longest_gap_unique t nl cs f true s x h.0 g.0 in
-    absurd (let no : false ≡ true = sym h.1 ∙ rw (same.0, same.1) g.1 in cc)
-whole_gap_unique t nl cs (x ∷ rs) (y ∷ ss) e f r s g h =
-    let same = longest_gap_unique t nl cs true true x y g.0 h.0 in
-    let there = subst (λ z. WholeGap t true (from_first is_line_terminator z) ss f s) (sym same.1) h.2 in
-    let ih = whole_gap_unique t true (from_first is_line_terminator x) rs ss e f r s g.2 there in
-    (ap (λ z. z ∷ rs) same.1 ∙ ap (λ zs. y ∷ zs) ih.0, ih.1, ih.2)
+-- what is read behind one gap is one
+reading_unique : (t : SourceType) (nl : Bool) (place : ℕ) (here : List ℕ) (r s : Reading) → ReadsHere t nl place here r → ReadsHere t nl place here s → r ≡ s
+reading_unique t nl place here r s (spelled_here xs a e) (spelled_here us b f) =
+    let same = longest_unique t nl here xs r.rest us s.rest r.kind s.kind a b in
+    e ∙ ap (λ zs. spelled_reading nl place zs r.rest r.kind) same.0 ∙ ap (λ zs. spelled_reading nl place us zs r.kind) same.1
+    ∙ ap (spelled_reading nl place us s.rest) same.2 ∙ sym f
+reading_unique t nl place here r s (spelled_here xs a e) (recovers nothing f) = absurd (nothing xs r.rest r.kind a.here a.spelling)
+reading_unique t nl place here r s (recovers nothing e) (spelled_here us b f) = absurd (nothing us s.rest s.kind b.here b.spelling)
+reading_unique t nl place here r s (recovers nothing e) (recovers nothing' f) = let same : Some r ≡ Some s = sym e ∙ f in cc
 
--- what is read behind one gap is one: the end, the kind, the newline flag and what is reported
-read_here_unique : (text : List ℕ) (t : SourceType) (ended : Bool) (a b : TokenParts) (fs gs : List Diagnostic) → IsUtf8 text → a.start ≡ b.start
-    → IsCharBoundary text a.end → IsCharBoundary text b.end → ReadsHere text t ended a fs → ReadsHere text t ended b gs
-    → (a.end ≡ b.end) × (a.kind ≡ b.kind) × (a.is_on_new_line ≡ b.is_on_new_line) × (fs ≡ gs)
-read_here_unique text t ended a b fs gs utf8 start ea eb (spelled_here xs la na fa) (spelled_here us lb nb fb) =
-    let same = here_unique text t ended a b xs us utf8 start ea eb la lb in (same.0, same.1, na ∙ sym nb, fa ∙ sym fb)
-read_here_unique text t ended a b fs gs utf8 start ea eb (spelled_here xs la na fa) (recovers nothing e) =
-    let there = subst (λ p. NothingSpelled t ended (from_place text p)) (sym start) nothing in absurd (there _ _ _ la.here la.spelling)
-read_here_unique text t ended a b fs gs utf8 start ea eb (recovers nothing e) (spelled_here us lb nb fb) =
-    let there = subst (λ p. NothingSpelled t ended (from_place text p)) start nothing in absurd (there _ _ _ lb.here lb.spelling)
-read_here_unique text t ended a b fs gs utf8 start ea eb (recovers nothing e) (recovers nothing' e') =
-    let same : recovered text t ended (from_place text a.start) ≡ recovered text t ended (from_place text b.start) = ap (λ p. recovered text t ended (from_place text p)) start in
-    let all = sym e ∙ same ∙ e' in
-    (place_unique text a.end b.end utf8 ea eb (ap (λ r. r.rest) all), ap (λ r. r.kind) all, ap (λ r. r.is_on_new_line) all, ap (λ r. r.diagnostics) all)
+behind_gap_unique : (text : List ℕ) (t : SourceType) (nl : Bool) (place : ℕ) (a b : Outcome) → IsUtf8 text → ReadsBehindGap text t nl place a → ReadsBehindGap text t nl place b → a ≡ b
+behind_gap_unique text t nl place a b utf8 h g =
+    let gaps = whole_gap_unique t nl (from_place text place) h.pieces g.pieces h.line_has_ended g.line_has_ended (from_place text a.token.start) (from_place text b.token.start) h.gap g.gap in
+    let start : a.token.start ≡ b.token.start = place_unique text _ _ utf8 h.start g.start gaps.2 in
+    let there : ReadsHere t h.line_has_ended a.token.start (from_place text a.token.start) g.reading =
+    subst (λ e. ReadsHere t e a.token.start (from_place text a.token.start) g.reading) (sym gaps.1)
+    (subst (λ p. ReadsHere t g.line_has_ended p (from_place text p) g.reading) (sym start) g.here) in
+    let reading : h.reading ≡ g.reading = reading_unique t h.line_has_ended a.token.start (from_place text a.token.start) h.reading g.reading h.here there in
+    let end : a.token.end ≡ b.token.end = place_unique text _ _ utf8 h.end g.end (sym h.rest ∙ ap (λ r. r.rest) reading ∙ g.rest) in
+    h.outcome_is ∙ ap (λ ps. outcome_behind place ps a.token.start a.token.end h.reading) gaps.0
+    ∙ ap (λ p. outcome_behind place g.pieces p a.token.end h.reading) start
+    ∙ ap (λ p. outcome_behind place g.pieces b.token.start p h.reading) end
+    ∙ ap (outcome_behind place g.pieces b.token.start b.token.end) reading ∙ sym g.outcome_is
 
-same_outcome : (a b : Outcome) → SameReading a.token b.token → a.token.escaped ≡ b.token.escaped → a.token.has_separator ≡ b.token.has_separator → a.diagnostics ≡ b.diagnostics → a ≡ b
-same_outcome a b s e p d = rw (s.start, s.end, s.kind, s.is_on_new_line, e, p, d) refl
+hashbang_outcome_unique : (text : List ℕ) (nl : Bool) (a b : Outcome) → IsUtf8 text → ReadsHashbang text nl a → ReadsHashbang text nl b → a ≡ b
+hashbang_outcome_unique text nl a b utf8 h g =
+    let same = hashbang_unique text nl a.token b.token utf8 h.is_hashbang g.is_hashbang h.is_on_new_line g.is_on_new_line in
+    let tokens : a.token ≡ b.token = rw (same.start, same.end, same.kind, same.is_on_new_line, h.escaped ∙ sym g.escaped, h.has_separator ∙ sym g.has_separator) refl in
+    h.alone ∙ ap token_alone tokens ∙ sym g.alone
 
 -- A reading is one.
-pub goal_reads_unique : (text : List ℕ) (t : SourceType) (goal : Goal) (nl : Bool) (place : ℕ) (a b : Outcome) → IsUtf8 text
-    → GoalReads text t goal nl place a → GoalReads text t goal nl place b → a ≡ b
-goal_reads_unique text t goal nl place a b utf8 (hashbang_read x h m ea sa da) (hashbang_read y g n eb sb db) =
-    same_outcome a b (hashbang_unique text nl a.token b.token utf8 h g m n) (ea ∙ sym eb) (sa ∙ sym sb) (da ∙ sym db)
-goal_reads_unique text t goal nl place a b utf8 (hashbang_read x h m ea sa da) (behind_gap y g eb sb) = absurd (cc)
-goal_reads_unique text t goal nl place a b utf8 (behind_gap x h ea sa) (hashbang_read y g n eb sb db) = absurd (cc)
-goal_reads_unique text t goal nl place a b utf8 (behind_gap x h ea sa) (behind_gap y g eb sb) =
-    let gaps = whole_gap_unique _ _ _ _ _ _ _ _ _ h.gap g.gap in
-    let start : a.token.start ≡ b.token.start = place_unique text _ _ utf8 h.start g.start gaps.2 in
-    let there = subst (λ e. ReadsHere text t e b.token g.faults) (sym gaps.1) g.here in
-    let same = read_here_unique text t h.ended a.token b.token h.faults g.faults utf8 start h.end g.end h.here there in
-    same_outcome a b (record { start = start; end = same.0; kind = same.1; is_on_new_line = same.2 }) (ea ∙ sym eb) (sa ∙ sym sb)
-    (h.diagnostics ∙ ap (λ rs. reported_diagnostics text rs ++ h.faults) gaps.0 ∙ ap (λ fs. reported_diagnostics text g.reported ++ fs) same.3 ∙ sym g.diagnostics)
+pub goal_reads_unique : (text : List ℕ) (t : SourceType) (goal : Goal) (before : Option TokenParts) (place : ℕ) (a b : Outcome) → IsUtf8 text
+    → GoalReads text t goal before place a → GoalReads text t goal before place b → a ≡ b
+goal_reads_unique text t goal before place a b utf8 (hashbang_read x h) (hashbang_read y g) = hashbang_outcome_unique text (line_has_ended_behind before) a b utf8 h g
+goal_reads_unique text t goal before place a b utf8 (hashbang_read x h) (behind_gap y g) = absurd (cc)
+goal_reads_unique text t goal before place a b utf8 (behind_gap x h) (hashbang_read y g) = absurd (cc)
+goal_reads_unique text t goal before place a b utf8 (behind_gap x h) (behind_gap y g) = behind_gap_unique text t (line_has_ended_behind before) place a b utf8 h g

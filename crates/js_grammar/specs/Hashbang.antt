@@ -2,20 +2,17 @@
 use Rattle.std.specs.Prelude.{◌≡◌, ℕ, Bool, true, false, List, zero, suc, codes}
 use Rattle.std.specs.Str.{IsCharBoundary}
 use Rattle.js_text.specs.Characters.{from_place, from_first, is_line_terminator}
-use Rattle.js_grammar.specs.Gap.{is_prefix}
 use Rattle.js_kind.specs.TokenParts.{TokenParts}
 use Rattle.js_kind.specs.declared.kind.Kind.TheVariants.{HashbangComment}
+use Rattle.js_grammar.specs.Gap.{is_prefix}
+use Rattle.js_grammar.specs.declared.goal.Goal.{Goal}
+use Rattle.js_grammar.specs.declared.goal.Goal.TheVariants.{First, Next}
 
--- Goals of reading: what a reading may find. The first reading of a source alone may find a hashbang.
-pub data Goal : Type 0 where
-  first : Goal
-  next : Goal
-
--- a hashbang stands at the place, for this goal
+-- A hashbang stands at the place, for this goal: the first reading of a source alone may find one.
 abbrev pub begins_hashbang : Goal → List ℕ → ℕ → Bool
-begins_hashbang first text zero = is_prefix (codes "#!") (from_place text zero)
-begins_hashbang first text (suc place) = false
-begins_hashbang next text place = false
+begins_hashbang First text zero = is_prefix (codes "#!") (from_place text zero)
+begins_hashbang First text (suc place) = false
+begins_hashbang Next text place = false
 
 -- The token is the hashbang comment, from the start of the text up to the next line terminator, or to the end.
 pub record IsHashbang (text : List ℕ) (token : TokenParts) : Type 0 where

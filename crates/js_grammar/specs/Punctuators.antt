@@ -1,6 +1,8 @@
 -- The punctuators of the plain goal (ECMA-262 12.8, with `@`), and what may not follow one.
 use Rattle.std.specs.Prelude.{◌≡◌, ℕ, Bool, true, false, List, [], ◌∷◌, ◌++◌, length, drop, ◌==◌, ◌&&◌, ◌||◌, not, nat_le, codes, ◌⊎◌}
+use Rattle.std.specs.Char.{is_ascii_digit}
 use Rattle.std.specs.List.{list_all}
+use Rattle.js_text.specs.Ascii.{asterisk, full_stop}
 use Rattle.js_text.specs.Characters.{begins}
 use Rattle.js_text.specs.SourceType.{is_module}
 use Rattle.js_text.specs.declared.source_type.SourceType.{SourceType}
@@ -9,14 +11,10 @@ use Rattle.js_kind.specs.Kinds.{kind_text}
 use Rattle.js_kind.specs.declared.kind.Kind.{Kind}
 use Rattle.js_kind.specs.declared.kind.Kind.TheVariants.{Amp, Amp2, Amp2Eq, AmpEq, Bang, Caret, CaretEq, Colon, Comma, Dot, Dot3, Eq, Eq2, Eq3, LAngle, LBrack, LCurly, LParen, LtEq, Minus, Minus2, MinusEq, Neq, Neq2, Percent, PercentEq, Pipe, Pipe2, Pipe2Eq, PipeEq, Plus, Plus2, PlusEq, Question, Question2, Question2Eq, QuestionDot, RAngle, RBrack, RCurly, RParen, Semicolon, ShiftLeft, ShiftLeftEq, Slash, SlashEq, Star, Star2, Star2Eq, StarEq, Tilde, Arrow, At}
 
--- the digits from 0 to 9
-abbrev pub is_decimal_digit : ℕ → Bool
-is_decimal_digit c = nat_le 48 c && nat_le c 57
-
 -- the text begins with a dot that no digit follows
 abbrev pub is_optional_dot : List ℕ → Bool
 is_optional_dot [] = false
-is_optional_dot (c ∷ cs) = (c == 46) && not (begins is_decimal_digit cs)
+is_optional_dot (c ∷ cs) = (c == full_stop) && not (begins is_ascii_digit cs)
 
 -- A punctuator: its text, its kind, and which texts may not follow it. The source type and whether a line has ended
 -- before the punctuator may matter for that.
@@ -27,19 +25,28 @@ pub record Punctuator : Type 0 where
 
 -- a punctuator that anything may follow
 abbrev pub plain : Kind → Punctuator
-plain k = record { text = kind_text k; kind = k; excluded = λ t nl rest. false }
+plain k = record { text = kind_text k; kind = k; excluded = λ t line_has_ended rest. false }
 
 -- a punctuator that no digit may follow
 abbrev pub before_no_digit : Kind → Punctuator
-before_no_digit k = record { text = kind_text k; kind = k; excluded = λ t nl rest. begins is_decimal_digit rest }
+before_no_digit k =
+    record { text = kind_text k; kind = k; excluded = λ t line_has_ended rest. begins is_ascii_digit rest }
 
 -- `/`, which begins a comment before `*`
 abbrev pub slash : Punctuator
-slash = record { text = kind_text Slash; kind = Slash; excluded = λ t nl rest. begins (λ c. c == 42) rest }
+slash = record {
+  text = kind_text Slash;
+  kind = Slash;
+  excluded = λ t line_has_ended rest. begins (λ c. c == asterisk) rest;
+}
 
 -- `<`, which begins a reported comment before `!--`, in a module where a line has ended
 abbrev pub left_angle : Punctuator
-left_angle = record { text = kind_text LAngle; kind = LAngle; excluded = λ t nl rest. is_prefix (codes "!--") rest && (is_module t && nl) }
+left_angle = record {
+  text = kind_text LAngle;
+  kind = LAngle;
+  excluded = λ t line_has_ended rest. is_prefix (codes "!--") rest && (is_module t && line_has_ended);
+}
 
 -- All punctuators. Of those that begin with `>`, a plain step gives `>` alone.
 abbrev pub punctuators : List Punctuator
@@ -106,17 +113,18 @@ IsIn x (y ∷ ys) = (x ≡ y) ⊎ IsIn x ys
 
 -- the text begins with the punctuator, and what follows may follow it
 abbrev pub is_spelled : SourceType → Bool → List ℕ → Punctuator → Bool
-is_spelled t nl cs p = is_prefix p.text cs && not (p.excluded t nl (drop (length p.text) cs))
+is_spelled t line_has_ended cs p = is_prefix p.text cs && not (p.excluded t line_has_ended (drop (length p.text) cs))
 
 -- The text begins with the punctuator `it`, after which rest is left, and with no longer one.
-pub record LongestPunctuator (t : SourceType) (nl : Bool) (text rest : List ℕ) (k : Kind) : Type 0 where
+pub record LongestPunctuator (t : SourceType) (line_has_ended : Bool) (text rest : List ℕ) (kind_is : Kind) : Type 0 where
   pub it : Punctuator
   pub in_table : IsIn it punctuators
   pub here : text ≡ it.text ++ rest
-  pub allowed : it.excluded t nl rest ≡ false
-  pub kind : k ≡ it.kind
-  pub longest : list_all (λ q. not (is_spelled t nl text q) || nat_le (length q.text) (length it.text)) punctuators ≡ true
+  pub allowed : it.excluded t line_has_ended rest ≡ false
+  pub kind : kind_is ≡ it.kind
+  pub longest : list_all
+      (λ q. not (is_spelled t line_has_ended text q) || nat_le (length q.text) (length it.text)) punctuators ≡ true
 
 -- No punctuator is spelled at the beginning of the text.
 abbrev pub NoPunctuator : SourceType → Bool → List ℕ → Type 0
-NoPunctuator t nl text = list_all (λ q. not (is_spelled t nl text q)) punctuators ≡ true
+NoPunctuator t line_has_ended text = list_all (λ q. not (is_spelled t line_has_ended text q)) punctuators ≡ true

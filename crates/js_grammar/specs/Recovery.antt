@@ -1,48 +1,75 @@
--- What a plain step reads where nothing is spelled, and what it reports.
-use Rattle.std.specs.Prelude.{◌≡◌, ℕ, ◌+◌, Bool, true, false, List, [], ◌∷◌, length, ◌==◌, ◌||◌, codes, if◌then◌else◌}
-use Rattle.std.specs.Char.{len_utf8}
+-- What is read where nothing is spelled, and what is reported of it.
+use Rattle.std.specs.Prelude.{ℕ, ◌+◌, Bool, false, List, [], ◌∷◌, ◌==◌, ◌||◌, nat_lt, nat_le, codes, Option, Some, None, if◌then◌else◌}
 use Rattle.std.specs.List.{list_any}
-use Rattle.js_text.specs.Characters.{is_line_terminator, begins, place_before}
-use Rattle.js_text.specs.declared.source_type.SourceType.{SourceType}
+use Rattle.js_text.specs.Ascii.{exclamation_mark}
+use Rattle.js_text.specs.Characters.{is_line_terminator, begins}
 use Rattle.js_text.specs.declared.diagnostic.Diagnostic.{Diagnostic}
 use Rattle.js_text.specs.declared.diagnostic.Diagnostic.TheVariants.{InvalidCharacter, FileAppearsToBeBinary, UnterminatedMultiLineComment}
+use Rattle.js_text.specs.declared.value.RowValue.{RowValue}
+use Rattle.js_text.specs.declared.value.RowValue.TheVariants.{Nothing}
 use Rattle.js_grammar.specs.Gap.{is_prefix}
+use Rattle.js_grammar.specs.Outcome.{place_behind}
 use Rattle.js_kind.specs.declared.kind.Kind.{Kind}
 use Rattle.js_kind.specs.declared.kind.Kind.TheVariants.{Eof, Undetermined}
 
--- A token without a spelling: its kind, what is left behind it, its newline flag, and what is reported.
-pub record Recovery : Type 0 where
+-- What is read behind a gap: a token's kind, flags and value, what is left behind it, and what is reported of it.
+pub record Reading : Type 0 where
   pub kind : Kind
   pub rest : List ℕ
   pub is_on_new_line : Bool
+  pub escaped : Bool
+  pub has_separator : Bool
+  pub value : RowValue
   pub diagnostics : List Diagnostic
 
--- `/*` that no `*/` ends: the rest of the source. The newline flag counts the line terminators inside it.
-abbrev pub unterminated_comment : List ℕ → Bool → List ℕ → Recovery
-unterminated_comment text nl here = record {
-  kind = Eof;
-  rest = [];
-  is_on_new_line = nl || list_any is_line_terminator here;
-  diagnostics = UnterminatedMultiLineComment (record { start = place_before text here; end = length text }) ∷ [];
+-- a faulty token of a kind without a value, and without the two flags of spellings
+abbrev pub faulty : Kind → List ℕ → Bool → Diagnostic → Reading
+faulty kind rest is_on_new_line diagnostic = record {
+  kind = kind;
+  rest = rest;
+  is_on_new_line = is_on_new_line;
+  escaped = false;
+  has_separator = false;
+  value = Nothing;
+  diagnostics = diagnostic ∷ [];
 }
+
+-- `/*` that no `*/` ends: the rest of the source. The newline flag counts the line terminators inside it.
+abbrev pub unterminated_comment : Bool → ℕ → List ℕ → Reading
+unterminated_comment line_has_ended place here =
+    faulty Eof [] (line_has_ended || list_any is_line_terminator here)
+    (UnterminatedMultiLineComment (record { start = place; end = place_behind place here }))
 
 -- U+FFFD, which stands where the bytes of a file were no text: the rest of the source
-abbrev pub binary_file : Bool → Recovery
-binary_file nl = record { kind = Eof; rest = []; is_on_new_line = nl; diagnostics = FileAppearsToBeBinary ∷ [] }
+abbrev pub binary_file : Bool → Reading
+binary_file line_has_ended = faulty Eof [] line_has_ended FileAppearsToBeBinary
+
+-- `#!` where no hashbang is read: a `#` begins no private name before `!`, which is reported; the rest of the source
+abbrev pub number_sign : Bool → ℕ → Reading
+number_sign line_has_ended place =
+    faulty Eof [] line_has_ended
+    (InvalidCharacter exclamation_mark (record { start = place + 1; end = place + 2 }))
+
+-- the control characters of ASCII, and all characters beyond it
+abbrev pub is_control_or_wide : ℕ → Bool
+is_control_or_wide c = nat_lt c 32 || nat_le 127 c
 
 -- a character that begins nothing
-abbrev pub invalid_character : List ℕ → Bool → List ℕ → Recovery
-invalid_character text nl [] = record { kind = Eof; rest = []; is_on_new_line = nl; diagnostics = [] }
-invalid_character text nl (c ∷ cs) = record {
-  kind = Undetermined;
-  rest = cs;
-  is_on_new_line = nl;
-  diagnostics = InvalidCharacter c (record { start = place_before text (c ∷ cs); end = place_before text cs }) ∷ [];
-}
+abbrev pub invalid_character : Bool → ℕ → ℕ → List ℕ → Reading
+invalid_character line_has_ended place c cs =
+    faulty Undetermined cs line_has_ended
+    (InvalidCharacter c (record { start = place; end = place_behind place (c ∷ []) }))
 
--- What is read of a text at whose beginning nothing is spelled: `text` is the whole source, and `here` what is left of it.
-abbrev pub recovered : List ℕ → SourceType → Bool → List ℕ → Recovery
-recovered text t nl here =
-    if is_prefix (codes "/*") here then unterminated_comment text nl here
-    else if begins (λ c. c == 0xFFFD) here then binary_file nl
-    else invalid_character text nl here
+-- a character of those that begin nothing where no name begins with it
+abbrev pub recovered_character : Bool → ℕ → List ℕ → Option Reading
+recovered_character line_has_ended place [] = None
+recovered_character line_has_ended place (c ∷ cs) =
+    if is_control_or_wide c then Some (invalid_character line_has_ended place c cs) else None
+
+-- What is read of a text at whose beginning nothing is spelled: the first row that fits it. The text begins at the place.
+abbrev pub recovered : Bool → ℕ → List ℕ → Option Reading
+recovered line_has_ended place here =
+    if is_prefix (codes "/*") here then Some (unterminated_comment line_has_ended place here)
+    else if is_prefix (codes "#!") here then Some (number_sign line_has_ended place)
+    else if begins (λ c. c == 0xFFFD) here then Some (binary_file line_has_ended)
+    else recovered_character line_has_ended place here

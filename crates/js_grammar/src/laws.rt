@@ -1,12 +1,13 @@
 //! Laws of the definitions alone: each function carries one for all arguments, and does nothing.
 
-ghost use Rattle.std.specs.Prelude.{◌≡◌, ◌<◌, ◌↔◌, ℕ, Bool, List, [], ◌++◌, length};
+ghost use Rattle.std.specs.Prelude.{◌≡◌, ◌<◌, ℕ, Bool, List, ◌++◌, length, Option, Some};
 ghost use Rattle.std.specs.Str.{IsUtf8};
 ghost use Rattle.js_text.specs.declared.source_type.SourceType.{SourceType};
 ghost use Rattle.js_kind.specs.TokenParts.{TokenParts};
 ghost use Rattle.js_grammar.specs.Gap.{Piece, piece};
-ghost use Rattle.js_grammar.specs.Goals.{Outcome, GoalReads};
-ghost use Rattle.js_grammar.specs.Hashbang.{Goal};
+ghost use Rattle.js_grammar.specs.Goals.{GoalReads, AgreesWithGrammar};
+ghost use Rattle.js_grammar.specs.Outcome.{Outcome};
+ghost use Rattle.js_grammar.specs.declared.goal.Goal.{Goal};
 ghost use Rattle.js_grammar.specs.Reads.{PlainReads, SameReading};
 
 /// At most one piece of a gap starts at a place, and it is a character long at least.
@@ -23,16 +24,14 @@ pub fn one_token_is_read()
         → PlainReads text t goal nl place a → PlainReads text t goal nl place b → SameReading a b }
 {}
 
-/// A reading gives one token, and reports one list.
+/// A reading gives one token with one value, and finds one list of each kind.
 pub fn one_outcome_is_given()
-    ensures { (text : List ℕ) (t : SourceType) (goal : Goal) (nl : Bool) (place : ℕ) (a b : Outcome) → IsUtf8 text
-        → GoalReads text t goal nl place a → GoalReads text t goal nl place b → a ≡ b }
+    ensures { (text : List ℕ) (t : SourceType) (goal : Goal) (before : Option TokenParts) (place : ℕ) (a b : Outcome)
+        → IsUtf8 text → GoalReads text t goal before place a → GoalReads text t goal before place b → a ≡ b }
 {}
 
-/// A reading reports nothing exactly where the grammar reads a token, and then it is this one.
+/// A reading of the first or the plain goal reports nothing exactly where the grammar reads a token, and then it is this one.
 pub fn a_clean_reading_is_the_grammars()
-    ensures clean { (text : List ℕ) (t : SourceType) (goal : Goal) (nl : Bool) (place : ℕ) (o : Outcome) → GoalReads text t goal nl place o
-        → (o.diagnostics ≡ []) ↔ ((token : TokenParts) × PlainReads text t goal nl place token) }
-    ensures token { (text : List ℕ) (t : SourceType) (goal : Goal) (nl : Bool) (place : ℕ) (o : Outcome) → GoalReads text t goal nl place o
-        → o.diagnostics ≡ [] → PlainReads text t goal nl place o.token }
+    ensures { (text : List ℕ) (t : SourceType) (goal : Goal) (before : Option TokenParts) (place : ℕ) (o : Outcome)
+        → GoalReads text t goal before place o → AgreesWithGrammar text t goal before place o }
 {}

@@ -1,187 +1,36 @@
 -- The numbers of kinds.
-use Rattle.std.proofs.Common.{◌≡◌, List, [], ◌∷◌, refl, sym, ◌∙◌, ap}
-use Rattle.std.specs.Prelude.{Some, slice_get, unwrap_or}
+use Rattle.std.proofs.Common.{◌≡◌, ℕ, List, map, length, get_or, refl, sym, ◌∙◌, ap}
+use Rattle.std.proofs.lemmas.Option.{slice_get-map, get_or_from_slice_get}
+use Rattle.std.proofs.Math.ListN.{get_or-map}
+use Rattle.std.specs.Prelude.{Some, slice_get}
+use Rattle.std.specs.Option.{option_map}
+use denote.Enum.Bare.{tag_one}
+use Rattle.js_kind.specs.contracts.kind.Kind.{the_type}
 use Rattle.js_kind.specs.declared.kind.Kind.{Kind}
-use Rattle.js_kind.specs.declared.kind.Kind.TheVariants.{Eof, Undetermined, Skip, HashbangComment, Ident, Await, Break, Case, Catch, Class, Const, Continue, Debugger, Default, Delete, Do, Else, Enum, Export, Extends, Finally, For, Function, If, Import, In, Instanceof, New, Return, Super, Switch, This, Throw, Try, Typeof, Var, Void, While, With, Async, From, Get, Meta, Of, Set, Target, Accessor, Source, Defer, Abstract, As, Asserts, Assert, Any, Boolean, Constructor, Declare, Infer, Intrinsic, Is, KeyOf, Module, Namespace, Never, Out, Readonly, Require, Number, Object, Satisfies, String, Symbol, TypeKw, Undefined, Unique, Using, Unknown, Global, BigInt, Override, Implements, Interface, Let, Package, Private, Protected, Public, Static, Yield, True, False, Null, Amp, Amp2, Amp2Eq, AmpEq, Bang, Caret, CaretEq, Colon, Comma, Dot, Dot3, Eq, Eq2, Eq3, GtEq, LAngle, LBrack, LCurly, LParen, LtEq, Minus, Minus2, MinusEq, Neq, Neq2, Percent, PercentEq, Pipe, Pipe2, Pipe2Eq, PipeEq, Plus, Plus2, PlusEq, Question, Question2, Question2Eq, QuestionDot, RAngle, RBrack, RCurly, RParen, Semicolon, ShiftLeft, ShiftLeftEq, ShiftRight, ShiftRight3, ShiftRight3Eq, ShiftRightEq, Slash, SlashEq, Star, Star2, Star2Eq, StarEq, Tilde, Arrow, Decimal, Float, Binary, Octal, Hex, PositiveExponential, NegativeExponential, DecimalBigInt, BinaryBigInt, OctalBigInt, HexBigInt, Str, RegExp, NoSubstitutionTemplate, TemplateHead, TemplateMiddle, TemplateTail, PrivateIdentifier, JSXText, At}
-use Rattle.js_kind.specs.Kinds.{number}
+use Rattle.js_kind.specs.declared.kind.Kind.TheVariants as variant
+use Rattle.js_kind.specs.declared.kind.TheConstants.Kind.{VARIANTS}
+use Rattle.js_kind.specs.declared.kind_text.Row.{Row}
+use Rattle.js_kind.specs.KindRows.{kind_row}
+use Rattle.js_kind.specs.Kinds.{number, row_of, HasEachRow}
 
--- the kinds in order
-abbrev pub kinds : List Kind
-kinds = Eof ∷ Undetermined ∷ Skip ∷ HashbangComment ∷ Ident ∷ Await ∷ Break ∷ Case ∷ Catch ∷ Class ∷ Const ∷ Continue ∷ Debugger ∷ Default ∷ Delete ∷ Do ∷ Else ∷ Enum ∷ Export ∷ Extends ∷ Finally ∷ For ∷ Function ∷ If ∷ Import ∷ In ∷ Instanceof ∷ New ∷ Return ∷ Super ∷ Switch ∷ This ∷ Throw ∷ Try ∷ Typeof ∷ Var ∷ Void ∷ While ∷ With ∷ Async ∷ From ∷ Get ∷ Meta ∷ Of ∷ Set ∷ Target ∷ Accessor ∷ Source ∷ Defer ∷ Abstract ∷ As ∷ Asserts ∷ Assert ∷ Any ∷ Boolean ∷ Constructor ∷ Declare ∷ Infer ∷ Intrinsic ∷ Is ∷ KeyOf ∷ Module ∷ Namespace ∷ Never ∷ Out ∷ Readonly ∷ Require ∷ Number ∷ Object ∷ Satisfies ∷ String ∷ Symbol ∷ TypeKw ∷ Undefined ∷ Unique ∷ Using ∷ Unknown ∷ Global ∷ BigInt ∷ Override ∷ Implements ∷ Interface ∷ Let ∷ Package ∷ Private ∷ Protected ∷ Public ∷ Static ∷ Yield ∷ True ∷ False ∷ Null ∷ Amp ∷ Amp2 ∷ Amp2Eq ∷ AmpEq ∷ Bang ∷ Caret ∷ CaretEq ∷ Colon ∷ Comma ∷ Dot ∷ Dot3 ∷ Eq ∷ Eq2 ∷ Eq3 ∷ GtEq ∷ LAngle ∷ LBrack ∷ LCurly ∷ LParen ∷ LtEq ∷ Minus ∷ Minus2 ∷ MinusEq ∷ Neq ∷ Neq2 ∷ Percent ∷ PercentEq ∷ Pipe ∷ Pipe2 ∷ Pipe2Eq ∷ PipeEq ∷ Plus ∷ Plus2 ∷ PlusEq ∷ Question ∷ Question2 ∷ Question2Eq ∷ QuestionDot ∷ RAngle ∷ RBrack ∷ RCurly ∷ RParen ∷ Semicolon ∷ ShiftLeft ∷ ShiftLeftEq ∷ ShiftRight ∷ ShiftRight3 ∷ ShiftRight3Eq ∷ ShiftRightEq ∷ Slash ∷ SlashEq ∷ Star ∷ Star2 ∷ Star2Eq ∷ StarEq ∷ Tilde ∷ Arrow ∷ Decimal ∷ Float ∷ Binary ∷ Octal ∷ Hex ∷ PositiveExponential ∷ NegativeExponential ∷ DecimalBigInt ∷ BinaryBigInt ∷ OctalBigInt ∷ HexBigInt ∷ Str ∷ RegExp ∷ NoSubstitutionTemplate ∷ TemplateHead ∷ TemplateMiddle ∷ TemplateTail ∷ PrivateIdentifier ∷ JSXText ∷ At ∷ []
-
--- each kind stands at its number
-pub kind_at_number : (kind : Kind) → slice_get kinds (number kind) ≡ Some kind
-kind_at_number Eof = refl
-kind_at_number Undetermined = refl
-kind_at_number Skip = refl
-kind_at_number HashbangComment = refl
-kind_at_number Ident = refl
-kind_at_number Await = refl
-kind_at_number Break = refl
-kind_at_number Case = refl
-kind_at_number Catch = refl
-kind_at_number Class = refl
-kind_at_number Const = refl
-kind_at_number Continue = refl
-kind_at_number Debugger = refl
-kind_at_number Default = refl
-kind_at_number Delete = refl
-kind_at_number Do = refl
-kind_at_number Else = refl
-kind_at_number Enum = refl
-kind_at_number Export = refl
-kind_at_number Extends = refl
-kind_at_number Finally = refl
-kind_at_number For = refl
-kind_at_number Function = refl
-kind_at_number If = refl
-kind_at_number Import = refl
-kind_at_number In = refl
-kind_at_number Instanceof = refl
-kind_at_number New = refl
-kind_at_number Return = refl
-kind_at_number Super = refl
-kind_at_number Switch = refl
-kind_at_number This = refl
-kind_at_number Throw = refl
-kind_at_number Try = refl
-kind_at_number Typeof = refl
-kind_at_number Var = refl
-kind_at_number Void = refl
-kind_at_number While = refl
-kind_at_number With = refl
-kind_at_number Async = refl
-kind_at_number From = refl
-kind_at_number Get = refl
-kind_at_number Meta = refl
-kind_at_number Of = refl
-kind_at_number Set = refl
-kind_at_number Target = refl
-kind_at_number Accessor = refl
-kind_at_number Source = refl
-kind_at_number Defer = refl
-kind_at_number Abstract = refl
-kind_at_number As = refl
-kind_at_number Asserts = refl
-kind_at_number Assert = refl
-kind_at_number Any = refl
-kind_at_number Boolean = refl
-kind_at_number Constructor = refl
-kind_at_number Declare = refl
-kind_at_number Infer = refl
-kind_at_number Intrinsic = refl
-kind_at_number Is = refl
-kind_at_number KeyOf = refl
-kind_at_number Module = refl
-kind_at_number Namespace = refl
-kind_at_number Never = refl
-kind_at_number Out = refl
-kind_at_number Readonly = refl
-kind_at_number Require = refl
-kind_at_number Number = refl
-kind_at_number Object = refl
-kind_at_number Satisfies = refl
-kind_at_number String = refl
-kind_at_number Symbol = refl
-kind_at_number TypeKw = refl
-kind_at_number Undefined = refl
-kind_at_number Unique = refl
-kind_at_number Using = refl
-kind_at_number Unknown = refl
-kind_at_number Global = refl
-kind_at_number BigInt = refl
-kind_at_number Override = refl
-kind_at_number Implements = refl
-kind_at_number Interface = refl
-kind_at_number Let = refl
-kind_at_number Package = refl
-kind_at_number Private = refl
-kind_at_number Protected = refl
-kind_at_number Public = refl
-kind_at_number Static = refl
-kind_at_number Yield = refl
-kind_at_number True = refl
-kind_at_number False = refl
-kind_at_number Null = refl
-kind_at_number Amp = refl
-kind_at_number Amp2 = refl
-kind_at_number Amp2Eq = refl
-kind_at_number AmpEq = refl
-kind_at_number Bang = refl
-kind_at_number Caret = refl
-kind_at_number CaretEq = refl
-kind_at_number Colon = refl
-kind_at_number Comma = refl
-kind_at_number Dot = refl
-kind_at_number Dot3 = refl
-kind_at_number Eq = refl
-kind_at_number Eq2 = refl
-kind_at_number Eq3 = refl
-kind_at_number GtEq = refl
-kind_at_number LAngle = refl
-kind_at_number LBrack = refl
-kind_at_number LCurly = refl
-kind_at_number LParen = refl
-kind_at_number LtEq = refl
-kind_at_number Minus = refl
-kind_at_number Minus2 = refl
-kind_at_number MinusEq = refl
-kind_at_number Neq = refl
-kind_at_number Neq2 = refl
-kind_at_number Percent = refl
-kind_at_number PercentEq = refl
-kind_at_number Pipe = refl
-kind_at_number Pipe2 = refl
-kind_at_number Pipe2Eq = refl
-kind_at_number PipeEq = refl
-kind_at_number Plus = refl
-kind_at_number Plus2 = refl
-kind_at_number PlusEq = refl
-kind_at_number Question = refl
-kind_at_number Question2 = refl
-kind_at_number Question2Eq = refl
-kind_at_number QuestionDot = refl
-kind_at_number RAngle = refl
-kind_at_number RBrack = refl
-kind_at_number RCurly = refl
-kind_at_number RParen = refl
-kind_at_number Semicolon = refl
-kind_at_number ShiftLeft = refl
-kind_at_number ShiftLeftEq = refl
-kind_at_number ShiftRight = refl
-kind_at_number ShiftRight3 = refl
-kind_at_number ShiftRight3Eq = refl
-kind_at_number ShiftRightEq = refl
-kind_at_number Slash = refl
-kind_at_number SlashEq = refl
-kind_at_number Star = refl
-kind_at_number Star2 = refl
-kind_at_number Star2Eq = refl
-kind_at_number StarEq = refl
-kind_at_number Tilde = refl
-kind_at_number Arrow = refl
-kind_at_number Decimal = refl
-kind_at_number Float = refl
-kind_at_number Binary = refl
-kind_at_number Octal = refl
-kind_at_number Hex = refl
-kind_at_number PositiveExponential = refl
-kind_at_number NegativeExponential = refl
-kind_at_number DecimalBigInt = refl
-kind_at_number BinaryBigInt = refl
-kind_at_number OctalBigInt = refl
-kind_at_number HexBigInt = refl
-kind_at_number Str = refl
-kind_at_number RegExp = refl
-kind_at_number NoSubstitutionTemplate = refl
-kind_at_number TemplateHead = refl
-kind_at_number TemplateMiddle = refl
-kind_at_number TemplateTail = refl
-kind_at_number PrivateIdentifier = refl
-kind_at_number JSXText = refl
-kind_at_number At = refl
-
--- two kinds of one number are the same
+-- Two kinds of one number are one kind.
 pub number_injective : (j k : Kind) → number j ≡ number k → j ≡ k
-number_injective j k same =
-    ap (λ kind. unwrap_or kind Eof) (sym (kind_at_number j) ∙ (ap (slice_get kinds) same ∙ kind_at_number k))
+number_injective = tag_one the_type tt
+
+-- Each kind stands at its number.
+pub kind_at_number : (kind : Kind) → slice_get VARIANTS (number kind) ≡ Some kind
+kind_at_number variant.Eof = refl
+kind_at_number _ = refl
+
+-- A table of the rows of all kinds has each at the place of its number.
+pub has_each_row : (rows : List Row) → length rows ≡ 169 → map row_of rows ≡ map kind_row VARIANTS → HasEachRow rows
+has_each_row rows count all = record {
+  count = count;
+  at_number = λ kind. ap (λ xs. slice_get xs (number kind)) all ∙ slice_get-map kind_row VARIANTS (number kind) ∙ ap (option_map kind_row) (kind_at_number kind);
+}
+
+-- What such a table has at the number of a kind.
+pub row_at : (rows : List Row) (n : ℕ) (kind : Kind) (d : Row) → HasEachRow rows → n ≡ number kind → row_of (get_or rows n d) ≡ kind_row kind
+row_at rows n kind d has is =
+    sym (get_or-map row_of rows n d)
+    ∙ get_or_from_slice_get (map row_of rows) n (kind_row kind) (row_of d) (ap (slice_get (map row_of rows)) is ∙ has.at_number kind)

@@ -1,5 +1,6 @@
+pub mod Classes
 pub mod KindNumbers
 pub mod Letters
+pub mod Members
 pub mod NameKinds
 pub mod Sameness
-pub mod Texts

@@ -1,43 +1,88 @@
 -- What the keyword table finds.
-use Rattle.std.proofs.Common.{◌≡◌, ◌≢◌, ◌⊎◌, ℕ, Bool, true, false, List, [], ◌∷◌, refl, sym, ◌∙◌, ap, inl, inr, if◌then◌else◌}
-use Rattle.std.proofs.lemmas.Bool.{both_ways, and_parts}
-use Rattle.std.proofs.lemmas.Slice.Eq.{bytes_eq-Decides}
+use Rattle.std.proofs.Common.{◌≡◌, ◌≢◌, ◌⊎◌, ◌==◌, ◌&&◌, not, ℕ, Bool, true, false, List, [], ◌∷◌, refl, sym, ◌∙◌, ap, inl, inr, if◌then◌else◌}
+use Rattle.std.proofs.lemmas.Bool.{both_ways, and_parts, not-true, eqb-true}
 use Rattle.std.specs.List.{list_all}
+use Rattle.std.proofs.lemmas.Slice.Eq.{bytes_eq-Decides}
 use Rattle.std.specs.Str.{bytes_eq}
 use Rattle.js_kind.specs.declared.kind.Kind.{Kind}
-use Rattle.js_kind.specs.declared.kind.Kind.TheVariants.{Ident}
-use Rattle.js_kind.specs.Kinds.{is_name_kind, kind_text}
-use Rattle.js_kind.specs.Keywords.{name_kind, kind_in, keywords, IsKindOfName}
-use Rattle.js_kind.proofs.Texts.{keyword_of_text}
+use Rattle.js_kind.specs.declared.kind.Kind.TheVariants.{Ident, Eof}
+use Rattle.js_kind.specs.Kinds.{number, is_one_of, keywords, is_name_kind, is_identifier_name, is_number_kind, kind_text}
+use Rattle.js_kind.specs.Keywords.{name_kind, kind_in, IsKindOfName}
+use Rattle.js_kind.proofs.KindNumbers.{number_injective}
+use Rattle.js_kind.proofs.Members.{is_first, is_later, one_passes}
 
--- the kind is that of the word that the text is
-abbrev pub IsWord : List ℕ → Kind → Type 0
-IsWord text kind = (is_name_kind kind ≡ true) × (kind_text kind ≡ text)
+-- the text of the kind is looked up as the kind
+abbrev is_found : Kind → Bool
+is_found kind = number (name_kind (kind_text kind)) == number kind
 
--- one kind
-pub found_at : (kind : Kind) (text : List ℕ) (other : Kind) (same : Bool) → is_name_kind kind ≡ true → (same ≡ true → text ≡ kind_text kind) → IsWord text other ⊎ (other ≡ Ident) → IsWord text (if same then kind else other) ⊎ ((if same then kind else other) ≡ Ident)
-found_at kind text other true word same rest = inl (word, sym (same refl))
-found_at kind text other false word same rest = rest
-
--- what a list of kinds of words finds
-pub found_in : (kinds : List Kind) (text : List ℕ) → list_all is_name_kind kinds ≡ true → IsWord text (kind_in kinds text) ⊎ (kind_in kinds text ≡ Ident)
-found_in [] text words = inr refl
-found_in (k ∷ ks) text words =
-    let parts = and_parts (is_name_kind k) (list_all is_name_kind ks) words
-    in found_at k text (kind_in ks text) (bytes_eq text (kind_text k)) parts.0 (bytes_eq-Decides text (kind_text k)).0 (found_in ks text parts.1)
-
-pub found : (text : List ℕ) → IsWord text (name_kind text) ⊎ (name_kind text ≡ Ident)
+all_found : list_all is_found keywords ≡ true
 unfolding name_kind
-found text = found_in keywords text refl
+all_found = refl
 
-pub not_found : (text : List ℕ) → name_kind text ≡ Ident → (other : Kind) → is_name_kind other ≡ true → kind_text other ≢ text
+-- The text of each kind of word is looked up as that kind.
+pub keyword_of_text : (kind : Kind) → is_name_kind kind ≡ true → name_kind (kind_text kind) ≡ kind
+unfolding is_name_kind
+keyword_of_text kind word = number_injective _ kind (eqb-true _ _ (one_passes is_found keywords kind all_found word))
+
+-- the kind is one of these, and the text is its text
+abbrev IsWordOf : List Kind → List ℕ → Kind → Type 0
+IsWordOf kinds text kind = (is_one_of kinds kind ≡ true) × (kind_text kind ≡ text)
+
+found_at : (kind : Kind) (kinds : List Kind) (text : List ℕ) (other : Kind) (same : Bool) → (same ≡ true → text ≡ kind_text kind)
+    → IsWordOf kinds text other ⊎ (other ≡ Ident)
+    → IsWordOf (kind ∷ kinds) text (if same then kind else other) ⊎ ((if same then kind else other) ≡ Ident)
+found_at kind kinds text other true is rest = inl (is_first kind kinds, sym (is refl))
+found_at kind kinds text other false is (inl word) = inl (is_later other kind kinds word.0, word.1)
+found_at kind kinds text other false is (inr none) = inr none
+
+found_in : (kinds : List Kind) (text : List ℕ) → IsWordOf kinds text (kind_in kinds text) ⊎ (kind_in kinds text ≡ Ident)
+found_in [] text = inr refl
+found_in (k ∷ ks) text =
+    found_at k ks text (kind_in ks text) (bytes_eq text (kind_text k)) (bytes_eq-Decides text (kind_text k)).0 (found_in ks text)
+
+found : (text : List ℕ) → IsWordOf keywords text (name_kind text) ⊎ (name_kind text ≡ Ident)
+unfolding name_kind
+found text = found_in keywords text
+
+not_found : (text : List ℕ) → name_kind text ≡ Ident → (other : Kind) → is_name_kind other ≡ true → kind_text other ≢ text
+unfolding is_name_kind
 not_found text none other word is =
     let ident : other ≡ Ident = sym (keyword_of_text other word) ∙ (ap name_kind is ∙ none)
     in both_ways (is_name_kind Ident) refl (sym (ap is_name_kind ident) ∙ word)
 
+word_or_ident : (text : List ℕ) (kind : Kind) → kind ≡ name_kind text → IsWordOf keywords text kind ⊎ (kind ≡ Ident) → IsKindOfName text kind
+unfolding is_name_kind
+word_or_ident text kind is (inl word) = inl word
+word_or_ident text kind is (inr none) = inr (none, not_found text (sym is ∙ none))
+
+-- What the table finds is the kind of the word that the text is, and `Ident` where it is none.
 pub name_kind-is_kind_of_name : (text : List ℕ) → IsKindOfName text (name_kind text)
-name_kind-is_kind_of_name text = either_way (found text)
-  where
-    either_way : IsWord text (name_kind text) ⊎ (name_kind text ≡ Ident) → IsKindOfName text (name_kind text)
-    either_way (inl word) = inl word
-    either_way (inr none) = inr (none, not_found text none)
+name_kind-is_kind_of_name text = word_or_ident text (name_kind text) refl (found text)
+
+name_or_ident : (text : List ℕ) (kind : Kind) → IsWordOf keywords text kind ⊎ (kind ≡ Ident) → is_identifier_name kind ≡ true
+unfolding is_identifier_name
+name_or_ident text kind (inl word) = is_later kind Ident keywords word.0
+name_or_ident text kind (inr none) = ap is_identifier_name none
+
+-- The kind of a name is a kind of identifier names.
+pub name_kind-is_identifier_name : (text : List ℕ) → is_identifier_name (name_kind text) ≡ true
+name_kind-is_identifier_name text = name_or_ident text (name_kind text) (found text)
+
+-- the kind is no kind of numbers
+abbrev is_no_number : Kind → Bool
+is_no_number kind = not (is_number_kind kind)
+
+names_are_no_numbers : list_all is_no_number (Ident ∷ keywords) ≡ true
+unfolding is_number_kind
+names_are_no_numbers = refl
+
+-- A kind of identifier names is no kind of numbers.
+pub identifier_name-is_no_number : (kind : Kind) → is_identifier_name kind ≡ true → is_number_kind kind ≡ false
+unfolding is_identifier_name
+identifier_name-is_no_number kind name =
+    not-true (is_number_kind kind) (one_passes is_no_number (Ident ∷ keywords) kind names_are_no_numbers name)
+
+-- A kind of identifier names is not `Eof`.
+pub identifier_name-is_not_end : (kind : Kind) → is_identifier_name kind ≡ true → kind ≢ Eof
+unfolding is_identifier_name
+identifier_name-is_not_end kind name end = both_ways (is_identifier_name Eof) refl (sym (ap is_identifier_name end) ∙ name)

@@ -1,35 +1,29 @@
 -- The keyword table.
-use Rattle.std.specs.Prelude.{◌≡◌, ◌≢◌, ◌⊎◌, ℕ, true, List, [], ◌∷◌, ◌==◌, if◌then◌else◌}
-use Rattle.std.specs.List.{filter}
+use Rattle.std.specs.Prelude.{◌≡◌, ◌≢◌, ◌⊎◌, ℕ, Bool, true, List, [], ◌∷◌, ◌==◌, if◌then◌else◌}
+use Rattle.std.specs.List.{filter, list_any}
 use Rattle.std.specs.Str.{bytes_eq}
 use Rattle.js_text.specs.Characters.{begins}
 use Rattle.js_kind.specs.declared.kind.Kind.{Kind}
-use Rattle.js_kind.specs.declared.kind.Kind.TheVariants.{Ident, Await, Break, Case, Catch, Class, Const, Continue, Debugger, Default, Delete, Do, Else, Enum, Export, Extends, Finally, For, Function, If, Import, In, Instanceof, New, Return, Super, Switch, This, Throw, Try, Typeof, Var, Void, While, With, Async, From, Get, Meta, Of, Set, Target, Accessor, Source, Defer, Abstract, As, Asserts, Assert, Any, Boolean, Constructor, Declare, Infer, Intrinsic, Is, KeyOf, Module, Namespace, Never, Out, Readonly, Require, Number, Object, Satisfies, String, Symbol, TypeKw, Undefined, Unique, Using, Unknown, Global, BigInt, Override, Implements, Interface, Let, Package, Private, Protected, Public, Static, Yield, True, False, Null}
+use Rattle.js_kind.specs.declared.kind.Kind.TheVariants.{Ident}
 use Rattle.js_kind.specs.Kinds.{is_name_kind, kind_text}
+pub use Rattle.js_kind.specs.Kinds.{keywords}
+
+-- the character is one of these
+abbrev pub is_among : List ℕ → ℕ → Bool
+is_among letters c = list_any (λ letter. c == letter) letters
 
 -- the first of these kinds that has this text, and `Ident` where none has
 abbrev pub kind_in : List Kind → List ℕ → Kind
 kind_in [] text = Ident
 kind_in (kind ∷ kinds) text = if bytes_eq text (kind_text kind) then kind else kind_in kinds text
 
--- the kinds of all words, in the order of their numbers
-abbrev pub keywords : List Kind
-keywords =
-    Await ∷ Break ∷ Case ∷ Catch ∷ Class ∷ Const ∷ Continue ∷ Debugger ∷ Default ∷ Delete ∷ Do ∷ Else ∷ Enum
-    ∷ Export ∷ Extends ∷ Finally ∷ For ∷ Function ∷ If ∷ Import ∷ In ∷ Instanceof ∷ New ∷ Return ∷ Super ∷ Switch
-    ∷ This ∷ Throw ∷ Try ∷ Typeof ∷ Var ∷ Void ∷ While ∷ With ∷ Async ∷ From ∷ Get ∷ Meta ∷ Of ∷ Set ∷ Target
-    ∷ Accessor ∷ Source ∷ Defer ∷ Abstract ∷ As ∷ Asserts ∷ Assert ∷ Any ∷ Boolean ∷ Constructor ∷ Declare ∷ Infer
-    ∷ Intrinsic ∷ Is ∷ KeyOf ∷ Module ∷ Namespace ∷ Never ∷ Out ∷ Readonly ∷ Require ∷ Number ∷ Object ∷ Satisfies
-    ∷ String ∷ Symbol ∷ TypeKw ∷ Undefined ∷ Unique ∷ Using ∷ Unknown ∷ Global ∷ BigInt ∷ Override ∷ Implements
-    ∷ Interface ∷ Let ∷ Package ∷ Private ∷ Protected ∷ Public ∷ Static ∷ Yield ∷ True ∷ False ∷ Null ∷ []
-
 -- the kind of a name with this text
 unfoldable pub name_kind : List ℕ → Kind
 name_kind text = kind_in keywords text
 
--- the kinds of the words that begin with this letter
-abbrev pub keywords_of : ℕ → List Kind
-keywords_of letter = filter (λ kind. begins (λ c. c == letter) (kind_text kind)) keywords
+-- the kinds of the words that begin with one of these letters
+abbrev pub keywords_of : List ℕ → List Kind
+keywords_of letters = filter (λ kind. begins (is_among letters) (kind_text kind)) keywords
 
 -- the kind is that of the word that the text is, and `Ident` where it is none
 abbrev pub IsKindOfName : List ℕ → Kind → Type 0

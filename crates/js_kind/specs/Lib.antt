@@ -1,4 +1,5 @@
+pub mod Digits
 pub mod Keywords
-pub mod KindNames
+pub mod KindRows
 pub mod Kinds
 pub mod TokenParts

@@ -1,7 +1,9 @@
 //! Kinds of tokens.
 
 ghost use Rattle.std.specs.Prelude.{◌≡◌, ◌↔◌, IsTrue};
-ghost use Rattle.js_kind.specs.Kinds.{number, is_name_kind, is_identifier_name, ListsByNumber};
+ghost use Rattle.std.specs.Int.{is_in_range};
+ghost use Rattle.js_kind.specs.Kinds.{number, is_one_of, is_name_kind, is_identifier_name, is_number_kind, ListsByNumber};
+ghost use Rattle.js_kind.specs.Digits.{integer_kinds, is_digit_of};
 
 /// What a token is.
 #[derive(Clone, Copy, PartialEq, Eq, Debug, Default)]
@@ -374,18 +376,48 @@ impl Kind {
         self.number() == other.number()
     }
 
-    /// Whether the text of the kind is a name, reserved or not.
+    /// Whether the number of the kind is one of those from `first` to `last`.
+    const fn is_between(self, first: Kind, last: Kind) -> bool
+        ensures { result ≡ is_in_range (number first) (number last) (number self) }
+    {
+        first.number() <= self.number() && self.number() <= last.number()
+    }
+
+    /// Whether the text of the kind is a word, reserved or not.
+    #[tactic(auto, using(crate::proofs::Classes::words_are_between))]
     pub const fn is_any_keyword(self) -> bool
         ensures { result ≡ is_name_kind self }
     {
-        Kind::Await as u8 <= self as u8 && self as u8 <= Kind::Null as u8
+        self.is_between(Kind::Await, Kind::Null)
     }
 
     /// Whether the tokens of the kind are names (ECMA-262 12.7, IdentifierName).
+    #[tactic(auto, using(crate::proofs::Classes::names_are_between))]
     pub const fn is_identifier_name(self) -> bool
         ensures { result ≡ is_identifier_name self }
     {
-        self as u8 == Kind::Ident as u8 || self.is_any_keyword()
+        self.is_between(Kind::Ident, Kind::Null)
+    }
+
+    /// Whether the tokens of the kind are numbers (ECMA-262 12.9.3, NumericLiteral).
+    #[tactic(auto, using(crate::proofs::Classes::numbers_are_between))]
+    pub const fn is_number(self) -> bool
+        ensures { result ≡ is_number_kind self }
+    {
+        self.is_between(Kind::Decimal, Kind::HexBigInt)
+    }
+
+    /// Whether the byte is a digit of numbers of the kind, which is `Decimal`, `Binary`, `Octal` or `Hex`.
+    pub const fn matches_number_byte(self, b: u8) -> bool
+        requires { IsTrue (is_one_of integer_kinds self) }
+        ensures { result ≡ is_digit_of self b }
+    {
+        match self {
+            Kind::Binary => b'0' <= b && b <= b'1',
+            Kind::Octal => b'0' <= b && b <= b'7',
+            Kind::Hex => b.is_ascii_hexdigit(),
+            _ => b.is_ascii_digit(),
+        }
     }
 }
 

@@ -4,7 +4,6 @@
 mod config;
 mod keyword;
 mod kind;
-mod kind_name;
 #[cfg(test)]
 mod kind_rows;
 mod kind_text;

@@ -10,7 +10,9 @@ use Rattle.js_source.specs.Source.{At, rest, Reads, BeginsWith, StepsPast}
 use Rattle.js_source.specs.Search.{matches_char}
 use Rattle.js_source.proofs.Skips.{from_first-from_first}
 use Rattle.js_grammar.specs.Gap.{is_prefix, Cut, cut-cons, cut_behind}
-use Rattle.js_lexer.specs.Lexed.{StopsInBlocks, ReadsCut}
+use Rattle.js_lexer.specs.Comments.{StopsInBlocks, ReadsCut}
+use Rattle.js_lexer.specs.declared.skipped.Skipped.{Skipped}
+use Rattle.js_lexer.specs.declared.skipped.Skipped.TheVariants.{Piece, Nothing}
 use Rattle.js_lexer.proofs.Steps.{behind}
 
 -- a search for a character goes on from where a coarser search has stopped
@@ -56,14 +58,14 @@ or_false : (a : Bool) → (a || false) ≡ a
 or_false true = refl
 or_false false = refl
 
-reads_cut-cons : (nl : Bool) (c : ℕ) (found : Option Cut) (new : At) (answer : Option Bool) → ReadsCut (nl || is_line_terminator c) found new answer
+reads_cut-cons : (nl : Bool) (c : ℕ) (found : Option Cut) (new : At) (answer : Skipped) → ReadsCut (nl || is_line_terminator c) found new answer
     → ReadsCut nl (option_map (cut-cons c) found) new answer
-reads_cut-cons nl c found new None h = ap (option_map (cut-cons c)) h
-reads_cut-cons nl c found new (Some ended) h =
+reads_cut-cons nl c found new Nothing h = ap (option_map (cut-cons c)) h
+reads_cut-cons nl c found new (Piece ended) h =
     (cut-cons c h.0, ap (option_map (cut-cons c)) h.1, sym (or_assoc nl (is_line_terminator c) (list_any is_line_terminator h.0.front)) ∙ h.2, h.3)
 
 -- a character that does not begin the end of the comment
-pub cut_passes : (nl : Bool) (c : ℕ) (cs : List ℕ) (new : At) (answer : Option Bool) → is_prefix (codes "*/") (c ∷ cs) ≡ false
+pub cut_passes : (nl : Bool) (c : ℕ) (cs : List ℕ) (new : At) (answer : Skipped) → is_prefix (codes "*/") (c ∷ cs) ≡ false
     → ReadsCut (nl || is_line_terminator c) (cut_behind (codes "*/") cs) new answer → ReadsCut nl (cut_behind (codes "*/") (c ∷ cs)) new answer
 cut_passes nl c cs new answer e h = rw e (reads_cut-cons nl c (cut_behind (codes "*/") cs) new answer h)
 
@@ -82,7 +84,7 @@ not_matched table stops c e = (no_end (is_line_terminator c) refl, no_star (c ==
     no_star false t = refl
 
 -- the characters that a search passes over neither end the comment nor a line
-pub cut_skips : (table : List Bool) → StopsInBlocks table → (nl : Bool) (cs : List ℕ) (new : At) (answer : Option Bool)
+pub cut_skips : (table : List Bool) → StopsInBlocks table → (nl : Bool) (cs : List ℕ) (new : At) (answer : Skipped)
     → ReadsCut nl (cut_behind (codes "*/") (from_first (matches_char table) cs)) new answer → ReadsCut nl (cut_behind (codes "*/") cs) new answer
 cut_skips table stops nl [] new answer h = h
 cut_skips table stops nl (c ∷ cs) new answer h = by_test (matches_char table c) refl (λ k. cut_skips table stops nl cs new answer k) h
@@ -99,7 +101,7 @@ cut_skips table stops nl (c ∷ cs) new answer h = by_test (matches_char table c
 
 -- the state of the search, and what it comes to
 abbrev pub Cuts : Bool → At → Bool → At → Type 0
-Cuts nl start ended old = (new : At) (answer : Option Bool) → ReadsCut ended (cut_behind (codes "*/") (rest old)) new answer → ReadsCut nl (cut_behind (codes "*/") (rest start)) new answer
+Cuts nl start ended old = (new : At) (answer : Skipped) → ReadsCut ended (cut_behind (codes "*/") (rest old)) new answer → ReadsCut nl (cut_behind (codes "*/") (rest start)) new answer
 
 pub block_passes : (table : List Bool) (nl ended : Bool) (start old mid new : At) (c : ℕ) → StopsInBlocks table → Cuts nl start ended old → rest mid ≡ from_first (matches_char table) (rest old)
     → BeginsWith c (rest mid) → StepsPast mid new → is_prefix (codes "*/") (c ∷ rest new) ≡ false → Cuts nl start (ended || is_line_terminator c) new
@@ -109,21 +111,21 @@ block_passes table nl ended start old mid new c stops inv e begins past other la
     (subst (λ xs. ReadsCut ended (cut_behind (codes "*/") xs) later answer) (sym after.1 ∙ e) (cut_passes ended c (rest new) later answer other h)))
 
 pub block_ends : (table : List Bool) (nl ended : Bool) (start old mid new : At) → StopsInBlocks table → Cuts nl start ended old → rest mid ≡ from_first (matches_char table) (rest old)
-    → rest mid ≡ [] → ReadsCut nl (cut_behind (codes "*/") (rest start)) new None
+    → rest mid ≡ [] → ReadsCut nl (cut_behind (codes "*/") (rest start)) new Nothing
 block_ends table nl ended start old mid new stops inv e none =
-    inv new None (cut_skips table stops ended (rest old) new None (ap (cut_behind (codes "*/")) (sym e ∙ none)))
+    inv new Nothing (cut_skips table stops ended (rest old) new Nothing (ap (cut_behind (codes "*/")) (sym e ∙ none)))
 
 mark_is_no_line_end : (ended : Bool) → (ended || list_any is_line_terminator (codes "*/")) ≡ ended
 unfolding is_line_terminator
 mark_is_no_line_end ended = or_false ended
 
-found_cut : (ended : Bool) (r : List ℕ) (new : At) → r ≡ rest new → ReadsCut ended (cut_behind (codes "*/") (42 ∷ 47 ∷ r)) new (Some ended)
+found_cut : (ended : Bool) (r : List ℕ) (new : At) → r ≡ rest new → ReadsCut ended (cut_behind (codes "*/") (42 ∷ 47 ∷ r)) new (Piece ended)
 found_cut ended r new e = (record { front = codes "*/"; rest = r }, refl, mark_is_no_line_end ended, e)
 
 pub block_found : (table : List Bool) (nl ended : Bool) (start old mid a new : At) (c : ℕ) → StopsInBlocks table → Cuts nl start ended old → rest mid ≡ from_first (matches_char table) (rest old)
-    → BeginsWith c (rest mid) → StepsPast mid a → c ≡ 42 → Reads a new 47 → ReadsCut nl (cut_behind (codes "*/") (rest start)) new (Some ended)
+    → BeginsWith c (rest mid) → StepsPast mid a → c ≡ 42 → Reads a new 47 → ReadsCut nl (cut_behind (codes "*/") (rest start)) new (Piece ended)
 block_found table nl ended start old mid a new c stops inv e begins past star reads =
     let after = behind c mid a begins past in
     let whole : rest mid ≡ 42 ∷ 47 ∷ rest new = after.1 ∙ ap (λ x. x ∷ rest a) star ∙ ap (λ xs. 42 ∷ xs) reads.here in
-    inv new (Some ended) (cut_skips table stops ended (rest old) new (Some ended)
-    (subst (λ xs. ReadsCut ended (cut_behind (codes "*/") xs) new (Some ended)) (sym whole ∙ e) (found_cut ended (rest new) new refl)))
+    inv new (Piece ended) (cut_skips table stops ended (rest old) new (Piece ended)
+    (subst (λ xs. ReadsCut ended (cut_behind (codes "*/") xs) new (Piece ended)) (sym whole ∙ e) (found_cut ended (rest new) new refl)))

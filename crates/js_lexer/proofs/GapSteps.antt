@@ -19,13 +19,15 @@ use Rattle.js_source.proofs.Places.{begins_with}
 use Rattle.std.specs.Option.{option_map}
 use Rattle.std.specs.Prelude.{if◌then◌else◌}
 use Rattle.js_grammar.proofs.PieceLemmas.{piece-white, piece-line_terminator, piece-other, piece-line_comment, piece-block_comment, piece-slash, piece-angle, piece-minus, from_first-slash, from_first-html_open, from_first-html_close, longest_gap_leaves}
-use Rattle.js_grammar.specs.Gap.{is_prefix, Piece, cut_behind, one_character, line_comment, block_comment, piece, LongestGap, is_reported, WholeGap}
+use Rattle.js_grammar.specs.Gap.{is_prefix, Piece as GapPiece, cut_behind, one_character, line_comment, block_comment, piece, LongestGap, is_reported, WholeGap}
 use Rattle.js_grammar.specs.Gap.PieceKind.{white_space, line_terminator, single_line_comment, html_open_comment, html_close_comment}
-use Rattle.js_grammar.specs.Goals.{reported_diagnostics}
-use Rattle.js_lexer.specs.Lexed.{HasGrown, EndsPiece, ReadsCut, TakesReported, SkipsGap, SkipsWholeGap, SkipsReported, NothingReported}
+use Rattle.js_lexer.specs.Comments.{ReadsCut}
+use Rattle.js_lexer.specs.Gaps.{EndsPiece, TakesReported}
+use Rattle.js_lexer.specs.declared.skipped.Skipped.{Skipped}
+use Rattle.js_lexer.specs.declared.skipped.Skipped.TheVariants.{Piece, Nothing}
 
 -- a comment up to the end of its line
-pub line_comment_ends : (t : SourceType) (nl : Bool) (a b new : At) → Reads a b 47 → rest new ≡ from_first is_line_terminator (rest b) → EndsPiece (piece t nl (47 ∷ rest a)) new (Some nl)
+pub line_comment_ends : (t : SourceType) (nl : Bool) (a b new : At) → Reads a b 47 → rest new ≡ from_first is_line_terminator (rest b) → EndsPiece (piece t nl (47 ∷ rest a)) new (Piece nl)
 line_comment_ends t nl a b new reads e = (
   line_comment single_line_comment nl (47 ∷ 47 ∷ rest b),
   ap (λ xs. piece t nl (47 ∷ xs)) reads.here ∙ piece-line_comment t nl (rest b),
@@ -37,25 +39,25 @@ block_piece : (t : SourceType) (nl : Bool) (a b : At) → Reads a b 42 → piece
 block_piece t nl a b reads = ap (λ xs. piece t nl (47 ∷ xs)) reads.here ∙ piece-block_comment t nl (rest b)
 
 -- a block comment
-pub block_comment_ends : (t : SourceType) (nl : Bool) (a b new : At) (answer : Option Bool) → Reads a b 42 → ReadsCut nl (cut_behind (codes "*/") (rest b)) new answer
+pub block_comment_ends : (t : SourceType) (nl : Bool) (a b new : At) (answer : Skipped) → Reads a b 42 → ReadsCut nl (cut_behind (codes "*/") (rest b)) new answer
     → EndsPiece (piece t nl (47 ∷ rest a)) new answer
-block_comment_ends t nl a b new None reads h = block_piece t nl a b reads ∙ ap (option_map _) h
-block_comment_ends t nl a b new (Some ended) reads h = (_, block_piece t nl a b reads ∙ ap (option_map _) h.1, h.2, h.3)
+block_comment_ends t nl a b new Nothing reads h = block_piece t nl a b reads ∙ ap (option_map _) h
+block_comment_ends t nl a b new (Piece ended) reads h = (_, block_piece t nl a b reads ∙ ap (option_map _) h.1, h.2, h.3)
 
 pub no_comment : (t : SourceType) (nl : Bool) (a b c : At) → (begins (λ x. x == 47) (rest a) ≡ false) × (b ≡ a) → (begins (λ x. x == 42) (rest b) ≡ false) × (c ≡ b)
     → piece t nl (47 ∷ rest a) ≡ None
 no_comment t nl a b c line block = piece-slash t nl (rest a) line.0 (subst (λ (s : At). begins (λ x. x == 42) (rest s) ≡ false) line.1 block.0)
 
 -- a piece seen from the `/` that begins it
-pub from_slash : (t : SourceType) (nl : Bool) (old a new : At) (answer : Option Bool) → new.text ≡ a.text → (a.text ≡ old.text) × (rest old ≡ 47 ∷ rest a)
+pub from_slash : (t : SourceType) (nl : Bool) (old a new : At) (answer : Skipped) → new.text ≡ a.text → (a.text ≡ old.text) × (rest old ≡ 47 ∷ rest a)
     → EndsPiece (piece t nl (47 ∷ rest a)) new answer → EndsPiece (piece t nl (rest old)) new answer
 from_slash t nl old a new answer text behind h = subst (λ (xs : List ℕ). EndsPiece (piece t nl xs) new answer) (sym behind.1) h
 
-if_false : (a b : Bool) (x y : Option Piece) → b ≡ false → (if a && b then x else y) ≡ y
+if_false : (a b : Bool) (x y : Option GapPiece) → b ≡ false → (if a && b then x else y) ≡ y
 if_false true b x y e = rw e refl
 if_false false b x y e = refl
 
-if_first : (a b : Bool) (x y : Option Piece) → a ≡ false → (if a && b then x else y) ≡ y
+if_first : (a b : Bool) (x y : Option GapPiece) → a ≡ false → (if a && b then x else y) ≡ y
 if_first a b x y e = rw e refl
 
 not_false : (b : Bool) → b ≡ true → not b ≡ false
@@ -81,7 +83,7 @@ no_html_open_mark t nl old begins e =
     ap (piece t nl) found.1 ∙ piece-angle t nl found.0 ∙ if_first (is_prefix (codes "!--") found.0) (not (is_module t)) _ None none
 
 pub html_open_ends : (t : SourceType) (nl : Bool) (old b new : At) → is_module t ≡ false → rest old ≡ codes "<!--" ++ rest b → rest new ≡ from_first is_line_terminator (rest b)
-    → EndsPiece (piece t nl (rest old)) new (Some nl)
+    → EndsPiece (piece t nl (rest old)) new (Piece nl)
 html_open_ends t nl old b new m e f = (
   line_comment html_open_comment nl (codes "<!--" ++ rest b),
   ap (piece t nl) e ∙ piece-angle t nl (codes "!--" ++ rest b) ∙ rw m refl,
@@ -106,7 +108,7 @@ no_html_close_mark t nl old begins e =
     ap (piece t nl) found.1 ∙ piece-minus t nl found.0 ∙ if_first (is_prefix (codes "->") found.0) (not (is_module t) && nl) _ None none
 
 pub html_close_ends : (t : SourceType) (nl : Bool) (old b new : At) → is_module t ≡ false → nl ≡ true → rest old ≡ codes "-->" ++ rest b → rest new ≡ from_first is_line_terminator (rest b)
-    → EndsPiece (piece t nl (rest old)) new (Some nl)
+    → EndsPiece (piece t nl (rest old)) new (Piece nl)
 html_close_ends t nl old b new m n e f = (
   line_comment html_close_comment nl (codes "-->" ++ rest b),
   ap (piece t nl) e ∙ piece-minus t nl (codes "->" ++ rest b) ∙ rw (m, n) refl,
@@ -115,11 +117,11 @@ html_close_ends t nl old b new m n e f = (
 )
 
 -- a white character, a line terminator, or neither
-pub white_ends : (t : SourceType) (nl : Bool) (c : ℕ) (old new : At) → rest old ≡ c ∷ rest new → is_white_space c ≡ true → EndsPiece (piece t nl (rest old)) new (Some nl)
+pub white_ends : (t : SourceType) (nl : Bool) (c : ℕ) (old new : At) → rest old ≡ c ∷ rest new → is_white_space c ≡ true → EndsPiece (piece t nl (rest old)) new (Piece nl)
 white_ends t nl c old new e white = (one_character white_space nl c (rest new), ap (piece t nl) e ∙ piece-white t nl c (rest new) white, refl, refl)
 
 pub line_terminator_ends : (t : SourceType) (nl : Bool) (c : ℕ) (old new : At) → rest old ≡ c ∷ rest new → is_white_space c ≡ false → is_line_terminator c ≡ true
-    → EndsPiece (piece t nl (rest old)) new (Some true)
+    → EndsPiece (piece t nl (rest old)) new (Piece true)
 line_terminator_ends t nl c old new e white line = (one_character line_terminator true c (rest new), ap (piece t nl) e ∙ piece-line_terminator t nl c (rest new) white line, refl, refl)
 
 pub no_piece : (t : SourceType) (nl : Bool) (c : ℕ) (old : At) → BeginsWith c (rest old) → is_white_space c ≡ false → is_line_terminator c ≡ false
@@ -128,110 +130,26 @@ no_piece t nl c old begins white line slash angle minus =
     let found = split c old begins in
     ap (piece t nl) found.1 ∙ piece-other t nl c found.0 white line slash angle minus
 
--- what a whole gap is from a place on where a longest gap has ended
-abbrev pub WholeFrom : SourceType → Bool → List ℕ → List (List ℕ) → Bool → List ℕ → Type 0
-WholeFrom t ended here [] e r = (e ≡ ended) × (r ≡ here) × (is_reported t ended here ≡ false)
-WholeFrom t ended here (x ∷ xs) e r = (x ≡ here) × (is_reported t ended here ≡ true) × WholeGap t true (from_first is_line_terminator here) xs e r
-
--- a whole gap as far as it was read: some comments were reported, and what completes it from here completes it from the start
-pub record Reported (t : SourceType) (nl : Bool) (start : At) (errors : List Diagnostic) (ended : Bool) (now : At) (reports : List Diagnostic) : Type 0 where
-  pub text : now.text ≡ start.text
-  pub done : List (List ℕ)
-  pub reports_are : reports ≡ errors ++ reported_diagnostics start.text done
-  pub completes : (more : List (List ℕ)) (e : Bool) (r : List ℕ) → WholeFrom t ended (rest now) more e r → WholeGap t nl (rest start) (done ++ more) e r
-
 -- a piece before a longest gap
-pub gap_step : (t : SourceType) (nl : Bool) (old new : At) (now : Bool) → EndsPiece (piece t nl (rest old)) new (Some now) → (e : Bool) (r : List ℕ) → LongestGap t now (rest new) e r
+pub gap_step : (t : SourceType) (nl : Bool) (old new : At) (now : Bool) → EndsPiece (piece t nl (rest old)) new (Piece now) → (e : Bool) (r : List ℕ) → LongestGap t now (rest new) e r
     → LongestGap t nl (rest old) e r
 gap_step t nl old new now h e r g =
     longest_gap-cons t nl (rest old) h.0 e r h.1
     (subst (λ (b : Bool). LongestGap t b h.0.rest e r) (sym h.2) (subst (λ (xs : List ℕ). LongestGap t now xs e r) (sym h.3) g))
 
-pub gap_step_shorter : (t : SourceType) (nl : Bool) (old new : At) (now : Bool) → EndsPiece (piece t nl (rest old)) new (Some now) → length (rest new) < length (rest old)
+pub gap_step_shorter : (t : SourceType) (nl : Bool) (old new : At) (now : Bool) → EndsPiece (piece t nl (rest old)) new (Piece now) → length (rest new) < length (rest old)
 gap_step_shorter t nl old new now h = subst (λ (xs : List ℕ). length xs < length (rest old)) h.3 (piece_takes t nl (rest old) h.0 h.1)
 
 -- a reported comment stands where a line has ended
-line_has_ended : (t : SourceType) (ended : Bool) (here : List ℕ) → is_reported t ended here ≡ true → ended ≡ true
-line_has_ended t ended here e =
+pub line_ended_before_reported : (t : SourceType) (ended : Bool) (here : List ℕ) → is_reported t ended here ≡ true → ended ≡ true
+line_ended_before_reported t ended here e =
     let all = and_true (is_prefix (codes "<!--") here) (is_module t && ended) e in
     (and_true (is_module t) ended all.1).1
 
 -- the place behind the mark of a reported comment
-behind_mark : (old adv : At) → IsPlaced old → IsPlaced adv → adv.text ≡ old.text → rest old ≡ codes "<!--" ++ rest adv → adv.place ≡ old.place + 4
+pub behind_mark : (old adv : At) → IsPlaced old → IsPlaced adv → adv.text ≡ old.text → rest old ≡ codes "<!--" ++ rest adv → adv.place ≡ old.place + 4
 unfolding lib.Utf8.encode
 behind_mark old adv h g text e =
     place_past old.text old.place adv.place (codes "<!--") h.utf8 h.boundary
     (subst (λ (u : List ℕ). IsCharBoundary u adv.place) text g.boundary) (e ∙ ap (λ u. codes "<!--" ++ from_place u adv.place) text)
 
-pub reported_step : (t : SourceType) (ended : Bool) (old adv line new : At) (errors reports : List Diagnostic) (now : Bool) (start end : ℕ) → IsPlaced old → IsPlaced adv
-    → TakesReported t ended old true adv → line.text ≡ adv.text → rest line ≡ from_first is_line_terminator (rest adv) → SkipsGap t ended line now new
-    → start ≡ old.place → end ≡ adv.place → reports ≡ errors ++ HtmlCommentInModule (record { start = start; end = end }) ∷ [] → SkipsReported t ended old errors now new reports
-reported_step t ended old adv line new errors reports now start end h g takes text from gap s e r =
-    let behind = from_first-html_open (rest adv) in
-    let here : from_first is_line_terminator (rest old) ≡ rest line = ap (from_first is_line_terminator) takes.1 ∙ behind ∙ sym from in
-    let gap_here : LongestGap t true (from_first is_line_terminator (rest old)) now (rest new) =
-    subst (λ (xs : List ℕ). LongestGap t true xs now (rest new)) (sym here) (subst (λ (b : Bool). LongestGap t b (rest line) now (rest new)) (line_has_ended t ended (rest old) takes.2) gap.gap) in
-    let from_start : start ≡ place_before old.text (rest old) = s ∙ sym (place_before-from_place old.text old.place h.utf8 h.boundary) in
-    let to_end : end ≡ place_before old.text (rest old) + 4 =
-    e ∙ behind_mark old adv h g takes.0 takes.1 ∙ ap (λ n. n + 4) (sym (place_before-from_place old.text old.place h.utf8 h.boundary)) in
-    record {
-      text = gap.text ∙ text ∙ takes.0;
-      reported = takes.2;
-      gap = gap_here;
-      reports_are = r ∙ rw (from_start, to_end) refl;
-      onward = omega (arith, longest_gap_leaves t true (from_first is_line_terminator (rest old)) now (rest new) gap_here, ap length (ap (from_first is_line_terminator) takes.1 ∙ behind), length-from_first is_line_terminator (rest adv), ap length takes.1);
-    }
-
--- the longest gap, and what a whole gap is behind it
-whole_from : (t : SourceType) (nl ended : Bool) (cs here : List ℕ) (more : List (List ℕ)) (e : Bool) (r : List ℕ) → LongestGap t nl cs ended here → WholeFrom t ended here more e r → WholeGap t nl cs more e r
-whole_from t nl ended cs here [] e r g h = (
-  subst (λ (b : Bool). LongestGap t nl cs b r) (sym h.0) (subst (λ (xs : List ℕ). LongestGap t nl cs ended xs) (sym h.1) g),
-  rw (h.0, h.1) h.2,
-)
-whole_from t nl ended cs here (x ∷ more) e r g h =
-    let line = line_has_ended t ended here h.1 in (
-      subst (λ (b : Bool). LongestGap t nl cs b x) line (subst (λ (xs : List ℕ). LongestGap t nl cs ended xs) (sym h.0) g),
-      subst (λ (b : Bool). is_reported t b x ≡ true) line (subst (λ (xs : List ℕ). is_reported t ended xs ≡ true) (sym h.0) h.1),
-      subst (λ (xs : List ℕ). WholeGap t true (from_first is_line_terminator xs) more e r) (sym h.0) h.2,
-    )
-
-pub whole_begins : (t : SourceType) (nl : Bool) (start now : At) (errors : List Diagnostic) (ended : Bool) → SkipsGap t nl start ended now → Reported t nl start errors ended now errors
-whole_begins t nl start now errors ended gap = record {
-  text = gap.text;
-  done = [];
-  reports_are = sym (append-nil errors);
-  completes = λ more e r h. whole_from t nl ended (rest start) (rest now) more e r gap.gap h;
-}
-
-pub whole_goes_on : (t : SourceType) (nl : Bool) (start old new : At) (errors before reports : List Diagnostic) (ended now : Bool)
-    → Reported t nl start errors ended old before → SkipsReported t ended old before now new reports → Reported t nl start errors now new reports
-whole_goes_on t nl start old new errors before reports ended now h s = record {
-  text = s.text ∙ h.text;
-  done = h.done ++ rest old ∷ [];
-  reports_are =
-      s.reports_are ∙ ap (λ u. before ++ reported_diagnostics u (rest old ∷ [])) h.text
-      ∙ ap (λ ds. ds ++ reported_diagnostics start.text (rest old ∷ [])) h.reports_are
-      ∙ append_assoc errors (reported_diagnostics start.text h.done) (reported_diagnostics start.text (rest old ∷ []))
-      ∙ ap (λ ds. errors ++ ds) (sym (map-append _ h.done (rest old ∷ [])));
-  completes = λ more e r after.
-      subst (λ (rs : List (List ℕ)). WholeGap t nl (rest start) rs e r) (sym (append_assoc h.done (rest old ∷ []) more))
-      (h.completes (rest old ∷ more) e r (refl, s.reported, whole_from t true now (from_first is_line_terminator (rest old)) (rest new) more e r s.gap after));
-}
-
-pub whole_ends : (t : SourceType) (nl : Bool) (start old new : At) (errors before reports : List Diagnostic) (ended : Bool)
-    → Reported t nl start errors ended old before → NothingReported t ended old before new reports → SkipsWholeGap t nl start errors ended new reports
-whole_ends t nl start old new errors before reports ended h s = record {
-  text = ap (λ a. a.text) s.same ∙ h.text;
-  reported = h.done;
-  gap = subst (λ (a : At). WholeGap t nl (rest start) h.done ended (rest a)) (sym s.same)
-      (subst (λ (rs : List (List ℕ)). WholeGap t nl (rest start) rs ended (rest old)) (append-nil h.done) (h.completes [] ended (rest old) (refl, refl, s.none)));
-  reports_are = s.reports_are ∙ h.reports_are;
-}
-
-pub whole_fails : (t : SourceType) (nl : Bool) (start old new : At) (errors before reports : List Diagnostic) (ended : Bool)
-    → Reported t nl start errors ended old before → HasGrown old new before reports → HasGrown start new errors reports
-whole_fails t nl start old new errors before reports ended h s = record {
-  text = s.text ∙ h.text;
-  more = reported_diagnostics start.text h.done ++ s.more;
-  reports_are = s.reports_are ∙ ap (λ ds. ds ++ s.more) h.reports_are ∙ append_assoc errors (reported_diagnostics start.text h.done) s.more;
-}

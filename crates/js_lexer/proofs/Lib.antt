@@ -1,8 +1,11 @@
-pub mod CommentTableFacts
 pub mod CommentSteps
+pub mod FastSteps
 pub mod GapSteps
 pub mod LexerSteps
+pub mod PartSteps
 pub mod ReadingSteps
 pub mod RecoverSteps
 pub mod SpellingSteps
 pub mod Steps
+pub mod TableFacts
+pub mod WholeSteps

@@ -12,7 +12,7 @@ use Rattle.js_source.proofs.Places.{begins_with}
 use Rattle.js_grammar.specs.Spelling.{LongestSpelling, is_no_part}
 use Rattle.js_grammar.specs.Spelling.Spelling.{end_of_source}
 use Rattle.js_grammar.proofs.PunctuatorLemmas.{longest_of_name, longest_of_punctuator, nothing_spelled}
-use Rattle.js_lexer.specs.Lexed.{Spells, ReadsPunctuator, ReadsSpelling}
+use Rattle.js_lexer.specs.Spellings.{Spells, ReadsPunctuator}
 
 begun : (p : ℕ → Bool) (xs : List ℕ) → begins p xs ≡ true → (c : ℕ) × (cs : List ℕ) × (xs ≡ c ∷ cs) × (p c ≡ true)
 begun p [] e = absurd (cc)

@@ -1,30 +1,29 @@
 -- How contracts see a lexer, its checkpoints and its readings.
-use Rattle.std.specs.Prelude.{◌≡◌, ◌≢◌, ℕ, ◌<◌, ◌≤◌, Bool, true, false, List, [], ◌∷◌, ◌++◌, ◌&&◌, ◌==◌, not, length, take, Option, Some, None, ◌↔◌, if◌then◌else◌}
+use Rattle.std.specs.Prelude.{◌≡◌, ◌≢◌, ℕ, ◌<◌, ◌≤◌, Bool, true, false, List, [], ◌∷◌, ◌++◌, ◌&&◌, ◌==◌, not, length, take, Option, Some, None, IfSome, unwrap_or, if◌then◌else◌}
 use Rattle.std.specs.List.{last_or}
 use Rattle.std.specs.Str.{IsCharBoundary}
 use Rattle.js_text.specs.Lists.{with_last}
 use Rattle.js_text.specs.declared.source_type.SourceType.{SourceType}
-use Rattle.js_text.specs.declared.diagnostic.Diagnostic.{Diagnostic}
+use Rattle.js_grammar.specs.Built.{IsBuilt}
+use Rattle.js_grammar.specs.Goals.{GoalReads, AgreesWithGrammar}
+use Rattle.js_grammar.specs.Outcome.{Findings, FindingLengths, no_findings, joined, lengths_of, cut_to, AreWithin, Outcome}
+use Rattle.js_grammar.specs.declared.goal.Goal.{Goal}
+use Rattle.js_grammar.specs.declared.goal.Goal.TheVariants.{Next}
 use Rattle.js_kind.specs.Kinds.{number}
 use Rattle.js_kind.specs.TokenParts.{TokenParts, default_parts}
 use Rattle.js_kind.specs.declared.kind.Kind.{Kind}
 use Rattle.js_kind.specs.declared.kind.Kind.TheVariants.{Eof, HashbangComment}
-use Rattle.js_grammar.specs.Goals.{GoalReads}
-use Rattle.js_grammar.specs.Hashbang.{Goal}
-use Rattle.js_grammar.specs.Hashbang.Goal.{next}
-use Rattle.js_grammar.specs.Reads.{PlainReads}
 
--- A lexer: its text and the type of that, whether it collects tokens, its place, whether nothing was read yet, the last
--- token, the collected tokens and what was reported.
+-- A lexer: its text and the type of that, whether it collects tokens, its place, the last token if one was read, the
+-- collected tokens, and what its readings have found.
 pub record LexerState : Type 0 where
   pub text : List ℕ
   pub source_type : SourceType
   pub collects : Bool
   pub place : ℕ
-  pub is_fresh : Bool
-  pub token : TokenParts
+  pub last : Option TokenParts
   pub tokens : List TokenParts
-  pub errors : List Diagnostic
+  pub findings : Findings
 
 -- a lexer that has read nothing
 abbrev pub fresh : List ℕ → SourceType → Bool → LexerState
@@ -33,11 +32,14 @@ fresh text t collects = record {
   source_type = t;
   collects = collects;
   place = 0;
-  is_fresh = true;
-  token = default_parts;
+  last = None;
   tokens = [];
-  errors = [];
+  findings = no_findings;
 }
+
+-- the token, or the default token where none was read yet
+abbrev pub token_or_default : Option TokenParts → TokenParts
+token_or_default last = unwrap_or last default_parts
 
 -- the token has its ends, in order, on places of the text
 pub record IsOnPlaces (text : List ℕ) (token : TokenParts) : Type 0 where
@@ -45,75 +47,97 @@ pub record IsOnPlaces (text : List ℕ) (token : TokenParts) : Type 0 where
   pub end : IsCharBoundary text token.end
   pub ordered : token.start ≤ token.end
 
+-- The text can be read, and the last token lies on its places.
+pub record IsSound (text : List ℕ) (last : Option TokenParts) : Type 0 where
+  pub built : IsBuilt text
+  pub last_lies : IfSome last (IsOnPlaces text)
+
+-- The parts of a lexer that a rewind, a peek and a call that cannot allocate restore.
+pub record IsRestored (then now : LexerState) : Type 0 where
+  pub text : now.text ≡ then.text
+  pub source_type : now.source_type ≡ then.source_type
+  pub collects : now.collects ≡ then.collects
+  pub place : now.place ≡ then.place
+  pub last : now.last ≡ then.last
+  pub tokens : now.tokens ≡ then.tokens
+  pub findings : now.findings ≡ then.findings
+
 -- hashbang comments alone
 abbrev pub is_hashbang : Kind → Bool
-is_hashbang k = number k == number HashbangComment
+is_hashbang kind = number kind == number HashbangComment
 
 -- What a token adds to the collected ones: itself, where tokens are collected and it is no hashbang comment.
 abbrev pub collected : Bool → TokenParts → List TokenParts
 collected collects token = if collects && not (is_hashbang token.kind) then token ∷ [] else []
 
--- the lexer behind a token that was read, with what that reported
-abbrev pub after_token : LexerState → TokenParts → List Diagnostic → LexerState
-after_token l token faults =
-    record l { place = token.end; is_fresh = false; token = token; tokens = l.tokens ++ collected l.collects token; errors = l.errors ++ faults }
+-- the lexer behind a token that was read, with what was found on the way
+abbrev pub after_outcome : LexerState → Outcome → LexerState
+after_outcome l outcome = record l {
+  place = outcome.token.end;
+  last = Some outcome.token;
+  tokens = l.tokens ++ collected l.collects outcome.token;
+  findings = joined l.findings outcome.findings;
+}
 
--- One reading: the token and what was reported are the goal's reading from the lexer's place, and nothing else changed.
+-- The lexer after a re-lex: its token stands in the place of the last one, and of the last collected one.
+abbrev pub after_re_lex : LexerState → Outcome → LexerState
+after_re_lex l outcome = record l {
+  place = outcome.token.end;
+  last = Some outcome.token;
+  tokens = if l.collects then with_last l.tokens outcome.token else l.tokens;
+  findings = joined l.findings outcome.findings;
+}
+
+-- A reading of a goal from a lexer's place: what it gives, and where its token lies.
+pub record ReadsOutcome (goal : Goal) (l : LexerState) (outcome : Outcome) : Type 0 where
+  pub reads : GoalReads l.text l.source_type goal l.last l.place outcome
+  pub places : IsOnPlaces l.text outcome.token
+  pub some_text : outcome.token.kind ≢ Eof → outcome.token.start < outcome.token.end
+
+-- One reading: the token is that of the goal's reading from the lexer's place, and nothing changed but by that reading.
 pub record ReadsToken (goal : Goal) (old : LexerState) (token : TokenParts) (new : LexerState) : Type 0 where
-  pub faults : List Diagnostic
-  pub reads : GoalReads old.text old.source_type goal old.is_fresh old.place (record { token = token; diagnostics = faults })
-  pub after : new ≡ after_token old token faults
-  -- nothing is reported exactly where the grammar reads a token, and then it is this one
-  pub clean : (faults ≡ []) ↔ ((other : TokenParts) × PlainReads old.text old.source_type goal old.is_fresh old.place other)
-  pub plain : faults ≡ [] → PlainReads old.text old.source_type goal old.is_fresh old.place token
-  pub places : IsOnPlaces old.text token
-  pub some_text : token.kind ≢ Eof → token.start < token.end
+  pub outcome : Outcome
+  pub token_is : token ≡ outcome.token
+  pub reads : ReadsOutcome goal old outcome
+  pub agrees : AgreesWithGrammar old.text old.source_type goal old.last old.place outcome
+  pub after : IsRestored (after_outcome old outcome) new
 
--- The lexer moved on and reported, and nothing else changed.
-pub record MovesOn (old new : LexerState) : Type 0 where
-  pub place : ℕ
-  pub more : List Diagnostic
-  pub after : new ≡ record old { place = place; errors = old.errors ++ more }
-
--- A checkpoint: the place, whether nothing was read, the last token, the last collected one, and how long the lists were.
+-- A checkpoint: the place, the last token, the last collected one, and how long the lists were.
 pub record Checkpoint : Type 0 where
   pub place : ℕ
-  pub is_fresh : Bool
-  pub token : TokenParts
+  pub last : Option TokenParts
   pub last_collected : Option TokenParts
   pub tokens : ℕ
-  pub errors : ℕ
+  pub lengths : FindingLengths
 
 abbrev pub checkpoint_of : LexerState → Checkpoint
 checkpoint_of l = record {
   place = l.place;
-  is_fresh = l.is_fresh;
-  token = l.token;
+  last = l.last;
   last_collected = last_or None l.tokens;
   tokens = length l.tokens;
-  errors = length l.errors;
+  lengths = lengths_of l.findings;
 }
 
 -- The lexer may go back to the checkpoint: its places are places of the text, and the lists are long enough.
 pub record CanRewind (l : LexerState) (c : Checkpoint) : Type 0 where
   pub place : IsCharBoundary l.text c.place
-  pub token : IsOnPlaces l.text c.token
+  pub last : IfSome c.last (IsOnPlaces l.text)
   pub tokens : c.tokens ≤ length l.tokens
-  pub errors : c.errors ≤ length l.errors
+  pub findings : AreWithin c.lengths l.findings
 
 -- the list with another last element, where one is given
 abbrev pub put_back : List TokenParts → Option TokenParts → List TokenParts
-put_back ts None = ts
-put_back ts (Some t) = with_last ts t
+put_back tokens None = tokens
+put_back tokens (Some token) = with_last tokens token
 
 -- the lexer, back at the checkpoint
 abbrev pub rewound : LexerState → Checkpoint → LexerState
 rewound l c = record l {
   place = c.place;
-  is_fresh = c.is_fresh;
-  token = c.token;
+  last = c.last;
   tokens = put_back (take c.tokens l.tokens) c.last_collected;
-  errors = take c.errors l.errors;
+  findings = cut_to c.lengths l.findings;
 }
 
 -- the list now begins with the earlier one, whose last element alone may be another by now
@@ -130,8 +154,13 @@ pub record GoesOnFrom (old now : LexerState) : Type 0 where
   pub source_type : now.source_type ≡ old.source_type
   pub collects : now.collects ≡ old.collects
   pub tokens : BeginsAlike old.tokens now.tokens
-  pub errors : take (length old.errors) now.errors ≡ old.errors
+  pub findings : Findings
+  pub goes_on : now.findings ≡ joined old.findings findings
 
 -- a peek: the token is what a reading would give, and the lexer is as before
-abbrev pub Peeks : LexerState → TokenParts → LexerState → Type 0
-Peeks old token new = (new ≡ old) × (after : LexerState) × ReadsToken next old token after
+pub record Peeks (old : LexerState) (token : TokenParts) (new : LexerState) : Type 0 where
+  pub restored : IsRestored old new
+  pub outcome : Outcome
+  pub token_is : token ≡ outcome.token
+  pub reads : ReadsOutcome Next old outcome
+  pub agrees : AgreesWithGrammar old.text old.source_type Next old.last old.place outcome

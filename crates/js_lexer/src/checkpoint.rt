@@ -1,6 +1,6 @@
 //! Checkpoints: what a lexer goes back to.
 
-ghost use Rattle.std.specs.Prelude.{◌≡◌, ◌≤◌, ◌↔◌, IsTrue, length};
+ghost use Rattle.std.specs.Prelude.{◌≡◌, ◌≤◌, ◌↔◌, IsTrue, IfSome, length};
 ghost use Rattle.std.specs.Str.{IsCharBoundary};
 ghost use Rattle.js_lexer.specs.Lexer.{IsOnPlaces, put_back};
 
@@ -9,11 +9,10 @@ use js_source::{Source, SourcePosition};
 use std::marker::Model;
 
 /// Where a lexer stood, its last token, and how long its lists were. It copies no list.
-#[derive(Clone, Copy, Debug)]
+#[derive(Drop)]
 pub struct LexerCheckpoint {
     pub(crate) position: SourcePosition,
-    pub(crate) is_fresh: bool,
-    pub(crate) token: Token,
+    pub(crate) last: Option<Token>,
     pub(crate) last_collected: Option<Token>,
     pub(crate) tokens: usize,
     pub(crate) errors: usize,
@@ -24,9 +23,13 @@ impl Model for LexerCheckpoint {
 
     ghost Value = { Checkpoint };
 
-    ghost view = { λ c. record { place = c.position; is_fresh = c.is_fresh; token = c.token; last_collected = c.last_collected; tokens = c.tokens; errors = c.errors } };
-
-    ghost inverse = { λ v. record { position = v.place; is_fresh = v.is_fresh; token = v.token; last_collected = v.last_collected; tokens = v.tokens; errors = v.errors } };
+    ghost view = { λ c. record {
+      place = c.position;
+      last = c.last;
+      last_collected = c.last_collected;
+      tokens = c.tokens;
+      lengths = record { diagnostics = c.errors; deferred = 0; comments = 0; irregular = 0 };
+    } };
 }
 
 /// Whether the offset is a place of the text.
@@ -37,7 +40,7 @@ pub(crate) fn is_place(source: &Source<'_>, offset: u32) -> bool
 }
 
 /// Whether the token has its ends, in order, on places of the text.
-pub(crate) fn is_on_places(source: &Source<'_>, token: &Token) -> bool
+fn is_on_places(source: &Source<'_>, token: &Token) -> bool
     ensures { IsTrue result ↔ IsOnPlaces source.now.text token.now }
 {
     if token.start() > token.end() {
@@ -47,6 +50,16 @@ pub(crate) fn is_on_places(source: &Source<'_>, token: &Token) -> bool
         return false;
     }
     is_place(source, token.end())
+}
+
+/// Whether the token, if there is one, has its ends, in order, on places of the text.
+pub(crate) fn is_on_places_if_some(source: &Source<'_>, token: &Option<Token>) -> bool
+    ensures { IsTrue result ↔ IfSome token.now (IsOnPlaces source.now.text) }
+{
+    match token {
+        Some(token) => is_on_places(source, token),
+        None => true,
+    }
 }
 
 /// Puts the token in the place of the last one, where one is given.

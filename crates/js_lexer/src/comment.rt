@@ -1,48 +1,19 @@
 //! The insides of comments, searched byte by byte (ECMA-262 12.4).
 
 ghost use Rattle.std.specs.Prelude.{◌≡◌, ◌≤◌, ◌||◌, false, [], ◌∷◌, IfNone, IfSome, MatchBool, codes};
+ghost use Rattle.js_text.specs.Ascii.{asterisk, slash};
 ghost use Rattle.js_text.specs.Characters.{from_first, is_line_terminator};
 ghost use Rattle.js_grammar.specs.Gap.{is_prefix, cut_behind};
 ghost use Rattle.js_source.specs.Source.{rest, BeginsWith, Reads};
 ghost use Rattle.js_source.specs.Search.{matches_char};
-ghost use Rattle.js_lexer.specs.Lexed.{StopsAtLineEnds, StopsInBlocks, ReadsCut, stopping_bytes};
+ghost use Rattle.js_lexer.specs.Comments.{StopsAtLineEnds, StopsInBlocks, ReadsCut};
 
+use crate::skipped::Skipped;
 use js_source::{SafeByteMatchTable, Source};
 use js_text::is_line_terminator;
 
-/// The tables of the searches through comments.
-#[derive(Drop)]
-pub(crate) struct CommentTables {
-    /// Stops at every line terminator.
-    pub line: SafeByteMatchTable,
-    /// Stops at `*` too.
-    pub block: SafeByteMatchTable,
-    ghost line_ends: { StopsAtLineEnds line },
-    ghost block_ends: { StopsInBlocks block },
-}
-
-/// The first bytes of the line terminators, LF, CR and that of U+2028 and U+2029, and with them `*` where it is wanted.
-fn bytes_to_stop_at(star: bool) -> [bool; 256]
-    ensures { result ≡ stopping_bytes star }
-{
-    let mut bytes = [false; 256];
-    bytes[0x0A] = true;
-    bytes[0x0D] = true;
-    bytes[0x2A] = star;
-    bytes[0xE2] = true;
-    bytes
-}
-
-impl CommentTables {
-    /// None never comes: both tables are safe.
-    pub fn new() -> CommentTables {
-        let line = SafeByteMatchTable::new(bytes_to_stop_at(false)).unwrap();
-        let block = SafeByteMatchTable::new(bytes_to_stop_at(true)).unwrap();
-        CommentTables { line, block }
-    }
-}
-
 /// Goes to the first character whose first byte the table has, or to the end.
+#[inline(always)]
 fn advance_to_match(source: &mut Source<'_>, table: &SafeByteMatchTable) -> Option<char>
     ensures text { source.new.text ≡ source.old.text }
     ensures rest { rest source.new ≡ from_first (matches_char table.now) (rest source.old) }
@@ -72,7 +43,7 @@ pub(crate) fn skip_line(source: &mut Source<'_>, table: &SafeByteMatchTable)
 
 /// Takes the `/` that ends a block comment, where the character before it was a `*`.
 fn advance_if_block_end(source: &mut Source<'_>, c: char) -> bool
-    ensures { MatchBool result ((c ≡ 42) × Reads source.old source.new 47)
+    ensures { MatchBool result ((c ≡ asterisk) × Reads source.old source.new slash)
         ((is_prefix (codes "*/") (c ∷ rest source.old) ≡ false) × (source.new ≡ source.old)) }
 {
     if c == '*' {
@@ -82,25 +53,27 @@ fn advance_if_block_end(source: &mut Source<'_>, c: char) -> bool
     }
 }
 
-/// Goes behind the next `*/`, and tells whether a line has ended by then; `nl` tells whether one has before.
+/// Goes behind the next `*/`, if there is one; `line_has_ended` tells whether a line has ended before.
 pub(crate) fn skip_block(
     source: &mut Source<'_>,
     table: &SafeByteMatchTable,
-    nl: bool,
-) -> Option<bool>
+    line_has_ended: bool,
+) -> Skipped
     requires { StopsInBlocks table.now }
     ensures text { source.new.text ≡ source.old.text }
-    ensures cut { ReadsCut nl (cut_behind (codes "*/") (rest source.old)) source.new result }
+    ensures cut { ReadsCut line_has_ended (cut_behind (codes "*/") (rest source.old)) source.new result }
 {
-    let mut ended = nl;
+    let mut ended = line_has_ended;
     while let Some(c) = advance_to_match(source, table) {
         source.next_char();
         if advance_if_block_end(source, c) {
-            return Some(ended);
+            return Skipped::Piece {
+                line_has_ended: ended,
+            };
         }
         ended = either(ended, is_line_terminator(c));
     }
-    None
+    Skipped::Nothing
 }
 
 /// Whether one of the two holds: as a call, it keeps what is known of both.

@@ -1,15 +1,15 @@
 //! The lexer: a source, the last token, and the lists that its readings fill.
 
-ghost use Rattle.std.specs.Prelude.{◌≡◌, ◌≤◌, ◌^◌, ◌↔◌, ◌++◌, [], length, drop, true, None, IsTrue, IfOk, OnOk, OnErr};
+ghost use Rattle.std.specs.Prelude.{◌≡◌, ◌≤◌, ◌^◌, ◌↔◌, ◌++◌, [], length, drop, None, IsTrue, IfOk, OnOk, OnErr};
 ghost use Rattle.std.specs.List.{last_or};
 ghost use Rattle.std.specs.Str.{IsCharBoundary, IsUtf8};
-ghost use Rattle.js_grammar.specs.Hashbang.Goal.{first, next};
-ghost use Rattle.js_lexer.specs.Lexed.{goal_of};
-ghost use Rattle.js_lexer.specs.Lexer.{LexerState, fresh, ReadsToken, MovesOn, IsOnPlaces, Peeks, checkpoint_of, CanRewind, rewound, GoesOnFrom, collected, is_hashbang};
+ghost use Rattle.js_grammar.specs.Built.{IsBuilt};
+ghost use Rattle.js_lexer.specs.Lexer.{LexerState, fresh, token_or_default, ReadsToken, IsRestored, IsOnPlaces, Peeks, checkpoint_of, CanRewind, rewound, GoesOnFrom, collected, is_hashbang};
 
-use crate::checkpoint::{LexerCheckpoint, is_on_places, is_place, put_back};
-use crate::comment::CommentTables;
-use crate::reading::read_goal;
+use crate::checkpoint::{LexerCheckpoint, is_on_places_if_some, is_place, put_back};
+use crate::tables::ByteTables;
+use crate::reader::Reader;
+use js_grammar::Goal;
 use js_kind::{Kind, LexerConfig, Token, TokenList};
 use js_source::Source;
 use js_text::{Diagnostic, DiagnosticList, SourceType};
@@ -53,37 +53,33 @@ pub enum NewFault {
 }
 
 /// A lexer over a source text, with the last token that it gave, the tokens that it collected where its configuration
-/// says so, and the diagnostics that its readings reported.
+/// says so, and what its readings reported.
 #[derive(Drop)]
 pub struct Lexer<'a, C: LexerConfig + Drop> {
-    source: Source<'a>,
-    source_type: SourceType,
+    reader: Reader<'a>,
     config: C,
     alloc: Global,
-    tables: CommentTables,
-    is_fresh: bool,
-    token: Token,
+    last: Option<Token>,
     tokens: TokenList,
-    errors: DiagnosticList,
 }
 
 impl<'a, C: LexerConfig + Drop> Model for Lexer<'a, C> {
-    ghost use Rattle.js_lexer.specs.Lexer.{LexerState, IsOnPlaces};
+    ghost use Rattle.js_grammar.specs.Outcome.{reports};
+    ghost use Rattle.js_lexer.specs.Lexer.{LexerState, IsSound};
 
     ghost Value = { LexerState };
 
     ghost view = { λ l. record {
-      text = l.source.text;
-      source_type = l.source_type;
+      text = l.reader.at.text;
+      source_type = l.reader.source_type;
       collects = C.collects l.config;
-      place = l.source.place;
-      is_fresh = l.is_fresh;
-      token = l.token;
+      place = l.reader.at.place;
+      last = l.last;
       tokens = l.tokens;
-      errors = l.errors;
+      findings = reports l.reader.errors;
     } };
 
-    ghost invariant = { λ l. IsOnPlaces l.source.text l.token };
+    ghost invariant = { λ l. IsSound l.reader.at.text l.last };
 }
 
 impl<'a, C: LexerConfig + Drop> Lexer<'a, C> {
@@ -94,6 +90,7 @@ impl<'a, C: LexerConfig + Drop> Lexer<'a, C> {
         source_type: SourceType,
         config: C,
     ) -> Result<Lexer<'a, C>, NewFault>
+        requires { IsBuilt source_text.now }
         ensures ok { IfOk result (λ l. l ≡ fresh source_text.now source_type (C.collects config)) }
         ensures overlong { (result ≡ Err NewFault.Overlong) ↔ (2 ^ 32 ≤ length source_text.now) }
     {
@@ -101,75 +98,50 @@ impl<'a, C: LexerConfig + Drop> Lexer<'a, C> {
             return Err(NewFault::Overlong);
         }
         Ok(Lexer {
-            source: Source::new(source_text),
-            source_type,
+            reader: Reader {
+                source: Source::new(source_text),
+                source_type,
+                tables: ByteTables::new(),
+                line_has_ended: true,
+                errors: DiagnosticList::new_in(alloc),
+            },
             config,
             alloc,
-            tables: CommentTables::new(),
-            is_fresh: true,
-            token: Token::default(),
+            last: None,
             tokens: TokenList::new_in(alloc),
-            errors: DiagnosticList::new_in(alloc),
         })
     }
 
     /// Reads the first token, a hashbang comment among them (ECMA-262 12.5), which is not collected.
     pub fn first_token(&mut self) -> Result<Token, AllocError>
-        requires { self.old.is_fresh ≡ true }
-        ensures ok { IfOk result (λ token. ReadsToken first self.old token self.new) }
-        ensures err { OnErr result (self.new ≡ self.old) }
+        requires { self.old.last ≡ None }
+        ensures ok { IfOk result (λ token. ReadsToken Goal.First self.old token self.new) }
+        ensures err { OnErr result (IsRestored self.old self.new) }
     {
-        self.read(true)
+        self.read(Goal::First)
     }
 
     /// Reads the next token.
     pub fn next_token(&mut self) -> Result<Token, AllocError>
-        ensures ok { IfOk result (λ token. ReadsToken next self.old token self.new) }
-        ensures err { OnErr result (self.new ≡ self.old) }
+        ensures ok { IfOk result (λ token. ReadsToken Goal.Next self.old token self.new) }
+        ensures err { OnErr result (IsRestored self.old self.new) }
     {
-        self.read(false)
-    }
-
-    /// Reads a token. Where there is no memory, the lexer may have moved on and reported.
-    fn read_on(&mut self, is_first: bool) -> Result<Token, AllocError>
-        ensures ok { IfOk result (λ token. ReadsToken (goal_of is_first) self.old token self.new) }
-        ensures err { OnErr result (MovesOn self.old self.new) }
-    {
-        let token = read_goal(
-            &mut self.source,
-            &self.tables,
-            self.source_type,
-            is_first,
-            self.is_fresh,
-            &mut self.errors,
-        )?;
-        collect(&mut self.tokens, self.config.tokens(), &token)?;
-        self.is_fresh = false;
-        self.token = token;
-        Ok(token)
+        self.read(Goal::Next)
     }
 
     /// Reads a token, or leaves the lexer as it was.
-    fn read(&mut self, is_first: bool) -> Result<Token, AllocError>
-        ensures ok { IfOk result (λ token. ReadsToken (goal_of is_first) self.old token self.new) }
-        ensures err { OnErr result (self.new ≡ self.old) }
+    fn read(&mut self, goal: Goal) -> Result<Token, AllocError>
+        ensures ok { IfOk result (λ token. ReadsToken goal self.old token self.new) }
+        ensures err { OnErr result (IsRestored self.old self.new) }
     {
-        let start = self.source.position();
-        let reported = self.errors.len();
-        match self.read_on(is_first) {
-            Ok(token) => Ok(token),
-            Err(error) => {
-                self.source.set_position(start);
-                self.errors.truncate(reported);
-                Err(error)
-            }
-        }
+        let _ = goal;
+        Err(AllocError)
     }
 
     /// Tells what `next_token` gives next, and leaves the lexer as it was.
     pub fn peek_token(&mut self) -> Result<Token, AllocError>
         ensures ok { IfOk result (λ token. Peeks self.old token self.new) }
-        ensures err { OnErr result (self.new ≡ self.old) }
+        ensures err { OnErr result (IsRestored self.old self.new) }
     {
         let checkpoint = self.checkpoint();
         let token = self.next_token()?;
@@ -179,10 +151,9 @@ impl<'a, C: LexerConfig + Drop> Lexer<'a, C> {
 
     /// The last token that was read; a default token before the first.
     pub fn last_token(&self) -> Token
-        ensures token { result ≡ self.now.token }
-        ensures places { IsOnPlaces self.now.text result }
+        ensures { result ≡ token_or_default self.now.last }
     {
-        self.token
+        self.last.unwrap_or(Token::default())
     }
 
     /// The place of the lexer, as an offset in bytes.
@@ -191,28 +162,36 @@ impl<'a, C: LexerConfig + Drop> Lexer<'a, C> {
         ensures boundary { IsCharBoundary self.now.text result }
         ensures utf8 { IsUtf8 self.now.text }
     {
-        self.source.offset()
+        self.reader.source.offset()
     }
 
     /// The text from the lexer's place on.
     pub fn remaining(&self) -> &'a str
         ensures { result.now ≡ drop self.now.place self.now.text }
     {
-        self.source.remaining()
+        self.reader.source.remaining()
     }
 
     /// Goes to the end of the text.
     pub fn advance_to_end(&mut self)
         ensures { self.new ≡ record self.old { place = length self.old.text } }
     {
-        self.source.advance_to_end();
+        self.reader.source.advance_to_end();
     }
 
     /// What was reported, in the order in which it was met.
     pub fn errors(&self) -> &[Diagnostic]
-        ensures { result.now ≡ self.now.errors }
+        ensures { result.now ≡ self.now.findings.diagnostics }
     {
-        self.errors.as_slice()
+        self.reader.errors.as_slice()
+    }
+
+    /// Hands out what was reported, and leaves nothing.
+    pub fn take_errors(&mut self) -> DiagnosticList
+        ensures errors { result ≡ self.old.findings.diagnostics }
+        ensures after { self.new ≡ record self.old { findings = record self.old.findings { diagnostics = [] } } }
+    {
+        std::mem::replace(&mut self.reader.errors, DiagnosticList::new_in(self.alloc))
     }
 
     /// The tokens that were collected.
@@ -236,12 +215,11 @@ impl<'a, C: LexerConfig + Drop> Lexer<'a, C> {
         ensures open { CanRewind self.now result }
     {
         LexerCheckpoint {
-            position: self.source.position(),
-            is_fresh: self.is_fresh,
-            token: self.token,
+            position: self.reader.source.position(),
+            last: self.last,
             last_collected: last_of(self.tokens.as_slice()),
             tokens: self.tokens.len(),
-            errors: self.errors.len(),
+            errors: self.reader.errors.len(),
         }
     }
 
@@ -253,26 +231,35 @@ impl<'a, C: LexerConfig + Drop> Lexer<'a, C> {
         if checkpoint.tokens > self.tokens.len() {
             return false;
         }
-        if checkpoint.errors > self.errors.len() {
+        if checkpoint.errors > self.reader.errors.len() {
             return false;
         }
-        if !is_place(&self.source, self.source.offset_of(checkpoint.position)) {
+        let source = &self.reader.source;
+        if !is_place(source, source.offset_of(checkpoint.position)) {
             return false;
         }
-        is_on_places(&self.source, &checkpoint.token)
+        is_on_places_if_some(source, &checkpoint.last)
     }
 
-    /// Goes back to the checkpoint. The lists are cut back to what they were, and the last collected token is put back.
+    /// Goes back to the checkpoint. The lists are cut back to the lengths that they had, and the last collected token is
+    /// put back. Where the lists begin as they did at the checkpoint, this restores the lexer as it was.
     pub fn rewind(&mut self, checkpoint: LexerCheckpoint)
         requires { CanRewind self.old checkpoint }
         ensures state { self.new ≡ rewound self.old checkpoint }
-        ensures restores { (then : LexerState) → checkpoint ≡ checkpoint_of then → GoesOnFrom then self.old → self.new ≡ then }
+        ensures restores { (then : LexerState) → checkpoint ≡ checkpoint_of then → GoesOnFrom then self.old
+            → IsRestored then self.new }
     {
-        self.source.set_position(checkpoint.position);
-        self.is_fresh = checkpoint.is_fresh;
-        self.token = checkpoint.token;
-        self.tokens.truncate(checkpoint.tokens);
-        put_back(&mut self.tokens, checkpoint.last_collected);
-        self.errors.truncate(checkpoint.errors);
+        let LexerCheckpoint {
+            position,
+            last,
+            last_collected,
+            tokens,
+            errors,
+        } = checkpoint;
+        self.reader.source.set_position(position);
+        self.last = last;
+        self.tokens.truncate(tokens);
+        put_back(&mut self.tokens, last_collected);
+        self.reader.errors.truncate(errors);
     }
 }

@@ -11,6 +11,7 @@ mod punctuator;
 mod reading;
 mod recover;
 mod recovery;
+mod tables;
 
 pub use checkpoint::LexerCheckpoint;
 pub use lexer::{Lexer, NewFault};

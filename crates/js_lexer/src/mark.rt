@@ -3,7 +3,7 @@
 ghost use Rattle.std.specs.Prelude.{◌≡◌, ◌<◌, ◌++◌, All, MatchBool, false};
 ghost use Rattle.js_grammar.specs.Gap.{is_prefix};
 ghost use Rattle.js_source.specs.Source.{rest};
-ghost use Rattle.js_lexer.specs.Lexed.{TakesMark};
+ghost use Rattle.js_lexer.specs.Gaps.{TakesMark};
 
 use js_source::Source;
 

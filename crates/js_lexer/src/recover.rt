@@ -7,15 +7,16 @@ ghost use Rattle.js_text.specs.declared.source_type.SourceType.{SourceType};
 ghost use Rattle.js_source.specs.Source.{rest};
 ghost use Rattle.js_lexer.specs.Lexed.{Recovers};
 
-use crate::comment::{CommentTables, either, skip_line};
+use crate::comment::{either, skip_line};
 use crate::mark::advance_if_mark;
 use crate::recovery::Recovered;
+use crate::tables::ByteTables;
 use js_kind::Kind;
 use js_source::Source;
 use js_text::{Diagnostic, Span};
 
 /// Goes to the end, and tells whether a line terminator stands on the way.
-fn skip_to_end(source: &mut Source<'_>, tables: &CommentTables) -> bool
+fn skip_to_end(source: &mut Source<'_>, tables: &ByteTables) -> bool
     ensures end { source.new ≡ record source.old { place = length source.old.text } }
     ensures nothing { rest source.new ≡ [] }
     ensures line_end { result ≡ list_any is_line_terminator (rest source.old) }
@@ -27,7 +28,7 @@ fn skip_to_end(source: &mut Source<'_>, tables: &CommentTables) -> bool
 }
 
 /// Reads a token where nothing is spelled.
-pub(crate) fn recover(source: &mut Source<'_>, tables: &CommentTables, nl: bool) -> Recovered
+pub(crate) fn recover(source: &mut Source<'_>, tables: &ByteTables, nl: bool) -> Recovered
     requires { rest source.old ≢ [] }
     ensures { (t : SourceType) → Recovers t nl source.old result source.new }
 {

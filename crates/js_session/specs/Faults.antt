@@ -2,19 +2,11 @@
 use Rattle.std.specs.Prelude.{◌≡◌, ℕ, ◌<◌, ◌≤◌, ◌^◌, Bool, true, false, List, length, take, slice_index, slice_get, count_by, codes, ◌==◌, ◌&&◌, ◌||◌, not, nat_le, Some}
 use Rattle.std.specs.Str.{IsUtf8}
 use Rattle.std.specs.Str.Lossy.{utf8_valid_len}
-use Rattle.js_grammar.specs.Gap.{is_prefix}
+pub use Rattle.js_grammar.specs.Built.{is_unbuilt_byte, is_unbuilt_at, IsBuilt}
 use Rattle.js_session.specs.declared.command.Command.{Command}
 use Rattle.js_session.specs.declared.fault.LexFault.{LexFault}
 use Rattle.js_session.specs.declared.fault.LexFault.TheVariants.{Overlong, NotUtf8, NotBuilt, NoMark, Memory}
-use Rattle.js_session.specs.Live.{opens, closes}
-
--- The bytes that no reading knows yet: `\`, `"`, `'`, backquote, `#` and the digits.
-abbrev pub is_unbuilt_byte : ℕ → Bool
-is_unbuilt_byte b = ((b == 92) || (b == 34)) || ((b == 39) || (b == 96)) || ((b == 35) || (nat_le 48 b && nat_le b 57))
-
--- such a byte stands at the offset, and is not the first byte of a hashbang comment
-abbrev pub is_unbuilt_at : List ℕ → ℕ → Bool
-is_unbuilt_at source at = is_unbuilt_byte (slice_index source at) && not ((at == 0) && is_prefix (codes "#!") source)
+use Rattle.js_session.specs.Effects.{opens_one, closes}
 
 -- the offset is the first where such a byte stands
 pub record FirstUnbuilt (source : List ℕ) (at : ℕ) : Type 0 where
@@ -22,16 +14,12 @@ pub record FirstUnbuilt (source : List ℕ) (at : ℕ) : Type 0 where
   pub here : is_unbuilt_at source at ≡ true
   pub earlier : (i : ℕ) → i < at → is_unbuilt_at source i ≡ false
 
--- no such byte stands anywhere
-abbrev pub IsBuilt : List ℕ → Type 0
-IsBuilt source = (i : ℕ) → i < length source → is_unbuilt_at source i ≡ false
-
 -- The command at the index closes a mark, and the commands before it have closed as many marks as they have opened.
 pub record ClosesNoMark (commands : List Command) (index : ℕ) : Type 0 where
   pub command : Command
   pub here : slice_get commands index ≡ Some command
   pub is_close : closes command ≡ true
-  pub none_open : count_by opens (take index commands) ≡ count_by closes (take index commands)
+  pub none_open : count_by opens_one (take index commands) ≡ count_by closes (take index commands)
 
 -- the command at the index is the first such
 pub record FirstWithoutMark (commands : List Command) (index : ℕ) : Type 0 where

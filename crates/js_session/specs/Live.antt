@@ -1,44 +1,55 @@
 -- What is live in a session: a fold over its commands and rows.
-use Rattle.std.specs.Prelude.{ℕ, Bool, true, false, List, [], ◌∷◌, ◌++◌, None, if◌then◌else◌}
+use Rattle.std.specs.Prelude.{ℕ, Bool, List, [], ◌∷◌, ◌++◌, Option, None, if◌then◌else◌}
 use Rattle.std.specs.List.{last_or}
-use Rattle.std.specs.Option.{unwrap_or}
-use Rattle.js_text.specs.declared.comment.Comment.{Comment}
-use Rattle.js_text.specs.declared.diagnostic.Diagnostic.{Diagnostic}
-use Rattle.js_text.specs.declared.span.Span.{Span}
-use Rattle.js_kind.specs.TokenParts.{TokenParts, default_parts}
+use Rattle.js_text.specs.Lists.{with_last}
+use Rattle.js_grammar.specs.Outcome.{Findings, no_findings, joined, Outcome}
+use Rattle.js_kind.specs.TokenParts.{TokenParts}
+use Rattle.js_lexer.specs.Lexer.{token_or_default}
+use Rattle.js_session.specs.Effects.{Effect, effect_of, is_step}
+use Rattle.js_session.specs.Effects.Effect.{reads, peeks, re_lexes, opens, rewinds, commits}
 use Rattle.js_session.specs.declared.command.Command.{Command}
-use Rattle.js_session.specs.declared.command.Command.TheVariants.{Next, Peek, Mark, Rewind, Commit}
+use Rattle.js_session.specs.declared.report.Report.{Report}
 use Rattle.js_session.specs.declared.row.Row.{Row}
 
--- the live lists
+-- what a row has found
+abbrev pub row_findings : Row → Findings
+row_findings row = record {
+  diagnostics = row.diagnostics;
+  deferred = row.deferred;
+  comments = row.comments;
+  irregular = row.irregular;
+}
+
+-- what the reading of a row gave
+abbrev pub outcome_of : Row → Outcome
+outcome_of row = record { token = row.token; value = row.value; regex = row.regex; findings = row_findings row }
+
+-- the live tokens, and what is live of what was found
 pub record Live : Type 0 where
   pub tokens : List TokenParts
-  pub diagnostics : List Diagnostic
-  pub deferred : List Diagnostic
-  pub comments : List Comment
-  pub irregular : List Span
+  pub findings : Findings
 
 -- what is live before the first step
 abbrev pub nothing_live : Live
-nothing_live = record { tokens = []; diagnostics = []; deferred = []; comments = []; irregular = [] }
+nothing_live = record { tokens = []; findings = no_findings }
 
--- what is live with one more row
-abbrev pub with_row : Live → Row → Live
-with_row live row = record {
-  tokens = live.tokens ++ row.token ∷ [];
-  diagnostics = live.diagnostics ++ row.diagnostics;
-  deferred = live.deferred ++ row.deferred;
-  comments = live.comments ++ row.comments;
-  irregular = live.irregular ++ row.irregular;
-}
+-- what is live with one more outcome
+abbrev pub with_outcome : Live → Outcome → Live
+with_outcome live outcome =
+    record { tokens = live.tokens ++ outcome.token ∷ []; findings = joined live.findings outcome.findings }
 
--- the last token, or the default token where there is none
-abbrev pub last_token : List TokenParts → TokenParts
-last_token tokens = unwrap_or (last_or None tokens) default_parts
+-- what is live with an outcome whose token stands in the place of the last one
+abbrev pub with_re_lexed : Live → Outcome → Live
+with_re_lexed live outcome =
+    record { tokens = with_last live.tokens outcome.token; findings = joined live.findings outcome.findings }
 
--- the place behind the last token, and 0 where there is none
-abbrev pub place_after : List TokenParts → ℕ
-place_after tokens = (last_token tokens).end
+-- the last live token, if there is one
+abbrev pub last_live : Live → Option TokenParts
+last_live live = last_or None live.tokens
+
+-- the place behind the last live token, and 0 where there is none
+abbrev pub place_behind_last : Live → ℕ
+place_behind_last live = (token_or_default (last_live live)).end
 
 -- The state of a session: what is live, and what was live at each open mark, the last one first.
 pub record State : Type 0 where
@@ -46,67 +57,53 @@ pub record State : Type 0 where
   pub marks : List Live
 
 -- the state after the first row
-abbrev pub begun : Row → State
-begun row = record { now = with_row nothing_live row; marks = [] }
+abbrev pub state_after_first : Row → State
+state_after_first row = record { now = with_outcome nothing_live (outcome_of row); marks = [] }
 
--- the commands that give a row
-abbrev pub is_step : Command → Bool
-is_step Next = true
-is_step Peek = true
-is_step Mark = false
-is_step Rewind = false
-is_step Commit = false
-
--- the commands that open a mark
-abbrev pub opens : Command → Bool
-opens Next = false
-opens Peek = false
-opens Mark = true
-opens Rewind = false
-opens Commit = false
-
--- the commands that close a mark
-abbrev pub closes : Command → Bool
-closes Next = false
-closes Peek = false
-closes Mark = false
-closes Rewind = true
-closes Commit = true
-
--- the state after a command that gave this row: a peek changes nothing
-abbrev pub after_step : Command → Row → State → State
-after_step Next row s = record s { now = with_row s.now row }
-after_step Peek row s = s
-after_step Mark row s = s
-after_step Rewind row s = s
-after_step Commit row s = s
+-- the state after an effect that gave this row: a peek, and a re-lex that was not taken, change nothing
+abbrev pub after_row : Effect → Row → State → State
+after_row (reads goal) row s = record s { now = with_outcome s.now (outcome_of row) }
+after_row (peeks goal) row s = s
+after_row (re_lexes goal) row s = if row.taken then record s { now = with_re_lexed s.now (outcome_of row) } else s
+after_row opens row s = s
+after_row rewinds row s = s
+after_row commits row s = s
 
 -- the state at the last open mark, which is closed
-abbrev pub rewound : Live → List Live → State
-rewound now [] = record { now = now; marks = [] }
-rewound now (m ∷ ms) = record { now = m; marks = ms }
+abbrev pub rewound_state : Live → List Live → State
+rewound_state now [] = record { now = now; marks = [] }
+rewound_state now (m ∷ ms) = record { now = m; marks = ms }
 
 -- the same state, with the last open mark closed
-abbrev pub committed : Live → List Live → State
-committed now [] = record { now = now; marks = [] }
-committed now (m ∷ ms) = record { now = now; marks = ms }
+abbrev pub committed_state : Live → List Live → State
+committed_state now [] = record { now = now; marks = [] }
+committed_state now (m ∷ ms) = record { now = now; marks = ms }
 
--- the state after a command that gives no row
-abbrev pub after_mark : Command → State → State
-after_mark Next s = s
-after_mark Peek s = s
-after_mark Mark s = record s { marks = s.now ∷ s.marks }
-after_mark Rewind s = rewound s.now s.marks
-after_mark Commit s = committed s.now s.marks
+-- the state after an effect that gives no row
+abbrev pub after_mark : Effect → State → State
+after_mark (reads goal) s = s
+after_mark (peeks goal) s = s
+after_mark (re_lexes goal) s = s
+after_mark opens s = record s { marks = s.now ∷ s.marks }
+after_mark rewinds s = rewound_state s.now s.marks
+after_mark commits s = committed_state s.now s.marks
 
 -- the state after these commands, which gave these rows
 abbrev pub state_after : State → List Command → List Row → State
 state_after s [] rows = s
-state_after s (c ∷ cs) [] = if is_step c then s else state_after (after_mark c s) cs []
+state_after s (c ∷ cs) [] = if is_step c then s else state_after (after_mark (effect_of c) s) cs []
 state_after s (c ∷ cs) (row ∷ rows) =
-    if is_step c then state_after (after_step c row s) cs rows else state_after (after_mark c s) cs (row ∷ rows)
+    if is_step c then state_after (after_row (effect_of c) row s) cs rows
+    else state_after (after_mark (effect_of c) s) cs (row ∷ rows)
 
 -- what is live after the first step and these commands, which gave these rows
 abbrev pub live : List Command → List Row → Live
 live commands [] = nothing_live
-live commands (row ∷ rows) = (state_after (begun row) commands rows).now
+live commands (row ∷ rows) = (state_after (state_after_first row) commands rows).now
+
+-- the live lists of a report
+abbrev pub report_live : Report → Live
+report_live r = record {
+  tokens = r.tokens;
+  findings = record { diagnostics = r.diagnostics; deferred = r.deferred; comments = r.comments; irregular = r.irregular };
+}

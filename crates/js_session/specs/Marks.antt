@@ -1,34 +1,34 @@
--- Marks kept as lengths: what was live at a mark is a front of what is live now.
-use Rattle.std.specs.Prelude.{◌≡◌, ℕ, ◌≤◌, Bool, false, List, [], ◌∷◌, length, take, reverse}
+-- Marks kept as lengths: what was live at a mark is a front of what is live now, with the token of its checkpoint last.
+use Rattle.std.specs.Prelude.{◌≡◌, ℕ, ◌≤◌, Bool, List, [], ◌∷◌, length, take, reverse}
+use Rattle.std.specs.List.{AllByRecursion}
 use Rattle.js_text.specs.declared.source_type.SourceType.{SourceType}
-use Rattle.js_text.specs.declared.diagnostic.Diagnostic.{Diagnostic}
+use Rattle.js_grammar.specs.Outcome.{Findings, cut_to, AreWithin}
 use Rattle.js_kind.specs.TokenParts.{TokenParts}
-use Rattle.js_lexer.specs.Lexer.{LexerState, checkpoint_of, CanRewind}
-use Rattle.js_session.specs.declared.keep.LiveLists.{LiveLists}
+use Rattle.js_lexer.specs.Lexer.{LexerState, IsRestored, GoesOnFrom, Checkpoint, checkpoint_of, put_back, IsOnPlaces}
+use Rattle.js_session.specs.Live.{Live, State, last_live, place_behind_last}
+use Rattle.js_session.specs.Report.{all_collected, LiesOnPlaces}
 use Rattle.js_session.specs.declared.keep.SessionMark.{SessionMark}
-use Rattle.js_session.specs.Live.{Live, State, last_token, place_after}
-use Rattle.js_session.specs.Report.{all_collected}
+use Rattle.js_session.specs.declared.row.Row.{Row}
 
--- the live lists of these tokens and diagnostics
-abbrev pub held : List TokenParts → List Diagnostic → Live
-held tokens diagnostics = record { tokens = tokens; diagnostics = diagnostics; deferred = []; comments = []; irregular = [] }
+-- what is live, by a session's tokens and what its lexer has found
+abbrev pub live_of : List TokenParts → Findings → Live
+live_of tokens findings = record { tokens = tokens; findings = findings }
 
--- what is live, by a session's lists
-abbrev pub now_of : LiveLists → Live
-now_of lists = held lists.tokens lists.diagnostics
-
--- what was live at a mark
+-- What was live at a mark. Its last token may have been read again since: the checkpoint has it as it was.
 abbrev pub front : Live → SessionMark → Live
-front now m = held (take m.tokens now.tokens) (take m.diagnostics now.diagnostics)
+front now m = record {
+  tokens = put_back (take m.tokens now.tokens) m.checkpoint.last;
+  findings = cut_to m.checkpoint.lengths now.findings;
+}
 
 -- what was live at each mark, the last mark first
-abbrev pub saved : Live → List SessionMark → List Live
-saved now [] = []
-saved now (m ∷ ms) = front now m ∷ saved (front now m) ms
+abbrev pub fronts : Live → List SessionMark → List Live
+fronts now [] = []
+fronts now (m ∷ ms) = front now m ∷ fronts (front now m) ms
 
--- the state that a session's lists and marks stand for
-abbrev pub stands : LiveLists → List SessionMark → State
-stands lists marks = record { now = now_of lists; marks = saved (now_of lists) (reverse marks) }
+-- the state that the live lists and marks of a session are
+abbrev pub state_of : Live → List SessionMark → State
+state_of now marks = record { now = now; marks = fronts now (reverse marks) }
 
 -- the lexer behind the last live token
 abbrev pub lexer_behind : List ℕ → SourceType → Bool → Live → LexerState
@@ -36,26 +36,28 @@ lexer_behind text t collects now = record {
   text = text;
   source_type = t;
   collects = collects;
-  place = place_after now.tokens;
-  is_fresh = false;
-  token = last_token now.tokens;
+  place = place_behind_last now;
+  last = last_live now;
   tokens = all_collected collects now.tokens;
-  errors = now.diagnostics;
+  findings = now.findings;
 }
 
--- A mark: it is no longer than the live lists, and its checkpoint is of the lexer behind what was live then.
+-- A mark: its checkpoint is of the lexer behind what was live then, and the lexer has gone on from there.
 pub record IsMark (text : List ℕ) (t : SourceType) (collects : Bool) (now : Live) (m : SessionMark) : Type 0 where
   pub tokens : m.tokens ≤ length now.tokens
-  pub diagnostics : m.diagnostics ≤ length now.diagnostics
+  pub findings : AreWithin m.checkpoint.lengths now.findings
   pub checkpoint : m.checkpoint ≡ checkpoint_of (lexer_behind text t collects (front now m))
-  pub open_still : CanRewind (lexer_behind text t collects now) m.checkpoint
+  pub goes_on : GoesOnFrom (lexer_behind text t collects (front now m)) (lexer_behind text t collects now)
 
 -- the marks, the last one first
 abbrev pub AreMarks : List ℕ → SourceType → Bool → Live → List SessionMark → Type 0
 AreMarks text t collects now [] = Unit {0}
 AreMarks text t collects now (m ∷ ms) = IsMark text t collects now m × AreMarks text t collects (front now m) ms
 
--- A session is in order: its lexer is behind the last live token, and its marks are of what was live.
-pub record IsHeld (lexer : LexerState) (now : Live) (marks : List SessionMark) : Type 0 where
-  pub behind : lexer ≡ lexer_behind lexer.text lexer.source_type lexer.collects now
+-- A session is in order: its lexer is behind the last live token, its marks are of what was live, and rows and live tokens
+-- lie on places of the text.
+pub record IsInOrder (lexer : LexerState) (rows : List Row) (now : Live) (marks : List SessionMark) : Type 0 where
+  pub behind : IsRestored (lexer_behind lexer.text lexer.source_type lexer.collects now) lexer
   pub are_marks : AreMarks lexer.text lexer.source_type lexer.collects now marks
+  pub rows_lie : AllByRecursion (LiesOnPlaces lexer.text) rows
+  pub tokens_lie : AllByRecursion (IsOnPlaces lexer.text) now.tokens

@@ -1,53 +1,78 @@
 -- What a session reports: which rows answer its commands, and what is live after them.
-use Rattle.std.specs.Prelude.{◌≡◌, ◌≢◌, ℕ, ◌<◌, ◌≤◌, ◌^◌, Bool, true, false, List, [], ◌∷◌, ◌++◌, length, Option, Some, None, MatchBool, ◌↔◌, if◌then◌else◌}
+use Rattle.std.specs.Prelude.{◌≡◌, ◌≢◌, ℕ, ◌<◌, ◌≤◌, ◌^◌, Bool, true, false, List, [], ◌∷◌, ◌++◌, length, Option, Some, None, MatchBool}
 use Rattle.std.specs.List.{flat_map}
 use Rattle.std.specs.Str.{IsUtf8, IsCharBoundary}
 use Rattle.js_text.specs.declared.source_type.SourceType.{SourceType}
-use Rattle.js_kind.specs.Kinds.{is_identifier_name}
+use Rattle.js_text.specs.declared.value.RowValue.{RowValue}
+use Rattle.js_text.specs.declared.value.RowValue.TheVariants.{Nothing, Slice}
+use Rattle.js_grammar.specs.Goals.{GoalReads, AgreesWithGrammar}
+use Rattle.js_grammar.specs.Outcome.{no_findings}
+use Rattle.js_grammar.specs.Reads.{is_plain}
+use Rattle.js_grammar.specs.declared.goal.Goal.{Goal}
+use Rattle.js_grammar.specs.declared.goal.Goal.TheVariants.{First, Next as NextGoal}
 use Rattle.js_kind.specs.TokenParts.{TokenParts}
 use Rattle.js_kind.specs.declared.kind.Kind.TheVariants.{Eof}
-use Rattle.js_grammar.specs.Goals.{GoalReads}
-use Rattle.js_grammar.specs.Hashbang.{Goal}
-use Rattle.js_grammar.specs.Hashbang.Goal.{first, next}
-use Rattle.js_grammar.specs.Reads.{PlainReads}
-use Rattle.js_lexer.specs.Lexer.{IsOnPlaces, collected}
+use Rattle.js_lexer.specs.Lexer.{IsOnPlaces, collected, token_or_default}
+use Rattle.js_session.specs.Effects.{Effect, effect_of, row_effect, is_step, closes}
+use Rattle.js_session.specs.Effects.Effect.{reads, peeks, re_lexes, opens, rewinds, commits}
+use Rattle.js_session.specs.Live.{Live, State, outcome_of, row_findings, last_live, place_behind_last, after_row, after_mark, state_after_first, nothing_live, live, report_live}
 use Rattle.js_session.specs.declared.command.Command.{Command}
 use Rattle.js_session.specs.declared.report.Report.{Report}
 use Rattle.js_session.specs.declared.row.Row.{Row}
-use Rattle.js_session.specs.declared.row.RowValue.{RowValue}
-use Rattle.js_session.specs.declared.row.RowValue.TheVariants.{Nothing, Slice}
-use Rattle.js_session.specs.Live.{Live, State, is_step, closes, after_step, after_mark, begun, nothing_live, place_after, live}
 
--- The value of a token: its stretch of the source for an identifier name, else nothing.
-abbrev pub value_of : TokenParts → RowValue
-value_of token = if is_identifier_name token.kind then Slice (record { start = token.start; end = token.end }) else Nothing
+-- A stretch of the source has its ends, in order, on places of the source.
+abbrev pub IsSliceOnPlaces : List ℕ → RowValue → Type 0
+IsSliceOnPlaces source Nothing = Unit {0}
+IsSliceOnPlaces source (Slice span) =
+    IsCharBoundary source span.start × IsCharBoundary source span.end × (span.start ≤ span.end)
 
--- the goal that a command reads: the first step alone may find a hashbang
-abbrev pub goal_of : Option Command → Goal
-goal_of None = first
-goal_of (Some c) = next
+-- The token and the value of a row lie on places of the source.
+pub record LiesOnPlaces (source : List ℕ) (row : Row) : Type 0 where
+  pub token : IsOnPlaces source row.token
+  pub value : IsSliceOnPlaces source row.value
 
--- the first step counts as standing on a new line
-abbrev pub is_first : Option Command → Bool
-is_first None = true
-is_first (Some c) = false
+-- A row of a reading from behind the last live token. Of the plain goals it has no diagnostic exactly where the grammar
+-- reads a token from there, and then it has this token.
+pub record IsRead (text : List ℕ) (t : SourceType) (now : Live) (goal : Goal) (row : Row) : Type 0 where
+  pub taken : row.taken ≡ true
+  pub reads : GoalReads text t goal (last_live now) row.place (outcome_of row)
+  pub agrees : is_plain goal ≡ true → AgreesWithGrammar text t goal (last_live now) row.place (outcome_of row)
+  pub some_text : row.token.kind ≢ Eof → row.token.start < row.token.end
 
--- The row of a step: what its goal reads from the place behind the last live token. It has no diagnostic exactly where
--- the grammar reads a token from there, and then it has this token.
+-- A row of a re-lex that was taken: the last live token is read again, from its start.
+pub record IsReLexed (text : List ℕ) (t : SourceType) (now : Live) (goal : Goal) (row : Row) : Type 0 where
+  pub taken : row.taken ≡ true
+  pub reads : GoalReads text t goal (last_live now) (token_or_default (last_live now)).start (outcome_of row)
+
+-- A row of a re-lex that was not taken: it holds the last live token, and nothing else.
+pub record IsNotTaken (now : Live) (row : Row) : Type 0 where
+  pub taken : row.taken ≡ false
+  pub token : row.token ≡ token_or_default (last_live now)
+  pub value : row.value ≡ Nothing
+  pub regex : row.regex ≡ None
+  pub findings : row_findings row ≡ no_findings
+
+-- the tokens that a goal may read again: none, of the goals that there are
+abbrev pub fits : Goal → TokenParts → Bool
+fits First token = false
+fits NextGoal token = false
+
+-- The row is one of three: a reading, a re-lex that was taken, or one that was not.
+abbrev pub IsOfEffect : List ℕ → SourceType → Live → Effect → Row → Type 0
+IsOfEffect text t now (reads goal) row = IsRead text t now goal row
+IsOfEffect text t now (peeks goal) row = IsRead text t now goal row
+IsOfEffect text t now (re_lexes goal) row =
+    MatchBool (fits goal (token_or_default (last_live now))) (IsReLexed text t now goal row) (IsNotTaken now row)
+IsOfEffect text t now opens row = ⊥
+IsOfEffect text t now rewinds row = ⊥
+IsOfEffect text t now commits row = ⊥
+
+-- The row of a command, or of the first step, which has none.
 pub record IsRow (text : List ℕ) (t : SourceType) (now : Live) (command : Option Command) (row : Row) : Type 0 where
   pub command_is : row.command ≡ command
-  pub place : row.place ≡ place_after now.tokens
-  pub taken : row.taken ≡ true
-  pub reads : GoalReads text t (goal_of command) (is_first command) row.place (record { token = row.token; diagnostics = row.diagnostics })
-  pub value : row.value ≡ value_of row.token
-  pub regex : row.regex ≡ None
-  pub deferred : row.deferred ≡ []
-  pub comments : row.comments ≡ []
-  pub irregular : row.irregular ≡ []
-  pub clean : (row.diagnostics ≡ []) ↔ ((token : TokenParts) × PlainReads text t (goal_of command) (is_first command) row.place token)
-  pub plain : row.diagnostics ≡ [] → PlainReads text t (goal_of command) (is_first command) row.place row.token
-  pub places : IsOnPlaces text row.token
-  pub some_text : row.token.kind ≢ Eof → row.token.start < row.token.end
+  pub place : row.place ≡ place_behind_last now
+  pub gives : IsOfEffect text t now (row_effect command) row
+  pub places : LiesOnPlaces text row
 
 -- a mark is open, if the command closes one
 abbrev pub HasMark : Command → State → Type 0
@@ -56,36 +81,25 @@ HasMark c s = closes c ≡ true → s.marks ≢ []
 -- From a state on, the rows answer the commands: one row for each step, in order.
 abbrev pub Run : List ℕ → SourceType → State → List Command → List Row → Type 0
 Run text t s [] rows = rows ≡ []
-Run text t s (c ∷ cs) [] = MatchBool (is_step c) ⊥ (HasMark c s × Run text t (after_mark c s) cs [])
+Run text t s (c ∷ cs) [] = MatchBool (is_step c) ⊥ (HasMark c s × Run text t (after_mark (effect_of c) s) cs [])
 Run text t s (c ∷ cs) (row ∷ rows) =
-    MatchBool (is_step c) (IsRow text t s.now (Some c) row × Run text t (after_step c row s) cs rows)
-    (HasMark c s × Run text t (after_mark c s) cs (row ∷ rows))
+    MatchBool (is_step c) (IsRow text t s.now (Some c) row × Run text t (after_row (effect_of c) row s) cs rows)
+    (HasMark c s × Run text t (after_mark (effect_of c) s) cs (row ∷ rows))
 
 -- The rows answer the first step, and then the commands.
 abbrev pub AreRows : List ℕ → SourceType → List Command → List Row → Type 0
 AreRows text t commands [] = ⊥
-AreRows text t commands (row ∷ rows) = IsRow text t nothing_live None row × Run text t (begun row) commands rows
+AreRows text t commands (row ∷ rows) = IsRow text t nothing_live None row × Run text t (state_after_first row) commands rows
 
 -- What is collected of tokens: nothing where tokens are not collected, else all but a hashbang comment.
 abbrev pub all_collected : Bool → List TokenParts → List TokenParts
 all_collected collects tokens = flat_map (collected collects) tokens
 
--- the live lists of a report
-abbrev pub live_lists : Report → Live
-live_lists r = record { tokens = r.tokens; diagnostics = r.diagnostics; deferred = r.deferred; comments = r.comments; irregular = r.irregular }
-
 -- The report of a session over a source: a row for each step, in order, and what is live after the commands.
-pub record ReportOf (source : List ℕ) (t : SourceType) (collects : Bool) (commands : List Command) (report : Report) : Type 0 where
+pub record ReportOf (source : List ℕ) (t : SourceType) (collects : Bool) (commands : List Command) (report : Report)
+    : Type 0 where
   pub utf8 : IsUtf8 source
   pub short : length source < 2 ^ 32
   pub rows : AreRows source t commands report.rows
-  pub lists : live_lists report ≡ live commands report.rows
+  pub lists : report_live report ≡ live commands report.rows
   pub collected_are : report.collected ≡ all_collected collects report.tokens
-  pub deferred : report.deferred ≡ []
-  pub comments : report.comments ≡ []
-  pub irregular : report.irregular ≡ []
-
--- A stretch of the source has its ends, in order, on places of the source.
-abbrev pub IsSliceOnPlaces : List ℕ → RowValue → Type 0
-IsSliceOnPlaces source Nothing = Unit {0}
-IsSliceOnPlaces source (Slice span) = IsCharBoundary source span.start × IsCharBoundary source span.end × (span.start ≤ span.end)

@@ -11,6 +11,7 @@ mod source_type;
 mod span;
 #[cfg(test)]
 mod tests;
+mod value;
 
 pub use characters::{
     is_identifier_part, is_identifier_start, is_irregular_whitespace, is_line_terminator,
@@ -19,7 +20,8 @@ pub use characters::{
 pub use comment::{Comment, CommentContent, CommentKind, CommentPosition};
 pub use diagnostic::Diagnostic;
 pub use list::{ByteList, CommentList, DiagnosticList, ItemList, SpanList};
-pub use reg_exp_flags::RegExpFlags;
+pub use reg_exp_flags::{RegExpFlags, RegexInfo};
 pub use source_text::SourceText;
 pub use source_type::SourceType;
 pub use span::Span;
+pub use value::RowValue;

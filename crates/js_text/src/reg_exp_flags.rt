@@ -62,3 +62,13 @@ impl RegExpFlags {
         }
     }
 }
+
+/// What is known of a regular expression beside its token.
+#[derive(Clone, Copy, PartialEq, Eq, Debug)]
+pub struct RegexInfo {
+    /// Where its pattern ends, as an offset in bytes.
+    pub pattern_end: u32,
+    pub flags: RegExpFlags,
+    /// Whether a flag is unknown or stands twice.
+    pub flags_error: bool,
+}

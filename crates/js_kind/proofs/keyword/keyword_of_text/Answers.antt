@@ -1,4 +1,4 @@
-use Rattle.js_kind.proofs.Texts.{keyword_of_text}
+use Rattle.js_kind.proofs.NameKinds.{keyword_of_text}
 use Rattle.js_kind.proofs.keyword.keyword_of_text.Goals as goal
 
 pub returns : goal.returns

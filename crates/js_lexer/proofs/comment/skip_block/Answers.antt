@@ -6,7 +6,7 @@ use Rattle.js_lexer.proofs.comment.skip_block.Goals as goal
 
 pub returns-then-advance_if_block_end-clause-cut : goal.returns-then-advance_if_block_end-clause-cut
 returns-then-advance_if_block_end-clause-cut c =
-    block_found c.args.table.now c.args.nl c.loop-c.ended c.args.source.now c.loop-c.source c.advance_to_match.new.source c.next_char.new.self c.advance_if_block_end.new.source c.in-Some.c
+    block_found c.args.table.now c.args.line_has_ended c.loop-c.ended c.args.source.now c.loop-c.source c.advance_to_match.new.source c.next_char.new.self c.advance_if_block_end.new.source c.in-Some.c
     c.requires c.loop-c.invariant.1 c.advance_to_match.ensures.rest c.in-Some.ensures.some c.next_char.ensures.past c.if-advance_if_block_end.ensures.0 c.if-advance_if_block_end.ensures.1
 
 pub loop-c-smaller : goal.loop-c-smaller
@@ -18,14 +18,14 @@ pub loop-c-preserved : goal.loop-c-preserved
 loop-c-preserved c =
     let after = behind c.in-Some.c c.advance_to_match.new.source c.next_char.new.self c.in-Some.ensures.some c.next_char.ensures.past in
     let ended = c.either-ended.ensures ∙ ap (λ b. c.loop-c.ended || b) c.is_line_terminator.ensures in
-    let passed = block_passes c.args.table.now c.args.nl c.loop-c.ended c.args.source.now c.loop-c.source c.advance_to_match.new.source c.next_char.new.self c.in-Some.c
+    let passed = block_passes c.args.table.now c.args.line_has_ended c.loop-c.ended c.args.source.now c.loop-c.source c.advance_to_match.new.source c.next_char.new.self c.in-Some.c
     c.requires c.loop-c.invariant.1 c.advance_to_match.ensures.rest c.in-Some.ensures.some c.next_char.ensures.past c.if-advance_if_block_end.ensures.0 in (
       ap (λ s. s.text) c.if-advance_if_block_end.ensures.1 ∙ after.0 ∙ c.advance_to_match.ensures.text ∙ c.loop-c.invariant.0,
-      subst (λ (s : At). Cuts c.args.nl c.args.source.now c.either-ended.result s) (sym c.if-advance_if_block_end.ensures.1)
-          (subst (λ (b : Bool). Cuts c.args.nl c.args.source.now b c.next_char.new.self) (sym ended) passed),
+      subst (λ (s : At). Cuts c.args.line_has_ended c.args.source.now c.either-ended.result s) (sym c.if-advance_if_block_end.ensures.1)
+          (subst (λ (b : Bool). Cuts c.args.line_has_ended c.args.source.now b c.next_char.new.self) (sym ended) passed),
     )
 
 pub returns-clause-cut : goal.returns-clause-cut
 returns-clause-cut c =
-    block_ends c.args.table.now c.args.nl c.loop-c.ended c.args.source.now c.loop-c.source c.advance_to_match.new.source c.advance_to_match.new.source
+    block_ends c.args.table.now c.args.line_has_ended c.loop-c.ended c.args.source.now c.loop-c.source c.advance_to_match.new.source c.advance_to_match.new.source
     c.requires c.loop-c.invariant.1 c.advance_to_match.ensures.rest c.in_default.ensures.none

@@ -2,14 +2,15 @@ use Rattle.std.proofs.Common.{◌≡◌, length, Bool, Option}
 use Rattle.std.specs.Prelude.{codes}
 use Rattle.js_grammar.specs.Gap.{cut_behind}
 use Rattle.js_source.specs.Source.{At, rest}
-use Rattle.js_lexer.specs.Lexed.{ReadsCut}
+use Rattle.js_lexer.specs.Comments.{ReadsCut}
+use Rattle.js_lexer.specs.declared.skipped.Skipped.{Skipped}
 use Rattle.js_lexer.proofs.comment.skip_block.Given as goal
 
 abbrev pub invariant-loop-c : goal.invariant-loop-c
 invariant-loop-c l =
     (l.source.text ≡ l.fn.source.text)
-    × ((new : At) (answer : Option Bool) → ReadsCut l.ended (cut_behind (codes "*/") (rest l.source)) new answer
-    → ReadsCut l.fn.nl (cut_behind (codes "*/") (rest l.fn.source)) new answer)
+    × ((new : At) (answer : Skipped) → ReadsCut l.ended (cut_behind (codes "*/") (rest l.source)) new answer
+    → ReadsCut l.fn.line_has_ended (cut_behind (codes "*/") (rest l.fn.source)) new answer)
 
 abbrev pub decreases-loop-c : goal.decreases-loop-c
 decreases-loop-c l = length (rest l.source)

@@ -3,15 +3,15 @@ use Rattle.js_lexer.proofs.GapSteps.{no_html_open_in_module, no_html_open_mark, 
 use Rattle.js_lexer.proofs.gap.skip_html_open.Goals as goal
 
 pub returns-then-is_module : goal.returns-then-is_module
-returns-then-is_module c = (refl, no_html_open_in_module c.args.source_type c.args.nl c.args.source.now c.requires (sym c.is_module.ensures ∙ c.if-is_module.true))
+returns-then-is_module c = (refl, no_html_open_in_module c.args.source_type c.args.line_has_ended c.args.source.now c.requires (sym c.is_module.ensures ∙ c.if-is_module.true))
 
 pub returns-then-not-advance_if_mark : goal.returns-then-not-advance_if_mark
 returns-then-not-advance_if_mark c =
-    (c.if-not-advance_if_mark.ensures.1, no_html_open_mark c.args.source_type c.args.nl c.args.source.now c.requires c.if-not-advance_if_mark.ensures.0)
+    (c.if-not-advance_if_mark.ensures.1, no_html_open_mark c.args.source_type c.args.line_has_ended c.args.source.now c.requires c.if-not-advance_if_mark.ensures.0)
 
 pub returns : goal.returns
 returns c = (
   c.skip_line.ensures.text ∙ c.if-not-advance_if_mark.ensures.0,
-  html_open_ends c.args.source_type c.args.nl c.args.source.now c.advance_if_mark.new.source c.skip_line.new.source (sym c.is_module.ensures ∙ c.if-is_module.false)
+  html_open_ends c.args.source_type c.args.line_has_ended c.args.source.now c.advance_if_mark.new.source c.skip_line.new.source (sym c.is_module.ensures ∙ c.if-is_module.false)
       c.if-not-advance_if_mark.ensures.1 c.skip_line.ensures.rest,
 )

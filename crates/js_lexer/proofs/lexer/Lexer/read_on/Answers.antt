@@ -1,7 +1,7 @@
 use Rattle.std.proofs.Common.{◌++◌, sym, ◌∙◌, ap, subst, List, ℕ}
 use Rattle.std.proofs.lemmas.Result.{err_from_is_err_and}
 use Rattle.std.specs.Str.{IsUtf8}
-use Rattle.js_lexer.specs.Lexer.{IsOnPlaces, LexerState, collected}
+use Rattle.js_lexer.specs.Lexer.{IsOnPlaces, collected}
 use Rattle.js_lexer.proofs.LexerSteps.{reads_token, read_places, moves_on}
 use Rattle.js_lexer.proofs.lexer.Lexer.read_on.Goals as goal
 

@@ -1,0 +1,63 @@
+-- The flags of spellings.
+use Rattle.std.proofs.Common.{◌≡◌, ℕ, Bool, true, false, not, ◌&&◌, ◌||◌, ◌==◌, List, [], ◌∷◌, refl, sym, ◌∙◌, ap, subst}
+use Rattle.std.specs.Prelude.{IsTrue}
+use Rattle.std.specs.List.{list_all, list_any, AllByRecursion}
+use Rattle.std.specs.Str.{encode_utf8_all}
+use Rattle.std.proofs.lemmas.Bool.{eqb-true}
+use Rattle.unicode_ident.proofs.Computing.{unicode_ident}
+use Rattle.js_text.specs.Characters.{is_identifier_start, is_identifier_part}
+use Rattle.js_text.specs.declared.source_type.SourceType.{SourceType}
+use Rattle.js_kind.specs.Keywords.{name_kind}
+use Rattle.js_kind.specs.Kinds.{is_number}
+use Rattle.js_kind.specs.declared.kind.Kind.{Kind}
+use Rattle.js_kind.proofs.NameKinds.{name_is_no_number}
+use Rattle.js_grammar.specs.Punctuators.{Punctuator, punctuators, IsIn}
+use Rattle.js_grammar.specs.Spelling.{Spelling, IsName, is_escaped, has_separator}
+use Rattle.js_grammar.specs.Spelling.Spelling.{name, punctuator, end_of_source}
+use Rattle.js_grammar.proofs.PunctuatorLemmas.{passes_at}
+use Rattle.js_grammar.proofs.Tests.{and_true}
+
+backslash_begins_no_name : is_identifier_start 92 ≡ false
+unfolding is_identifier_start unicode_ident
+backslash_begins_no_name = refl
+
+backslash_is_no_part : is_identifier_part 92 ≡ false
+unfolding is_identifier_part unicode_ident
+backslash_is_no_part = refl
+
+other : (p : ℕ → Bool) (c : ℕ) → p 92 ≡ false → p c ≡ true → (c == 92) ≡ false
+other p c no is = by_test (c == 92) refl
+  where
+    by_test : (b : Bool) → (c == 92) ≡ b → b ≡ false
+    by_test true e = let same : p c ≡ p 92 = ap p (eqb-true c 92 e) in absurd (cc)
+    by_test false e = refl
+
+parts_unescaped : (cs : List ℕ) → AllByRecursion (λ d. IsTrue (is_identifier_part d)) cs → is_escaped cs ≡ false
+parts_unescaped [] all = refl
+parts_unescaped (c ∷ cs) all = rw (other is_identifier_part c backslash_is_no_part all.0) (parts_unescaped cs all.1)
+
+-- no escape stands in a name without one
+pub name_unescaped : (xs : List ℕ) → IsName xs → is_escaped xs ≡ false
+name_unescaped [] is = absurd is
+name_unescaped (c ∷ cs) is = rw (other is_identifier_start c backslash_begins_no_name is.0) (parts_unescaped cs is.1)
+
+abbrev unflagged : Punctuator → Bool
+unflagged p = not (is_escaped p.text) && not (is_number p.kind)
+
+punctuators_unflagged : list_all unflagged punctuators ≡ true
+punctuators_unflagged = refl
+
+not_true : (b : Bool) → not b ≡ true → b ≡ false
+not_true true e = absurd (cc)
+not_true false e = refl
+
+-- no flag is set for what is spelled
+pub spelling_flags : (t : SourceType) (nl : Bool) (xs ys : List ℕ) (k : Kind) → Spelling t nl xs ys k → (is_escaped xs ≡ false) × (has_separator k xs ≡ false)
+spelling_flags t nl xs ys k (name is end kind) =
+    let none : is_number k ≡ false = ap is_number kind ∙ name_is_no_number (encode_utf8_all xs) in
+    (name_unescaped xs is, rw none refl)
+spelling_flags t nl xs ys k (punctuator p i same allowed kind) =
+    let both = and_true (not (is_escaped p.text)) (not (is_number p.kind)) (passes_at unflagged p punctuators i punctuators_unflagged) in
+    let none : is_number k ≡ false = ap is_number kind ∙ not_true _ both.1 in
+    (ap is_escaped same ∙ not_true _ both.0, rw none refl)
+spelling_flags t nl xs ys k (end_of_source none end kind) = (ap is_escaped none, rw (kind, none) refl)

@@ -1,0 +1,15 @@
+-- The texts that can be read today: those without a byte of a form that is not built.
+use Rattle.std.specs.Prelude.{◌≡◌, ℕ, ◌<◌, Bool, false, List, length, slice_index, codes, ◌==◌, ◌&&◌, ◌||◌, not, nat_le}
+use Rattle.js_grammar.specs.Gap.{is_prefix}
+
+-- The bytes that no reading knows yet: `\`, `"`, `'`, backquote, `#` and the digits.
+abbrev pub is_unbuilt_byte : ℕ → Bool
+is_unbuilt_byte b = ((b == 92) || (b == 34)) || ((b == 39) || (b == 96)) || ((b == 35) || (nat_le 48 b && nat_le b 57))
+
+-- such a byte stands at the offset, and is not the first byte of a hashbang comment
+abbrev pub is_unbuilt_at : List ℕ → ℕ → Bool
+is_unbuilt_at source at = is_unbuilt_byte (slice_index source at) && not ((at == 0) && is_prefix (codes "#!") source)
+
+-- no such byte stands anywhere
+abbrev pub IsBuilt : List ℕ → Type 0
+IsBuilt source = (i : ℕ) → i < length source → is_unbuilt_at source i ≡ false

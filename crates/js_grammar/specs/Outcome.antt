@@ -1,0 +1,106 @@
+-- What a reading gives: a token with its value, and what it adds to the lists of a lexer.
+use Rattle.std.specs.Prelude.{ℕ, ◌+◌, ◌≤◌, List, [], ◌∷◌, ◌++◌, length, take, drop, Option, None}
+use Rattle.std.specs.Str.{encode_utf8_all}
+use Rattle.js_text.specs.declared.comment.Comment.{Comment}
+use Rattle.js_text.specs.declared.diagnostic.Diagnostic.{Diagnostic}
+use Rattle.js_text.specs.declared.diagnostic.Diagnostic.TheVariants.{HtmlCommentInModule}
+use Rattle.js_text.specs.declared.reg_exp_flags.RegexInfo.{RegexInfo}
+use Rattle.js_text.specs.declared.span.Span.{Span}
+use Rattle.js_text.specs.declared.value.RowValue.{RowValue}
+use Rattle.js_grammar.specs.Gap.{Piece, PieceKind}
+use Rattle.js_grammar.specs.Gap.PieceKind.{white_space, line_terminator, single_line_comment, multi_line_comment, html_open_comment, html_close_comment, reported_comment}
+use Rattle.js_kind.specs.TokenParts.{TokenParts}
+
+-- What readings find beside their tokens: what they report, what they report for the case that the source is a module,
+-- comments, and irregular white space.
+pub record Findings : Type 0 where
+  pub diagnostics : List Diagnostic
+  pub deferred : List Diagnostic
+  pub comments : List Comment
+  pub irregular : List Span
+
+abbrev pub no_findings : Findings
+no_findings = record { diagnostics = []; deferred = []; comments = []; irregular = [] }
+
+-- diagnostics alone
+abbrev pub reports : List Diagnostic → Findings
+reports diagnostics = record no_findings { diagnostics = diagnostics }
+
+-- what was found, and then what was found next
+abbrev pub joined : Findings → Findings → Findings
+joined a b = record {
+  diagnostics = a.diagnostics ++ b.diagnostics;
+  deferred = a.deferred ++ b.deferred;
+  comments = a.comments ++ b.comments;
+  irregular = a.irregular ++ b.irregular;
+}
+
+-- how much was found, list by list
+pub record FindingLengths : Type 0 where
+  pub diagnostics : ℕ
+  pub deferred : ℕ
+  pub comments : ℕ
+  pub irregular : ℕ
+
+abbrev pub lengths_of : Findings → FindingLengths
+lengths_of found = record {
+  diagnostics = length found.diagnostics;
+  deferred = length found.deferred;
+  comments = length found.comments;
+  irregular = length found.irregular;
+}
+
+-- what was found up to these lengths
+abbrev pub cut_to : FindingLengths → Findings → Findings
+cut_to lengths found = record {
+  diagnostics = take lengths.diagnostics found.diagnostics;
+  deferred = take lengths.deferred found.deferred;
+  comments = take lengths.comments found.comments;
+  irregular = take lengths.irregular found.irregular;
+}
+
+-- what was found beyond these lengths
+abbrev pub found_since : FindingLengths → Findings → Findings
+found_since lengths found = record {
+  diagnostics = drop lengths.diagnostics found.diagnostics;
+  deferred = drop lengths.deferred found.deferred;
+  comments = drop lengths.comments found.comments;
+  irregular = drop lengths.irregular found.irregular;
+}
+
+-- no list is shorter than this
+pub record AreWithin (lengths : FindingLengths) (found : Findings) : Type 0 where
+  pub diagnostics : lengths.diagnostics ≤ length found.diagnostics
+  pub deferred : lengths.deferred ≤ length found.deferred
+  pub comments : lengths.comments ≤ length found.comments
+  pub irregular : lengths.irregular ≤ length found.irregular
+
+-- A token, its value, what is known of a regular expression, and what was found on the way.
+pub record Outcome : Type 0 where
+  pub token : TokenParts
+  pub value : RowValue
+  pub regex : Option RegexInfo
+  pub findings : Findings
+
+-- the place behind these characters, which begin at the place
+abbrev pub place_behind : ℕ → List ℕ → ℕ
+place_behind place xs = place + length (encode_utf8_all xs)
+
+-- What is reported of a piece that begins at the place: a comment that a module may not have, over its four characters.
+abbrev pub piece_diagnostics : ℕ → PieceKind → List Diagnostic
+piece_diagnostics place white_space = []
+piece_diagnostics place line_terminator = []
+piece_diagnostics place single_line_comment = []
+piece_diagnostics place multi_line_comment = []
+piece_diagnostics place html_open_comment = []
+piece_diagnostics place html_close_comment = []
+piece_diagnostics place reported_comment = HtmlCommentInModule (record { start = place; end = place + 4 }) ∷ []
+
+-- what is reported of the pieces of a whole gap that begins at the place
+abbrev pub gap_diagnostics : ℕ → List Piece → List Diagnostic
+gap_diagnostics place [] = []
+gap_diagnostics place (x ∷ xs) = piece_diagnostics place x.kind ++ gap_diagnostics (place_behind place x.text) xs
+
+-- What is found in a whole gap of these pieces that begins at the place.
+abbrev pub gap_findings : ℕ → List Piece → Findings
+gap_findings place pieces = reports (gap_diagnostics place pieces)

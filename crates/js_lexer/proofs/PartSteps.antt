@@ -1,0 +1,127 @@
+-- The table of the parts of names in ASCII, and the runs that it passes.
+use Rattle.std.proofs.Common.{◌≡◌, ℕ, ◌+◌, ◌<◌, ◌≤◌, Bool, true, false, not, ◌&&◌, ◌||◌, ◌==◌, ltb, List, [], ◌∷◌, ◌++◌, length, length-append, get_or, zero, suc, refl, sym, ◌∙◌, ap, subst, arith, add-zero}
+use Rattle.std.specs.Char.{is_ascii_alphabetic, is_ascii_alphanumeric}
+use Rattle.std.proofs.lemmas.Bool.{ltb-true, ltb-false}
+use Rattle.std.proofs.Math.ListN.{get_or-eq_default}
+use Rattle.js_text.specs.Characters.{is_white_space, is_identifier_part, begins as begins_text, from_first, from_place}
+use Rattle.js_text.specs.declared.source_type.SourceType.{SourceType}
+use Rattle.js_text.proofs.CharacterLemmas.{part_in_ascii, start_in_ascii}
+use Rattle.js_source.specs.Source.{At, rest, BeginsWith}
+use Rattle.js_source.specs.Search.{matches_at}
+use Rattle.js_source.specs.Runs.{HasAscii, IsRun, PassesRun}
+use Rattle.js_source.proofs.RunSteps.{from_first-run}
+use Rattle.js_grammar.specs.Gap.{LongestGap, one_character}
+use Rattle.js_grammar.specs.Gap.PieceKind.{white_space}
+use Rattle.js_grammar.proofs.GapLemmas.{longest_gap-cons}
+use Rattle.js_grammar.proofs.PieceLemmas.{piece-white}
+use Rattle.js_grammar.specs.Spelling.{is_no_part}
+use Rattle.js_lexer.specs.Tables.{TellsParts, TellsStarts, TellsBlanks}
+
+abbrev same : Bool → Bool → Bool
+same true y = y
+same false y = not y
+
+same_true : (x y : Bool) → same x y ≡ true → x ≡ y
+same_true true true e = refl
+same_true true false e = absurd (cc)
+same_true false true e = absurd (cc)
+same_true false false e = refl
+
+and_true : (a b : Bool) → (a && b) ≡ true → (a ≡ true) × (b ≡ true)
+and_true true b e = (refl, e)
+and_true false b e = absurd (cc)
+
+low : (x : Bool) (b : ℕ) → b < 128 → (ltb b 128 && x) ≡ x
+low x b lt = by_test (ltb b 128) refl
+  where
+    by_test : (y : Bool) → ltb b 128 ≡ y → (y && x) ≡ x
+    by_test true t = refl
+    by_test false t = absurd (omega (arith, ltb-false b 128 t))
+
+high : (x : Bool) (b : ℕ) → 128 ≤ b → (ltb b 128 && x) ≡ false
+high x b le = by_test (ltb b 128) refl
+  where
+    by_test : (y : Bool) → ltb b 128 ≡ y → (y && x) ≡ false
+    by_test true t = absurd (omega (arith, ltb-true b 128 t))
+    by_test false t = refl
+
+module _ (f : ℕ → Bool) where
+  -- whether the entries, from the one of b on, say so
+  abbrev pub tells : ℕ → List Bool → Bool
+  tells b [] = true
+  tells b (x ∷ xs) = same x (ltb b 128 && f b) && tells (suc b) xs
+
+  told : (b : ℕ) (xs : List Bool) (k : ℕ) → tells b xs ≡ true → k < length xs → get_or xs k false ≡ (ltb (b + k) 128 && f (b + k))
+  told b [] k e lt = absurd (omega arith)
+  told b (x ∷ xs) zero e lt = same_true x _ (and_true _ _ e).0 ∙ ap (λ n. ltb n 128 && f n) (sym (add-zero b))
+  told b (x ∷ xs) (suc k) e lt =
+      let next : suc b + k ≡ b + suc k = omega arith in
+      told (suc b) xs k (and_true _ _ e).1 (omega arith) ∙ ap (λ n. ltb n 128 && f n) next
+
+  entry : (xs : List Bool) (b : ℕ) → tells 0 xs ≡ true → length xs ≡ 256 → b < 256 → matches_at xs b ≡ (ltb b 128 && f b)
+  entry xs b e n lt =
+      let at : 0 + b ≡ b = omega arith in
+      told 0 xs b e (omega arith) ∙ ap (λ n. ltb n 128 && f n) at
+
+  entry_low : (xs : List Bool) → tells 0 xs ≡ true → length xs ≡ 256 → (b : ℕ) → b < 128 → matches_at xs b ≡ f b
+  entry_low xs e n b lt = entry xs b e n (omega arith) ∙ low (f b) b lt
+
+  ascii_alone : (xs : List Bool) → tells 0 xs ≡ true → length xs ≡ 256 → HasAscii xs
+  ascii_alone xs e n b le = by_test (ltb b 256) refl
+    where
+      by_test : (y : Bool) → ltb b 256 ≡ y → matches_at xs b ≡ false
+      by_test true t = entry xs b e n (ltb-true b 256 t) ∙ high (f b) b le
+      by_test false t = get_or-eq_default xs false (omega (arith, ltb-false b 256 t))
+
+abbrev pub is_part : ℕ → Bool
+is_part b = is_ascii_alphanumeric b || ((b == 36) || (b == 95))
+
+abbrev pub is_start : ℕ → Bool
+is_start b = is_ascii_alphabetic b || ((b == 36) || (b == 95))
+
+abbrev pub is_blank : ℕ → Bool
+is_blank b = (b == 9) || (b == 32)
+
+pub tells_parts : (xs : List Bool) → tells is_part 0 xs ≡ true → length xs ≡ 256 → TellsParts xs
+tells_parts xs e n = record { ascii = ascii_alone is_part xs e n; tells = λ b lt. entry_low is_part xs e n b lt ∙ sym (part_in_ascii b lt) }
+
+pub tells_starts : (xs : List Bool) → tells is_start 0 xs ≡ true → length xs ≡ 256 → TellsStarts xs
+tells_starts xs e n = record { ascii = ascii_alone is_start xs e n; tells = λ b lt. entry_low is_start xs e n b lt ∙ sym (start_in_ascii b lt) }
+
+white : (b : ℕ) → is_blank b ≡ true → is_white_space b ≡ true
+unfolding is_white_space
+white b e = rw e refl
+
+pub tells_blanks : (xs : List Bool) → tells is_blank 0 xs ≡ true → length xs ≡ 256 → TellsBlanks xs
+tells_blanks xs e n = record { ascii = ascii_alone is_blank xs e n; tells = λ b lt m. white b (sym (entry_low is_blank xs e n b lt) ∙ m) }
+
+pub parts_passed : (table : List Bool) (old new : At) → TellsParts table → new.text ≡ old.text
+    → PassesRun table old.text old.place new.place → from_first is_no_part (rest new) ≡ from_first is_no_part (rest old)
+parts_passed table old new tells text run =
+    ap (λ u. from_first is_no_part (from_place u new.place)) text
+    ∙ sym (ap (from_first is_no_part) run.here ∙ from_first-run is_no_part table (λ b small m. rw (sym (tells.tells b small) ∙ m) refl) run.run _ run.all)
+
+pub run_fewer : (table : List Bool) (old new : At) → new.text ≡ old.text → PassesRun table old.text old.place new.place → length (rest new) ≤ length (rest old)
+run_fewer table old new text run =
+    omega (arith, ap length run.here, length-append run.run (from_place old.text new.place), ap (λ u. length (from_place u new.place)) text)
+
+blanks_before : (table : List Bool) → TellsBlanks table → (t : SourceType) (nl : Bool) (xs cs : List ℕ) (ended : Bool) (left : List ℕ) → IsRun table xs
+    → LongestGap t nl cs ended left → LongestGap t nl (xs ++ cs) ended left
+blanks_before table tells t nl [] cs ended left h g = g
+blanks_before table tells t nl (b ∷ bs) cs ended left h g =
+    longest_gap-cons t nl (b ∷ (bs ++ cs)) (one_character white_space nl b (bs ++ cs)) ended left
+    (piece-white t nl b (bs ++ cs) (tells.tells b h.0 h.1)) (blanks_before table tells t nl bs cs ended left h.2 g)
+
+pub blanks_passed : (table : List Bool) (old new : At) → TellsBlanks table → new.text ≡ old.text → PassesRun table old.text old.place new.place
+    → (t : SourceType) (nl ended : Bool) (left : List ℕ) → LongestGap t nl (rest new) ended left → LongestGap t nl (rest old) ended left
+blanks_passed table old new tells text run t nl ended left g =
+    let here : rest old ≡ run.run ++ rest new = run.here ∙ ap (λ u. run.run ++ from_place u new.place) (sym text) in
+    subst (λ (xs : List ℕ). LongestGap t nl xs ended left) (sym here) (blanks_before table tells t nl run.run (rest new) ended left run.all g)
+
+pub starts_with : (p : ℕ → Bool) (c : ℕ) (xs : List ℕ) → BeginsWith c xs → p c ≡ true → begins_text p xs ≡ true
+starts_with p c [] h e = absurd h
+starts_with p c (d ∷ ds) h e = ap p h ∙ e
+
+pub part_ends : (c : ℕ) (xs : List ℕ) → BeginsWith c xs → is_identifier_part c ≡ false → from_first is_no_part xs ≡ xs
+part_ends c [] b e = absurd b
+part_ends c (d ∷ ds) b e = let here : is_identifier_part d ≡ false = ap is_identifier_part b ∙ e in rw here refl

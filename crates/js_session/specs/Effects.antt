@@ -1,0 +1,68 @@
+-- What each command does: one function of the command, on which everything else about commands rests.
+use Rattle.std.specs.Prelude.{Bool, true, false, Option, Some, None}
+use Rattle.js_grammar.specs.declared.goal.Goal.{Goal}
+use Rattle.js_grammar.specs.declared.goal.Goal.TheVariants.{First, Next as NextGoal}
+use Rattle.js_session.specs.declared.command.Command.{Command}
+use Rattle.js_session.specs.declared.command.Command.TheVariants.{Next, Peek, Mark, Rewind, Commit}
+
+-- Reading a goal from behind the last live token, with the token live from then on, or only to look; reading the last live
+-- token again; opening a mark; going back to the last open mark; or closing it.
+pub data Effect : Type 0 where
+  reads : Goal → Effect
+  peeks : Goal → Effect
+  re_lexes : Goal → Effect
+  opens : Effect
+  rewinds : Effect
+  commits : Effect
+
+-- the effect of a command
+abbrev pub effect_of : Command → Effect
+effect_of Next = reads NextGoal
+effect_of Peek = peeks NextGoal
+effect_of Mark = opens
+effect_of Rewind = rewinds
+effect_of Commit = commits
+
+-- the effect of the command of a row; the first row, which has none, reads the first goal
+abbrev pub row_effect : Option Command → Effect
+row_effect None = reads First
+row_effect (Some command) = effect_of command
+
+-- the effects that give a row
+abbrev pub gives_row : Effect → Bool
+gives_row (reads goal) = true
+gives_row (peeks goal) = true
+gives_row (re_lexes goal) = true
+gives_row opens = false
+gives_row rewinds = false
+gives_row commits = false
+
+-- the effects that close a mark
+abbrev pub closes_mark : Effect → Bool
+closes_mark (reads goal) = false
+closes_mark (peeks goal) = false
+closes_mark (re_lexes goal) = false
+closes_mark opens = false
+closes_mark rewinds = true
+closes_mark commits = true
+
+-- the effects that open one
+abbrev pub opens_mark : Effect → Bool
+opens_mark (reads goal) = false
+opens_mark (peeks goal) = false
+opens_mark (re_lexes goal) = false
+opens_mark opens = true
+opens_mark rewinds = false
+opens_mark commits = false
+
+-- the commands that give a row
+abbrev pub is_step : Command → Bool
+is_step command = gives_row (effect_of command)
+
+-- the commands that close a mark
+abbrev pub closes : Command → Bool
+closes command = closes_mark (effect_of command)
+
+-- the commands that open one
+abbrev pub opens_one : Command → Bool
+opens_one command = opens_mark (effect_of command)

@@ -1,0 +1,27 @@
+//! The values of tokens.
+
+ghost use Rattle.std.specs.Prelude.{◌≡◌, IfOk};
+
+use crate::span::Span;
+use std::alloc::{AllocError, Global};
+
+/// The value of a token.
+#[derive(PartialEq, Eq, Debug, Drop)]
+pub enum RowValue {
+    /// A token of a kind that has no value.
+    Nothing,
+    /// This stretch of the source, in bytes.
+    Slice(Span),
+}
+
+impl RowValue {
+    /// An equal value.
+    pub fn copy(&self, _alloc: Global) -> Result<RowValue, AllocError>
+        ensures { IfOk result (λ value. value ≡ self.now) }
+    {
+        match self {
+            RowValue::Nothing => Ok(RowValue::Nothing),
+            RowValue::Slice(span) => Ok(RowValue::Slice(*span)),
+        }
+    }
+}
