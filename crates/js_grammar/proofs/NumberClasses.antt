@@ -4,7 +4,8 @@ use Rattle.std.proofs.lemmas.Bool.{eqb-true}
 use Rattle.std.proofs.lemmas.Bool.Decides.{nat_tests}
 use Rattle.unicode_ident.proofs.Computing.{unicode_ident}
 use Rattle.js_text.specs.Characters.{begins, is_identifier_start}
-use Rattle.js_grammar.specs.Number.{is_digit_of, underscore, point, small_n, is_exponent_mark, may_not_follow_number}
+use Rattle.js_text.specs.Ascii.{full_stop, low_line}
+use Rattle.js_grammar.specs.Number.{is_digit_of, latin_small_letter_n, is_exponent_mark, may_not_follow_number}
 use Rattle.js_grammar.proofs.NumberItems.{Stops, true_or_false}
 use Rattle.js_grammar.proofs.Tests.{and_true}
 
@@ -75,16 +76,16 @@ is_exponent c e = elim (or_true (c == 101) (c == 69) e) [ inl small ↦ inl (eqb
 -- What may follow a number goes on with none of its items.
 pub record EndsNumber (ys : List ℕ) : Type 0 where
   pub run : (radix : ℕ) → radix ≤ 16 → Stops radix ys
-  pub suffix : begins (λ c. c == small_n) ys ≡ false
+  pub suffix : begins (λ c. c == latin_small_letter_n) ys ≡ false
   pub exponent : begins is_exponent_mark ys ≡ false
 
 pub ends_number : (ys : List ℕ) → begins may_not_follow_number ys ≡ false → EndsNumber ys
 ends_number ys e = record {
   run = λ radix h. record {
     digit = begins_no (is_digit_of radix) may_not_follow_number ys (λ c d. digit_may_not_follow radix c h d) e;
-    separator = begins_no (λ c. c == underscore) may_not_follow_number ys (λ c same. is_mark underscore c marks_go_on.0 same) e;
+    separator = begins_no (λ c. c == low_line) may_not_follow_number ys (λ c same. is_mark low_line c marks_go_on.0 same) e;
   };
-  suffix = begins_no (λ c. c == small_n) may_not_follow_number ys (λ c same. is_mark small_n c marks_go_on.1 same) e;
+  suffix = begins_no (λ c. c == latin_small_letter_n) may_not_follow_number ys (λ c same. is_mark latin_small_letter_n c marks_go_on.1 same) e;
   exponent =
     begins_no is_exponent_mark may_not_follow_number ys
       (λ c mark. elim (is_exponent c mark) [ inl small ↦ ap may_not_follow_number small ∙ marks_go_on.2 | inr large ↦ ap may_not_follow_number large ∙ marks_go_on.3 ])
@@ -96,10 +97,10 @@ marks_are_no_digits : (radix : ℕ) → radix ≤ 16 → (is_digit_of radix 46 �
 unfolding is_digit_of
 marks_are_no_digits radix h = (grind (arith, nat_tests), grind (arith, nat_tests))
 
-pub point_stops : (ys : List ℕ) → Stops 10 (point ∷ ys)
+pub point_stops : (ys : List ℕ) → Stops 10 (full_stop ∷ ys)
 point_stops ys = record { digit = (marks_are_no_digits 10 (omega arith)).0; separator = refl }
 
-pub suffix_stops : (radix : ℕ) (ys : List ℕ) → radix ≤ 16 → Stops radix (small_n ∷ ys)
+pub suffix_stops : (radix : ℕ) (ys : List ℕ) → radix ≤ 16 → Stops radix (latin_small_letter_n ∷ ys)
 suffix_stops radix ys h = record { digit = (marks_are_no_digits radix h).1; separator = refl }
 
 exponents_are_no_digits : (is_digit_of 10 101 ≡ false) × (is_digit_of 10 69 ≡ false)
@@ -109,13 +110,13 @@ exponents_are_no_digits = (refl, refl)
 pub exponent_stops : (c : ℕ) (ys : List ℕ) → is_exponent_mark c ≡ true → Stops 10 (c ∷ ys)
 exponent_stops c ys e = record {
   digit = elim (is_exponent c e) [ inl small ↦ ap (is_digit_of 10) small ∙ exponents_are_no_digits.0 | inr large ↦ ap (is_digit_of 10) large ∙ exponents_are_no_digits.1 ];
-  separator = elim (is_exponent c e) [ inl small ↦ ap (λ d. d == underscore) small | inr large ↦ ap (λ d. d == underscore) large ];
+  separator = elim (is_exponent c e) [ inl small ↦ ap (λ d. d == low_line) small | inr large ↦ ap (λ d. d == low_line) large ];
 }
 
 -- the mark of an exponent is no point and no suffix
-pub exponent_is_no_mark : (c : ℕ) → is_exponent_mark c ≡ true → ((c == point) ≡ false) × ((c == small_n) ≡ false)
+pub exponent_is_no_mark : (c : ℕ) → is_exponent_mark c ≡ true → ((c == full_stop) ≡ false) × ((c == latin_small_letter_n) ≡ false)
 exponent_is_no_mark c e =
     elim (is_exponent c e) [
-      inl small ↦ (ap (λ d. d == point) small, ap (λ d. d == small_n) small)
-    | inr large ↦ (ap (λ d. d == point) large, ap (λ d. d == small_n) large)
+      inl small ↦ (ap (λ d. d == full_stop) small, ap (λ d. d == latin_small_letter_n) small)
+    | inr large ↦ (ap (λ d. d == full_stop) large, ap (λ d. d == latin_small_letter_n) large)
     ]

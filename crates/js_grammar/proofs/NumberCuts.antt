@@ -5,7 +5,8 @@ use Rattle.std.proofs.lemmas.Bool.{eqb-true}
 use Rattle.std.proofs.lemmas.List.{append-nil}
 use Rattle.unicode_ident.proofs.Computing.{unicode_ident}
 use Rattle.js_text.specs.Characters.{is_identifier_start, begins, from_first, before_first}
-use Rattle.js_grammar.specs.Number.{Item, whole, run, integer, Is, IsOptional, IsExponent, IsFloatExponent, IsLegacyOctal, IsLegacyDecimal, base_of, Sign, sign_text, sign_kind, is_digit_of, are_digits, is_exponent_mark, may_not_follow_number, point, small_n, zero_digit}
+use Rattle.js_text.specs.Ascii.{full_stop}
+use Rattle.js_grammar.specs.Number.{Item, whole, run, integer, Is, IsOptional, IsExponent, IsFloatExponent, IsLegacyOctal, IsLegacyDecimal, base_of, Sign, sign_text, sign_kind, is_digit_of, are_digits, is_exponent_mark, may_not_follow_number, latin_small_letter_n, digit_zero}
 use Rattle.js_grammar.specs.Number.Sign.{no_sign, plus, minus}
 use Rattle.js_grammar.specs.Number.IsExponent.{exponent}
 use Rattle.js_grammar.specs.Number.IsLegacyOctal.{legacy as legacy_octal_digits}
@@ -113,24 +114,24 @@ fraction_cut fs es ys (inr is) e end =
 
 -- a point, a fraction and an exponent
 pub point_cut : (fs es ys : List ℕ) → IsOptional (Is (run 10)) fs → IsOptional IsFloatExponent es → EndsNumber ys
-    → Cuts (point_items (point ∷ (fs ++ (es ++ ys)))) (point ∷ (fs ++ es)) ys Float
+    → Cuts (point_items (full_stop ∷ (fs ++ (es ++ ys)))) (full_stop ∷ (fs ++ es)) ys Float
 unfolding point_items
 point_cut fs es ys f e end =
     let cut = (fraction_cut fs es ys f e end).1 in
-    record { text = ap (λ text. point ∷ text) cut.text; rest = cut.rest; kind_is = refl; whole_ones = cut.whole_ones }
+    record { text = ap (λ text. full_stop ∷ text) cut.text; rest = cut.rest; kind_is = refl; whole_ones = cut.whole_ones }
 
-point_mark : (text : List ℕ) → begins (λ c. c == point) (point ∷ text) ≡ true
+point_mark : (text : List ℕ) → begins (λ c. c == full_stop) (full_stop ∷ text) ≡ true
 point_mark text = refl
 
 -- behind the digits before a point: nothing, a point, or an exponent
-pub nothing_cut : (ys : List ℕ) → EndsNumber ys → begins (λ c. c == point) ys ≡ false → Cuts (behind_digits ys) [] ys Decimal
+pub nothing_cut : (ys : List ℕ) → EndsNumber ys → begins (λ c. c == full_stop) ys ≡ false → Cuts (behind_digits ys) [] ys Decimal
 nothing_cut ys end none = rw (behind_digits_other ys none, exponent_missing Decimal ys end.exponent) (none_cut Decimal ys)
 
-mark_is_no_point : (ys : List ℕ) → begins is_exponent_mark ys ≡ true → begins (λ c. c == point) ys ≡ false
-mark_is_no_point ys e = mark_begins (λ c. c == point) ys e (λ c is. (exponent_is_no_mark c is).0)
+mark_is_no_point : (ys : List ℕ) → begins is_exponent_mark ys ≡ true → begins (λ c. c == full_stop) ys ≡ false
+mark_is_no_point ys e = mark_begins (λ c. c == full_stop) ys e (λ c is. (exponent_is_no_mark c is).0)
 
-pub mark_is_no_suffix : (ys : List ℕ) → begins is_exponent_mark ys ≡ true → begins (λ c. c == small_n) ys ≡ false
-mark_is_no_suffix ys e = mark_begins (λ c. c == small_n) ys e (λ c is. (exponent_is_no_mark c is).1)
+pub mark_is_no_suffix : (ys : List ℕ) → begins is_exponent_mark ys ≡ true → begins (λ c. c == latin_small_letter_n) ys ≡ false
+mark_is_no_suffix ys e = mark_begins (λ c. c == latin_small_letter_n) ys e (λ c is. (exponent_is_no_mark c is).1)
 
 pub powered_cut : (xs ys : List ℕ) (kind : Kind) → IsExponent xs kind → EndsNumber ys → Cuts (behind_digits (xs ++ ys)) xs ys kind
 powered_cut xs ys kind is end = rw (behind_digits_other (xs ++ ys) (mark_is_no_point (xs ++ ys) (exponent_begins xs ys kind is))) (exponent_cut Decimal kind xs ys is end)
@@ -168,29 +169,29 @@ mark_names_no_base (c ∷ cs) e = elim (is_exponent c e) [ inl small ↦ ap base
 pub no_prefix_ended : (ys : List ℕ) → begins may_not_follow_number ys ≡ false → NoPrefix ys
 no_prefix_ended ys e = record { letter = follower_names_no_base ys e; stops = (ends_number ys e).run 10 (omega arith) }
 
-pub no_prefix_suffix : (ys : List ℕ) → NoPrefix (small_n ∷ ys)
+pub no_prefix_suffix : (ys : List ℕ) → NoPrefix (latin_small_letter_n ∷ ys)
 no_prefix_suffix ys = record { letter = refl; stops = suffix_stops 10 ys (omega arith) }
 
-pub no_prefix_point : (ys : List ℕ) → NoPrefix (point ∷ ys)
+pub no_prefix_point : (ys : List ℕ) → NoPrefix (full_stop ∷ ys)
 no_prefix_point ys = record { letter = refl; stops = point_stops ys }
 
 pub no_prefix_mark : (ys : List ℕ) → begins is_exponent_mark ys ≡ true → NoPrefix ys
 no_prefix_mark ys e = record { letter = mark_names_no_base ys e; stops = mark_stops ys e }
 
 -- the digits of a decimal number are found
-integer_begins : (c : ℕ) (cs : List ℕ) → Is integer (c ∷ cs) → (c == point) ≡ false
+integer_begins : (c : ℕ) (cs : List ℕ) → Is integer (c ∷ cs) → (c == full_stop) ≡ false
 unfolding integer
 integer_begins c cs is =
-    elim (true_or_false (c == zero_digit)) [
-      inl zero ↦ ap (λ d. d == point) (eqb-true c zero_digit zero)
-    | inr other ↦ digit_differs c point (run_begins 10 (c ∷ cs) (rw other at is)) (point_stops []).digit
+    elim (true_or_false (c == digit_zero)) [
+      inl zero ↦ ap (λ d. d == full_stop) (eqb-true c digit_zero zero)
+    | inr other ↦ digit_differs c full_stop (run_begins 10 (c ∷ cs) (rw other at is)) (point_stops []).digit
     ]
 
-integer_of_zero : (c : ℕ) (cs : List ℕ) → Is integer (c ∷ cs) → (c == zero_digit) ≡ true → cs ≡ []
+integer_of_zero : (c : ℕ) (cs : List ℕ) → Is integer (c ∷ cs) → (c == digit_zero) ≡ true → cs ≡ []
 unfolding integer
 integer_of_zero c cs is zero = ap (λ (i : Item). i.rest) (rw zero at is)
 
-zero_found : (c : ℕ) (ys : List ℕ) → (c == point) ≡ false → (c == zero_digit) ≡ true → NoPrefix ys → number_items (c ∷ ys) ≡ decimal_items (c ∷ ys)
+zero_found : (c : ℕ) (ys : List ℕ) → (c == full_stop) ≡ false → (c == digit_zero) ≡ true → NoPrefix ys → number_items (c ∷ ys) ≡ decimal_items (c ∷ ys)
 zero_found c ys other zero free =
     number_zero (c ∷ ys) other zero ∙ ap (λ base. zero_items base (c ∷ ys)) free.letter ∙ zero_decimal (c ∷ ys) free.stops.digit
 
@@ -198,7 +199,7 @@ decimal_found : (xs ys : List ℕ) → Is integer xs → NoPrefix ys → number_
 unfolding integer run
 decimal_found [] ys is free = let h : true ≡ false = ap (λ (i : Item). i.lacks_digit) is in absurd (cc)
 decimal_found (c ∷ cs) ys is free =
-    elim (true_or_false (c == zero_digit)) [
+    elim (true_or_false (c == digit_zero)) [
       inl zero ↦ (
         let one = integer_of_zero c cs is zero in
         subst (λ rest. number_items (c ∷ (rest ++ ys)) ≡ decimal_items (c ∷ (rest ++ ys))) (sym one) (zero_found c ys (integer_begins c cs is) zero free))
@@ -239,9 +240,9 @@ zero_is_digit : (is_digit_of 10 48 ≡ true) × (is_digit_of 8 48 ≡ true)
 unfolding is_digit_of
 zero_is_digit = (refl, refl)
 
-legacy_found : (ds ys : List ℕ) → begins (is_digit_of 10) ds ≡ true → number_items (zero_digit ∷ (ds ++ ys)) ≡ legacy_items (zero_digit ∷ (ds ++ ys))
+legacy_found : (ds ys : List ℕ) → begins (is_digit_of 10) ds ≡ true → number_items (digit_zero ∷ (ds ++ ys)) ≡ legacy_items (digit_zero ∷ (ds ++ ys))
 legacy_found ds ys first =
-    let text = zero_digit ∷ (ds ++ ys) in
+    let text = digit_zero ∷ (ds ++ ys) in
     let more = begins_more (is_digit_of 10) ds ys first in
     number_zero text refl refl ∙ ap (λ base. zero_items base text) (digit_begins_no_base (ds ++ ys) more) ∙ zero_legacy text more
 
@@ -261,23 +262,23 @@ some_digit : (ds : List ℕ) → are_digits 10 ds ≡ true → are_digits 8 ds �
 some_digit [] e s = absurd (cc)
 some_digit (d ∷ ds) e s = (and_true (is_digit_of 10 d) (are_digits 10 ds) e).0
 
-zero_and : (radix : ℕ) (ds : List ℕ) (b : Bool) → is_digit_of radix zero_digit ≡ true → are_digits radix ds ≡ b → are_digits radix (zero_digit ∷ ds) ≡ b
+zero_and : (radix : ℕ) (ds : List ℕ) (b : Bool) → is_digit_of radix digit_zero ≡ true → are_digits radix ds ≡ b → are_digits radix (digit_zero ∷ ds) ≡ b
 zero_and radix ds b zero e = rw zero e
 
-legacy_digits : (ds ys : List ℕ) → are_digits 10 ds ≡ true → begins (is_digit_of 10) ys ≡ false → plain_digits (zero_digit ∷ (ds ++ ys)) ≡ whole (zero_digit ∷ ds) ys
-legacy_digits ds ys digits stops = plain_digits_append (zero_digit ∷ ds) ys (zero_and 10 ds true zero_is_digit.0 digits) stops
+legacy_digits : (ds ys : List ℕ) → are_digits 10 ds ≡ true → begins (is_digit_of 10) ys ≡ false → plain_digits (digit_zero ∷ (ds ++ ys)) ≡ whole (digit_zero ∷ ds) ys
+legacy_digits ds ys digits stops = plain_digits_append (digit_zero ∷ ds) ys (zero_and 10 ds true zero_is_digit.0 digits) stops
 
 pub legacy_octal_cut : (xs ys : List ℕ) → IsLegacyOctal xs → EndsNumber ys → Cuts (number_items (xs ++ ys)) xs ys Octal
 legacy_octal_cut xs ys (legacy_octal_digits ds first digits here) end =
-    let text = zero_digit ∷ (ds ++ ys) in
+    let text = digit_zero ∷ (ds ++ ys) in
     let found = legacy_digits ds ys (octal_digits ds digits) (end.run 10 (omega arith)).digit in
     let octal = ap (λ (item : Item). are_digits 8 item.text) found ∙ zero_and 8 ds true zero_is_digit.1 digits in
-    rw (here, legacy_found ds ys (octal_begins ds first), legacy_octal_items text octal, found) (last_cut Octal (zero_digit ∷ ds) ys)
+    rw (here, legacy_found ds ys (octal_begins ds first), legacy_octal_items text octal, found) (last_cut Octal (digit_zero ∷ ds) ys)
 
 pub legacy_decimal_cut : (xs zs ws ys : List ℕ) (kind : Kind) → IsLegacyDecimal xs → Stops 10 zs → Cuts (behind_digits zs) ws ys kind
     → Cuts (number_items (xs ++ zs)) (xs ++ ws) ys kind
 legacy_decimal_cut xs zs ws ys kind (legacy_decimal_digits ds digits some here) stops cut =
-    let text = zero_digit ∷ (ds ++ zs) in
+    let text = digit_zero ∷ (ds ++ zs) in
     let found = legacy_digits ds zs digits stops.digit in
     let decimal = ap (λ (item : Item). are_digits 8 item.text) found ∙ zero_and 8 ds false zero_is_digit.1 some in
-    rw (here, legacy_found ds zs (some_digit ds digits some), legacy_decimal_items text decimal, found) (cons_cut (zero_digit ∷ ds) zs ws ys kind (behind_digits zs) cut)
+    rw (here, legacy_found ds zs (some_digit ds digits some), legacy_decimal_items text decimal, found) (cons_cut (digit_zero ∷ ds) zs ws ys kind (behind_digits zs) cut)

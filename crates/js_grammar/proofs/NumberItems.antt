@@ -3,7 +3,8 @@ use Rattle.std.proofs.Common.{◌≡◌, ℕ, Bool, true, false, List, [], ◌�
 use Rattle.std.specs.Prelude.{codes}
 use Rattle.std.proofs.lemmas.Bool.{eqb-true}
 use Rattle.js_text.specs.Characters.{begins}
-use Rattle.js_grammar.specs.Number.{Item, whole, item-cons, digits_on, run, integer, Is, is_digit_of, underscore, zero_digit}
+use Rattle.js_text.specs.Ascii.{low_line}
+use Rattle.js_grammar.specs.Number.{Item, whole, item-cons, digits_on, run, integer, Is, is_digit_of, digit_zero}
 
 pub true_or_false : (b : Bool) → (b ≡ true) ⊎ (b ≡ false)
 true_or_false true = inl refl
@@ -17,7 +18,7 @@ begins_more p (c ∷ cs) ys e = e
 -- no digit of the radix and no `_` stands here
 pub record Stops (radix : ℕ) (ys : List ℕ) : Type 0 where
   pub digit : begins (is_digit_of radix) ys ≡ false
-  pub separator : begins (λ c. c == underscore) ys ≡ false
+  pub separator : begins (λ c. c == low_line) ys ≡ false
 
 -- an item without its first character
 abbrev uncons : Item → Item
@@ -35,7 +36,7 @@ digits_on_append radix (c ∷ cs) ys e s =
       inl digit ↦ (
         let rest = ap uncons (rw digit at e) in
         rw digit (ap (item-cons c) (digits_on_append radix cs ys rest s)))
-    | inr other ↦ elim (true_or_false (c == underscore)) [
+    | inr other ↦ elim (true_or_false (c == low_line)) [
         inl mark ↦ elim (true_or_false (begins (is_digit_of radix) cs)) [
           inl digit ↦ (
             let rest = ap uncons (rw (other, mark, digit) at e) in
@@ -71,7 +72,7 @@ pub integer_append : (xs ys : List ℕ) → Is integer xs → Stops 10 ys → in
 unfolding integer run
 integer_append [] ys e s = let h : true ≡ false = ap (λ (i : Item). i.lacks_digit) e in absurd (cc)
 integer_append (c ∷ cs) ys e s =
-    elim (true_or_false (c == zero_digit)) [
+    elim (true_or_false (c == digit_zero)) [
       inl zero ↦ (
         let one : codes "0" ≡ c ∷ cs = ap (λ (i : Item). i.text) (rw zero at e) in
         let end : cs ≡ [] = ap (λ (i : Item). i.rest) (rw zero at e) in
@@ -85,7 +86,7 @@ digits_on_text radix [] = refl
 digits_on_text radix (c ∷ cs) =
     elim (true_or_false (is_digit_of radix c)) [
       inl digit ↦ rw digit (ap (λ rest. c ∷ rest) (digits_on_text radix cs))
-    | inr other ↦ elim (true_or_false (c == underscore)) [
+    | inr other ↦ elim (true_or_false (c == low_line)) [
         inl mark ↦ elim (true_or_false (begins (is_digit_of radix) cs)) [
           inl digit ↦ rw (other, mark, digit) (ap (λ rest. c ∷ rest) (digits_on_text radix cs))
         | inr none ↦ rw (other, mark, none) refl
@@ -106,8 +107,8 @@ pub integer_text : (text : List ℕ) → text ≡ (integer text).text ++ (intege
 unfolding integer run
 integer_text [] = refl
 integer_text (c ∷ cs) =
-    elim (true_or_false (c == zero_digit)) [
-      inl zero ↦ rw zero (ap (λ d. d ∷ cs) (eqb-true c zero_digit zero))
+    elim (true_or_false (c == digit_zero)) [
+      inl zero ↦ rw zero (ap (λ d. d ∷ cs) (eqb-true c digit_zero zero))
     | inr other ↦ rw other (run_text 10 (c ∷ cs))
     ]
 
@@ -120,7 +121,7 @@ digits_on_is radix [] e = refl
 digits_on_is radix (c ∷ cs) e =
     elim (true_or_false (is_digit_of radix c)) [
       inl digit ↦ rw digit (rw digit (ap (item-cons c) (digits_on_is radix cs (rw digit at e))))
-    | inr other ↦ elim (true_or_false (c == underscore)) [
+    | inr other ↦ elim (true_or_false (c == low_line)) [
         inl mark ↦ elim (true_or_false (begins (is_digit_of radix) cs)) [
           inl digit ↦ (
             let next = digits_on_begins radix cs digit in
@@ -150,10 +151,10 @@ begins_less p (c ∷ cs) ys e = e
 pub integer_is : (text : List ℕ) → (integer text).lacks_digit ≡ false → Is integer (integer text).text
 unfolding integer
 integer_is text e =
-    elim (true_or_false (begins (λ c. c == zero_digit) text)) [
+    elim (true_or_false (begins (λ c. c == digit_zero) text)) [
       inl zero ↦ rw zero refl
     | inr other ↦ (
-        let begun : begins (λ c. c == zero_digit) ((run 10 text).text ++ (run 10 text).rest) ≡ false = ap (begins (λ c. c == zero_digit)) (sym (run_text 10 text)) ∙ other in
-        let first = begins_less (λ c. c == zero_digit) (run 10 text).text (run 10 text).rest begun in
+        let begun : begins (λ c. c == digit_zero) ((run 10 text).text ++ (run 10 text).rest) ≡ false = ap (begins (λ c. c == digit_zero)) (sym (run_text 10 text)) ∙ other in
+        let first = begins_less (λ c. c == digit_zero) (run 10 text).text (run 10 text).rest begun in
         rw other (rw first (run_is 10 text (rw other at e))))
     ]

@@ -4,8 +4,9 @@ use Rattle.std.proofs.lemmas.List.{append_cancel_right}
 use Rattle.std.specs.List.{list_any}
 use Rattle.js_text.specs.Characters.{begins}
 use Rattle.js_text.specs.declared.diagnostic.Diagnostic.{Diagnostic}
-use Rattle.js_grammar.specs.Number.{Item, IsNumber, may_not_follow_number, excluded_after, begins_number, underscore}
-use Rattle.js_grammar.specs.NumberReads.{Items, number_items, has_separator, missing_digits, place_behind, missing_digit, invalid_number_end, NumberRead, items_read, number_read}
+use Rattle.js_text.specs.Ascii.{low_line}
+use Rattle.js_grammar.specs.Number.{Item, IsNumber, may_not_follow_number, excluded_after, begins_number}
+use Rattle.js_grammar.specs.NumberReads.{Items, number_items, items_have_separator, missing_digits, behind_items, missing_digit, invalid_number_end, NumberRead, items_read, number_read}
 use Rattle.js_grammar.proofs.NumberCuts.{all_text, lacks_some, Cuts}
 use Rattle.js_grammar.proofs.NumberItems.{true_or_false}
 use Rattle.js_grammar.proofs.NumberShapes.{or_false, excluded_begins, number_cut}
@@ -16,7 +17,7 @@ use Rattle.js_kind.specs.declared.kind.Kind.TheVariants.{Decimal}
 
 -- a `_` is among the characters
 abbrev pub contains_separator : List ℕ → Bool
-contains_separator xs = list_any (λ c. c == underscore) xs
+contains_separator xs = list_any (λ c. c == low_line) xs
 
 any_append : (p : ℕ → Bool) (xs ys : List ℕ) → list_any p (xs ++ ys) ≡ (list_any p xs || list_any p ys)
 any_append p [] ys = refl
@@ -26,10 +27,10 @@ any_append p (x ∷ xs) ys = ap (λ b. p x || b) (any_append p xs ys) ∙ or_ass
   or_assoc true b c = refl
   or_assoc false b c = refl
 
-pub separator_of_items : (items : List Item) → has_separator items ≡ contains_separator (all_text items)
+pub separator_of_items : (items : List Item) → items_have_separator items ≡ contains_separator (all_text items)
 separator_of_items [] = refl
 separator_of_items (item ∷ items) =
-    ap (λ b. contains_separator item.text || b) (separator_of_items items) ∙ sym (any_append (λ c. c == underscore) item.text (all_text items))
+    ap (λ b. contains_separator item.text || b) (separator_of_items items) ∙ sym (any_append (λ c. c == low_line) item.text (all_text items))
 
 -- whole items report nothing, and others do
 whole_report : (place : ℕ) (items : List Item) → lacks_some items ≡ false → missing_digits place items ≡ []
@@ -57,7 +58,7 @@ read_of_cut : (place : ℕ) (number : Items) (xs ys : List ℕ) (kind : Kind) �
     → items_read place number ≡ good_read xs kind ys
 read_of_cut place number xs ys kind cut e =
     let follows : begins may_not_follow_number number.rest ≡ false = ap (begins may_not_follow_number) cut.rest ∙ e in
-    let separator : has_separator number.items ≡ contains_separator xs = separator_of_items number.items ∙ ap contains_separator cut.text in
+    let separator : items_have_separator number.items ≡ contains_separator xs = separator_of_items number.items ∙ ap contains_separator cut.text in
     rw (read_well place number follows, cut.kind_is, cut.rest, separator, whole_report place number.items cut.whole_ones) refl
 
 -- A number is read as such where what follows may follow it.
@@ -83,7 +84,7 @@ clean_is_number place text begun clean =
     elim (true_or_false (begins may_not_follow_number number.rest)) [
       inl bad ↦ (
         let read = read_badly place number bad in
-        absurd (append_not_empty (missing_digits place number.items) (invalid_number_end (place_behind place number.items) number.rest) (ap (λ (r : NumberRead). r.diagnostics) (sym read) ∙ clean)))
+        absurd (append_not_empty (missing_digits place number.items) (invalid_number_end (behind_items place number.items) number.rest) (ap (λ (r : NumberRead). r.diagnostics) (sym read) ∙ clean)))
     | inr well ↦ (
         let read = read_well place number well in
         let none : missing_digits place number.items ≡ [] = ap (λ (r : NumberRead). r.diagnostics) (sym read) ∙ clean in

@@ -3,7 +3,8 @@ use Rattle.std.proofs.Common.{◌≡◌, ℕ, ◌≤◌, Bool, true, false, List
 use Rattle.std.proofs.lemmas.List.{append-nil}
 use Rattle.std.specs.Prelude.{codes}
 use Rattle.js_text.specs.Characters.{begins}
-use Rattle.js_grammar.specs.Number.{Item, whole, run, Is, IsBeforePoint, IsNumber, Base, base_of, may_not_follow_number, excluded_after, point, small_n, zero_digit}
+use Rattle.js_text.specs.Ascii.{full_stop}
+use Rattle.js_grammar.specs.Number.{Item, whole, run, Is, IsBeforePoint, IsNumber, Base, base_of, may_not_follow_number, excluded_after, latin_small_letter_n, digit_zero}
 use Rattle.js_grammar.specs.Number.IsNumber.{prefixed, prefixed_big, decimal, decimal_big, with_point, with_exponent, point_first, legacy_octal, legacy_decimal}
 use Rattle.js_grammar.specs.NumberReads.{no_items, items-cons, behind_digits, suffix_or, behind_prefix, zero_items, number_items}
 use Rattle.js_grammar.proofs.NumberClasses.{ends_number, suffix_stops}
@@ -19,7 +20,7 @@ or_false false b e = (refl, e)
 
 -- what may not follow a number of a kind begins with a character that follows none, but for a point
 pub excluded_begins : (kind : Kind) (ys : List ℕ) → excluded_after kind ys ≡ false → begins may_not_follow_number ys ≡ false
-excluded_begins Decimal ys e = (or_false (begins may_not_follow_number ys) (begins (λ c. c == point) ys) e).0
+excluded_begins Decimal ys e = (or_false (begins may_not_follow_number ys) (begins (λ c. c == full_stop) ys) e).0
 excluded_begins _ ys e = e
 
 -- the bases are small
@@ -42,27 +43,27 @@ base_is_small c base e =
 -- a number with a prefix
 prefixed_cut : (c : ℕ) (base : Base) (ds zs ws ys : List ℕ) (kind : Kind) → base_of c ≡ Some base → Is (run base.radix) ds → Stops base.radix zs
     → Cuts (suffix_or base.big_kind (no_items base.kind zs) zs) ws ys kind
-    → Cuts (number_items (zero_digit ∷ c ∷ (ds ++ zs))) (zero_digit ∷ c ∷ (ds ++ ws)) ys kind
+    → Cuts (number_items (digit_zero ∷ c ∷ (ds ++ zs))) (digit_zero ∷ c ∷ (ds ++ ws)) ys kind
 prefixed_cut c base ds zs ws ys kind letter is stops cut =
-    let text = zero_digit ∷ c ∷ (ds ++ zs) in
+    let text = digit_zero ∷ c ∷ (ds ++ zs) in
     let digits : run base.radix (ds ++ zs) ≡ whole ds zs = run_append base.radix ds zs is stops in
-    let found : number_items text ≡ items-cons (whole (zero_digit ∷ c ∷ []) (ds ++ zs)) (items-cons (whole ds zs) (suffix_or base.big_kind (no_items base.kind zs) zs)) =
+    let found : number_items text ≡ items-cons (whole (digit_zero ∷ c ∷ []) (ds ++ zs)) (items-cons (whole ds zs) (suffix_or base.big_kind (no_items base.kind zs) zs)) =
         number_zero text refl refl ∙ ap (λ b. zero_items b text) letter ∙ zero_base base text
-        ∙ ap (λ (item : Item). items-cons (whole (zero_digit ∷ c ∷ []) (ds ++ zs)) (behind_prefix base item)) digits
-        ∙ ap (items-cons (whole (zero_digit ∷ c ∷ []) (ds ++ zs))) (behind_prefix_whole base (whole ds zs) refl) in
-    rw found (cons_cut (zero_digit ∷ c ∷ []) (ds ++ zs) (ds ++ ws) ys kind _ (cons_cut ds zs ws ys kind _ cut))
+        ∙ ap (λ (item : Item). items-cons (whole (digit_zero ∷ c ∷ []) (ds ++ zs)) (behind_prefix base item)) digits
+        ∙ ap (items-cons (whole (digit_zero ∷ c ∷ []) (ds ++ zs))) (behind_prefix_whole base (whole ds zs) refl) in
+    rw found (cons_cut (digit_zero ∷ c ∷ []) (ds ++ zs) (ds ++ ws) ys kind _ (cons_cut ds zs ws ys kind _ cut))
 
 -- digits before a point or an exponent
-before_point_cut : (xs zs ws ys : List ℕ) (kind : Kind) → IsBeforePoint xs → NoPrefix zs → begins (λ c. c == small_n) zs ≡ false
+before_point_cut : (xs zs ws ys : List ℕ) (kind : Kind) → IsBeforePoint xs → NoPrefix zs → begins (λ c. c == latin_small_letter_n) zs ≡ false
     → Cuts (behind_digits zs) ws ys kind → Cuts (number_items (xs ++ zs)) (xs ++ ws) ys kind
 before_point_cut xs zs ws ys kind (inl is) free suffix cut =
     decimal_cut xs zs ws ys kind is free (rw (suffix_missing DecimalBigInt (behind_digits zs) zs suffix) cut)
 before_point_cut xs zs ws ys kind (inr is) free suffix cut = legacy_decimal_cut xs zs ws ys kind is free.stops cut
 
-pub point_text : (ds fs es : List ℕ) → ds ++ codes "." ++ fs ++ es ≡ ds ++ (point ∷ (fs ++ es))
+pub point_text : (ds fs es : List ℕ) → ds ++ codes "." ++ fs ++ es ≡ ds ++ (full_stop ∷ (fs ++ es))
 point_text ds fs es = simp append_assoc
 
-point_text_before : (ds fs es ys : List ℕ) → (ds ++ codes "." ++ fs ++ es) ++ ys ≡ ds ++ (point ∷ (fs ++ (es ++ ys)))
+point_text_before : (ds fs es ys : List ℕ) → (ds ++ codes "." ++ fs ++ es) ++ ys ≡ ds ++ (full_stop ∷ (fs ++ (es ++ ys)))
 point_text_before ds fs es ys = simp append_assoc
 
 -- the same cut, where text, characters and kind are written otherwise
@@ -75,35 +76,35 @@ number_cut xs ys kind (prefixed c base ds letter is here kind_is) e =
     let end = ends_number ys (excluded_begins kind ys e) in
     let none : Cuts (suffix_or base.big_kind (no_items base.kind ys) ys) [] ys base.kind =
         rw (suffix_missing base.big_kind (no_items base.kind ys) ys end.suffix) (none_cut base.kind ys) in
-    same_cut (xs ++ ys) (zero_digit ∷ c ∷ (ds ++ ys)) xs (zero_digit ∷ c ∷ (ds ++ [])) ys kind base.kind
-      (ap (λ t. t ++ ys) here) (here ∙ ap (λ t. zero_digit ∷ c ∷ t) (sym (append-nil ds))) kind_is
+    same_cut (xs ++ ys) (digit_zero ∷ c ∷ (ds ++ ys)) xs (digit_zero ∷ c ∷ (ds ++ [])) ys kind base.kind
+      (ap (λ t. t ++ ys) here) (here ∙ ap (λ t. digit_zero ∷ c ∷ t) (sym (append-nil ds))) kind_is
       (prefixed_cut c base ds ys [] ys base.kind letter is (end.run base.radix (base_is_small c base letter)) none)
 number_cut xs ys kind (prefixed_big c base ds letter is here kind_is) e =
-    let suffix : Cuts (suffix_or base.big_kind (no_items base.kind (small_n ∷ ys)) (small_n ∷ ys)) (codes "n") ys base.big_kind =
-        rw (suffix_there base.big_kind (no_items base.kind (small_n ∷ ys)) (small_n ∷ ys) refl) (last_cut base.big_kind (codes "n") ys) in
-    same_cut (xs ++ ys) (zero_digit ∷ c ∷ (ds ++ (small_n ∷ ys))) xs (zero_digit ∷ c ∷ (ds ++ codes "n")) ys kind base.big_kind
-      (ap (λ t. t ++ ys) here ∙ ap (λ t. zero_digit ∷ c ∷ t) (append_assoc ds (codes "n") ys)) here kind_is
-      (prefixed_cut c base ds (small_n ∷ ys) (codes "n") ys base.big_kind letter is (suffix_stops base.radix ys (base_is_small c base letter)) suffix)
+    let suffix : Cuts (suffix_or base.big_kind (no_items base.kind (latin_small_letter_n ∷ ys)) (latin_small_letter_n ∷ ys)) (codes "n") ys base.big_kind =
+        rw (suffix_there base.big_kind (no_items base.kind (latin_small_letter_n ∷ ys)) (latin_small_letter_n ∷ ys) refl) (last_cut base.big_kind (codes "n") ys) in
+    same_cut (xs ++ ys) (digit_zero ∷ c ∷ (ds ++ (latin_small_letter_n ∷ ys))) xs (digit_zero ∷ c ∷ (ds ++ codes "n")) ys kind base.big_kind
+      (ap (λ t. t ++ ys) here ∙ ap (λ t. digit_zero ∷ c ∷ t) (append_assoc ds (codes "n") ys)) here kind_is
+      (prefixed_cut c base ds (latin_small_letter_n ∷ ys) (codes "n") ys base.big_kind letter is (suffix_stops base.radix ys (base_is_small c base letter)) suffix)
 number_cut xs ys kind (decimal is kind_is) e =
-    let none = or_false (begins may_not_follow_number ys) (begins (λ c. c == point) ys) (rw kind_is at e) in
+    let none = or_false (begins may_not_follow_number ys) (begins (λ c. c == full_stop) ys) (rw kind_is at e) in
     let end = ends_number ys none.0 in
     let nothing : Cuts (suffix_or DecimalBigInt (behind_digits ys) ys) [] ys Decimal =
         rw (suffix_missing DecimalBigInt (behind_digits ys) ys end.suffix) (nothing_cut ys end none.1) in
     same_cut (xs ++ ys) (xs ++ ys) xs (xs ++ []) ys kind Decimal refl (sym (append-nil xs)) kind_is
       (decimal_cut xs ys [] ys Decimal is (no_prefix_ended ys none.0) nothing)
 number_cut xs ys kind (decimal_big ds is here kind_is) e =
-    let suffix : Cuts (suffix_or DecimalBigInt (behind_digits (small_n ∷ ys)) (small_n ∷ ys)) (codes "n") ys DecimalBigInt =
-        rw (suffix_there DecimalBigInt (behind_digits (small_n ∷ ys)) (small_n ∷ ys) refl) (last_cut DecimalBigInt (codes "n") ys) in
-    same_cut (xs ++ ys) (ds ++ (small_n ∷ ys)) xs (ds ++ codes "n") ys kind DecimalBigInt
+    let suffix : Cuts (suffix_or DecimalBigInt (behind_digits (latin_small_letter_n ∷ ys)) (latin_small_letter_n ∷ ys)) (codes "n") ys DecimalBigInt =
+        rw (suffix_there DecimalBigInt (behind_digits (latin_small_letter_n ∷ ys)) (latin_small_letter_n ∷ ys) refl) (last_cut DecimalBigInt (codes "n") ys) in
+    same_cut (xs ++ ys) (ds ++ (latin_small_letter_n ∷ ys)) xs (ds ++ codes "n") ys kind DecimalBigInt
       (ap (λ t. t ++ ys) here ∙ append_assoc ds (codes "n") ys) here kind_is
-      (decimal_cut ds (small_n ∷ ys) (codes "n") ys DecimalBigInt is (no_prefix_suffix ys) suffix)
+      (decimal_cut ds (latin_small_letter_n ∷ ys) (codes "n") ys DecimalBigInt is (no_prefix_suffix ys) suffix)
 number_cut xs ys kind (with_point ds fs es d f p here kind_is) e =
     let end = ends_number ys (excluded_begins kind ys e) in
     let rest = fs ++ (es ++ ys) in
-    let cut : Cuts (behind_digits (point ∷ rest)) (point ∷ (fs ++ es)) ys Float = rw (behind_digits_point (point ∷ rest) refl) (point_cut fs es ys f p end) in
-    same_cut (xs ++ ys) (ds ++ (point ∷ rest)) xs (ds ++ (point ∷ (fs ++ es))) ys kind Float
+    let cut : Cuts (behind_digits (full_stop ∷ rest)) (full_stop ∷ (fs ++ es)) ys Float = rw (behind_digits_point (full_stop ∷ rest) refl) (point_cut fs es ys f p end) in
+    same_cut (xs ++ ys) (ds ++ (full_stop ∷ rest)) xs (ds ++ (full_stop ∷ (fs ++ es))) ys kind Float
       (ap (λ t. t ++ ys) here ∙ point_text_before ds fs es ys) (here ∙ point_text ds fs es) kind_is
-      (before_point_cut ds (point ∷ rest) (point ∷ (fs ++ es)) ys Float d (no_prefix_point rest) refl cut)
+      (before_point_cut ds (full_stop ∷ rest) (full_stop ∷ (fs ++ es)) ys Float d (no_prefix_point rest) refl cut)
 number_cut xs ys kind (with_exponent ds es d p here) e =
     let end = ends_number ys (excluded_begins kind ys e) in
     let first = exponent_begins es ys kind p in
@@ -112,13 +113,13 @@ number_cut xs ys kind (with_exponent ds es d p here) e =
 number_cut xs ys kind (point_first fs es f p here kind_is) e =
     let end = ends_number ys (excluded_begins kind ys e) in
     let rest = fs ++ (es ++ ys) in
-    same_cut (xs ++ ys) (point ∷ rest) xs (point ∷ (fs ++ es)) ys kind Float
+    same_cut (xs ++ ys) (full_stop ∷ rest) xs (full_stop ∷ (fs ++ es)) ys kind Float
       (ap (λ t. t ++ ys) here ∙ point_text_before [] fs es ys) (here ∙ point_text [] fs es) kind_is
-      (rw (number_point (point ∷ rest) refl) (point_cut fs es ys (inr f) p end))
+      (rw (number_point (full_stop ∷ rest) refl) (point_cut fs es ys (inr f) p end))
 number_cut xs ys kind (legacy_octal is kind_is) e =
     rw kind_is (legacy_octal_cut xs ys is (ends_number ys (excluded_begins kind ys e)))
 number_cut xs ys kind (legacy_decimal is kind_is) e =
-    let none = or_false (begins may_not_follow_number ys) (begins (λ c. c == point) ys) (rw kind_is at e) in
+    let none = or_false (begins may_not_follow_number ys) (begins (λ c. c == full_stop) ys) (rw kind_is at e) in
     let end = ends_number ys none.0 in
     same_cut (xs ++ ys) (xs ++ ys) xs (xs ++ []) ys kind Decimal refl (sym (append-nil xs)) kind_is
       (legacy_decimal_cut xs ys [] ys Decimal is (end.run 10 (omega arith)) (nothing_cut ys end none.1))

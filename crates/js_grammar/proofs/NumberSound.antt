@@ -3,7 +3,8 @@ use Rattle.std.proofs.Common.{◌≡◌, ℕ, true, false, List, [], ◌∷◌, 
 use Rattle.std.proofs.lemmas.Bool.{eqb-true}
 use Rattle.std.proofs.lemmas.List.{append-nil}
 use Rattle.js_text.specs.Characters.{begins}
-use Rattle.js_grammar.specs.Number.{whole, run, Is, IsOptional, IsExponent, IsFloatExponent, Sign, sign_text, is_digit_of, is_exponent_mark, point}
+use Rattle.js_text.specs.Ascii.{full_stop}
+use Rattle.js_grammar.specs.Number.{whole, run, Is, IsOptional, IsExponent, IsFloatExponent, Sign, sign_text, is_digit_of, is_exponent_mark}
 use Rattle.js_grammar.specs.Number.IsExponent.{exponent}
 use Rattle.js_grammar.specs.NumberReads.{Items, sign_of, exponent_items, exponent_or, fraction_items, point_items, behind_digits}
 use Rattle.js_grammar.proofs.NumberCuts.{all_text, lacks_some}
@@ -100,42 +101,42 @@ first_is mark (c ∷ cs) e = ap (λ d. d ∷ cs) (eqb-true c mark e)
 
 -- A point, and a fraction and an exponent.
 pub data Pointed (text xs : List ℕ) (kind : Kind) (rest : List ℕ) : Type 0 where
-  pointed : (fs es : List ℕ) → xs ≡ point ∷ (fs ++ es) → IsOptional (Is (run 10)) fs → IsOptional IsFloatExponent es
+  pointed : (fs es : List ℕ) → xs ≡ full_stop ∷ (fs ++ es) → IsOptional (Is (run 10)) fs → IsOptional IsFloatExponent es
       → (begins (is_digit_of 10) text ≡ true → Is (run 10) fs) → kind ≡ Float → Pointed text xs kind rest
 
-point_number : (text xs : List ℕ) (kind : Kind) (rest : List ℕ) → Fraction text xs kind rest → Pointed text (point ∷ xs) Float rest
-point_number text xs kind rest (fraction fs es here f e first) = pointed fs es (ap (λ t. point ∷ t) here) f e first refl
+point_number : (text xs : List ℕ) (kind : Kind) (rest : List ℕ) → Fraction text xs kind rest → Pointed text (full_stop ∷ xs) Float rest
+point_number text xs kind rest (fraction fs es here f e first) = pointed fs es (ap (λ t. full_stop ∷ t) here) f e first refl
 
-pub point_sound : (text : List ℕ) → begins (λ c. c == point) text ≡ true → lacks_some (point_items text).items ≡ false
+pub point_sound : (text : List ℕ) → begins (λ c. c == full_stop) text ≡ true → lacks_some (point_items text).items ≡ false
     → Sound (Pointed (drop 1 text)) text (point_items text)
 unfolding point_items
 point_sound text first whole =
     let more = fraction_items (drop 1 text) in
     let end = fraction_sound (drop 1 text) whole in
     record {
-      here = first_is point text first ∙ ap (λ t. point ∷ t) end.here;
+      here = first_is full_stop text first ∙ ap (λ t. full_stop ∷ t) end.here;
       is = point_number (drop 1 text) (all_text more.items) more.kind more.rest end.is;
     }
 
 -- What stands behind the digits that a point or an exponent may follow.
 pub data Behind (xs : List ℕ) (kind : Kind) (rest : List ℕ) : Type 0 where
-  nothing : xs ≡ [] → kind ≡ Decimal → begins (λ c. c == point) rest ≡ false → Behind xs kind rest
-  a_point : (fs es : List ℕ) → xs ≡ point ∷ (fs ++ es) → IsOptional (Is (run 10)) fs → IsOptional IsFloatExponent es → kind ≡ Float
+  nothing : xs ≡ [] → kind ≡ Decimal → begins (λ c. c == full_stop) rest ≡ false → Behind xs kind rest
+  a_point : (fs es : List ℕ) → xs ≡ full_stop ∷ (fs ++ es) → IsOptional (Is (run 10)) fs → IsOptional IsFloatExponent es → kind ≡ Float
       → Behind xs kind rest
   a_power : IsExponent xs kind → Behind xs kind rest
 
 behind_point : (text xs : List ℕ) (kind : Kind) (rest : List ℕ) → Pointed text xs kind rest → Behind xs kind rest
 behind_point text xs kind rest (pointed fs es here f e first k) = a_point fs es here f e k
 
-behind_other : (text xs : List ℕ) (kind : Kind) (rest : List ℕ) → text ≡ xs ++ rest → begins (λ c. c == point) text ≡ false → Exponent Decimal xs kind rest
+behind_other : (text xs : List ℕ) (kind : Kind) (rest : List ℕ) → text ≡ xs ++ rest → begins (λ c. c == full_stop) text ≡ false → Exponent Decimal xs kind rest
     → Behind xs kind rest
 behind_other text xs kind rest here none (no_exponent e k) =
-    nothing e k (let same : text ≡ rest = here ∙ ap (λ t. t ++ rest) e in ap (begins (λ c. c == point)) (sym same) ∙ none)
+    nothing e k (let same : text ≡ rest = here ∙ ap (λ t. t ++ rest) e in ap (begins (λ c. c == full_stop)) (sym same) ∙ none)
 behind_other text xs kind rest here none (some_exponent is) = a_power is
 
 pub behind_sound : (text : List ℕ) → lacks_some (behind_digits text).items ≡ false → Sound Behind text (behind_digits text)
 behind_sound text whole =
-    elim (true_or_false (begins (λ c. c == point) text)) [
+    elim (true_or_false (begins (λ c. c == full_stop) text)) [
       inl first ↦ (
         let found = behind_digits_point text first in
         let number = point_items text in

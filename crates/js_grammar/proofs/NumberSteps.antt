@@ -2,7 +2,8 @@
 use Rattle.std.proofs.Common.{◌≡◌, ℕ, Bool, true, false, List, [], ◌∷◌, take, drop, refl, ◌∙◌, Some, None, ◌==◌, cond}
 use Rattle.std.specs.Prelude.{codes}
 use Rattle.js_text.specs.Characters.{begins}
-use Rattle.js_grammar.specs.Number.{Item, whole, broken, run, integer, digits_on, Base, is_digit_of, are_digits, is_exponent_mark, may_not_follow_number, point, small_n, zero_digit}
+use Rattle.js_text.specs.Ascii.{full_stop}
+use Rattle.js_grammar.specs.Number.{Item, whole, broken, run, integer, digits_on, Base, is_digit_of, are_digits, is_exponent_mark, may_not_follow_number, latin_small_letter_n, digit_zero}
 use Rattle.js_grammar.specs.NumberReads.{Items, no_items, items-cons, last_item, sign_of, exponent_items, exponent_or, fraction_items, point_items, behind_digits, suffix_or, decimal_items, plain_digits, legacy_items, behind_prefix, zero_items, base_at, number_items, items_read, well_ended, badly_ended}
 use Rattle.js_kind.specs.declared.kind.Kind.{Kind}
 use Rattle.js_kind.specs.declared.kind.Kind.TheVariants.{Eof, Decimal, Float, Octal}
@@ -25,11 +26,11 @@ unfolding run
 run_missing radix text e = if_false _ _ _ e
 
 -- an integer
-pub integer_zero : (text : List ℕ) → begins (λ c. c == zero_digit) text ≡ true → integer text ≡ whole (codes "0") (drop 1 text)
+pub integer_zero : (text : List ℕ) → begins (λ c. c == digit_zero) text ≡ true → integer text ≡ whole (codes "0") (drop 1 text)
 unfolding integer
 integer_zero text e = if_true _ _ _ e
 
-pub integer_run : (text : List ℕ) → begins (λ c. c == zero_digit) text ≡ false → integer text ≡ run 10 text
+pub integer_run : (text : List ℕ) → begins (λ c. c == digit_zero) text ≡ false → integer text ≡ run 10 text
 unfolding integer
 integer_run text e = if_false _ _ _ e
 
@@ -53,20 +54,20 @@ unfolding fraction_items
 fraction_missing text e = if_false _ _ _ e
 
 -- behind the digits before a point
-pub behind_digits_point : (text : List ℕ) → begins (λ c. c == point) text ≡ true → behind_digits text ≡ point_items text
+pub behind_digits_point : (text : List ℕ) → begins (λ c. c == full_stop) text ≡ true → behind_digits text ≡ point_items text
 unfolding behind_digits
 behind_digits_point text e = if_true _ _ _ e
 
-pub behind_digits_other : (text : List ℕ) → begins (λ c. c == point) text ≡ false → behind_digits text ≡ exponent_or Decimal text
+pub behind_digits_other : (text : List ℕ) → begins (λ c. c == full_stop) text ≡ false → behind_digits text ≡ exponent_or Decimal text
 unfolding behind_digits
 behind_digits_other text e = if_false _ _ _ e
 
 -- a suffix
-pub suffix_there : (big : Kind) (without : Items) (text : List ℕ) → begins (λ c. c == small_n) text ≡ true → suffix_or big without text ≡ last_item big (whole (codes "n") (drop 1 text))
+pub suffix_there : (big : Kind) (without : Items) (text : List ℕ) → begins (λ c. c == latin_small_letter_n) text ≡ true → suffix_or big without text ≡ last_item big (whole (codes "n") (drop 1 text))
 unfolding suffix_or
 suffix_there big without text e = if_true _ _ _ e
 
-pub suffix_missing : (big : Kind) (without : Items) (text : List ℕ) → begins (λ c. c == small_n) text ≡ false → suffix_or big without text ≡ without
+pub suffix_missing : (big : Kind) (without : Items) (text : List ℕ) → begins (λ c. c == latin_small_letter_n) text ≡ false → suffix_or big without text ≡ without
 unfolding suffix_or
 suffix_missing big without text e = if_false _ _ _ e
 
@@ -103,15 +104,15 @@ unfolding zero_items
 zero_decimal text e = if_false _ _ _ e
 
 -- a number
-pub number_point : (text : List ℕ) → begins (λ c. c == point) text ≡ true → number_items text ≡ point_items text
+pub number_point : (text : List ℕ) → begins (λ c. c == full_stop) text ≡ true → number_items text ≡ point_items text
 unfolding number_items
 number_point text e = if_true _ _ _ e
 
-pub number_zero : (text : List ℕ) → begins (λ c. c == point) text ≡ false → begins (λ c. c == zero_digit) text ≡ true → number_items text ≡ zero_items (base_at (drop 1 text)) text
+pub number_zero : (text : List ℕ) → begins (λ c. c == full_stop) text ≡ false → begins (λ c. c == digit_zero) text ≡ true → number_items text ≡ zero_items (base_at (drop 1 text)) text
 unfolding number_items
 number_zero text e zero = if_false _ _ _ e ∙ if_true _ _ _ zero
 
-pub number_decimal : (text : List ℕ) → begins (λ c. c == point) text ≡ false → begins (λ c. c == zero_digit) text ≡ false → number_items text ≡ decimal_items text
+pub number_decimal : (text : List ℕ) → begins (λ c. c == full_stop) text ≡ false → begins (λ c. c == digit_zero) text ≡ false → number_items text ≡ decimal_items text
 unfolding number_items
 number_decimal text e zero = if_false _ _ _ e ∙ if_false _ _ _ zero
 

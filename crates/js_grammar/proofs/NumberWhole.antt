@@ -4,7 +4,8 @@ use Rattle.std.proofs.lemmas.Bool.{eqb-true}
 use Rattle.std.proofs.lemmas.List.{append-nil}
 use Rattle.std.specs.Prelude.{codes}
 use Rattle.js_text.specs.Characters.{begins, before_first, from_first}
-use Rattle.js_grammar.specs.Number.{whole, run, integer, IsExponent, IsBeforePoint, IsNumber, Base, base_of, Sign, sign_kind, is_digit_of, are_digits, may_not_follow_number, excluded_after, begins_number, point, small_n, zero_digit}
+use Rattle.js_text.specs.Ascii.{full_stop}
+use Rattle.js_grammar.specs.Number.{whole, run, integer, IsExponent, IsBeforePoint, IsNumber, Base, base_of, Sign, sign_kind, is_digit_of, are_digits, may_not_follow_number, excluded_after, begins_number, latin_small_letter_n, digit_zero}
 use Rattle.js_grammar.specs.Number.IsExponent.{exponent}
 use Rattle.js_grammar.specs.Number.IsLegacyOctal.{legacy as legacy_octal_digits}
 use Rattle.js_grammar.specs.Number.IsLegacyDecimal.{legacy as legacy_decimal_digits}
@@ -57,8 +58,8 @@ behind_numbers ds xs kind rest d (a_power is) = record {
   follows = follows_power xs kind rest is;
 }
 
-suffix_text : (xs text : List ℕ) → begins (λ c. c == small_n) text ≡ true → xs ++ text ≡ (xs ++ codes "n") ++ drop 1 text
-suffix_text xs text first = ap (λ t. xs ++ t) (first_is small_n text first) ∙ sym (append_assoc xs (codes "n") (drop 1 text))
+suffix_text : (xs text : List ℕ) → begins (λ c. c == latin_small_letter_n) text ≡ true → xs ++ text ≡ (xs ++ codes "n") ++ drop 1 text
+suffix_text xs text first = ap (λ t. xs ++ t) (first_is latin_small_letter_n text first) ∙ sym (append_assoc xs (codes "n") (drop 1 text))
 
 -- a decimal number
 decimal_sound : (text : List ℕ) → lacks_some (decimal_items text).items ≡ false → Sound Numbers text (decimal_items text)
@@ -68,7 +69,7 @@ decimal_sound text whole =
     let more = suffix_or DecimalBigInt (behind_digits digits.rest) digits.rest in
     let both = or_false digits.lacks_digit (lacks_some more.items) whole in
     let is = integer_is text both.0 in
-    elim (true_or_false (begins (λ c. c == small_n) digits.rest)) [
+    elim (true_or_false (begins (λ c. c == latin_small_letter_n) digits.rest)) [
       inl first ↦ (
         let found = suffix_there DecimalBigInt (behind_digits digits.rest) digits.rest first in
         rw found (record {
@@ -115,17 +116,17 @@ octal_first [] e o = absurd (cc)
 octal_first (d ∷ ds) e o = (and_true (is_digit_of 8 d) (are_digits 8 ds) o).0
 
 -- `0` and digits
-legacy_zero : (cs : List ℕ) → plain_digits (zero_digit ∷ cs) ≡ whole (zero_digit ∷ before_first is_no_digit cs) (from_first is_no_digit cs)
+legacy_zero : (cs : List ℕ) → plain_digits (digit_zero ∷ cs) ≡ whole (digit_zero ∷ before_first is_no_digit cs) (from_first is_no_digit cs)
 unfolding plain_digits
 legacy_zero cs = rw zero_is_octal.0 refl
 
-octal_zero : (ds : List ℕ) (b : Bool) → are_digits 8 (zero_digit ∷ ds) ≡ b → are_digits 8 ds ≡ b
+octal_zero : (ds : List ℕ) (b : Bool) → are_digits 8 (digit_zero ∷ ds) ≡ b → are_digits 8 ds ≡ b
 octal_zero ds b e = rw zero_is_octal.1 at e
 
-legacy_sound : (cs : List ℕ) → begins (is_digit_of 10) cs ≡ true → lacks_some (legacy_items (zero_digit ∷ cs)).items ≡ false
-    → Sound Numbers (zero_digit ∷ cs) (legacy_items (zero_digit ∷ cs))
+legacy_sound : (cs : List ℕ) → begins (is_digit_of 10) cs ≡ true → lacks_some (legacy_items (digit_zero ∷ cs)).items ≡ false
+    → Sound Numbers (digit_zero ∷ cs) (legacy_items (digit_zero ∷ cs))
 legacy_sound cs first good =
-    let text = zero_digit ∷ cs in
+    let text = digit_zero ∷ cs in
     let ds = before_first is_no_digit cs in
     let left = from_first is_no_digit cs in
     let found = legacy_zero cs in
@@ -133,9 +134,9 @@ legacy_sound cs first good =
       inl octal ↦ (
         let digits = octal_zero ds true (rw found at octal) in
         rw (legacy_octal_items text octal, found) (record {
-          here = ap (λ t. zero_digit ∷ t) (plain_text cs) ∙ ap (λ t. t ++ left) (sym (append-nil (zero_digit ∷ ds)));
+          here = ap (λ t. digit_zero ∷ t) (plain_text cs) ∙ ap (λ t. t ++ left) (sym (append-nil (digit_zero ∷ ds)));
           is = record {
-            number = legacy_octal (legacy_octal_digits ds (octal_first ds (plain_begins cs first) digits) digits (append-nil (zero_digit ∷ ds))) refl;
+            number = legacy_octal (legacy_octal_digits ds (octal_first ds (plain_begins cs first) digits) digits (append-nil (digit_zero ∷ ds))) refl;
             follows = λ e. e;
           };
         }))
@@ -144,9 +145,9 @@ legacy_sound cs first good =
         let behind = behind_digits left in
         let end = behind_sound left (rw (legacy_decimal_items text some, found) at good) in
         rw (legacy_decimal_items text some, found) (record {
-          here = ap (λ t. zero_digit ∷ t) (plain_text cs) ∙ ap (λ t. (zero_digit ∷ ds) ++ t) end.here
-              ∙ sym (append_assoc (zero_digit ∷ ds) (all_text behind.items) behind.rest);
-          is = behind_numbers (zero_digit ∷ ds) (all_text behind.items) behind.kind behind.rest
+          here = ap (λ t. digit_zero ∷ t) (plain_text cs) ∙ ap (λ t. (digit_zero ∷ ds) ++ t) end.here
+              ∙ sym (append_assoc (digit_zero ∷ ds) (all_text behind.items) behind.rest);
+          is = behind_numbers (digit_zero ∷ ds) (all_text behind.items) behind.kind behind.rest
             (inr (legacy_decimal_digits ds (plain_are_digits cs) decimal refl)) end.is;
         }))
     ]
@@ -170,7 +171,7 @@ base_follows c base rest e =
 
 -- a number with a prefix
 prefixed_sound : (c : ℕ) (cs : List ℕ) (base : Base) → base_of c ≡ Some base → lacks_some (behind_prefix base (run base.radix cs)).items ≡ false
-    → Sound Numbers (zero_digit ∷ c ∷ cs) (items-cons (whole (zero_digit ∷ c ∷ []) cs) (behind_prefix base (run base.radix cs)))
+    → Sound Numbers (digit_zero ∷ c ∷ cs) (items-cons (whole (digit_zero ∷ c ∷ []) cs) (behind_prefix base (run base.radix cs)))
 prefixed_sound c cs base letter good =
     let digits = run base.radix cs in
     let without = no_items base.kind digits.rest in
@@ -182,18 +183,18 @@ prefixed_sound c cs base letter good =
     | inr complete ↦ (
         let found = behind_prefix_whole base digits complete in
         let is = run_is base.radix cs complete in
-        elim (true_or_false (begins (λ c. c == small_n) digits.rest)) [
+        elim (true_or_false (begins (λ c. c == latin_small_letter_n) digits.rest)) [
           inl first ↦ rw (found, suffix_there base.big_kind without digits.rest first) (record {
-            here = ap (λ t. zero_digit ∷ c ∷ t) (run_text base.radix cs ∙ suffix_text digits.text digits.rest first);
+            here = ap (λ t. digit_zero ∷ c ∷ t) (run_text base.radix cs ∙ suffix_text digits.text digits.rest first);
             is = record {
               number = prefixed_big c base digits.text letter is refl refl;
               follows = (base_follows c base (drop 1 digits.rest) letter).1;
             };
           })
         | inr none ↦ rw (found, suffix_missing base.big_kind without digits.rest none) (record {
-            here = ap (λ t. zero_digit ∷ c ∷ t) (run_text base.radix cs ∙ ap (λ t. t ++ digits.rest) (sym (append-nil digits.text)));
+            here = ap (λ t. digit_zero ∷ c ∷ t) (run_text base.radix cs ∙ ap (λ t. t ++ digits.rest) (sym (append-nil digits.text)));
             is = record {
-              number = prefixed c base digits.text letter is (ap (λ t. zero_digit ∷ c ∷ t) (append-nil digits.text)) refl;
+              number = prefixed c base digits.text letter is (ap (λ t. digit_zero ∷ c ∷ t) (append-nil digits.text)) refl;
               follows = follows.0;
             };
           })
@@ -201,20 +202,20 @@ prefixed_sound c cs base letter good =
     ]
 
 -- a number that begins with `0`
-zero_sound : (base : Option Base) (cs : List ℕ) → base_at cs ≡ base → lacks_some (zero_items base (zero_digit ∷ cs)).items ≡ false
-    → Sound Numbers (zero_digit ∷ cs) (zero_items base (zero_digit ∷ cs))
+zero_sound : (base : Option Base) (cs : List ℕ) → base_at cs ≡ base → lacks_some (zero_items base (digit_zero ∷ cs)).items ≡ false
+    → Sound Numbers (digit_zero ∷ cs) (zero_items base (digit_zero ∷ cs))
 zero_sound (Some base) [] e good = absurd (cc)
 zero_sound (Some base) (c ∷ cs) e good =
-    let found = zero_base base (zero_digit ∷ c ∷ cs) in
+    let found = zero_base base (digit_zero ∷ c ∷ cs) in
     rw found (prefixed_sound c cs base e (rw found at good))
 zero_sound None cs e good =
     elim (true_or_false (begins (is_digit_of 10) cs)) [
       inl first ↦ (
-        let found = zero_legacy (zero_digit ∷ cs) first in
+        let found = zero_legacy (digit_zero ∷ cs) first in
         rw found (legacy_sound cs first (rw found at good)))
     | inr none ↦ (
-        let found = zero_decimal (zero_digit ∷ cs) none in
-        rw found (decimal_sound (zero_digit ∷ cs) (rw found at good)))
+        let found = zero_decimal (digit_zero ∷ cs) none in
+        rw found (decimal_sound (digit_zero ∷ cs) (rw found at good)))
     ]
 
 pointed_numbers : (text xs : List ℕ) (kind : Kind) (rest : List ℕ) → begins (is_digit_of 10) text ≡ true → Pointed text xs kind rest → Numbers xs kind rest
@@ -223,14 +224,14 @@ pointed_numbers text xs kind rest digit (pointed fs es here f e first kind_is) =
   follows = λ e. rw kind_is e;
 }
 
-begins_point : (c : ℕ) (cs : List ℕ) → begins_number (c ∷ cs) ≡ true → (c == point) ≡ true → begins (is_digit_of 10) cs ≡ true
+begins_point : (c : ℕ) (cs : List ℕ) → begins_number (c ∷ cs) ≡ true → (c == full_stop) ≡ true → begins (is_digit_of 10) cs ≡ true
 begins_point c cs e is = rw is at e
 
 -- Whole items that are cut from a text are its beginning, and a number.
 pub number_sound : (text : List ℕ) → begins_number text ≡ true → lacks_some (number_items text).items ≡ false → Sound Numbers text (number_items text)
 number_sound [] begun good = absurd (cc)
 number_sound (c ∷ cs) begun good =
-    elim (true_or_false (c == point)) [
+    elim (true_or_false (c == full_stop)) [
       inl is ↦ (
         let text = c ∷ cs in
         let number = point_items text in
@@ -240,17 +241,17 @@ number_sound (c ∷ cs) begun good =
           here = end.here;
           is = pointed_numbers cs (all_text number.items) number.kind number.rest (begins_point c cs begun is) end.is;
         }))
-    | inr other ↦ elim (true_or_false (c == zero_digit)) [
-        inl is ↦ by_zero c cs (eqb-true c zero_digit is) good
+    | inr other ↦ elim (true_or_false (c == digit_zero)) [
+        inl is ↦ by_zero c cs (eqb-true c digit_zero is) good
       | inr none ↦ (
           let found = number_decimal (c ∷ cs) other none in
           rw found (decimal_sound (c ∷ cs) (rw found at good)))
       ]
     ]
   where
-  by_zero : (c : ℕ) (cs : List ℕ) → c ≡ zero_digit → lacks_some (number_items (c ∷ cs)).items ≡ false → Sound Numbers (c ∷ cs) (number_items (c ∷ cs))
+  by_zero : (c : ℕ) (cs : List ℕ) → c ≡ digit_zero → lacks_some (number_items (c ∷ cs)).items ≡ false → Sound Numbers (c ∷ cs) (number_items (c ∷ cs))
   by_zero c cs same good =
-    let text = zero_digit ∷ cs in
+    let text = digit_zero ∷ cs in
     let found : number_items text ≡ zero_items (base_at cs) text = number_zero text refl refl in
     let good : lacks_some (number_items text).items ≡ false = subst (λ d. lacks_some (number_items (d ∷ cs)).items ≡ false) same good in
     subst (λ d. Sound Numbers (d ∷ cs) (number_items (d ∷ cs))) (sym same) (rw found (zero_sound (base_at cs) cs refl (rw found at good)))

@@ -3,7 +3,9 @@
 use Rattle.std.specs.Prelude.{◌≡◌, ℕ, Bool, true, false, List, [], ◌∷◌, ◌++◌, drop, ◌==◌, ◌||◌, codes, Option, Some, None, ◌⊎◌, if◌then◌else◌}
 use Rattle.std.specs.Char.{is_digit}
 use Rattle.std.specs.List.{list_all}
+use Rattle.js_text.specs.Ascii.{full_stop, low_line, plus_sign, hyphen_minus}
 use Rattle.js_text.specs.Characters.{begins, is_identifier_start}
+use Rattle.js_kind.specs.Digits.{radix_of}
 use Rattle.js_kind.specs.declared.kind.Kind.{Kind}
 use Rattle.js_kind.specs.declared.kind.Kind.TheVariants.{Decimal, Float, Binary, Octal, Hex, PositiveExponential, NegativeExponential, DecimalBigInt, BinaryBigInt, OctalBigInt, HexBigInt}
 
@@ -11,17 +13,11 @@ use Rattle.js_kind.specs.declared.kind.Kind.TheVariants.{Decimal, Float, Binary,
 unfoldable pub is_digit_of : ℕ → ℕ → Bool
 is_digit_of radix c = is_digit c radix
 
-abbrev pub zero_digit : ℕ
-zero_digit = 48
+abbrev pub digit_zero : ℕ
+digit_zero = 48
 
-abbrev pub point : ℕ
-point = 46
-
-abbrev pub underscore : ℕ
-underscore = 95
-
-abbrev pub small_n : ℕ
-small_n = 110
+abbrev pub latin_small_letter_n : ℕ
+latin_small_letter_n = 110
 
 -- `e` and `E`
 unfoldable pub is_exponent_mark : ℕ → Bool
@@ -51,7 +47,7 @@ abbrev pub digits_on : ℕ → List ℕ → Item
 digits_on radix [] = whole [] []
 digits_on radix (c ∷ cs) =
     if is_digit_of radix c then item-cons c (digits_on radix cs)
-    else if c == underscore then
+    else if c == low_line then
     (if begins (is_digit_of radix) cs then item-cons c (digits_on radix cs) else broken (c ∷ []) cs)
     else whole [] (c ∷ cs)
 
@@ -61,7 +57,7 @@ run radix text = if begins (is_digit_of radix) text then digits_on radix text el
 
 -- An integer: `0`, or a run that begins with another digit.
 unfoldable pub integer : List ℕ → Item
-integer text = if begins (λ c. c == zero_digit) text then whole (codes "0") (drop 1 text) else run 10 text
+integer text = if begins (λ c. c == digit_zero) text then whole (codes "0") (drop 1 text) else run 10 text
 
 -- The characters xs are this item, whole, and no more.
 abbrev pub Is : (List ℕ → Item) → List ℕ → Type 0
@@ -80,9 +76,9 @@ pub record Base : Type 0 where
 -- the base that a letter behind `0` names
 abbrev pub base_of : ℕ → Option Base
 base_of c =
-    if (c == 98) || (c == 66) then Some (record { radix = 2; kind = Binary; big_kind = BinaryBigInt })
-    else if (c == 111) || (c == 79) then Some (record { radix = 8; kind = Octal; big_kind = OctalBigInt })
-    else if (c == 120) || (c == 88) then Some (record { radix = 16; kind = Hex; big_kind = HexBigInt })
+    if (c == 98) || (c == 66) then Some (record { radix = radix_of Binary; kind = Binary; big_kind = BinaryBigInt })
+    else if (c == 111) || (c == 79) then Some (record { radix = radix_of Octal; kind = Octal; big_kind = OctalBigInt })
+    else if (c == 120) || (c == 88) then Some (record { radix = radix_of Hex; kind = Hex; big_kind = HexBigInt })
     else None
 
 -- the sign of an exponent
@@ -118,12 +114,12 @@ are_digits radix xs = list_all (is_digit_of radix) xs
 -- `0` and octal digits, at least one (B.1.1)
 pub data IsLegacyOctal (xs : List ℕ) : Type 0 where
   legacy : (digits : List ℕ) → begins (is_digit_of 8) digits ≡ true → are_digits 8 digits ≡ true
-      → xs ≡ zero_digit ∷ digits → IsLegacyOctal xs
+      → xs ≡ digit_zero ∷ digits → IsLegacyOctal xs
 
 -- `0` and digits, of which one is 8 or 9 (B.1.1)
 pub data IsLegacyDecimal (xs : List ℕ) : Type 0 where
   legacy : (digits : List ℕ) → are_digits 10 digits ≡ true → are_digits 8 digits ≡ false
-      → xs ≡ zero_digit ∷ digits → IsLegacyDecimal xs
+      → xs ≡ digit_zero ∷ digits → IsLegacyDecimal xs
 
 -- the digits that a point or an exponent may follow
 abbrev pub IsBeforePoint : List ℕ → Type 0
@@ -132,9 +128,9 @@ IsBeforePoint xs = Is integer xs ⊎ IsLegacyDecimal xs
 -- The characters xs are a number of this kind.
 pub data IsNumber (xs : List ℕ) (kind : Kind) : Type 0 where
   prefixed : (letter : ℕ) (base : Base) (digits : List ℕ) → base_of letter ≡ Some base → Is (run base.radix) digits
-      → xs ≡ zero_digit ∷ letter ∷ digits → kind ≡ base.kind → IsNumber xs kind
+      → xs ≡ digit_zero ∷ letter ∷ digits → kind ≡ base.kind → IsNumber xs kind
   prefixed_big : (letter : ℕ) (base : Base) (digits : List ℕ) → base_of letter ≡ Some base → Is (run base.radix) digits
-      → xs ≡ zero_digit ∷ letter ∷ (digits ++ codes "n") → kind ≡ base.big_kind → IsNumber xs kind
+      → xs ≡ digit_zero ∷ letter ∷ (digits ++ codes "n") → kind ≡ base.big_kind → IsNumber xs kind
   decimal : Is integer xs → kind ≡ Decimal → IsNumber xs kind
   decimal_big : (digits : List ℕ) → Is integer digits
       → xs ≡ digits ++ codes "n" → kind ≡ DecimalBigInt → IsNumber xs kind
@@ -154,10 +150,10 @@ may_not_follow_number c = is_digit_of 10 c || is_identifier_start c
 
 -- the texts that may not follow a number of this kind
 abbrev pub excluded_after : Kind → List ℕ → Bool
-excluded_after Decimal ys = begins may_not_follow_number ys || begins (λ c. c == point) ys
+excluded_after Decimal ys = begins may_not_follow_number ys || begins (λ c. c == full_stop) ys
 excluded_after _ ys = begins may_not_follow_number ys
 
 -- A number begins here, good or at fault: there is a digit, or a point and a digit.
 abbrev pub begins_number : List ℕ → Bool
 begins_number [] = false
-begins_number (c ∷ cs) = if c == point then begins (is_digit_of 10) cs else is_digit_of 10 c
+begins_number (c ∷ cs) = if c == full_stop then begins (is_digit_of 10) cs else is_digit_of 10 c

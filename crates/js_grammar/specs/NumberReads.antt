@@ -1,13 +1,14 @@
 -- What is read of a number, good or at fault (ECMA-262 12.9.3 and B.1.1).
 use Rattle.std.specs.Prelude.{ℕ, ◌+◌, Bool, List, [], ◌∷◌, ◌++◌, length, take, drop, ◌==◌, not, codes, Option, Some, None, if◌then◌else◌}
 use Rattle.std.specs.List.{list_any}
-use Rattle.std.specs.Str.{encode_utf8_all}
 use Rattle.js_text.specs.Characters.{begins, from_first, before_first, is_identifier_start}
 use Rattle.js_text.specs.declared.diagnostic.Diagnostic.{Diagnostic}
 use Rattle.js_text.specs.declared.diagnostic.Diagnostic.TheVariants.{InvalidCharacter, UnexpectedEnd, InvalidNumberEnd}
 use Rattle.js_text.specs.declared.span.Span.{Span}
-use Rattle.js_grammar.specs.Number.{Item, whole, run, integer, is_digit_of, are_digits, Base, base_of, Sign, sign_text, sign_kind, is_exponent_mark, zero_digit, point, underscore, small_n, may_not_follow_number}
+use Rattle.js_text.specs.Ascii.{full_stop, low_line, plus_sign, hyphen_minus}
+use Rattle.js_grammar.specs.Number.{Item, whole, run, integer, is_digit_of, are_digits, Base, base_of, Sign, sign_text, sign_kind, is_exponent_mark, digit_zero, latin_small_letter_n, may_not_follow_number}
 use Rattle.js_grammar.specs.Number.Sign.{no_sign, plus, minus}
+use Rattle.js_grammar.specs.Outcome.{place_behind}
 use Rattle.js_kind.specs.declared.kind.Kind.{Kind}
 use Rattle.js_kind.specs.declared.kind.Kind.TheVariants.{Eof, Decimal, Float, Octal, DecimalBigInt}
 
@@ -32,7 +33,7 @@ last_item kind item = record { items = item ∷ []; kind = kind; rest = item.res
 -- the sign that stands here
 abbrev pub sign_of : List ℕ → Sign
 sign_of [] = no_sign
-sign_of (c ∷ cs) = if c == 45 then minus else if c == 43 then plus else no_sign
+sign_of (c ∷ cs) = if c == hyphen_minus then minus else if c == plus_sign then plus else no_sign
 
 -- an exponent whose mark and sign are known, where the text is what follows the mark
 unfoldable pub exponent_items : ℕ → Sign → List ℕ → Items
@@ -56,12 +57,12 @@ point_items text = record (items-cons (whole (codes ".") (drop 1 text)) (fractio
 
 -- what follows the digits that a point or an exponent may follow
 unfoldable pub behind_digits : List ℕ → Items
-behind_digits text = if begins (λ c. c == point) text then point_items text else exponent_or Decimal text
+behind_digits text = if begins (λ c. c == full_stop) text then point_items text else exponent_or Decimal text
 
 -- the suffix `n`, with its kind, or else the items that there are without it
 unfoldable pub suffix_or : Kind → Items → List ℕ → Items
 suffix_or big_kind without text =
-    if begins (λ c. c == small_n) text then last_item big_kind (whole (codes "n") (drop 1 text)) else without
+    if begins (λ c. c == latin_small_letter_n) text then last_item big_kind (whole (codes "n") (drop 1 text)) else without
 
 -- a decimal number
 unfoldable pub decimal_items : List ℕ → Items
@@ -103,18 +104,18 @@ base_at (c ∷ cs) = base_of c
 -- the number that the text begins with
 unfoldable pub number_items : List ℕ → Items
 number_items text =
-    if begins (λ c. c == point) text then point_items text
-    else if begins (λ c. c == zero_digit) text then zero_items (base_at (drop 1 text)) text
+    if begins (λ c. c == full_stop) text then point_items text
+    else if begins (λ c. c == digit_zero) text then zero_items (base_at (drop 1 text)) text
     else decimal_items text
 
 -- a `_` is among the characters of the items
-abbrev pub has_separator : List Item → Bool
-has_separator items = list_any (λ item. list_any (λ c. c == underscore) item.text) items
+abbrev pub items_have_separator : List Item → Bool
+items_have_separator items = list_any (λ item. list_any (λ c. c == low_line) item.text) items
 
--- the place behind the items, of which each character takes one byte
-abbrev pub place_behind : ℕ → List Item → ℕ
-place_behind place [] = place
-place_behind place (item ∷ items) = place_behind (place + length item.text) items
+-- the place behind items, of which each character takes one byte
+abbrev pub behind_items : ℕ → List Item → ℕ
+behind_items place [] = place
+behind_items place (item ∷ items) = behind_items (place + length item.text) items
 
 -- the empty span at a place
 abbrev pub empty_span : ℕ → Span
@@ -140,7 +141,7 @@ invalid_end (c ∷ cs) = c ∷ before_first (λ d. not (is_identifier_start d)) 
 -- what is reported of the text at a place behind a number that it may not follow
 abbrev pub invalid_number_end : ℕ → List ℕ → Diagnostic
 invalid_number_end place text =
-    InvalidNumberEnd (record { start = place; end = place + length (encode_utf8_all (invalid_end text)) })
+    InvalidNumberEnd (record { start = place; end = place_behind place (invalid_end text) })
 
 -- What is read of a number: its kind, what is left of the text behind it, its separator flag, and what is reported.
 pub record NumberRead : Type 0 where
@@ -154,7 +155,7 @@ abbrev pub well_ended : ℕ → Items → NumberRead
 well_ended place number = record {
   kind = number.kind;
   rest = number.rest;
-  has_separator = has_separator number.items;
+  has_separator = items_have_separator number.items;
   diagnostics = missing_digits place number.items;
 }
 
@@ -163,7 +164,7 @@ abbrev pub badly_ended : ℕ → Items → NumberRead
 badly_ended place number = record (well_ended place number) {
   kind = Eof;
   rest = [];
-  diagnostics = missing_digits place number.items ++ invalid_number_end (place_behind place number.items) number.rest ∷ [];
+  diagnostics = missing_digits place number.items ++ invalid_number_end (behind_items place number.items) number.rest ∷ [];
 }
 
 -- what is read of items that begin at a place

@@ -3,16 +3,11 @@ use Rattle.std.specs.Prelude.{◌≡◌, ℕ, Bool, true, List, [], ◌∷◌, l
 use Rattle.std.specs.List.{filter, find, list_any, list_all}
 use Rattle.std.specs.Str.Parse.{digits_value}
 use Rattle.js_grammar.specs.Gap.{is_prefix}
-use Rattle.js_grammar.specs.Number.{is_digit_of, underscore}
+use Rattle.js_text.specs.Ascii.{low_line}
+use Rattle.js_grammar.specs.Number.{is_digit_of}
+use Rattle.js_kind.specs.Digits.{radix_of}
 use Rattle.js_kind.specs.declared.kind.Kind.{Kind}
 use Rattle.js_kind.specs.declared.kind.Kind.TheVariants.{Decimal, Binary, Octal, Hex}
-
--- the radix of the integers of a kind
-abbrev pub radix_of : Kind → ℕ
-radix_of Binary = 2
-radix_of Octal = 8
-radix_of Hex = 16
-radix_of _ = 10
 
 -- the prefix of a legacy octal integer
 abbrev pub legacy_prefix : List ℕ
@@ -35,7 +30,7 @@ abbrev pub behind_prefix : Kind → List ℕ → List ℕ
 behind_prefix kind text = drop (length (unwrap_or (prefix_of kind text) [])) text
 
 abbrev pub is_underscore : ℕ → Bool
-is_underscore c = c == underscore
+is_underscore c = c == low_line
 
 -- what may stand behind a prefix: digits, and `_` where there are separators
 abbrev pub is_digit_or_separator : ℕ → Bool → ℕ → Bool

@@ -5,7 +5,8 @@ ghost use Rattle.std.specs.Char.{digit_value};
 ghost use Rattle.std.specs.List.{list_any};
 ghost use Rattle.std.specs.Option.{SomeIff};
 ghost use Rattle.js_grammar.specs.Number.{is_digit_of};
-ghost use Rattle.js_spell.specs.Integer.{radix_of, prefix_of, legacy_prefix, behind_prefix, IsInteger, integer_digits, integer_value};
+ghost use Rattle.js_kind.specs.Digits.{radix_of};
+ghost use Rattle.js_spell.specs.Integer.{prefix_of, legacy_prefix, behind_prefix, IsInteger, integer_digits, integer_value};
 
 use js_kind::Kind;
 use std::alloc::{AllocError, Global};
@@ -20,9 +21,9 @@ fn radix_of(kind: Kind) -> u32
     ensures to_sixteen { result ≤ 16 }
 {
     match kind {
-        Kind::Binary => 2,
-        Kind::Octal => 8,
-        Kind::Hex => 16,
+        Kind::Binary | Kind::BinaryBigInt => 2,
+        Kind::Octal | Kind::OctalBigInt => 8,
+        Kind::Hex | Kind::HexBigInt => 16,
         _ => 10,
     }
 }
