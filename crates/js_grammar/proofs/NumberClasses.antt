@@ -1,5 +1,6 @@
 -- Which characters of a number belong to which class.
-use Rattle.std.proofs.Common.{◌≡◌, ℕ, ◌<◌, ◌≤◌, Bool, true, false, List, [], ◌∷◌, refl, ◌∙◌, ap, arith, ◌⊎◌, inl, inr, ◌==◌, ◌||◌, ◌&&◌, not, zero, suc}
+use Rattle.std.proofs.Common.{◌≡◌, ℕ, ◌<◌, ◌≤◌, Bool, true, false, List, [], ◌∷◌, refl, ◌∙◌, ap, arith, ◌⊎◌, inl, inr}
+use Rattle.std.proofs.Common.{◌==◌, ◌||◌, ◌&&◌, not, zero, suc}
 use Rattle.std.proofs.lemmas.Bool.{eqb-true}
 use Rattle.std.proofs.lemmas.Bool.Decides.{nat_tests}
 use Rattle.unicode_ident.proofs.Computing.{unicode_ident}
@@ -19,12 +20,12 @@ below p zero c e h = absurd (omega arith)
 below p (suc n) c e h =
     let both = and_true (p n) (all_below p n) e in
     elim (true_or_false (c == n)) [
-      inl same ↦ ap p (eqb-true c n same) ∙ both.0
-    | inr other ↦ below p n c both.1 (less c n h other)
+      | inl same ↦ ap p (eqb-true c n same) ∙ both.0
+      | inr other ↦ below p n c both.1 (less c n h other)
     ]
   where
-  less : (c n : ℕ) → c < suc n → (c == n) ≡ false → c < n
-  less c n h other = grind (arith, nat_tests)
+    less : (c n : ℕ) → c < suc n → (c == n) ≡ false → c < n
+    less c n h other = grind (arith, nat_tests)
 
 implies : (a b : Bool) → (not a || b) ≡ true → a ≡ true → b ≡ true
 implies true b e h = e
@@ -51,14 +52,18 @@ digit_goes_on = refl
 pub digit_may_not_follow : (radix c : ℕ) → radix ≤ 16 → is_digit_of radix c ≡ true → may_not_follow_number c ≡ true
 digit_may_not_follow radix c h e =
     let digit = digit_more radix 16 c h e in
-    implies (is_digit_of 16 c) (may_not_follow_number c) (below (λ c. not (is_digit_of 16 c) || may_not_follow_number c) 128 c digit_goes_on (digit_is_ascii c digit)) digit
+    implies (is_digit_of 16 c) (may_not_follow_number c)
+    (below (λ c. not (is_digit_of 16 c) || may_not_follow_number c) 128 c digit_goes_on (digit_is_ascii c digit))
+    digit
 
-marks_go_on : (may_not_follow_number 95 ≡ true) × (may_not_follow_number 110 ≡ true) × (may_not_follow_number 101 ≡ true) × (may_not_follow_number 69 ≡ true)
+marks_go_on : (may_not_follow_number 95 ≡ true) × (may_not_follow_number 110 ≡ true)
+    × (may_not_follow_number 101 ≡ true) × (may_not_follow_number 69 ≡ true)
 unfolding is_digit_of may_not_follow_number is_identifier_start unicode_ident
 marks_go_on = (refl, refl, refl, refl)
 
 -- what a character of a class is followed by where that class may not follow
-begins_no : (p q : ℕ → Bool) (ys : List ℕ) → ((c : ℕ) → p c ≡ true → q c ≡ true) → begins q ys ≡ false → begins p ys ≡ false
+begins_no : (p q : ℕ → Bool) (ys : List ℕ) → ((c : ℕ) → p c ≡ true → q c ≡ true) → begins q ys ≡ false
+    → begins p ys ≡ false
 begins_no p q [] h e = refl
 begins_no p q (c ∷ cs) h e = contraposed (p c) (q c) (h c) e
 
@@ -71,7 +76,9 @@ or_true false b e = inr e
 
 pub is_exponent : (c : ℕ) → is_exponent_mark c ≡ true → (c ≡ 101) ⊎ (c ≡ 69)
 unfolding is_exponent_mark
-is_exponent c e = elim (or_true (c == 101) (c == 69) e) [ inl small ↦ inl (eqb-true c 101 small) | inr large ↦ inr (eqb-true c 69 large) ]
+is_exponent c e =
+    elim (or_true (c == 101) (c == 69) e)
+    [ inl small ↦ inl (eqb-true c 101 small) | inr large ↦ inr (eqb-true c 69 large) ]
 
 -- What may follow a number goes on with none of its items.
 pub record EndsNumber (ys : List ℕ) : Type 0 where
@@ -83,12 +90,20 @@ pub ends_number : (ys : List ℕ) → begins may_not_follow_number ys ≡ false 
 ends_number ys e = record {
   run = λ radix h. record {
     digit = begins_no (is_digit_of radix) may_not_follow_number ys (λ c d. digit_may_not_follow radix c h d) e;
-    separator = begins_no (λ c. c == low_line) may_not_follow_number ys (λ c same. is_mark low_line c marks_go_on.0 same) e;
+    separator =
+        begins_no (λ c. c == low_line) may_not_follow_number ys (λ c same. is_mark low_line c marks_go_on.0 same) e;
   };
-  suffix = begins_no (λ c. c == latin_small_letter_n) may_not_follow_number ys (λ c same. is_mark latin_small_letter_n c marks_go_on.1 same) e;
+  suffix =
+      begins_no (λ c. c == latin_small_letter_n) may_not_follow_number ys
+      (λ c same. is_mark latin_small_letter_n c marks_go_on.1 same) e;
   exponent =
-    begins_no is_exponent_mark may_not_follow_number ys
-      (λ c mark. elim (is_exponent c mark) [ inl small ↦ ap may_not_follow_number small ∙ marks_go_on.2 | inr large ↦ ap may_not_follow_number large ∙ marks_go_on.3 ])
+      begins_no is_exponent_mark may_not_follow_number ys
+      (λ c mark. elim
+      (is_exponent c mark) [
+        | inl small ↦ ap may_not_follow_number small ∙ marks_go_on.2
+        | inr large ↦ ap may_not_follow_number large
+            ∙ marks_go_on.3
+      ])
       e;
 }
 
@@ -109,14 +124,21 @@ exponents_are_no_digits = (refl, refl)
 
 pub exponent_stops : (c : ℕ) (ys : List ℕ) → is_exponent_mark c ≡ true → Stops 10 (c ∷ ys)
 exponent_stops c ys e = record {
-  digit = elim (is_exponent c e) [ inl small ↦ ap (is_digit_of 10) small ∙ exponents_are_no_digits.0 | inr large ↦ ap (is_digit_of 10) large ∙ exponents_are_no_digits.1 ];
-  separator = elim (is_exponent c e) [ inl small ↦ ap (λ d. d == low_line) small | inr large ↦ ap (λ d. d == low_line) large ];
+  digit =
+      elim (is_exponent c e) [
+        | inl small ↦ ap (is_digit_of 10) small ∙ exponents_are_no_digits.0
+        | inr large ↦ ap (is_digit_of 10) large
+            ∙ exponents_are_no_digits.1
+      ];
+  separator =
+      elim (is_exponent c e) [ inl small ↦ ap (λ d. d == low_line) small | inr large ↦ ap (λ d. d == low_line) large ];
 }
 
 -- the mark of an exponent is no point and no suffix
-pub exponent_is_no_mark : (c : ℕ) → is_exponent_mark c ≡ true → ((c == full_stop) ≡ false) × ((c == latin_small_letter_n) ≡ false)
+pub exponent_is_no_mark : (c : ℕ) → is_exponent_mark c ≡ true
+    → ((c == full_stop) ≡ false) × ((c == latin_small_letter_n) ≡ false)
 exponent_is_no_mark c e =
     elim (is_exponent c e) [
-      inl small ↦ (ap (λ d. d == full_stop) small, ap (λ d. d == latin_small_letter_n) small)
-    | inr large ↦ (ap (λ d. d == full_stop) large, ap (λ d. d == latin_small_letter_n) large)
+      | inl small ↦ (ap (λ d. d == full_stop) small, ap (λ d. d == latin_small_letter_n) small)
+      | inr large ↦ (ap (λ d. d == full_stop) large, ap (λ d. d == latin_small_letter_n) large)
     ]

@@ -8,9 +8,12 @@ use Rattle.js_text.specs.declared.diagnostic.Diagnostic.{Diagnostic}
 use Rattle.js_text.specs.declared.diagnostic.Diagnostic.TheVariants.{InvalidCharacter, UnexpectedEnd, InvalidNumberEnd}
 use Rattle.js_text.specs.declared.span.Span.{Span}
 use Rattle.js_grammar.specs.Number.{is_digit_of, is_exponent_mark, may_not_follow_number, run, integer}
-use Rattle.js_grammar.specs.NumberReads.{number_read, exponent_items, exponent_or, fraction_items, point_items, behind_digits, suffix_or, decimal_items, plain_digits, legacy_items, behind_prefix, zero_items, number_items, items_read}
+use Rattle.js_grammar.specs.NumberReads.{number_read, exponent_items, exponent_or, fraction_items, point_items}
+use Rattle.js_grammar.specs.NumberReads.{behind_digits, suffix_or, decimal_items, plain_digits, legacy_items}
+use Rattle.js_grammar.specs.NumberReads.{behind_prefix, zero_items, number_items, items_read}
 use Rattle.js_kind.specs.declared.kind.Kind.{Kind}
-use Rattle.js_kind.specs.declared.kind.Kind.TheVariants.{BinaryBigInt, Decimal, DecimalBigInt, Eof, Float, Hex, NegativeExponential, Octal, OctalBigInt, PositiveExponential}
+use Rattle.js_kind.specs.declared.kind.Kind.TheVariants.{BinaryBigInt, Decimal, DecimalBigInt, Eof, Float, Hex}
+use Rattle.js_kind.specs.declared.kind.Kind.TheVariants.{NegativeExponential, Octal, OctalBigInt, PositiveExponential}
 
 abbrev span : ℕ → ℕ → Span
 span from to = record { start = from; end = to }
@@ -40,7 +43,9 @@ good :
     × ReadsAt 0 (codes "1E-7") NegativeExponential [] false []
     × ReadsAt 0 (codes "1..x") Float (codes ".x") false []
     × ReadsAt 0 (codes "09.5_1") Float [] true []
-unfolding is_digit_of is_exponent_mark may_not_follow_number is_identifier_start unicode_ident encode_utf8 run integer exponent_items exponent_or fraction_items point_items behind_digits suffix_or decimal_items plain_digits legacy_items behind_prefix zero_items number_items items_read
+unfolding is_digit_of is_exponent_mark may_not_follow_number is_identifier_start unicode_ident encode_utf8 run integer
+    exponent_items exponent_or fraction_items point_items behind_digits suffix_or decimal_items plain_digits
+    legacy_items behind_prefix zero_items number_items items_read
 good = (refl, refl, refl, refl, refl, refl, refl, refl, refl, refl, refl, refl, refl, refl, refl, refl, refl, refl)
 
 -- and ones at fault
@@ -63,5 +68,7 @@ at_fault :
     × ReadsAt 0 (codes ".9_E7") Float [] true (InvalidCharacter 69 (span 3 3) ∷ [])
     × ReadsAt 0 (codes "1e-") NegativeExponential [] false (UnexpectedEnd (span 3 3) ∷ [])
     × ReadsAt 0 (codes "0n0") Eof [] false (InvalidNumberEnd (span 2 3) ∷ [])
-unfolding is_digit_of is_exponent_mark may_not_follow_number is_identifier_start unicode_ident encode_utf8 run integer exponent_items exponent_or fraction_items point_items behind_digits suffix_or decimal_items plain_digits legacy_items behind_prefix zero_items number_items items_read
+unfolding is_digit_of is_exponent_mark may_not_follow_number is_identifier_start unicode_ident encode_utf8 run integer
+    exponent_items exponent_or fraction_items point_items behind_digits suffix_or decimal_items plain_digits
+    legacy_items behind_prefix zero_items number_items items_read
 at_fault = (refl, refl, refl, refl, refl, refl, refl, refl, refl, refl, refl, refl, refl, refl, refl, refl, refl, refl)

@@ -1,12 +1,15 @@
 -- What is read of a number, good or at fault (ECMA-262 12.9.3 and B.1.1).
-use Rattle.std.specs.Prelude.{ℕ, ◌+◌, Bool, List, [], ◌∷◌, ◌++◌, length, take, drop, ◌==◌, not, codes, Option, Some, None, if◌then◌else◌}
+use Rattle.std.specs.Prelude.{ℕ, ◌+◌, Bool, List, [], ◌∷◌, ◌++◌, length, take, drop, ◌==◌, not, codes, Option, Some}
+use Rattle.std.specs.Prelude.{None, if◌then◌else◌}
 use Rattle.std.specs.List.{list_any}
 use Rattle.js_text.specs.Characters.{begins, from_first, before_first, is_identifier_start}
 use Rattle.js_text.specs.declared.diagnostic.Diagnostic.{Diagnostic}
 use Rattle.js_text.specs.declared.diagnostic.Diagnostic.TheVariants.{InvalidCharacter, UnexpectedEnd, InvalidNumberEnd}
 use Rattle.js_text.specs.declared.span.Span.{Span}
 use Rattle.js_text.specs.Ascii.{full_stop, low_line, plus_sign, hyphen_minus}
-use Rattle.js_grammar.specs.Number.{Item, whole, run, integer, is_digit_of, are_digits, Base, base_of, Sign, sign_text, sign_kind, is_exponent_mark, digit_zero, latin_small_letter_n, may_not_follow_number}
+use Rattle.js_grammar.specs.Number.{Item, whole, run, integer, is_digit_of, are_digits, Base, base_of, Sign, sign_text}
+use Rattle.js_grammar.specs.Number.{sign_kind, is_exponent_mark, digit_zero, latin_small_letter_n}
+use Rattle.js_grammar.specs.Number.{may_not_follow_number}
 use Rattle.js_grammar.specs.Number.Sign.{no_sign, plus, minus}
 use Rattle.js_grammar.specs.Outcome.{place_behind}
 use Rattle.js_kind.specs.declared.kind.Kind.{Kind}
@@ -62,7 +65,8 @@ behind_digits text = if begins (λ c. c == full_stop) text then point_items text
 -- the suffix `n`, with its kind, or else the items that there are without it
 unfoldable pub suffix_or : Kind → Items → List ℕ → Items
 suffix_or big_kind without text =
-    if begins (λ c. c == latin_small_letter_n) text then last_item big_kind (whole (codes "n") (drop 1 text)) else without
+    if begins (λ c. c == latin_small_letter_n) text then last_item big_kind
+    (whole (codes "n") (drop 1 text)) else without
 
 -- a decimal number
 unfoldable pub decimal_items : List ℕ → Items
@@ -164,7 +168,8 @@ abbrev pub badly_ended : ℕ → Items → NumberRead
 badly_ended place number = record (well_ended place number) {
   kind = Eof;
   rest = [];
-  diagnostics = missing_digits place number.items ++ invalid_number_end (behind_items place number.items) number.rest ∷ [];
+  diagnostics =
+      missing_digits place number.items ++ invalid_number_end (behind_items place number.items) number.rest ∷ [];
 }
 
 -- what is read of items that begin at a place

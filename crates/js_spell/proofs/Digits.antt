@@ -1,5 +1,6 @@
 -- The digits of an integer, one by one.
-use Rattle.std.proofs.Common.{◌≡◌, ◌≢◌, ℕ, ◌+◌, ◌*◌, ◌<◌, ◌≤◌, Bool, true, false, List, [], ◌∷◌, length, drop, get_or, refl, sym, ◌∙◌, ap, arith, ◌⊎◌, inl, inr, ◌||◌, ◌&&◌, ◌==◌, drop-cons, add-one}
+use Rattle.std.proofs.Common.{◌≡◌, ◌≢◌, ℕ, ◌+◌, ◌*◌, ◌<◌, ◌≤◌, Bool, true, false, List, [], ◌∷◌, length, drop, get_or}
+use Rattle.std.proofs.Common.{refl, sym, ◌∙◌, ap, arith, ◌⊎◌, inl, inr, ◌||◌, ◌&&◌, ◌==◌, drop-cons, add-one}
 use Rattle.std.proofs.lemmas.Bool.{eqb-true, eq-eqb}
 use Rattle.std.proofs.lemmas.List.{drop_all}
 use Rattle.std.proofs.lemmas.Bool.Decides.{nat_tests}
@@ -54,13 +55,15 @@ first_left items i h = rw add-one (drop-cons items i 0 h)
 
 -- a digit is the next of those that are left
 pub next_digit : (radix : ℕ) (has_separators : Bool) (items : List ℕ) (i : ℕ) → i < length items → radix ≤ 16
-    → list_all (is_digit_or_separator radix has_separators) (drop i items) ≡ true → NoSeparator has_separators (get_or items i 0)
+    → list_all (is_digit_or_separator radix has_separators) (drop i items) ≡ true
+    → NoSeparator has_separators (get_or items i 0)
     → (without_separators (drop i items) ≡ get_or items i 0 ∷ without_separators (drop (i + 1) items))
     × (list_all (is_digit_or_separator radix has_separators) (drop (i + 1) items) ≡ true)
 next_digit radix separators items i h small e none =
     let first = first_left items i h in
     let all = and_true _ _ (ap (list_all (is_digit_or_separator radix separators)) (sym first) ∙ e) in
-    let digit : is_underscore (get_or items i 0) ≡ false = is_digit radix separators (get_or items i 0) small all.0 none in
+    let digit : is_underscore (get_or items i 0) ≡ false =
+    is_digit radix separators (get_or items i 0) small all.0 none in
     (ap without_separators first ∙ rw digit refl, all.1)
 
 -- and a separator is left out
@@ -76,10 +79,13 @@ next_separator radix separators items i h e is =
 
 -- what a digit makes of the number before it
 pub digit_added : (radix value : ℕ) (has_separators : Bool) (items : List ℕ) (i : ℕ) → i < length items → radix ≤ 16
-    → list_all (is_digit_or_separator radix has_separators) (drop i items) ≡ true → NoSeparator has_separators (get_or items i 0)
+    → list_all (is_digit_or_separator radix has_separators) (drop i items) ≡ true
+    → NoSeparator has_separators (get_or items i 0)
     → digits_value_after radix value (without_separators (drop i items))
-    ≡ digits_value_after radix (value * radix + digit_value (get_or items i 0)) (without_separators (drop (i + 1) items))
-digit_added radix value separators items i h small e none = ap (digits_value_after radix value) (next_digit radix separators items i h small e none).0
+    ≡ digits_value_after radix (value * radix + digit_value (get_or items i 0))
+    (without_separators (drop (i + 1) items))
+digit_added radix value separators items i h small e none =
+    ap (digits_value_after radix value) (next_digit radix separators items i h small e none).0
 
 -- where nothing is left
 pub nothing_left : (items : List ℕ) (i : ℕ) → length items ≤ i → without_separators (drop i items) ≡ []

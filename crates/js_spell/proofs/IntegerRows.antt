@@ -27,7 +27,23 @@ with_separators :
     × HasValue (codes "0o77_73_72") Octal true 261882
     × HasValue (codes "0xdead_beef") Hex true 3735928559
 unfolding is_digit_of
-with_separators = ((record { prefix = refl; digits = refl; some_digit = refl }, refl), (record { prefix = refl; digits = refl; some_digit = refl }, refl), (record { prefix = refl; digits = refl; some_digit = refl }, refl), (record { prefix = refl; digits = refl; some_digit = refl }, refl), (record { prefix = refl; digits = refl; some_digit = refl }, refl), (record { prefix = refl; digits = refl; some_digit = refl }, refl), (record { prefix = refl; digits = refl; some_digit = refl }, refl), (record { prefix = refl; digits = refl; some_digit = refl }, refl), (record { prefix = refl; digits = refl; some_digit = refl }, refl), (record { prefix = refl; digits = refl; some_digit = refl }, refl), (record { prefix = refl; digits = refl; some_digit = refl }, refl), (record { prefix = refl; digits = refl; some_digit = refl }, refl), (record { prefix = refl; digits = refl; some_digit = refl }, refl), (record { prefix = refl; digits = refl; some_digit = refl }, refl), (record { prefix = refl; digits = refl; some_digit = refl }, refl))
+with_separators = (
+  (record { prefix = refl; digits = refl; some_digit = refl }, refl),
+  (record { prefix = refl; digits = refl; some_digit = refl }, refl),
+  (record { prefix = refl; digits = refl; some_digit = refl }, refl),
+  (record { prefix = refl; digits = refl; some_digit = refl }, refl),
+  (record { prefix = refl; digits = refl; some_digit = refl }, refl),
+  (record { prefix = refl; digits = refl; some_digit = refl }, refl),
+  (record { prefix = refl; digits = refl; some_digit = refl }, refl),
+  (record { prefix = refl; digits = refl; some_digit = refl }, refl),
+  (record { prefix = refl; digits = refl; some_digit = refl }, refl),
+  (record { prefix = refl; digits = refl; some_digit = refl }, refl),
+  (record { prefix = refl; digits = refl; some_digit = refl }, refl),
+  (record { prefix = refl; digits = refl; some_digit = refl }, refl),
+  (record { prefix = refl; digits = refl; some_digit = refl }, refl),
+  (record { prefix = refl; digits = refl; some_digit = refl }, refl),
+  (record { prefix = refl; digits = refl; some_digit = refl }, refl),
+)
 
 without_separators :
     HasValue (codes "18446744073709551616") Decimal false (2 ^ 64)
@@ -39,7 +55,16 @@ without_separators :
     × HasValue (codes "0x10000000000000000") Hex false (2 ^ 64)
     × HasValue (replicate 60 48 ++ codes "1") Decimal false 1
 unfolding is_digit_of
-without_separators = ((record { prefix = refl; digits = refl; some_digit = refl }, refl), (record { prefix = refl; digits = refl; some_digit = refl }, refl), (record { prefix = refl; digits = refl; some_digit = refl }, refl), (record { prefix = refl; digits = refl; some_digit = refl }, refl), (record { prefix = refl; digits = refl; some_digit = refl }, refl), (record { prefix = refl; digits = refl; some_digit = refl }, refl), (record { prefix = refl; digits = refl; some_digit = refl }, refl), (record { prefix = refl; digits = refl; some_digit = refl }, refl))
+without_separators = (
+  (record { prefix = refl; digits = refl; some_digit = refl }, refl),
+  (record { prefix = refl; digits = refl; some_digit = refl }, refl),
+  (record { prefix = refl; digits = refl; some_digit = refl }, refl),
+  (record { prefix = refl; digits = refl; some_digit = refl }, refl),
+  (record { prefix = refl; digits = refl; some_digit = refl }, refl),
+  (record { prefix = refl; digits = refl; some_digit = refl }, refl),
+  (record { prefix = refl; digits = refl; some_digit = refl }, refl),
+  (record { prefix = refl; digits = refl; some_digit = refl }, refl),
+)
 
 digits : integer_digits Hex (codes "0xFF_AA") ≡ codes "FFAA"
 digits = refl

@@ -1,5 +1,6 @@
 -- Integers as they are written, and their values (ECMA-262 12.9.3 and B.1.1).
-use Rattle.std.specs.Prelude.{◌≡◌, ℕ, Bool, true, List, [], ◌∷◌, length, drop, ◌==◌, ◌&&◌, ◌||◌, not, codes, Option, is_some, unwrap_or}
+use Rattle.std.specs.Prelude.{◌≡◌, ℕ, Bool, true, List, [], ◌∷◌, length, drop, ◌==◌, ◌&&◌, ◌||◌, not, codes, Option}
+use Rattle.std.specs.Prelude.{is_some, unwrap_or}
 use Rattle.std.specs.List.{filter, find, list_any, list_all}
 use Rattle.std.specs.Str.Parse.{digits_value}
 use Rattle.js_grammar.specs.Gap.{is_prefix}
@@ -36,7 +37,8 @@ is_underscore c = c == low_line
 abbrev pub is_digit_or_separator : ℕ → Bool → ℕ → Bool
 is_digit_or_separator radix has_separators c = is_digit_of radix c || (has_separators && is_underscore c)
 
--- The text is an integer of the kind: a prefix of the kind and digits, at least one. Where there are separators, `_` may
+-- The text is an integer of the kind: a prefix of the kind and digits, at least one. Where there are separators, `_`
+-- may
 -- stand anywhere behind the prefix.
 pub record IsInteger (text : List ℕ) (kind : Kind) (has_separators : Bool) : Type 0 where
   pub prefix : is_some (prefix_of kind text) ≡ true

@@ -6,6 +6,7 @@ use Rattle.js_spell.proofs.number.parse_big_int.Given as goal
 -- The digits so far and those that are left are all.
 abbrev pub invariant-loop-digit : goal.invariant-loop-digit
 invariant-loop-digit l = record {
-  digits_are : string_bytes l.digits ++ without_separators (drop l.digit-index l.digit-items) ≡ without_separators l.digit-items;
+  digits_are : string_bytes l.digits ++ without_separators (drop l.digit-index l.digit-items)
+      ≡ without_separators l.digit-items;
   digits : list_all (is_digit_or_separator l.radix l.has_sep) (drop l.digit-index l.digit-items) ≡ true;
 }
