@@ -165,3 +165,17 @@ integer_is text e =
           let first = begins_less (λ c. c == digit_zero) (run 10 text).text (run 10 text).rest begun in
           rw other (rw first (run_is 10 text (rw other at e))))
     ]
+
+zero_begins : is_digit_of 10 48 ≡ true
+unfolding is_digit_of
+zero_begins = refl
+
+-- and so does an integer
+pub integer_begins_digit : (xs : List ℕ) → Is integer xs → begins (is_digit_of 10) xs ≡ true
+unfolding integer run
+integer_begins_digit [] is = let h : true ≡ false = ap (λ (i : Item). i.lacks_digit) is in absurd (cc)
+integer_begins_digit (c ∷ cs) is =
+    elim (true_or_false (c == digit_zero)) [
+      inl zero ↦ ap (is_digit_of 10) (eqb-true c digit_zero zero) ∙ zero_begins
+    | inr other ↦ run_begins 10 (c ∷ cs) (rw other at is)
+    ]

@@ -103,7 +103,8 @@ clean_is_number place text begun clean =
           (ap (λ (r : NumberRead). r.diagnostics) (sym read) ∙ clean)))
       | inr well ↦ (
           let read = read_well place number well in
-          let none : missing_digits place number.items ≡ [] = ap (λ (r : NumberRead). r.diagnostics) (sym read) ∙ clean in
+          let none : missing_digits place number.items ≡ [] =
+              ap (λ (r : NumberRead). r.diagnostics) (sym read) ∙ clean in
           let sound = number_sound text begun (reports_whole place number.items none) in (
             all_text number.items,
             rw read (record { here = sound.here; number = sound.is.number; follows = sound.is.follows well }),

@@ -76,7 +76,7 @@ before_point_cut xs zs ws ys kind (inr is) free suffix cut = legacy_decimal_cut 
 pub point_text : (ds fs es : List ℕ) → ds ++ codes "." ++ fs ++ es ≡ ds ++ (full_stop ∷ (fs ++ es))
 point_text ds fs es = simp append_assoc
 
-point_text_before : (ds fs es ys : List ℕ)
+pub point_text_before : (ds fs es ys : List ℕ)
     → (ds ++ codes "." ++ fs ++ es) ++ ys ≡ ds ++ (full_stop ∷ (fs ++ (es ++ ys)))
 point_text_before ds fs es ys = simp append_assoc
 
