@@ -15,7 +15,8 @@ use Rattle.js_grammar.specs.Number.Sign.{no_sign, plus, minus}
 use Rattle.js_grammar.specs.Number.IsExponent.{exponent}
 use Rattle.js_grammar.specs.Number.IsLegacyOctal.{legacy as legacy_octal_digits}
 use Rattle.js_grammar.specs.Number.IsLegacyDecimal.{legacy as legacy_decimal_digits}
-use Rattle.js_grammar.specs.NumberReads.{Items, no_items, items-cons, last_item, sign_of, exponent_items, exponent_or}
+use Rattle.js_grammar.specs.NumberReads.{items_text, Items, no_items, items-cons, last_item, sign_of, exponent_items}
+use Rattle.js_grammar.specs.NumberReads.{exponent_or}
 use Rattle.js_grammar.specs.NumberReads.{fraction_items, point_items, behind_digits, suffix_or, decimal_items}
 use Rattle.js_grammar.specs.NumberReads.{is_no_digit, plain_digits, legacy_items, zero_items, base_at, number_items}
 use Rattle.js_grammar.proofs.NumberClasses.{EndsNumber, ends_number, point_stops, suffix_stops, exponent_stops}
@@ -28,18 +29,13 @@ use Rattle.js_grammar.proofs.NumberItems.{Stops, true_or_false, begins_more, run
 use Rattle.js_kind.specs.declared.kind.Kind.{Kind}
 use Rattle.js_kind.specs.declared.kind.Kind.TheVariants.{Decimal, Float, Octal, DecimalBigInt}
 
--- the characters of items
-abbrev pub all_text : List Item → List ℕ
-all_text [] = []
-all_text (item ∷ items) = item.text ++ all_text items
-
 -- a digit is missing in one of the items
 abbrev pub lacks_some : List Item → Bool
 lacks_some items = list_any (λ (item : Item). item.lacks_digit) items
 
 -- The items are whole, they have these characters and this kind, and then ys are left.
 pub record Cuts (items : Items) (xs ys : List ℕ) (kind : Kind) : Type 0 where
-  pub text : all_text items.items ≡ xs
+  pub text : items_text items.items ≡ xs
   pub rest : items.rest ≡ ys
   pub kind_is : items.kind ≡ kind
   pub whole_ones : lacks_some items.items ≡ false

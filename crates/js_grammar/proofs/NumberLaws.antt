@@ -7,9 +7,10 @@ use Rattle.js_text.specs.Characters.{begins}
 use Rattle.js_text.specs.declared.diagnostic.Diagnostic.{Diagnostic}
 use Rattle.js_text.specs.Ascii.{low_line}
 use Rattle.js_grammar.specs.Number.{Item, IsNumber, may_not_follow_number, excluded_after, begins_number}
-use Rattle.js_grammar.specs.NumberReads.{Items, number_items, items_have_separator, missing_digits, behind_items}
+use Rattle.js_grammar.specs.Outcome.{place_behind}
+use Rattle.js_grammar.specs.NumberReads.{items_text, contains_separator, Items, number_items, missing_digits}
 use Rattle.js_grammar.specs.NumberReads.{missing_digit, invalid_number_end, NumberRead, items_read, number_read}
-use Rattle.js_grammar.proofs.NumberCuts.{all_text, lacks_some, Cuts}
+use Rattle.js_grammar.proofs.NumberCuts.{lacks_some, Cuts}
 use Rattle.js_grammar.proofs.NumberItems.{true_or_false}
 use Rattle.js_grammar.proofs.NumberShapes.{or_false, excluded_begins, number_cut}
 use Rattle.js_grammar.proofs.NumberSteps.{read_well, read_badly}
@@ -17,40 +18,22 @@ use Rattle.js_grammar.proofs.NumberWhole.{number_sound}
 use Rattle.js_kind.specs.declared.kind.Kind.{Kind}
 use Rattle.js_kind.specs.declared.kind.Kind.TheVariants.{Decimal}
 
--- a `_` is among the characters
-abbrev pub contains_separator : List ℕ → Bool
-contains_separator xs = list_any (λ c. c == low_line) xs
-
-any_append : (p : ℕ → Bool) (xs ys : List ℕ) → list_any p (xs ++ ys) ≡ (list_any p xs || list_any p ys)
-any_append p [] ys = refl
-any_append p (x ∷ xs) ys = ap (λ b. p x || b) (any_append p xs ys) ∙ or_assoc (p x) (list_any p xs) (list_any p ys)
-  where
-    or_assoc : (a b c : Bool) → (a || (b || c)) ≡ ((a || b) || c)
-    or_assoc true b c = refl
-    or_assoc false b c = refl
-
-pub separator_of_items : (items : List Item) → items_have_separator items ≡ contains_separator (all_text items)
-separator_of_items [] = refl
-separator_of_items (item ∷ items) =
-    ap (λ b. contains_separator item.text || b) (separator_of_items items)
-    ∙ sym (any_append (λ c. c == low_line) item.text (all_text items))
-
 -- whole items report nothing, and others do
 whole_report : (place : ℕ) (items : List Item) → lacks_some items ≡ false → missing_digits place items ≡ []
 whole_report place [] e = refl
 whole_report place (item ∷ items) e =
     let both = or_false item.lacks_digit (lacks_some items) e in
-    rw both.0 (whole_report (place + length item.text) items both.1)
+    rw both.0 (whole_report (place_behind place item.text) items both.1)
 
 reports_whole : (place : ℕ) (items : List Item) → missing_digits place items ≡ [] → lacks_some items ≡ false
 reports_whole place [] e = refl
 reports_whole place (item ∷ items) e =
     elim (true_or_false item.lacks_digit) [
       | inl lacks ↦ (
-          let end = place + length item.text in
+          let end = place_behind place item.text in
           let h : missing_digit end item.rest ∷ missing_digits end items ≡ [] = rw lacks at e in
           absurd (cc))
-      | inr none ↦ rw none (reports_whole (place + length item.text) items (rw none at e))
+      | inr none ↦ rw none (reports_whole (place_behind place item.text) items (rw none at e))
     ]
 
 -- what is read of a number without a fault
@@ -62,8 +45,8 @@ read_of_cut : (place : ℕ) (number : Items) (xs ys : List ℕ) (kind : Kind) �
     → items_read place number ≡ good_read xs kind ys
 read_of_cut place number xs ys kind cut e =
     let follows : begins may_not_follow_number number.rest ≡ false = ap (begins may_not_follow_number) cut.rest ∙ e in
-    let separator : items_have_separator number.items ≡ contains_separator xs =
-    separator_of_items number.items ∙ ap contains_separator cut.text in
+    let separator : contains_separator (items_text number.items) ≡ contains_separator xs =
+        ap contains_separator cut.text in
     rw (
       read_well place number follows,
       cut.kind_is,
@@ -99,14 +82,14 @@ clean_is_number place text begun clean =
           let read = read_badly place number bad in
           absurd
           (append_not_empty (missing_digits place number.items)
-          (invalid_number_end (behind_items place number.items) number.rest)
+          (invalid_number_end (place_behind place (items_text number.items)) number.rest)
           (ap (λ (r : NumberRead). r.diagnostics) (sym read) ∙ clean)))
       | inr well ↦ (
           let read = read_well place number well in
           let none : missing_digits place number.items ≡ [] =
               ap (λ (r : NumberRead). r.diagnostics) (sym read) ∙ clean in
           let sound = number_sound text begun (reports_whole place number.items none) in (
-            all_text number.items,
+            items_text number.items,
             rw read (record { here = sound.here; number = sound.is.number; follows = sound.is.follows well }),
           ))
     ]

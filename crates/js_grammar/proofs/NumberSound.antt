@@ -8,9 +8,10 @@ use Rattle.js_text.specs.Ascii.{full_stop}
 use Rattle.js_grammar.specs.Number.{whole, run, Is, IsOptional, IsExponent, IsFloatExponent, Sign, sign_text}
 use Rattle.js_grammar.specs.Number.{is_digit_of, is_exponent_mark}
 use Rattle.js_grammar.specs.Number.IsExponent.{exponent}
-use Rattle.js_grammar.specs.NumberReads.{Items, sign_of, exponent_items, exponent_or, fraction_items, point_items}
+use Rattle.js_grammar.specs.NumberReads.{items_text, Items, sign_of, exponent_items, exponent_or, fraction_items}
+use Rattle.js_grammar.specs.NumberReads.{point_items}
 use Rattle.js_grammar.specs.NumberReads.{behind_digits}
-use Rattle.js_grammar.proofs.NumberCuts.{all_text, lacks_some}
+use Rattle.js_grammar.proofs.NumberCuts.{lacks_some}
 use Rattle.js_grammar.proofs.NumberItems.{true_or_false, run_text, run_is}
 use Rattle.js_grammar.proofs.NumberSteps.{exponent_there, exponent_missing, fraction_there, fraction_missing}
 use Rattle.js_grammar.proofs.NumberSteps.{behind_digits_point, behind_digits_other}
@@ -21,8 +22,8 @@ use Rattle.js_kind.specs.declared.kind.Kind.TheVariants.{Decimal, Float}
 -- What is known of the items that a text is cut into: where they are whole, this holds of their characters, their kind
 -- and what is left.
 pub record Sound (P : List ℕ → Kind → List ℕ → Type 0) (text : List ℕ) (number : Items) : Type 0 where
-  pub here : text ≡ all_text number.items ++ number.rest
-  pub is : P (all_text number.items) number.kind number.rest
+  pub here : text ≡ items_text number.items ++ number.rest
+  pub is : P (items_text number.items) number.kind number.rest
 
 -- the sign that stands here
 sign_here : (text : List ℕ) → text ≡ sign_text (sign_of text) ++ drop (length (sign_text (sign_of text))) text
@@ -98,9 +99,9 @@ fraction_sound text whole =
           rw found (record {
             here =
                 run_text 10 text ∙ ap (λ t. digits.text ++ t) end.here
-                ∙ sym (append_assoc digits.text (all_text more.items) more.rest);
-            is = fraction digits.text (all_text more.items) refl (inr is)
-                (optional_exponent (all_text more.items) more.kind more.rest end.is) (λ _. is);
+                ∙ sym (append_assoc digits.text (items_text more.items) more.rest);
+            is = fraction digits.text (items_text more.items) refl (inr is)
+                (optional_exponent (items_text more.items) more.kind more.rest end.is) (λ _. is);
           }))
       | inr none ↦ (
           let found = fraction_missing text none in
@@ -108,8 +109,8 @@ fraction_sound text whole =
           let end = exponent_sound Float text (rw found at whole) in
           rw found (record {
             here = end.here;
-            is = fraction [] (all_text more.items) refl (inl refl)
-                (optional_exponent (all_text more.items) more.kind more.rest end.is) (λ digit. absurd (cc));
+            is = fraction [] (items_text more.items) refl (inl refl)
+                (optional_exponent (items_text more.items) more.kind more.rest end.is) (λ digit. absurd (cc));
           }))
     ]
 
@@ -136,7 +137,7 @@ point_sound text first whole =
     let end = fraction_sound (drop 1 text) whole in
     record {
       here = first_is full_stop text first ∙ ap (λ t. full_stop ∷ t) end.here;
-      is = point_number (drop 1 text) (all_text more.items) more.kind more.rest end.is;
+      is = point_number (drop 1 text) (items_text more.items) more.kind more.rest end.is;
     }
 
 -- What stands behind the digits that a point or an exponent may follow.
@@ -170,7 +171,7 @@ behind_sound text whole =
           (record {
             here = end.here;
             is =
-                behind_point (drop 1 text) (all_text number.items) number.kind number.rest end.is;
+                behind_point (drop 1 text) (items_text number.items) number.kind number.rest end.is;
           }))
       | inr none ↦ (
           let found = behind_digits_other text none in
@@ -180,6 +181,6 @@ behind_sound text whole =
           (record {
             here = end.here;
             is =
-                behind_other text (all_text number.items) number.kind number.rest end.here none end.is;
+                behind_other text (items_text number.items) number.kind number.rest end.here none end.is;
           }))
     ]

@@ -15,10 +15,11 @@ use Rattle.js_grammar.specs.Number.IsLegacyDecimal.{legacy as legacy_decimal_dig
 use Rattle.js_grammar.specs.Number.IsNumber.{prefixed, prefixed_big, decimal, decimal_big, with_point, with_exponent}
 use Rattle.js_grammar.specs.Number.IsNumber.{point_first, legacy_octal, legacy_decimal}
 use Rattle.js_grammar.specs.Number.Sign.{no_sign, plus, minus}
-use Rattle.js_grammar.specs.NumberReads.{no_items, items-cons, point_items, behind_digits, suffix_or, decimal_items}
+use Rattle.js_grammar.specs.NumberReads.{items_text, no_items, items-cons, point_items, behind_digits, suffix_or}
+use Rattle.js_grammar.specs.NumberReads.{decimal_items}
 use Rattle.js_grammar.specs.NumberReads.{is_no_digit, plain_digits, legacy_items, behind_prefix, zero_items, base_at}
 use Rattle.js_grammar.specs.NumberReads.{number_items}
-use Rattle.js_grammar.proofs.NumberCuts.{all_text, lacks_some}
+use Rattle.js_grammar.proofs.NumberCuts.{lacks_some}
 use Rattle.js_grammar.proofs.NumberItems.{true_or_false, run_text, run_is, integer_text, integer_is}
 use Rattle.js_grammar.proofs.NumberSteps.{suffix_there, suffix_missing, legacy_octal_items, legacy_decimal_items}
 use Rattle.js_grammar.proofs.NumberSteps.{behind_prefix_broken, behind_prefix_whole, zero_base, zero_legacy}
@@ -95,8 +96,8 @@ decimal_sound text whole =
           rw found (record {
             here =
                 integer_text text ∙ ap (λ t. digits.text ++ t) end.here
-                ∙ sym (append_assoc digits.text (all_text behind.items) behind.rest);
-            is = behind_numbers digits.text (all_text behind.items) behind.kind behind.rest (inl is) end.is;
+                ∙ sym (append_assoc digits.text (items_text behind.items) behind.rest);
+            is = behind_numbers digits.text (items_text behind.items) behind.kind behind.rest (inl is) end.is;
           }))
     ]
 
@@ -167,8 +168,8 @@ legacy_sound cs first good =
           let end = behind_sound left (rw (legacy_decimal_items text some, found) at good) in
           rw (legacy_decimal_items text some, found) (record {
             here = ap (λ t. digit_zero ∷ t) (plain_text cs) ∙ ap (λ t. (digit_zero ∷ ds) ++ t) end.here
-                ∙ sym (append_assoc (digit_zero ∷ ds) (all_text behind.items) behind.rest);
-            is = behind_numbers (digit_zero ∷ ds) (all_text behind.items) behind.kind behind.rest
+                ∙ sym (append_assoc (digit_zero ∷ ds) (items_text behind.items) behind.rest);
+            is = behind_numbers (digit_zero ∷ ds) (items_text behind.items) behind.kind behind.rest
                 (inr (legacy_decimal_digits ds (plain_are_digits cs) decimal refl)) end.is;
           }))
     ]
@@ -272,7 +273,8 @@ number_sound (c ∷ cs) begun good =
           let end = point_sound text is (rw found at good) in
           rw found (record {
             here = end.here;
-            is = pointed_numbers cs (all_text number.items) number.kind number.rest (begins_point c cs begun is) end.is;
+            is = pointed_numbers cs (items_text number.items) number.kind number.rest
+                (begins_point c cs begun is) end.is;
           }))
       | inr other ↦ elim (true_or_false (c == digit_zero)) [
         | inl is ↦ by_zero c cs (eqb-true c digit_zero is) good

@@ -112,14 +112,14 @@ number_items text =
     else if begins (λ c. c == digit_zero) text then zero_items (base_at (drop 1 text)) text
     else decimal_items text
 
--- a `_` is among the characters of the items
-abbrev pub items_have_separator : List Item → Bool
-items_have_separator items = list_any (λ item. list_any (λ c. c == low_line) item.text) items
+-- the characters of items
+abbrev pub items_text : List Item → List ℕ
+items_text [] = []
+items_text (item ∷ items) = item.text ++ items_text items
 
--- the place behind items, of which each character takes one byte
-abbrev pub behind_items : ℕ → List Item → ℕ
-behind_items place [] = place
-behind_items place (item ∷ items) = behind_items (place + length item.text) items
+-- a `_` is among characters
+abbrev pub contains_separator : List ℕ → Bool
+contains_separator xs = list_any (λ c. c == low_line) xs
 
 -- the empty span at a place
 abbrev pub empty_span : ℕ → Span
@@ -134,7 +134,7 @@ missing_digit place (c ∷ cs) = InvalidCharacter c (empty_span place)
 abbrev pub missing_digits : ℕ → List Item → List Diagnostic
 missing_digits place [] = []
 missing_digits place (item ∷ items) =
-    let end = place + length item.text in
+    let end = place_behind place item.text in
     if item.lacks_digit then missing_digit end item.rest ∷ missing_digits end items else missing_digits end items
 
 -- the first character, which may not follow a number, and the following ones that begin names
@@ -159,7 +159,7 @@ abbrev pub well_ended : ℕ → Items → NumberRead
 well_ended place number = record {
   kind = number.kind;
   rest = number.rest;
-  has_separator = items_have_separator number.items;
+  has_separator = contains_separator (items_text number.items);
   diagnostics = missing_digits place number.items;
 }
 
@@ -169,7 +169,8 @@ badly_ended place number = record (well_ended place number) {
   kind = Eof;
   rest = [];
   diagnostics =
-      missing_digits place number.items ++ invalid_number_end (behind_items place number.items) number.rest ∷ [];
+      missing_digits place number.items
+          ++ invalid_number_end (place_behind place (items_text number.items)) number.rest ∷ [];
 }
 
 -- what is read of items that begin at a place
