@@ -11,11 +11,11 @@ use Rattle.js_grammar.proofs.NumberItems.{Stops, true_or_false}
 use Rattle.js_grammar.proofs.Tests.{and_true}
 
 -- all numbers below a bound pass
-abbrev all_below : (ℕ → Bool) → ℕ → Bool
+abbrev pub all_below : (ℕ → Bool) → ℕ → Bool
 all_below p zero = true
 all_below p (suc n) = p n && all_below p n
 
-below : (p : ℕ → Bool) (n c : ℕ) → all_below p n ≡ true → c < n → p c ≡ true
+pub below : (p : ℕ → Bool) (n c : ℕ) → all_below p n ≡ true → c < n → p c ≡ true
 below p zero c e h = absurd (omega arith)
 below p (suc n) c e h =
     let both = and_true (p n) (all_below p n) e in
@@ -31,7 +31,7 @@ implies : (a b : Bool) → (not a || b) ≡ true → a ≡ true → b ≡ true
 implies true b e h = e
 implies false b e h = absurd (cc)
 
-contraposed : (a b : Bool) → (a ≡ true → b ≡ true) → b ≡ false → a ≡ false
+pub contraposed : (a b : Bool) → (a ≡ true → b ≡ true) → b ≡ false → a ≡ false
 contraposed true b h e = let is : b ≡ true = h refl in absurd (cc)
 contraposed false b h e = refl
 
@@ -40,7 +40,7 @@ pub digit_more : (radix greater c : ℕ) → radix ≤ greater → is_digit_of r
 unfolding is_digit_of
 digit_more radix greater c h e = grind (arith, nat_tests)
 
-digit_is_ascii : (c : ℕ) → is_digit_of 16 c ≡ true → c < 128
+pub digit_is_ascii : (c : ℕ) → is_digit_of 16 c ≡ true → c < 128
 unfolding is_digit_of
 digit_is_ascii c e = grind (arith, nat_tests)
 

@@ -25,7 +25,7 @@ pub record Stops (radix : ℕ) (ys : List ℕ) : Type 0 where
 abbrev uncons : Item → Item
 uncons item = record item { text = drop 1 item.text }
 
-stopped : (radix : ℕ) (ys : List ℕ) → Stops radix ys → digits_on radix ys ≡ whole [] ys
+pub stopped : (radix : ℕ) (ys : List ℕ) → Stops radix ys → digits_on radix ys ≡ whole [] ys
 stopped radix [] s = refl
 stopped radix (c ∷ cs) s = rw (s.digit, s.separator) refl
 

@@ -1,2 +1,3 @@
-pub mod Digits
+pub mod IntegerSteps
 pub mod IntegerRows
+pub mod NumericSteps

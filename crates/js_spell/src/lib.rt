@@ -1,7 +1,9 @@
 //! Readers of one spelling each, and the values of integers.
 #![tactic(auto)]
 
+mod digits;
 mod number;
+mod numeric;
 #[cfg(test)]
 mod tests;
 

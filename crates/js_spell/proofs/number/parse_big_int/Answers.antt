@@ -1,6 +1,6 @@
 use Rattle.std.proofs.Common.{◌≡◌, ◌<◌, [], ◌∷◌, ◌++◌, get_or, sym, ◌∙◌, ap, arith, inl, inr, append_assoc}
 use Rattle.std.proofs.Common.{string_bytes}
-use Rattle.js_spell.proofs.Digits.{NoSeparator, next_digit, next_is_ascii}
+use Rattle.js_spell.proofs.IntegerSteps.{NoSeparator, next_digit, next_is_ascii}
 use Rattle.js_spell.proofs.number.parse_big_int.Goals as goal
 use Rattle.js_spell.proofs.number.parse_big_int.Goals.{else-has_sep-via-then-has_sep+else-digit-eq-SEPARATOR as no_underscore}
 use Rattle.js_spell.proofs.number.parse_big_int.Goals.{else-has_sep-via-else-has_sep as no_separators}
