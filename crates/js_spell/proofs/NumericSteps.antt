@@ -1,23 +1,32 @@
 -- The steps of reading a number.
 use Rattle.std.proofs.Common.{◌≡◌, ℕ, ◌+◌, ◌<◌, ◌≤◌, Bool, true, false, not, ◌&&◌, ◌||◌, ◌==◌, ltb, List, [], ◌∷◌, ◌++◌}
-use Rattle.std.proofs.Common.{length, refl, sym, ◌∙◌, ap, subst, arith, ◌⊎◌, inl, inr, append_assoc}
+use Rattle.std.proofs.Common.{length, length-append, refl, sym, ◌∙◌, ap, subst, arith, ◌⊎◌, inl, inr, append_assoc}
+use Rattle.std.proofs.Common.{add-zero}
 use Rattle.std.proofs.lemmas.List.{append-nil}
 use Rattle.std.specs.List.{list_any}
+use Rattle.std.specs.Prelude.{Result, Ok, Err, OnErr}
 use Rattle.std.proofs.lemmas.Bool.{ltb-true, ltb-false, eqb-true}
 use Rattle.std.proofs.lemmas.Bool.Decides.{nat_tests}
 use Rattle.std.proofs.Math.ListN.{get_or-eq_default}
 use Rattle.js_text.specs.Ascii.{low_line}
 use Rattle.js_text.specs.Characters.{begins, from_place}
-use Rattle.js_source.specs.Source.{At, rest, HasFirstByte, Reads}
+use Rattle.js_source.specs.Source.{At, rest, HasFirstByte, Reads, IsPlaced}
+use Rattle.js_text.proofs.TextLemmas.{place_past}
+use Rattle.js_text.specs.declared.diagnostic.Diagnostic.{Diagnostic}
+use Rattle.std.specs.Str.{IsCharBoundary}
+use Rattle.js_grammar.specs.Outcome.{place_behind}
+use Rattle.js_grammar.proofs.NumberSteps.{run_there, run_missing}
 use Rattle.js_source.specs.Search.{matches_at}
 use Rattle.js_source.specs.Runs.{HasAscii, IsRun, PassesRun}
-use Rattle.js_grammar.specs.Number.{Item, whole, broken, item-cons, digits_on, is_digit_of}
-use Rattle.js_grammar.specs.NumberReads.{contains_separator}
+use Rattle.js_grammar.specs.Number.{Item, whole, broken, item-cons, digits_on, run, is_digit_of}
+use Rattle.js_grammar.specs.NumberReads.{contains_separator, missing_digit}
 use Rattle.js_grammar.proofs.NumberClasses.{all_below, below, digit_is_ascii, digit_more, contraposed}
 use Rattle.js_grammar.proofs.NumberItems.{Stops, stopped, true_or_false}
 use Rattle.js_spell.specs.Numeric.{TellsDigits, radix_of_digits, prepend, item_behind, passed_separator, PassesDigits}
+use Rattle.js_spell.specs.Numeric.{PassesGroups, ReadsRun, BreaksOff}
 use Rattle.js_spell.specs.declared.digits.Digits.{Digits}
 use Rattle.js_spell.specs.declared.digits.Digits.TheVariants.{Binary, Octal, Decimal, Hex}
+use Rattle.js_spell.specs.declared.numeric.Passed.{Passed}
 use Rattle.js_spell.specs.declared.numeric.Passed.TheVariants.{Whole, Separator, Broken}
 
 -- two tests answer alike
@@ -208,3 +217,145 @@ module _ (radix : ℕ) (table : List Bool) (old mid : At) (small : radix ≤ 16)
         ∙ ap (prepend run.run) (separator_breaks radix (rest new) small none);
     separator = with_separator;
   }
+
+-- groups of digits, one after the other
+pub groups_begin : (radix : ℕ) (old : At) (flag : Bool) → PassesGroups radix old Separator old flag flag
+groups_begin radix old flag =
+    record { text = refl; characters = []; here = refl; item = refl; separator = or_none flag }
+  where
+    or_none : (b : Bool) → b ≡ (b || false)
+    or_none true = refl
+    or_none false = refl
+
+prepend_behind : (passed : Passed) (radix : ℕ) (xs ys left : List ℕ)
+    → prepend xs (item_behind passed radix ys left) ≡ item_behind passed radix (xs ++ ys) left
+prepend_behind Whole radix xs ys left = refl
+prepend_behind Separator radix xs ys left =
+    ap (λ t. record (digits_on radix left) { text = t }) (sym (append_assoc xs ys (digits_on radix left).text))
+prepend_behind Broken radix xs ys left = refl
+
+pub groups_go_on : (radix : ℕ) (old mid new : At) (passed : Passed) (before flag after : Bool)
+    → PassesGroups radix old Separator mid before flag
+    → PassesDigits radix mid passed new → after ≡ (flag || passed_separator passed)
+        → PassesGroups radix old passed new before after
+groups_go_on radix old mid new passed before flag after groups digits e =
+    record {
+      text = digits.text ∙ groups.text;
+      characters = groups.characters ++ digits.characters;
+      here =
+          groups.here ∙ ap (λ t. groups.characters ++ t) digits.here
+          ∙ sym (append_assoc groups.characters digits.characters (rest new));
+      item =
+          groups.item ∙ ap (prepend groups.characters) digits.item
+          ∙ prepend_behind passed radix groups.characters digits.characters (rest new);
+      separator =
+          e ∙ ap (λ b. flag || b) (sym digits.separator)
+              ∙ ap (λ b. b || contains_separator digits.characters) groups.separator
+          ∙ or_assoc before (contains_separator groups.characters) (contains_separator digits.characters)
+          ∙ ap (λ b. before || b) (sym (any_append (λ c. c == low_line) groups.characters digits.characters));
+    }
+  where
+    or_assoc : (a b c : Bool) → ((a || b) || c) ≡ (a || (b || c))
+    or_assoc true b c = refl
+    or_assoc false b c = refl
+
+or_true : (b : Bool) → true ≡ (b || true)
+or_true true = refl
+or_true false = refl
+
+or_false : (b : Bool) → b ≡ (b || false)
+or_false true = refl
+or_false false = refl
+
+pub flag_kept : (b : Bool) → b ≡ (b || passed_separator Whole)
+flag_kept b = or_false b
+
+pub flag_set : (b : Bool) → true ≡ (b || passed_separator Separator)
+flag_set b = or_true b
+
+-- each separator takes the source on
+pub separator_shortens : (radix : ℕ) (old new : At) → PassesDigits radix old Separator new
+    → length (rest new) < length (rest old)
+separator_shortens radix old new digits =
+    omega
+        (arith, ap length digits.here, length-append digits.characters (rest new),
+        some digits.characters digits.separator)
+  where
+    some : (xs : List ℕ) → contains_separator xs ≡ true → 0 < length xs
+    some [] e = absurd (cc)
+    some (x ∷ xs) e = omega arith
+
+-- a place behind characters that were passed
+pub leads_to : (old new : At) (xs : List ℕ) → IsPlaced old → IsPlaced new → new.text ≡ old.text
+    → rest old ≡ xs ++ rest new
+    → new.place ≡ place_behind old.place xs
+leads_to old new xs h g text e =
+    let there : IsCharBoundary old.text new.place =
+        subst (λ (u : List ℕ). IsCharBoundary u new.place) text g.boundary in
+    place_past old.text old.place new.place xs h.utf8 h.boundary there (e ∙ ap (λ u. xs ++ from_place u new.place) text)
+
+-- a run, as it is read of what was passed
+run_item : (radix : ℕ) (old : At) (item : Item) → begins (is_digit_of radix) (rest old) ≡ true
+    → digits_on radix (rest old) ≡ item
+    → run radix (rest old) ≡ item
+run_item radix old item digit e = run_there radix (rest old) digit ∙ e
+
+pub run_missing_read : (radix : ℕ) (old : At) (before after : List Diagnostic) (flag : Bool)
+    → begins (is_digit_of radix) (rest old) ≡ false
+    → after ≡ before ++ (missing_digit old.place (rest old) ∷ []) → ReadsRun radix old old before after flag flag false
+run_missing_read radix old before after flag none e =
+    let item = run_missing radix (rest old) none in
+    record {
+      items = record {
+        text = refl;
+        here = rw item refl;
+        reports = rw (item, add-zero old.place) e;
+        separator = rw item (or_false flag);
+      };
+      left = ap (λ (i : Item). i.rest) item;
+      whole_run = ap (λ (i : Item). i.lacks_digit) item;
+    }
+
+pub run_whole_read : (radix : ℕ) (old new : At) (reports : List Diagnostic) (before after : Bool)
+    → begins (is_digit_of radix) (rest old) ≡ true
+    → PassesGroups radix old Whole new before after → ReadsRun radix old new reports reports before after true
+run_whole_read radix old new reports before after digit groups =
+    let item = run_item radix old (whole groups.characters (rest new)) digit groups.item in
+    record {
+      items = record {
+        text = groups.text;
+        here = rw (item, append-nil groups.characters) groups.here;
+        reports = rw item (sym (append-nil reports));
+        separator = rw (item, append-nil groups.characters) groups.separator;
+      };
+      left = ap (λ (i : Item). i.rest) item;
+      whole_run = ap (λ (i : Item). i.lacks_digit) item;
+    }
+
+pub run_broken_read : (radix : ℕ) (old new : At) (reports more : List Diagnostic) (before after : Bool)
+    → begins (is_digit_of radix) (rest old) ≡ true
+    → PassesGroups radix old Broken new before after → IsPlaced old → IsPlaced new
+    → more ≡ reports ++ (missing_digit new.place (rest new) ∷ [])
+        → ReadsRun radix old new reports more before after false
+run_broken_read radix old new reports more before after digit groups h g e =
+    let item = run_item radix old (broken groups.characters (rest new)) digit groups.item in
+    let place = leads_to old new groups.characters h g groups.text groups.here in
+    record {
+      items = record {
+        text = groups.text;
+        here = rw (item, append-nil groups.characters) groups.here;
+        reports = rw (item, ← place) e;
+        separator = rw (item, append-nil groups.characters) groups.separator;
+      };
+      left = ap (λ (i : Item). i.rest) item;
+      whole_run = ap (λ (i : Item). i.lacks_digit) item;
+    }
+
+-- a text is the same, and nothing was reported
+pub on_err : {T E : Type 0} (r : Result T E) (P : Type 0) → P → OnErr r P
+on_err (Ok x) P p = tt
+on_err (Err e) P p = p
+
+pub breaks_off : (old new : At) (before after : List Diagnostic) → new.text ≡ old.text → after ≡ before
+    → BreaksOff old new before after
+breaks_off old new before after text e = record { text = text; more = []; reports = e ∙ sym (append-nil before) }

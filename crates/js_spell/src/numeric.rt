@@ -1,11 +1,11 @@
 //! Reading a number, good or at fault (ECMA-262 12.9.3 and B.1.1).
 
-ghost use Rattle.std.specs.Prelude.{◌≡◌, ◌++◌, ◌∷◌, [], OnOk, OnErr};
+ghost use Rattle.std.specs.Prelude.{◌≡◌, ◌++◌, ◌∷◌, [], IfOk, OnOk, OnErr};
 ghost use Rattle.js_text.specs.Characters.{begins};
 ghost use Rattle.js_grammar.specs.Number.{is_digit_of};
 ghost use Rattle.js_grammar.specs.NumberReads.{missing_digit};
 ghost use Rattle.js_source.specs.Source.{rest, IsPlaced};
-ghost use Rattle.js_spell.specs.Numeric.{radix_of_digits, PassesDigits};
+ghost use Rattle.js_spell.specs.Numeric.{radix_of_digits, PassesDigits, PassesGroups, end_of, ReadsRun, BreaksOff};
 
 use crate::digits::{Digits, table_of};
 use js_source::Source;
@@ -65,4 +65,48 @@ fn report_missing_digit(
         Some(c) => errors.push(Diagnostic::InvalidCharacter { c, span }),
         None => errors.push(Diagnostic::UnexpectedEnd { span }),
     }
+}
+
+/// Passes the rest of a run, which a digit begins, and tells whether it is whole.
+#[inline(always)]
+fn pass_groups(source: &mut Source<'_>, has_separator: &mut bool, digits: Digits) -> bool
+    requires { IsPlaced source.old }
+    ensures passes { PassesGroups
+        (radix_of_digits digits) source.old (end_of result) source.new has_separator.old has_separator.new }
+    ensures placed { IsPlaced source.new }
+{
+    'groups: loop {
+        match pass_digits(source, digits) {
+            Passed::Whole => return true,
+            Passed::Separator => *has_separator = true,
+            Passed::Broken => {
+                *has_separator = true;
+                return false;
+            }
+        }
+    }
+}
+
+/// Reads a run of digits, and tells whether it is whole.
+fn read_run(
+    source: &mut Source<'_>,
+    errors: &mut DiagnosticList,
+    has_separator: &mut bool,
+    digits: Digits,
+) -> Result<bool, AllocError>
+    requires { IsPlaced source.old }
+    ensures ok { IfOk result (ReadsRun
+        (radix_of_digits digits) source.old source.new errors.old errors.new has_separator.old has_separator.new) }
+    ensures err { OnErr result (BreaksOff source.old source.new errors.old errors.new) }
+    ensures placed { IsPlaced source.new }
+{
+    if !begins_digit(source, digits) {
+        report_missing_digit(source, errors)?;
+        return Ok(false);
+    }
+    let is_whole = pass_groups(source, has_separator, digits);
+    if !is_whole {
+        report_missing_digit(source, errors)?;
+    }
+    Ok(is_whole)
 }
