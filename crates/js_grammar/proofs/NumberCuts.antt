@@ -170,7 +170,7 @@ pub record NoPrefix (ys : List ℕ) : Type 0 where
   pub letter : base_at ys ≡ None
   pub stops : Stops 10 ys
 
-digit_names_no_base : (c : ℕ) → is_digit_of 10 c ≡ true → base_of c ≡ None
+pub digit_names_no_base : (c : ℕ) → is_digit_of 10 c ≡ true → base_of c ≡ None
 unfolding is_digit_of
 digit_names_no_base c e =
     rw (
@@ -283,7 +283,7 @@ plain_from (c ∷ cs) ys e s =
     let both = and_true (is_digit_of 10 c) (are_digits 10 cs) e in
     rw both.0 (plain_from cs ys both.1 s)
 
-plain_digits_append : (xs ys : List ℕ) → are_digits 10 xs ≡ true → begins (is_digit_of 10) ys ≡ false
+pub plain_digits_append : (xs ys : List ℕ) → are_digits 10 xs ≡ true → begins (is_digit_of 10) ys ≡ false
     → plain_digits (xs ++ ys) ≡ whole xs ys
 unfolding plain_digits
 plain_digits_append xs ys e s = rw (plain_before xs ys e s, plain_from xs ys e s) refl
@@ -309,7 +309,7 @@ octal_begins : (ds : List ℕ) → begins (is_digit_of 8) ds ≡ true → begins
 octal_begins [] e = e
 octal_begins (d ∷ ds) e = digit_more 8 10 d (omega arith) e
 
-octal_digits : (ds : List ℕ) → are_digits 8 ds ≡ true → are_digits 10 ds ≡ true
+pub octal_digits : (ds : List ℕ) → are_digits 8 ds ≡ true → are_digits 10 ds ≡ true
 octal_digits [] e = refl
 octal_digits (d ∷ ds) e =
     let both = and_true (is_digit_of 8 d) (are_digits 8 ds) e in

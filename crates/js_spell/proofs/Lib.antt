@@ -1,3 +1,6 @@
 pub mod IntegerSteps
 pub mod IntegerRows
 pub mod NumericSteps
+pub mod LegacySteps
+pub mod PrefixSteps
+pub mod LeadSteps

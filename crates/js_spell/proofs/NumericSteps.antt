@@ -1,29 +1,40 @@
 -- The steps of reading a number.
 use Rattle.std.proofs.Common.{◌≡◌, ℕ, ◌+◌, ◌<◌, ◌≤◌, Bool, true, false, not, ◌&&◌, ◌||◌, ◌==◌, ltb, List, [], ◌∷◌, ◌++◌}
-use Rattle.std.proofs.Common.{length, length-append, refl, sym, ◌∙◌, ap, subst, arith, ◌⊎◌, inl, inr, append_assoc}
-use Rattle.std.proofs.Common.{add-zero}
+use Rattle.std.proofs.Common.{length, drop, length-append, refl, sym, ◌∙◌, ap, subst, arith, ◌⊎◌, inl, inr}
+use Rattle.std.proofs.Common.{append_assoc, add-zero}
 use Rattle.std.proofs.lemmas.List.{append-nil}
 use Rattle.std.specs.List.{list_any}
-use Rattle.std.specs.Prelude.{Result, Ok, Err, OnErr}
+use Rattle.std.specs.Prelude.{codes, IfOk, Result, Ok, Err, OnErr}
 use Rattle.std.proofs.lemmas.Bool.{ltb-true, ltb-false, eqb-true}
 use Rattle.std.proofs.lemmas.Bool.Decides.{nat_tests}
 use Rattle.std.proofs.Math.ListN.{get_or-eq_default}
-use Rattle.js_text.specs.Ascii.{low_line}
+use Rattle.js_text.specs.Ascii.{full_stop, low_line, plus_sign, hyphen_minus}
 use Rattle.js_text.specs.Characters.{begins, from_place}
 use Rattle.js_source.specs.Source.{At, rest, HasFirstByte, Reads, IsPlaced}
 use Rattle.js_text.proofs.TextLemmas.{place_past}
 use Rattle.js_text.specs.declared.diagnostic.Diagnostic.{Diagnostic}
 use Rattle.std.specs.Str.{IsCharBoundary}
 use Rattle.js_grammar.specs.Outcome.{place_behind}
-use Rattle.js_grammar.proofs.NumberSteps.{run_there, run_missing}
+use Rattle.js_grammar.proofs.Reported.{place_behind-append}
+use Rattle.js_kind.specs.declared.kind.Kind.{Kind}
+use Rattle.js_kind.specs.declared.kind.Kind.TheVariants.{PositiveExponential, NegativeExponential, Float, DecimalBigInt}
+use Rattle.js_kind.specs.declared.kind.Kind.TheVariants as variant
+use Rattle.js_grammar.specs.Number.Sign.{no_sign, plus, minus}
+use Rattle.js_grammar.proofs.NumberSteps.{run_there, run_missing, integer_zero, integer_run, suffix_there}
+use Rattle.js_grammar.proofs.NumberSteps.{suffix_missing, exponent_there, exponent_missing, fraction_there}
+use Rattle.js_grammar.proofs.NumberSteps.{fraction_missing, behind_digits_point, behind_digits_other}
 use Rattle.js_source.specs.Search.{matches_at}
 use Rattle.js_source.specs.Runs.{HasAscii, IsRun, PassesRun}
-use Rattle.js_grammar.specs.Number.{Item, whole, broken, item-cons, digits_on, run, is_digit_of}
-use Rattle.js_grammar.specs.NumberReads.{contains_separator, missing_digit}
-use Rattle.js_grammar.proofs.NumberClasses.{all_below, below, digit_is_ascii, digit_more, contraposed}
+use Rattle.js_grammar.specs.Number.{Item, whole, broken, item-cons, digits_on, run, integer, digit_zero, is_digit_of}
+use Rattle.js_grammar.specs.Number.{Sign, sign_text, sign_kind, is_exponent_mark}
+use Rattle.js_grammar.specs.NumberReads.{contains_separator, missing_digit, missing_digits, items_text, sign_of}
+use Rattle.js_grammar.specs.NumberReads.{exponent_or, exponent_items, items-cons, last_item, fraction_items}
+use Rattle.js_grammar.specs.NumberReads.{point_items, behind_digits, decimal_items, suffix_or, Items}
+use Rattle.js_grammar.proofs.NumberClasses.{all_below, below, digit_is_ascii, digit_more, is_exponent}
 use Rattle.js_grammar.proofs.NumberItems.{Stops, stopped, true_or_false}
 use Rattle.js_spell.specs.Numeric.{TellsDigits, radix_of_digits, prepend, item_behind, passed_separator, PassesDigits}
-use Rattle.js_spell.specs.Numeric.{PassesGroups, ReadsRun, BreaksOff}
+use Rattle.js_spell.specs.Numeric.{PassesGroups, ReadsRun, BreaksOff, ReadsItems, ReadsPart, ReadsInteger, ReadsEnd}
+use Rattle.js_spell.specs.Numeric.{TakesExponentMark, TakesSign}
 use Rattle.js_spell.specs.declared.digits.Digits.{Digits}
 use Rattle.js_spell.specs.declared.digits.Digits.TheVariants.{Binary, Octal, Decimal, Hex}
 use Rattle.js_spell.specs.declared.numeric.Passed.{Passed}
@@ -73,7 +84,7 @@ radix_is_small Decimal = omega arith
 radix_is_small Hex = omega arith
 
 -- a character beyond ASCII is no digit
-wide_is_no_digit : (radix c : ℕ) → radix ≤ 16 → 128 ≤ c → is_digit_of radix c ≡ false
+pub wide_is_no_digit : (radix c : ℕ) → radix ≤ 16 → 128 ≤ c → is_digit_of radix c ≡ false
 wide_is_no_digit radix c small h =
     elim (true_or_false (is_digit_of radix c)) [
       inl is ↦ (let low = digit_is_ascii c (digit_more radix 16 c small is) in absurd (omega arith))
@@ -100,7 +111,7 @@ first_digit radix table b (c ∷ cs) small tells h =
         ])
     ]
 
-stops_digits : (radix : ℕ) (table : List Bool) (cs : List ℕ) → radix ≤ 16 → TellsDigits radix table
+pub stops_digits : (radix : ℕ) (table : List Bool) (cs : List ℕ) → radix ≤ 16 → TellsDigits radix table
     → begins (matches_at table) cs ≡ false → begins (is_digit_of radix) cs ≡ false
 stops_digits radix table [] small tells e = refl
 stops_digits radix table (c ∷ cs) small tells e =
@@ -131,14 +142,14 @@ digits_run radix table (b ∷ bs) ys small tells h =
     let digit : is_digit_of radix b ≡ true = sym (tells.tells b h.0) ∙ h.1 in
     rw digit (ap (item-cons b) (digits_run radix table bs ys small tells h.2))
 
-no_separator : (radix : ℕ) (table : List Bool) (xs : List ℕ) → radix ≤ 16 → TellsDigits radix table → IsRun table xs
+pub no_separator : (radix : ℕ) (table : List Bool) (xs : List ℕ) → radix ≤ 16 → TellsDigits radix table → IsRun table xs
     → contains_separator xs ≡ false
 no_separator radix table [] small tells h = refl
 no_separator radix table (b ∷ bs) small tells h =
     let digit : is_digit_of radix b ≡ true = sym (tells.tells b h.0) ∙ h.1 in
     rw (digit_is_no_separator radix b small digit) (no_separator radix table bs small tells h.2)
 
-any_append : (p : ℕ → Bool) (xs ys : List ℕ) → list_any p (xs ++ ys) ≡ (list_any p xs || list_any p ys)
+pub any_append : (p : ℕ → Bool) (xs ys : List ℕ) → list_any p (xs ++ ys) ≡ (list_any p xs || list_any p ys)
 any_append p [] ys = refl
 any_append p (x ∷ xs) ys = ap (λ b. p x || b) (any_append p xs ys) ∙ or_assoc (p x) (list_any p xs) (list_any p ys)
   where
@@ -359,3 +370,300 @@ on_err (Err e) P p = p
 pub breaks_off : (old new : At) (before after : List Diagnostic) → new.text ≡ old.text → after ≡ before
     → BreaksOff old new before after
 breaks_off old new before after text e = record { text = text; more = []; reports = e ∙ sym (append-nil before) }
+
+-- the mark of an exponent
+pub exponent_marks : (is_exponent_mark 101 ≡ true) × (is_exponent_mark 69 ≡ true)
+unfolding is_exponent_mark
+exponent_marks = (refl, refl)
+
+no_mark_one : (c : ℕ) → (c == 101) ≡ false → (c == 69) ≡ false → is_exponent_mark c ≡ false
+unfolding is_exponent_mark
+no_mark_one c small large = rw (small, large) refl
+
+pub no_mark : (cs : List ℕ) → begins (λ c. c == 101) cs ≡ false → begins (λ c. c == 69) cs ≡ false
+    → begins is_exponent_mark cs ≡ false
+no_mark [] small large = refl
+no_mark (c ∷ cs) small large = no_mark_one c small large
+
+-- its sign
+pub sign_minus : (old new : At) → Reads old new hyphen_minus → TakesSign old new NegativeExponential
+sign_minus old new read =
+    let sign : sign_of (rest old) ≡ minus = ap sign_of read.here in
+    record {
+      text = read.text;
+      here = rw sign read.here;
+      left = rw sign (ap (drop 1) read.here);
+      kind_is = ap sign_kind sign;
+    }
+
+sign_first : (cs : List ℕ) → begins (λ c. c == hyphen_minus) cs ≡ false → begins (λ c. c == plus_sign) cs ≡ false
+    → sign_of cs ≡ no_sign
+sign_first [] h p = refl
+sign_first (c ∷ cs) h p = rw (h, p) refl
+
+pub sign_plus : (old new : At) → Reads old new plus_sign → TakesSign old new PositiveExponential
+sign_plus old new read =
+    let sign : sign_of (rest old) ≡ plus = ap sign_of read.here in
+    record {
+      text = read.text;
+      here = rw sign read.here;
+      left = rw sign (ap (drop 1) read.here);
+      kind_is = ap sign_kind sign;
+    }
+
+pub sign_none : (old : At) → begins (λ c. c == hyphen_minus) (rest old) ≡ false
+    → begins (λ c. c == plus_sign) (rest old) ≡ false
+    → TakesSign old old PositiveExponential
+sign_none old h p =
+    let sign = sign_first (rest old) h p in
+    record { text = refl; here = rw sign refl; left = rw sign refl; kind_is = ap sign_kind sign }
+
+-- items, one behind the other
+items_text-append : (xs ys : List Item) → items_text (xs ++ ys) ≡ items_text xs ++ items_text ys
+items_text-append [] ys = refl
+items_text-append (x ∷ xs) ys =
+    ap (λ t. x.text ++ t) (items_text-append xs ys) ∙ sym (append_assoc x.text (items_text xs) (items_text ys))
+
+missing_digits-append : (place : ℕ) (xs ys : List Item)
+    → missing_digits place (xs ++ ys)
+        ≡ missing_digits place xs ++ missing_digits (place_behind place (items_text xs)) ys
+missing_digits-append place [] ys = ap (λ p. missing_digits p ys) (sym (add-zero place))
+missing_digits-append place (x ∷ xs) ys =
+    let end = place_behind place x.text in
+    let later : missing_digits end (xs ++ ys)
+        ≡ missing_digits end xs ++ missing_digits (place_behind place (x.text ++ items_text xs)) ys =
+        missing_digits-append end xs ys
+        ∙ ap (λ p. missing_digits end xs ++ missing_digits p ys) (place_behind-append place x.text (items_text xs)) in
+    elim (true_or_false x.lacks_digit) [
+      inl lacks ↦ rw lacks (ap (λ t. missing_digit end x.rest ∷ t) later)
+    | inr none ↦ rw none later
+    ]
+
+pub items_append : (old mid new : At) (before during after : List Diagnostic) (f g h : Bool) (xs ys : List Item)
+    → IsPlaced old → IsPlaced mid
+    → ReadsItems old mid before during f g xs → ReadsItems mid new during after g h ys
+        → ReadsItems old new before after f h (xs ++ ys)
+items_append old mid new before during after f g h xs ys old_placed mid_placed a b =
+    let place = leads_to old mid (items_text xs) old_placed mid_placed a.text a.here in
+    record {
+      text = b.text ∙ a.text;
+      here =
+          a.here ∙ ap (λ t. items_text xs ++ t) b.here ∙ sym (append_assoc (items_text xs) (items_text ys) (rest new))
+          ∙ ap (λ t. t ++ rest new) (sym (items_text-append xs ys));
+      reports =
+          b.reports ∙ ap (λ t. t ++ missing_digits mid.place ys) a.reports
+          ∙ append_assoc before (missing_digits old.place xs) (missing_digits mid.place ys)
+          ∙ ap (λ t. before ++ t)
+              (ap (λ p. missing_digits old.place xs ++ missing_digits p ys) place
+              ∙ sym (missing_digits-append old.place xs ys));
+      separator =
+          b.separator ∙ ap (λ flag. flag || contains_separator (items_text ys)) a.separator
+          ∙ either_assoc f (contains_separator (items_text xs)) (contains_separator (items_text ys))
+          ∙ ap (λ flag. f || flag)
+              (sym (any_append (λ c. c == low_line) (items_text xs) (items_text ys))
+              ∙ ap contains_separator (sym (items_text-append xs ys)));
+    }
+  where
+    either_assoc : (a b c : Bool) → ((a || b) || c) ≡ (a || (b || c))
+    either_assoc true b c = refl
+    either_assoc false b c = refl
+
+-- no item
+pub no_items_read : (old : At) (reports : List Diagnostic) (flag : Bool)
+    → ReadsItems old old reports reports flag flag []
+no_items_read old reports flag =
+    record { text = refl; here = refl; reports = sym (append-nil reports); separator = or_false flag }
+
+-- an item of characters that are no separators
+pub whole_item_read : (old new : At) (reports : List Diagnostic) (flag : Bool) (xs left : List ℕ) → new.text ≡ old.text
+    → rest old ≡ xs ++ rest new
+    → contains_separator xs ≡ false → ReadsItems old new reports reports flag flag (whole xs left ∷ [])
+whole_item_read old new reports flag xs left text here none = record {
+  text = text;
+  here = rw (append-nil xs) here;
+  reports = sym (append-nil reports);
+  separator = rw (append-nil xs, none) (or_false flag);
+}
+
+sign_has_no_separator : (mark : ℕ) (sign : Sign) → is_exponent_mark mark ≡ true
+    → contains_separator (mark ∷ sign_text sign) ≡ false
+sign_has_no_separator mark sign is = rw (not_low_line mark is) (by_sign sign)
+  where
+    not_low_line : (mark : ℕ) → is_exponent_mark mark ≡ true → (mark == low_line) ≡ false
+    not_low_line mark is =
+        elim (is_exponent mark is)
+        [ inl small ↦ ap (λ d. d == low_line) small | inr large ↦ ap (λ d. d == low_line) large ]
+    by_sign : (sign : Sign) → contains_separator (sign_text sign) ≡ false
+    by_sign no_sign = refl
+    by_sign plus = refl
+    by_sign minus = refl
+
+exponent_items_of : (mark : ℕ) (sign : Sign) (text : List ℕ) → exponent_items mark sign text
+    ≡ items-cons (whole (mark ∷ sign_text sign) (drop (length (sign_text sign)) text))
+      (last_item (sign_kind sign) (run 10 (drop (length (sign_text sign)) text)))
+unfolding exponent_items
+exponent_items_of mark sign text = refl
+
+-- an exponent
+pub no_exponent_read : (old : At) (reports : List Diagnostic) (flag : Bool) (without : Kind)
+    → begins is_exponent_mark (rest old) ≡ false
+    → ReadsEnd old old reports reports flag flag without (exponent_or without (rest old))
+no_exponent_read old reports flag without none =
+    rw (exponent_missing without (rest old) none)
+        (record { items = no_items_read old reports flag; left = refl; kind_is = refl })
+
+pub exponent_read : (old marked signed new : At) (before after : List Diagnostic) (f g is_whole : Bool)
+    (without kind : Kind)
+    → IsPlaced old → IsPlaced signed → TakesExponentMark old marked → TakesSign marked signed kind
+        → ReadsRun 10 signed new before after f g is_whole
+    → ReadsEnd old new before after f g kind (exponent_or without (rest old))
+exponent_read old marked signed new before after f g is_whole without kind h k taken sign digits =
+    let found : exponent_or without (rest old) ≡ exponent_items taken.mark (sign_of (rest marked)) (rest marked) =
+        ap (exponent_or without) taken.read.here ∙ exponent_there without taken.mark (rest marked) taken.is in
+    let xs = taken.mark ∷ sign_text (sign_of (rest marked)) in
+    let here : rest old ≡ xs ++ rest signed = taken.read.here ∙ ap (λ t. taken.mark ∷ t) sign.here in
+    let first = whole_item_read old signed before f xs (rest signed) (sign.text ∙ taken.read.text) here
+        (sign_has_no_separator taken.mark (sign_of (rest marked)) taken.is) in
+    let all =
+        items_append old signed new before before after f f g (whole xs (rest signed) ∷ [])
+        (run 10 (rest signed) ∷ []) h k first digits.items in
+    rw (found, exponent_items_of taken.mark (sign_of (rest marked)) (rest marked), sign.left)
+      (record { items = all; left = digits.left; kind_is = sign.kind_is })
+
+pub breaks_later : (old mid new : At) (before during after : List Diagnostic) → mid.text ≡ old.text → during ≡ before
+    → BreaksOff mid new during after → BreaksOff old new before after
+breaks_later old mid new before during after text e off =
+    record { text = off.text ∙ text; more = off.more; reports = off.reports ∙ ap (λ t. t ++ off.more) e }
+
+pub breaks_behind : (old mid new : At) (before during after : List Diagnostic) (f g : Bool) (items : List Item)
+    → ReadsItems old mid before during f g items
+    → BreaksOff mid new during after → BreaksOff old new before after
+breaks_behind old mid new before during after f g items read off = record {
+  text = off.text ∙ read.text;
+  more = missing_digits old.place items ++ off.more;
+  reports =
+      off.reports ∙ ap (λ t. t ++ off.more) read.reports
+      ∙ append_assoc before (missing_digits old.place items) off.more;
+}
+
+point_items_of : (cs : List ℕ) → point_items (full_stop ∷ cs)
+    ≡ record (items-cons (whole (codes ".") cs) (fraction_items cs)) { kind = Float }
+unfolding point_items
+point_items_of cs = refl
+
+-- a fraction
+pub fraction_read : (old mid new : At) (before during after : List Diagnostic) (f g h is_whole : Bool) (kind : Kind)
+    → IsPlaced old → IsPlaced mid
+    → begins (is_digit_of 10) (rest old) ≡ true → ReadsRun 10 old mid before during f g is_whole
+    → ReadsEnd mid new during after g h kind (exponent_or Float (rest mid))
+        → ReadsPart old new before after f h (fraction_items (rest old))
+fraction_read old mid new before during after f g h is_whole kind p q digit digits end =
+    let later : ReadsEnd mid new during after g h kind (exponent_or Float (run 10 (rest old)).rest) =
+        rw digits.left end in
+    rw (fraction_there (rest old) digit) (record {
+      items =
+          items_append old mid new before during after f g h (run 10 (rest old) ∷ [])
+          (exponent_or Float (run 10 (rest old)).rest).items p q digits.items later.items;
+      left = later.left;
+    })
+
+pub no_fraction_read : (old new : At) (before after : List Diagnostic) (f g : Bool) (kind : Kind)
+    → begins (is_digit_of 10) (rest old) ≡ false
+    → ReadsEnd old new before after f g kind (exponent_or Float (rest old))
+        → ReadsPart old new before after f g (fraction_items (rest old))
+no_fraction_read old new before after f g kind none end =
+    rw (fraction_missing (rest old) none) (record { items = end.items; left = end.left })
+
+-- a point
+pub point_read : (old mid new : At) (before after : List Diagnostic) (f g : Bool) → IsPlaced old → IsPlaced mid
+    → Reads old mid full_stop
+    → ReadsPart mid new before after f g (fraction_items (rest mid))
+        → ReadsEnd old new before after f g Float (point_items (rest old))
+point_read old mid new before after f g p q read part =
+    let first = whole_item_read old mid before f (codes ".") (rest mid) read.text read.here refl in
+    rw (read.here, point_items_of (rest mid)) (record {
+      items = items_append old mid new before before after f f g _ _ p q first part.items;
+      left = part.left;
+      kind_is = refl;
+    })
+
+pub behind_point_read : (old mid new : At) (before after : List Diagnostic) (f g : Bool) → IsPlaced old → IsPlaced mid
+    → Reads old mid full_stop
+    → ReadsPart mid new before after f g (fraction_items (rest mid))
+        → ReadsEnd old new before after f g Float (behind_digits (rest old))
+behind_point_read old mid new before after f g p q read part =
+    rw (behind_digits_point (rest old) (ap (begins (λ c. c == full_stop)) read.here))
+        (point_read old mid new before after f g p q read part)
+
+pub behind_other_read : (old new : At) (before after : List Diagnostic) (f g : Bool) (kind : Kind)
+    → begins (λ c. c == full_stop) (rest old) ≡ false
+    → ReadsEnd old new before after f g kind (exponent_or variant.Decimal (rest old))
+        → ReadsEnd old new before after f g kind (behind_digits (rest old))
+behind_other_read old new before after f g kind none end = rw (behind_digits_other (rest old) none) end
+
+pub if_ok_map : {T E : Type 0} (r : Result T E) (P Q : T → Type 0) → ((x : T) → P x → Q x) → IfOk r P → IfOk r Q
+if_ok_map (Ok x) P Q h p = h x p
+if_ok_map (Err e) P Q h p = tt
+
+-- an integer
+pub zero_read : (old new : At) (reports : List Diagnostic) (flag : Bool) → Reads old new 48
+    → ReadsInteger old new reports reports flag flag
+zero_read old new reports flag read =
+    let item : integer (rest old) ≡ whole (codes "0") (rest new) =
+        integer_zero (rest old) (ap (begins (λ c. c == digit_zero)) read.here)
+        ∙ ap (λ t. whole (codes "0") (drop 1 t)) read.here in
+    record {
+      items = rw item (whole_item_read old new reports flag (codes "0") (rest new) read.text read.here refl);
+      left = ap (λ (i : Item). i.rest) item;
+    }
+
+pub integer_read : (old new : At) (before after : List Diagnostic) (f g is_whole : Bool)
+    → begins (λ c. c == 48) (rest old) ≡ false
+    → ReadsRun 10 old new before after f g is_whole → ReadsInteger old new before after f g
+integer_read old new before after f g is_whole none digits =
+    let item = integer_run (rest old) none in
+    record {
+      items = rw item digits.items;
+      left = rw item digits.left;
+    }
+
+decimal_items_of : (text : List ℕ) → decimal_items text
+    ≡ items-cons (integer text) (suffix_or DecimalBigInt (behind_digits (integer text).rest) (integer text).rest)
+unfolding decimal_items
+decimal_items_of text = refl
+
+-- a decimal number
+pub decimal_read : (old mid new : At) (before during after : List Diagnostic) (f g h : Bool) (kind : Kind)
+    → IsPlaced old → IsPlaced mid
+    → ReadsInteger old mid before during f g
+        → ReadsEnd mid new during after g h kind (suffix_or DecimalBigInt (behind_digits (rest mid)) (rest mid))
+    → ReadsEnd old new before after f h kind (decimal_items (rest old))
+decimal_read old mid new before during after f g h kind p q first end =
+    let left = (integer (rest old)).rest in
+    let later : ReadsEnd mid new during after g h kind (suffix_or DecimalBigInt (behind_digits left) left) =
+        rw first.left end in
+    rw (decimal_items_of (rest old)) (record {
+      items =
+          items_append old mid new before during after f g h (integer (rest old) ∷ [])
+          (suffix_or DecimalBigInt (behind_digits left) left).items p q first.items later.items;
+      left = later.left;
+      kind_is = later.kind_is;
+    })
+
+pub suffix_read : (old new : At) (reports : List Diagnostic) (flag : Bool) (big : Kind) (without : Items)
+    → Reads old new 110
+    → ReadsEnd old new reports reports flag flag big (suffix_or big without (rest old))
+suffix_read old new reports flag big without read =
+    let found : suffix_or big without (rest old) ≡ last_item big (whole (codes "n") (rest new)) =
+        suffix_there big without (rest old) (ap (begins (λ c. c == 110)) read.here)
+            ∙ ap (λ t. last_item big (whole (codes "n") (drop 1 t))) read.here in
+    rw found (record {
+      items = whole_item_read old new reports flag (codes "n") (rest new) read.text read.here refl;
+      left = refl;
+      kind_is = refl;
+    })
+
+pub no_suffix_read : (old new : At) (before after : List Diagnostic) (f g : Bool) (big kind : Kind) (without : Items)
+    → begins (λ c. c == 110) (rest old) ≡ false → ReadsEnd old new before after f g kind without
+    → ReadsEnd old new before after f g kind (suffix_or big without (rest old))
+no_suffix_read old new before after f g big kind without none end = rw (suffix_missing big without (rest old) none) end

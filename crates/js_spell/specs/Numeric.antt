@@ -1,13 +1,22 @@
 -- The steps of reading a number.
-use Rattle.std.specs.Prelude.{◌≡◌, ℕ, ◌<◌, Bool, true, false, List, [], ◌∷◌, ◌++◌, ◌||◌, not}
+use Rattle.std.specs.Prelude.{◌≡◌, ℕ, ◌<◌, Bool, true, false, List, [], ◌∷◌, ◌++◌, ◌||◌, not, length, drop, ◌⊎◌, Some}
+use Rattle.std.specs.Prelude.{None}
 use Rattle.js_text.specs.declared.diagnostic.Diagnostic.{Diagnostic}
 use Rattle.js_source.specs.Runs.{HasAscii}
 use Rattle.js_source.specs.Search.{matches_at}
-use Rattle.js_source.specs.Source.{At, rest}
-use Rattle.js_grammar.specs.Number.{Item, whole, broken, digits_on, run, is_digit_of}
-use Rattle.js_grammar.specs.NumberReads.{items_text, contains_separator, missing_digits}
+use Rattle.js_source.specs.Source.{At, rest, Reads}
+use Rattle.js_grammar.specs.Number.{Item, Base, base_of, digit_zero, whole, broken, digits_on, run, integer, are_digits}
+use Rattle.js_grammar.specs.Number.{is_digit_of, is_exponent_mark, sign_text, sign_kind}
+use Rattle.js_grammar.specs.NumberReads.{Items, number_items, legacy_items, decimal_items, behind_prefix, plain_digits}
+use Rattle.js_grammar.specs.NumberReads.{sign_of, items_text, contains_separator, missing_digits}
+use Rattle.js_kind.specs.declared.kind.Kind.{Kind}
 use Rattle.js_spell.specs.declared.digits.Digits.{Digits}
 use Rattle.js_spell.specs.declared.digits.Digits.TheVariants.{Binary, Octal, Decimal, Hex}
+use Rattle.js_spell.specs.declared.numeric.Prefix.{Prefix}
+use Rattle.js_spell.specs.declared.numeric.Prefix.TheVariants as Prefixes
+use Rattle.js_kind.specs.declared.kind.Kind.TheVariants as kinds
+use Rattle.js_spell.specs.declared.numeric.Lead.{Lead}
+use Rattle.js_spell.specs.declared.numeric.Lead.TheVariants.{Prefix as LedByPrefix, Legacy, Decimal as DecimalLead}
 use Rattle.js_spell.specs.declared.numeric.Passed.{Passed}
 use Rattle.js_spell.specs.declared.numeric.Passed.TheVariants.{Whole, Separator, Broken}
 
@@ -46,6 +55,15 @@ pub record PassesDigits (radix : ℕ) (old : At) (passed : Passed) (new : At) : 
   pub item : digits_on radix (rest old) ≡ item_behind passed radix characters (rest new)
   pub separator : contains_separator characters ≡ passed_separator passed
 
+-- digits without separators were passed
+pub record PassesPlainDigits (old : At) (are_octal : Bool) (new : At) : Type 0 where
+  pub text : new.text ≡ old.text
+  pub characters : List ℕ
+  pub here : rest old ≡ characters ++ rest new
+  pub item : plain_digits (rest old) ≡ whole characters (rest new)
+  pub octal : are_digits 8 characters ≡ are_octal
+  pub separator : contains_separator characters ≡ false
+
 -- what passing a whole run came to, or one in which a digit is missing
 abbrev pub end_of : Bool → Passed
 end_of true = Whole
@@ -81,3 +99,74 @@ pub record BreaksOff (old new : At) (before after : List Diagnostic) : Type 0 wh
   pub text : new.text ≡ old.text
   pub more : List Diagnostic
   pub reports : after ≡ before ++ more
+
+-- The integer of a decimal number was read.
+pub record ReadsInteger (old new : At) (before after : List Diagnostic) (flag_before flag_after : Bool) : Type 0 where
+  pub items : ReadsItems old new before after flag_before flag_after (integer (rest old) ∷ [])
+  pub left : (integer (rest old)).rest ≡ rest new
+
+-- A part of a number was read.
+pub record ReadsPart (old new : At) (before after : List Diagnostic) (flag_before flag_after : Bool)
+    (number : Items) : Type 0 where
+  pub items : ReadsItems old new before after flag_before flag_after number.items
+  pub left : number.rest ≡ rest new
+
+-- The end of a number was read, of this kind.
+pub record ReadsEnd (old new : At) (before after : List Diagnostic) (flag_before flag_after : Bool) (kind : Kind)
+    (number : Items) : Type 0 where
+  pub items : ReadsItems old new before after flag_before flag_after number.items
+  pub left : number.rest ≡ rest new
+  pub kind_is : number.kind ≡ kind
+
+-- The items of a number were read, up to its end or, where a digit is missing behind a prefix, up to that of the
+-- source.
+pub record ReadsCut (old new : At) (before after : List Diagnostic) (flag_before flag_after : Bool) (kind : Kind)
+    (number : Items) : Type 0 where
+  pub text : new.text ≡ old.text
+  pub reports : after ≡ before ++ missing_digits old.place number.items
+  pub separator : flag_after ≡ (flag_before || contains_separator (items_text number.items))
+  pub left : number.rest ≡ rest new
+  pub kind_is : number.kind ≡ kind
+  pub here : (rest new ≡ []) ⊎ (rest old ≡ items_text number.items ++ rest new)
+
+-- what a prefix says
+abbrev pub base_of_prefix : Prefix → Base
+base_of_prefix Prefixes.Binary = record { radix = 2; kind = kinds.Binary; big_kind = kinds.BinaryBigInt }
+base_of_prefix Prefixes.Octal = record { radix = 8; kind = kinds.Octal; big_kind = kinds.OctalBigInt }
+base_of_prefix Prefixes.Hex = record { radix = 16; kind = kinds.Hex; big_kind = kinds.HexBigInt }
+
+-- what stands behind a prefix
+abbrev pub behind_base : Base → List ℕ → Items
+behind_base base text = behind_prefix base (run base.radix text)
+
+-- the mark of an exponent was taken
+pub record TakesExponentMark (old new : At) : Type 0 where
+  pub mark : ℕ
+  pub is : is_exponent_mark mark ≡ true
+  pub read : Reads old new mark
+
+-- the sign of an exponent was taken, if one was there
+pub record TakesSign (old new : At) (kind : Kind) : Type 0 where
+  pub text : new.text ≡ old.text
+  pub here : rest old ≡ sign_text (sign_of (rest old)) ++ rest new
+  pub left : drop (length (sign_text (sign_of (rest old)))) (rest old) ≡ rest new
+  pub kind_is : sign_kind (sign_of (rest old)) ≡ kind
+
+-- a number begins so, with this character behind a leading `0`
+abbrev pub LeadsWith : Lead → ℕ → Type 0
+LeadsWith (LedByPrefix prefix) c = base_of c ≡ Some (base_of_prefix prefix)
+LeadsWith Legacy c = is_digit_of 10 c ≡ true
+LeadsWith DecimalLead c = (base_of c ≡ None) × (is_digit_of 10 c ≡ false)
+
+-- `0` and the letter of a base stand here
+pub record HasPrefix (prefix : Prefix) (text : List ℕ) : Type 0 where
+  pub letter : ℕ
+  pub behind : List ℕ
+  pub here : text ≡ digit_zero ∷ letter ∷ behind
+  pub base : base_of letter ≡ Some (base_of_prefix prefix)
+
+-- the number that is next begins so
+abbrev pub Leads : Lead → List ℕ → Type 0
+Leads (LedByPrefix prefix) text = HasPrefix prefix text
+Leads Legacy text = number_items text ≡ legacy_items text
+Leads DecimalLead text = number_items text ≡ decimal_items text

@@ -1,13 +1,18 @@
 //! Reading a number, good or at fault (ECMA-262 12.9.3 and B.1.1).
 
-ghost use Rattle.std.specs.Prelude.{◌≡◌, ◌++◌, ◌∷◌, [], IfOk, OnOk, OnErr};
+ghost use Rattle.std.specs.Prelude.{◌≡◌, ◌==◌, ◌++◌, ◌∷◌, [], false, IfOk, OnOk, OnErr, MatchBool};
+ghost use Rattle.js_text.specs.Ascii.{full_stop};
 ghost use Rattle.js_text.specs.Characters.{begins};
-ghost use Rattle.js_grammar.specs.Number.{is_digit_of};
-ghost use Rattle.js_grammar.specs.NumberReads.{missing_digit};
+ghost use Rattle.js_grammar.specs.Number.{is_digit_of, is_exponent_mark};
+ghost use Rattle.js_grammar.specs.NumberReads.{missing_digit, exponent_or, fraction_items, behind_digits};
+ghost use Rattle.js_grammar.specs.NumberReads.{decimal_items, legacy_items, number_items};
 ghost use Rattle.js_source.specs.Source.{rest, IsPlaced};
-ghost use Rattle.js_spell.specs.Numeric.{radix_of_digits, PassesDigits, PassesGroups, end_of, ReadsRun, BreaksOff};
+ghost use Rattle.js_spell.specs.Numeric.{radix_of_digits, PassesDigits, PassesPlainDigits, PassesGroups, end_of};
+ghost use Rattle.js_spell.specs.Numeric.{ReadsRun, BreaksOff, ReadsPart, ReadsInteger, ReadsEnd, ReadsCut, LeadsWith};
+ghost use Rattle.js_spell.specs.Numeric.{Leads, base_of_prefix, behind_base, TakesExponentMark, TakesSign};
 
 use crate::digits::{Digits, table_of};
+use js_kind::Kind;
 use js_source::Source;
 use js_text::{Diagnostic, DiagnosticList, Span};
 use std::alloc::AllocError;
@@ -21,6 +26,49 @@ enum Passed {
     Separator,
     /// Digits and a separator, which no digit follows.
     Broken,
+}
+
+/// A prefix, which names the base of a number.
+#[derive(Clone, Copy, Debug)]
+enum Prefix {
+    Binary,
+    Octal,
+    Hex,
+}
+
+impl Prefix {
+    /// The digits of numbers with the prefix.
+    fn digits(self) -> Digits
+        ensures { radix_of_digits result ≡ (base_of_prefix self).radix }
+    {
+        match self {
+            Prefix::Binary => Digits::Binary,
+            Prefix::Octal => Digits::Octal,
+            Prefix::Hex => Digits::Hex,
+        }
+    }
+
+    /// The kind of numbers with the prefix.
+    fn kind(self) -> Kind
+        ensures { result ≡ (base_of_prefix self).kind }
+    {
+        match self {
+            Prefix::Binary => Kind::Binary,
+            Prefix::Octal => Kind::Octal,
+            Prefix::Hex => Kind::Hex,
+        }
+    }
+
+    /// The kind of numbers with the prefix and a suffix `n`.
+    fn big_kind(self) -> Kind
+        ensures { result ≡ (base_of_prefix self).big_kind }
+    {
+        match self {
+            Prefix::Binary => Kind::BinaryBigInt,
+            Prefix::Octal => Kind::OctalBigInt,
+            Prefix::Hex => Kind::HexBigInt,
+        }
+    }
 }
 
 /// Whether a digit is next.
@@ -109,4 +157,252 @@ fn read_run(
         report_missing_digit(source, errors)?;
     }
     Ok(is_whole)
+}
+
+/// Takes the mark of an exponent, if one is next.
+#[inline(always)]
+fn take_exponent_mark(source: &mut Source<'_>) -> bool
+    ensures cases { MatchBool result (TakesExponentMark source.old source.new)
+        ((begins is_exponent_mark (rest source.old) ≡ false) × (source.new ≡ source.old)) }
+    ensures placed { IsPlaced source.new }
+{
+    if source.advance_if_ascii_eq(b'e') {
+        return true;
+    }
+    source.advance_if_ascii_eq(b'E')
+}
+
+/// Takes the sign of an exponent, if one is next, and gives the kind of a number without a point that has it.
+#[inline(always)]
+fn take_sign(source: &mut Source<'_>) -> Kind
+    ensures sign { TakesSign source.old source.new result }
+    ensures placed { IsPlaced source.new }
+{
+    if source.advance_if_ascii_eq(b'-') {
+        return Kind::NegativeExponential;
+    }
+    source.advance_if_ascii_eq(b'+');
+    Kind::PositiveExponential
+}
+
+/// Reads an exponent, if one is next, and gives the kind that it makes of a number of the kind.
+fn read_exponent_or(
+    source: &mut Source<'_>,
+    errors: &mut DiagnosticList,
+    has_separator: &mut bool,
+    without: Kind,
+) -> Result<Kind, AllocError>
+    requires { IsPlaced source.old }
+    ensures ok { IfOk result (λ kind. ReadsEnd source.old source.new errors.old errors.new
+        has_separator.old has_separator.new kind (exponent_or without (rest source.old))) }
+    ensures err { OnErr result (BreaksOff source.old source.new errors.old errors.new) }
+    ensures placed { IsPlaced source.new }
+{
+    if !take_exponent_mark(source) {
+        return Ok(without);
+    }
+    let kind = take_sign(source);
+    read_run(source, errors, has_separator, Digits::Decimal)?;
+    Ok(kind)
+}
+
+/// Reads what follows a point: a fraction, if a digit is next, and an exponent, if one is next.
+fn read_fraction(
+    source: &mut Source<'_>,
+    errors: &mut DiagnosticList,
+    has_separator: &mut bool,
+) -> Result<(), AllocError>
+    requires { IsPlaced source.old }
+    ensures ok { OnOk result (ReadsPart source.old source.new errors.old errors.new
+        has_separator.old has_separator.new (fraction_items (rest source.old))) }
+    ensures err { OnErr result (BreaksOff source.old source.new errors.old errors.new) }
+    ensures placed { IsPlaced source.new }
+{
+    if !begins_digit(source, Digits::Decimal) {
+        read_exponent_or(source, errors, has_separator, Kind::Float)?;
+        return Ok(());
+    }
+    read_run(source, errors, has_separator, Digits::Decimal)?;
+    read_exponent_or(source, errors, has_separator, Kind::Float)?;
+    Ok(())
+}
+
+/// Reads what follows the digits that a point or an exponent may follow, and gives the number's kind.
+fn read_behind_digits(
+    source: &mut Source<'_>,
+    errors: &mut DiagnosticList,
+    has_separator: &mut bool,
+) -> Result<Kind, AllocError>
+    requires { IsPlaced source.old }
+    ensures ok { IfOk result (λ kind. ReadsEnd source.old source.new errors.old errors.new
+        has_separator.old has_separator.new kind (behind_digits (rest source.old))) }
+    ensures err { OnErr result (BreaksOff source.old source.new errors.old errors.new) }
+    ensures placed { IsPlaced source.new }
+{
+    if source.advance_if_ascii_eq(b'.') {
+        read_fraction(source, errors, has_separator)?;
+        return Ok(Kind::Float);
+    }
+    read_exponent_or(source, errors, has_separator, Kind::Decimal)
+}
+
+/// Reads the integer of a decimal number: `0`, or a run.
+fn read_integer(
+    source: &mut Source<'_>,
+    errors: &mut DiagnosticList,
+    has_separator: &mut bool,
+) -> Result<(), AllocError>
+    requires { IsPlaced source.old }
+    ensures ok { OnOk result (ReadsInteger source.old source.new errors.old errors.new
+        has_separator.old has_separator.new) }
+    ensures err { OnErr result (BreaksOff source.old source.new errors.old errors.new) }
+    ensures placed { IsPlaced source.new }
+{
+    if source.advance_if_ascii_eq(b'0') {
+        return Ok(());
+    }
+    read_run(source, errors, has_separator, Digits::Decimal)?;
+    Ok(())
+}
+
+/// Reads a decimal number, from its integer on, and gives its kind.
+fn read_decimal(
+    source: &mut Source<'_>,
+    errors: &mut DiagnosticList,
+    has_separator: &mut bool,
+) -> Result<Kind, AllocError>
+    requires { IsPlaced source.old }
+    ensures ok { IfOk result (λ kind. ReadsEnd source.old source.new errors.old errors.new
+        has_separator.old has_separator.new kind (decimal_items (rest source.old))) }
+    ensures err { OnErr result (BreaksOff source.old source.new errors.old errors.new) }
+    ensures placed { IsPlaced source.new }
+{
+    read_integer(source, errors, has_separator)?;
+    if source.advance_if_ascii_eq(b'n') {
+        return Ok(Kind::DecimalBigInt);
+    }
+    read_behind_digits(source, errors, has_separator)
+}
+
+/// Passes the digits that are next, and tells whether all are octal.
+fn pass_plain_digits(source: &mut Source<'_>) -> bool
+    ensures passes { PassesPlainDigits source.old result source.new }
+    ensures placed { IsPlaced source.new }
+{
+    source.pass_ascii(table_of(Digits::Octal));
+    if !begins_digit(source, Digits::Decimal) {
+        return true;
+    }
+    source.pass_ascii(table_of(Digits::Decimal));
+    false
+}
+
+/// Reads a number that begins with `0` and a digit, and gives its kind.
+fn read_legacy(
+    source: &mut Source<'_>,
+    errors: &mut DiagnosticList,
+    has_separator: &mut bool,
+) -> Result<Kind, AllocError>
+    requires { IsPlaced source.old }
+    ensures ok { IfOk result (λ kind. ReadsEnd source.old source.new errors.old errors.new
+        has_separator.old has_separator.new kind (legacy_items (rest source.old))) }
+    ensures err { OnErr result (BreaksOff source.old source.new errors.old errors.new) }
+    ensures placed { IsPlaced source.new }
+{
+    if pass_plain_digits(source) {
+        return Ok(Kind::Octal);
+    }
+    read_behind_digits(source, errors, has_separator)
+}
+
+/// Reads the digits behind a prefix and what follows them, and gives the number's kind. Where a digit is missing, all
+/// that is left of the source belongs to the token.
+fn read_behind_prefix(
+    source: &mut Source<'_>,
+    errors: &mut DiagnosticList,
+    has_separator: &mut bool,
+    prefix: Prefix,
+) -> Result<Kind, AllocError>
+    requires { IsPlaced source.old }
+    ensures ok { IfOk result (λ kind. ReadsCut source.old source.new errors.old errors.new
+        has_separator.old has_separator.new kind (behind_base (base_of_prefix prefix) (rest source.old))) }
+    ensures err { OnErr result (BreaksOff source.old source.new errors.old errors.new) }
+    ensures placed { IsPlaced source.new }
+{
+    let is_whole = read_run(source, errors, has_separator, prefix.digits())?;
+    if !is_whole {
+        source.advance_to_end();
+        return Ok(Kind::Eof);
+    }
+    if source.advance_if_ascii_eq(b'n') {
+        return Ok(prefix.big_kind());
+    }
+    Ok(prefix.kind())
+}
+
+/// How a number without a leading point begins.
+#[derive(Clone, Copy, Debug)]
+enum Lead {
+    /// With a prefix.
+    Prefix(Prefix),
+    /// With `0` and a digit.
+    Legacy,
+    /// As a decimal number does.
+    Decimal,
+}
+
+/// How a number begins that has this byte behind a leading `0`.
+#[tactic(auto, unfolding(js_grammar::specs::Number::is_digit_of))]
+fn behind_zero(b: u8) -> Lead
+    ensures { LeadsWith result b }
+{
+    match b {
+        b'b' | b'B' => Lead::Prefix(Prefix::Binary),
+        b'o' | b'O' => Lead::Prefix(Prefix::Octal),
+        b'x' | b'X' => Lead::Prefix(Prefix::Hex),
+        b'0'..=b'9' => Lead::Legacy,
+        _ => Lead::Decimal,
+    }
+}
+
+/// How the number that is next begins.
+fn find_lead(source: &Source<'_>) -> Lead
+    requires { begins (λ c. c == full_stop) (rest source.now) ≡ false }
+    ensures { Leads result (rest source.now) }
+{
+    let pair = match source.peek_2_bytes() {
+        Some(pair) => pair,
+        None => return Lead::Decimal,
+    };
+    if pair[0] != b'0' {
+        return Lead::Decimal;
+    }
+    behind_zero(pair[1])
+}
+
+/// Reads the items of the number that is next, and gives its kind.
+fn read_items(
+    source: &mut Source<'_>,
+    errors: &mut DiagnosticList,
+    has_separator: &mut bool,
+) -> Result<Kind, AllocError>
+    requires { IsPlaced source.old }
+    ensures ok { IfOk result (λ kind. ReadsCut source.old source.new errors.old errors.new
+        has_separator.old has_separator.new kind (number_items (rest source.old))) }
+    ensures err { OnErr result (BreaksOff source.old source.new errors.old errors.new) }
+    ensures placed { IsPlaced source.new }
+{
+    if source.advance_if_ascii_eq(b'.') {
+        read_fraction(source, errors, has_separator)?;
+        return Ok(Kind::Float);
+    }
+    match find_lead(source) {
+        Lead::Prefix(prefix) => {
+            source.next_char();
+            source.next_char();
+            read_behind_prefix(source, errors, has_separator, prefix)
+        }
+        Lead::Legacy => read_legacy(source, errors, has_separator),
+        Lead::Decimal => read_decimal(source, errors, has_separator),
+    }
 }
