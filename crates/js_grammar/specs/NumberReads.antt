@@ -137,10 +137,14 @@ missing_digits place (item ∷ items) =
     let end = place_behind place item.text in
     if item.lacks_digit then missing_digit end item.rest ∷ missing_digits end items else missing_digits end items
 
+-- the characters that begin no name
+abbrev pub is_no_start : ℕ → Bool
+is_no_start c = not (is_identifier_start c)
+
 -- the first character, which may not follow a number, and the following ones that begin names
 abbrev pub invalid_end : List ℕ → List ℕ
 invalid_end [] = []
-invalid_end (c ∷ cs) = c ∷ before_first (λ d. not (is_identifier_start d)) cs
+invalid_end (c ∷ cs) = c ∷ before_first is_no_start cs
 
 -- what is reported of the text at a place behind a number that it may not follow
 abbrev pub invalid_number_end : ℕ → List ℕ → Diagnostic

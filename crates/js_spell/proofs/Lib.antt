@@ -4,3 +4,4 @@ pub mod NumericSteps
 pub mod LegacySteps
 pub mod PrefixSteps
 pub mod LeadSteps
+pub mod EndSteps

@@ -2,13 +2,15 @@
 use Rattle.std.specs.Prelude.{◌≡◌, ℕ, ◌<◌, Bool, true, false, List, [], ◌∷◌, ◌++◌, ◌||◌, not, length, drop, ◌⊎◌, Some}
 use Rattle.std.specs.Prelude.{None}
 use Rattle.js_text.specs.declared.diagnostic.Diagnostic.{Diagnostic}
+use Rattle.js_text.specs.Characters.{begins}
 use Rattle.js_source.specs.Runs.{HasAscii}
 use Rattle.js_source.specs.Search.{matches_at}
 use Rattle.js_source.specs.Source.{At, rest, Reads}
-use Rattle.js_grammar.specs.Number.{Item, Base, base_of, digit_zero, whole, broken, digits_on, run, integer, are_digits}
-use Rattle.js_grammar.specs.Number.{is_digit_of, is_exponent_mark, sign_text, sign_kind}
-use Rattle.js_grammar.specs.NumberReads.{Items, number_items, legacy_items, decimal_items, behind_prefix, plain_digits}
-use Rattle.js_grammar.specs.NumberReads.{sign_of, items_text, contains_separator, missing_digits}
+use Rattle.js_grammar.specs.Number.{Item, Base, may_not_follow_number, base_of, digit_zero, whole, broken, digits_on}
+use Rattle.js_grammar.specs.Number.{run, integer, are_digits, is_digit_of, is_exponent_mark, sign_text, sign_kind}
+use Rattle.js_grammar.specs.NumberReads.{Items, number_read, invalid_number_end, number_items, legacy_items}
+use Rattle.js_grammar.specs.NumberReads.{decimal_items, behind_prefix, plain_digits, sign_of, items_text}
+use Rattle.js_grammar.specs.NumberReads.{contains_separator, missing_digits}
 use Rattle.js_kind.specs.declared.kind.Kind.{Kind}
 use Rattle.js_spell.specs.declared.digits.Digits.{Digits}
 use Rattle.js_spell.specs.declared.digits.Digits.TheVariants.{Binary, Octal, Decimal, Hex}
@@ -17,6 +19,7 @@ use Rattle.js_spell.specs.declared.numeric.Prefix.TheVariants as Prefixes
 use Rattle.js_kind.specs.declared.kind.Kind.TheVariants as kinds
 use Rattle.js_spell.specs.declared.numeric.Lead.{Lead}
 use Rattle.js_spell.specs.declared.numeric.Lead.TheVariants.{Prefix as LedByPrefix, Legacy, Decimal as DecimalLead}
+use Rattle.js_spell.specs.declared.numeric.Numeral.{Numeral}
 use Rattle.js_spell.specs.declared.numeric.Passed.{Passed}
 use Rattle.js_spell.specs.declared.numeric.Passed.TheVariants.{Whole, Separator, Broken}
 
@@ -128,6 +131,22 @@ pub record ReadsCut (old new : At) (before after : List Diagnostic) (flag_before
   pub left : number.rest ≡ rest new
   pub kind_is : number.kind ≡ kind
   pub here : (rest new ≡ []) ⊎ (rest old ≡ items_text number.items ++ rest new)
+
+-- A text that may not follow a number was read, and reported, up to the end of the source; or none is next.
+abbrev pub ReadsBadEnd : At → At → List Diagnostic → List Diagnostic → Bool → Type 0
+ReadsBadEnd old new before after false =
+    (begins may_not_follow_number (rest old) ≡ false) × (new ≡ old) × (after ≡ before)
+ReadsBadEnd old new before after true =
+    (begins may_not_follow_number (rest old) ≡ true) × (new.text ≡ old.text) × (rest new ≡ [])
+    × (after ≡ before ++ invalid_number_end old.place (rest old) ∷ [])
+
+-- The number that is next was read, good or at fault.
+pub record ReadsNumber (old new : At) (before after : List Diagnostic) (numeral : Numeral) : Type 0 where
+  pub text : new.text ≡ old.text
+  pub added : List Diagnostic
+  pub reports : after ≡ before ++ added
+  pub read : number_read old.place (rest old)
+      ≡ record { kind = numeral.kind; rest = rest new; has_separator = numeral.has_separator; diagnostics = added }
 
 -- what a prefix says
 abbrev pub base_of_prefix : Prefix → Base

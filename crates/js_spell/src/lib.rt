@@ -8,3 +8,4 @@ mod numeric;
 mod tests;
 
 pub use number::{parse_big_int, parse_int};
+pub use numeric::{Numeral, read_number};

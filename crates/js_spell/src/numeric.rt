@@ -1,20 +1,21 @@
 //! Reading a number, good or at fault (ECMA-262 12.9.3 and B.1.1).
 
-ghost use Rattle.std.specs.Prelude.{◌≡◌, ◌==◌, ◌++◌, ◌∷◌, [], false, IfOk, OnOk, OnErr, MatchBool};
+ghost use Rattle.std.specs.Prelude.{◌≡◌, ◌≤◌, ◌==◌, ◌++◌, ◌∷◌, [], false, IfOk, OnOk, OnErr, MatchBool};
 ghost use Rattle.js_text.specs.Ascii.{full_stop};
-ghost use Rattle.js_text.specs.Characters.{begins};
-ghost use Rattle.js_grammar.specs.Number.{is_digit_of, is_exponent_mark};
+ghost use Rattle.js_text.specs.Characters.{begins, before_first};
+ghost use Rattle.js_grammar.specs.Number.{is_digit_of, is_exponent_mark, may_not_follow_number};
 ghost use Rattle.js_grammar.specs.NumberReads.{missing_digit, exponent_or, fraction_items, behind_digits};
-ghost use Rattle.js_grammar.specs.NumberReads.{decimal_items, legacy_items, number_items};
+ghost use Rattle.js_grammar.specs.NumberReads.{decimal_items, legacy_items, number_items, is_no_start};
 ghost use Rattle.js_source.specs.Source.{rest, IsPlaced};
 ghost use Rattle.js_spell.specs.Numeric.{radix_of_digits, PassesDigits, PassesPlainDigits, PassesGroups, end_of};
-ghost use Rattle.js_spell.specs.Numeric.{ReadsRun, BreaksOff, ReadsPart, ReadsInteger, ReadsEnd, ReadsCut, LeadsWith};
-ghost use Rattle.js_spell.specs.Numeric.{Leads, base_of_prefix, behind_base, TakesExponentMark, TakesSign};
+ghost use Rattle.js_spell.specs.Numeric.{ReadsRun, BreaksOff, ReadsPart, ReadsInteger, ReadsEnd, ReadsCut, ReadsBadEnd};
+ghost use Rattle.js_spell.specs.Numeric.{ReadsNumber, LeadsWith, Leads, base_of_prefix, behind_base, TakesExponentMark};
+ghost use Rattle.js_spell.specs.Numeric.{TakesSign};
 
 use crate::digits::{Digits, table_of};
 use js_kind::Kind;
 use js_source::Source;
-use js_text::{Diagnostic, DiagnosticList, Span};
+use js_text::{Diagnostic, DiagnosticList, Span, is_identifier_start};
 use std::alloc::AllocError;
 
 /// What passing digits came to.
@@ -405,4 +406,86 @@ fn read_items(
         Lead::Legacy => read_legacy(source, errors, has_separator),
         Lead::Decimal => read_decimal(source, errors, has_separator),
     }
+}
+
+/// Passes the characters that are next and begin names.
+fn skip_starts(source: &mut Source<'_>)
+    requires { IsPlaced source.old }
+    ensures text { source.new.text ≡ source.old.text }
+    ensures passed { rest source.old ≡ before_first is_no_start (rest source.old) ++ rest source.new }
+    ensures onward { source.old.place ≤ source.new.place }
+    ensures placed { IsPlaced source.new }
+{
+    'starts: while let Some(c) = source.peek_char() {
+        if !is_identifier_start(c) {
+            return;
+        }
+        source.next_char();
+    }
+}
+
+/// Whether the character may not follow a number.
+#[tactic(auto, unfolding(js_grammar::specs::Number::is_digit_of, js_grammar::specs::Number::may_not_follow_number))]
+fn may_not_follow(c: char) -> bool
+    ensures { result ≡ may_not_follow_number c }
+{
+    if c.is_digit(10) {
+        return true;
+    }
+    is_identifier_start(c)
+}
+
+/// Reads what follows a number and may not, and all that is left of the source, if such a text is next; and tells so.
+fn read_bad_end(
+    source: &mut Source<'_>,
+    errors: &mut DiagnosticList,
+) -> Result<bool, AllocError>
+    requires { IsPlaced source.old }
+    ensures ok { IfOk result (λ is_bad. ReadsBadEnd source.old source.new errors.old errors.new is_bad) }
+    ensures err { OnErr result (BreaksOff source.old source.new errors.old errors.new) }
+    ensures placed { IsPlaced source.new }
+{
+    match source.peek_char() {
+        Some(c) if may_not_follow(c) => {}
+        _ => return Ok(false),
+    }
+    let start = source.offset();
+    source.next_char();
+    skip_starts(source);
+    let span = Span::new(start, source.offset());
+    errors.push(Diagnostic::InvalidNumberEnd { span })?;
+    source.advance_to_end();
+    Ok(true)
+}
+
+/// What was read of a number.
+#[derive(Clone, Copy, Debug)]
+pub struct Numeral {
+    pub kind: Kind,
+    pub has_separator: bool,
+}
+
+/// Reads the number that is next, good or at fault: its diagnostics are added to the list.
+pub fn read_number(
+    source: &mut Source<'_>,
+    errors: &mut DiagnosticList,
+) -> Result<Numeral, AllocError>
+    requires { IsPlaced source.old }
+    ensures ok { IfOk result (λ numeral. ReadsNumber source.old source.new errors.old errors.new numeral) }
+    ensures err { OnErr result (BreaksOff source.old source.new errors.old errors.new) }
+    ensures placed { IsPlaced source.new }
+{
+    let mut has_separator = false;
+    let kind = read_items(source, errors, &mut has_separator)?;
+    let is_bad = read_bad_end(source, errors)?;
+    if is_bad {
+        return Ok(Numeral {
+            kind: Kind::Eof,
+            has_separator,
+        });
+    }
+    Ok(Numeral {
+        kind,
+        has_separator,
+    })
 }
