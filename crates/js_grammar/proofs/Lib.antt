@@ -2,6 +2,16 @@ pub mod Clean
 pub mod Flags
 pub mod GapLemmas
 pub mod NameLemmas
+pub mod NumberBegins
+pub mod NumberClasses
+pub mod NumberCuts
+pub mod NumberItems
+pub mod NumberLaws
+pub mod NumberRows
+pub mod NumberShapes
+pub mod NumberSound
+pub mod NumberSteps
+pub mod NumberWhole
 pub mod PieceLemmas
 pub mod Printable
 pub mod PunctuatorLeaves

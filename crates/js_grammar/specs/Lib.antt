@@ -2,6 +2,8 @@ pub mod Built
 pub mod Gap
 pub mod Goals
 pub mod Hashbang
+pub mod Number
+pub mod NumberReads
 pub mod Outcome
 pub mod Punctuators
 pub mod Reads

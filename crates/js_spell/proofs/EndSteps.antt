@@ -1,0 +1,88 @@
+-- What follows a number.
+use Rattle.std.proofs.Common.{◌≡◌, ℕ, Bool, true, false, List, [], ◌∷◌, ◌++◌, drop, refl, sym, ◌∙◌, ap, inl, inr}
+use Rattle.std.proofs.Common.{append_assoc}
+use Rattle.js_text.specs.Characters.{begins, before_first}
+use Rattle.js_text.specs.declared.diagnostic.Diagnostic.{Diagnostic}
+use Rattle.js_text.specs.declared.diagnostic.Diagnostic.TheVariants.{InvalidNumberEnd}
+use Rattle.js_source.specs.Source.{At, rest, IsPlaced, BeginsWith, StepsPast}
+use Rattle.js_grammar.specs.Outcome.{place_behind}
+use Rattle.js_grammar.specs.Number.{may_not_follow_number}
+use Rattle.js_grammar.specs.NumberReads.{is_no_start, invalid_end, invalid_number_end, number_items, items_text}
+use Rattle.js_grammar.specs.NumberReads.{missing_digits}
+use Rattle.js_grammar.proofs.NumberSteps.{read_well, read_badly}
+use Rattle.js_kind.specs.declared.kind.Kind.{Kind}
+use Rattle.js_kind.specs.declared.kind.Kind.TheVariants.{Eof}
+use Rattle.js_spell.specs.Numeric.{ReadsBadEnd, ReadsCut, ReadsNumber}
+use Rattle.js_spell.proofs.NumericSteps.{leads_to}
+
+split : (c : ℕ) (cs : List ℕ) → BeginsWith c cs → cs ≡ c ∷ drop 1 cs
+split c [] h = absurd h
+split c (d ∷ ds) h = ap (λ e. e ∷ ds) h
+
+-- the characters that may not follow, and what is reported over them
+pub bad_end_read : (old mid skipped new : At) (before after : List Diagnostic) (c start end : ℕ) → IsPlaced old
+    → IsPlaced skipped
+    → BeginsWith c (rest old) → StepsPast old mid → may_not_follow_number c ≡ true → skipped.text ≡ mid.text
+    → rest mid ≡ before_first is_no_start (rest mid) ++ rest skipped → new.text ≡ skipped.text → rest new ≡ []
+    → start ≡ old.place → end ≡ skipped.place
+    → after ≡ before ++ (InvalidNumberEnd (record { start = start; end = end }) ∷ [])
+        → ReadsBadEnd old new before after true
+bad_end_read old mid skipped new before after c start end h k first past bad moved passed ended nothing s e reports =
+    let step = past c (drop 1 (rest old)) (split c (rest old) first) in
+    let here : rest old ≡ c ∷ rest mid = split c (rest old) first ∙ ap (λ t. c ∷ t) (sym step.1) in
+    let xs : List ℕ = c ∷ before_first is_no_start (rest mid) in
+    let whole : rest old ≡ xs ++ rest skipped = here ∙ ap (λ t. c ∷ t) passed in
+    let place = leads_to old skipped xs h k (moved ∙ step.0) whole in
+    let over : xs ≡ invalid_end (rest old) = ap invalid_end (sym here) in
+    let from : InvalidNumberEnd (record { start = start; end = end })
+        ≡ InvalidNumberEnd (record { start = old.place; end = end }) =
+        ap (λ (p : ℕ). InvalidNumberEnd (record { start = p; end = end })) s in
+    let to : InvalidNumberEnd (record { start = old.place; end = end }) ≡ invalid_number_end old.place (rest old) =
+        ap (λ (q : ℕ). InvalidNumberEnd (record { start = old.place; end = q }))
+            (e ∙ place ∙ ap (place_behind old.place) over) in
+    (
+      ap (begins may_not_follow_number) here ∙ bad,
+      ended ∙ moved ∙ step.0,
+      nothing,
+      reports ∙ ap (λ (d : Diagnostic). before ++ (d ∷ [])) (from ∙ to),
+    )
+
+-- a number that ends well
+pub good_number_read : (old mid new : At) (before during after : List Diagnostic) (g : Bool) (kind : Kind)
+    → ReadsCut old mid before during false g kind (number_items (rest old)) → ReadsBadEnd mid new during after false
+    → ReadsNumber old new before after (record { kind = kind; has_separator = g })
+good_number_read old mid new before during after g kind cut end =
+    let number = number_items (rest old) in
+    let well = read_well old.place number (ap (begins may_not_follow_number) cut.left ∙ end.0) in
+    record {
+      text = ap (λ (a : At). a.text) end.1 ∙ cut.text;
+      added = missing_digits old.place number.items;
+      reports = end.2 ∙ cut.reports;
+      read = rw (well, cut.kind_is, cut.left, ← cut.separator, end.1) refl;
+    }
+
+-- and one that does not
+pub bad_number_read : (old mid new : At) (before during after : List Diagnostic) (g : Bool) (kind : Kind)
+    → IsPlaced old → IsPlaced mid
+    → ReadsCut old mid before during false g kind (number_items (rest old)) → ReadsBadEnd mid new during after true
+    → ReadsNumber old new before after (record { kind = Eof; has_separator = g })
+bad_number_read old mid new before during after g kind h k cut end =
+    let number = number_items (rest old) in
+    let bad = read_badly old.place number (ap (begins may_not_follow_number) cut.left ∙ end.0) in
+    let place : mid.place ≡ place_behind old.place (items_text number.items) =
+        elim cut.here [
+          inl none ↦
+              (let not : begins may_not_follow_number (rest mid) ≡ false = ap (begins may_not_follow_number) none in
+              absurd (clash (rest mid) end.0 not))
+        | inr here ↦ leads_to old mid (items_text number.items) h k cut.text here
+        ] in
+    record {
+      text = end.1 ∙ cut.text;
+      added = missing_digits old.place number.items ++ (invalid_number_end mid.place (rest mid) ∷ []);
+      reports = end.3 ∙ ap (λ t. t ++ (invalid_number_end mid.place (rest mid) ∷ [])) cut.reports
+          ∙ append_assoc before (missing_digits old.place number.items) (invalid_number_end mid.place (rest mid) ∷ []);
+      read = rw (bad, cut.left, ← cut.separator, ← place, end.2) refl;
+    }
+  where
+    clash : (cs : List ℕ) → begins may_not_follow_number cs ≡ true → begins may_not_follow_number cs ≡ false → ⊥
+    clash cs a b = cc

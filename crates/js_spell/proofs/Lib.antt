@@ -1,0 +1,7 @@
+pub mod IntegerSteps
+pub mod IntegerRows
+pub mod NumericSteps
+pub mod LegacySteps
+pub mod PrefixSteps
+pub mod LeadSteps
+pub mod EndSteps

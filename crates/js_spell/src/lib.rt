@@ -1,0 +1,11 @@
+//! Readers of one spelling each, and the values of integers.
+#![tactic(auto)]
+
+mod digits;
+mod number;
+mod numeric;
+#[cfg(test)]
+mod tests;
+
+pub use number::{parse_big_int, parse_int};
+pub use numeric::{Numeral, read_number};
