@@ -28,10 +28,10 @@ pub digit_begins_number : (text : List ℕ) → begins (is_digit_of 10) text ≡
 digit_begins_number [] e = e
 digit_begins_number (c ∷ cs) e =
     elim (true_or_false (c == full_stop)) [
-      inl is ↦
+      | inl is ↦
           (let none : is_digit_of 10 c ≡ false = ap (is_digit_of 10) (eqb-true c full_stop is) ∙ point_is_no_digit in
           absurd (cc))
-    | inr other ↦ rw other e
+      | inr other ↦ rw other e
     ]
 
 before_point_begins : (xs : List ℕ) → IsBeforePoint xs → begins (is_digit_of 10) xs ≡ true
@@ -47,8 +47,8 @@ number_begins xs ys kind (decimal is kind_is) =
 number_begins xs ys kind (decimal_big ds is here kind_is) =
     let text : xs ++ ys ≡ ds ++ (codes "n" ++ ys) = ap (λ t. t ++ ys) here ∙ append_assoc ds (codes "n") ys in
     rw text
-        (digit_begins_number (ds ++ (codes "n" ++ ys))
-        (begins_more (is_digit_of 10) ds (codes "n" ++ ys) (integer_begins_digit ds is)))
+    (digit_begins_number (ds ++ (codes "n" ++ ys))
+    (begins_more (is_digit_of 10) ds (codes "n" ++ ys) (integer_begins_digit ds is)))
 number_begins xs ys kind (with_point ds fs es d f p here kind_is) =
     let rest = full_stop ∷ (fs ++ (es ++ ys)) in
     let text : xs ++ ys ≡ ds ++ rest = ap (λ t. t ++ ys) here ∙ point_text_before ds fs es ys in
@@ -56,7 +56,7 @@ number_begins xs ys kind (with_point ds fs es d f p here kind_is) =
 number_begins xs ys kind (with_exponent ds es d p here) =
     let text : xs ++ ys ≡ ds ++ (es ++ ys) = ap (λ t. t ++ ys) here ∙ append_assoc ds es ys in
     rw text
-        (digit_begins_number (ds ++ (es ++ ys)) (begins_more (is_digit_of 10) ds (es ++ ys) (before_point_begins ds d)))
+    (digit_begins_number (ds ++ (es ++ ys)) (begins_more (is_digit_of 10) ds (es ++ ys) (before_point_begins ds d)))
 number_begins xs ys kind (point_first fs es f p here kind_is) =
     let text : xs ++ ys ≡ full_stop ∷ (fs ++ (es ++ ys)) = ap (λ t. t ++ ys) here ∙ point_text_before [] fs es ys in
     rw text (begins_more (is_digit_of 10) fs (es ++ ys) (run_begins 10 fs f))

@@ -176,6 +176,6 @@ unfolding integer run
 integer_begins_digit [] is = let h : true ≡ false = ap (λ (i : Item). i.lacks_digit) is in absurd (cc)
 integer_begins_digit (c ∷ cs) is =
     elim (true_or_false (c == digit_zero)) [
-      inl zero ↦ ap (is_digit_of 10) (eqb-true c digit_zero zero) ∙ zero_begins
-    | inr other ↦ run_begins 10 (c ∷ cs) (rw other at is)
+      | inl zero ↦ ap (is_digit_of 10) (eqb-true c digit_zero zero) ∙ zero_begins
+      | inr other ↦ run_begins 10 (c ∷ cs) (rw other at is)
     ]

@@ -46,7 +46,7 @@ read_of_cut : (place : ℕ) (number : Items) (xs ys : List ℕ) (kind : Kind) �
 read_of_cut place number xs ys kind cut e =
     let follows : begins may_not_follow_number number.rest ≡ false = ap (begins may_not_follow_number) cut.rest ∙ e in
     let separator : contains_separator (items_text number.items) ≡ contains_separator xs =
-        ap contains_separator cut.text in
+    ap contains_separator cut.text in
     rw (
       read_well place number follows,
       cut.kind_is,
@@ -87,7 +87,7 @@ clean_is_number place text begun clean =
       | inr well ↦ (
           let read = read_well place number well in
           let none : missing_digits place number.items ≡ [] =
-              ap (λ (r : NumberRead). r.diagnostics) (sym read) ∙ clean in
+          ap (λ (r : NumberRead). r.diagnostics) (sym read) ∙ clean in
           let sound = number_sound text begun (reports_whole place number.items none) in (
             items_text number.items,
             rw read (record { here = sound.here; number = sound.is.number; follows = sound.is.follows well }),

@@ -61,7 +61,10 @@ lone_begin t line_has_ended cs = (
                             (λ n. cc),
                             (
                               (λ n. cc),
-                              ((λ n. cc), ((λ n. cc), ((λ n. cc), ((λ n. cc), ((λ n. cc), ((λ n. cc), ((λ n. cc), tt))))))),
+                              (
+                                (λ n. cc),
+                                ((λ n. cc), ((λ n. cc), ((λ n. cc), ((λ n. cc), ((λ n. cc), ((λ n. cc), tt)))))),
+                              ),
                             ),
                           ),
                         ),

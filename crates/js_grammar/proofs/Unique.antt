@@ -138,7 +138,28 @@ firsts = (
                                                                                         refl,
                                                                                         (
                                                                                           refl,
-                                                                                          (refl, (refl, (refl, (refl, (refl, (refl, (refl, (refl, tt)))))))),
+                                                                                          (
+                                                                                            refl,
+                                                                                            (
+                                                                                              refl,
+                                                                                              (
+                                                                                                refl,
+                                                                                                (
+                                                                                                  refl,
+                                                                                                  (
+                                                                                                    refl,
+                                                                                                    (
+                                                                                                      refl,
+                                                                                                      (
+                                                                                                        refl,
+                                                                                                        (refl, tt),
+                                                                                                      ),
+                                                                                                    ),
+                                                                                                  ),
+                                                                                                ),
+                                                                                              ),
+                                                                                            ),
+                                                                                          ),
                                                                                         ),
                                                                                       ),
                                                                                     ),

@@ -1,5 +1,6 @@
 -- What may stand between two tokens: white space, line terminators and comments (ECMA-262 12.2 to 12.4, B.1.1).
-use Rattle.std.specs.Prelude.{◌≡◌, ℕ, Bool, true, false, List, [], ◌∷◌, ◌++◌, ◌==◌, ◌&&◌, ◌||◌, not, drop, length, codes, Option, Some, None, if◌then◌else◌}
+use Rattle.std.specs.Prelude.{◌≡◌, ℕ, Bool, true, false, List, [], ◌∷◌, ◌++◌, ◌==◌, ◌&&◌, ◌||◌, not, drop, length}
+use Rattle.std.specs.Prelude.{codes, Option, Some, None, if◌then◌else◌}
 use Rattle.std.specs.List.{list_any}
 use Rattle.std.specs.Option.{option_map}
 use Rattle.js_text.specs.Characters.{is_white_space, is_line_terminator, before_first, from_first}
@@ -47,7 +48,8 @@ pub record Piece : Type 0 where
 
 -- a piece of one character
 abbrev pub one_character : PieceKind → Bool → ℕ → List ℕ → Piece
-one_character kind line_has_ended c cs = record { kind = kind; text = c ∷ []; line_has_ended = line_has_ended; rest = cs }
+one_character kind line_has_ended c cs =
+    record { kind = kind; text = c ∷ []; line_has_ended = line_has_ended; rest = cs }
 
 -- a comment up to the next line terminator, or to the end of the text
 abbrev pub line_comment : PieceKind → Bool → List ℕ → Piece
@@ -98,7 +100,8 @@ whole_gap_piece t line_has_ended text =
     if is_reported t line_has_ended text then Some (line_comment reported_comment line_has_ended text)
     else piece t line_has_ended text
 
--- The text begins with these pieces, each of them what the step finds where the one before it ends, and then rest is left.
+-- The text begins with these pieces, each of them what the step finds where the one before it ends, and then rest is
+-- left.
 -- Whether a line has ended is the first flag before them, and the second behind them.
 abbrev pub Pieces : (Bool → List ℕ → Option Piece) → Bool → List ℕ → List Piece → Bool → List ℕ → Type 0
 Pieces step line_had_ended text [] line_has_ended rest = (line_has_ended ≡ line_had_ended) × (rest ≡ text)
@@ -121,6 +124,7 @@ pub record LongestGap (t : SourceType) (line_had_ended : Bool) (text : List ℕ)
   pub pieces : List Piece
   pub all : AllPieces (piece t) line_had_ended text pieces line_has_ended rest
 
--- The whole gap that the text begins with: its pieces are those of longest gaps, with a reported comment between each two.
+-- The whole gap that the text begins with: its pieces are those of longest gaps, with a reported comment between each
+-- two.
 abbrev pub WholeGap : SourceType → Bool → List ℕ → List Piece → Bool → List ℕ → Type 0
 WholeGap t = AllPieces (whole_gap_piece t)

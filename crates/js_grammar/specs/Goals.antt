@@ -28,7 +28,8 @@ spelled_reading line_has_ended place xs rest kind = record {
 }
 
 -- From a place where a gap has ended: the longest spelling, which reports nothing, or else what is read to recover.
-pub data ReadsHere (t : SourceType) (line_has_ended : Bool) (place : ℕ) (here : List ℕ) (reading : Reading) : Type 0 where
+pub data ReadsHere (t : SourceType) (line_has_ended : Bool) (place : ℕ) (here : List ℕ)
+    (reading : Reading) : Type 0 where
   spelled : (xs : List ℕ) → LongestSpelling t line_has_ended here xs reading.rest reading.kind
       → reading ≡ spelled_reading line_has_ended place xs reading.rest reading.kind
       → ReadsHere t line_has_ended place here reading
@@ -60,7 +61,8 @@ pub record ReadsBehindGap (text : List ℕ) (t : SourceType) (line_had_ended : B
     : Type 0 where
   pub pieces : List Piece
   pub line_has_ended : Bool
-  pub gap : WholeGap t line_had_ended (from_place text place) pieces line_has_ended (from_place text outcome.token.start)
+  pub gap : WholeGap t line_had_ended (from_place text place) pieces line_has_ended
+      (from_place text outcome.token.start)
   pub start : IsCharBoundary text outcome.token.start
   pub end : IsCharBoundary text outcome.token.end
   pub reading : Reading
@@ -92,7 +94,8 @@ pub data GoalReads (text : List ℕ) (t : SourceType) (goal : Goal) (before : Op
   behind_gap : begins_hashbang goal text place ≡ false
       → ReadsBehindGap text t (line_has_ended_behind before) place outcome → GoalReads text t goal before place outcome
 
--- What the grammar says of a reading of the first or the plain goal: it has no diagnostic exactly where the grammar reads a
+-- What the grammar says of a reading of the first or the plain goal: it has no diagnostic exactly where the grammar
+-- reads a
 -- token, and then it is this one.
 pub record AgreesWithGrammar (text : List ℕ) (t : SourceType) (goal : Goal) (before : Option TokenParts) (place : ℕ)
     (outcome : Outcome) : Type 0 where

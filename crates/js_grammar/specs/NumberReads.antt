@@ -174,7 +174,7 @@ badly_ended place number = record (well_ended place number) {
   rest = [];
   diagnostics =
       missing_digits place number.items
-          ++ invalid_number_end (place_behind place (items_text number.items)) number.rest ∷ [];
+      ++ invalid_number_end (place_behind place (items_text number.items)) number.rest ∷ [];
 }
 
 -- what is read of items that begin at a place

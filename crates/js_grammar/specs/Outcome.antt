@@ -8,7 +8,8 @@ use Rattle.js_text.specs.declared.reg_exp_flags.RegexInfo.{RegexInfo}
 use Rattle.js_text.specs.declared.span.Span.{Span}
 use Rattle.js_text.specs.declared.value.RowValue.{RowValue}
 use Rattle.js_grammar.specs.Gap.{Piece, PieceKind}
-use Rattle.js_grammar.specs.Gap.PieceKind.{white_space, line_terminator, single_line_comment, multi_line_comment, html_open_comment, html_close_comment, reported_comment}
+use Rattle.js_grammar.specs.Gap.PieceKind.{white_space, line_terminator, single_line_comment, multi_line_comment}
+use Rattle.js_grammar.specs.Gap.PieceKind.{html_open_comment, html_close_comment, reported_comment}
 use Rattle.js_kind.specs.TokenParts.{TokenParts}
 
 -- What readings find beside their tokens: what they report, what they report for the case that the source is a module,

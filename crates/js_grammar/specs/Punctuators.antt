@@ -1,5 +1,6 @@
 -- The punctuators of the plain goal (ECMA-262 12.8, with `@`), and what may not follow one.
-use Rattle.std.specs.Prelude.{◌≡◌, ℕ, Bool, true, false, List, [], ◌∷◌, ◌++◌, length, drop, ◌==◌, ◌&&◌, ◌||◌, not, nat_le, codes, ◌⊎◌}
+use Rattle.std.specs.Prelude.{◌≡◌, ℕ, Bool, true, false, List, [], ◌∷◌, ◌++◌, length, drop, ◌==◌, ◌&&◌, ◌||◌, not}
+use Rattle.std.specs.Prelude.{nat_le, codes, ◌⊎◌}
 use Rattle.std.specs.Char.{is_ascii_digit}
 use Rattle.std.specs.List.{list_all}
 use Rattle.js_text.specs.Ascii.{asterisk, full_stop}
@@ -9,7 +10,13 @@ use Rattle.js_text.specs.declared.source_type.SourceType.{SourceType}
 use Rattle.js_grammar.specs.Gap.{is_prefix}
 use Rattle.js_kind.specs.Kinds.{kind_text}
 use Rattle.js_kind.specs.declared.kind.Kind.{Kind}
-use Rattle.js_kind.specs.declared.kind.Kind.TheVariants.{Amp, Amp2, Amp2Eq, AmpEq, Bang, Caret, CaretEq, Colon, Comma, Dot, Dot3, Eq, Eq2, Eq3, LAngle, LBrack, LCurly, LParen, LtEq, Minus, Minus2, MinusEq, Neq, Neq2, Percent, PercentEq, Pipe, Pipe2, Pipe2Eq, PipeEq, Plus, Plus2, PlusEq, Question, Question2, Question2Eq, QuestionDot, RAngle, RBrack, RCurly, RParen, Semicolon, ShiftLeft, ShiftLeftEq, Slash, SlashEq, Star, Star2, Star2Eq, StarEq, Tilde, Arrow, At}
+use Rattle.js_kind.specs.declared.kind.Kind.TheVariants.{Amp, Amp2, Amp2Eq, AmpEq, Bang, Caret, CaretEq, Colon, Comma}
+use Rattle.js_kind.specs.declared.kind.Kind.TheVariants.{Dot, Dot3, Eq, Eq2, Eq3, LAngle, LBrack, LCurly, LParen, LtEq}
+use Rattle.js_kind.specs.declared.kind.Kind.TheVariants.{Minus, Minus2, MinusEq, Neq, Neq2, Percent, PercentEq, Pipe}
+use Rattle.js_kind.specs.declared.kind.Kind.TheVariants.{Pipe2, Pipe2Eq, PipeEq, Plus, Plus2, PlusEq, Question}
+use Rattle.js_kind.specs.declared.kind.Kind.TheVariants.{Question2, Question2Eq, QuestionDot, RAngle, RBrack, RCurly}
+use Rattle.js_kind.specs.declared.kind.Kind.TheVariants.{RParen, Semicolon, ShiftLeft, ShiftLeftEq, Slash, SlashEq}
+use Rattle.js_kind.specs.declared.kind.Kind.TheVariants.{Star, Star2, Star2Eq, StarEq, Tilde, Arrow, At}
 
 -- the text begins with a dot that no digit follows
 abbrev pub is_optional_dot : List ℕ → Bool
@@ -116,7 +123,8 @@ abbrev pub is_spelled : SourceType → Bool → List ℕ → Punctuator → Bool
 is_spelled t line_has_ended cs p = is_prefix p.text cs && not (p.excluded t line_has_ended (drop (length p.text) cs))
 
 -- The text begins with the punctuator `it`, after which rest is left, and with no longer one.
-pub record LongestPunctuator (t : SourceType) (line_has_ended : Bool) (text rest : List ℕ) (kind_is : Kind) : Type 0 where
+pub record LongestPunctuator (t : SourceType) (line_has_ended : Bool) (text rest : List ℕ)
+    (kind_is : Kind) : Type 0 where
   pub it : Punctuator
   pub in_table : IsIn it punctuators
   pub here : text ≡ it.text ++ rest

@@ -16,15 +16,18 @@ is_plain First = true
 is_plain Next = true
 
 -- The token stands behind the longest gap from the place on, and is the longest spelling there.
-pub record IsSpelled (text : List ℕ) (t : SourceType) (line_has_ended : Bool) (place : ℕ) (token : TokenParts) : Type 0 where
+pub record IsSpelled (text : List ℕ) (t : SourceType) (line_has_ended : Bool) (place : ℕ)
+    (token : TokenParts) : Type 0 where
   pub gap : LongestGap t line_has_ended (from_place text place) token.is_on_new_line (from_place text token.start)
   pub start : IsCharBoundary text token.start
   pub spelled : List ℕ
-  pub spelling : LongestSpelling t token.is_on_new_line (from_place text token.start) spelled (from_place text token.end) token.kind
+  pub spelling : LongestSpelling t token.is_on_new_line (from_place text token.start) spelled
+      (from_place text token.end) token.kind
   pub end : IsCharBoundary text token.end
 
 -- The grammar reads the token from the place on, where the flag tells whether a line has ended before the place.
-pub data PlainReads (text : List ℕ) (t : SourceType) (goal : Goal) (line_has_ended : Bool) (place : ℕ) (token : TokenParts)
+pub data PlainReads (text : List ℕ) (t : SourceType) (goal : Goal) (line_has_ended : Bool) (place : ℕ)
+    (token : TokenParts)
     : Type 0 where
   hashbang : begins_hashbang goal text place ≡ true → IsHashbang text token → token.is_on_new_line ≡ line_has_ended
       → PlainReads text t goal line_has_ended place token

@@ -1,10 +1,12 @@
 -- What is read where nothing is spelled, and what is reported of it.
-use Rattle.std.specs.Prelude.{ℕ, ◌+◌, Bool, false, List, [], ◌∷◌, ◌==◌, ◌||◌, nat_lt, nat_le, codes, Option, Some, None, if◌then◌else◌}
+use Rattle.std.specs.Prelude.{ℕ, ◌+◌, Bool, false, List, [], ◌∷◌, ◌==◌, ◌||◌, nat_lt, nat_le, codes, Option, Some, None}
+use Rattle.std.specs.Prelude.{if◌then◌else◌}
 use Rattle.std.specs.List.{list_any}
 use Rattle.js_text.specs.Ascii.{exclamation_mark}
 use Rattle.js_text.specs.Characters.{is_line_terminator, begins}
 use Rattle.js_text.specs.declared.diagnostic.Diagnostic.{Diagnostic}
-use Rattle.js_text.specs.declared.diagnostic.Diagnostic.TheVariants.{InvalidCharacter, FileAppearsToBeBinary, UnterminatedMultiLineComment}
+use Rattle.js_text.specs.declared.diagnostic.Diagnostic.TheVariants.{InvalidCharacter, FileAppearsToBeBinary}
+use Rattle.js_text.specs.declared.diagnostic.Diagnostic.TheVariants.{UnterminatedMultiLineComment}
 use Rattle.js_text.specs.declared.value.RowValue.{RowValue}
 use Rattle.js_text.specs.declared.value.RowValue.TheVariants.{Nothing}
 use Rattle.js_grammar.specs.Gap.{is_prefix}
@@ -66,7 +68,8 @@ recovered_character line_has_ended place [] = None
 recovered_character line_has_ended place (c ∷ cs) =
     if is_control_or_wide c then Some (invalid_character line_has_ended place c cs) else None
 
--- What is read of a text at whose beginning nothing is spelled: the first row that fits it. The text begins at the place.
+-- What is read of a text at whose beginning nothing is spelled: the first row that fits it. The text begins at the
+-- place.
 abbrev pub recovered : Bool → ℕ → List ℕ → Option Reading
 recovered line_has_ended place here =
     if is_prefix (codes "/*") here then Some (unterminated_comment line_has_ended place here)

@@ -1,5 +1,6 @@
 -- The spellings of the plain goal (ECMA-262 12.7 and 12.8): what a token's text may be, and what may not follow it.
-use Rattle.std.specs.Prelude.{◌≡◌, ℕ, ◌≤◌, Bool, true, false, List, [], ◌∷◌, ◌++◌, length, not, ◌==◌, ◌&&◌, IsTrue, if◌then◌else◌}
+use Rattle.std.specs.Prelude.{◌≡◌, ℕ, ◌≤◌, Bool, true, false, List, [], ◌∷◌, ◌++◌, length, not, ◌==◌, ◌&&◌, IsTrue}
+use Rattle.std.specs.Prelude.{if◌then◌else◌}
 use Rattle.std.specs.List.{AllByRecursion, list_any}
 use Rattle.std.specs.Str.{encode_utf8_all}
 use Rattle.js_text.specs.Ascii.{backslash, low_line}
@@ -22,7 +23,8 @@ abbrev pub IsName : List ℕ → Type 0
 IsName [] = ⊥
 IsName (c ∷ cs) = IsTrue (is_identifier_start c) × AllByRecursion (λ d. IsTrue (is_identifier_part d)) cs
 
--- The characters xs are a spelling of this kind where ys follow them; the flag tells whether a line has ended before them.
+-- The characters xs are a spelling of this kind where ys follow them; the flag tells whether a line has ended before
+-- them.
 pub data Spelling (t : SourceType) (line_has_ended : Bool) (xs ys : List ℕ) (kind : Kind) : Type 0 where
   name : IsName xs → begins is_identifier_part ys ≡ false → kind ≡ name_kind (encode_utf8_all xs)
       → Spelling t line_has_ended xs ys kind

@@ -3,7 +3,8 @@ use Rattle.std.proofs.Common.{◌≡◌, ◌||◌, refl}
 use Rattle.std.specs.Int.{is_in_range}
 use Rattle.js_kind.specs.declared.kind.Kind.{Kind}
 use Rattle.js_kind.specs.declared.kind.Kind.TheVariants as variant
-use Rattle.js_kind.specs.Kinds.{number, is_name_kind, is_identifier_name, is_number_kind, is_reserved_keyword, is_literal}
+use Rattle.js_kind.specs.Kinds.{number, is_name_kind, is_identifier_name, is_number_kind, is_reserved_keyword}
+use Rattle.js_kind.specs.Kinds.{is_literal}
 
 -- The numbers of words stand in a row.
 pub words_are_between : (kind : Kind) → is_in_range (number variant.Await) (number variant.Null) (number kind)

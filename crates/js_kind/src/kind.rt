@@ -2,7 +2,9 @@
 
 ghost use Rattle.std.specs.Prelude.{◌≡◌, ◌↔◌, ◌||◌, IsTrue};
 ghost use Rattle.std.specs.Int.{is_in_range};
-ghost use Rattle.js_kind.specs.Kinds.{number, is_name_kind, is_identifier_name, is_number_kind, is_reserved_keyword, is_identifier, is_literal, is_assignment_operator, is_binary_operator, is_logical_operator};
+ghost use Rattle.js_kind.specs.Kinds.{number, is_name_kind, is_identifier_name, is_number_kind, is_reserved_keyword};
+ghost use Rattle.js_kind.specs.Kinds.{is_identifier, is_literal, is_assignment_operator, is_binary_operator};
+ghost use Rattle.js_kind.specs.Kinds.{is_logical_operator};
 ghost use Rattle.js_kind.specs.Digits.{is_integer_kind, is_digit_of, radix_of};
 
 /// What a token is.

@@ -16,7 +16,8 @@ use Rattle.js_grammar.specs.declared.goal.Goal.{Goal}
 use Rattle.js_grammar.proofs.Clean.{agrees_with_grammar}
 use Rattle.js_grammar.proofs.Spans.{goal_reads_span, goal_reads_places}
 use Rattle.js_lexer.specs.Lexer.{LexerState, IsOnPlaces, IsSound, IsRestored, collected, ReadsOutcome, ReadsToken}
-use Rattle.js_lexer.specs.Lexer.{HasMovedOn, Checkpoint, checkpoint_of, put_back, rewound, BeginsAlike, GoesOnFrom, token_or_default}
+use Rattle.js_lexer.specs.Lexer.{HasMovedOn, Checkpoint, checkpoint_of, put_back, rewound, BeginsAlike, GoesOnFrom}
+use Rattle.js_lexer.specs.Lexer.{token_or_default}
 use Rattle.js_lexer.specs.Reader.{ReadsGoal, MovesOn}
 use Rattle.js_lexer.specs.declared.reader.Reader.{Reader}
 use Rattle.js_source.specs.Source.{At}

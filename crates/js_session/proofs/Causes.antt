@@ -1,5 +1,6 @@
 -- A source and a list of commands have one fault at most.
-use Rattle.std.proofs.Common.{◌≡◌, ◌⊎◌, ℕ, true, false, List, refl, sym, ◌∙◌, ap, arith, inl, inr, Result, Ok, Err, OnOk, IfErr, IsOk}
+use Rattle.std.proofs.Common.{◌≡◌, ◌⊎◌, ℕ, true, false, List, refl, sym, ◌∙◌, ap, arith, inl, inr, Result, Ok, Err}
+use Rattle.std.proofs.Common.{OnOk, IfErr, IsOk}
 use Rattle.std.proofs.lemmas.Bool.{cases_lt}
 use Rattle.js_session.specs.declared.command.Command.{Command}
 use Rattle.js_session.specs.declared.fault.LexFault.{LexFault}
@@ -34,14 +35,16 @@ built_no_cause : (source : List ℕ) (at : ℕ) → IsBuilt source → ¬ (First
 built_no_cause source at built h = let no : true ≡ false = sym h.here ∙ built at h.within in cc
 
 -- a source that can be read, with commands that close no mark too many, has no fault
-pub sound_no_cause : (source : List ℕ) (commands : List Command) (fault : LexFault) → IsReadable source → HasMarks commands → ¬ (Cause source commands fault)
+pub sound_no_cause : (source : List ℕ) (commands : List Command) (fault : LexFault) → IsReadable source
+    → HasMarks commands → ¬ (Cause source commands fault)
 sound_no_cause source commands Overlong h marks c = absurd (omega (arith, h.short, c))
 sound_no_cause source commands (NotUtf8 at) h marks c = c.1 h.utf8
 sound_no_cause source commands (NotBuilt at) h marks c = built_no_cause source at h.built c.2
 sound_no_cause source commands (NoMark i) h marks c = marks i c.1.here
 sound_no_cause source commands Memory h marks c = c
 
-pub cause_unique : (source : List ℕ) (commands : List Command) (a b : LexFault) → Cause source commands a → Cause source commands b → a ≡ b
+pub cause_unique : (source : List ℕ) (commands : List Command) (a b : LexFault) → Cause source commands a
+    → Cause source commands b → a ≡ b
 cause_unique source commands Overlong Overlong c d = refl
 cause_unique source commands Overlong (NotUtf8 j) c d = absurd (omega (arith, c, d.0))
 cause_unique source commands Overlong (NotBuilt j) c d = absurd (omega (arith, c, d.0))
@@ -65,15 +68,20 @@ cause_unique source commands (NoMark i) Memory c d = absurd d
 cause_unique source commands Memory b c d = absurd c
 
 -- Where a fault has its cause, it comes, or want of memory does.
-pub exactly : (source : List ℕ) (commands : List Command) (result : Result Report LexFault) (fault : LexFault) → OnOk result (IsReadable source × HasMarks commands)
-    → IfErr result (λ e. (e ≡ Memory) ⊎ Cause source commands e) → Cause source commands fault → (result ≡ Err fault) ⊎ (result ≡ Err Memory)
+pub exactly : (source : List ℕ) (commands : List Command) (result : Result Report LexFault) (fault : LexFault)
+    → OnOk result (IsReadable source × HasMarks commands)
+    → IfErr result (λ e. (e ≡ Memory) ⊎ Cause source commands e) → Cause source commands fault
+    → (result ≡ Err fault) ⊎ (result ≡ Err Memory)
 exactly source commands (Ok report) fault ok cause c = absurd (sound_no_cause source commands fault ok.0 ok.1 c)
 exactly source commands (Err e) fault ok cause c =
-    elim cause [ inl memory ↦ inr (ap Err memory) | inr other ↦ inl (ap Err (cause_unique source commands e fault other c)) ]
+    elim cause
+    [ inl memory ↦ inr (ap Err memory) | inr other ↦ inl (ap Err (cause_unique source commands e fault other c)) ]
 
 -- Where nothing is at fault, there is a report, or want of memory.
-pub completely : (source : List ℕ) (commands : List Command) (result : Result Report LexFault) → IfErr result (λ e. (e ≡ Memory) ⊎ Cause source commands e)
+pub completely : (source : List ℕ) (commands : List Command) (result : Result Report LexFault)
+    → IfErr result (λ e. (e ≡ Memory) ⊎ Cause source commands e)
     → IsReadable source → HasMarks commands → IsOk result ⊎ (result ≡ Err Memory)
 completely source commands (Ok report) cause h marks = inl refl
 completely source commands (Err e) cause h marks =
-    elim cause [ inl memory ↦ inr (ap Err memory) | inr other ↦ absurd (sound_no_cause source commands e h marks other) ]
+    elim cause
+    [ inl memory ↦ inr (ap Err memory) | inr other ↦ absurd (sound_no_cause source commands e h marks other) ]

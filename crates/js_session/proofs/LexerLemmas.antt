@@ -1,5 +1,6 @@
 -- Lexers that have gone on, and what they may go back to.
-use Rattle.std.proofs.Common.{◌≡◌, ◌≤◌, List, [], ◌∷◌, length, refl, sym, ◌∙◌, subst, ap, arith, length-append, append-nil, append_assoc}
+use Rattle.std.proofs.Common.{◌≡◌, ◌≤◌, List, [], ◌∷◌, length, refl, sym, ◌∙◌, subst, ap, arith, length-append}
+use Rattle.std.proofs.Common.{append-nil, append_assoc}
 use Rattle.std.specs.Prelude.{IfSome}
 use Rattle.std.specs.Str.{IsCharBoundary}
 use Rattle.js_grammar.specs.Outcome.{Findings, FindingLengths, no_findings, joined, AreWithin}
@@ -31,7 +32,12 @@ begins_alike-length (t ∷ u ∷ ts) (n ∷ ns) h = let rest = begins_alike-leng
 
 joined-assoc : (a b c : Findings) → joined (joined a b) c ≡ joined a (joined b c)
 joined-assoc a b c =
-    rw (append_assoc a.diagnostics b.diagnostics c.diagnostics, append_assoc a.deferred b.deferred c.deferred, append_assoc a.comments b.comments c.comments, append_assoc a.irregular b.irregular c.irregular)
+    rw (
+      append_assoc a.diagnostics b.diagnostics c.diagnostics,
+      append_assoc a.deferred b.deferred c.deferred,
+      append_assoc a.comments b.comments c.comments,
+      append_assoc a.irregular b.irregular c.irregular,
+    )
     refl
 
 joined-none : (a : Findings) → joined a no_findings ≡ a
@@ -87,7 +93,9 @@ can_rewind-on old new c h g = record {
 }
 
 pub restored-refl : (l : LexerState) → IsRestored l l
-restored-refl l = record { text = refl; source_type = refl; collects = refl; place = refl; last = refl; tokens = refl; findings = refl }
+restored-refl l =
+    record
+    { text = refl; source_type = refl; collects = refl; place = refl; last = refl; tokens = refl; findings = refl }
 
 pub restored-sym : (a b : LexerState) → IsRestored a b → IsRestored b a
 restored-sym a b h = record {

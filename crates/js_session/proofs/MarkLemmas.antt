@@ -1,5 +1,6 @@
 -- Marks, where rows are added and marks are opened and closed.
-use Rattle.std.proofs.Common.{◌≡◌, ℕ, zero, suc, ◌≤◌, Bool, List, [], ◌∷◌, ◌++◌, length, take, refl, sym, ◌∙◌, ap, subst, arith, length-append, Option, Some, None}
+use Rattle.std.proofs.Common.{◌≡◌, ℕ, zero, suc, ◌≤◌, Bool, List, [], ◌∷◌, ◌++◌, length, take, refl, sym, ◌∙◌, ap}
+use Rattle.std.proofs.Common.{subst, arith, length-append, Option, Some, None}
 use Rattle.std.specs.List.{AllByRecursion}
 use Rattle.std.specs.Prelude.{IfSome}
 use Rattle.std.proofs.lemmas.List.{take-append-le, take-take, length-take-le, take_all}
@@ -18,26 +19,39 @@ use Rattle.js_session.proofs.LiveLemmas.{same_live, last_none, goes_on-behind}
 -- findings that have grown, cut back
 cut_to-joined-le : (l : FindingLengths) (f g : Findings) → AreWithin l f → cut_to l (joined f g) ≡ cut_to l f
 cut_to-joined-le l f g h =
-    rw (take-append-le l.diagnostics f.diagnostics g.diagnostics h.diagnostics, take-append-le l.deferred f.deferred g.deferred h.deferred, take-append-le l.comments f.comments g.comments h.comments, take-append-le l.irregular f.irregular g.irregular h.irregular)
+    rw (
+      take-append-le l.diagnostics f.diagnostics g.diagnostics h.diagnostics,
+      take-append-le l.deferred f.deferred g.deferred h.deferred,
+      take-append-le l.comments f.comments g.comments h.comments,
+      take-append-le l.irregular f.irregular g.irregular h.irregular,
+    )
     refl
 
 shorter : {X : Type 0} (k n : ℕ) (xs : List X) → n ≤ length xs → k ≤ length (take n xs) → k ≤ n
 shorter k n xs within le = omega (arith, le, length-take-le n xs within)
 
 -- cut back twice
-cut_to-cut_to : (l m : FindingLengths) (f : Findings) → AreWithin m f → AreWithin l (cut_to m f) → cut_to l (cut_to m f) ≡ cut_to l f
+cut_to-cut_to : (l m : FindingLengths) (f : Findings) → AreWithin m f → AreWithin l (cut_to m f)
+    → cut_to l (cut_to m f) ≡ cut_to l f
 cut_to-cut_to l m f h g =
     rw (
-      take-take l.diagnostics m.diagnostics f.diagnostics (shorter l.diagnostics m.diagnostics f.diagnostics h.diagnostics g.diagnostics),
+      take-take l.diagnostics m.diagnostics f.diagnostics
+          (shorter l.diagnostics m.diagnostics f.diagnostics h.diagnostics g.diagnostics),
       take-take l.deferred m.deferred f.deferred (shorter l.deferred m.deferred f.deferred h.deferred g.deferred),
       take-take l.comments m.comments f.comments (shorter l.comments m.comments f.comments h.comments g.comments),
-      take-take l.irregular m.irregular f.irregular (shorter l.irregular m.irregular f.irregular h.irregular g.irregular),
+      take-take l.irregular m.irregular f.irregular
+          (shorter l.irregular m.irregular f.irregular h.irregular g.irregular),
     )
     refl
 
 cut_to-all : (f : Findings) → cut_to (lengths_of f) f ≡ f
 cut_to-all f =
-    rw (take_all (length f.diagnostics) f.diagnostics (omega arith), take_all (length f.deferred) f.deferred (omega arith), take_all (length f.comments) f.comments (omega arith), take_all (length f.irregular) f.irregular (omega arith))
+    rw (
+      take_all (length f.diagnostics) f.diagnostics (omega arith),
+      take_all (length f.deferred) f.deferred (omega arith),
+      take_all (length f.comments) f.comments (omega arith),
+      take_all (length f.irregular) f.irregular (omega arith),
+    )
     refl
 
 length-with_last : (ts : List TokenParts) (t : TokenParts) → length (with_last ts t) ≡ length ts
@@ -50,7 +64,8 @@ length-put_back ts None = refl
 length-put_back ts (Some t) = length-with_last ts t
 
 -- a front of some tokens with another last one is some tokens
-some_front : (k : ℕ) (b : TokenParts) (bs : List TokenParts) (y : TokenParts) → (x : TokenParts) × (xs : List TokenParts) × (take (suc k) (with_last (b ∷ bs) y) ≡ x ∷ xs)
+some_front : (k : ℕ) (b : TokenParts) (bs : List TokenParts) (y : TokenParts)
+    → (x : TokenParts) × (xs : List TokenParts) × (take (suc k) (with_last (b ∷ bs) y) ≡ x ∷ xs)
 some_front k b [] y = (y, take k [], refl)
 some_front k b (c ∷ cs) y = (b, take k (with_last (c ∷ cs) y), refl)
 
@@ -58,7 +73,8 @@ with_last-behind : (a v x : TokenParts) (r xs : List TokenParts) → r ≡ x ∷
 with_last-behind a v x r xs e = rw e refl
 
 -- the last of a front, put in twice
-with_last-take : (k : ℕ) (ts : List TokenParts) (y v : TokenParts) → with_last (take k (with_last ts y)) v ≡ with_last (take k ts) v
+with_last-take : (k : ℕ) (ts : List TokenParts) (y v : TokenParts)
+    → with_last (take k (with_last ts y)) v ≡ with_last (take k ts) v
 with_last-take zero ts y v = refl
 with_last-take (suc k) [] y v = refl
 with_last-take (suc zero) (a ∷ []) y v = refl
@@ -66,70 +82,90 @@ with_last-take (suc (suc k)) (a ∷ []) y v = refl
 with_last-take (suc zero) (a ∷ b ∷ bs) y v = refl
 with_last-take (suc (suc k)) (a ∷ b ∷ bs) y v =
     let some = some_front k b bs y in
-    with_last-behind a v some.0 (take (suc k) (with_last (b ∷ bs) y)) some.1 some.2 ∙ ap (λ r. a ∷ r) (with_last-take (suc k) (b ∷ bs) y v)
+    with_last-behind a v some.0 (take (suc k) (with_last (b ∷ bs) y)) some.1 some.2
+    ∙ ap (λ r. a ∷ r) (with_last-take (suc k) (b ∷ bs) y v)
 
-put_back-take : (k n : ℕ) (ts : List TokenParts) (y z : Option TokenParts) → k ≤ n → (z ≡ None → k ≡ 0) → put_back (take k (put_back (take n ts) y)) z ≡ put_back (take k ts) z
+put_back-take : (k n : ℕ) (ts : List TokenParts) (y z : Option TokenParts) → k ≤ n → (z ≡ None → k ≡ 0)
+    → put_back (take k (put_back (take n ts) y)) z ≡ put_back (take k ts) z
 put_back-take k n ts None z le none = ap (λ l. put_back l z) (take-take k n ts le)
-put_back-take k n ts (Some y) (Some v) le none = with_last-take k (take n ts) y v ∙ ap (λ l. with_last l v) (take-take k n ts le)
+put_back-take k n ts (Some y) (Some v) le none =
+    with_last-take k (take n ts) y v ∙ ap (λ l. with_last l v) (take-take k n ts le)
 put_back-take k n ts (Some y) None le none = rw (none refl) refl
 
 length-front : (now : Live) (m : SessionMark) → m.tokens ≤ length now.tokens → length (front now m).tokens ≡ m.tokens
-length-front now m h = length-put_back (take m.tokens now.tokens) m.checkpoint.last ∙ length-take-le m.tokens now.tokens h
+length-front now m h =
+    length-put_back (take m.tokens now.tokens) m.checkpoint.last ∙ length-take-le m.tokens now.tokens h
 
 -- a mark of which no token was the last is of none
-pub none_at : (text : List ℕ) (t : SourceType) (c : Bool) (now : Live) (m : SessionMark) → IsMark text t c now m → m.checkpoint.last ≡ None → m.tokens ≡ 0
+pub none_at : (text : List ℕ) (t : SourceType) (c : Bool) (now : Live) (m : SessionMark) → IsMark text t c now m
+    → m.checkpoint.last ≡ None → m.tokens ≡ 0
 none_at text t c now m is none =
     let nothing = last_none (front now m).tokens (sym (ap (λ x. x.last) is.checkpoint) ∙ none) in
     sym (length-front now m is.tokens) ∙ ap length nothing
 
 -- the front of a front
-front_front : (text : List ℕ) (t : SourceType) (c : Bool) (now : Live) (m x : SessionMark) → IsMark text t c now m → IsMark text t c (front now m) x → front (front now m) x ≡ front now x
+front_front : (text : List ℕ) (t : SourceType) (c : Bool) (now : Live) (m x : SessionMark) → IsMark text t c now m
+    → IsMark text t c (front now m) x → front (front now m) x ≡ front now x
 front_front text t c now m x is other =
     let le : x.tokens ≤ m.tokens = omega (arith, other.tokens, length-front now m is.tokens) in
     same_live (front (front now m) x) (front now x)
-    (put_back-take x.tokens m.tokens now.tokens m.checkpoint.last x.checkpoint.last le (none_at text t c (front now m) x other))
-    (cut_to-cut_to x.checkpoint.lengths m.checkpoint.lengths now.findings is.can_rewind.findings other.can_rewind.findings)
+    (put_back-take x.tokens m.tokens now.tokens m.checkpoint.last x.checkpoint.last le
+    (none_at text t c (front now m) x other))
+    (cut_to-cut_to x.checkpoint.lengths m.checkpoint.lengths now.findings is.can_rewind.findings
+    other.can_rewind.findings)
 
 -- the front of what is live with one more outcome
-front-outcome : (text : List ℕ) (t : SourceType) (c : Bool) (now : Live) (m : SessionMark) (o : Outcome) → IsMark text t c now m → front (with_outcome now o) m ≡ front now m
+front-outcome : (text : List ℕ) (t : SourceType) (c : Bool) (now : Live) (m : SessionMark) (o : Outcome)
+    → IsMark text t c now m → front (with_outcome now o) m ≡ front now m
 front-outcome text t c now m o is =
     same_live (front (with_outcome now o) m) (front now m)
     (ap (λ l. put_back l m.checkpoint.last) (take-append-le m.tokens now.tokens (o.token ∷ []) is.tokens))
     (cut_to-joined-le m.checkpoint.lengths now.findings o.findings is.can_rewind.findings)
 
 -- a mark stays one where the lexer has gone on and its front is the same
-mark-on : (text : List ℕ) (t : SourceType) (c : Bool) (a b : Live) (m : SessionMark) → IsMark text t c a m → GoesOnFrom (lexer_behind text t c a) (lexer_behind text t c b)
+mark-on : (text : List ℕ) (t : SourceType) (c : Bool) (a b : Live) (m : SessionMark) → IsMark text t c a m
+    → GoesOnFrom (lexer_behind text t c a) (lexer_behind text t c b)
     → front b m ≡ front a m → m.tokens ≤ length b.tokens → IsMark text t c b m
 mark-on text t c a b m is on same within = record {
   tokens = within;
   checkpoint = is.checkpoint ∙ ap (λ l. checkpoint_of (lexer_behind text t c l)) (sym same);
-  goes_on = subst (λ l. GoesOnFrom (lexer_behind text t c l) (lexer_behind text t c b)) (sym same) (goes_on-trans _ _ _ is.goes_on on);
+  goes_on =
+      subst (λ l. GoesOnFrom (lexer_behind text t c l) (lexer_behind text t c b)) (sym same)
+      (goes_on-trans _ _ _ is.goes_on on);
   can_rewind = can_rewind-on _ _ m.checkpoint is.can_rewind on;
 }
 
-pub marks-outcome : (text : List ℕ) (t : SourceType) (c : Bool) (now : Live) (o : Outcome) (ms : List SessionMark) → AreMarks text t c now ms
+pub marks-outcome : (text : List ℕ) (t : SourceType) (c : Bool) (now : Live) (o : Outcome) (ms : List SessionMark)
+    → AreMarks text t c now ms
     → AreMarks text t c (with_outcome now o) ms
 marks-outcome text t c now o [] h = tt
 marks-outcome text t c now o (m ∷ ms) h =
     let same = front-outcome text t c now m o h.0 in
-    let within : m.tokens ≤ length (now.tokens ++ o.token ∷ []) = omega (arith, h.0.tokens, length-append now.tokens (o.token ∷ [])) in (
+    let within : m.tokens ≤ length (now.tokens ++ o.token ∷ []) =
+    omega (arith, h.0.tokens, length-append now.tokens (o.token ∷ [])) in (
       mark-on text t c now (with_outcome now o) m h.0 (goes_on-behind text t c now o) same within,
       subst (λ l. AreMarks text t c l ms) (sym same) h.1,
     )
 
-pub fronts-outcome : (text : List ℕ) (t : SourceType) (c : Bool) (now : Live) (o : Outcome) (ms : List SessionMark) → AreMarks text t c now ms
+pub fronts-outcome : (text : List ℕ) (t : SourceType) (c : Bool) (now : Live) (o : Outcome) (ms : List SessionMark)
+    → AreMarks text t c now ms
     → fronts (with_outcome now o) ms ≡ fronts now ms
 fronts-outcome text t c now o [] h = refl
 fronts-outcome text t c now o (m ∷ ms) h = ap (λ l. l ∷ fronts l ms) (front-outcome text t c now m o h.0)
 
 -- The marks before a mark are marks of what is live now.
-pub marks-commit : (text : List ℕ) (t : SourceType) (c : Bool) (now : Live) (m : SessionMark) (ms : List SessionMark) → AreMarks text t c now (m ∷ ms)
+pub marks-commit : (text : List ℕ) (t : SourceType) (c : Bool) (now : Live) (m : SessionMark) (ms : List SessionMark)
+    → AreMarks text t c now (m ∷ ms)
     → AreMarks text t c now ms × (fronts now ms ≡ fronts (front now m) ms)
 marks-commit text t c now m [] h = (tt, refl)
 marks-commit text t c now m (x ∷ xs) h =
     let same = front_front text t c now m x h.0 h.1.0 in
-    let within : x.tokens ≤ length now.tokens = omega (arith, h.1.0.tokens, length-front now m h.0.tokens, h.0.tokens) in (
-      (mark-on text t c (front now m) now x h.1.0 h.0.goes_on (sym same) within, subst (λ l. AreMarks text t c l xs) same h.1.1),
+    let within : x.tokens ≤ length now.tokens =
+    omega (arith, h.1.0.tokens, length-front now m h.0.tokens, h.0.tokens) in (
+      (
+        mark-on text t c (front now m) now x h.1.0 h.0.goes_on (sym same) within,
+        subst (λ l. AreMarks text t c l xs) same h.1.1,
+      ),
       ap (λ l. l ∷ fronts l xs) (sym same),
     )
 
@@ -138,13 +174,16 @@ length-fronts now [] = refl
 length-fronts now (m ∷ ms) = ap (λ n. suc n) (length-fronts (front now m) ms)
 
 -- all that is live, with its last token in its place
-pub front_all : (now : Live) (m : SessionMark) (lexer : LexerState) (text : List ℕ) (t : SourceType) (c : Bool) → m.tokens ≡ length now.tokens → m.checkpoint ≡ checkpoint_of lexer
+pub front_all : (now : Live) (m : SessionMark) (lexer : LexerState) (text : List ℕ) (t : SourceType) (c : Bool)
+    → m.tokens ≡ length now.tokens → m.checkpoint ≡ checkpoint_of lexer
     → IsRestored (lexer_behind text t c now) lexer → front now m ≡ now
 front_all now m lexer text t c tokens point behind =
     let last = ap (λ x. x.last) point ∙ behind.last in
     let lengths = ap (λ x. x.lengths) point ∙ ap lengths_of behind.findings in
     same_live (front now m) now
-    (ap (λ n. put_back (take n now.tokens) m.checkpoint.last) tokens ∙ ap (put_back (take (length now.tokens) now.tokens)) last ∙ put_back_last now.tokens now.tokens (begins_alike-refl now.tokens))
+    (ap (λ n. put_back (take n now.tokens) m.checkpoint.last) tokens
+    ∙ ap (put_back (take (length now.tokens) now.tokens)) last
+    ∙ put_back_last now.tokens now.tokens (begins_alike-refl now.tokens))
     (ap (λ l. cut_to l now.findings) lengths ∙ cut_to-all now.findings)
 
 -- P holds of the tokens of a front
@@ -153,11 +192,13 @@ all-take P zero xs h = tt
 all-take P (suc k) [] h = tt
 all-take P (suc k) (x ∷ xs) h = (h.0, all-take P k xs h.1)
 
-all-with_last : {X : Type 0} (P : X → Type 0) (xs : List X) (y : X) → AllByRecursion P xs → P y → AllByRecursion P (with_last xs y)
+all-with_last : {X : Type 0} (P : X → Type 0) (xs : List X) (y : X) → AllByRecursion P xs → P y
+    → AllByRecursion P (with_last xs y)
 all-with_last P [] y h p = tt
 all-with_last P (x ∷ []) y h p = (p, tt)
 all-with_last P (x ∷ z ∷ zs) y h p = (h.0, all-with_last P (z ∷ zs) y h.1 p)
 
-pub all-put_back : (P : TokenParts → Type 0) (k : ℕ) (ts : List TokenParts) (last : Option TokenParts) → AllByRecursion P ts → IfSome last P → AllByRecursion P (put_back (take k ts) last)
+pub all-put_back : (P : TokenParts → Type 0) (k : ℕ) (ts : List TokenParts) (last : Option TokenParts)
+    → AllByRecursion P ts → IfSome last P → AllByRecursion P (put_back (take k ts) last)
 all-put_back P k ts None h p = all-take P k ts h
 all-put_back P k ts (Some y) h p = all-with_last P (take k ts) y (all-take P k ts h) p

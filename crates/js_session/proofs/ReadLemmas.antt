@@ -1,5 +1,6 @@
 -- What a reading makes of a row.
-use Rattle.std.proofs.Common.{◌≡◌, ℕ, Bool, true, false, cond, List, [], ◌∷◌, length, take, drop, refl, sym, ◌∙◌, ap, subst, Option, None}
+use Rattle.std.proofs.Common.{◌≡◌, ℕ, Bool, true, false, cond, List, [], ◌∷◌, length, take, drop, refl, sym, ◌∙◌, ap}
+use Rattle.std.proofs.Common.{subst, Option, None}
 use Rattle.std.proofs.Math.Seq.{drop-append_seam, take-append_seam}
 use Rattle.std.specs.Str.{IsUtf8}
 use Rattle.js_text.specs.declared.diagnostic.Diagnostic.{Diagnostic}
@@ -24,46 +25,63 @@ use Rattle.js_session.specs.Report.{IsRow, IsRead, IsOfEffect, LiesOnPlaces, IsS
 use Rattle.js_session.specs.RowReader.{RowReaderState, ReadsRow, AddsLive, AddsPeek, GoesBack}
 
 -- no reading finds a regular expression
-regex_none : (text : List ℕ) (t : SourceType) (goal : Goal) (before : Option TokenParts) (place : ℕ) (o : Outcome) → GoalReads text t goal before place o → o.regex ≡ None
+regex_none : (text : List ℕ) (t : SourceType) (goal : Goal) (before : Option TokenParts) (place : ℕ) (o : Outcome)
+    → GoalReads text t goal before place o → o.regex ≡ None
 regex_none text t goal before place o (hashbang begins read) = ap (λ x. x.regex) read.alone
 regex_none text t goal before place o (behind_gap begins read) = ap (λ x. x.regex) read.outcome_is
 
-same_outcome : (a b : Outcome) → a.token ≡ b.token → a.value ≡ b.value → a.regex ≡ b.regex → a.findings ≡ b.findings → a ≡ b
+same_outcome : (a b : Outcome) → a.token ≡ b.token → a.value ≡ b.value → a.regex ≡ b.regex → a.findings ≡ b.findings
+    → a ≡ b
 same_outcome a b e1 e2 e3 e4 = rw (e1, e2, e3, e4) refl
 
 -- what was found is what was reported since
-found_since_is : (before found : Findings) (old new : List Diagnostic) → before ≡ reports old → joined before found ≡ reports new → reports (drop (length old) new) ≡ found
+found_since_is : (before found : Findings) (old new : List Diagnostic) → before ≡ reports old
+    → joined before found ≡ reports new → reports (drop (length old) new) ≡ found
 found_since_is before found old new is now =
     let whole : joined (reports old) found ≡ reports new = ap (λ f. joined f found) (sym is) ∙ now in
-    let diagnostics : drop (length old) new ≡ found.diagnostics = ap (drop (length old)) (sym (ap (λ f. f.diagnostics) whole)) ∙ drop-append_seam old found.diagnostics in
+    let diagnostics : drop (length old) new ≡ found.diagnostics =
+    ap (drop (length old)) (sym (ap (λ f. f.diagnostics) whole)) ∙ drop-append_seam old found.diagnostics in
     let deferred : found.deferred ≡ [] = ap (λ f. f.deferred) whole in
     let comments : found.comments ≡ [] = ap (λ f. f.comments) whole in
     let irregular : found.irregular ≡ [] = ap (λ f. f.irregular) whole in
     rw (diagnostics, ← deferred, ← comments, ← irregular) refl
 
 -- the outcome of a row that was made of a token and of what was reported since
-pub made_outcome : (goal : Goal) (old new : LexerState) (token : TokenParts) (errors errors' : List Diagnostic) (row : Outcome) → IsUtf8 old.text → (r : ReadsToken goal old token new)
+pub made_outcome : (goal : Goal) (old new : LexerState) (token : TokenParts) (errors errors' : List Diagnostic)
+    (row : Outcome) → IsUtf8 old.text → (r : ReadsToken goal old token new)
     → old.findings ≡ reports errors → new.findings ≡ reports errors'
-    → row ≡ record { token = token; value = value_of token.kind token.start token.end; regex = None; findings = reports (drop (length errors) errors') } → row ≡ r.outcome
+    → row
+    ≡ record {
+      token = token;
+      value = value_of token.kind token.start token.end;
+      regex = None;
+      findings =
+          reports (drop (length errors) errors');
+    } → row ≡ r.outcome
 made_outcome goal old new token errors errors' row u r before after made =
     let reads = r.reads.reads in
     let value : value_of token.kind token.start token.end ≡ r.outcome.value =
-    ap (λ x. value_of x.kind x.start x.end) r.token_is ∙ sym (goal_reads_value old.text old.source_type goal old.last old.place r.outcome u reads)
+    ap (λ x. value_of x.kind x.start x.end) r.token_is
+    ∙ sym (goal_reads_value old.text old.source_type goal old.last old.place r.outcome u reads)
     in
-    let regex : None ≡ r.outcome.regex = sym (regex_none old.text old.source_type goal old.last old.place r.outcome reads) in
+    let regex : None ≡ r.outcome.regex =
+    sym (regex_none old.text old.source_type goal old.last old.place r.outcome reads) in
     let found = found_since_is old.findings r.outcome.findings errors errors' before (sym r.after.findings ∙ after) in
     made ∙ same_outcome _ r.outcome r.token_is value regex found
 
 -- the value of a token lies on places
-slice_by_name : (b : Bool) (text : List ℕ) (token : TokenParts) → IsOnPlaces text token → IsSliceOnPlaces text (cond b (Slice (record { start = token.start; end = token.end })) Nothing)
+slice_by_name : (b : Bool) (text : List ℕ) (token : TokenParts) → IsOnPlaces text token
+    → IsSliceOnPlaces text (cond b (Slice (record { start = token.start; end = token.end })) Nothing)
 slice_by_name true text token h = (h.start, h.end, h.ordered)
 slice_by_name false text token h = tt
 
-value_lies : (text : List ℕ) (token : TokenParts) → IsOnPlaces text token → IsSliceOnPlaces text (value_of token.kind token.start token.end)
+value_lies : (text : List ℕ) (token : TokenParts) → IsOnPlaces text token
+    → IsSliceOnPlaces text (value_of token.kind token.start token.end)
 value_lies text token h = slice_by_name (is_identifier_name token.kind) text token h
 
 -- and so a row that was made of a token lies on places
-pub made_lies : (goal : Goal) (old new : LexerState) (row : Row) → IsUtf8 old.text → (r : ReadsToken goal old row.token new) → outcome_of row ≡ r.outcome → LiesOnPlaces old.text row
+pub made_lies : (goal : Goal) (old new : LexerState) (row : Row) → IsUtf8 old.text
+    → (r : ReadsToken goal old row.token new) → outcome_of row ≡ r.outcome → LiesOnPlaces old.text row
 made_lies goal old new row u r is =
     let text = old.text in
     let places : IsOnPlaces text row.token = subst (IsOnPlaces text) (sym r.token_is) r.reads.places in
@@ -74,30 +92,53 @@ made_lies goal old new row u r is =
     record { token = places; value = subst (IsSliceOnPlaces text) (sym value) (value_lies text row.token places) }
 
 -- a row that was made of a token
-pub made_row : (goal : Goal) (command : Option Command) (old new : LexerState) (errors errors' : List Diagnostic) (row : Row) → IsUtf8 old.text → ReadsToken goal old row.token new
-    → old.findings ≡ reports errors → new.findings ≡ reports errors' → row.command ≡ command → row.place ≡ old.place → row.taken ≡ true
-    → outcome_of row ≡ record { token = row.token; value = value_of row.token.kind row.token.start row.token.end; regex = None; findings = reports (drop (length errors) errors') }
+pub made_row : (goal : Goal) (command : Option Command) (old new : LexerState) (errors errors' : List Diagnostic)
+    (row : Row) → IsUtf8 old.text → ReadsToken goal old row.token new
+    → old.findings ≡ reports errors → new.findings ≡ reports errors' → row.command ≡ command → row.place ≡ old.place
+    → row.taken ≡ true
+    → outcome_of row
+    ≡ record {
+      token = row.token;
+      value = value_of row.token.kind row.token.start row.token.end;
+      regex = None;
+      findings =
+          reports (drop (length errors) errors');
+    }
     → ReadsRow goal command old row new
 made_row goal command old new errors errors' row u r before after command_is place taken made =
     let is = made_outcome goal old new row.token errors errors' (outcome_of row) u r before after made in
-    record { reads = r; outcome_is = is; command_is = command_is; place = place; taken = taken; places = made_lies goal old new row u r is }
+    record {
+      reads = r;
+      outcome_is = is;
+      command_is = command_is;
+      place = place;
+      taken = taken;
+      places =
+          made_lies goal old new row u r is;
+    }
 
 -- a row that was added, and the reader gone back
-pub goes_back_peeks : (goal : Goal) (command : Option Command) (old between new : RowReaderState) (c : Checkpoint) (live : ℕ) → AddsLive goal command old between
-    → GoesBack c live between new → c ≡ checkpoint_of old.lexer → live ≡ length old.tokens → AddsPeek goal command old new
+pub goes_back_peeks : (goal : Goal) (command : Option Command) (old between new : RowReaderState) (c : Checkpoint)
+    (live : ℕ) → AddsLive goal command old between
+    → GoesBack c live between new → c ≡ checkpoint_of old.lexer → live ≡ length old.tokens
+    → AddsPeek goal command old new
 goes_back_peeks goal command old between new c live added back point tokens = record {
   row = added.row;
   behind = between.lexer;
   reads = added.reads;
   rows = back.rows ∙ added.rows;
   lexer = back.lexer old.lexer point (reading_goes_on goal old.lexer between.lexer added.row.token added.reads.reads);
-  tokens = back.tokens ∙ ap (λ n. take n between.tokens) tokens ∙ ap (take (length old.tokens)) added.tokens ∙ take-append_seam old.tokens (added.row.token ∷ []);
+  tokens =
+      back.tokens ∙ ap (λ n. take n between.tokens) tokens ∙ ap (take (length old.tokens)) added.tokens
+      ∙ take-append_seam old.tokens (added.row.token ∷ []);
 }
 
 -- A row that was read behind what is live is the row of its command.
 pub read_is_row : (goal : Goal) (command : Option Command) (lexer new : LexerState) (now : Live) (row : Row)
-    → IsRestored (lexer_behind lexer.text lexer.source_type lexer.collects now) lexer → ReadsRow goal command lexer row new
-    → (IsRead lexer.text lexer.source_type now goal row → IsOfEffect lexer.text lexer.source_type now (row_effect command) row)
+    → IsRestored (lexer_behind lexer.text lexer.source_type lexer.collects now) lexer
+    → ReadsRow goal command lexer row new
+    → (IsRead lexer.text lexer.source_type now goal row
+    → IsOfEffect lexer.text lexer.source_type now (row_effect command) row)
     → IsRow lexer.text lexer.source_type now command row
 read_is_row goal command lexer new now row behind r give =
     let token : row.token ≡ r.reads.outcome.token = r.reads.token_is in

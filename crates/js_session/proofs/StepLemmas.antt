@@ -1,5 +1,6 @@
 -- What the calls of a session make of its state.
-use Rattle.std.proofs.Common.{◌≡◌, ℕ, ◌<◌, Bool, true, false, List, [], ◌∷◌, ◌++◌, length, take, refl, sym, ◌∙◌, ap, subst, arith, Option, Some, None, Result, Ok, Err}
+use Rattle.std.proofs.Common.{◌≡◌, ℕ, ◌<◌, Bool, true, false, List, [], ◌∷◌, ◌++◌, length, take, refl, sym, ◌∙◌, ap}
+use Rattle.std.proofs.Common.{subst, arith, Option, Some, None, Result, Ok, Err}
 use Rattle.std.proofs.lemmas.List.{reverse-append, length-reverse}
 use Rattle.std.specs.List.{AllByRecursion}
 use Rattle.std.specs.Prelude.{reverse, OnOk, OnErr, IsSome, ◌↔◌, option_to_list}
@@ -7,7 +8,8 @@ use Rattle.js_text.specs.declared.source_type.SourceType.{SourceType}
 use Rattle.js_text.specs.Lists.{with_last}
 use Rattle.js_grammar.specs.declared.goal.Goal.{Goal}
 use Rattle.js_grammar.specs.declared.goal.Goal.TheVariants.{Next as NextGoal}
-use Rattle.js_lexer.specs.Lexer.{LexerState, IsRestored, CanRewind, GoesOnFrom, IsOnPlaces, after_outcome, checkpoint_of, token_or_default, put_back}
+use Rattle.js_lexer.specs.Lexer.{LexerState, IsRestored, CanRewind, GoesOnFrom, IsOnPlaces, after_outcome}
+use Rattle.js_lexer.specs.Lexer.{checkpoint_of, token_or_default, put_back}
 use Rattle.js_session.specs.declared.command.Command.{Command}
 use Rattle.js_session.specs.declared.command.Command.TheVariants.{Next, Peek, Mark, Rewind, Commit}
 use Rattle.js_session.specs.declared.mark.SessionMark.{SessionMark}
@@ -17,9 +19,11 @@ use Rattle.js_session.specs.Marks.{live_now, front, fronts, state_of, lexer_behi
 use Rattle.js_session.specs.Report.{LiesOnPlaces}
 use Rattle.js_session.specs.RowReader.{RowReaderState, AddsLive, AddsPeek, IsUndone, IsMarkOf, GoesToMark}
 use Rattle.js_session.specs.Session.{SessionState, AddsRow, LieOnPlaces, after_command}
-use Rattle.js_session.proofs.LexerLemmas.{goes_on-restored, goes_on-trans, restored-trans, restored-sym, restored-refl, can_rewind-on}
+use Rattle.js_session.proofs.LexerLemmas.{goes_on-restored, goes_on-trans, restored-trans, restored-sym, restored-refl}
+use Rattle.js_session.proofs.LexerLemmas.{can_rewind-on}
 use Rattle.js_session.proofs.LiveLemmas.{same_live, replaced, read_behind, all-push}
-use Rattle.js_session.proofs.MarkLemmas.{marks-outcome, fronts-outcome, marks-commit, length-fronts, front_all, none_at, all-put_back}
+use Rattle.js_session.proofs.MarkLemmas.{marks-outcome, fronts-outcome, marks-commit, length-fronts, front_all, none_at}
+use Rattle.js_session.proofs.MarkLemmas.{all-put_back}
 use Rattle.js_session.proofs.ReadLemmas.{read_is_row}
 
 -- how contracts see a session of these parts
@@ -32,35 +36,47 @@ seen r marks = record {
   state = state_of (live_now r) marks;
 }
 
-at_lexer : (P : List ℕ → SourceType → Bool → Type 0) (text : List ℕ) (t : SourceType) (c : Bool) (r : RowReaderState) → r.lexer.text ≡ text → r.lexer.source_type ≡ t → r.lexer.collects ≡ c
+at_lexer : (P : List ℕ → SourceType → Bool → Type 0) (text : List ℕ) (t : SourceType) (c : Bool) (r : RowReaderState)
+    → r.lexer.text ≡ text → r.lexer.source_type ≡ t → r.lexer.collects ≡ c
     → P text t c → P r.lexer.text r.lexer.source_type r.lexer.collects
 at_lexer P text t c r texts types collects p =
-    subst (λ x. P x r.lexer.source_type r.lexer.collects) (sym texts) (subst (λ y. P text y r.lexer.collects) (sym types) (subst (λ z. P text t z) (sym collects) p))
+    subst (λ x. P x r.lexer.source_type r.lexer.collects) (sym texts)
+    (subst (λ y. P text y r.lexer.collects) (sym types) (subst (λ z. P text t z) (sym collects) p))
 
 -- a session is in order over the text of an earlier lexer
-order : (text : List ℕ) (t : SourceType) (c : Bool) (r : RowReaderState) (marks : List SessionMark) → r.lexer.text ≡ text → r.lexer.source_type ≡ t → r.lexer.collects ≡ c
-    → IsRestored (lexer_behind text t c (live_now r)) r.lexer → AreMarks text t c (live_now r) marks → AllByRecursion (LiesOnPlaces text) r.rows
+order : (text : List ℕ) (t : SourceType) (c : Bool) (r : RowReaderState) (marks : List SessionMark)
+    → r.lexer.text ≡ text → r.lexer.source_type ≡ t → r.lexer.collects ≡ c
+    → IsRestored (lexer_behind text t c (live_now r)) r.lexer → AreMarks text t c (live_now r) marks
+    → AllByRecursion (LiesOnPlaces text) r.rows
     → AllByRecursion (IsOnPlaces text) r.tokens → IsInOrder r marks
 order text t c r marks texts types collects behind are rows tokens = record {
-  behind = at_lexer (λ x y z. IsRestored (lexer_behind x y z (live_now r)) r.lexer) text t c r texts types collects behind;
+  behind =
+      at_lexer (λ x y z. IsRestored (lexer_behind x y z (live_now r)) r.lexer) text t c r texts types collects behind;
   are_marks = at_lexer (λ x y z. AreMarks x y z (live_now r) marks) text t c r texts types collects are;
   rows_lie = subst (λ x. AllByRecursion (LiesOnPlaces x) r.rows) (sym texts) rows;
   tokens_lie = subst (λ x. AllByRecursion (IsOnPlaces x) r.tokens) (sym texts) tokens;
 }
 
 -- rows and live tokens of a session that is in order lie on places
-pub in_order_lies : (r : RowReaderState) (marks : List SessionMark) (order : List SessionMark) → IsInOrder r order → LieOnPlaces (seen r marks)
+pub in_order_lies : (r : RowReaderState) (marks : List SessionMark) (order : List SessionMark) → IsInOrder r order
+    → LieOnPlaces (seen r marks)
 in_order_lies r marks order h = record { rows = h.rows_lie; tokens = h.tokens_lie }
 
 -- what is live once a row was added
-added_restored : (goal : Goal) (command : Option Command) (old new : RowReaderState) → (a : AddsLive goal command old new) → IsRestored (after_outcome old.lexer (outcome_of a.row)) new.lexer
-added_restored goal command old new a = subst (λ o. IsRestored (after_outcome old.lexer o) new.lexer) (sym a.reads.outcome_is) a.reads.reads.after
+added_restored : (goal : Goal) (command : Option Command) (old new : RowReaderState)
+    → (a : AddsLive goal command old new) → IsRestored (after_outcome old.lexer (outcome_of a.row)) new.lexer
+added_restored goal command old new a =
+    subst (λ o. IsRestored (after_outcome old.lexer o) new.lexer) (sym a.reads.outcome_is) a.reads.reads.after
 
-live_added : (goal : Goal) (command : Option Command) (old new : RowReaderState) → (a : AddsLive goal command old new) → live_now new ≡ with_outcome (live_now old) (outcome_of a.row)
-live_added goal command old new a = same_live (live_now new) (with_outcome (live_now old) (outcome_of a.row)) a.tokens (added_restored goal command old new a).findings
+live_added : (goal : Goal) (command : Option Command) (old new : RowReaderState) → (a : AddsLive goal command old new)
+    → live_now new ≡ with_outcome (live_now old) (outcome_of a.row)
+live_added goal command old new a =
+    same_live (live_now new) (with_outcome (live_now old) (outcome_of a.row)) a.tokens
+    (added_restored goal command old new a).findings
 
 -- a row was added, and its token is live
-pub order_added : (goal : Goal) (command : Option Command) (old new : RowReaderState) (marks : List SessionMark) → IsInOrder old marks → AddsLive goal command old new → IsInOrder new marks
+pub order_added : (goal : Goal) (command : Option Command) (old new : RowReaderState) (marks : List SessionMark)
+    → IsInOrder old marks → AddsLive goal command old new → IsInOrder new marks
 order_added goal command old new marks h a =
     let text = old.lexer.text in
     let t = old.lexer.source_type in
@@ -68,16 +84,23 @@ order_added goal command old new marks h a =
     let after = added_restored goal command old new a in
     let live = live_added goal command old new a in
     order text t c new marks after.text after.source_type after.collects
-    (subst (λ l. IsRestored (lexer_behind text t c l) new.lexer) (sym live) (read_behind text t c (live_now old) old.lexer new.lexer (outcome_of a.row) h.behind after))
-    (subst (λ l. AreMarks text t c l marks) (sym live) (marks-outcome text t c (live_now old) (outcome_of a.row) marks h.are_marks))
-    (subst (AllByRecursion (LiesOnPlaces text)) (sym a.rows) (all-push (LiesOnPlaces text) old.rows a.row h.rows_lie a.reads.places))
-    (subst (AllByRecursion (IsOnPlaces text)) (sym a.tokens) (all-push (IsOnPlaces text) old.tokens a.row.token h.tokens_lie a.reads.places.token))
+    (subst (λ l. IsRestored (lexer_behind text t c l) new.lexer) (sym live)
+    (read_behind text t c (live_now old) old.lexer new.lexer (outcome_of a.row) h.behind after))
+    (subst (λ l. AreMarks text t c l marks) (sym live)
+    (marks-outcome text t c (live_now old) (outcome_of a.row) marks h.are_marks))
+    (subst (AllByRecursion (LiesOnPlaces text)) (sym a.rows)
+    (all-push (LiesOnPlaces text) old.rows a.row h.rows_lie a.reads.places))
+    (subst (AllByRecursion (IsOnPlaces text)) (sym a.tokens)
+    (all-push (IsOnPlaces text) old.tokens a.row.token h.tokens_lie a.reads.places.token))
 
-pub next_adds_row : (old new : RowReaderState) (ms : List SessionMark) → IsInOrder old (reverse ms) → AddsLive NextGoal (Some Next) old new → AddsRow Next (seen old ms) (seen new ms)
+pub next_adds_row : (old new : RowReaderState) (ms : List SessionMark) → IsInOrder old (reverse ms)
+    → AddsLive NextGoal (Some Next) old new → AddsRow Next (seen old ms) (seen new ms)
 next_adds_row old new ms h a =
     let after = added_restored NextGoal (Some Next) old new a in
     let live = live_added NextGoal (Some Next) old new a in
-    let marks = fronts-outcome old.lexer.text old.lexer.source_type old.lexer.collects (live_now old) (outcome_of a.row) (reverse ms) h.are_marks in
+    let marks =
+    fronts-outcome old.lexer.text old.lexer.source_type old.lexer.collects (live_now old) (outcome_of a.row)
+    (reverse ms) h.are_marks in
     record {
       row = a.row;
       is_row = read_is_row NextGoal (Some Next) old.lexer new.lexer (live_now old) a.row h.behind a.reads (λ is. is);
@@ -85,7 +108,8 @@ next_adds_row old new ms h a =
     }
 
 -- all but the rows is as before
-order_restored : (old new : RowReaderState) (marks : List SessionMark) → IsInOrder old marks → IsRestored old.lexer new.lexer → new.tokens ≡ old.tokens
+order_restored : (old new : RowReaderState) (marks : List SessionMark) → IsInOrder old marks
+    → IsRestored old.lexer new.lexer → new.tokens ≡ old.tokens
     → AllByRecursion (LiesOnPlaces old.lexer.text) new.rows → IsInOrder new marks
 order_restored old new marks h back tokens rows =
     let text = old.lexer.text in
@@ -93,19 +117,26 @@ order_restored old new marks h back tokens rows =
     let c = old.lexer.collects in
     let live : live_now new ≡ live_now old = same_live (live_now new) (live_now old) tokens back.findings in
     order text t c new marks back.text back.source_type back.collects
-    (subst (λ l. IsRestored (lexer_behind text t c l) new.lexer) (sym live) (restored-trans _ old.lexer new.lexer h.behind back))
+    (subst (λ l. IsRestored (lexer_behind text t c l) new.lexer) (sym live)
+    (restored-trans _ old.lexer new.lexer h.behind back))
     (subst (λ l. AreMarks text t c l marks) (sym live) h.are_marks) rows
     (subst (AllByRecursion (IsOnPlaces text)) (sym tokens) h.tokens_lie)
 
-pub order_peeked : (goal : Goal) (command : Option Command) (old new : RowReaderState) (marks : List SessionMark) → IsInOrder old marks → AddsPeek goal command old new → IsInOrder new marks
+pub order_peeked : (goal : Goal) (command : Option Command) (old new : RowReaderState) (marks : List SessionMark)
+    → IsInOrder old marks → AddsPeek goal command old new → IsInOrder new marks
 order_peeked goal command old new marks h a =
     order_restored old new marks h a.lexer a.tokens
-    (subst (AllByRecursion (LiesOnPlaces old.lexer.text)) (sym a.rows) (all-push (LiesOnPlaces old.lexer.text) old.rows a.row h.rows_lie a.reads.places))
+    (subst (AllByRecursion (LiesOnPlaces old.lexer.text)) (sym a.rows)
+    (all-push (LiesOnPlaces old.lexer.text) old.rows a.row h.rows_lie a.reads.places))
 
-pub order_undone : (old new : RowReaderState) (marks : List SessionMark) → IsInOrder old marks → IsUndone old new → IsInOrder new marks
-order_undone old new marks h u = order_restored old new marks h u.lexer u.tokens (subst (AllByRecursion (LiesOnPlaces old.lexer.text)) (sym u.rows) h.rows_lie)
+pub order_undone : (old new : RowReaderState) (marks : List SessionMark) → IsInOrder old marks → IsUndone old new
+    → IsInOrder new marks
+order_undone old new marks h u =
+    order_restored old new marks h u.lexer u.tokens
+    (subst (AllByRecursion (LiesOnPlaces old.lexer.text)) (sym u.rows) h.rows_lie)
 
-pub peek_adds_row : (old new : RowReaderState) (ms : List SessionMark) → IsInOrder old (reverse ms) → AddsPeek NextGoal (Some Peek) old new → AddsRow Peek (seen old ms) (seen new ms)
+pub peek_adds_row : (old new : RowReaderState) (ms : List SessionMark) → IsInOrder old (reverse ms)
+    → AddsPeek NextGoal (Some Peek) old new → AddsRow Peek (seen old ms) (seen new ms)
 peek_adds_row old new ms h a =
     let back = a.lexer in
     let live : live_now new ≡ live_now old = same_live (live_now new) (live_now old) a.tokens back.findings in
@@ -116,38 +147,51 @@ peek_adds_row old new ms h a =
     }
 
 -- the marks without the last one
-commit_popped : (r : RowReaderState) (ms ms' : List SessionMark) (popped : Option SessionMark) → ms ≡ ms' ++ option_to_list popped → (IsSome popped ↔ (0 < length ms)) → 0 < length ms
-    → IsInOrder r (reverse ms) → IsInOrder r (reverse ms') × (state_of (live_now r) ms' ≡ after_mark (effect_of Commit) (state_of (live_now r) ms))
+commit_popped : (r : RowReaderState) (ms ms' : List SessionMark) (popped : Option SessionMark)
+    → ms ≡ ms' ++ option_to_list popped → (IsSome popped ↔ (0 < length ms)) → 0 < length ms
+    → IsInOrder r (reverse ms)
+    → IsInOrder r (reverse ms')
+    × (state_of (live_now r) ms' ≡ after_mark (effect_of Commit) (state_of (live_now r) ms))
 commit_popped r ms ms' None e found some h = absurd (let no : false ≡ true = found.1 some in cc)
 commit_popped r ms ms' (Some m) e found some h =
     let turned : reverse ms ≡ m ∷ reverse ms' = ap reverse e ∙ reverse-append ms' (m ∷ []) in
-    let marks = marks-commit r.lexer.text r.lexer.source_type r.lexer.collects (live_now r) m (reverse ms') (rw turned at h.are_marks) in (
+    let marks =
+    marks-commit r.lexer.text r.lexer.source_type r.lexer.collects (live_now r) m (reverse ms')
+    (rw turned at h.are_marks) in (
       record { behind = h.behind; are_marks = marks.0; rows_lie = h.rows_lie; tokens_lie = h.tokens_lie },
       rw (turned, marks.1) refl,
     )
 
-some_marks : (r : RowReaderState) (ms : List SessionMark) → 0 < length (fronts (live_now r) (reverse ms)) → 0 < length ms
+some_marks : (r : RowReaderState) (ms : List SessionMark) → 0 < length (fronts (live_now r) (reverse ms))
+    → 0 < length ms
 some_marks r ms some = omega (arith, some, length-fronts (live_now r) (reverse ms), length-reverse ms)
 
-pub order_commit : (r : RowReaderState) (ms ms' : List SessionMark) (popped : Option SessionMark) → ms ≡ ms' ++ option_to_list popped → (IsSome popped ↔ (0 < length ms))
+pub order_commit : (r : RowReaderState) (ms ms' : List SessionMark) (popped : Option SessionMark)
+    → ms ≡ ms' ++ option_to_list popped → (IsSome popped ↔ (0 < length ms))
     → 0 < length (fronts (live_now r) (reverse ms)) → IsInOrder r (reverse ms) → IsInOrder r (reverse ms')
 order_commit r ms ms' popped e found some h = (commit_popped r ms ms' popped e found (some_marks r ms some) h).0
 
-pub commit_is : (r : RowReaderState) (ms ms' : List SessionMark) (popped : Option SessionMark) → ms ≡ ms' ++ option_to_list popped → (IsSome popped ↔ (0 < length ms))
-    → 0 < length (fronts (live_now r) (reverse ms)) → IsInOrder r (reverse ms) → seen r ms' ≡ after_command Commit (seen r ms)
-commit_is r ms ms' popped e found some h = let state = (commit_popped r ms ms' popped e found (some_marks r ms some) h).1 in rw state refl
+pub commit_is : (r : RowReaderState) (ms ms' : List SessionMark) (popped : Option SessionMark)
+    → ms ≡ ms' ++ option_to_list popped → (IsSome popped ↔ (0 < length ms))
+    → 0 < length (fronts (live_now r) (reverse ms)) → IsInOrder r (reverse ms)
+    → seen r ms' ≡ after_command Commit (seen r ms)
+commit_is r ms ms' popped e found some h = let state =
+    (commit_popped r ms ms' popped e found (some_marks r ms some) h).1 in rw state refl
 
 pub length_marks : (r : RowReaderState) (ms : List SessionMark) → length ms ≡ length (fronts (live_now r) (reverse ms))
 length_marks r ms = sym (length-fronts (live_now r) (reverse ms) ∙ length-reverse ms)
 
 -- one more mark: all that is live is live at it
-mark_front : (r : RowReaderState) (ms : List SessionMark) (m : SessionMark) → IsMarkOf r m → IsInOrder r (reverse ms) → front (live_now r) m ≡ live_now r
-mark_front r ms m is h = front_all (live_now r) m r.lexer r.lexer.text r.lexer.source_type r.lexer.collects is.tokens is.checkpoint h.behind
+mark_front : (r : RowReaderState) (ms : List SessionMark) (m : SessionMark) → IsMarkOf r m → IsInOrder r (reverse ms)
+    → front (live_now r) m ≡ live_now r
+mark_front r ms m is h =
+    front_all (live_now r) m r.lexer r.lexer.text r.lexer.source_type r.lexer.collects is.tokens is.checkpoint h.behind
 
 checkpoint_restored : (a b : LexerState) → IsRestored a b → checkpoint_of b ≡ checkpoint_of a
 checkpoint_restored a b h = rw (h.place, h.last, h.tokens, h.findings) refl
 
-pub order_mark : (r : RowReaderState) (ms ms' : List SessionMark) (m : SessionMark) → ms' ≡ ms ++ m ∷ [] → IsMarkOf r m → IsInOrder r (reverse ms) → IsInOrder r (reverse ms')
+pub order_mark : (r : RowReaderState) (ms ms' : List SessionMark) (m : SessionMark) → ms' ≡ ms ++ m ∷ [] → IsMarkOf r m
+    → IsInOrder r (reverse ms) → IsInOrder r (reverse ms')
 order_mark r ms ms' m e is h =
     let text = r.lexer.text in
     let t = r.lexer.source_type in
@@ -161,9 +205,15 @@ order_mark r ms ms' m e is h =
       are_marks = (
         record {
           tokens = omega (arith, is.tokens);
-          checkpoint = is.checkpoint ∙ checkpoint_restored behind r.lexer h.behind ∙ ap (λ l. checkpoint_of (lexer_behind text t c l)) (sym whole);
-          goes_on = subst (λ l. GoesOnFrom (lexer_behind text t c l) behind) (sym whole) (goes_on-restored behind behind (restored-refl behind));
-          can_rewind = can_rewind-on r.lexer behind m.checkpoint is.can_rewind (goes_on-restored r.lexer behind (restored-sym behind r.lexer h.behind));
+          checkpoint =
+              is.checkpoint ∙ checkpoint_restored behind r.lexer h.behind
+              ∙ ap (λ l. checkpoint_of (lexer_behind text t c l)) (sym whole);
+          goes_on =
+              subst (λ l. GoesOnFrom (lexer_behind text t c l) behind) (sym whole)
+              (goes_on-restored behind behind (restored-refl behind));
+          can_rewind =
+              can_rewind-on r.lexer behind m.checkpoint is.can_rewind
+              (goes_on-restored r.lexer behind (restored-sym behind r.lexer h.behind));
         },
         subst (λ l. AreMarks text t c l (reverse ms)) (sym whole) h.are_marks,
       );
@@ -171,7 +221,8 @@ order_mark r ms ms' m e is h =
       tokens_lie = h.tokens_lie;
     })
 
-pub mark_is : (r : RowReaderState) (ms ms' : List SessionMark) (m : SessionMark) → ms' ≡ ms ++ m ∷ [] → IsMarkOf r m → IsInOrder r (reverse ms)
+pub mark_is : (r : RowReaderState) (ms ms' : List SessionMark) (m : SessionMark) → ms' ≡ ms ++ m ∷ [] → IsMarkOf r m
+    → IsInOrder r (reverse ms)
     → seen r ms' ≡ after_command Mark (seen r ms)
 mark_is r ms ms' m e is h =
     let turned : reverse ms' ≡ m ∷ reverse ms = ap reverse e ∙ reverse-append ms (m ∷ []) in
@@ -179,13 +230,17 @@ mark_is r ms ms' m e is h =
     rw (turned, whole) refl
 
 -- the lexer may go back to the last mark
-last_mark : (r : RowReaderState) (ms ms' : List SessionMark) (m : SessionMark) → ms ≡ ms' ++ m ∷ [] → IsInOrder r (reverse ms)
+last_mark : (r : RowReaderState) (ms ms' : List SessionMark) (m : SessionMark) → ms ≡ ms' ++ m ∷ []
+    → IsInOrder r (reverse ms)
     → AreMarks r.lexer.text r.lexer.source_type r.lexer.collects (live_now r) (m ∷ reverse ms')
 last_mark r ms ms' m e h =
-    subst (AreMarks r.lexer.text r.lexer.source_type r.lexer.collects (live_now r)) (ap reverse e ∙ reverse-append ms' (m ∷ [])) h.are_marks
+    subst (AreMarks r.lexer.text r.lexer.source_type r.lexer.collects (live_now r))
+    (ap reverse e ∙ reverse-append ms' (m ∷ [])) h.are_marks
 
-pub may_rewind : (r : RowReaderState) (ms ms' : List SessionMark) (m : SessionMark) → ms ≡ ms' ++ m ∷ [] → IsInOrder r (reverse ms) → CanRewind r.lexer m.checkpoint
-may_rewind r ms ms' m e h = can_rewind-on _ r.lexer m.checkpoint (last_mark r ms ms' m e h).0.can_rewind (goes_on-restored _ r.lexer h.behind)
+pub may_rewind : (r : RowReaderState) (ms ms' : List SessionMark) (m : SessionMark) → ms ≡ ms' ++ m ∷ []
+    → IsInOrder r (reverse ms) → CanRewind r.lexer m.checkpoint
+may_rewind r ms ms' m e h =
+    can_rewind-on _ r.lexer m.checkpoint (last_mark r ms ms' m e h).0.can_rewind (goes_on-restored _ r.lexer h.behind)
 
 -- back at the last mark
 pub record IsBack (r new : RowReaderState) (ms ms' : List SessionMark) (m : SessionMark) : Type 0 where
@@ -194,26 +249,34 @@ pub record IsBack (r new : RowReaderState) (ms ms' : List SessionMark) (m : Sess
   pub back : GoesToMark m r new
 
 pub record LivesAgain (r new : RowReaderState) (m : SessionMark) : Type 0 where
-  pub lexer : IsRestored (lexer_behind r.lexer.text r.lexer.source_type r.lexer.collects (front (live_now r) m)) new.lexer
+  pub lexer : IsRestored
+      (lexer_behind r.lexer.text r.lexer.source_type r.lexer.collects (front (live_now r) m)) new.lexer
   pub rows : new.rows ≡ r.rows
   pub live : live_now new ≡ front (live_now r) m
 
-lives_again : (r new : RowReaderState) (ms ms' : List SessionMark) (m : SessionMark) → IsBack r new ms ms' m → LivesAgain r new m
+lives_again : (r new : RowReaderState) (ms ms' : List SessionMark) (m : SessionMark) → IsBack r new ms ms' m
+    → LivesAgain r new m
 lives_again r new ms ms' m h =
     let text = r.lexer.text in
     let t = r.lexer.source_type in
     let c = r.lexer.collects in
     let now = live_now r in
     let is = (last_mark r ms ms' m h.ends h.in_order).0 in
-    let restored = h.back.lexer (lexer_behind text t c (front now m)) is.checkpoint (goes_on-trans _ _ _ is.goes_on (goes_on-restored _ r.lexer h.in_order.behind)) in
+    let restored =
+    h.back.lexer (lexer_behind text t c (front now m)) is.checkpoint
+    (goes_on-trans _ _ _ is.goes_on (goes_on-restored _ r.lexer h.in_order.behind)) in
     let last : new.lexer.last ≡ m.checkpoint.last = restored.last ∙ sym (ap (λ x. x.last) is.checkpoint) in
-    let none : m.checkpoint.last ≡ None → take m.tokens r.tokens ≡ [] = λ none. ap (λ n. take n r.tokens) (none_at text t c now m is none) in
+    let none : m.checkpoint.last ≡ None → take m.tokens r.tokens ≡ [] =
+    λ none. ap (λ n. take n r.tokens) (none_at text t c now m is none) in
     let tokens : new.tokens ≡ put_back (take m.tokens r.tokens) m.checkpoint.last =
-    h.back.tokens ∙ ap (λ x. with_last (take m.tokens r.tokens) (token_or_default x)) last ∙ replaced (take m.tokens r.tokens) m.checkpoint.last none
+    h.back.tokens ∙ ap (λ x. with_last (take m.tokens r.tokens) (token_or_default x)) last
+    ∙ replaced (take m.tokens r.tokens) m.checkpoint.last none
     in
-    record { lexer = restored; rows = h.back.rows; live = same_live (live_now new) (front now m) tokens restored.findings }
+    record
+    { lexer = restored; rows = h.back.rows; live = same_live (live_now new) (front now m) tokens restored.findings }
 
-pub order_rewind : (r new : RowReaderState) (ms ms' : List SessionMark) (m : SessionMark) → IsBack r new ms ms' m → IsInOrder new (reverse ms')
+pub order_rewind : (r new : RowReaderState) (ms ms' : List SessionMark) (m : SessionMark) → IsBack r new ms ms' m
+    → IsInOrder new (reverse ms')
 order_rewind r new ms ms' m h =
     let text = r.lexer.text in
     let t = r.lexer.source_type in
@@ -227,7 +290,8 @@ order_rewind r new ms ms' m h =
     (subst (AllByRecursion (IsOnPlaces text)) (sym (ap (λ x. x.tokens) l.live))
     (all-put_back (IsOnPlaces text) m.tokens r.tokens m.checkpoint.last h.in_order.tokens_lie marks.0.can_rewind.last))
 
-pub rewind_is : (r new : RowReaderState) (ms ms' : List SessionMark) (m : SessionMark) → IsBack r new ms ms' m → seen new ms' ≡ after_command Rewind (seen r ms)
+pub rewind_is : (r new : RowReaderState) (ms ms' : List SessionMark) (m : SessionMark) → IsBack r new ms ms' m
+    → seen new ms' ≡ after_command Rewind (seen r ms)
 rewind_is r new ms ms' m h =
     let l = lives_again r new ms ms' m h in
     let turned : reverse ms ≡ m ∷ reverse ms' = ap reverse h.ends ∙ reverse-append ms' (m ∷ []) in

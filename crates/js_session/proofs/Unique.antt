@@ -13,15 +13,18 @@ use Rattle.js_session.specs.declared.report.Report.{Report}
 use Rattle.js_session.specs.declared.row.Row.{Row}
 use Rattle.js_session.specs.Effects.{Effect, effect_of, row_effect, is_step}
 use Rattle.js_session.specs.Effects.Effect.{reads, peeks, re_lexes, opens, rewinds, commits}
-use Rattle.js_session.specs.Live.{Live, State, outcome_of, last_live, after_row, after_mark, state_after_first, nothing_live, live}
-use Rattle.js_session.specs.Report.{IsRead, IsReLexed, IsNotTaken, IsOfEffect, IsRow, fits, HasMark, Run, AreRows, ReportOf, all_collected}
+use Rattle.js_session.specs.Live.{Live, State, outcome_of, last_live, after_row, after_mark, state_after_first}
+use Rattle.js_session.specs.Live.{nothing_live, live}
+use Rattle.js_session.specs.Report.{IsRead, IsReLexed, IsNotTaken, IsOfEffect, IsRow, fits, HasMark, Run, AreRows}
+use Rattle.js_session.specs.Report.{ReportOf, all_collected}
 
 -- what an effect decides of a row
 record SameOfEffect (a b : Row) : Type 0 where
   pub taken : a.taken ≡ b.taken
   pub outcome : outcome_of a ≡ outcome_of b
 
-read_unique : (text : List ℕ) (t : SourceType) (now : Live) (goal : Goal) (a b : Row) → IsUtf8 text → a.place ≡ b.place → IsRead text t now goal a → IsRead text t now goal b → SameOfEffect a b
+read_unique : (text : List ℕ) (t : SourceType) (now : Live) (goal : Goal) (a b : Row) → IsUtf8 text → a.place ≡ b.place
+    → IsRead text t now goal a → IsRead text t now goal b → SameOfEffect a b
 read_unique text t now goal a b utf8 place h g =
     let there = subst (λ p. GoalReads text t goal (last_live now) p (outcome_of b)) (sym place) g.reads in
     record {
@@ -29,74 +32,101 @@ read_unique text t now goal a b utf8 place h g =
       outcome = goal_reads_unique text t goal (last_live now) a.place (outcome_of a) (outcome_of b) utf8 h.reads there;
     }
 
-re_lex_unique : (text : List ℕ) (t : SourceType) (now : Live) (goal : Goal) (a b : Row) → IsUtf8 text → (taken : Bool) → MatchBool taken (IsReLexed text t now goal a) (IsNotTaken now a)
+re_lex_unique : (text : List ℕ) (t : SourceType) (now : Live) (goal : Goal) (a b : Row) → IsUtf8 text → (taken : Bool)
+    → MatchBool taken (IsReLexed text t now goal a) (IsNotTaken now a)
     → MatchBool taken (IsReLexed text t now goal b) (IsNotTaken now b) → SameOfEffect a b
 re_lex_unique text t now goal a b utf8 true h g = record {
   taken = h.taken ∙ sym g.taken;
-  outcome = goal_reads_unique text t goal (last_live now) (token_or_default (last_live now)).start (outcome_of a) (outcome_of b) utf8 h.reads g.reads;
+  outcome =
+      goal_reads_unique text t goal (last_live now) (token_or_default (last_live now)).start (outcome_of a)
+      (outcome_of b) utf8 h.reads g.reads;
 }
 re_lex_unique text t now goal a b utf8 false h g = record {
   taken = h.taken ∙ sym g.taken;
   outcome = rw (h.token, h.value, h.regex, h.findings, g.token, g.value, g.regex, g.findings) refl;
 }
 
-effect_unique : (text : List ℕ) (t : SourceType) (now : Live) (effect : Effect) (a b : Row) → IsUtf8 text → a.place ≡ b.place → IsOfEffect text t now effect a → IsOfEffect text t now effect b
+effect_unique : (text : List ℕ) (t : SourceType) (now : Live) (effect : Effect) (a b : Row) → IsUtf8 text
+    → a.place ≡ b.place → IsOfEffect text t now effect a → IsOfEffect text t now effect b
     → SameOfEffect a b
 effect_unique text t now (reads goal) a b utf8 place h g = read_unique text t now goal a b utf8 place h g
 effect_unique text t now (peeks goal) a b utf8 place h g = read_unique text t now goal a b utf8 place h g
-effect_unique text t now (re_lexes goal) a b utf8 place h g = re_lex_unique text t now goal a b utf8 (fits goal (token_or_default (last_live now))) h g
+effect_unique text t now (re_lexes goal) a b utf8 place h g =
+    re_lex_unique text t now goal a b utf8 (fits goal (token_or_default (last_live now))) h g
 effect_unique text t now opens a b utf8 place h g = absurd h
 effect_unique text t now rewinds a b utf8 place h g = absurd h
 effect_unique text t now commits a b utf8 place h g = absurd h
 
-same_row : (a b : Row) → a.command ≡ b.command → a.place ≡ b.place → a.taken ≡ b.taken → a.token ≡ b.token → a.value ≡ b.value → a.regex ≡ b.regex
-    → a.diagnostics ≡ b.diagnostics → a.deferred ≡ b.deferred → a.comments ≡ b.comments → a.irregular ≡ b.irregular → a ≡ b
+same_row : (a b : Row) → a.command ≡ b.command → a.place ≡ b.place → a.taken ≡ b.taken → a.token ≡ b.token
+    → a.value ≡ b.value → a.regex ≡ b.regex
+    → a.diagnostics ≡ b.diagnostics → a.deferred ≡ b.deferred → a.comments ≡ b.comments → a.irregular ≡ b.irregular
+    → a ≡ b
 same_row a b e1 e2 e3 e4 e5 e6 e7 e8 e9 e10 = rw (e1, e2, e3, e4, e5, e6, e7, e8, e9, e10) refl
 
-pub row_unique : (text : List ℕ) (t : SourceType) (now : Live) (command : Option Command) (a b : Row) → IsUtf8 text → IsRow text t now command a → IsRow text t now command b → a ≡ b
+pub row_unique : (text : List ℕ) (t : SourceType) (now : Live) (command : Option Command) (a b : Row) → IsUtf8 text
+    → IsRow text t now command a → IsRow text t now command b → a ≡ b
 row_unique text t now command a b utf8 h g =
     let place : a.place ≡ b.place = h.place ∙ sym g.place in
     let same = effect_unique text t now (row_effect command) a b utf8 place h.gives g.gives in
     let o = same.outcome in
-    same_row a b (h.command_is ∙ sym g.command_is) place same.taken (ap (λ x. x.token) o) (ap (λ x. x.value) o) (ap (λ x. x.regex) o)
-    (ap (λ x. x.findings.diagnostics) o) (ap (λ x. x.findings.deferred) o) (ap (λ x. x.findings.comments) o) (ap (λ x. x.findings.irregular) o)
+    same_row a b (h.command_is ∙ sym g.command_is) place same.taken (ap (λ x. x.token) o) (ap (λ x. x.value) o)
+    (ap (λ x. x.regex) o)
+    (ap (λ x. x.findings.diagnostics) o) (ap (λ x. x.findings.deferred) o) (ap (λ x. x.findings.comments) o)
+    (ap (λ x. x.findings.irregular) o)
 
 -- a peek and the next step
-pub peek_is_next : (text : List ℕ) (t : SourceType) (now : Live) (peek row : Row) → IsUtf8 text → IsRow text t now (Some Peek) peek → IsRow text t now (Some Next) row
+pub peek_is_next : (text : List ℕ) (t : SourceType) (now : Live) (peek row : Row) → IsUtf8 text
+    → IsRow text t now (Some Peek) peek → IsRow text t now (Some Next) row
     → outcome_of peek ≡ outcome_of row
-peek_is_next text t now peek row utf8 h g = (read_unique text t now _ peek row utf8 (h.place ∙ sym g.place) h.gives g.gives).outcome
+peek_is_next text t now peek row utf8 h g =
+    (read_unique text t now _ peek row utf8 (h.place ∙ sym g.place) h.gives g.gives).outcome
 
-run_unique : (text : List ℕ) (t : SourceType) (s : State) (commands : List Command) (xs ys : List Row) → IsUtf8 text → Run text t s commands xs → Run text t s commands ys → xs ≡ ys
+run_unique : (text : List ℕ) (t : SourceType) (s : State) (commands : List Command) (xs ys : List Row) → IsUtf8 text
+    → Run text t s commands xs → Run text t s commands ys → xs ≡ ys
 run_unique text t s [] xs ys utf8 h g = h ∙ sym g
 run_unique text t s (c ∷ cs) [] [] utf8 h g = refl
-run_unique text t s (c ∷ cs) [] (b ∷ ys) utf8 h g = by_step (is_step c) (run_unique text t (after_mark (effect_of c) s) cs [] (b ∷ ys) utf8) h g
+run_unique text t s (c ∷ cs) [] (b ∷ ys) utf8 h g =
+    by_step (is_step c) (run_unique text t (after_mark (effect_of c) s) cs [] (b ∷ ys) utf8) h g
   where
-    by_step : (step : Bool) → (Run text t (after_mark (effect_of c) s) cs [] → Run text t (after_mark (effect_of c) s) cs (b ∷ ys) → [] ≡ b ∷ ys)
+    by_step : (step : Bool)
+        → (Run text t (after_mark (effect_of c) s) cs [] → Run text t (after_mark (effect_of c) s) cs (b ∷ ys)
+        → [] ≡ b ∷ ys)
         → MatchBool step ⊥ (HasMark c s × Run text t (after_mark (effect_of c) s) cs [])
-        → MatchBool step (IsRow text t s.now (Some c) b × Run text t (after_row (effect_of c) b s) cs ys) (HasMark c s × Run text t (after_mark (effect_of c) s) cs (b ∷ ys)) → [] ≡ b ∷ ys
+        → MatchBool step (IsRow text t s.now (Some c) b × Run text t (after_row (effect_of c) b s) cs ys)
+        (HasMark c s × Run text t (after_mark (effect_of c) s) cs (b ∷ ys)) → [] ≡ b ∷ ys
     by_step true all h g = absurd h
     by_step false all h g = all h.1 g.1
-run_unique text t s (c ∷ cs) (a ∷ xs) [] utf8 h g = by_step (is_step c) (run_unique text t (after_mark (effect_of c) s) cs (a ∷ xs) [] utf8) h g
+run_unique text t s (c ∷ cs) (a ∷ xs) [] utf8 h g =
+    by_step (is_step c) (run_unique text t (after_mark (effect_of c) s) cs (a ∷ xs) [] utf8) h g
   where
-    by_step : (step : Bool) → (Run text t (after_mark (effect_of c) s) cs (a ∷ xs) → Run text t (after_mark (effect_of c) s) cs [] → a ∷ xs ≡ [])
-        → MatchBool step (IsRow text t s.now (Some c) a × Run text t (after_row (effect_of c) a s) cs xs) (HasMark c s × Run text t (after_mark (effect_of c) s) cs (a ∷ xs))
+    by_step : (step : Bool)
+        → (Run text t (after_mark (effect_of c) s) cs (a ∷ xs) → Run text t (after_mark (effect_of c) s) cs []
+        → a ∷ xs ≡ [])
+        → MatchBool step (IsRow text t s.now (Some c) a × Run text t (after_row (effect_of c) a s) cs xs)
+        (HasMark c s × Run text t (after_mark (effect_of c) s) cs (a ∷ xs))
         → MatchBool step ⊥ (HasMark c s × Run text t (after_mark (effect_of c) s) cs []) → a ∷ xs ≡ []
     by_step true all h g = absurd g
     by_step false all h g = all h.1 g.1
 run_unique text t s (c ∷ cs) (a ∷ xs) (b ∷ ys) utf8 h g =
-    by_step (is_step c) (run_unique text t (after_row (effect_of c) a s) cs xs ys utf8) (run_unique text t (after_mark (effect_of c) s) cs (a ∷ xs) (b ∷ ys) utf8) h g
+    by_step (is_step c) (run_unique text t (after_row (effect_of c) a s) cs xs ys utf8)
+    (run_unique text t (after_mark (effect_of c) s) cs (a ∷ xs) (b ∷ ys) utf8) h g
   where
-    by_step : (step : Bool) → (Run text t (after_row (effect_of c) a s) cs xs → Run text t (after_row (effect_of c) a s) cs ys → xs ≡ ys)
-        → (Run text t (after_mark (effect_of c) s) cs (a ∷ xs) → Run text t (after_mark (effect_of c) s) cs (b ∷ ys) → a ∷ xs ≡ b ∷ ys)
-        → MatchBool step (IsRow text t s.now (Some c) a × Run text t (after_row (effect_of c) a s) cs xs) (HasMark c s × Run text t (after_mark (effect_of c) s) cs (a ∷ xs))
-        → MatchBool step (IsRow text t s.now (Some c) b × Run text t (after_row (effect_of c) b s) cs ys) (HasMark c s × Run text t (after_mark (effect_of c) s) cs (b ∷ ys)) → a ∷ xs ≡ b ∷ ys
+    by_step : (step : Bool)
+        → (Run text t (after_row (effect_of c) a s) cs xs → Run text t (after_row (effect_of c) a s) cs ys → xs ≡ ys)
+        → (Run text t (after_mark (effect_of c) s) cs (a ∷ xs) → Run text t (after_mark (effect_of c) s) cs (b ∷ ys)
+        → a ∷ xs ≡ b ∷ ys)
+        → MatchBool step (IsRow text t s.now (Some c) a × Run text t (after_row (effect_of c) a s) cs xs)
+        (HasMark c s × Run text t (after_mark (effect_of c) s) cs (a ∷ xs))
+        → MatchBool step (IsRow text t s.now (Some c) b × Run text t (after_row (effect_of c) b s) cs ys)
+        (HasMark c s × Run text t (after_mark (effect_of c) s) cs (b ∷ ys)) → a ∷ xs ≡ b ∷ ys
     by_step true rest all h g =
         let same = row_unique text t s.now (Some c) a b utf8 h.0 g.0 in
         let there = subst (λ r. Run text t (after_row (effect_of c) r s) cs ys) (sym same) g.1 in
         ap (λ r. r ∷ xs) same ∙ ap (λ rs. b ∷ rs) (rest h.1 there)
     by_step false rest all h g = all h.1 g.1
 
-pub rows_unique : (text : List ℕ) (t : SourceType) (commands : List Command) (xs ys : List Row) → IsUtf8 text → AreRows text t commands xs → AreRows text t commands ys → xs ≡ ys
+pub rows_unique : (text : List ℕ) (t : SourceType) (commands : List Command) (xs ys : List Row) → IsUtf8 text
+    → AreRows text t commands xs → AreRows text t commands ys → xs ≡ ys
 rows_unique text t commands [] ys utf8 h g = absurd h
 rows_unique text t commands (a ∷ xs) [] utf8 h g = absurd g
 rows_unique text t commands (a ∷ xs) (b ∷ ys) utf8 h g =
@@ -104,14 +134,17 @@ rows_unique text t commands (a ∷ xs) (b ∷ ys) utf8 h g =
     let there = subst (λ r. Run text t (state_after_first r) commands ys) (sym same) g.1 in
     ap (λ r. r ∷ xs) same ∙ ap (λ rs. b ∷ rs) (run_unique text t (state_after_first a) commands xs ys utf8 h.1 there)
 
-same_report : (a b : Report) → a.rows ≡ b.rows → a.tokens ≡ b.tokens → a.collected ≡ b.collected → a.diagnostics ≡ b.diagnostics → a.deferred ≡ b.deferred → a.comments ≡ b.comments
+same_report : (a b : Report) → a.rows ≡ b.rows → a.tokens ≡ b.tokens → a.collected ≡ b.collected
+    → a.diagnostics ≡ b.diagnostics → a.deferred ≡ b.deferred → a.comments ≡ b.comments
     → a.irregular ≡ b.irregular → a ≡ b
 same_report a b e1 e2 e3 e4 e5 e6 e7 = rw (e1, e2, e3, e4, e5, e6, e7) refl
 
-pub report_unique : (source : List ℕ) (t : SourceType) (collects : Bool) (commands : List Command) (a b : Report) → ReportOf source t collects commands a → ReportOf source t collects commands b → a ≡ b
+pub report_unique : (source : List ℕ) (t : SourceType) (collects : Bool) (commands : List Command) (a b : Report)
+    → ReportOf source t collects commands a → ReportOf source t collects commands b → a ≡ b
 report_unique source t collects commands a b h g =
     let rows : a.rows ≡ b.rows = rows_unique source t commands a.rows b.rows h.utf8 h.rows g.rows in
     let lists = h.lists ∙ ap (live commands) rows ∙ sym g.lists in
     let tokens : a.tokens ≡ b.tokens = ap (λ l. l.tokens) lists in
-    same_report a b rows tokens (h.collected_are ∙ ap (all_collected collects) tokens ∙ sym g.collected_are) (ap (λ l. l.findings.diagnostics) lists)
+    same_report a b rows tokens (h.collected_are ∙ ap (all_collected collects) tokens ∙ sym g.collected_are)
+    (ap (λ l. l.findings.diagnostics) lists)
     (ap (λ l. l.findings.deferred) lists) (ap (λ l. l.findings.comments) lists) (ap (λ l. l.findings.irregular) lists)

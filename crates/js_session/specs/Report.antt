@@ -1,5 +1,6 @@
 -- What a session reports: which rows answer its commands, and what is live after them.
-use Rattle.std.specs.Prelude.{◌≡◌, ◌≢◌, ℕ, ◌<◌, ◌≤◌, ◌^◌, Bool, true, false, List, [], ◌∷◌, length, Option, Some, None, MatchBool}
+use Rattle.std.specs.Prelude.{◌≡◌, ◌≢◌, ℕ, ◌<◌, ◌≤◌, ◌^◌, Bool, true, false, List, [], ◌∷◌, length, Option, Some, None}
+use Rattle.std.specs.Prelude.{MatchBool}
 use Rattle.std.specs.List.{flat_map}
 use Rattle.std.specs.Str.{IsUtf8, IsCharBoundary}
 use Rattle.js_text.specs.declared.source_type.SourceType.{SourceType}
@@ -15,7 +16,8 @@ use Rattle.js_kind.specs.declared.kind.Kind.TheVariants.{Eof}
 use Rattle.js_lexer.specs.Lexer.{IsOnPlaces, collected, token_or_default}
 use Rattle.js_session.specs.Effects.{Effect, effect_of, row_effect, is_step, closes}
 use Rattle.js_session.specs.Effects.Effect.{reads, peeks, re_lexes, opens, rewinds, commits}
-use Rattle.js_session.specs.Live.{Live, State, outcome_of, row_findings, last_live, place_behind_last, after_row, after_mark, state_after_first, nothing_live, live, report_live}
+use Rattle.js_session.specs.Live.{Live, State, outcome_of, row_findings, last_live, place_behind_last, after_row}
+use Rattle.js_session.specs.Live.{after_mark, state_after_first, nothing_live, live, report_live}
 use Rattle.js_session.specs.declared.command.Command.{Command}
 use Rattle.js_session.specs.declared.report.Report.{Report}
 use Rattle.js_session.specs.declared.row.Row.{Row}

@@ -1,10 +1,12 @@
 //! Why there is no report, and the tests for it.
 
-ghost use Rattle.std.specs.Prelude.{◌≡◌, ◌+◌, ◌<◌, List, length, cond, codes, true, IfOk, IfErr, IfSome, IfNone, MatchOption};
+ghost use Rattle.std.specs.Prelude.{◌≡◌, ◌+◌, ◌<◌, List, length, cond, codes, true, IfOk, IfErr, IfSome, IfNone};
+ghost use Rattle.std.specs.Prelude.{MatchOption};
 ghost use Rattle.js_grammar.specs.Gap.{is_prefix};
 ghost use Rattle.js_session.specs.Effects.{opens_one, closes};
 ghost use Rattle.js_session.specs.declared.command.Command.{Command};
-ghost use Rattle.js_session.specs.Faults.{is_unbuilt_byte, is_unbuilt_at, FirstUnbuilt, IsBuilt, FirstWithoutMark, HasMarks, IsReadable, Cause};
+ghost use Rattle.js_session.specs.Faults.{is_unbuilt_byte, is_unbuilt_at, FirstUnbuilt, IsBuilt, FirstWithoutMark};
+ghost use Rattle.js_session.specs.Faults.{HasMarks, IsReadable, Cause};
 
 use crate::command::Command;
 

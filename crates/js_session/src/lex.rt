@@ -105,7 +105,8 @@ pub fn lex_session(
     ensures report { IfOk result (ReportOf source.now source_type tokens commands.now) }
     ensures slices { IfOk result (λ r. AllByRecursion (λ row. IsSliceOnPlaces source.now row.value) r.rows) }
     ensures ok { OnOk result (IsReadable source.now × HasMarks commands.now) }
-    // Each fault comes for its cause alone, and where its cause is there, nothing but a lack of memory comes in its place.
+    // Each fault comes for its cause alone, and where its cause is there, nothing but a lack of memory comes in its
+    // place.
     ensures cause { IfErr result (λ fault. (fault ≡ LexFault.Memory) ⊎ Cause source.now commands.now fault) }
     ensures exact { (fault : LexFault) → Cause source.now commands.now fault
         → (result ≡ Err fault) ⊎ (result ≡ Err LexFault.Memory) }

@@ -4,7 +4,8 @@ ghost use Rattle.std.specs.Prelude.{◌≡◌, ◌≤◌, [], length, drop, None
 ghost use Rattle.js_grammar.specs.Outcome.{reports};
 ghost use Rattle.js_grammar.specs.Spelling.{value_of};
 ghost use Rattle.js_lexer.specs.Lexer.{LexerState, ReadsToken, IsRestored, CanRewind, GoesOnFrom};
-ghost use Rattle.js_session.specs.RowReader.{RowReaderState, ReadsRow, AddsLive, AddsPeek, MayGoOn, IsUndone, GoesBack, IsMarkOf, GoesToMark};
+ghost use Rattle.js_session.specs.RowReader.{RowReaderState, ReadsRow, AddsLive, AddsPeek, MayGoOn, IsUndone, GoesBack};
+ghost use Rattle.js_session.specs.RowReader.{IsMarkOf, GoesToMark};
 
 use crate::command::Command;
 use crate::mark::SessionMark;

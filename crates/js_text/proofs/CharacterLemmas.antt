@@ -39,7 +39,12 @@ start_past_ascii c large =
 pub part_in_ascii : (c : ℕ) → c < 128 → is_identifier_part c ≡ (is_ascii_alphanumeric c || ((c == 36) || (c == 95)))
 unfolding is_identifier_part
 part_in_ascii c small =
-    rw (is_xid_continue-ascii c small, ne_eqb c 0x200C (λ e. omega arith), ne_eqb c 0x200D (λ e. omega arith), or_neither ((c == 36)) false false refl refl)
+    rw (
+      is_xid_continue-ascii c small,
+      ne_eqb c 0x200C (λ e. omega arith),
+      ne_eqb c 0x200D (λ e. omega arith),
+      or_neither ((c == 36)) false false refl refl,
+    )
     (or_last_first (is_ascii_alphanumeric c) (c == 95) (c == 36))
 
 -- past ASCII the class decides, but for two joiners

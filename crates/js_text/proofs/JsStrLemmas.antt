@@ -12,7 +12,8 @@ use Rattle.std.specs.Str.{chars, IsUtf8}
 use Rattle.js_text.specs.JsStr.{units_of, AddsPrefix}
 
 -- the units of the first characters are the first of the units
-pub adds_first : (all xs old new : List ℕ) → xs ≡ take (length xs) all → new ≡ old ++ units_of xs → AddsPrefix (units_of all) old new
+pub adds_first : (all xs old new : List ℕ) → xs ≡ take (length xs) all → new ≡ old ++ units_of xs
+    → AddsPrefix (units_of all) old new
 adds_first all xs old new e added = record {
   added = units_of xs;
   left = units_of (drop (length xs) all);
@@ -28,7 +29,8 @@ text_units units bytes text spelled =
     ap units_of (sym (chars_from_encodes spelled.0 bytes text (sym spelled.2))) ∙ sym spelled.1
 
 -- the same where the text may be missing
-pub text_found : {Z E : Type 0} (units : List ℕ) (r : Result (String Z) E) → IfOk r (λ s. IsUtf16Of units (string_bytes s))
+pub text_found : {Z E : Type 0} (units : List ℕ) (r : Result (String Z) E)
+    → IfOk r (λ s. IsUtf16Of units (string_bytes s))
     → IfSome (result_ok r) (λ s. units_of (chars (string_bytes s)) ≡ units)
 text_found units (Ok s) spelled = text_units units (string_bytes s) (IsUtf8-string_bytes s) spelled
 text_found units (Err e) spelled = tt

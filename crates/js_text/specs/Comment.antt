@@ -2,11 +2,16 @@
 use Rattle.std.specs.Prelude.{ℕ, ◌+◌, ◌-◌, ◌≤◌, Bool, true, false, List, codes}
 use Rattle.js_text.specs.declared.span.Span.{Span}
 use Rattle.js_text.specs.declared.comment.CommentKind.{CommentKind}
-use Rattle.js_text.specs.declared.comment.CommentKind.TheVariants.{Line, SingleLineBlock, MultiLineBlock, HtmlOpen, HtmlClose}
+use Rattle.js_text.specs.declared.comment.CommentKind.TheVariants.{Line, SingleLineBlock, MultiLineBlock, HtmlOpen}
+use Rattle.js_text.specs.declared.comment.CommentKind.TheVariants.{HtmlClose}
 use Rattle.js_text.specs.declared.comment.CommentPosition.{CommentPosition}
 use Rattle.js_text.specs.declared.comment.CommentPosition.TheVariants.{Leading, Trailing}
 use Rattle.js_text.specs.declared.comment.CommentContent.{CommentContent}
-use Rattle.js_text.specs.declared.comment.CommentContent.TheVariants.{None, Legal, Jsdoc, JsdocLegal, Pure, PureNotApplied, NoSideEffects, NoSideEffectsNotApplied, Webpack, Vite, CoverageIgnore, CoverageIgnoreFile, Turbopack, PropertyKey}
+use Rattle.js_text.specs.declared.comment.CommentContent.TheVariants.{None, Legal, Jsdoc, JsdocLegal, Pure}
+use Rattle.js_text.specs.declared.comment.CommentContent.TheVariants.{PureNotApplied, NoSideEffects}
+use Rattle.js_text.specs.declared.comment.CommentContent.TheVariants.{NoSideEffectsNotApplied, Webpack, Vite}
+use Rattle.js_text.specs.declared.comment.CommentContent.TheVariants.{CoverageIgnore, CoverageIgnoreFile, Turbopack}
+use Rattle.js_text.specs.declared.comment.CommentContent.TheVariants.{PropertyKey}
 
 -- the name of its variant
 abbrev pub comment_kind_name : CommentKind → List ℕ

@@ -1,7 +1,8 @@
 //! The classes of characters.
 
 ghost use Rattle.std.specs.Prelude.{◌≡◌};
-ghost use Rattle.js_text.specs.Characters.{is_identifier_start, is_identifier_part, is_line_terminator, is_irregular_whitespace, is_white_space};
+ghost use Rattle.js_text.specs.Characters.{is_identifier_start, is_identifier_part, is_line_terminator};
+ghost use Rattle.js_text.specs.Characters.{is_irregular_whitespace, is_white_space};
 
 /// Whether a name may begin with the character (ECMA-262 12.7, IdentifierStartChar).
 #[tactic(auto, using(crate::proofs::CharacterLemmas::start_in_ascii, crate::proofs::CharacterLemmas::start_past_ascii))]

@@ -2,7 +2,8 @@
 
 ghost use Rattle.std.specs.Prelude.{◌≡◌, not};
 ghost use Rattle.js_text.specs.CommentNewlines.{newlines_of};
-ghost use Rattle.js_text.specs.Comment.{comment_kind_name, comment_position_name, comment_content_name, is_line_kind, opening_length, closing_length, HoldsMarks, content_span};
+ghost use Rattle.js_text.specs.Comment.{comment_kind_name, comment_position_name, comment_content_name, is_line_kind};
+ghost use Rattle.js_text.specs.Comment.{opening_length, closing_length, HoldsMarks, content_span};
 
 use crate::comment_newlines::CommentNewlines;
 use crate::span::Span;

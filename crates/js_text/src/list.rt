@@ -1,6 +1,7 @@
 //! Lists that contracts see as lists.
 
-ghost use Rattle.std.specs.Prelude.{◌≡◌, ◌<◌, ◌↔◌, ◌==◌, List, [], ◌∷◌, ◌++◌, length, take, IsSome, IfOk, OnOk, OnErr, option_to_list};
+ghost use Rattle.std.specs.Prelude.{◌≡◌, ◌<◌, ◌↔◌, ◌==◌, List, [], ◌∷◌, ◌++◌, length, take, IsSome, IfOk, OnOk, OnErr};
+ghost use Rattle.std.specs.Prelude.{option_to_list};
 ghost use Rattle.js_text.specs.Lists.{with_last};
 
 use crate::comment::Comment;

@@ -27,7 +27,8 @@ impl Flags for RegExpFlags {
 
     ghost exact = { ⊤ };
 
-    ghost table = { (codes "G", 1) ∷ (codes "I", 2) ∷ (codes "M", 4) ∷ (codes "S", 8) ∷ (codes "U", 16) ∷ (codes "Y", 32) ∷ (codes "D", 64) ∷ (codes "V", 128) ∷ [] };
+    ghost table = { (codes "G", 1) ∷ (codes "I", 2) ∷ (codes "M", 4) ∷ (codes "S", 8) ∷ (codes "U", 16) ∷ (codes "Y", 32)
+        ∷ (codes "D", 64) ∷ (codes "V", 128) ∷ [] };
 
     ghost set_of = { flag_bits };
 

@@ -6,4 +6,5 @@ use Rattle.js_session.proofs.fault.first_unbuilt.Given as goal
 
 -- No unknown byte was met.
 abbrev pub invariant-loop-at : goal.invariant-loop-at
-invariant-loop-at l = (l.hashbang ≡ is_prefix (codes "#!") l.source) × ((i : ℕ) → i < l.at → is_unbuilt_at l.source i ≡ false)
+invariant-loop-at l =
+    (l.hashbang ≡ is_prefix (codes "#!") l.source) × ((i : ℕ) → i < l.at → is_unbuilt_at l.source i ≡ false)

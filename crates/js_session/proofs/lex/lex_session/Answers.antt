@@ -5,10 +5,15 @@ use Rattle.js_session.proofs.lex.lex_session.Goals as goal
 
 pub returns-clause-slices : goal.returns-clause-slices
 returns-clause-slices c =
-    IfOk-weaker c.lex_uncounted.result _ _ (λ r is. rows_slices c.args.source.now c.args.source_type c.args.commands.now r.rows is.rows) c.lex_uncounted.ensures.report
+    IfOk-weaker c.lex_uncounted.result _ _
+    (λ r is. rows_slices c.args.source.now c.args.source_type c.args.commands.now r.rows is.rows)
+    c.lex_uncounted.ensures.report
 
 pub returns-clause-exact : goal.returns-clause-exact
-returns-clause-exact c = λ fault is. exactly c.args.source.now c.args.commands.now c.lex_uncounted.result fault c.lex_uncounted.ensures.ok c.lex_uncounted.ensures.cause is
+returns-clause-exact c =
+    λ fault is. exactly c.args.source.now c.args.commands.now c.lex_uncounted.result fault c.lex_uncounted.ensures.ok
+    c.lex_uncounted.ensures.cause is
 
 pub returns-clause-complete : goal.returns-clause-complete
-returns-clause-complete c = completely c.args.source.now c.args.commands.now c.lex_uncounted.result c.lex_uncounted.ensures.cause
+returns-clause-complete c =
+    completely c.args.source.now c.args.commands.now c.lex_uncounted.result c.lex_uncounted.ensures.cause

@@ -12,11 +12,20 @@ returns-in_err-token-clause-err g c =
 
 pub returns-in_err-diagnostics-clause-err : goal.returns-in_err-diagnostics-clause-err
 returns-in_err-diagnostics-clause-err g c =
-    let p = err_from_is_err_and c.from_residual-in_err-diagnostics.result c.from_residual-in_err-diagnostics.ensures.1 in
+    let p =
+    err_from_is_err_and c.from_residual-in_err-diagnostics.result c.from_residual-in_err-diagnostics.ensures.1 in
     rw p.1 (reading_goes_on _ c.args.lexer.now c.read_token.new.lexer c.in_ok-token.token c.in_ok-token.ensures.ok)
 
 pub returns-clause-ok : goal.returns-clause-ok
 returns-clause-ok g c =
-    made_row c.args.goal c.args.command c.args.lexer.now c.read_token.new.lexer c.errors-reported.result.now c.read_token.new.lexer.findings.diagnostics _ c.offset-place.ensures.utf8
-    c.in_ok-token.ensures.ok c.errors-reported.ensures c.in_ok-diagnostics.ensures.nothing_else refl c.offset-place.ensures.place refl
-    (rw (c.value_of.ensures, c.in_ok-diagnostics.ensures.errors, c.new_in.ensures, c.new_in-2.ensures, c.new_in-3.ensures) refl)
+    made_row c.args.goal c.args.command c.args.lexer.now c.read_token.new.lexer c.errors-reported.result.now
+    c.read_token.new.lexer.findings.diagnostics _ c.offset-place.ensures.utf8
+    c.in_ok-token.ensures.ok c.errors-reported.ensures c.in_ok-diagnostics.ensures.nothing_else refl
+    c.offset-place.ensures.place refl
+    (rw (
+      c.value_of.ensures,
+      c.in_ok-diagnostics.ensures.errors,
+      c.new_in.ensures,
+      c.new_in-2.ensures,
+      c.new_in-3.ensures,
+    ) refl)

@@ -8,11 +8,13 @@ use Rattle.js_session.proofs.read.RowReader.add_row.Goals as goal
 pub go_back-requires-in-Err : goal.go_back-requires-in-Err
 go_back-requires-in-Err g c =
     can_rewind-on c.args.self.now.lexer c.read_on.new.self.lexer c.checkpoint-checkpoint.result
-    (subst (λ r. CanRewind r.lexer c.checkpoint-checkpoint.result) c.self.view_is c.checkpoint-checkpoint.ensures.open) c.in-Err.ensures.err.lexer
+    (subst (λ r. CanRewind r.lexer c.checkpoint-checkpoint.result) c.self.view_is c.checkpoint-checkpoint.ensures.open)
+    c.in-Err.ensures.err.lexer
 
 pub returns-then-is_peek-clause-ok : goal.returns-then-is_peek-clause-ok
 returns-then-is_peek-clause-ok g c =
     rw c.if-is_peek.true
-    (goes_back_peeks c.args.goal c.args.command c.args.self.now c.read_on.new.self c.go_back.new.self c.checkpoint-checkpoint.result c.len-live.result c.in-Ok.ensures.ok c.go_back.ensures
+    (goes_back_peeks c.args.goal c.args.command c.args.self.now c.read_on.new.self c.go_back.new.self
+    c.checkpoint-checkpoint.result c.len-live.result c.in-Ok.ensures.ok c.go_back.ensures
     (c.checkpoint-checkpoint.ensures.state ∙ ap (λ r. checkpoint_of r.lexer) c.self.view_is)
     (c.len-live.ensures ∙ ap (λ r. length r.tokens) c.self.view_is))

@@ -6,7 +6,9 @@ use Rattle.js_session.proofs.StepLemmas.{may_rewind, order_rewind, rewind_is, in
 use Rattle.js_session.proofs.session.Session.rewind.Goals as goal
 
 pub rewind-requires : goal.rewind-requires
-rewind-requires g c = may_rewind c.self.inside.reader c.self.inside.marks c.pop.new.self c.in-Some.mark c.in-Some.ensures.items c.self.invariant
+rewind-requires g c =
+    may_rewind c.self.inside.reader c.self.inside.marks c.pop.new.self c.in-Some.mark c.in-Some.ensures.items
+    c.self.invariant
 
 pub invariant_of-self : goal.invariant_of-self
 invariant_of-self g c =
@@ -20,4 +22,5 @@ returns-in-Some-clause-state g c =
     ∙ ap (after_command Rewind) c.self.view_is
 
 pub returns-in-Some-clause-places : goal.returns-in-Some-clause-places
-returns-in-Some-clause-places g c = in_order_lies c.rewind.new.self c.pop.new.self (reverse c.pop.new.self) (invariant_of-self g c)
+returns-in-Some-clause-places g c =
+    in_order_lies c.rewind.new.self c.pop.new.self (reverse c.pop.new.self) (invariant_of-self g c)

@@ -9,8 +9,10 @@ use Rattle.js_session.proofs.session.Session.step_next.Goals as goal
 pub invariant_of-self : goal.invariant_of-self
 invariant_of-self g c =
     either_way c.add_row.result c.add_row.ensures.ok c.add_row.ensures.err
-    (λ adds. order_added _ _ c.self.inside.reader c.add_row.new.self (reverse c.self.inside.marks) c.self.invariant adds)
-    (λ undone. order_undone c.self.inside.reader c.add_row.new.self (reverse c.self.inside.marks) c.self.invariant undone)
+    (λ adds. order_added _ _ c.self.inside.reader c.add_row.new.self
+    (reverse c.self.inside.marks) c.self.invariant adds)
+    (λ undone. order_undone c.self.inside.reader c.add_row.new.self
+    (reverse c.self.inside.marks) c.self.invariant undone)
 
 pub returns-clause-ok : goal.returns-clause-ok
 returns-clause-ok g c =
@@ -20,4 +22,5 @@ returns-clause-ok g c =
     c.add_row.ensures.ok
 
 pub returns-clause-places : goal.returns-clause-places
-returns-clause-places g c = in_order_lies c.add_row.new.self c.self.inside.marks (reverse c.self.inside.marks) (invariant_of-self g c)
+returns-clause-places g c =
+    in_order_lies c.add_row.new.self c.self.inside.marks (reverse c.self.inside.marks) (invariant_of-self g c)

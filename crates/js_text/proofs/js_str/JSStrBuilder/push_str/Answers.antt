@@ -12,7 +12,8 @@ returns-in_err-push-clause-err c =
     let characters = YieldsList-from_chars c.args.s.now c.utf8.s cc in
     let first = YieldsList-so_far characters c.loop-c.yielded _ c.loop-c.yielded_by in
     let so_far : AddsPrefix (units_of (chars c.args.s.now)) c.args.self.now c.push.new.self =
-    adds_first (chars c.args.s.now) c.loop-c.yielded _ _ (sym (map-id c.loop-c.yielded) ∙ first) (c.in_err-push.ensures.err ∙ c.loop-c.invariant) in
+    adds_first (chars c.args.s.now) c.loop-c.yielded _ _ (sym (map-id c.loop-c.yielded) ∙ first)
+    (c.in_err-push.ensures.err ∙ c.loop-c.invariant) in
     let fault = err_from_is_err_and c.from_residual.result c.from_residual.ensures.1 in
     rw fault.1 so_far
 
