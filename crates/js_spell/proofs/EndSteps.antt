@@ -36,11 +36,10 @@ bad_end_read old mid skipped new before after c start end h k first past bad mov
     let over : xs ≡ invalid_end (rest old) = ap invalid_end (sym here) in
     let from : InvalidNumberEnd (record { start = start; end = end })
         ≡ InvalidNumberEnd (record { start = old.place; end = end }) =
-        ap (λ (p : ℕ). InvalidNumberEnd (record { start = p; end = end })) s in
+    ap (λ (p : ℕ). InvalidNumberEnd (record { start = p; end = end })) s in
     let to : InvalidNumberEnd (record { start = old.place; end = end }) ≡ invalid_number_end old.place (rest old) =
-        ap (λ (q : ℕ). InvalidNumberEnd (record { start = old.place; end = q }))
-            (e ∙ place ∙ ap (place_behind old.place) over) in
-    (
+    ap (λ (q : ℕ). InvalidNumberEnd (record { start = old.place; end = q }))
+        (e ∙ place ∙ ap (place_behind old.place) over) in (
       ap (begins may_not_follow_number) here ∙ bad,
       ended ∙ moved ∙ step.0,
       nothing,
@@ -70,12 +69,12 @@ bad_number_read old mid new before during after g kind h k cut end =
     let number = number_items (rest old) in
     let bad = read_badly old.place number (ap (begins may_not_follow_number) cut.left ∙ end.0) in
     let place : mid.place ≡ place_behind old.place (items_text number.items) =
-        elim cut.here [
-          inl none ↦
-              (let not : begins may_not_follow_number (rest mid) ≡ false = ap (begins may_not_follow_number) none in
-              absurd (clash (rest mid) end.0 not))
-        | inr here ↦ leads_to old mid (items_text number.items) h k cut.text here
-        ] in
+    elim cut.here [
+      | inl none ↦
+          (let not : begins may_not_follow_number (rest mid) ≡ false = ap (begins may_not_follow_number) none in
+          absurd (clash (rest mid) end.0 not))
+      | inr here ↦ leads_to old mid (items_text number.items) h k cut.text here
+    ] in
     record {
       text = end.1 ∙ cut.text;
       added = missing_digits old.place number.items ++ (invalid_number_end mid.place (rest mid) ∷ []);

@@ -41,8 +41,8 @@ pub short_leads : (text : List ℕ) → begins (λ c. c == full_stop) text ≡ f
 short_leads [] no_point h = other_leads [] no_point refl
 short_leads (c ∷ cs) no_point h =
     elim (true_or_false (c == digit_zero)) [
-      inl zero ↦ zero_leads (c ∷ cs) no_point zero (ap base_at h.1) (ap (begins (is_digit_of 10)) h.1)
-    | inr none ↦ other_leads (c ∷ cs) no_point none
+      | inl zero ↦ zero_leads (c ∷ cs) no_point zero (ap base_at h.1) (ap (begins (is_digit_of 10)) h.1)
+      | inr none ↦ other_leads (c ∷ cs) no_point none
     ]
 
 -- a text whose first byte is not `0`
@@ -52,11 +52,11 @@ pub first_leads : (a b : ℕ) (text : List ℕ) → begins (λ c. c == full_stop
 first_leads a b [] no_point other h = absurd h
 first_leads a b (c ∷ cs) no_point other h =
     elim (true_or_false (c == digit_zero)) [
-      inl zero ↦ (
-        let is : c ≡ 48 = eqb-true c digit_zero zero in
-        let same : c ≡ a = h.0.1 (omega arith) in
-        absurd (other (sym same ∙ is)))
-    | inr none ↦ other_leads (c ∷ cs) no_point none
+      | inl zero ↦ (
+          let is : c ≡ 48 = eqb-true c digit_zero zero in
+          let same : c ≡ a = h.0.1 (omega arith) in
+          absurd (other (sym same ∙ is)))
+      | inr none ↦ other_leads (c ∷ cs) no_point none
     ]
 
 -- the letters of bases are ASCII characters
@@ -82,35 +82,35 @@ second_leads lead b [] no_point h with_b = absurd h
 second_leads lead b (z ∷ []) no_point h with_b = absurd (h.1 (omega arith))
 second_leads (LedByPrefix prefix) b (z ∷ c ∷ cs) no_point h with_b =
     elim (true_or_false (ltb b 128)) [
-      inl low ↦ (
-        let same : c ≡ b = (h.1 (omega arith)).0 (ltb-true b 128 low) in
-        record
-            { letter = c; behind = cs; here = ap (λ d. d ∷ c ∷ cs) (first z b c cs h); base =
-            ap base_of same ∙ with_b })
-    | inr wide ↦ (let none = wide_names_no_base b (ltb-false b 128 wide) in absurd (cc))
+      | inl low ↦ (
+          let same : c ≡ b = (h.1 (omega arith)).0 (ltb-true b 128 low) in
+          record
+              { letter = c; behind = cs; here = ap (λ d. d ∷ c ∷ cs) (first z b c cs h); base =
+              ap base_of same ∙ with_b })
+      | inr wide ↦ (let none = wide_names_no_base b (ltb-false b 128 wide) in absurd (cc))
     ]
 second_leads Legacy b (z ∷ c ∷ cs) no_point h with_b =
     elim (true_or_false (ltb b 128)) [
-      inl low ↦ (
-        let same : c ≡ b = (h.1 (omega arith)).0 (ltb-true b 128 low) in
-        let digit : is_digit_of 10 c ≡ true = ap (is_digit_of 10) same ∙ with_b in
-        legacy_leads (z ∷ c ∷ cs) no_point (zero_first z b c cs h) (digit_names_no_base c digit) digit)
-    | inr wide ↦ (let none = wide_is_no_digit 10 b (omega arith) (ltb-false b 128 wide) in absurd (cc))
+      | inl low ↦ (
+          let same : c ≡ b = (h.1 (omega arith)).0 (ltb-true b 128 low) in
+          let digit : is_digit_of 10 c ≡ true = ap (is_digit_of 10) same ∙ with_b in
+          legacy_leads (z ∷ c ∷ cs) no_point (zero_first z b c cs h) (digit_names_no_base c digit) digit)
+      | inr wide ↦ (let none = wide_is_no_digit 10 b (omega arith) (ltb-false b 128 wide) in absurd (cc))
     ]
 second_leads DecimalLead b (z ∷ c ∷ cs) no_point h with_b =
     let zero = zero_first z b c cs h in
     elim (true_or_false (ltb b 128)) [
-      inl low ↦ (
-        let same : c ≡ b = (h.1 (omega arith)).0 (ltb-true b 128 low) in
-        zero_leads (z ∷ c ∷ cs) no_point zero (ap base_of same ∙ with_b.0) (ap (is_digit_of 10) same ∙ with_b.1))
-    | inr wide ↦ elim (true_or_false (ltb c 128)) [
-        inl near ↦ (
-          let same : c ≡ b = (h.1 (omega arith)).1 (ltb-true c 128 near) in
-          let le : 128 ≤ b = ltb-false b 128 wide in
-          let lt : c < 128 = ltb-true c 128 near in
-          absurd (omega arith))
-      | inr far ↦
-          zero_leads (z ∷ c ∷ cs) no_point zero (wide_names_no_base c (ltb-false c 128 far))
-          (wide_is_no_digit 10 c (omega arith) (ltb-false c 128 far))
+      | inl low ↦ (
+          let same : c ≡ b = (h.1 (omega arith)).0 (ltb-true b 128 low) in
+          zero_leads (z ∷ c ∷ cs) no_point zero (ap base_of same ∙ with_b.0) (ap (is_digit_of 10) same ∙ with_b.1))
+      | inr wide ↦ elim (true_or_false (ltb c 128)) [
+        | inl near ↦ (
+            let same : c ≡ b = (h.1 (omega arith)).1 (ltb-true c 128 near) in
+            let le : 128 ≤ b = ltb-false b 128 wide in
+            let lt : c < 128 = ltb-true c 128 near in
+            absurd (omega arith))
+        | inr far ↦
+            zero_leads (z ∷ c ∷ cs) no_point zero (wide_names_no_base c (ltb-false c 128 far))
+            (wide_is_no_digit 10 c (omega arith) (ltb-false c 128 far))
       ]
     ]

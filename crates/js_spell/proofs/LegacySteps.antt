@@ -69,16 +69,16 @@ module _ (octal : List Bool) (old mid : At) (tells : TellsDigits 8 octal)
       let later : rest mid ≡ more.run ++ rest new =
           more.here ∙ ap (λ t. more.run ++ from_place t new.place) (sym moved) in
       let here : rest old ≡ (run.run ++ more.run) ++ rest new =
-          first_here ∙ ap (λ t. run.run ++ t) later ∙ sym (append_assoc run.run more.run (rest new)) in
+      first_here ∙ ap (λ t. run.run ++ t) later ∙ sym (append_assoc run.run more.run (rest new)) in
       let none = stops_digits 10 decimal (rest new) (omega arith) told end in
       let other = stops_digits 8 octal (rest mid) (omega arith) tells stops in
       let first = octal_digits run.run (run_digits 8 octal run.run tells run.all) in
       let all : are_digits 10 (run.run ++ more.run) ≡ true =
-          digits_append 10 run.run more.run ∙ ap (λ b. b && are_digits 10 more.run) first
-              ∙ run_digits 10 decimal more.run told more.all in
+      digits_append 10 run.run more.run ∙ ap (λ b. b && are_digits 10 more.run) first
+          ∙ run_digits 10 decimal more.run told more.all in
       let some : are_digits 8 more.run ≡ false =
-          not_octal more.run (rest new) (ap (begins (is_digit_of 10)) (sym later) ∙ digit) none
-              (ap (begins (is_digit_of 8)) (sym later) ∙ other) in
+      not_octal more.run (rest new) (ap (begins (is_digit_of 10)) (sym later) ∙ digit) none
+          (ap (begins (is_digit_of 8)) (sym later) ∙ other) in
       record {
         text = moved ∙ text;
         characters = run.run ++ more.run;
@@ -115,7 +115,7 @@ legacy_decimal_read old mid new before after f g kind p q passed end =
     let some : are_digits 8 (plain_digits (rest old)).text ≡ false =
         ap (λ (i : Item). are_digits 8 i.text) passed.item ∙ passed.octal in
     let found : legacy_items (rest old) ≡ items-cons (whole passed.characters (rest mid)) (behind_digits (rest mid)) =
-        legacy_decimal_items (rest old) some ∙ ap (λ (i : Item). items-cons i (behind_digits i.rest)) passed.item in
+    legacy_decimal_items (rest old) some ∙ ap (λ (i : Item). items-cons i (behind_digits i.rest)) passed.item in
     rw found (record {
       items =
           items_append old mid new before before after f f g (whole passed.characters (rest mid) ∷ [])

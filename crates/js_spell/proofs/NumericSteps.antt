@@ -62,19 +62,23 @@ tells_digits radix table e n = record { ascii = alone; tells = told }
     entry : (b : ℕ) → b < 256 → matches_at table b ≡ (ltb b 128 && is_digit_of radix b)
     entry b h =
         same_true (matches_at table b) (ltb b 128 && is_digit_of radix b) (below (tells_digit radix table) 256 b e h)
+
     low : (x y : Bool) → y ≡ true → (y && x) ≡ x
     low x true t = refl
     low x false t = absurd (cc)
+
     high : (x y : Bool) → y ≡ false → (y && x) ≡ false
     high x true t = absurd (cc)
     high x false t = refl
+
     told : (b : ℕ) → b < 128 → matches_at table b ≡ is_digit_of radix b
     told b h = entry b (omega arith) ∙ low (is_digit_of radix b) (ltb b 128) (grind (arith, nat_tests))
+
     alone : HasAscii table
     alone b h =
         elim (true_or_false (ltb b 256)) [
-          inl is ↦ entry b (ltb-true b 256 is) ∙ high (is_digit_of radix b) (ltb b 128) (grind (arith, nat_tests))
-        | inr no_entry ↦ get_or-eq_default table false (omega (arith, ltb-false b 256 no_entry))
+          | inl is ↦ entry b (ltb-true b 256 is) ∙ high (is_digit_of radix b) (ltb b 128) (grind (arith, nat_tests))
+          | inr no_entry ↦ get_or-eq_default table false (omega (arith, ltb-false b 256 no_entry))
         ]
 
 pub radix_is_small : (digits : Digits) → radix_of_digits digits ≤ 16
@@ -87,8 +91,8 @@ radix_is_small Hex = omega arith
 pub wide_is_no_digit : (radix c : ℕ) → radix ≤ 16 → 128 ≤ c → is_digit_of radix c ≡ false
 wide_is_no_digit radix c small h =
     elim (true_or_false (is_digit_of radix c)) [
-      inl is ↦ (let low = digit_is_ascii c (digit_more radix 16 c small is) in absurd (omega arith))
-    | inr none ↦ none
+      | inl is ↦ (let low = digit_is_ascii c (digit_more radix 16 c small is) in absurd (omega arith))
+      | inr none ↦ none
     ]
 
 -- the table tells whether a digit is next
@@ -98,17 +102,17 @@ pub first_digit : (radix : ℕ) (table : List Bool) (b : ℕ) (cs : List ℕ) �
 first_digit radix table b [] small tells h = absurd h
 first_digit radix table b (c ∷ cs) small tells h =
     elim (true_or_false (ltb b 128)) [
-      inl low ↦ (
-        let lt : b < 128 = ltb-true b 128 low in
-        tells.tells b lt ∙ ap (is_digit_of radix) (sym (h.0 lt)))
-    | inr wide ↦ (
-        let ge : 128 ≤ b = ltb-false b 128 wide in
-        elim (true_or_false (ltb c 128)) [
-          inl low ↦
-              (let is : c ≡ b = h.1 (ltb-true c 128 low) in let lt : c < 128 = ltb-true c 128 low in
-              absurd (omega arith))
-        | inr far ↦ tells.ascii b ge ∙ sym (wide_is_no_digit radix c small (ltb-false c 128 far))
-        ])
+      | inl low ↦ (
+          let lt : b < 128 = ltb-true b 128 low in
+          tells.tells b lt ∙ ap (is_digit_of radix) (sym (h.0 lt)))
+      | inr wide ↦ (
+          let ge : 128 ≤ b = ltb-false b 128 wide in
+          elim (true_or_false (ltb c 128)) [
+            | inl low ↦
+                (let is : c ≡ b = h.1 (ltb-true c 128 low) in let lt : c < 128 = ltb-true c 128 low in
+                absurd (omega arith))
+            | inr far ↦ tells.ascii b ge ∙ sym (wide_is_no_digit radix c small (ltb-false c 128 far))
+          ])
     ]
 
 pub stops_digits : (radix : ℕ) (table : List Bool) (cs : List ℕ) → radix ≤ 16 → TellsDigits radix table
@@ -116,8 +120,8 @@ pub stops_digits : (radix : ℕ) (table : List Bool) (cs : List ℕ) → radix �
 stops_digits radix table [] small tells e = refl
 stops_digits radix table (c ∷ cs) small tells e =
     elim (true_or_false (ltb c 128)) [
-      inl low ↦ sym (tells.tells c (ltb-true c 128 low)) ∙ e
-    | inr wide ↦ wide_is_no_digit radix c small (ltb-false c 128 wide)
+      | inl low ↦ sym (tells.tells c (ltb-true c 128 low)) ∙ e
+      | inr wide ↦ wide_is_no_digit radix c small (ltb-false c 128 wide)
     ]
 
 separator_is_no_digit : (radix : ℕ) → radix ≤ 16 → is_digit_of radix 95 ≡ false
@@ -127,11 +131,11 @@ separator_is_no_digit radix small = grind (arith, nat_tests)
 digit_is_no_separator : (radix b : ℕ) → radix ≤ 16 → is_digit_of radix b ≡ true → (b == low_line) ≡ false
 digit_is_no_separator radix b small e =
     elim (true_or_false (b == low_line)) [
-      inl is ↦ (
-        let none : is_digit_of radix b ≡ false =
-            ap (is_digit_of radix) (eqb-true b low_line is) ∙ separator_is_no_digit radix small in
-        absurd (cc))
-    | inr other ↦ other
+      | inl is ↦ (
+          let none : is_digit_of radix b ≡ false =
+              ap (is_digit_of radix) (eqb-true b low_line is) ∙ separator_is_no_digit radix small in
+          absurd (cc))
+      | inr other ↦ other
     ]
 
 -- digits of the table, and what stands behind them
@@ -432,11 +436,11 @@ missing_digits-append place (x ∷ xs) ys =
     let end = place_behind place x.text in
     let later : missing_digits end (xs ++ ys)
         ≡ missing_digits end xs ++ missing_digits (place_behind place (x.text ++ items_text xs)) ys =
-        missing_digits-append end xs ys
-        ∙ ap (λ p. missing_digits end xs ++ missing_digits p ys) (place_behind-append place x.text (items_text xs)) in
+    missing_digits-append end xs ys
+    ∙ ap (λ p. missing_digits end xs ++ missing_digits p ys) (place_behind-append place x.text (items_text xs)) in
     elim (true_or_false x.lacks_digit) [
-      inl lacks ↦ rw lacks (ap (λ t. missing_digit end x.rest ∷ t) later)
-    | inr none ↦ rw none later
+      | inl lacks ↦ rw lacks (ap (λ t. missing_digit end x.rest ∷ t) later)
+      | inr none ↦ rw none later
     ]
 
 pub items_append : (old mid new : At) (before during after : List Diagnostic) (f g h : Bool) (xs ys : List Item)
@@ -493,6 +497,7 @@ sign_has_no_separator mark sign is = rw (not_low_line mark is) (by_sign sign)
     not_low_line mark is =
         elim (is_exponent mark is)
         [ inl small ↦ ap (λ d. d == low_line) small | inr large ↦ ap (λ d. d == low_line) large ]
+
     by_sign : (sign : Sign) → contains_separator (sign_text sign) ≡ false
     by_sign no_sign = refl
     by_sign plus = refl
@@ -500,7 +505,7 @@ sign_has_no_separator mark sign is = rw (not_low_line mark is) (by_sign sign)
 
 exponent_items_of : (mark : ℕ) (sign : Sign) (text : List ℕ) → exponent_items mark sign text
     ≡ items-cons (whole (mark ∷ sign_text sign) (drop (length (sign_text sign)) text))
-      (last_item (sign_kind sign) (run 10 (drop (length (sign_text sign)) text)))
+    (last_item (sign_kind sign) (run 10 (drop (length (sign_text sign)) text)))
 unfolding exponent_items
 exponent_items_of mark sign text = refl
 
@@ -519,16 +524,16 @@ pub exponent_read : (old marked signed new : At) (before after : List Diagnostic
     → ReadsEnd old new before after f g kind (exponent_or without (rest old))
 exponent_read old marked signed new before after f g is_whole without kind h k taken sign digits =
     let found : exponent_or without (rest old) ≡ exponent_items taken.mark (sign_of (rest marked)) (rest marked) =
-        ap (exponent_or without) taken.read.here ∙ exponent_there without taken.mark (rest marked) taken.is in
+    ap (exponent_or without) taken.read.here ∙ exponent_there without taken.mark (rest marked) taken.is in
     let xs = taken.mark ∷ sign_text (sign_of (rest marked)) in
     let here : rest old ≡ xs ++ rest signed = taken.read.here ∙ ap (λ t. taken.mark ∷ t) sign.here in
     let first = whole_item_read old signed before f xs (rest signed) (sign.text ∙ taken.read.text) here
-        (sign_has_no_separator taken.mark (sign_of (rest marked)) taken.is) in
+    (sign_has_no_separator taken.mark (sign_of (rest marked)) taken.is) in
     let all =
         items_append old signed new before before after f f g (whole xs (rest signed) ∷ [])
         (run 10 (rest signed) ∷ []) h k first digits.items in
     rw (found, exponent_items_of taken.mark (sign_of (rest marked)) (rest marked), sign.left)
-      (record { items = all; left = digits.left; kind_is = sign.kind_is })
+    (record { items = all; left = digits.left; kind_is = sign.kind_is })
 
 pub breaks_later : (old mid new : At) (before during after : List Diagnostic) → mid.text ≡ old.text → during ≡ before
     → BreaksOff mid new during after → BreaksOff old new before after
@@ -655,8 +660,8 @@ pub suffix_read : (old new : At) (reports : List Diagnostic) (flag : Bool) (big 
     → ReadsEnd old new reports reports flag flag big (suffix_or big without (rest old))
 suffix_read old new reports flag big without read =
     let found : suffix_or big without (rest old) ≡ last_item big (whole (codes "n") (rest new)) =
-        suffix_there big without (rest old) (ap (begins (λ c. c == 110)) read.here)
-            ∙ ap (λ t. last_item big (whole (codes "n") (drop 1 t))) read.here in
+    suffix_there big without (rest old) (ap (begins (λ c. c == 110)) read.here)
+        ∙ ap (λ t. last_item big (whole (codes "n") (drop 1 t))) read.here in
     rw found (record {
       items = whole_item_read old new reports flag (codes "n") (rest new) read.text read.here refl;
       left = refl;

@@ -78,13 +78,13 @@ pub prefix_plain_read : (base : Base) (old mid : At) (before after : List Diagno
 prefix_plain_read base old mid before after f g p q digits none =
     prefix_end_read base old mid mid before after after f g g base.kind p q digits
     (no_suffix_read mid mid after after g g base.big_kind base.kind (no_items base.kind (rest mid)) none
-      (record { items = no_items_read mid after g; left = refl; kind_is = refl }))
+    (record { items = no_items_read mid after g; left = refl; kind_is = refl }))
 
 named_is_no_separator : (c : ℕ) (base : Base) → base_of c ≡ Some base → (c == low_line) ≡ false
 named_is_no_separator c base e =
     elim (true_or_false (c == low_line)) [
-      inl same ↦ (let none : base_of c ≡ None = ap base_of (eqb-true c low_line same) in absurd (cc))
-    | inr other ↦ other
+      | inl same ↦ (let none : base_of c ≡ None = ap base_of (eqb-true c low_line same) in absurd (cc))
+      | inr other ↦ other
     ]
 
 -- a prefix, and what stands behind it
@@ -99,8 +99,8 @@ prefixed_read prefix old mid new before after f g kind h k p text behind cut =
     let more = behind_base base (rest mid) in
     let here : rest old ≡ xs ++ rest mid = p.here ∙ ap (λ t. digit_zero ∷ p.letter ∷ t) (sym behind) in
     let found : number_items (rest old) ≡ items-cons (whole xs (rest mid)) more =
-        ap number_items here ∙ number_zero (xs ++ rest mid) refl refl ∙ ap (λ b. zero_items b (xs ++ rest mid)) p.base
-            ∙ zero_base base (xs ++ rest mid) in
+    ap number_items here ∙ number_zero (xs ++ rest mid) refl refl ∙ ap (λ b. zero_items b (xs ++ rest mid)) p.base
+        ∙ zero_base base (xs ++ rest mid) in
     let place = leads_to old mid xs h k text here in
     let plain = named_is_no_separator p.letter base p.base in
     rw found (record {
@@ -119,8 +119,8 @@ pub pointed_read : (old mid new : At) (before after : List Diagnostic) (f g : Bo
         → ReadsCut old new before after f g Float (number_items (rest old))
 pointed_read old mid new before after f g h k read part =
     rw (number_point (rest old) (ap (begins (λ c. c == full_stop)) read.here))
-      (cut_of_end old new before after f g Float (point_items (rest old))
-          (point_read old mid new before after f g h k read part))
+    (cut_of_end old new before after f g Float (point_items (rest old))
+        (point_read old mid new before after f g h k read part))
 
 -- a number of a lead
 pub led_read : (old new : At) (before after : List Diagnostic) (f g : Bool) (kind : Kind) (number : Items)

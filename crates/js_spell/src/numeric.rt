@@ -102,10 +102,7 @@ fn pass_digits(source: &mut Source<'_>, digits: Digits) -> Passed
 
 /// Reports that a digit is missing where the source stands.
 #[inline(never)]
-fn report_missing_digit(
-    source: &Source<'_>,
-    errors: &mut DiagnosticList,
-) -> Result<(), AllocError>
+fn report_missing_digit(source: &Source<'_>, errors: &mut DiagnosticList) -> Result<(), AllocError>
     ensures ok { OnOk result (errors.new ≡ errors.old ++ missing_digit source.now.place (rest source.now) ∷ []) }
     ensures err { OnErr result (errors.new ≡ errors.old) }
 {
@@ -436,10 +433,7 @@ fn may_not_follow(c: char) -> bool
 }
 
 /// Reads what follows a number and may not, and all that is left of the source, if such a text is next; and tells so.
-fn read_bad_end(
-    source: &mut Source<'_>,
-    errors: &mut DiagnosticList,
-) -> Result<bool, AllocError>
+fn read_bad_end(source: &mut Source<'_>, errors: &mut DiagnosticList) -> Result<bool, AllocError>
     requires { IsPlaced source.old }
     ensures ok { IfOk result (λ is_bad. ReadsBadEnd source.old source.new errors.old errors.new is_bad) }
     ensures err { OnErr result (BreaksOff source.old source.new errors.old errors.new) }

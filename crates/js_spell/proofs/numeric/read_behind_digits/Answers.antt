@@ -19,9 +19,9 @@ returns-clause-ok c =
     if_ok_map c.read_exponent_or.result _ _
     (λ kind end. behind_other_read c.args.source.now c.read_exponent_or.new.source c.args.errors.now
         c.read_exponent_or.new.errors
-      c.args.has_separator.now c.read_exponent_or.new.has_separator kind none.0
-      (subst
-          (λ (at : At). ReadsEnd at c.read_exponent_or.new.source c.args.errors.now c.read_exponent_or.new.errors
-          c.args.has_separator.now
-        c.read_exponent_or.new.has_separator kind (exponent_or Decimal (rest at))) none.1 end))
+    c.args.has_separator.now c.read_exponent_or.new.has_separator kind none.0
+    (subst
+        (λ (at : At). ReadsEnd at c.read_exponent_or.new.source c.args.errors.now c.read_exponent_or.new.errors
+        c.args.has_separator.now
+    c.read_exponent_or.new.has_separator kind (exponent_or Decimal (rest at))) none.1 end))
     c.read_exponent_or.ensures.ok

@@ -18,4 +18,4 @@ returns-clause-ok c =
     (subst
         (λ (at : At). ReadsRun 10 at c.read_run.new.source c.args.errors.now c.read_run.new.errors
         c.args.has_separator.now
-      c.read_run.new.has_separator c.in_ok-read_run.field-0) none.1 c.in_ok-read_run.ensures.ok)
+    c.read_run.new.has_separator c.in_ok-read_run.field-0) none.1 c.in_ok-read_run.ensures.ok)

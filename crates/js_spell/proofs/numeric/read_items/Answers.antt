@@ -23,12 +23,12 @@ returns-in-Prefix-clause-ok c =
     let second = c.next_char-in-Prefix.ensures.past _ _ first.1 in
     if_ok_map c.read_behind_prefix.result _ _
     (λ kind cut.
-      subst
-          (λ (at : At). ReadsCut at c.read_behind_prefix.new.source c.args.errors.now c.read_behind_prefix.new.errors
-          c.args.has_separator.now
-        c.read_behind_prefix.new.has_separator kind (number_items (rest at))) none.1
-      (prefixed_read c.in-Prefix.prefix start mid c.read_behind_prefix.new.source c.args.errors.now
-          c.read_behind_prefix.new.errors
-        c.args.has_separator.now c.read_behind_prefix.new.has_separator kind c.advance_if_ascii_eq.ensures.placed
-        c.next_char-in-Prefix.ensures.placed prefix (second.0 ∙ first.0) second.1 cut))
+    subst
+        (λ (at : At). ReadsCut at c.read_behind_prefix.new.source c.args.errors.now c.read_behind_prefix.new.errors
+        c.args.has_separator.now
+    c.read_behind_prefix.new.has_separator kind (number_items (rest at))) none.1
+    (prefixed_read c.in-Prefix.prefix start mid c.read_behind_prefix.new.source c.args.errors.now
+        c.read_behind_prefix.new.errors
+    c.args.has_separator.now c.read_behind_prefix.new.has_separator kind c.advance_if_ascii_eq.ensures.placed
+    c.next_char-in-Prefix.ensures.placed prefix (second.0 ∙ first.0) second.1 cut))
     c.read_behind_prefix.ensures.ok

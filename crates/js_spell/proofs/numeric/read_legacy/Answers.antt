@@ -11,8 +11,8 @@ pub returns-clause-ok : goal.returns-clause-ok
 returns-clause-ok c =
     if_ok_map c.read_behind_digits.result _ _
     (λ kind end.
-      legacy_decimal_read c.args.source.now c.pass_plain_digits.new.source c.read_behind_digits.new.source
-          c.args.errors.now
-      c.read_behind_digits.new.errors c.args.has_separator.now c.read_behind_digits.new.has_separator kind c.requires
-      c.pass_plain_digits.ensures.placed c.if-pass_plain_digits.ensures.passes end)
+    legacy_decimal_read c.args.source.now c.pass_plain_digits.new.source c.read_behind_digits.new.source
+        c.args.errors.now
+    c.read_behind_digits.new.errors c.args.has_separator.now c.read_behind_digits.new.has_separator kind c.requires
+    c.pass_plain_digits.ensures.placed c.if-pass_plain_digits.ensures.passes end)
     c.read_behind_digits.ensures.ok
