@@ -26,7 +26,7 @@ pub bad_end_read : (old mid skipped new : At) (before after : List Diagnostic) (
     → rest mid ≡ before_first is_no_start (rest mid) ++ rest skipped → new.text ≡ skipped.text → rest new ≡ []
     → start ≡ old.place → end ≡ skipped.place
     → after ≡ before ++ (InvalidNumberEnd (record { start = start; end = end }) ∷ [])
-        → ReadsBadEnd old new before after true
+    → ReadsBadEnd old new before after true
 bad_end_read old mid skipped new before after c start end h k first past bad moved passed ended nothing s e reports =
     let step = past c (drop 1 (rest old)) (split c (rest old) first) in
     let here : rest old ≡ c ∷ rest mid = split c (rest old) first ∙ ap (λ t. c ∷ t) (sym step.1) in
@@ -35,11 +35,11 @@ bad_end_read old mid skipped new before after c start end h k first past bad mov
     let place = leads_to old skipped xs h k (moved ∙ step.0) whole in
     let over : xs ≡ invalid_end (rest old) = ap invalid_end (sym here) in
     let from : InvalidNumberEnd (record { start = start; end = end })
-        ≡ InvalidNumberEnd (record { start = old.place; end = end }) =
+    ≡ InvalidNumberEnd (record { start = old.place; end = end }) =
     ap (λ (p : ℕ). InvalidNumberEnd (record { start = p; end = end })) s in
     let to : InvalidNumberEnd (record { start = old.place; end = end }) ≡ invalid_number_end old.place (rest old) =
     ap (λ (q : ℕ). InvalidNumberEnd (record { start = old.place; end = q }))
-        (e ∙ place ∙ ap (place_behind old.place) over) in (
+    (e ∙ place ∙ ap (place_behind old.place) over) in (
       ap (begins may_not_follow_number) here ∙ bad,
       ended ∙ moved ∙ step.0,
       nothing,

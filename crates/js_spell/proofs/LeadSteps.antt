@@ -25,13 +25,13 @@ other_leads text no_point none = number_decimal text no_point none
 -- `0` with no base and no digit behind it too
 zero_leads : (text : List ℕ) → begins (λ c. c == full_stop) text ≡ false → begins (λ c. c == digit_zero) text ≡ true
     → base_at (drop 1 text) ≡ None → begins (is_digit_of 10) (drop 1 text) ≡ false
-        → number_items text ≡ decimal_items text
+    → number_items text ≡ decimal_items text
 zero_leads text no_point zero none other =
     number_zero text no_point zero ∙ ap (λ b. zero_items b text) none ∙ zero_decimal text other
 
 legacy_leads : (text : List ℕ) → begins (λ c. c == full_stop) text ≡ false → begins (λ c. c == digit_zero) text ≡ true
     → base_at (drop 1 text) ≡ None → begins (is_digit_of 10) (drop 1 text) ≡ true
-        → number_items text ≡ legacy_items text
+    → number_items text ≡ legacy_items text
 legacy_leads text no_point zero none digit =
     number_zero text no_point zero ∙ ap (λ b. zero_items b text) none ∙ zero_legacy text digit
 
@@ -62,8 +62,14 @@ first_leads a b (c ∷ cs) no_point other h =
 -- the letters of bases are ASCII characters
 wide_names_no_base : (c : ℕ) → 128 ≤ c → base_of c ≡ None
 wide_names_no_base c h =
-    rw (differs c 98 (omega arith), differs c 66 (omega arith), differs c 111 (omega arith),
-        differs c 79 (omega arith), differs c 120 (omega arith), differs c 88 (omega arith)) refl
+    rw (
+      differs c 98 (omega arith),
+      differs c 66 (omega arith),
+      differs c 111 (omega arith),
+      differs c 79 (omega arith),
+      differs c 120 (omega arith),
+      differs c 88 (omega arith),
+    ) refl
   where
     differs : (c mark : ℕ) → mark < c → (c == mark) ≡ false
     differs c mark h = grind (arith, nat_tests)
@@ -84,9 +90,13 @@ second_leads (LedByPrefix prefix) b (z ∷ c ∷ cs) no_point h with_b =
     elim (true_or_false (ltb b 128)) [
       | inl low ↦ (
           let same : c ≡ b = (h.1 (omega arith)).0 (ltb-true b 128 low) in
-          record
-              { letter = c; behind = cs; here = ap (λ d. d ∷ c ∷ cs) (first z b c cs h); base =
-              ap base_of same ∙ with_b })
+          record {
+            letter = c;
+            behind = cs;
+            here = ap (λ d. d ∷ c ∷ cs) (first z b c cs h);
+            base =
+                ap base_of same ∙ with_b;
+          })
       | inr wide ↦ (let none = wide_names_no_base b (ltb-false b 128 wide) in absurd (cc))
     ]
 second_leads Legacy b (z ∷ c ∷ cs) no_point h with_b =

@@ -63,11 +63,11 @@ module _ (octal : List Bool) (old mid : At) (tells : TellsDigits 8 octal)
   pub passes_decimal : (decimal : List Bool) → TellsDigits 10 decimal → (new : At) → new.text ≡ mid.text
       → (more : PassesRun decimal mid.text mid.place new.place)
       → begins (matches_at octal) (rest mid) ≡ false → begins (is_digit_of 10) (rest mid) ≡ true
-          → begins (matches_at decimal) (rest new) ≡ false
+      → begins (matches_at decimal) (rest new) ≡ false
       → PassesPlainDigits old false new
   passes_decimal decimal told new moved more stops digit end =
       let later : rest mid ≡ more.run ++ rest new =
-          more.here ∙ ap (λ t. more.run ++ from_place t new.place) (sym moved) in
+      more.here ∙ ap (λ t. more.run ++ from_place t new.place) (sym moved) in
       let here : rest old ≡ (run.run ++ more.run) ++ rest new =
       first_here ∙ ap (λ t. run.run ++ t) later ∙ sym (append_assoc run.run more.run (rest new)) in
       let none = stops_digits 10 decimal (rest new) (omega arith) told end in
@@ -75,10 +75,10 @@ module _ (octal : List Bool) (old mid : At) (tells : TellsDigits 8 octal)
       let first = octal_digits run.run (run_digits 8 octal run.run tells run.all) in
       let all : are_digits 10 (run.run ++ more.run) ≡ true =
       digits_append 10 run.run more.run ∙ ap (λ b. b && are_digits 10 more.run) first
-          ∙ run_digits 10 decimal more.run told more.all in
+      ∙ run_digits 10 decimal more.run told more.all in
       let some : are_digits 8 more.run ≡ false =
       not_octal more.run (rest new) (ap (begins (is_digit_of 10)) (sym later) ∙ digit) none
-          (ap (begins (is_digit_of 8)) (sym later) ∙ other) in
+      (ap (begins (is_digit_of 8)) (sym later) ∙ other) in
       record {
         text = moved ∙ text;
         characters = run.run ++ more.run;
@@ -98,9 +98,9 @@ pub legacy_octal_read : (old new : At) (reports : List Diagnostic) (flag : Bool)
     → ReadsEnd old new reports reports flag flag Octal (legacy_items (rest old))
 legacy_octal_read old new reports flag p =
     let octal : are_digits 8 (plain_digits (rest old)).text ≡ true =
-        ap (λ (i : Item). are_digits 8 i.text) p.item ∙ p.octal in
+    ap (λ (i : Item). are_digits 8 i.text) p.item ∙ p.octal in
     let found : legacy_items (rest old) ≡ last_item Octal (whole p.characters (rest new)) =
-        legacy_octal_items (rest old) octal ∙ ap (last_item Octal) p.item in
+    legacy_octal_items (rest old) octal ∙ ap (last_item Octal) p.item in
     rw found (record {
       items = whole_item_read old new reports flag p.characters (rest new) p.text p.here p.separator;
       left = refl;
@@ -113,15 +113,15 @@ pub legacy_decimal_read : (old mid new : At) (before after : List Diagnostic) (f
     → ReadsEnd old new before after f g kind (legacy_items (rest old))
 legacy_decimal_read old mid new before after f g kind p q passed end =
     let some : are_digits 8 (plain_digits (rest old)).text ≡ false =
-        ap (λ (i : Item). are_digits 8 i.text) passed.item ∙ passed.octal in
+    ap (λ (i : Item). are_digits 8 i.text) passed.item ∙ passed.octal in
     let found : legacy_items (rest old) ≡ items-cons (whole passed.characters (rest mid)) (behind_digits (rest mid)) =
     legacy_decimal_items (rest old) some ∙ ap (λ (i : Item). items-cons i (behind_digits i.rest)) passed.item in
     rw found (record {
       items =
           items_append old mid new before before after f f g (whole passed.characters (rest mid) ∷ [])
-              (behind_digits (rest mid)).items p q
+          (behind_digits (rest mid)).items p q
           (whole_item_read old mid before f passed.characters (rest mid) passed.text passed.here passed.separator)
-              end.items;
+          end.items;
       left = end.left;
       kind_is = end.kind_is;
     })

@@ -133,7 +133,7 @@ digit_is_no_separator radix b small e =
     elim (true_or_false (b == low_line)) [
       | inl is ↦ (
           let none : is_digit_of radix b ≡ false =
-              ap (is_digit_of radix) (eqb-true b low_line is) ∙ separator_is_no_digit radix small in
+          ap (is_digit_of radix) (eqb-true b low_line is) ∙ separator_is_no_digit radix small in
           absurd (cc))
       | inr other ↦ other
     ]
@@ -197,8 +197,8 @@ module _ (radix : ℕ) (table : List Bool) (old mid : At) (small : radix ≤ 16)
     item =
         behind_run
         ∙ ap (prepend run.run)
-            (stopped radix (rest mid)
-            (record { digit = stops_digits radix table (rest mid) small tells end; separator = none }))
+        (stopped radix (rest mid)
+        (record { digit = stops_digits radix table (rest mid) small tells end; separator = none }))
         ∙ ap (λ xs. whole xs (rest mid)) (append-nil run.run);
     separator = no_separator radix table run.run small tells run.all;
   }
@@ -215,7 +215,7 @@ module _ (radix : ℕ) (table : List Bool) (old mid : At) (small : radix ≤ 16)
         ∙ ap (λ t. prepend run.run (digits_on radix t)) read.here
         ∙ ap (prepend run.run) (separator_goes_on radix (rest new) small digit)
         ∙ ap (λ xs. record (digits_on radix (rest new)) { text = xs })
-            (sym (append_assoc run.run (low_line ∷ []) (digits_on radix (rest new)).text));
+        (sym (append_assoc run.run (low_line ∷ []) (digits_on radix (rest new)).text));
     separator = with_separator;
   }
 
@@ -252,7 +252,7 @@ prepend_behind Broken radix xs ys left = refl
 pub groups_go_on : (radix : ℕ) (old mid new : At) (passed : Passed) (before flag after : Bool)
     → PassesGroups radix old Separator mid before flag
     → PassesDigits radix mid passed new → after ≡ (flag || passed_separator passed)
-        → PassesGroups radix old passed new before after
+    → PassesGroups radix old passed new before after
 groups_go_on radix old mid new passed before flag after groups digits e =
     record {
       text = digits.text ∙ groups.text;
@@ -265,7 +265,7 @@ groups_go_on radix old mid new passed before flag after groups digits e =
           ∙ prepend_behind passed radix groups.characters digits.characters (rest new);
       separator =
           e ∙ ap (λ b. flag || b) (sym digits.separator)
-              ∙ ap (λ b. b || contains_separator digits.characters) groups.separator
+          ∙ ap (λ b. b || contains_separator digits.characters) groups.separator
           ∙ or_assoc before (contains_separator groups.characters) (contains_separator digits.characters)
           ∙ ap (λ b. before || b) (sym (any_append (λ c. c == low_line) groups.characters digits.characters));
     }
@@ -292,9 +292,12 @@ flag_set b = or_true b
 pub separator_shortens : (radix : ℕ) (old new : At) → PassesDigits radix old Separator new
     → length (rest new) < length (rest old)
 separator_shortens radix old new digits =
-    omega
-        (arith, ap length digits.here, length-append digits.characters (rest new),
-        some digits.characters digits.separator)
+    omega (
+      arith,
+      ap length digits.here,
+      length-append digits.characters (rest new),
+      some digits.characters digits.separator,
+    )
   where
     some : (xs : List ℕ) → contains_separator xs ≡ true → 0 < length xs
     some [] e = absurd (cc)
@@ -306,7 +309,7 @@ pub leads_to : (old new : At) (xs : List ℕ) → IsPlaced old → IsPlaced new 
     → new.place ≡ place_behind old.place xs
 leads_to old new xs h g text e =
     let there : IsCharBoundary old.text new.place =
-        subst (λ (u : List ℕ). IsCharBoundary u new.place) text g.boundary in
+    subst (λ (u : List ℕ). IsCharBoundary u new.place) text g.boundary in
     place_past old.text old.place new.place xs h.utf8 h.boundary there (e ∙ ap (λ u. xs ++ from_place u new.place) text)
 
 -- a run, as it is read of what was passed
@@ -351,7 +354,7 @@ pub run_broken_read : (radix : ℕ) (old new : At) (reports more : List Diagnost
     → begins (is_digit_of radix) (rest old) ≡ true
     → PassesGroups radix old Broken new before after → IsPlaced old → IsPlaced new
     → more ≡ reports ++ (missing_digit new.place (rest new) ∷ [])
-        → ReadsRun radix old new reports more before after false
+    → ReadsRun radix old new reports more before after false
 run_broken_read radix old new reports more before after digit groups h g e =
     let item = run_item radix old (broken groups.characters (rest new)) digit groups.item in
     let place = leads_to old new groups.characters h g groups.text groups.here in
@@ -430,12 +433,12 @@ items_text-append (x ∷ xs) ys =
 
 missing_digits-append : (place : ℕ) (xs ys : List Item)
     → missing_digits place (xs ++ ys)
-        ≡ missing_digits place xs ++ missing_digits (place_behind place (items_text xs)) ys
+    ≡ missing_digits place xs ++ missing_digits (place_behind place (items_text xs)) ys
 missing_digits-append place [] ys = ap (λ p. missing_digits p ys) (sym (add-zero place))
 missing_digits-append place (x ∷ xs) ys =
     let end = place_behind place x.text in
     let later : missing_digits end (xs ++ ys)
-        ≡ missing_digits end xs ++ missing_digits (place_behind place (x.text ++ items_text xs)) ys =
+    ≡ missing_digits end xs ++ missing_digits (place_behind place (x.text ++ items_text xs)) ys =
     missing_digits-append end xs ys
     ∙ ap (λ p. missing_digits end xs ++ missing_digits p ys) (place_behind-append place x.text (items_text xs)) in
     elim (true_or_false x.lacks_digit) [
@@ -446,7 +449,7 @@ missing_digits-append place (x ∷ xs) ys =
 pub items_append : (old mid new : At) (before during after : List Diagnostic) (f g h : Bool) (xs ys : List Item)
     → IsPlaced old → IsPlaced mid
     → ReadsItems old mid before during f g xs → ReadsItems mid new during after g h ys
-        → ReadsItems old new before after f h (xs ++ ys)
+    → ReadsItems old new before after f h (xs ++ ys)
 items_append old mid new before during after f g h xs ys old_placed mid_placed a b =
     let place = leads_to old mid (items_text xs) old_placed mid_placed a.text a.here in
     record {
@@ -458,14 +461,14 @@ items_append old mid new before during after f g h xs ys old_placed mid_placed a
           b.reports ∙ ap (λ t. t ++ missing_digits mid.place ys) a.reports
           ∙ append_assoc before (missing_digits old.place xs) (missing_digits mid.place ys)
           ∙ ap (λ t. before ++ t)
-              (ap (λ p. missing_digits old.place xs ++ missing_digits p ys) place
-              ∙ sym (missing_digits-append old.place xs ys));
+          (ap (λ p. missing_digits old.place xs ++ missing_digits p ys) place
+          ∙ sym (missing_digits-append old.place xs ys));
       separator =
           b.separator ∙ ap (λ flag. flag || contains_separator (items_text ys)) a.separator
           ∙ either_assoc f (contains_separator (items_text xs)) (contains_separator (items_text ys))
           ∙ ap (λ flag. f || flag)
-              (sym (any_append (λ c. c == low_line) (items_text xs) (items_text ys))
-              ∙ ap contains_separator (sym (items_text-append xs ys)));
+          (sym (any_append (λ c. c == low_line) (items_text xs) (items_text ys))
+          ∙ ap contains_separator (sym (items_text-append xs ys)));
     }
   where
     either_assoc : (a b c : Bool) → ((a || b) || c) ≡ (a || (b || c))
@@ -515,12 +518,12 @@ pub no_exponent_read : (old : At) (reports : List Diagnostic) (flag : Bool) (wit
     → ReadsEnd old old reports reports flag flag without (exponent_or without (rest old))
 no_exponent_read old reports flag without none =
     rw (exponent_missing without (rest old) none)
-        (record { items = no_items_read old reports flag; left = refl; kind_is = refl })
+    (record { items = no_items_read old reports flag; left = refl; kind_is = refl })
 
 pub exponent_read : (old marked signed new : At) (before after : List Diagnostic) (f g is_whole : Bool)
     (without kind : Kind)
     → IsPlaced old → IsPlaced signed → TakesExponentMark old marked → TakesSign marked signed kind
-        → ReadsRun 10 signed new before after f g is_whole
+    → ReadsRun 10 signed new before after f g is_whole
     → ReadsEnd old new before after f g kind (exponent_or without (rest old))
 exponent_read old marked signed new before after f g is_whole without kind h k taken sign digits =
     let found : exponent_or without (rest old) ≡ exponent_items taken.mark (sign_of (rest marked)) (rest marked) =
@@ -530,8 +533,8 @@ exponent_read old marked signed new before after f g is_whole without kind h k t
     let first = whole_item_read old signed before f xs (rest signed) (sign.text ∙ taken.read.text) here
     (sign_has_no_separator taken.mark (sign_of (rest marked)) taken.is) in
     let all =
-        items_append old signed new before before after f f g (whole xs (rest signed) ∷ [])
-        (run 10 (rest signed) ∷ []) h k first digits.items in
+    items_append old signed new before before after f f g (whole xs (rest signed) ∷ [])
+    (run 10 (rest signed) ∷ []) h k first digits.items in
     rw (found, exponent_items_of taken.mark (sign_of (rest marked)) (rest marked), sign.left)
     (record { items = all; left = digits.left; kind_is = sign.kind_is })
 
@@ -561,10 +564,10 @@ pub fraction_read : (old mid new : At) (before during after : List Diagnostic) (
     → IsPlaced old → IsPlaced mid
     → begins (is_digit_of 10) (rest old) ≡ true → ReadsRun 10 old mid before during f g is_whole
     → ReadsEnd mid new during after g h kind (exponent_or Float (rest mid))
-        → ReadsPart old new before after f h (fraction_items (rest old))
+    → ReadsPart old new before after f h (fraction_items (rest old))
 fraction_read old mid new before during after f g h is_whole kind p q digit digits end =
     let later : ReadsEnd mid new during after g h kind (exponent_or Float (run 10 (rest old)).rest) =
-        rw digits.left end in
+    rw digits.left end in
     rw (fraction_there (rest old) digit) (record {
       items =
           items_append old mid new before during after f g h (run 10 (rest old) ∷ [])
@@ -575,7 +578,7 @@ fraction_read old mid new before during after f g h is_whole kind p q digit digi
 pub no_fraction_read : (old new : At) (before after : List Diagnostic) (f g : Bool) (kind : Kind)
     → begins (is_digit_of 10) (rest old) ≡ false
     → ReadsEnd old new before after f g kind (exponent_or Float (rest old))
-        → ReadsPart old new before after f g (fraction_items (rest old))
+    → ReadsPart old new before after f g (fraction_items (rest old))
 no_fraction_read old new before after f g kind none end =
     rw (fraction_missing (rest old) none) (record { items = end.items; left = end.left })
 
@@ -583,7 +586,7 @@ no_fraction_read old new before after f g kind none end =
 pub point_read : (old mid new : At) (before after : List Diagnostic) (f g : Bool) → IsPlaced old → IsPlaced mid
     → Reads old mid full_stop
     → ReadsPart mid new before after f g (fraction_items (rest mid))
-        → ReadsEnd old new before after f g Float (point_items (rest old))
+    → ReadsEnd old new before after f g Float (point_items (rest old))
 point_read old mid new before after f g p q read part =
     let first = whole_item_read old mid before f (codes ".") (rest mid) read.text read.here refl in
     rw (read.here, point_items_of (rest mid)) (record {
@@ -595,15 +598,15 @@ point_read old mid new before after f g p q read part =
 pub behind_point_read : (old mid new : At) (before after : List Diagnostic) (f g : Bool) → IsPlaced old → IsPlaced mid
     → Reads old mid full_stop
     → ReadsPart mid new before after f g (fraction_items (rest mid))
-        → ReadsEnd old new before after f g Float (behind_digits (rest old))
+    → ReadsEnd old new before after f g Float (behind_digits (rest old))
 behind_point_read old mid new before after f g p q read part =
     rw (behind_digits_point (rest old) (ap (begins (λ c. c == full_stop)) read.here))
-        (point_read old mid new before after f g p q read part)
+    (point_read old mid new before after f g p q read part)
 
 pub behind_other_read : (old new : At) (before after : List Diagnostic) (f g : Bool) (kind : Kind)
     → begins (λ c. c == full_stop) (rest old) ≡ false
     → ReadsEnd old new before after f g kind (exponent_or variant.Decimal (rest old))
-        → ReadsEnd old new before after f g kind (behind_digits (rest old))
+    → ReadsEnd old new before after f g kind (behind_digits (rest old))
 behind_other_read old new before after f g kind none end = rw (behind_digits_other (rest old) none) end
 
 pub if_ok_map : {T E : Type 0} (r : Result T E) (P Q : T → Type 0) → ((x : T) → P x → Q x) → IfOk r P → IfOk r Q
@@ -615,8 +618,8 @@ pub zero_read : (old new : At) (reports : List Diagnostic) (flag : Bool) → Rea
     → ReadsInteger old new reports reports flag flag
 zero_read old new reports flag read =
     let item : integer (rest old) ≡ whole (codes "0") (rest new) =
-        integer_zero (rest old) (ap (begins (λ c. c == digit_zero)) read.here)
-        ∙ ap (λ t. whole (codes "0") (drop 1 t)) read.here in
+    integer_zero (rest old) (ap (begins (λ c. c == digit_zero)) read.here)
+    ∙ ap (λ t. whole (codes "0") (drop 1 t)) read.here in
     record {
       items = rw item (whole_item_read old new reports flag (codes "0") (rest new) read.text read.here refl);
       left = ap (λ (i : Item). i.rest) item;
@@ -641,12 +644,12 @@ decimal_items_of text = refl
 pub decimal_read : (old mid new : At) (before during after : List Diagnostic) (f g h : Bool) (kind : Kind)
     → IsPlaced old → IsPlaced mid
     → ReadsInteger old mid before during f g
-        → ReadsEnd mid new during after g h kind (suffix_or DecimalBigInt (behind_digits (rest mid)) (rest mid))
+    → ReadsEnd mid new during after g h kind (suffix_or DecimalBigInt (behind_digits (rest mid)) (rest mid))
     → ReadsEnd old new before after f h kind (decimal_items (rest old))
 decimal_read old mid new before during after f g h kind p q first end =
     let left = (integer (rest old)).rest in
     let later : ReadsEnd mid new during after g h kind (suffix_or DecimalBigInt (behind_digits left) left) =
-        rw first.left end in
+    rw first.left end in
     rw (decimal_items_of (rest old)) (record {
       items =
           items_append old mid new before during after f g h (integer (rest old) ∷ [])
@@ -661,7 +664,7 @@ pub suffix_read : (old new : At) (reports : List Diagnostic) (flag : Bool) (big 
 suffix_read old new reports flag big without read =
     let found : suffix_or big without (rest old) ≡ last_item big (whole (codes "n") (rest new)) =
     suffix_there big without (rest old) (ap (begins (λ c. c == 110)) read.here)
-        ∙ ap (λ t. last_item big (whole (codes "n") (drop 1 t))) read.here in
+    ∙ ap (λ t. last_item big (whole (codes "n") (drop 1 t))) read.here in
     rw found (record {
       items = whole_item_read old new reports flag (codes "n") (rest new) read.text read.here refl;
       left = refl;

@@ -35,7 +35,7 @@ cut_of_end old new before after f g kind number end = record {
 pub prefix_broken_read : (base : Base) (old mid new : At) (before after : List Diagnostic) (f g : Bool)
     → new.text ≡ mid.text → rest new ≡ []
     → ReadsRun base.radix old mid before after f g false
-        → ReadsCut old new before after f g Eof (behind_base base (rest old))
+    → ReadsCut old new before after f g Eof (behind_base base (rest old))
 prefix_broken_read base old mid new before after f g text none digits =
     rw (behind_prefix_broken base (run base.radix (rest old)) digits.whole_run) (record {
       text = text ∙ digits.items.text;
@@ -54,10 +54,10 @@ prefix_end_read : (base : Base) (old mid new : At) (before during after : List D
 prefix_end_read base old mid new before during after f g h kind p q digits end =
     let item = run base.radix (rest old) in
     let later : ReadsEnd mid new during after g h kind
-        (suffix_or base.big_kind (no_items base.kind item.rest) item.rest) = rw digits.left end in
+    (suffix_or base.big_kind (no_items base.kind item.rest) item.rest) = rw digits.left end in
     let more = suffix_or base.big_kind (no_items base.kind item.rest) item.rest in
     rw (behind_prefix_whole base item digits.whole_run)
-        (cut_of_end old new before after f h kind (items-cons item more) (record {
+    (cut_of_end old new before after f h kind (items-cons item more) (record {
       items = items_append old mid new before during after f g h (item ∷ []) more.items p q digits.items later.items;
       left = later.left;
       kind_is = later.kind_is;
@@ -66,7 +66,7 @@ prefix_end_read base old mid new before during after f g h kind p q digits end =
 pub prefix_big_read : (base : Base) (old mid new : At) (before after : List Diagnostic) (f g : Bool) → IsPlaced old
     → IsPlaced mid
     → ReadsRun base.radix old mid before after f g true → Reads mid new 110
-        → ReadsCut old new before after f g base.big_kind (behind_base base (rest old))
+    → ReadsCut old new before after f g base.big_kind (behind_base base (rest old))
 prefix_big_read base old mid new before after f g p q digits read =
     prefix_end_read base old mid new before after after f g g base.big_kind p q digits
     (suffix_read mid new after g base.big_kind (no_items base.kind (rest mid)) read)
@@ -100,7 +100,7 @@ prefixed_read prefix old mid new before after f g kind h k p text behind cut =
     let here : rest old ≡ xs ++ rest mid = p.here ∙ ap (λ t. digit_zero ∷ p.letter ∷ t) (sym behind) in
     let found : number_items (rest old) ≡ items-cons (whole xs (rest mid)) more =
     ap number_items here ∙ number_zero (xs ++ rest mid) refl refl ∙ ap (λ b. zero_items b (xs ++ rest mid)) p.base
-        ∙ zero_base base (xs ++ rest mid) in
+    ∙ zero_base base (xs ++ rest mid) in
     let place = leads_to old mid xs h k text here in
     let plain = named_is_no_separator p.letter base p.base in
     rw found (record {
@@ -116,11 +116,11 @@ prefixed_read prefix old mid new before after f g kind h k p text behind cut =
 pub pointed_read : (old mid new : At) (before after : List Diagnostic) (f g : Bool) → IsPlaced old → IsPlaced mid
     → Reads old mid full_stop
     → ReadsPart mid new before after f g (fraction_items (rest mid))
-        → ReadsCut old new before after f g Float (number_items (rest old))
+    → ReadsCut old new before after f g Float (number_items (rest old))
 pointed_read old mid new before after f g h k read part =
     rw (number_point (rest old) (ap (begins (λ c. c == full_stop)) read.here))
     (cut_of_end old new before after f g Float (point_items (rest old))
-        (point_read old mid new before after f g h k read part))
+    (point_read old mid new before after f g h k read part))
 
 -- a number of a lead
 pub led_read : (old new : At) (before after : List Diagnostic) (f g : Bool) (kind : Kind) (number : Items)

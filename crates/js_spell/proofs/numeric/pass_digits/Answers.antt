@@ -7,9 +7,9 @@ pub returns-then-not-advance_if_ascii_eq-clause-passes : goal.returns-then-not-a
 returns-then-not-advance_if_ascii_eq-clause-passes c =
     let cases = c.if-not-advance_if_ascii_eq.ensures.cases in
     rw cases.1
-        (passes_whole (radix_of_digits c.args.digits) c.table_of.result.now c.args.source.now c.pass_ascii.new.self
+    (passes_whole (radix_of_digits c.args.digits) c.table_of.result.now c.args.source.now c.pass_ascii.new.self
     (radix_is_small c.args.digits) c.table_of.ensures c.pass_ascii.ensures.text c.pass_ascii.ensures.run
-        c.pass_ascii.ensures.stops cases.0)
+    c.pass_ascii.ensures.stops cases.0)
 
 pub returns-then-begins_digit-clause-passes : goal.returns-then-begins_digit-clause-passes
 returns-then-begins_digit-clause-passes c =

@@ -9,6 +9,6 @@ groups-preserved c = record {
   passes =
       groups_go_on (radix_of_digits c.args.digits) c.args.source.now c.groups.source c.pass_digits.new.source Separator
       c.args.has_separator.now c.groups.has_separator true c.groups.invariant.passes c.in-Separator.ensures.passes
-          (flag_set c.groups.has_separator);
+      (flag_set c.groups.has_separator);
   placed = c.pass_digits.ensures.placed;
 }

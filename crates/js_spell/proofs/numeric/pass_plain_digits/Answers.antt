@@ -10,7 +10,7 @@ returns-then-not-begins_digit-clause-passes c =
 pub returns-clause-passes : goal.returns-clause-passes
 returns-clause-passes c =
     passes_decimal c.table_of.result.now c.args.source.now c.pass_ascii.new.self c.table_of.ensures
-        c.pass_ascii.ensures.text
+    c.pass_ascii.ensures.text
     c.pass_ascii.ensures.run c.table_of-2.result.now c.table_of-2.ensures c.pass_ascii-2.new.self
-        c.pass_ascii-2.ensures.text c.pass_ascii-2.ensures.run
+    c.pass_ascii-2.ensures.text c.pass_ascii-2.ensures.run
     c.pass_ascii.ensures.stops (sym c.if-not-begins_digit.ensures) c.pass_ascii-2.ensures.stops

@@ -9,7 +9,7 @@ returns-then-not-is_whole-clause-ok c =
     let base = base_of_prefix c.args.prefix in
     let mid = c.read_run.new.source in
     let digits : ReadsRun base.radix c.args.source.now mid c.args.errors.now c.read_run.new.errors
-        c.args.has_separator.now
+    c.args.has_separator.now
     c.read_run.new.has_separator c.in_ok-is_whole.is_whole =
     subst (λ (r : ℕ). ReadsRun r c.args.source.now mid c.args.errors.now c.read_run.new.errors c.args.has_separator.now
     c.read_run.new.has_separator c.in_ok-is_whole.is_whole) c.digits.ensures c.in_ok-is_whole.ensures.ok in
@@ -22,13 +22,13 @@ returns-then-advance_if_ascii_eq-clause-ok c =
     let base = base_of_prefix c.args.prefix in
     let mid = c.read_run.new.source in
     let digits : ReadsRun base.radix c.args.source.now mid c.args.errors.now c.read_run.new.errors
-        c.args.has_separator.now
+    c.args.has_separator.now
     c.read_run.new.has_separator c.in_ok-is_whole.is_whole =
     subst (λ (r : ℕ). ReadsRun r c.args.source.now mid c.args.errors.now c.read_run.new.errors c.args.has_separator.now
     c.read_run.new.has_separator c.in_ok-is_whole.is_whole) c.digits.ensures c.in_ok-is_whole.ensures.ok in
     rw c.big_kind.ensures
-        (prefix_big_read base c.args.source.now mid c.advance_if_ascii_eq.new.self c.args.errors.now
-        c.read_run.new.errors
+    (prefix_big_read base c.args.source.now mid c.advance_if_ascii_eq.new.self c.args.errors.now
+    c.read_run.new.errors
     c.args.has_separator.now c.read_run.new.has_separator c.requires c.read_run.ensures.placed
     (rw c.if-not-is_whole.false at digits) c.if-advance_if_ascii_eq.ensures.cases)
 
@@ -38,7 +38,7 @@ returns-clause-ok c =
     let mid = c.read_run.new.source in
     let none = c.if-advance_if_ascii_eq.ensures.cases in
     let digits : ReadsRun base.radix c.args.source.now mid c.args.errors.now c.read_run.new.errors
-        c.args.has_separator.now
+    c.args.has_separator.now
     c.read_run.new.has_separator c.in_ok-is_whole.is_whole =
     subst (λ (r : ℕ). ReadsRun r c.args.source.now mid c.args.errors.now c.read_run.new.errors c.args.has_separator.now
     c.read_run.new.has_separator c.in_ok-is_whole.is_whole) c.digits.ensures c.in_ok-is_whole.ensures.ok in

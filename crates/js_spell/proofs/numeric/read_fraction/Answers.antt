@@ -5,15 +5,15 @@ use Rattle.js_spell.proofs.numeric.read_fraction.Goals as goal
 pub returns-then-not-begins_digit-clause-ok : goal.returns-then-not-begins_digit-clause-ok
 returns-then-not-begins_digit-clause-ok c =
     no_fraction_read c.args.source.now c.read_exponent_or.new.source c.args.errors.now c.read_exponent_or.new.errors
-        c.args.has_separator.now
+    c.args.has_separator.now
     c.read_exponent_or.new.has_separator c.in_ok-read_exponent_or.field-0
-        (sym c.if-not-begins_digit.ensures) c.in_ok-read_exponent_or.ensures.ok
+    (sym c.if-not-begins_digit.ensures) c.in_ok-read_exponent_or.ensures.ok
 
 pub returns-clause-ok : goal.returns-clause-ok
 returns-clause-ok c =
     fraction_read c.args.source.now c.read_run.new.source c.read_exponent_or-2.new.source c.args.errors.now
-        c.read_run.new.errors
+    c.read_run.new.errors
     c.read_exponent_or-2.new.errors c.args.has_separator.now c.read_run.new.has_separator
-        c.read_exponent_or-2.new.has_separator
+    c.read_exponent_or-2.new.has_separator
     c.in_ok-read_run.field-0 c.in_ok-read_exponent_or-2.field-0 c.requires c.read_run.ensures.placed
     (sym c.if-not-begins_digit.ensures) c.in_ok-read_run.ensures.ok c.in_ok-read_exponent_or-2.ensures.ok

@@ -5,14 +5,14 @@ use Rattle.js_spell.proofs.numeric.read_legacy.Goals as goal
 pub returns-then-pass_plain_digits-clause-ok : goal.returns-then-pass_plain_digits-clause-ok
 returns-then-pass_plain_digits-clause-ok c =
     legacy_octal_read c.args.source.now c.pass_plain_digits.new.source c.args.errors.now c.args.has_separator.now
-        c.if-pass_plain_digits.ensures.passes
+    c.if-pass_plain_digits.ensures.passes
 
 pub returns-clause-ok : goal.returns-clause-ok
 returns-clause-ok c =
     if_ok_map c.read_behind_digits.result _ _
     (λ kind end.
     legacy_decimal_read c.args.source.now c.pass_plain_digits.new.source c.read_behind_digits.new.source
-        c.args.errors.now
+    c.args.errors.now
     c.read_behind_digits.new.errors c.args.has_separator.now c.read_behind_digits.new.has_separator kind c.requires
     c.pass_plain_digits.ensures.placed c.if-pass_plain_digits.ensures.passes end)
     c.read_behind_digits.ensures.ok

@@ -4,13 +4,13 @@ use Rattle.js_spell.proofs.numeric.read_number.Goals as goal
 pub returns-then-is_bad-clause-ok : goal.returns-then-is_bad-clause-ok
 returns-then-is_bad-clause-ok c =
     bad_number_read c.args.source.now c.read_items.new.source c.read_bad_end.new.source c.args.errors.now
-        c.read_items.new.errors
+    c.read_items.new.errors
     c.read_bad_end.new.errors c.read_items.new.has_separator c.in_ok-kind.kind c.requires c.read_items.ensures.placed
     c.in_ok-kind.ensures.ok (rw c.if-is_bad.true at c.in_ok-is_bad.ensures.ok)
 
 pub returns-clause-ok : goal.returns-clause-ok
 returns-clause-ok c =
     good_number_read c.args.source.now c.read_items.new.source c.read_bad_end.new.source c.args.errors.now
-        c.read_items.new.errors
+    c.read_items.new.errors
     c.read_bad_end.new.errors c.read_items.new.has_separator c.in_ok-kind.kind
     c.in_ok-kind.ensures.ok (rw c.if-is_bad.false at c.in_ok-is_bad.ensures.ok)

@@ -6,31 +6,31 @@ use Rattle.js_spell.proofs.numeric.read_run.Goals as goal
 pub returns-then-not-begins_digit-clause-ok : goal.returns-then-not-begins_digit-clause-ok
 returns-then-not-begins_digit-clause-ok c =
     run_missing_read
-        (radix_of_digits c.args.digits) c.args.source.now c.args.errors.now c.report_missing_digit.new.errors
-        c.args.has_separator.now
+    (radix_of_digits c.args.digits) c.args.source.now c.args.errors.now c.report_missing_digit.new.errors
+    c.args.has_separator.now
     (sym c.if-not-begins_digit.ensures) c.in_ok-report_missing_digit.ensures.ok
 
 pub returns-in_err-report_missing_digit-2-clause-err : goal.returns-in_err-report_missing_digit-2-clause-err
 returns-in_err-report_missing_digit-2-clause-err c =
     on_err c.from_residual-in_err-report_missing_digit-2.result _
     (breaks_off c.args.source.now c.pass_groups-is_whole.new.source c.args.errors.now
-        c.report_missing_digit-then-not-is_whole.new.errors
+    c.report_missing_digit-then-not-is_whole.new.errors
     c.if-not-is_whole.ensures.passes.text c.in_err-report_missing_digit-2.ensures.err)
 
 pub returns-in_ok-report_missing_digit-2-clause-ok : goal.returns-in_ok-report_missing_digit-2-clause-ok
 returns-in_ok-report_missing_digit-2-clause-ok c =
     rw c.if-not-is_whole.true
-        (run_broken_read (radix_of_digits c.args.digits) c.args.source.now c.pass_groups-is_whole.new.source
+    (run_broken_read (radix_of_digits c.args.digits) c.args.source.now c.pass_groups-is_whole.new.source
     c.args.errors.now c.report_missing_digit-then-not-is_whole.new.errors c.args.has_separator.now
-        c.pass_groups-is_whole.new.has_separator
+    c.pass_groups-is_whole.new.has_separator
     (sym c.if-not-begins_digit.ensures) c.if-not-is_whole.ensures.passes c.requires
-        c.pass_groups-is_whole.ensures.placed
+    c.pass_groups-is_whole.ensures.placed
     c.in_ok-report_missing_digit-2.ensures.ok)
 
 pub returns-else-not-is_whole-clause-ok : goal.returns-else-not-is_whole-clause-ok
 returns-else-not-is_whole-clause-ok c =
     rw c.if-not-is_whole.false
-        (run_whole_read
-        (radix_of_digits c.args.digits) c.args.source.now c.pass_groups-is_whole.new.source c.args.errors.now
+    (run_whole_read
+    (radix_of_digits c.args.digits) c.args.source.now c.pass_groups-is_whole.new.source c.args.errors.now
     c.args.has_separator.now c.pass_groups-is_whole.new.has_separator
-        (sym c.if-not-begins_digit.ensures) c.if-not-is_whole.ensures.passes)
+    (sym c.if-not-begins_digit.ensures) c.if-not-is_whole.ensures.passes)

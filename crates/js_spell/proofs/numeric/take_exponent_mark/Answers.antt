@@ -11,9 +11,12 @@ large : (b : Bool) (old mid new : At) → mid ≡ old → begins (λ c. c == 101
     → MatchBool b (Reads mid new 69) ((begins (λ c. c == 69) (rest mid) ≡ false) × (new ≡ mid))
     → MatchBool b (TakesExponentMark old new) ((begins is_exponent_mark (rest old) ≡ false) × (new ≡ old))
 large true old mid new same none cases =
-    record
-        { mark = 69; is = exponent_marks.1; read =
-        record { text = cases.text ∙ ap (λ a. a.text) same; here = ap rest (sym same) ∙ cases.here } }
+    record {
+      mark = 69;
+      is = exponent_marks.1;
+      read =
+          record { text = cases.text ∙ ap (λ a. a.text) same; here = ap rest (sym same) ∙ cases.here };
+    }
 large false old mid new same none cases =
     (no_mark (rest old) none (ap (λ a. begins (λ c. c == 69) (rest a)) (sym same) ∙ cases.0), cases.1 ∙ same)
 
@@ -25,5 +28,5 @@ pub returns-clause-cases : goal.returns-clause-cases
 returns-clause-cases c =
     let none = c.if-advance_if_ascii_eq.ensures.cases in
     large c.advance_if_ascii_eq-2.result c.args.source.now c.advance_if_ascii_eq.new.self
-        c.advance_if_ascii_eq-2.new.self none.1 none.0
+    c.advance_if_ascii_eq-2.new.self none.1 none.0
     c.advance_if_ascii_eq-2.ensures.cases
