@@ -1,8 +1,8 @@
 -- Each punctuator is the longest where what follows goes on with no other.
 use Rattle.std.proofs.Common.{◌≡◌, ℕ, ◌<◌, ◌≤◌, Bool, true, false, not, cond, ◌&&◌, ◌||◌, ◌==◌, nat_le, nat_lt, List}
-use Rattle.std.proofs.Common.{[], ◌∷◌, ◌++◌, length, drop, refl, sym, ap, inl, inr, zero, suc, Option, Some, None}
+use Rattle.std.proofs.Common.{[], ◌∷◌, ◌++◌, length, drop, refl, sym, ap, inl, inr, Option, Some, None}
 use Rattle.std.proofs.Common.{arith}
-use Rattle.std.specs.Prelude.{codes, slice_get}
+use Rattle.std.specs.Prelude.{codes, if◌then◌else◌}
 use Rattle.std.specs.Char.{is_ascii_digit}
 use Rattle.std.specs.List.{list_all}
 use Rattle.std.proofs.lemmas.Bool.{leb-true, ne_eqb}
@@ -13,6 +13,8 @@ use Rattle.js_grammar.specs.Gap.{is_prefix}
 use Rattle.js_grammar.specs.Punctuators.{Punctuator, punctuators, IsIn, is_spelled, LongestPunctuator, NoPunctuator}
 use Rattle.js_grammar.specs.Punctuators.{plain, before_no_digit, slash as slash_alone, left_angle, is_optional_dot}
 use Rattle.js_grammar.proofs.Tests.{and_true}
+use Rattle.js_kind.specs.Kinds.{kind_text}
+use Rattle.js_kind.specs.declared.kind.Kind.{Kind}
 use Rattle.js_kind.specs.declared.kind.Kind.TheVariants.{Amp, Amp2, Amp2Eq, AmpEq, Bang, Caret, CaretEq, Colon, Comma}
 use Rattle.js_kind.specs.declared.kind.Kind.TheVariants.{Dot, Dot3, Eq, Eq2, Eq3, LAngle, LBrack, LCurly, LParen, LtEq}
 use Rattle.js_kind.specs.declared.kind.Kind.TheVariants.{Minus, Minus2, MinusEq, Neq, Neq2, Percent, PercentEq, Pipe}
@@ -21,19 +23,25 @@ use Rattle.js_kind.specs.declared.kind.Kind.TheVariants.{Question2, Question2Eq,
 use Rattle.js_kind.specs.declared.kind.Kind.TheVariants.{RParen, Semicolon, ShiftLeft, ShiftLeftEq, Slash, SlashEq}
 use Rattle.js_kind.specs.declared.kind.Kind.TheVariants.{Star, Star2, Star2Eq, StarEq, Tilde, Arrow, At}
 
--- the punctuator at an index of the table
-abbrev pub entry : List Punctuator → ℕ → Option Punctuator
-entry [] n = None
-entry (p ∷ ps) zero = Some p
-entry (p ∷ ps) (suc n) = entry ps n
+abbrev is_same : List ℕ → List ℕ → Bool
+is_same xs ys = is_prefix xs ys && is_prefix ys xs
 
-in_list : (p : Punctuator) (ps : List Punctuator) (n : ℕ) → entry ps n ≡ Some p → IsIn p ps
-in_list p [] n e = absurd (cc)
-in_list p (q ∷ ps) zero e = inl (let same : q ≡ p = cc in sym same)
-in_list p (q ∷ ps) (suc n) e = inr (in_list p ps n e)
+-- the punctuator of the table with this text
+abbrev pub entry : List ℕ → List Punctuator → Option Punctuator
+entry text [] = None
+entry text (p ∷ ps) = if is_same p.text text then Some p else entry text ps
 
-pub listed : {p : Punctuator} (n : ℕ) → entry punctuators n ≡ Some p → IsIn p punctuators
-listed {p} n e = in_list p punctuators n e
+in_list : (text : List ℕ) (p : Punctuator) (ps : List Punctuator) → entry text ps ≡ Some p → IsIn p ps
+in_list text p [] e = absurd (cc)
+in_list text p (q ∷ ps) e = at (is_same q.text text) e (λ h. in_list text p ps h)
+  where
+    at : (b : Bool) → (if b then Some q else entry text ps) ≡ Some p → (entry text ps ≡ Some p → IsIn p ps)
+        → IsIn p (q ∷ ps)
+    at true e later = inl (let same : q ≡ p = cc in sym same)
+    at false e later = inr (later e)
+
+pub listed : {p : Punctuator} → entry p.text punctuators ≡ Some p → IsIn p punctuators
+listed {p} e = in_list p.text p punctuators e
 
 punctuators_have_text : list_all (λ p. nat_lt 0 (length p.text)) punctuators ≡ true
 punctuators_have_text = refl
@@ -57,6 +65,13 @@ abbrev none_above : SourceType → Bool → ℕ → List ℕ → Type 0
 none_above t line_has_ended n text =
     list_all (λ q. not (is_spelled t line_has_ended text q) || nat_le (length q.text) n) punctuators ≡ true
 
+-- a punctuator that anything may follow, where none that is spelled is longer
+plainly : {t : SourceType} {line_has_ended : Bool} (k : Kind) (cs : List ℕ) → IsIn (plain k) punctuators
+    → none_above t line_has_ended (length (kind_text k)) (kind_text k ++ cs)
+    → LongestPunctuator t line_has_ended (kind_text k ++ cs) cs k
+plainly k cs i e =
+    record { it = plain k; in_table = i; here = refl; allowed = refl; kind = refl; longest = e }
+
 one_dot : (a : Bool) → (((not ((a && false) && true)) || false) && true) ≡ true
 one_dot true = refl
 one_dot false = refl
@@ -72,8 +87,7 @@ no_dot false d e = refl
 pub amp : (t : SourceType) (line_has_ended : Bool) (cs : List ℕ) → begins (λ c. c == 38) cs ≡ false
     → begins (λ c. c == 61) cs ≡ false → LongestPunctuator t line_has_ended (38 ∷ cs) cs Amp
 amp t line_has_ended cs e0 e1 =
-    record
-    { it = plain Amp; in_table = listed 0 refl; here = refl; allowed = refl; kind = refl; longest = longest cs e0 e1 }
+    plainly Amp cs (listed refl) (longest cs e0 e1)
   where
     longest : (xs : List ℕ) → begins (λ c. c == 38) xs ≡ false → begins (λ c. c == 61) xs ≡ false
         → none_above t line_has_ended 1 (38 ∷ xs)
@@ -83,8 +97,7 @@ amp t line_has_ended cs e0 e1 =
 pub amp2 : (t : SourceType) (line_has_ended : Bool) (cs : List ℕ) → begins (λ c. c == 61) cs ≡ false
     → LongestPunctuator t line_has_ended (38 ∷ 38 ∷ cs) cs Amp2
 amp2 t line_has_ended cs e0 =
-    record
-    { it = plain Amp2; in_table = listed 1 refl; here = refl; allowed = refl; kind = refl; longest = longest cs e0 }
+    plainly Amp2 cs (listed refl) (longest cs e0)
   where
     longest : (xs : List ℕ) → begins (λ c. c == 61) xs ≡ false → none_above t line_has_ended 2 (38 ∷ 38 ∷ xs)
     longest [] e0 = refl
@@ -93,18 +106,17 @@ amp2 t line_has_ended cs e0 =
 pub amp2_eq : (t : SourceType) (line_has_ended : Bool) (cs : List ℕ)
     → LongestPunctuator t line_has_ended (38 ∷ 38 ∷ 61 ∷ cs) cs Amp2Eq
 amp2_eq t line_has_ended cs =
-    record { it = plain Amp2Eq; in_table = listed 2 refl; here = refl; allowed = refl; kind = refl; longest = refl }
+    plainly Amp2Eq cs (listed refl) refl
 
 pub amp_eq : (t : SourceType) (line_has_ended : Bool) (cs : List ℕ)
     → LongestPunctuator t line_has_ended (38 ∷ 61 ∷ cs) cs AmpEq
 amp_eq t line_has_ended cs =
-    record { it = plain AmpEq; in_table = listed 3 refl; here = refl; allowed = refl; kind = refl; longest = refl }
+    plainly AmpEq cs (listed refl) refl
 
 pub bang : (t : SourceType) (line_has_ended : Bool) (cs : List ℕ) → begins (λ c. c == 61) cs ≡ false
     → LongestPunctuator t line_has_ended (33 ∷ cs) cs Bang
 bang t line_has_ended cs e0 =
-    record
-    { it = plain Bang; in_table = listed 4 refl; here = refl; allowed = refl; kind = refl; longest = longest cs e0 }
+    plainly Bang cs (listed refl) (longest cs e0)
   where
     longest : (xs : List ℕ) → begins (λ c. c == 61) xs ≡ false → none_above t line_has_ended 1 (33 ∷ xs)
     longest [] e0 = refl
@@ -113,8 +125,7 @@ bang t line_has_ended cs e0 =
 pub caret : (t : SourceType) (line_has_ended : Bool) (cs : List ℕ) → begins (λ c. c == 61) cs ≡ false
     → LongestPunctuator t line_has_ended (94 ∷ cs) cs Caret
 caret t line_has_ended cs e0 =
-    record
-    { it = plain Caret; in_table = listed 5 refl; here = refl; allowed = refl; kind = refl; longest = longest cs e0 }
+    plainly Caret cs (listed refl) (longest cs e0)
   where
     longest : (xs : List ℕ) → begins (λ c. c == 61) xs ≡ false → none_above t line_has_ended 1 (94 ∷ xs)
     longest [] e0 = refl
@@ -123,24 +134,24 @@ caret t line_has_ended cs e0 =
 pub caret_eq : (t : SourceType) (line_has_ended : Bool) (cs : List ℕ)
     → LongestPunctuator t line_has_ended (94 ∷ 61 ∷ cs) cs CaretEq
 caret_eq t line_has_ended cs =
-    record { it = plain CaretEq; in_table = listed 6 refl; here = refl; allowed = refl; kind = refl; longest = refl }
+    plainly CaretEq cs (listed refl) refl
 
 pub colon : (t : SourceType) (line_has_ended : Bool) (cs : List ℕ)
     → LongestPunctuator t line_has_ended (58 ∷ cs) cs Colon
 colon t line_has_ended cs =
-    record { it = plain Colon; in_table = listed 7 refl; here = refl; allowed = refl; kind = refl; longest = refl }
+    plainly Colon cs (listed refl) refl
 
 pub comma : (t : SourceType) (line_has_ended : Bool) (cs : List ℕ)
     → LongestPunctuator t line_has_ended (44 ∷ cs) cs Comma
 comma t line_has_ended cs =
-    record { it = plain Comma; in_table = listed 8 refl; here = refl; allowed = refl; kind = refl; longest = refl }
+    plainly Comma cs (listed refl) refl
 
 pub dot : (t : SourceType) (line_has_ended : Bool) (cs : List ℕ) → is_prefix (46 ∷ 46 ∷ []) cs ≡ false
     → begins is_ascii_digit cs ≡ false → LongestPunctuator t line_has_ended (46 ∷ cs) cs Dot
 dot t line_has_ended cs e0 e1 =
     record {
       it = before_no_digit Dot;
-      in_table = listed 9 refl;
+      in_table = listed refl;
       here = refl;
       allowed = e1;
       kind = refl;
@@ -157,13 +168,12 @@ dot t line_has_ended cs e0 e1 =
 pub dot3 : (t : SourceType) (line_has_ended : Bool) (cs : List ℕ)
     → LongestPunctuator t line_has_ended (46 ∷ 46 ∷ 46 ∷ cs) cs Dot3
 dot3 t line_has_ended cs =
-    record { it = plain Dot3; in_table = listed 10 refl; here = refl; allowed = refl; kind = refl; longest = refl }
+    plainly Dot3 cs (listed refl) refl
 
 pub eq : (t : SourceType) (line_has_ended : Bool) (cs : List ℕ) → begins (λ c. c == 61) cs ≡ false
     → begins (λ c. c == 62) cs ≡ false → LongestPunctuator t line_has_ended (61 ∷ cs) cs Eq
 eq t line_has_ended cs e0 e1 =
-    record
-    { it = plain Eq; in_table = listed 11 refl; here = refl; allowed = refl; kind = refl; longest = longest cs e0 e1 }
+    plainly Eq cs (listed refl) (longest cs e0 e1)
   where
     longest : (xs : List ℕ) → begins (λ c. c == 61) xs ≡ false → begins (λ c. c == 62) xs ≡ false
         → none_above t line_has_ended 1 (61 ∷ xs)
@@ -173,8 +183,7 @@ eq t line_has_ended cs e0 e1 =
 pub eq2 : (t : SourceType) (line_has_ended : Bool) (cs : List ℕ) → begins (λ c. c == 61) cs ≡ false
     → LongestPunctuator t line_has_ended (61 ∷ 61 ∷ cs) cs Eq2
 eq2 t line_has_ended cs e0 =
-    record
-    { it = plain Eq2; in_table = listed 12 refl; here = refl; allowed = refl; kind = refl; longest = longest cs e0 }
+    plainly Eq2 cs (listed refl) (longest cs e0)
   where
     longest : (xs : List ℕ) → begins (λ c. c == 61) xs ≡ false → none_above t line_has_ended 2 (61 ∷ 61 ∷ xs)
     longest [] e0 = refl
@@ -183,7 +192,7 @@ eq2 t line_has_ended cs e0 =
 pub eq3 : (t : SourceType) (line_has_ended : Bool) (cs : List ℕ)
     → LongestPunctuator t line_has_ended (61 ∷ 61 ∷ 61 ∷ cs) cs Eq3
 eq3 t line_has_ended cs =
-    record { it = plain Eq3; in_table = listed 13 refl; here = refl; allowed = refl; kind = refl; longest = refl }
+    plainly Eq3 cs (listed refl) refl
 
 pub l_angle : (t : SourceType) (line_has_ended : Bool) (cs : List ℕ) → begins (λ c. c == 60) cs ≡ false
     → begins (λ c. c == 61) cs ≡ false
@@ -191,7 +200,7 @@ pub l_angle : (t : SourceType) (line_has_ended : Bool) (cs : List ℕ) → begin
 l_angle t line_has_ended cs e0 e1 e2 =
     record {
       it = left_angle;
-      in_table = listed 14 refl;
+      in_table = listed refl;
       here = refl;
       allowed = e2;
       kind = refl;
@@ -207,35 +216,27 @@ l_angle t line_has_ended cs e0 e1 e2 =
 pub l_brack : (t : SourceType) (line_has_ended : Bool) (cs : List ℕ)
     → LongestPunctuator t line_has_ended (91 ∷ cs) cs LBrack
 l_brack t line_has_ended cs =
-    record { it = plain LBrack; in_table = listed 15 refl; here = refl; allowed = refl; kind = refl; longest = refl }
+    plainly LBrack cs (listed refl) refl
 
 pub l_curly : (t : SourceType) (line_has_ended : Bool) (cs : List ℕ)
     → LongestPunctuator t line_has_ended (123 ∷ cs) cs LCurly
 l_curly t line_has_ended cs =
-    record { it = plain LCurly; in_table = listed 16 refl; here = refl; allowed = refl; kind = refl; longest = refl }
+    plainly LCurly cs (listed refl) refl
 
 pub l_paren : (t : SourceType) (line_has_ended : Bool) (cs : List ℕ)
     → LongestPunctuator t line_has_ended (40 ∷ cs) cs LParen
 l_paren t line_has_ended cs =
-    record { it = plain LParen; in_table = listed 17 refl; here = refl; allowed = refl; kind = refl; longest = refl }
+    plainly LParen cs (listed refl) refl
 
 pub lt_eq : (t : SourceType) (line_has_ended : Bool) (cs : List ℕ)
     → LongestPunctuator t line_has_ended (60 ∷ 61 ∷ cs) cs LtEq
 lt_eq t line_has_ended cs =
-    record { it = plain LtEq; in_table = listed 18 refl; here = refl; allowed = refl; kind = refl; longest = refl }
+    plainly LtEq cs (listed refl) refl
 
 pub minus : (t : SourceType) (line_has_ended : Bool) (cs : List ℕ) → begins (λ c. c == 45) cs ≡ false
     → begins (λ c. c == 61) cs ≡ false → LongestPunctuator t line_has_ended (45 ∷ cs) cs Minus
 minus t line_has_ended cs e0 e1 =
-    record {
-      it = plain Minus;
-      in_table = listed 19 refl;
-      here = refl;
-      allowed = refl;
-      kind = refl;
-      longest =
-          longest cs e0 e1;
-    }
+    plainly Minus cs (listed refl) (longest cs e0 e1)
   where
     longest : (xs : List ℕ) → begins (λ c. c == 45) xs ≡ false → begins (λ c. c == 61) xs ≡ false
         → none_above t line_has_ended 1 (45 ∷ xs)
@@ -245,18 +246,17 @@ minus t line_has_ended cs e0 e1 =
 pub minus2 : (t : SourceType) (line_has_ended : Bool) (cs : List ℕ)
     → LongestPunctuator t line_has_ended (45 ∷ 45 ∷ cs) cs Minus2
 minus2 t line_has_ended cs =
-    record { it = plain Minus2; in_table = listed 20 refl; here = refl; allowed = refl; kind = refl; longest = refl }
+    plainly Minus2 cs (listed refl) refl
 
 pub minus_eq : (t : SourceType) (line_has_ended : Bool) (cs : List ℕ)
     → LongestPunctuator t line_has_ended (45 ∷ 61 ∷ cs) cs MinusEq
 minus_eq t line_has_ended cs =
-    record { it = plain MinusEq; in_table = listed 21 refl; here = refl; allowed = refl; kind = refl; longest = refl }
+    plainly MinusEq cs (listed refl) refl
 
 pub neq : (t : SourceType) (line_has_ended : Bool) (cs : List ℕ) → begins (λ c. c == 61) cs ≡ false
     → LongestPunctuator t line_has_ended (33 ∷ 61 ∷ cs) cs Neq
 neq t line_has_ended cs e0 =
-    record
-    { it = plain Neq; in_table = listed 22 refl; here = refl; allowed = refl; kind = refl; longest = longest cs e0 }
+    plainly Neq cs (listed refl) (longest cs e0)
   where
     longest : (xs : List ℕ) → begins (λ c. c == 61) xs ≡ false → none_above t line_has_ended 2 (33 ∷ 61 ∷ xs)
     longest [] e0 = refl
@@ -265,13 +265,12 @@ neq t line_has_ended cs e0 =
 pub neq2 : (t : SourceType) (line_has_ended : Bool) (cs : List ℕ)
     → LongestPunctuator t line_has_ended (33 ∷ 61 ∷ 61 ∷ cs) cs Neq2
 neq2 t line_has_ended cs =
-    record { it = plain Neq2; in_table = listed 23 refl; here = refl; allowed = refl; kind = refl; longest = refl }
+    plainly Neq2 cs (listed refl) refl
 
 pub percent : (t : SourceType) (line_has_ended : Bool) (cs : List ℕ) → begins (λ c. c == 61) cs ≡ false
     → LongestPunctuator t line_has_ended (37 ∷ cs) cs Percent
 percent t line_has_ended cs e0 =
-    record
-    { it = plain Percent; in_table = listed 24 refl; here = refl; allowed = refl; kind = refl; longest = longest cs e0 }
+    plainly Percent cs (listed refl) (longest cs e0)
   where
     longest : (xs : List ℕ) → begins (λ c. c == 61) xs ≡ false → none_above t line_has_ended 1 (37 ∷ xs)
     longest [] e0 = refl
@@ -280,13 +279,12 @@ percent t line_has_ended cs e0 =
 pub percent_eq : (t : SourceType) (line_has_ended : Bool) (cs : List ℕ)
     → LongestPunctuator t line_has_ended (37 ∷ 61 ∷ cs) cs PercentEq
 percent_eq t line_has_ended cs =
-    record { it = plain PercentEq; in_table = listed 25 refl; here = refl; allowed = refl; kind = refl; longest = refl }
+    plainly PercentEq cs (listed refl) refl
 
 pub pipe : (t : SourceType) (line_has_ended : Bool) (cs : List ℕ) → begins (λ c. c == 61) cs ≡ false
     → begins (λ c. c == 124) cs ≡ false → LongestPunctuator t line_has_ended (124 ∷ cs) cs Pipe
 pipe t line_has_ended cs e0 e1 =
-    record
-    { it = plain Pipe; in_table = listed 26 refl; here = refl; allowed = refl; kind = refl; longest = longest cs e0 e1 }
+    plainly Pipe cs (listed refl) (longest cs e0 e1)
   where
     longest : (xs : List ℕ) → begins (λ c. c == 61) xs ≡ false → begins (λ c. c == 124) xs ≡ false
         → none_above t line_has_ended 1 (124 ∷ xs)
@@ -296,8 +294,7 @@ pipe t line_has_ended cs e0 e1 =
 pub pipe2 : (t : SourceType) (line_has_ended : Bool) (cs : List ℕ) → begins (λ c. c == 61) cs ≡ false
     → LongestPunctuator t line_has_ended (124 ∷ 124 ∷ cs) cs Pipe2
 pipe2 t line_has_ended cs e0 =
-    record
-    { it = plain Pipe2; in_table = listed 27 refl; here = refl; allowed = refl; kind = refl; longest = longest cs e0 }
+    plainly Pipe2 cs (listed refl) (longest cs e0)
   where
     longest : (xs : List ℕ) → begins (λ c. c == 61) xs ≡ false → none_above t line_has_ended 2 (124 ∷ 124 ∷ xs)
     longest [] e0 = refl
@@ -306,18 +303,17 @@ pipe2 t line_has_ended cs e0 =
 pub pipe2_eq : (t : SourceType) (line_has_ended : Bool) (cs : List ℕ)
     → LongestPunctuator t line_has_ended (124 ∷ 124 ∷ 61 ∷ cs) cs Pipe2Eq
 pipe2_eq t line_has_ended cs =
-    record { it = plain Pipe2Eq; in_table = listed 28 refl; here = refl; allowed = refl; kind = refl; longest = refl }
+    plainly Pipe2Eq cs (listed refl) refl
 
 pub pipe_eq : (t : SourceType) (line_has_ended : Bool) (cs : List ℕ)
     → LongestPunctuator t line_has_ended (124 ∷ 61 ∷ cs) cs PipeEq
 pipe_eq t line_has_ended cs =
-    record { it = plain PipeEq; in_table = listed 29 refl; here = refl; allowed = refl; kind = refl; longest = refl }
+    plainly PipeEq cs (listed refl) refl
 
 pub plus : (t : SourceType) (line_has_ended : Bool) (cs : List ℕ) → begins (λ c. c == 43) cs ≡ false
     → begins (λ c. c == 61) cs ≡ false → LongestPunctuator t line_has_ended (43 ∷ cs) cs Plus
 plus t line_has_ended cs e0 e1 =
-    record
-    { it = plain Plus; in_table = listed 30 refl; here = refl; allowed = refl; kind = refl; longest = longest cs e0 e1 }
+    plainly Plus cs (listed refl) (longest cs e0 e1)
   where
     longest : (xs : List ℕ) → begins (λ c. c == 43) xs ≡ false → begins (λ c. c == 61) xs ≡ false
         → none_above t line_has_ended 1 (43 ∷ xs)
@@ -327,25 +323,17 @@ plus t line_has_ended cs e0 e1 =
 pub plus2 : (t : SourceType) (line_has_ended : Bool) (cs : List ℕ)
     → LongestPunctuator t line_has_ended (43 ∷ 43 ∷ cs) cs Plus2
 plus2 t line_has_ended cs =
-    record { it = plain Plus2; in_table = listed 31 refl; here = refl; allowed = refl; kind = refl; longest = refl }
+    plainly Plus2 cs (listed refl) refl
 
 pub plus_eq : (t : SourceType) (line_has_ended : Bool) (cs : List ℕ)
     → LongestPunctuator t line_has_ended (43 ∷ 61 ∷ cs) cs PlusEq
 plus_eq t line_has_ended cs =
-    record { it = plain PlusEq; in_table = listed 32 refl; here = refl; allowed = refl; kind = refl; longest = refl }
+    plainly PlusEq cs (listed refl) refl
 
 pub question : (t : SourceType) (line_has_ended : Bool) (cs : List ℕ) → begins (λ c. c == 63) cs ≡ false
     → is_optional_dot cs ≡ false → LongestPunctuator t line_has_ended (63 ∷ cs) cs Question
 question t line_has_ended cs e0 e1 =
-    record {
-      it = plain Question;
-      in_table = listed 33 refl;
-      here = refl;
-      allowed = refl;
-      kind = refl;
-      longest =
-          longest cs e0 e1;
-    }
+    plainly Question cs (listed refl) (longest cs e0 e1)
   where
     longest : (xs : List ℕ) → begins (λ c. c == 63) xs ≡ false → is_optional_dot xs ≡ false
         → none_above t line_has_ended 1 (63 ∷ xs)
@@ -355,15 +343,7 @@ question t line_has_ended cs e0 e1 =
 pub question2 : (t : SourceType) (line_has_ended : Bool) (cs : List ℕ) → begins (λ c. c == 61) cs ≡ false
     → LongestPunctuator t line_has_ended (63 ∷ 63 ∷ cs) cs Question2
 question2 t line_has_ended cs e0 =
-    record {
-      it = plain Question2;
-      in_table = listed 34 refl;
-      here = refl;
-      allowed = refl;
-      kind = refl;
-      longest =
-          longest cs e0;
-    }
+    plainly Question2 cs (listed refl) (longest cs e0)
   where
     longest : (xs : List ℕ) → begins (λ c. c == 61) xs ≡ false → none_above t line_has_ended 2 (63 ∷ 63 ∷ xs)
     longest [] e0 = refl
@@ -372,15 +352,14 @@ question2 t line_has_ended cs e0 =
 pub question2_eq : (t : SourceType) (line_has_ended : Bool) (cs : List ℕ)
     → LongestPunctuator t line_has_ended (63 ∷ 63 ∷ 61 ∷ cs) cs Question2Eq
 question2_eq t line_has_ended cs =
-    record
-    { it = plain Question2Eq; in_table = listed 35 refl; here = refl; allowed = refl; kind = refl; longest = refl }
+    plainly Question2Eq cs (listed refl) refl
 
 pub question_dot : (t : SourceType) (line_has_ended : Bool) (cs : List ℕ) → begins is_ascii_digit cs ≡ false
     → LongestPunctuator t line_has_ended (63 ∷ 46 ∷ cs) cs QuestionDot
 question_dot t line_has_ended cs e0 =
     record {
       it = before_no_digit QuestionDot;
-      in_table = listed 36 refl;
+      in_table = listed refl;
       here = refl;
       allowed = e0;
       kind = refl;
@@ -395,40 +374,32 @@ question_dot t line_has_ended cs e0 =
 pub r_angle : (t : SourceType) (line_has_ended : Bool) (cs : List ℕ)
     → LongestPunctuator t line_has_ended (62 ∷ cs) cs RAngle
 r_angle t line_has_ended cs =
-    record { it = plain RAngle; in_table = listed 37 refl; here = refl; allowed = refl; kind = refl; longest = refl }
+    plainly RAngle cs (listed refl) refl
 
 pub r_brack : (t : SourceType) (line_has_ended : Bool) (cs : List ℕ)
     → LongestPunctuator t line_has_ended (93 ∷ cs) cs RBrack
 r_brack t line_has_ended cs =
-    record { it = plain RBrack; in_table = listed 38 refl; here = refl; allowed = refl; kind = refl; longest = refl }
+    plainly RBrack cs (listed refl) refl
 
 pub r_curly : (t : SourceType) (line_has_ended : Bool) (cs : List ℕ)
     → LongestPunctuator t line_has_ended (125 ∷ cs) cs RCurly
 r_curly t line_has_ended cs =
-    record { it = plain RCurly; in_table = listed 39 refl; here = refl; allowed = refl; kind = refl; longest = refl }
+    plainly RCurly cs (listed refl) refl
 
 pub r_paren : (t : SourceType) (line_has_ended : Bool) (cs : List ℕ)
     → LongestPunctuator t line_has_ended (41 ∷ cs) cs RParen
 r_paren t line_has_ended cs =
-    record { it = plain RParen; in_table = listed 40 refl; here = refl; allowed = refl; kind = refl; longest = refl }
+    plainly RParen cs (listed refl) refl
 
 pub semicolon : (t : SourceType) (line_has_ended : Bool) (cs : List ℕ)
     → LongestPunctuator t line_has_ended (59 ∷ cs) cs Semicolon
 semicolon t line_has_ended cs =
-    record { it = plain Semicolon; in_table = listed 41 refl; here = refl; allowed = refl; kind = refl; longest = refl }
+    plainly Semicolon cs (listed refl) refl
 
 pub shift_left : (t : SourceType) (line_has_ended : Bool) (cs : List ℕ) → begins (λ c. c == 61) cs ≡ false
     → LongestPunctuator t line_has_ended (60 ∷ 60 ∷ cs) cs ShiftLeft
 shift_left t line_has_ended cs e0 =
-    record {
-      it = plain ShiftLeft;
-      in_table = listed 42 refl;
-      here = refl;
-      allowed = refl;
-      kind = refl;
-      longest =
-          longest cs e0;
-    }
+    plainly ShiftLeft cs (listed refl) (longest cs e0)
   where
     longest : (xs : List ℕ) → begins (λ c. c == 61) xs ≡ false → none_above t line_has_ended 2 (60 ∷ 60 ∷ xs)
     longest [] e0 = refl
@@ -437,14 +408,13 @@ shift_left t line_has_ended cs e0 =
 pub shift_left_eq : (t : SourceType) (line_has_ended : Bool) (cs : List ℕ)
     → LongestPunctuator t line_has_ended (60 ∷ 60 ∷ 61 ∷ cs) cs ShiftLeftEq
 shift_left_eq t line_has_ended cs =
-    record
-    { it = plain ShiftLeftEq; in_table = listed 43 refl; here = refl; allowed = refl; kind = refl; longest = refl }
+    plainly ShiftLeftEq cs (listed refl) refl
 
 pub slash : (t : SourceType) (line_has_ended : Bool) (cs : List ℕ) → begins (λ c. c == 42) cs ≡ false
     → begins (λ c. c == 61) cs ≡ false → LongestPunctuator t line_has_ended (47 ∷ cs) cs Slash
 slash t line_has_ended cs e0 e1 =
     record
-    { it = slash_alone; in_table = listed 44 refl; here = refl; allowed = e0; kind = refl; longest = longest cs e0 e1 }
+    { it = slash_alone; in_table = listed refl; here = refl; allowed = e0; kind = refl; longest = longest cs e0 e1 }
   where
     longest : (xs : List ℕ) → begins (λ c. c == 42) xs ≡ false → begins (λ c. c == 61) xs ≡ false
         → none_above t line_has_ended 1 (47 ∷ xs)
@@ -454,13 +424,12 @@ slash t line_has_ended cs e0 e1 =
 pub slash_eq : (t : SourceType) (line_has_ended : Bool) (cs : List ℕ)
     → LongestPunctuator t line_has_ended (47 ∷ 61 ∷ cs) cs SlashEq
 slash_eq t line_has_ended cs =
-    record { it = plain SlashEq; in_table = listed 45 refl; here = refl; allowed = refl; kind = refl; longest = refl }
+    plainly SlashEq cs (listed refl) refl
 
 pub star : (t : SourceType) (line_has_ended : Bool) (cs : List ℕ) → begins (λ c. c == 42) cs ≡ false
     → begins (λ c. c == 61) cs ≡ false → LongestPunctuator t line_has_ended (42 ∷ cs) cs Star
 star t line_has_ended cs e0 e1 =
-    record
-    { it = plain Star; in_table = listed 46 refl; here = refl; allowed = refl; kind = refl; longest = longest cs e0 e1 }
+    plainly Star cs (listed refl) (longest cs e0 e1)
   where
     longest : (xs : List ℕ) → begins (λ c. c == 42) xs ≡ false → begins (λ c. c == 61) xs ≡ false
         → none_above t line_has_ended 1 (42 ∷ xs)
@@ -470,8 +439,7 @@ star t line_has_ended cs e0 e1 =
 pub star2 : (t : SourceType) (line_has_ended : Bool) (cs : List ℕ) → begins (λ c. c == 61) cs ≡ false
     → LongestPunctuator t line_has_ended (42 ∷ 42 ∷ cs) cs Star2
 star2 t line_has_ended cs e0 =
-    record
-    { it = plain Star2; in_table = listed 47 refl; here = refl; allowed = refl; kind = refl; longest = longest cs e0 }
+    plainly Star2 cs (listed refl) (longest cs e0)
   where
     longest : (xs : List ℕ) → begins (λ c. c == 61) xs ≡ false → none_above t line_has_ended 2 (42 ∷ 42 ∷ xs)
     longest [] e0 = refl
@@ -480,26 +448,26 @@ star2 t line_has_ended cs e0 =
 pub star2_eq : (t : SourceType) (line_has_ended : Bool) (cs : List ℕ)
     → LongestPunctuator t line_has_ended (42 ∷ 42 ∷ 61 ∷ cs) cs Star2Eq
 star2_eq t line_has_ended cs =
-    record { it = plain Star2Eq; in_table = listed 48 refl; here = refl; allowed = refl; kind = refl; longest = refl }
+    plainly Star2Eq cs (listed refl) refl
 
 pub star_eq : (t : SourceType) (line_has_ended : Bool) (cs : List ℕ)
     → LongestPunctuator t line_has_ended (42 ∷ 61 ∷ cs) cs StarEq
 star_eq t line_has_ended cs =
-    record { it = plain StarEq; in_table = listed 49 refl; here = refl; allowed = refl; kind = refl; longest = refl }
+    plainly StarEq cs (listed refl) refl
 
 pub tilde : (t : SourceType) (line_has_ended : Bool) (cs : List ℕ)
     → LongestPunctuator t line_has_ended (126 ∷ cs) cs Tilde
 tilde t line_has_ended cs =
-    record { it = plain Tilde; in_table = listed 50 refl; here = refl; allowed = refl; kind = refl; longest = refl }
+    plainly Tilde cs (listed refl) refl
 
 pub arrow : (t : SourceType) (line_has_ended : Bool) (cs : List ℕ)
     → LongestPunctuator t line_has_ended (61 ∷ 62 ∷ cs) cs Arrow
 arrow t line_has_ended cs =
-    record { it = plain Arrow; in_table = listed 51 refl; here = refl; allowed = refl; kind = refl; longest = refl }
+    plainly Arrow cs (listed refl) refl
 
 pub at : (t : SourceType) (line_has_ended : Bool) (cs : List ℕ) → LongestPunctuator t line_has_ended (64 ∷ cs) cs At
 at t line_has_ended cs =
-    record { it = plain At; in_table = listed 52 refl; here = refl; allowed = refl; kind = refl; longest = refl }
+    plainly At cs (listed refl) refl
 
 -- Where a reported comment stands, no punctuator is spelled: `<` may not stand before `!--`.
 pub none_reported : (t : SourceType) (line_has_ended : Bool) (cs : List ℕ)
