@@ -132,20 +132,20 @@ either_false true b e = absurd (cc)
 either_false false b e = (refl, e)
 
 -- No printable character of ASCII stands where nothing is spelled.
-no_printable : (t : SourceType) (nl : Bool) (s : At) (c : ℕ) (cs : List ℕ) → IsPlaced s → IsBuilt s.text
-    → rest s ≡ c ∷ cs → whole_gap_piece t nl (c ∷ cs) ≡ None
-    → is_identifier_start c ≡ false → NoPunctuator t nl (c ∷ cs) → is_prefix (codes "/*") (c ∷ cs) ≡ false
+no_printable : (t : SourceType) (line_has_ended : Bool) (s : At) (c : ℕ) (cs : List ℕ) → IsPlaced s → IsBuilt s.text
+    → rest s ≡ c ∷ cs → whole_gap_piece t line_has_ended (c ∷ cs) ≡ None
+    → is_identifier_start c ≡ false → NoPunctuator t line_has_ended (c ∷ cs) → is_prefix (codes "/*") (c ∷ cs) ≡ false
     → is_prefix (codes "#!") (c ∷ cs) ≡ false → is_control_or_wide c ≡ false → ⊥
-no_printable t nl s c cs h built e gap no_name none no_comment no_mark printable =
+no_printable t line_has_ended s c cs h built e gap no_name none no_comment no_mark printable =
     let ends = either_false (nat_lt c 32) (nat_le 127 c) printable in
     let low : 32 ≤ c = ltb-false c 32 ends.0 in
     let high : c < 127 = leb-false 127 c ends.1 in
-    let behind = none_behind t nl (c ∷ cs) gap in
+    let behind = none_behind t line_has_ended (c ∷ cs) gap in
     let known = known_at is_known 32 95 c printable_known low high in
     elim (or_cases (is_identifier_start c) _ known) [
       | inl start ↦ let no : true ≡ false = sym start ∙ no_name in cc
       | inr k1 ↦ elim (or_cases (is_white_space c) _ k1) [
-        | inl white ↦ let no = sym behind.1 ∙ piece-white t nl c cs white in cc
+        | inl white ↦ let no = sym behind.1 ∙ piece-white t line_has_ended c cs white in cc
         | inr k2 ↦ elim (or_cases (is_unbuilt_byte c) _ k2) [
           | inl unbuilt ↦ elim (built_here s c cs h built e (omega (arith, high))) [
             | inl known ↦ let no : true ≡ false = sym unbuilt ∙ known in cc
@@ -153,22 +153,22 @@ no_printable t nl s c cs h built e gap no_name none no_comment no_mark printable
                 sym (subst (λ xs. is_prefix (codes "#!") xs ≡ true) e mark) ∙ no_mark in cc
           ]
           | inr k3 ↦ elim (or_cases (list_any (λ x. x == c) lone_characters) _ k3) [
-            | inl lone ↦ none_of (λ x. NoPunctuator t nl (x ∷ cs) → ⊥) c lone_characters
-                (lone_begin t nl cs) lone none
+            | inl lone ↦ none_of (λ x. NoPunctuator t line_has_ended (x ∷ cs) → ⊥) c lone_characters
+                (lone_begin t line_has_ended cs) lone none
             | inr k4 ↦ elim (or_cases (c == 46) _ k4) [
               | inl dotted ↦ let is : c ≡ 46 = eqb-true c 46 dotted in
-                  spelled_there t nl (before_no_digit Dot) cs (listed 9 refl)
+                  spelled_there t line_has_ended (before_no_digit Dot) cs (listed refl)
                   (no_digit_behind s cs h built (e ∙ ap (λ x. x ∷ cs) is))
-                  (subst (λ x. NoPunctuator t nl (x ∷ cs)) is none)
+                  (subst (λ x. NoPunctuator t line_has_ended (x ∷ cs)) is none)
               | inr k5 ↦ elim (or_cases (c == 47) _ k5) [
                 | inl slashed ↦ let is : c ≡ 47 = eqb-true c 47 slashed in
-                    spelled_there t nl slash_alone cs (listed 44 refl)
+                    spelled_there t line_has_ended slash_alone cs (listed refl)
                     (no_star cs (subst (λ x. is_prefix (codes "/*") (x ∷ cs) ≡ false) is no_comment))
-                    (subst (λ x. NoPunctuator t nl (x ∷ cs)) is none)
+                    (subst (λ x. NoPunctuator t line_has_ended (x ∷ cs)) is none)
                 | inr angle ↦ let is : c ≡ 60 = eqb-true c 60 angle in
-                    spelled_there t nl left_angle cs (listed 14 refl)
-                    (subst (λ x. is_reported t nl (x ∷ cs) ≡ false) is behind.0)
-                    (subst (λ x. NoPunctuator t nl (x ∷ cs)) is none)
+                    spelled_there t line_has_ended left_angle cs (listed refl)
+                    (subst (λ x. is_reported t line_has_ended (x ∷ cs) ≡ false) is behind.0)
+                    (subst (λ x. NoPunctuator t line_has_ended (x ∷ cs)) is none)
               ]
             ]
           ]
@@ -182,17 +182,19 @@ some_of true x y h = refl
 some_of false x y h = h refl
 
 -- Where no name and no punctuator begins behind a whole gap, something is read to recover.
-pub recovers_some : (t : SourceType) (nl : Bool) (s : At) → IsPlaced s → IsBuilt s.text
-    → whole_gap_piece t nl (rest s) ≡ None → NothingHere t nl (rest s)
-    → IsSome (recovered nl s.place (rest s))
-recovers_some t nl s h built gap n = at (rest s) refl gap n
+pub recovers_some : (t : SourceType) (line_has_ended : Bool) (s : At) → IsPlaced s → IsBuilt s.text
+    → whole_gap_piece t line_has_ended (rest s) ≡ None → NothingHere t line_has_ended (rest s)
+    → IsSome (recovered line_has_ended s.place (rest s))
+recovers_some t line_has_ended s h built gap n = at (rest s) refl gap n
   where
-    at : (xs : List ℕ) → rest s ≡ xs → whole_gap_piece t nl xs ≡ None → NothingHere t nl xs
-        → is_some (recovered nl s.place xs) ≡ true
+    at : (xs : List ℕ) → rest s ≡ xs → whole_gap_piece t line_has_ended xs ≡ None → NothingHere t line_has_ended xs
+        → is_some (recovered line_has_ended s.place xs) ≡ true
     at [] e gap n = absurd (n.some refl)
     at (c ∷ cs) e gap n =
         some_of (is_prefix (codes "/*") (c ∷ cs)) _ _ (λ no_comment.
         some_of (is_prefix (codes "#!") (c ∷ cs)) _ _ (λ no_mark.
         some_of (c == 0xFFFD) _ _ (λ no_binary.
         some_of (is_control_or_wide c) _ None (λ printable.
-        absurd (no_printable t nl s c cs h built e gap n.no_name n.no_punctuator no_comment no_mark printable)))))
+        absurd
+        (no_printable t line_has_ended s c cs h built e gap n.no_name n.no_punctuator no_comment no_mark
+        printable)))))

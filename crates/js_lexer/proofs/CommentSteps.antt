@@ -67,26 +67,27 @@ or_false : (a : Bool) → (a || false) ≡ a
 or_false true = refl
 or_false false = refl
 
-reads_cut-cons : (nl : Bool) (c : ℕ) (found : Option Cut) (new : At) (answer : Skipped)
-    → ReadsCut (nl || is_line_terminator c) found new answer
-    → ReadsCut nl (option_map (cut-cons c) found) new answer
-reads_cut-cons nl c found new Nothing h = ap (option_map (cut-cons c)) h
-reads_cut-cons nl c found new (Piece ended) h = (
+reads_cut-cons : (line_had_ended : Bool) (c : ℕ) (found : Option Cut) (new : At) (answer : Skipped)
+    → ReadsCut (line_had_ended || is_line_terminator c) found new answer
+    → ReadsCut line_had_ended (option_map (cut-cons c) found) new answer
+reads_cut-cons line_had_ended c found new Nothing h = ap (option_map (cut-cons c)) h
+reads_cut-cons line_had_ended c found new (Piece line_has_ended) h = (
   cut-cons c h.0,
   ap (option_map (cut-cons c)) h.1,
-  sym (or_assoc nl (is_line_terminator c) (list_any is_line_terminator h.0.front)) ∙ h.2,
+  sym (or_assoc line_had_ended (is_line_terminator c) (list_any is_line_terminator h.0.front)) ∙ h.2,
   h.3,
 )
 
 -- a character that does not begin the end of the comment
-pub cut_passes : (nl : Bool) (c : ℕ) (cs : List ℕ) (new : At) (answer : Skipped)
+pub cut_passes : (line_has_ended : Bool) (c : ℕ) (cs : List ℕ) (new : At) (answer : Skipped)
     → is_prefix (codes "*/") (c ∷ cs) ≡ false
-    → ReadsCut (nl || is_line_terminator c) (cut_behind (codes "*/") cs) new answer
-    → ReadsCut nl (cut_behind (codes "*/") (c ∷ cs)) new answer
-cut_passes nl c cs new answer e h = rw e (reads_cut-cons nl c (cut_behind (codes "*/") cs) new answer h)
+    → ReadsCut (line_has_ended || is_line_terminator c) (cut_behind (codes "*/") cs) new answer
+    → ReadsCut line_has_ended (cut_behind (codes "*/") (c ∷ cs)) new answer
+cut_passes line_has_ended c cs new answer e h =
+    rw e (reads_cut-cons line_has_ended c (cut_behind (codes "*/") cs) new answer h)
 
-no_line_end : (b : Bool) (nl : Bool) → b ≡ false → (nl || b) ≡ nl
-no_line_end b nl e = rw e (or_false nl)
+no_line_end : (b : Bool) (line_has_ended : Bool) → b ≡ false → (line_has_ended || b) ≡ line_has_ended
+no_line_end b line_has_ended e = rw e (or_false line_has_ended)
 
 not_matched : (table : List Bool) → StopsInBlocks table → (c : ℕ) → matches_char table c ≡ false
     → (is_line_terminator c ≡ false) × ((c == 42) ≡ false)
@@ -102,63 +103,71 @@ not_matched table stops c e = (no_end (is_line_terminator c) refl, no_star (c ==
     no_star false t = refl
 
 -- the characters that a search passes over neither end the comment nor a line
-pub cut_skips : (table : List Bool) → StopsInBlocks table → (nl : Bool) (cs : List ℕ) (new : At) (answer : Skipped)
-    → ReadsCut nl (cut_behind (codes "*/") (from_first (matches_char table) cs)) new answer
-    → ReadsCut nl (cut_behind (codes "*/") cs) new answer
-cut_skips table stops nl [] new answer h = h
-cut_skips table stops nl (c ∷ cs) new answer h =
-    by_test (matches_char table c) refl (λ k. cut_skips table stops nl cs new answer k) h
+pub cut_skips : (table : List Bool) → StopsInBlocks table
+    → (line_has_ended : Bool) (cs : List ℕ) (new : At) (answer : Skipped)
+    → ReadsCut line_has_ended (cut_behind (codes "*/") (from_first (matches_char table) cs)) new answer
+    → ReadsCut line_has_ended (cut_behind (codes "*/") cs) new answer
+cut_skips table stops line_has_ended [] new answer h = h
+cut_skips table stops line_has_ended (c ∷ cs) new answer h =
+    by_test (matches_char table c) refl (λ k. cut_skips table stops line_has_ended cs new answer k) h
   where
     by_test : (b : Bool) → matches_char table c ≡ b
-        → (ReadsCut nl (cut_behind (codes "*/") (from_first (matches_char table) cs)) new answer
-        → ReadsCut nl (cut_behind (codes "*/") cs) new answer)
-        → ReadsCut nl (cut_behind (codes "*/") (if b then c ∷ cs else from_first (matches_char table) cs)) new answer
-        → ReadsCut nl (cut_behind (codes "*/") (c ∷ cs)) new answer
+        → (ReadsCut line_has_ended (cut_behind (codes "*/") (from_first (matches_char table) cs)) new answer
+        → ReadsCut line_has_ended (cut_behind (codes "*/") cs) new answer)
+        → ReadsCut line_has_ended
+        (cut_behind (codes "*/") (if b then c ∷ cs else from_first (matches_char table) cs)) new answer
+        → ReadsCut line_has_ended (cut_behind (codes "*/") (c ∷ cs)) new answer
     by_test true e more k = k
     by_test false e more k =
         let other = not_matched table stops c e in
         let here : is_prefix (codes "*/") (c ∷ cs) ≡ false = rw other.1 refl in
-        cut_passes nl c cs new answer here
+        cut_passes line_has_ended c cs new answer here
         (subst (λ b. ReadsCut b (cut_behind (codes "*/") cs) new answer)
-        (sym (no_line_end (is_line_terminator c) nl other.0)) (more k))
+        (sym (no_line_end (is_line_terminator c) line_has_ended other.0)) (more k))
 
 -- the state of the search, and what it comes to
 abbrev pub Cuts : Bool → At → Bool → At → Type 0
-Cuts nl start ended old = (new : At) (answer : Skipped)
-    → ReadsCut ended (cut_behind (codes "*/") (rest old)) new answer
-    → ReadsCut nl (cut_behind (codes "*/") (rest start)) new answer
+Cuts line_had_ended start line_has_ended old = (new : At) (answer : Skipped)
+    → ReadsCut line_has_ended (cut_behind (codes "*/") (rest old)) new answer
+    → ReadsCut line_had_ended (cut_behind (codes "*/") (rest start)) new answer
 
-pub block_passes : (table : List Bool) (nl ended : Bool) (start old mid new : At) (c : ℕ) → StopsInBlocks table
-    → Cuts nl start ended old → rest mid ≡ from_first (matches_char table) (rest old)
+pub block_passes : (table : List Bool) (line_had_ended line_has_ended : Bool) (start old mid new : At) (c : ℕ)
+    → StopsInBlocks table
+    → Cuts line_had_ended start line_has_ended old → rest mid ≡ from_first (matches_char table) (rest old)
     → BeginsWith c (rest mid) → StepsPast mid new → is_prefix (codes "*/") (c ∷ rest new) ≡ false
-    → Cuts nl start (ended || is_line_terminator c) new
-block_passes table nl ended start old mid new c stops inv e begins past other later answer h =
+    → Cuts line_had_ended start (line_has_ended || is_line_terminator c) new
+block_passes table line_had_ended line_has_ended start old mid new c stops inv e begins past other later answer h =
     let after = behind c mid new begins past in
-    inv later answer (cut_skips table stops ended (rest old) later answer
-    (subst (λ xs. ReadsCut ended (cut_behind (codes "*/") xs) later answer) (sym after.1 ∙ e)
-    (cut_passes ended c (rest new) later answer other h)))
+    inv later answer (cut_skips table stops line_has_ended (rest old) later answer
+    (subst (λ xs. ReadsCut line_has_ended (cut_behind (codes "*/") xs) later answer) (sym after.1 ∙ e)
+    (cut_passes line_has_ended c (rest new) later answer other h)))
 
-pub block_ends : (table : List Bool) (nl ended : Bool) (start old mid new : At) → StopsInBlocks table
-    → Cuts nl start ended old → rest mid ≡ from_first (matches_char table) (rest old)
-    → rest mid ≡ [] → ReadsCut nl (cut_behind (codes "*/") (rest start)) new Nothing
-block_ends table nl ended start old mid new stops inv e none =
-    inv new Nothing (cut_skips table stops ended (rest old) new Nothing (ap (cut_behind (codes "*/")) (sym e ∙ none)))
+pub block_ends : (table : List Bool) (line_had_ended line_has_ended : Bool) (start old mid new : At)
+    → StopsInBlocks table
+    → Cuts line_had_ended start line_has_ended old → rest mid ≡ from_first (matches_char table) (rest old)
+    → rest mid ≡ [] → ReadsCut line_had_ended (cut_behind (codes "*/") (rest start)) new Nothing
+block_ends table line_had_ended line_has_ended start old mid new stops inv e none =
+    inv new Nothing
+    (cut_skips table stops line_has_ended (rest old) new Nothing (ap (cut_behind (codes "*/")) (sym e ∙ none)))
 
-mark_is_no_line_end : (ended : Bool) → (ended || list_any is_line_terminator (codes "*/")) ≡ ended
+mark_is_no_line_end : (line_has_ended : Bool)
+    → (line_has_ended || list_any is_line_terminator (codes "*/")) ≡ line_has_ended
 unfolding is_line_terminator
-mark_is_no_line_end ended = or_false ended
+mark_is_no_line_end line_has_ended = or_false line_has_ended
 
-found_cut : (ended : Bool) (r : List ℕ) (new : At) → r ≡ rest new
-    → ReadsCut ended (cut_behind (codes "*/") (42 ∷ 47 ∷ r)) new (Piece ended)
-found_cut ended r new e = (record { front = codes "*/"; rest = r }, refl, mark_is_no_line_end ended, e)
+found_cut : (line_has_ended : Bool) (r : List ℕ) (new : At) → r ≡ rest new
+    → ReadsCut line_has_ended (cut_behind (codes "*/") (42 ∷ 47 ∷ r)) new (Piece line_has_ended)
+found_cut line_has_ended r new e =
+    (record { front = codes "*/"; rest = r }, refl, mark_is_no_line_end line_has_ended, e)
 
-pub block_found : (table : List Bool) (nl ended : Bool) (start old mid a new : At) (c : ℕ) → StopsInBlocks table
-    → Cuts nl start ended old → rest mid ≡ from_first (matches_char table) (rest old)
+pub block_found : (table : List Bool) (line_had_ended line_has_ended : Bool) (start old mid a new : At) (c : ℕ)
+    → StopsInBlocks table
+    → Cuts line_had_ended start line_has_ended old → rest mid ≡ from_first (matches_char table) (rest old)
     → BeginsWith c (rest mid) → StepsPast mid a → c ≡ 42 → Reads a new 47
-    → ReadsCut nl (cut_behind (codes "*/") (rest start)) new (Piece ended)
-block_found table nl ended start old mid a new c stops inv e begins past star reads =
+    → ReadsCut line_had_ended (cut_behind (codes "*/") (rest start)) new (Piece line_has_ended)
+block_found table line_had_ended line_has_ended start old mid a new c stops inv e begins past star reads =
     let after = behind c mid a begins past in
     let whole : rest mid ≡ 42 ∷ 47 ∷ rest new = after.1 ∙ ap (λ x. x ∷ rest a) star ∙ ap (λ xs. 42 ∷ xs) reads.here in
-    inv new (Piece ended) (cut_skips table stops ended (rest old) new (Piece ended)
-    (subst (λ xs. ReadsCut ended (cut_behind (codes "*/") xs) new (Piece ended)) (sym whole ∙ e)
-    (found_cut ended (rest new) new refl)))
+    inv new (Piece line_has_ended) (cut_skips table stops line_has_ended (rest old) new (Piece line_has_ended)
+    (subst (λ xs. ReadsCut line_has_ended (cut_behind (codes "*/") xs) new (Piece line_has_ended)) (sym whole ∙ e)
+    (found_cut line_has_ended (rest new) new refl)))

@@ -31,39 +31,45 @@ use Rattle.js_lexer.specs.declared.skipped.Skipped.{Skipped}
 use Rattle.js_lexer.specs.declared.skipped.Skipped.TheVariants.{Piece, Nothing}
 
 -- a comment up to the end of its line
-pub line_comment_ends : (t : SourceType) (nl : Bool) (a b new : At) → Reads a b 47
-    → rest new ≡ from_first is_line_terminator (rest b) → EndsPiece (piece t nl (47 ∷ rest a)) new (Piece nl)
-line_comment_ends t nl a b new reads e = (
-  line_comment single_line_comment nl (47 ∷ 47 ∷ rest b),
-  ap (λ xs. piece t nl (47 ∷ xs)) reads.here ∙ piece-line_comment t nl (rest b),
+pub line_comment_ends : (t : SourceType) (line_has_ended : Bool) (a b new : At) → Reads a b 47
+    → rest new ≡ from_first is_line_terminator (rest b)
+    → EndsPiece (piece t line_has_ended (47 ∷ rest a)) new (Piece line_has_ended)
+line_comment_ends t line_has_ended a b new reads e = (
+  line_comment single_line_comment line_has_ended (47 ∷ 47 ∷ rest b),
+  ap (λ xs. piece t line_has_ended (47 ∷ xs)) reads.here ∙ piece-line_comment t line_has_ended (rest b),
   refl,
   from_first-slash (47 ∷ rest b) ∙ from_first-slash (rest b) ∙ sym e,
 )
 
-block_piece : (t : SourceType) (nl : Bool) (a b : At) → Reads a b 42
-    → piece t nl (47 ∷ rest a) ≡ block_comment nl (47 ∷ 42 ∷ rest b)
-block_piece t nl a b reads = ap (λ xs. piece t nl (47 ∷ xs)) reads.here ∙ piece-block_comment t nl (rest b)
+block_piece : (t : SourceType) (line_has_ended : Bool) (a b : At) → Reads a b 42
+    → piece t line_has_ended (47 ∷ rest a) ≡ block_comment line_has_ended (47 ∷ 42 ∷ rest b)
+block_piece t line_has_ended a b reads =
+    ap (λ xs. piece t line_has_ended (47 ∷ xs)) reads.here ∙ piece-block_comment t line_has_ended (rest b)
 
 -- a block comment
-pub block_comment_ends : (t : SourceType) (nl : Bool) (a b new : At) (answer : Skipped) → Reads a b 42
-    → ReadsCut nl (cut_behind (codes "*/") (rest b)) new answer
-    → EndsPiece (piece t nl (47 ∷ rest a)) new answer
-block_comment_ends t nl a b new Nothing reads h = block_piece t nl a b reads ∙ ap (option_map _) h
-block_comment_ends t nl a b new (Piece ended) reads h =
-    (_, block_piece t nl a b reads ∙ ap (option_map _) h.1, h.2, h.3)
+pub block_comment_ends : (t : SourceType) (line_had_ended : Bool) (a b new : At) (answer : Skipped) → Reads a b 42
+    → ReadsCut line_had_ended (cut_behind (codes "*/") (rest b)) new answer
+    → EndsPiece (piece t line_had_ended (47 ∷ rest a)) new answer
+block_comment_ends t line_had_ended a b new Nothing reads h =
+    block_piece t line_had_ended a b reads ∙ ap (option_map _) h
+block_comment_ends t line_had_ended a b new (Piece line_has_ended) reads h =
+    (_, block_piece t line_had_ended a b reads ∙ ap (option_map _) h.1, h.2, h.3)
 
-pub no_comment : (t : SourceType) (nl : Bool) (a b c : At) → (begins (λ x. x == 47) (rest a) ≡ false) × (b ≡ a)
+pub no_comment : (t : SourceType) (line_has_ended : Bool) (a b c : At)
+    → (begins (λ x. x == 47) (rest a) ≡ false) × (b ≡ a)
     → (begins (λ x. x == 42) (rest b) ≡ false) × (c ≡ b)
-    → piece t nl (47 ∷ rest a) ≡ None
-no_comment t nl a b c line block =
-    piece-slash t nl (rest a) line.0 (subst (λ (s : At). begins (λ x. x == 42) (rest s) ≡ false) line.1 block.0)
+    → piece t line_has_ended (47 ∷ rest a) ≡ None
+no_comment t line_has_ended a b c line block =
+    piece-slash t line_has_ended (rest a) line.0
+    (subst (λ (s : At). begins (λ x. x == 42) (rest s) ≡ false) line.1 block.0)
 
 -- a piece seen from the `/` that begins it
-pub from_slash : (t : SourceType) (nl : Bool) (old a new : At) (answer : Skipped) → new.text ≡ a.text
+pub from_slash : (t : SourceType) (line_has_ended : Bool) (old a new : At) (answer : Skipped) → new.text ≡ a.text
     → (a.text ≡ old.text) × (rest old ≡ 47 ∷ rest a)
-    → EndsPiece (piece t nl (47 ∷ rest a)) new answer → EndsPiece (piece t nl (rest old)) new answer
-from_slash t nl old a new answer text behind h =
-    subst (λ (xs : List ℕ). EndsPiece (piece t nl xs) new answer) (sym behind.1) h
+    → EndsPiece (piece t line_has_ended (47 ∷ rest a)) new answer
+    → EndsPiece (piece t line_has_ended (rest old)) new answer
+from_slash t line_has_ended old a new answer text behind h =
+    subst (λ (xs : List ℕ). EndsPiece (piece t line_has_ended xs) new answer) (sym behind.1) h
 
 if_false : (a b : Bool) (x y : Option GapPiece) → b ≡ false → (if a && b then x else y) ≡ y
 if_false true b x y e = rw e refl
@@ -83,94 +89,105 @@ and_false false b e = refl
 split : (c : ℕ) (old : At) → BeginsWith c (rest old) → (cs : List ℕ) × (rest old ≡ c ∷ cs)
 split c old begins = begins_with c (rest old) begins
 
-pub no_html_open_in_module : (t : SourceType) (nl : Bool) (old : At) → BeginsWith 60 (rest old) → is_module t ≡ true
-    → piece t nl (rest old) ≡ None
-no_html_open_in_module t nl old begins m =
+pub no_html_open_in_module : (t : SourceType) (line_has_ended : Bool) (old : At) → BeginsWith 60 (rest old)
+    → is_module t ≡ true
+    → piece t line_has_ended (rest old) ≡ None
+no_html_open_in_module t line_has_ended old begins m =
     let found = split 60 old begins in
-    ap (piece t nl) found.1 ∙ piece-angle t nl found.0
+    ap (piece t line_has_ended) found.1 ∙ piece-angle t line_has_ended found.0
     ∙ if_false (is_prefix (codes "!--") found.0) (not (is_module t)) _ None (not_false (is_module t) m)
 
-pub no_html_open_mark : (t : SourceType) (nl : Bool) (old : At) → BeginsWith 60 (rest old)
-    → is_prefix (codes "<!--") (rest old) ≡ false → piece t nl (rest old) ≡ None
-no_html_open_mark t nl old begins e =
+pub no_html_open_mark : (t : SourceType) (line_has_ended : Bool) (old : At) → BeginsWith 60 (rest old)
+    → is_prefix (codes "<!--") (rest old) ≡ false → piece t line_has_ended (rest old) ≡ None
+no_html_open_mark t line_has_ended old begins e =
     let found = split 60 old begins in
     let none : is_prefix (codes "!--") found.0 ≡ false = sym (ap (is_prefix (codes "<!--")) found.1) ∙ e in
-    ap (piece t nl) found.1 ∙ piece-angle t nl found.0
+    ap (piece t line_has_ended) found.1 ∙ piece-angle t line_has_ended found.0
     ∙ if_first (is_prefix (codes "!--") found.0) (not (is_module t)) _ None none
 
-pub html_open_ends : (t : SourceType) (nl : Bool) (old b new : At) → is_module t ≡ false
+pub html_open_ends : (t : SourceType) (line_has_ended : Bool) (old b new : At) → is_module t ≡ false
     → rest old ≡ codes "<!--" ++ rest b → rest new ≡ from_first is_line_terminator (rest b)
-    → EndsPiece (piece t nl (rest old)) new (Piece nl)
-html_open_ends t nl old b new m e f = (
-  line_comment html_open_comment nl (codes "<!--" ++ rest b),
-  ap (piece t nl) e ∙ piece-angle t nl (codes "!--" ++ rest b) ∙ rw m refl,
+    → EndsPiece (piece t line_has_ended (rest old)) new (Piece line_has_ended)
+html_open_ends t line_has_ended old b new m e f = (
+  line_comment html_open_comment line_has_ended (codes "<!--" ++ rest b),
+  ap (piece t line_has_ended) e ∙ piece-angle t line_has_ended (codes "!--" ++ rest b) ∙ rw m refl,
   refl,
   from_first-html_open (rest b) ∙ sym f,
 )
 
-pub no_html_close_in_module : (t : SourceType) (nl : Bool) (old : At) → BeginsWith 45 (rest old) → is_module t ≡ true
-    → piece t nl (rest old) ≡ None
-no_html_close_in_module t nl old begins m =
+pub no_html_close_in_module : (t : SourceType) (line_has_ended : Bool) (old : At) → BeginsWith 45 (rest old)
+    → is_module t ≡ true
+    → piece t line_has_ended (rest old) ≡ None
+no_html_close_in_module t line_has_ended old begins m =
     let found = split 45 old begins in
-    ap (piece t nl) found.1 ∙ piece-minus t nl found.0
-    ∙ if_false (is_prefix (codes "->") found.0) (not (is_module t) && nl) _ None (rw m refl)
+    ap (piece t line_has_ended) found.1 ∙ piece-minus t line_has_ended found.0
+    ∙ if_false (is_prefix (codes "->") found.0) (not (is_module t) && line_has_ended) _ None (rw m refl)
 
-pub no_html_close_in_line : (t : SourceType) (nl : Bool) (old : At) → BeginsWith 45 (rest old) → nl ≡ false
-    → piece t nl (rest old) ≡ None
-no_html_close_in_line t nl old begins e =
+pub no_html_close_in_line : (t : SourceType) (line_has_ended : Bool) (old : At) → BeginsWith 45 (rest old)
+    → line_has_ended ≡ false
+    → piece t line_has_ended (rest old) ≡ None
+no_html_close_in_line t line_has_ended old begins e =
     let found = split 45 old begins in
-    ap (piece t nl) found.1 ∙ piece-minus t nl found.0
-    ∙ if_false (is_prefix (codes "->") found.0) (not (is_module t) && nl) _ None
-    (and_false (not (is_module t)) nl e)
+    ap (piece t line_has_ended) found.1 ∙ piece-minus t line_has_ended found.0
+    ∙ if_false (is_prefix (codes "->") found.0) (not (is_module t) && line_has_ended) _ None
+    (and_false (not (is_module t)) line_has_ended e)
 
-pub no_html_close_mark : (t : SourceType) (nl : Bool) (old : At) → BeginsWith 45 (rest old)
-    → is_prefix (codes "-->") (rest old) ≡ false → piece t nl (rest old) ≡ None
-no_html_close_mark t nl old begins e =
+pub no_html_close_mark : (t : SourceType) (line_has_ended : Bool) (old : At) → BeginsWith 45 (rest old)
+    → is_prefix (codes "-->") (rest old) ≡ false → piece t line_has_ended (rest old) ≡ None
+no_html_close_mark t line_has_ended old begins e =
     let found = split 45 old begins in
     let none : is_prefix (codes "->") found.0 ≡ false = sym (ap (is_prefix (codes "-->")) found.1) ∙ e in
-    ap (piece t nl) found.1 ∙ piece-minus t nl found.0
-    ∙ if_first (is_prefix (codes "->") found.0) (not (is_module t) && nl) _ None none
+    ap (piece t line_has_ended) found.1 ∙ piece-minus t line_has_ended found.0
+    ∙ if_first (is_prefix (codes "->") found.0) (not (is_module t) && line_has_ended) _ None none
 
-pub html_close_ends : (t : SourceType) (nl : Bool) (old b new : At) → is_module t ≡ false → nl ≡ true
+pub html_close_ends : (t : SourceType) (line_has_ended : Bool) (old b new : At) → is_module t ≡ false
+    → line_has_ended ≡ true
     → rest old ≡ codes "-->" ++ rest b → rest new ≡ from_first is_line_terminator (rest b)
-    → EndsPiece (piece t nl (rest old)) new (Piece nl)
-html_close_ends t nl old b new m n e f = (
-  line_comment html_close_comment nl (codes "-->" ++ rest b),
-  ap (piece t nl) e ∙ piece-minus t nl (codes "->" ++ rest b) ∙ rw (m, n) refl,
+    → EndsPiece (piece t line_has_ended (rest old)) new (Piece line_has_ended)
+html_close_ends t line_has_ended old b new m n e f = (
+  line_comment html_close_comment line_has_ended (codes "-->" ++ rest b),
+  ap (piece t line_has_ended) e ∙ piece-minus t line_has_ended (codes "->" ++ rest b) ∙ rw (m, n) refl,
   refl,
   from_first-html_close (rest b) ∙ sym f,
 )
 
 -- a white character, a line terminator, or neither
-pub white_ends : (t : SourceType) (nl : Bool) (c : ℕ) (old new : At) → rest old ≡ c ∷ rest new
-    → is_white_space c ≡ true → EndsPiece (piece t nl (rest old)) new (Piece nl)
-white_ends t nl c old new e white =
-    (one_character white_space nl c (rest new), ap (piece t nl) e ∙ piece-white t nl c (rest new) white, refl, refl)
-
-pub line_terminator_ends : (t : SourceType) (nl : Bool) (c : ℕ) (old new : At) → rest old ≡ c ∷ rest new
-    → is_white_space c ≡ false → is_line_terminator c ≡ true
-    → EndsPiece (piece t nl (rest old)) new (Piece true)
-line_terminator_ends t nl c old new e white line = (
-  one_character line_terminator true c (rest new),
-  ap (piece t nl) e
-      ∙ piece-line_terminator t nl c (rest new) white line,
+pub white_ends : (t : SourceType) (line_has_ended : Bool) (c : ℕ) (old new : At) → rest old ≡ c ∷ rest new
+    → is_white_space c ≡ true → EndsPiece (piece t line_has_ended (rest old)) new (Piece line_has_ended)
+white_ends t line_has_ended c old new e white = (
+  one_character white_space line_has_ended c (rest new),
+  ap (piece t line_has_ended) e
+      ∙ piece-white t line_has_ended c (rest new) white,
   refl,
   refl,
 )
 
-pub no_piece : (t : SourceType) (nl : Bool) (c : ℕ) (old : At) → BeginsWith c (rest old) → is_white_space c ≡ false
+pub line_terminator_ends : (t : SourceType) (line_has_ended : Bool) (c : ℕ) (old new : At) → rest old ≡ c ∷ rest new
+    → is_white_space c ≡ false → is_line_terminator c ≡ true
+    → EndsPiece (piece t line_has_ended (rest old)) new (Piece true)
+line_terminator_ends t line_has_ended c old new e white line = (
+  one_character line_terminator true c (rest new),
+  ap (piece t line_has_ended) e
+      ∙ piece-line_terminator t line_has_ended c (rest new) white line,
+  refl,
+  refl,
+)
+
+pub no_piece : (t : SourceType) (line_has_ended : Bool) (c : ℕ) (old : At) → BeginsWith c (rest old)
+    → is_white_space c ≡ false
     → is_line_terminator c ≡ false
-    → (c ≡ 47 → ⊥) → (c ≡ 60 → ⊥) → (c ≡ 45 → ⊥) → piece t nl (rest old) ≡ None
-no_piece t nl c old begins white line slash angle minus =
+    → (c ≡ 47 → ⊥) → (c ≡ 60 → ⊥) → (c ≡ 45 → ⊥) → piece t line_has_ended (rest old) ≡ None
+no_piece t line_has_ended c old begins white line slash angle minus =
     let found = split c old begins in
-    ap (piece t nl) found.1 ∙ piece-other t nl c found.0 white line slash angle minus
+    ap (piece t line_has_ended) found.1 ∙ piece-other t line_has_ended c found.0 white line slash angle minus
 
 -- a reported comment stands where a line has ended
-pub line_ended_before_reported : (t : SourceType) (ended : Bool) (here : List ℕ) → is_reported t ended here ≡ true
-    → ended ≡ true
-line_ended_before_reported t ended here e =
-    let all = and_true (is_prefix (codes "<!--") here) (is_module t && ended) e in
-    (and_true (is_module t) ended all.1).1
+pub line_ended_before_reported : (t : SourceType) (line_has_ended : Bool) (here : List ℕ)
+    → is_reported t line_has_ended here ≡ true
+    → line_has_ended ≡ true
+line_ended_before_reported t line_has_ended here e =
+    let all = and_true (is_prefix (codes "<!--") here) (is_module t && line_has_ended) e in
+    (and_true (is_module t) line_has_ended all.1).1
 
 -- the place behind the mark of a reported comment
 pub behind_mark : (old adv : At) → IsPlaced old → IsPlaced adv → adv.text ≡ old.text

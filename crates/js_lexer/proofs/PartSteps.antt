@@ -126,21 +126,24 @@ run_fewer table old new text run =
     )
 
 blanks_before : (table : List Bool) → TellsBlanks table
-    → (t : SourceType) (nl : Bool) (xs cs : List ℕ) (ended : Bool) (left : List ℕ) → IsRun table xs
-    → LongestGap t nl cs ended left → LongestGap t nl (xs ++ cs) ended left
-blanks_before table tells t nl [] cs ended left h g = g
-blanks_before table tells t nl (b ∷ bs) cs ended left h g =
-    longest_gap-cons t nl (b ∷ (bs ++ cs)) (one_character white_space nl b (bs ++ cs)) ended left
-    (piece-white t nl b (bs ++ cs) (tells.tells b h.0 h.1)) (blanks_before table tells t nl bs cs ended left h.2 g)
+    → (t : SourceType) (line_had_ended : Bool) (xs cs : List ℕ) (line_has_ended : Bool) (left : List ℕ) → IsRun table xs
+    → LongestGap t line_had_ended cs line_has_ended left → LongestGap t line_had_ended (xs ++ cs) line_has_ended left
+blanks_before table tells t line_had_ended [] cs line_has_ended left h g = g
+blanks_before table tells t line_had_ended (b ∷ bs) cs line_has_ended left h g =
+    longest_gap-cons t line_had_ended (b ∷ (bs ++ cs))
+    (one_character white_space line_had_ended b (bs ++ cs)) line_has_ended left
+    (piece-white t line_had_ended b (bs ++ cs) (tells.tells b h.0 h.1))
+    (blanks_before table tells t line_had_ended bs cs line_has_ended left h.2 g)
 
 pub blanks_passed : (table : List Bool) (old new : At) → TellsBlanks table → new.text ≡ old.text
     → PassesRun table old.text old.place new.place
-    → (t : SourceType) (nl ended : Bool) (left : List ℕ) → LongestGap t nl (rest new) ended left
-    → LongestGap t nl (rest old) ended left
-blanks_passed table old new tells text run t nl ended left g =
+    → (t : SourceType) (line_had_ended line_has_ended : Bool) (left : List ℕ)
+    → LongestGap t line_had_ended (rest new) line_has_ended left
+    → LongestGap t line_had_ended (rest old) line_has_ended left
+blanks_passed table old new tells text run t line_had_ended line_has_ended left g =
     let here : rest old ≡ run.run ++ rest new = run.here ∙ ap (λ u. run.run ++ from_place u new.place) (sym text) in
-    subst (λ (xs : List ℕ). LongestGap t nl xs ended left) (sym here)
-    (blanks_before table tells t nl run.run (rest new) ended left run.all g)
+    subst (λ (xs : List ℕ). LongestGap t line_had_ended xs line_has_ended left) (sym here)
+    (blanks_before table tells t line_had_ended run.run (rest new) line_has_ended left run.all g)
 
 pub starts_with : (p : ℕ → Bool) (c : ℕ) (xs : List ℕ) → BeginsWith c xs → p c ≡ true → begins_text p xs ≡ true
 starts_with p c [] h e = absurd h

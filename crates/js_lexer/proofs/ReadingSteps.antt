@@ -38,9 +38,10 @@ abbrev pub plain_lexeme : Kind → Bool → Lexeme
 plain_lexeme kind line_has_ended =
     record { kind = kind; is_on_new_line = line_has_ended; escaped = false; has_separator = false }
 
-unflagged : (k : Kind) (nl e s : Bool) → e ≡ false → s ≡ false
-    → plain_lexeme k nl ≡ record { kind = k; is_on_new_line = nl; escaped = e; has_separator = s }
-unflagged k nl e s f g = rw (f, g) refl
+unflagged : (k : Kind) (line_has_ended e s : Bool) → e ≡ false → s ≡ false
+    → plain_lexeme k line_has_ended
+    ≡ record { kind = k; is_on_new_line = line_has_ended; escaped = e; has_separator = s }
+unflagged k line_has_ended e s f g = rw (f, g) refl
 
 -- a spelling was read
 pub lexeme_spelled : (old new : Reader) (k : Kind) (l : Lexeme) → StaysWithin old new
@@ -61,9 +62,10 @@ lexeme_spelled old new k l within s is =
     }
 
 -- where no name and no punctuator begins, nothing is spelled
-pub nothing_here : (t : SourceType) (nl : Bool) (here : List ℕ) → NothingHere t nl here → NothingSpelled t nl here
-nothing_here t nl [] n = absurd (n.some refl)
-nothing_here t nl (c ∷ cs) n = nothing_spelled t nl c cs n.no_name n.no_punctuator
+pub nothing_here : (t : SourceType) (line_has_ended : Bool) (here : List ℕ) → NothingHere t line_has_ended here
+    → NothingSpelled t line_has_ended here
+nothing_here t line_has_ended [] n = absurd (n.some refl)
+nothing_here t line_has_ended (c ∷ cs) n = nothing_spelled t line_has_ended c cs n.no_name n.no_punctuator
 
 -- what was read to recover, and reported
 pub lexeme_recovered : (old new : Reader) (r : Recovered) → Recovers old.line_has_ended old.source r new.source
@@ -204,7 +206,7 @@ hashbang_read old new mid token end start g within takes same to f e =
 pub goal_hashbang : (before : Option TokenParts) (old new : Reader) (token : TokenParts)
     → line_has_ended_behind before ≡ old.line_has_ended → IsHashbangRead old token new
     → ReadsGoal First before old token new
-goal_hashbang before old new token nl h = record {
+goal_hashbang before old new token line_has_ended h = record {
   text = h.text;
   source_type = h.within.source_type;
   end = h.end;
@@ -213,7 +215,7 @@ goal_hashbang before old new token nl h = record {
   reads =
       hashbang h.begins record {
         is_hashbang = h.is_hashbang;
-        is_on_new_line = h.is_on_new_line ∙ sym nl;
+        is_on_new_line = h.is_on_new_line ∙ sym line_has_ended;
         escaped = h.escaped;
         has_separator = h.has_separator;
         alone = refl;
@@ -226,7 +228,7 @@ pub goal_behind : (goal : Goal) (before : Option TokenParts) (old new : Reader) 
     → line_has_ended_behind before ≡ old.line_has_ended
     → begins_hashbang goal old.source.text old.source.place ≡ false → ReadsBehind old token new
     → ReadsGoal goal before old token new
-goal_behind goal before old new token nl none b = record {
+goal_behind goal before old new token line_has_ended none b = record {
   text = b.text;
   source_type = b.source_type;
   end = b.end;
@@ -234,7 +236,8 @@ goal_behind goal before old new token nl none b = record {
   token_is = b.token_is;
   reads =
       behind_gap none
-      (subst (λ e. ReadsBehindGap old.source.text old.source_type e old.source.place b.outcome) (sym nl) b.reads);
+      (subst (λ e. ReadsBehindGap old.source.text old.source_type e old.source.place b.outcome)
+      (sym line_has_ended) b.reads);
   findings = b.findings;
   errors = b.errors;
 }
@@ -311,7 +314,8 @@ goal_answers goal old mid new r same none h =
     IfOk-weaker r (λ token. ReadsBehind mid token new)
     (λ token. (before : Option TokenParts) → line_has_ended_behind before ≡ old.line_has_ended
     → ReadsGoal goal before old token new)
-    (λ token b before nl. goal_behind goal before old new token nl none (behind_from old mid new token same b)) h
+    (λ token b before line_has_ended. goal_behind goal before old new token line_has_ended none
+    (behind_from old mid new token same b)) h
 
 pub goal_fails : (old mid new : Reader) (r : Result TokenParts AllocError) → IsUnmoved old mid
     → OnErr r (MovesOn mid new) → OnErr r (MovesOn old new)

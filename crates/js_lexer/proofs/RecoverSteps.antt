@@ -57,21 +57,23 @@ if_true b x y e = rw e refl
 if_not : (b : Bool) (x y : Option Reading) → b ≡ false → (if b then x else y) ≡ y
 if_not b x y e = rw e refl
 
-pub unterminated : (nl : Bool) (old mid new : At) (b : Bool) (start end : ℕ) → IsPlaced old → IsPlaced new
+pub unterminated : (line_has_ended : Bool) (old mid new : At) (b : Bool) (start end : ℕ) → IsPlaced old → IsPlaced new
     → TakesMark (codes "/*") old true mid → new ≡ record mid { place = length mid.text }
-    → rest new ≡ [] → b ≡ (nl || list_any is_line_terminator (rest mid)) → start ≡ old.place → end ≡ new.place
-    → Recovers nl old
+    → rest new ≡ [] → b ≡ (line_has_ended || list_any is_line_terminator (rest mid)) → start ≡ old.place
+    → end ≡ new.place
+    → Recovers line_has_ended old
     (record {
       kind = Eof;
       is_on_new_line = b;
       diagnostic = UnterminatedMultiLineComment (record { start = start; end = end });
     }) new
-unterminated nl old mid new b start end h g takes e none line s f =
+unterminated line_has_ended old mid new b start end h g takes e none line s f =
     let text : new.text ≡ old.text = ap (λ a. a.text) e ∙ takes.0 in
     let begun : is_prefix (codes "/*") (rest old) ≡ true =
     ap (is_prefix (codes "/*")) takes.1 ∙ prefix_of (codes "/*") (rest mid) in
-    let line_is : (nl || list_any is_line_terminator (rest old)) ≡ b =
-    ap (λ cs. nl || list_any is_line_terminator cs) takes.1 ∙ ap (λ x. nl || x) (mark_has_no_line_end (rest mid))
+    let line_is : (line_has_ended || list_any is_line_terminator (rest old)) ≡ b =
+    ap (λ cs. line_has_ended || list_any is_line_terminator cs) takes.1
+    ∙ ap (λ x. line_has_ended || x) (mark_has_no_line_end (rest mid))
     ∙ sym line in
     let whole : rest old ≡ rest old ++ rest new = sym (append-nil (rest old)) ∙ ap (λ xs. rest old ++ xs) (sym none) in
     let to : place_behind old.place (rest old) ≡ end = sym (f ∙ leads_to old new (rest old) h g text whole) in
@@ -85,17 +87,17 @@ behind_number_sign : (place : ℕ) → place_behind place (codes "#!") ≡ place
 unfolding lib.Utf8.encode
 behind_number_sign place = refl
 
-pub unread_hashbang : (nl : Bool) (old mid new : At) (start middle end : ℕ) → IsPlaced old → IsPlaced mid
+pub unread_hashbang : (line_has_ended : Bool) (old mid new : At) (start middle end : ℕ) → IsPlaced old → IsPlaced mid
     → is_prefix (codes "/*") (rest old) ≡ false → TakesMark (codes "#!") old true mid
     → new ≡ record mid { place = length mid.text } → rest new ≡ [] → start ≡ old.place → middle ≡ start + 1
     → end ≡ mid.place
-    → Recovers nl old
+    → Recovers line_has_ended old
     (record {
       kind = Eof;
-      is_on_new_line = nl;
+      is_on_new_line = line_has_ended;
       diagnostic = InvalidCharacter exclamation_mark (record { start = middle; end = end });
     }) new
-unread_hashbang nl old mid new start middle end h g no_comment takes e none s m f =
+unread_hashbang line_has_ended old mid new start middle end h g no_comment takes e none s m f =
     let begun : is_prefix (codes "#!") (rest old) ≡ true =
     ap (is_prefix (codes "#!")) takes.1 ∙ prefix_of (codes "#!") (rest mid) in
     let to : end ≡ old.place + 2 =
@@ -110,22 +112,28 @@ unread_hashbang nl old mid new start middle end h g no_comment takes e none s m 
     }
 
 -- where neither mark stands
-no_mark : (nl : Bool) (old : At) → is_prefix (codes "/*") (rest old) ≡ false → is_prefix (codes "#!") (rest old) ≡ false
-    → recovered nl old.place (rest old)
-    ≡ (if begins (λ c. c == 0xFFFD) (rest old) then Some (binary_file nl) else recovered_character nl old.place
+no_mark : (line_has_ended : Bool) (old : At) → is_prefix (codes "/*") (rest old) ≡ false
+    → is_prefix (codes "#!") (rest old) ≡ false
+    → recovered line_has_ended old.place (rest old)
+    ≡ (if begins (λ c. c == 0xFFFD) (rest old) then Some
+    (binary_file line_has_ended) else recovered_character line_has_ended old.place
     (rest old))
-no_mark nl old e f = if_not (is_prefix (codes "/*") (rest old)) _ _ e ∙ if_not (is_prefix (codes "#!") (rest old)) _ _ f
+no_mark line_has_ended old e f =
+    if_not (is_prefix (codes "/*") (rest old)) _ _ e ∙ if_not (is_prefix (codes "#!") (rest old)) _ _ f
 
-pub binary : (nl : Bool) (old mid new : At) (c : ℕ) → IsPlaced old → is_prefix (codes "/*") (rest old) ≡ false
+pub binary : (line_has_ended : Bool) (old mid new : At) (c : ℕ) → IsPlaced old
+    → is_prefix (codes "/*") (rest old) ≡ false
     → is_prefix (codes "#!") (rest old) ≡ false → Reads old mid c → c ≡ 0xFFFD
     → new ≡ record mid { place = length mid.text } → rest new ≡ []
-    → Recovers nl old (record { kind = Eof; is_on_new_line = nl; diagnostic = FileAppearsToBeBinary }) new
-binary nl old mid new c h e f reads same to none =
+    → Recovers line_has_ended old
+    (record { kind = Eof; is_on_new_line = line_has_ended; diagnostic = FileAppearsToBeBinary }) new
+binary line_has_ended old mid new c h e f reads same to none =
     let begun : begins (λ d. d == 0xFFFD) (rest old) ≡ true =
     ap (begins (λ d. d == 0xFFFD)) (reads.here ∙ ap (λ d. d ∷ rest mid) same) in
     record {
       text = ap (λ a. a.text) to ∙ reads.text;
-      recovery = no_mark nl old e f ∙ if_true (begins (λ d. d == 0xFFFD) (rest old)) _ _ begun ∙ rw none refl;
+      recovery =
+          no_mark line_has_ended old e f ∙ if_true (begins (λ d. d == 0xFFFD) (rest old)) _ _ begun ∙ rw none refl;
       onward = subst (λ (n : ℕ). old.place ≤ n) (sym (ap (λ a. a.place) to ∙ ap length reads.text)) (h.boundary.0);
     }
 
@@ -134,36 +142,41 @@ some_if : (b : Bool) (x : Reading) → is_some (if b then Some x else None) ≡ 
 some_if true x e = refl
 some_if false x e = absurd (cc)
 
-character_at : (nl : Bool) (place c : ℕ) (cs : List ℕ) → is_some (recovered_character nl place (c ∷ cs)) ≡ true
-    → recovered_character nl place (c ∷ cs) ≡ Some (invalid_character nl place c cs)
-character_at nl place c cs some =
-    if_true (is_control_or_wide c) _ None (some_if (is_control_or_wide c) (invalid_character nl place c cs) some)
+character_at : (line_has_ended : Bool) (place c : ℕ) (cs : List ℕ)
+    → is_some (recovered_character line_has_ended place (c ∷ cs)) ≡ true
+    → recovered_character line_has_ended place (c ∷ cs) ≡ Some (invalid_character line_has_ended place c cs)
+character_at line_has_ended place c cs some =
+    if_true (is_control_or_wide c) _ None
+    (some_if (is_control_or_wide c) (invalid_character line_has_ended place c cs) some)
 
 -- a reading that recovers needs a text
-pub some_text : (nl : Bool) (old : At) → IsSome (recovered nl old.place (rest old)) → rest old ≢ []
-some_text nl old some none = let no : is_some (recovered nl old.place []) ≡ true =
-    subst (λ xs. is_some (recovered nl old.place xs) ≡ true) none some in absurd (cc)
+pub some_text : (line_has_ended : Bool) (old : At) → IsSome (recovered line_has_ended old.place (rest old))
+    → rest old ≢ []
+some_text line_has_ended old some none = let no : is_some (recovered line_has_ended old.place []) ≡ true =
+    subst (λ xs. is_some (recovered line_has_ended old.place xs) ≡ true) none some in absurd (cc)
 
-pub invalid : (nl : Bool) (old new : At) (c start end : ℕ) → IsPlaced old → IsPlaced new
+pub invalid : (line_has_ended : Bool) (old new : At) (c start end : ℕ) → IsPlaced old → IsPlaced new
     → is_prefix (codes "/*") (rest old) ≡ false → is_prefix (codes "#!") (rest old) ≡ false
-    → IsSome (recovered nl old.place (rest old)) → Reads old new c → (c ≡ 0xFFFD → ⊥) → old.place ≤ new.place
+    → IsSome (recovered line_has_ended old.place (rest old)) → Reads old new c → (c ≡ 0xFFFD → ⊥)
+    → old.place ≤ new.place
     → start ≡ old.place → end ≡ new.place
-    → Recovers nl old
+    → Recovers line_has_ended old
     (record {
       kind = Undetermined;
-      is_on_new_line = nl;
+      is_on_new_line = line_has_ended;
       diagnostic = InvalidCharacter c (record { start = start; end = end });
     }) new
-invalid nl old new c start end h g e f some reads other onward s t =
+invalid line_has_ended old new c start end h g e f some reads other onward s t =
     let begun : begins (λ d. d == 0xFFFD) (rest old) ≡ false =
     ap (begins (λ d. d == 0xFFFD)) reads.here ∙ ne_eqb c 0xFFFD other in
     let same =
-    no_mark nl old e f ∙ if_not (begins (λ d. d == 0xFFFD) (rest old)) _ _ begun
-    ∙ ap (recovered_character nl old.place) reads.here in
-    let there : is_some (recovered_character nl old.place (c ∷ rest new)) ≡ true = sym (ap is_some same) ∙ some in
+    no_mark line_has_ended old e f ∙ if_not (begins (λ d. d == 0xFFFD) (rest old)) _ _ begun
+    ∙ ap (recovered_character line_has_ended old.place) reads.here in
+    let there : is_some (recovered_character line_has_ended old.place (c ∷ rest new)) ≡ true =
+    sym (ap is_some same) ∙ some in
     let to : end ≡ place_behind old.place (c ∷ []) = t ∙ leads_to old new (c ∷ []) h g reads.text reads.here in
     record {
       text = reads.text;
-      recovery = same ∙ character_at nl old.place c (rest new) there ∙ rw (s, to) refl;
+      recovery = same ∙ character_at line_has_ended old.place c (rest new) there ∙ rw (s, to) refl;
       onward = onward;
     }

@@ -18,19 +18,21 @@ begun : (p : ℕ → Bool) (xs : List ℕ) → begins p xs ≡ true → (c : ℕ
 begun p [] e = absurd (cc)
 begun p (c ∷ cs) e = (c, cs, refl, e)
 
-longest_name_at : (t : SourceType) (nl : Bool) (text left : List ℕ) (k : Kind) (c : ℕ) (cs : List ℕ) → text ≡ c ∷ cs
+longest_name_at : (t : SourceType) (line_has_ended : Bool) (text left : List ℕ) (k : Kind) (c : ℕ) (cs : List ℕ)
+    → text ≡ c ∷ cs
     → left ≡ from_first is_no_part cs
     → k ≡ name_kind (encode_utf8_all (c ∷ before_first is_no_part cs)) → is_identifier_start c ≡ true
-    → LongestSpelling t nl text (c ∷ before_first is_no_part cs) left k
-longest_name_at t nl text left k c cs e f g start = rw (e, f, g) (longest_of_name t nl c cs start)
+    → LongestSpelling t line_has_ended text (c ∷ before_first is_no_part cs) left k
+longest_name_at t line_has_ended text left k c cs e f g start =
+    rw (e, f, g) (longest_of_name t line_has_ended c cs start)
 
 -- a name was read: its first character, its parts, and its kind by the table
-pub name_spelled : (t : SourceType) (nl : Bool) (old mid new : At) (text : List ℕ) (k : Kind)
+pub name_spelled : (t : SourceType) (line_has_ended : Bool) (old mid new : At) (text : List ℕ) (k : Kind)
     → begins is_identifier_start (rest old) ≡ true → StepsPast old mid
     → rest new ≡ from_first is_no_part (rest mid) → new.text ≡ mid.text
     → ((xs : List ℕ) → from_place new.text old.place ≡ xs ++ rest new → text ≡ encode_utf8_all xs) → k ≡ name_kind text
-    → Spells t nl old new k
-name_spelled t nl old mid new text k start past left same slice kind =
+    → Spells t line_has_ended old new k
+name_spelled t line_has_ended old mid new text k start past left same slice kind =
     let found = begun is_identifier_start (rest old) start in
     let after = past found.0 found.1 found.2 in
     let same_text : new.text ≡ old.text = same ∙ after.0 in
@@ -43,7 +45,7 @@ name_spelled t nl old mid new text k start past left same slice kind =
     record {
       text = same_text;
       spelled = name;
-      spelling = longest_name_at t nl _ _ _ found.0 found.1 found.2 left_is kind_is found.3;
+      spelling = longest_name_at t line_has_ended _ _ _ found.0 found.1 found.2 left_is kind_is found.3;
     }
 
 empty_longest : (us vs : List ℕ) → [] ≡ us ++ vs → length us ≤ 0
@@ -51,8 +53,9 @@ empty_longest [] vs e = omega arith
 empty_longest (u ∷ us) vs e = absurd (cc)
 
 -- the end of the text
-pub end_spelled : (t : SourceType) (nl : Bool) (old : At) → rest old ≡ [] → Spells t nl old old Eof
-end_spelled t nl old e = record {
+pub end_spelled : (t : SourceType) (line_has_ended : Bool) (old : At) → rest old ≡ []
+    → Spells t line_has_ended old old Eof
+end_spelled t line_has_ended old e = record {
   text = refl;
   spelled = [];
   spelling =
@@ -64,11 +67,12 @@ end_spelled t nl old e = record {
 }
 
 -- where no name begins, the longest punctuator is spelled
-pub punctuator_spelled : (t : SourceType) (nl : Bool) (old new : At) (k : Kind)
-    → begins is_identifier_start (rest old) ≡ false → ReadsPunctuator t nl old new (Some k) → Spells t nl old new k
-punctuator_spelled t nl old new k no_name read =
+pub punctuator_spelled : (t : SourceType) (line_has_ended : Bool) (old new : At) (k : Kind)
+    → begins is_identifier_start (rest old) ≡ false → ReadsPunctuator t line_has_ended old new (Some k)
+    → Spells t line_has_ended old new k
+punctuator_spelled t line_has_ended old new k no_name read =
     record {
       text = read.0;
       spelled = read.1.it.text;
-      spelling = longest_of_punctuator t nl (rest old) (rest new) k no_name read.1;
+      spelling = longest_of_punctuator t line_has_ended (rest old) (rest new) k no_name read.1;
     }

@@ -22,7 +22,7 @@ loop-c-preserved c =
     let after =
     behind c.in-Some.c c.advance_to_match.new.source c.next_char.new.self c.in-Some.ensures.some
     c.next_char.ensures.past in
-    let ended = c.either-has_ended.ensures ∙ ap (λ b. c.loop-c.has_ended || b) c.is_line_terminator.ensures in
+    let line_has_ended = c.either-has_ended.ensures ∙ ap (λ b. c.loop-c.has_ended || b) c.is_line_terminator.ensures in
     let passed =
     block_passes c.args.table.now c.args.line_has_ended c.loop-c.has_ended c.args.source.now c.loop-c.source
     c.advance_to_match.new.source c.next_char.new.self c.in-Some.c
@@ -33,7 +33,7 @@ loop-c-preserved c =
       subst (λ (s : At). Cuts c.args.line_has_ended c.args.source.now c.either-has_ended.result s)
           (sym c.if-advance_if_block_end.ensures.1)
           (subst (λ (b : Bool). Cuts c.args.line_has_ended c.args.source.now b c.next_char.new.self)
-          (sym ended) passed),
+          (sym line_has_ended) passed),
     )
 
 pub returns-clause-cut : goal.returns-clause-cut

@@ -26,9 +26,9 @@ loop-self-preserved c =
             errors = skips.within.errors ∙ inv.within.errors;
           };
       text = blanks.text ∙ skips.text ∙ inv.text;
-      completes = λ ended left gap. inv.completes ended left
-          (piece_before t c.loop-self.self c.skip_piece.new.self inv.within.source_type skips ended left
-          (blanks.gap t c.skip_piece.new.self.line_has_ended ended left gap));
+      completes = λ line_has_ended left gap. inv.completes line_has_ended left
+          (piece_before t c.loop-self.self c.skip_piece.new.self inv.within.source_type skips line_has_ended left
+          (blanks.gap t c.skip_piece.new.self.line_has_ended line_has_ended left gap));
     }
 
 pub returns-clause-placed : goal.returns-clause-placed

@@ -11,9 +11,9 @@ invariant-loop-self l = record {
   placed : IsPlaced l.self.source;
   within : SkipsWithin l.fn.self l.self;
   text : l.self.source.text ≡ l.fn.self.source.text;
-  completes : (ended : Bool) (left : List ℕ)
-      → LongestGap l.fn.self.source_type l.self.line_has_ended (rest l.self.source) ended left
-      → LongestGap l.fn.self.source_type l.fn.self.line_has_ended (rest l.fn.self.source) ended left;
+  completes : (line_has_ended : Bool) (left : List ℕ)
+      → LongestGap l.fn.self.source_type l.self.line_has_ended (rest l.self.source) line_has_ended left
+      → LongestGap l.fn.self.source_type l.fn.self.line_has_ended (rest l.fn.self.source) line_has_ended left;
 }
 
 abbrev pub decreases-loop-self : goal.decreases-loop-self
