@@ -1,26 +1,24 @@
 -- A reading reports nothing exactly where the grammar reads a token, and then it is this one.
-use Rattle.std.proofs.Common.{◌≡◌, ◌≢◌, ℕ, ◌+◌, Bool, true, false, not, cond, List, [], ◌∷◌, ◌++◌, ◌==◌, ◌&&◌, ◌||◌}
-use Rattle.std.proofs.Common.{drop, length, refl, sym, ◌∙◌, ap, subst, Option, Some, None}
-use Rattle.std.specs.Prelude.{codes, if◌then◌else◌, ◌↔◌, IfSome}
+use Rattle.std.proofs.Common.{◌≡◌, ◌≢◌, ℕ, Bool, true, false, List, [], ◌∷◌, ◌++◌, ◌==◌, ◌&&◌}
+use Rattle.std.proofs.Common.{drop, refl, sym, ◌∙◌, ap, subst, Option, Some, None}
+use Rattle.std.specs.Prelude.{codes, if◌then◌else◌, IfSome}
 use Rattle.unicode_ident.proofs.Computing.{unicode_ident}
 use Rattle.js_text.specs.Characters.{from_place, begins, is_identifier_start}
 use Rattle.js_text.specs.SourceType.{is_module}
 use Rattle.js_text.specs.declared.source_type.SourceType.{SourceType}
-use Rattle.js_text.specs.declared.diagnostic.Diagnostic.{Diagnostic}
 use Rattle.js_kind.specs.TokenParts.{TokenParts}
 use Rattle.js_kind.specs.declared.kind.Kind.{Kind}
-use Rattle.js_grammar.specs.Gap.{is_prefix, is_reported, Piece, LongestGap, WholeGap}
-use Rattle.js_grammar.specs.Goals.{ReadsHere, ReadsBehindGap, GoalReads, AgreesWithGrammar, line_has_ended_behind}
+use Rattle.js_grammar.specs.Gap.{is_prefix, is_reported, LongestGap}
+use Rattle.js_grammar.specs.Goals.{ReadsHere, GoalReads, AgreesWithGrammar, line_has_ended_behind}
 use Rattle.js_grammar.specs.Goals.ReadsHere.{spelled as spelled_here, recovers}
 use Rattle.js_grammar.specs.Goals.GoalReads.{hashbang as hashbang_read, behind_gap}
-use Rattle.js_grammar.specs.Hashbang.{begins_hashbang, IsHashbang}
 use Rattle.js_grammar.specs.Outcome.{Outcome, gap_diagnostics}
-use Rattle.js_grammar.specs.Reads.{IsSpelled, PlainReads}
+use Rattle.js_grammar.specs.Reads.{PlainReads}
 use Rattle.js_grammar.specs.Reads.PlainReads.{hashbang, spelled}
 use Rattle.js_grammar.specs.Recovery.{Reading, recovered, recovered_character, is_control_or_wide}
 use Rattle.js_grammar.specs.Spelling.{LongestSpelling, NothingSpelled}
 use Rattle.js_grammar.specs.declared.goal.Goal.{Goal}
-use Rattle.js_grammar.proofs.GapLemmas.{longest_gap_unique, whole_gap_unique}
+use Rattle.js_grammar.proofs.GapLemmas.{whole_gap_unique}
 use Rattle.js_grammar.proofs.Reported.{longest_of_whole, whole_of_longest, gap_reports_nothing, append_nil}
 use Rattle.js_grammar.proofs.PunctuatorLeaves.{none_reported}
 use Rattle.js_grammar.proofs.PunctuatorLemmas.{nothing_spelled}

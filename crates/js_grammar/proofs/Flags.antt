@@ -1,8 +1,7 @@
 -- The flags of spellings.
-use Rattle.std.proofs.Common.{◌≡◌, ℕ, Bool, true, false, not, ◌&&◌, ◌||◌, ◌==◌, List, [], ◌∷◌, refl, sym, ◌∙◌, ap}
-use Rattle.std.proofs.Common.{subst}
+use Rattle.std.proofs.Common.{◌≡◌, ℕ, Bool, true, false, not, ◌&&◌, ◌==◌, List, [], ◌∷◌, refl, ◌∙◌, ap}
 use Rattle.std.specs.Prelude.{IsTrue}
-use Rattle.std.specs.List.{list_all, list_any, AllByRecursion}
+use Rattle.std.specs.List.{list_all, AllByRecursion}
 use Rattle.std.specs.Str.{encode_utf8_all}
 use Rattle.std.proofs.lemmas.Bool.{eqb-true}
 use Rattle.unicode_ident.proofs.Computing.{unicode_ident}
@@ -12,7 +11,7 @@ use Rattle.js_kind.specs.Keywords.{name_kind}
 use Rattle.js_kind.specs.Kinds.{is_number_kind}
 use Rattle.js_kind.specs.declared.kind.Kind.{Kind}
 use Rattle.js_kind.proofs.NameKinds.{name_kind-is_identifier_name, identifier_name-is_no_number}
-use Rattle.js_grammar.specs.Punctuators.{Punctuator, punctuators, IsIn}
+use Rattle.js_grammar.specs.Punctuators.{Punctuator, punctuators}
 use Rattle.js_grammar.specs.Spelling.{Spelling, IsName, is_escaped, has_separator}
 use Rattle.js_grammar.specs.Spelling.Spelling.{name, punctuator, end_of_source}
 use Rattle.js_grammar.proofs.PunctuatorLemmas.{passes_at}

@@ -1,19 +1,19 @@
 -- Laws of gaps: a piece stands at the beginning of its text, and the longest gap is one.
-use Rattle.std.proofs.Common.{◌≡◌, ℕ, ◌<◌, ◌≤◌, Bool, true, false, not, cond, ◌&&◌, ◌||◌, ◌==◌, List, [], ◌∷◌, ◌++◌}
-use Rattle.std.proofs.Common.{length, drop, suc, refl, sym, ◌∙◌, ap, subst, arith, Option, Some, None, append_assoc}
+use Rattle.std.proofs.Common.{◌≡◌, ℕ, ◌<◌, Bool, true, false, ◌&&◌, ◌||◌, List, [], ◌∷◌, ◌++◌}
+use Rattle.std.proofs.Common.{length, drop, refl, sym, ◌∙◌, ap, subst, arith, Option, Some, None, append_assoc}
 use Rattle.std.proofs.Common.{length-append}
 use Rattle.std.specs.Prelude.{IfSome, if◌then◌else◌, codes}
 use Rattle.std.specs.List.{list_any}
 use Rattle.std.specs.Option.{option_map}
-use Rattle.js_text.specs.Characters.{is_white_space, is_line_terminator, before_first, from_first}
+use Rattle.js_text.specs.Characters.{is_white_space, is_line_terminator}
 use Rattle.js_text.specs.declared.source_type.SourceType.{SourceType}
-use Rattle.js_text.proofs.TextLemmas.{before_from, from_first-cons, length-from_first}
-use Rattle.js_grammar.specs.Gap.{is_prefix, Cut, cut-cons, cut_behind, Piece, PieceKind, one_character, line_comment}
-use Rattle.js_grammar.specs.Gap.{block_comment, has_html_comments, piece, Gap, LongestGap, is_reported, WholeGap}
+use Rattle.js_text.proofs.TextLemmas.{before_from, length-from_first}
+use Rattle.js_grammar.specs.Gap.{is_prefix, Cut, cut-cons, cut_behind, Piece, PieceKind, line_comment}
+use Rattle.js_grammar.specs.Gap.{has_html_comments, piece, LongestGap, is_reported, WholeGap}
 use Rattle.js_grammar.specs.Gap.{Pieces, AllPieces, whole_gap_piece}
-use Rattle.js_grammar.specs.Gap.PieceKind.{white_space, line_terminator, single_line_comment, multi_line_comment}
+use Rattle.js_grammar.specs.Gap.PieceKind.{single_line_comment, multi_line_comment}
 use Rattle.js_grammar.specs.Gap.PieceKind.{html_open_comment, html_close_comment, reported_comment}
-use Rattle.js_grammar.proofs.Tests.{and_true, prefix_is}
+use Rattle.js_grammar.proofs.Tests.{prefix_is}
 
 -- the piece stands at the beginning of the text, and has a character at least
 abbrev Stands : List ℕ → Option Piece → Type 0

@@ -1,12 +1,12 @@
 -- What a number begins with.
-use Rattle.std.proofs.Common.{◌≡◌, ℕ, Bool, true, false, List, [], ◌∷◌, ◌++◌, refl, sym, ◌∙◌, ap, inl, inr, ◌==◌}
+use Rattle.std.proofs.Common.{◌≡◌, ℕ, true, false, List, [], ◌∷◌, ◌++◌, refl, ◌∙◌, ap, inl, inr, ◌==◌}
 use Rattle.std.proofs.Common.{append_assoc}
 use Rattle.std.proofs.lemmas.Bool.{eqb-true}
 use Rattle.std.specs.Prelude.{codes}
 use Rattle.js_text.specs.Ascii.{full_stop}
 use Rattle.js_text.specs.Characters.{begins}
-use Rattle.js_grammar.specs.Number.{Item, run, integer, Is, IsBeforePoint, IsNumber, IsLegacyOctal, IsLegacyDecimal}
-use Rattle.js_grammar.specs.Number.{is_digit_of, begins_number, digit_zero}
+use Rattle.js_grammar.specs.Number.{IsBeforePoint, IsNumber}
+use Rattle.js_grammar.specs.Number.{is_digit_of, begins_number}
 use Rattle.js_grammar.specs.Number.IsLegacyOctal.{legacy as legacy_octal_digits}
 use Rattle.js_grammar.specs.Number.IsLegacyDecimal.{legacy as legacy_decimal_digits}
 use Rattle.js_grammar.specs.Number.IsNumber.{prefixed, prefixed_big, decimal, decimal_big, with_point, with_exponent}

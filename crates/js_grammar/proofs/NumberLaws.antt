@@ -1,11 +1,9 @@
 -- What is read of a number is what its shape says, and a number is read without a fault exactly where it has one.
-use Rattle.std.proofs.Common.{◌≡◌, ◌≢◌, ℕ, ◌+◌, Bool, true, false, List, [], ◌∷◌, ◌++◌, length, refl, sym, ◌∙◌, ap, inl}
-use Rattle.std.proofs.Common.{inr, ◌==◌, ◌||◌}
+use Rattle.std.proofs.Common.{◌≡◌, ◌≢◌, ℕ, true, false, List, [], ◌∷◌, ◌++◌, refl, sym, ◌∙◌, ap, inl}
+use Rattle.std.proofs.Common.{inr}
 use Rattle.std.proofs.lemmas.List.{append_cancel_right}
-use Rattle.std.specs.List.{list_any}
 use Rattle.js_text.specs.Characters.{begins}
 use Rattle.js_text.specs.declared.diagnostic.Diagnostic.{Diagnostic}
-use Rattle.js_text.specs.Ascii.{low_line}
 use Rattle.js_grammar.specs.Number.{Item, IsNumber, may_not_follow_number, excluded_after, begins_number}
 use Rattle.js_grammar.specs.Outcome.{place_behind}
 use Rattle.js_grammar.specs.NumberReads.{items_text, contains_separator, Items, number_items, missing_digits}

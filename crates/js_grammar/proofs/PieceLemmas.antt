@@ -1,11 +1,11 @@
 -- Which piece a text begins with, by its first characters.
-use Rattle.std.proofs.Common.{◌≡◌, ℕ, ◌<◌, ◌≤◌, Bool, true, false, not, cond, ◌&&◌, ◌||◌, ◌==◌, List, [], ◌∷◌, ◌++◌}
-use Rattle.std.proofs.Common.{length, drop, refl, sym, ◌∙◌, ap, subst, arith, Option, Some, None}
+use Rattle.std.proofs.Common.{◌≡◌, ℕ, ◌≤◌, Bool, true, false, ◌&&◌, ◌==◌, List, [], ◌∷◌, ◌++◌}
+use Rattle.std.proofs.Common.{length, refl, ap, arith, Some, None}
 use Rattle.std.specs.Prelude.{if◌then◌else◌, codes}
 use Rattle.std.proofs.lemmas.Bool.{ne_eqb}
 use Rattle.js_text.specs.Characters.{is_white_space, is_irregular_whitespace, is_line_terminator, begins, from_first}
 use Rattle.js_text.specs.declared.source_type.SourceType.{SourceType}
-use Rattle.js_grammar.specs.Gap.{is_prefix, Piece, PieceKind, one_character, line_comment, block_comment}
+use Rattle.js_grammar.specs.Gap.{is_prefix, Piece, one_character, line_comment, block_comment}
 use Rattle.js_grammar.specs.Gap.{has_html_comments, piece, Gap, LongestGap}
 use Rattle.js_grammar.specs.Gap.PieceKind.{white_space, line_terminator, single_line_comment, html_open_comment}
 use Rattle.js_grammar.specs.Gap.PieceKind.{html_close_comment}

@@ -1,5 +1,5 @@
 -- Reported comments: where none stands, a whole gap is a longest gap.
-use Rattle.std.proofs.Common.{◌≡◌, ℕ, ◌+◌, Bool, true, false, not, List, [], ◌∷◌, ◌++◌, ◌==◌, ◌&&◌, ◌||◌, drop, length}
+use Rattle.std.proofs.Common.{◌≡◌, ℕ, Bool, true, false, not, List, [], ◌∷◌, ◌++◌, ◌&&◌, ◌||◌, drop, length}
 use Rattle.std.proofs.Common.{refl, sym, ◌∙◌, ap, subst, arith, append_assoc, length-append, add-zero, Option, Some}
 use Rattle.std.proofs.Common.{None}
 use Rattle.std.specs.Prelude.{codes, if◌then◌else◌, IfSome}
@@ -12,7 +12,7 @@ use Rattle.js_text.proofs.TextLemmas.{before_from}
 use Rattle.js_text.specs.SourceType.{is_module}
 use Rattle.js_text.specs.declared.source_type.SourceType.{SourceType}
 use Rattle.js_grammar.specs.Gap.{is_prefix, is_reported, Cut, cut_behind, Piece, piece, whole_gap_piece}
-use Rattle.js_grammar.specs.Gap.{has_html_comments, line_comment, Pieces, AllPieces, LongestGap, WholeGap}
+use Rattle.js_grammar.specs.Gap.{has_html_comments, line_comment, Pieces, LongestGap, WholeGap}
 use Rattle.js_grammar.specs.Gap.PieceKind.{multi_line_comment, html_open_comment, reported_comment}
 use Rattle.js_grammar.specs.Outcome.{piece_diagnostics, gap_diagnostics, place_behind}
 use Rattle.js_grammar.proofs.GapLemmas.{unreported, reported, none_behind, piece_text}

@@ -1,27 +1,25 @@
 -- The spans of what is read: in order, and not empty but for the end of the source.
-use Rattle.std.proofs.Common.{◌≡◌, ◌≢◌, ℕ, ◌+◌, ◌-◌, ◌<◌, ◌≤◌, Bool, true, false, List, [], ◌∷◌, ◌++◌, ◌==◌, ◌||◌}
+use Rattle.std.proofs.Common.{◌≡◌, ◌≢◌, ℕ, ◌<◌, ◌≤◌, Bool, true, false, List, [], ◌∷◌, ◌++◌, ◌==◌}
 use Rattle.std.proofs.Common.{length, drop, refl, sym, ◌∙◌, ap, subst, arith, zero, suc, append-nil, append_assoc, ◌⊎◌}
-use Rattle.std.proofs.Common.{inl, inr, Option, Some, None}
+use Rattle.std.proofs.Common.{inl, inr, Option, None}
 use Rattle.std.specs.Prelude.{codes, if◌then◌else◌, IfSome}
 use Rattle.std.proofs.lemmas.Str.{length-le-encodes, IsCharBoundary-start}
-use Rattle.std.specs.Str.{IsCharBoundary, IsUtf8, encode_utf8_all}
+use Rattle.std.specs.Str.{IsCharBoundary, IsUtf8}
 use Rattle.js_text.specs.Characters.{from_place, from_first, before_first, is_line_terminator, begins}
 use Rattle.js_text.specs.declared.source_type.SourceType.{SourceType}
-use Rattle.js_text.specs.declared.diagnostic.Diagnostic.{Diagnostic}
 use Rattle.js_text.proofs.TextLemmas.{place_past, before_from}
 use Rattle.js_kind.specs.Kinds.{is_identifier_name}
 use Rattle.js_kind.specs.TokenParts.{TokenParts}
 use Rattle.js_kind.specs.declared.kind.Kind.{Kind}
 use Rattle.js_kind.specs.declared.kind.Kind.TheVariants.{Eof}
-use Rattle.js_text.specs.declared.value.RowValue.{RowValue}
 use Rattle.js_grammar.specs.Gap.{is_prefix}
-use Rattle.js_grammar.specs.Goals.{ReadsHere, ReadsBehindGap, GoalReads}
+use Rattle.js_grammar.specs.Goals.{ReadsHere, GoalReads}
 use Rattle.js_grammar.specs.Goals.ReadsHere.{spelled as spelled_here, recovers}
 use Rattle.js_grammar.specs.Goals.GoalReads.{hashbang as hashbang_read, behind_gap}
 use Rattle.js_grammar.specs.Hashbang.{begins_hashbang, IsHashbang}
-use Rattle.js_grammar.specs.Outcome.{Outcome, place_behind}
+use Rattle.js_grammar.specs.Outcome.{Outcome}
 use Rattle.js_grammar.specs.Recovery.{Reading, recovered, recovered_character, is_control_or_wide}
-use Rattle.js_grammar.specs.Spelling.{Spelling, IsName, LongestSpelling, NothingSpelled, value_of}
+use Rattle.js_grammar.specs.Spelling.{Spelling, IsName, value_of}
 use Rattle.js_grammar.specs.declared.goal.Goal.{Goal}
 use Rattle.js_grammar.specs.declared.goal.Goal.TheVariants.{First, Next}
 use Rattle.js_grammar.specs.Spelling.Spelling.{name, punctuator, end_of_source}

@@ -1,30 +1,28 @@
 -- What the grammar reads is one.
-use Rattle.std.proofs.Common.{◌≡◌, ℕ, ◌+◌, ◌-◌, ◌<◌, ◌≤◌, Bool, true, false, List, [], ◌∷◌, ◌++◌, length, take, drop}
-use Rattle.std.proofs.Common.{refl, sym, ◌∙◌, ap, subst, arith, Option, Some, None, inl, inr, length-append}
+use Rattle.std.proofs.Common.{◌≡◌, ℕ, Bool, List, [], ◌∷◌, ◌++◌, length}
+use Rattle.std.proofs.Common.{refl, sym, ◌∙◌, ap, subst, arith, Option, Some, None, inl, inr}
 use Rattle.std.specs.Prelude.{if◌then◌else◌}
-use Rattle.std.specs.Str.{IsCharBoundary, IsUtf8, encode_utf8_all, bytes_eq}
-use Rattle.js_text.specs.Characters.{from_place, begins, is_line_terminator, from_first}
+use Rattle.std.specs.Str.{IsCharBoundary, IsUtf8, bytes_eq}
+use Rattle.js_text.specs.Characters.{from_place}
 use Rattle.js_text.specs.declared.source_type.SourceType.{SourceType}
 use Rattle.js_text.proofs.TextLemmas.{place_unique}
 use Rattle.js_kind.specs.TokenParts.{TokenParts}
 use Rattle.js_kind.specs.declared.kind.Kind.{Kind}
-use Rattle.js_grammar.specs.Gap.{LongestGap, WholeGap}
 use Rattle.js_grammar.specs.Goals.{ReadsHere, ReadsBehindGap, ReadsHashbang, GoalReads, spelled_reading, outcome_behind}
 use Rattle.js_grammar.specs.Goals.{token_alone, line_has_ended_behind}
 use Rattle.js_grammar.specs.Goals.ReadsHere.{spelled as spelled_here, recovers}
 use Rattle.js_grammar.specs.Goals.GoalReads.{hashbang as hashbang_read, behind_gap}
-use Rattle.js_grammar.specs.Hashbang.{begins_hashbang, IsHashbang}
+use Rattle.js_grammar.specs.Hashbang.{IsHashbang}
 use Rattle.js_grammar.specs.Outcome.{Outcome}
 use Rattle.js_grammar.specs.declared.goal.Goal.{Goal}
 use Rattle.js_grammar.specs.Punctuators.{Punctuator, punctuators, IsIn}
 use Rattle.js_grammar.specs.Reads.{IsSpelled, PlainReads, SameReading}
 use Rattle.js_grammar.specs.Reads.PlainReads.{hashbang, spelled}
-use Rattle.js_grammar.specs.Recovery.{Reading, recovered}
-use Rattle.js_grammar.specs.Spelling.{Spelling, IsName, LongestSpelling, NothingSpelled}
+use Rattle.js_grammar.specs.Recovery.{Reading}
+use Rattle.js_grammar.specs.Spelling.{Spelling, IsName, LongestSpelling}
 use Rattle.js_grammar.specs.Spelling.Spelling.{name, punctuator, end_of_source}
 use Rattle.js_grammar.proofs.GapLemmas.{longest_gap_unique, whole_gap_unique}
 use Rattle.js_grammar.proofs.PunctuatorLemmas.{name_begins_no_punctuator, some_text}
-use Rattle.js_text.specs.declared.diagnostic.Diagnostic.{Diagnostic}
 
 -- fronts of one length are equal
 fronts : {A : Type 0} (xs ys us vs : List A) → xs ++ ys ≡ us ++ vs → length xs ≡ length us → (xs ≡ us) × (ys ≡ vs)

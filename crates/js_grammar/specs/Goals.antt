@@ -11,7 +11,6 @@ use Rattle.js_grammar.specs.Reads.{PlainReads}
 use Rattle.js_grammar.specs.Recovery.{Reading, recovered}
 use Rattle.js_grammar.specs.Spelling.{LongestSpelling, NothingSpelled, is_escaped, has_separator, value_of}
 use Rattle.js_grammar.specs.declared.goal.Goal.{Goal}
-use Rattle.js_grammar.specs.declared.goal.Goal.TheVariants.{First, Next}
 use Rattle.js_kind.specs.TokenParts.{TokenParts}
 use Rattle.js_kind.specs.declared.kind.Kind.{Kind}
 

@@ -1,5 +1,5 @@
 -- The hashbang comment that a source may begin with (ECMA-262 12.5).
-use Rattle.std.specs.Prelude.{◌≡◌, ℕ, Bool, true, false, List, zero, suc, codes}
+use Rattle.std.specs.Prelude.{◌≡◌, ℕ, Bool, false, List, zero, suc, codes}
 use Rattle.std.specs.Str.{IsCharBoundary}
 use Rattle.js_text.specs.Characters.{from_place, from_first, is_line_terminator}
 use Rattle.js_kind.specs.TokenParts.{TokenParts}

@@ -4,7 +4,7 @@ use Rattle.std.specs.Prelude.{◌≡◌, ℕ, Bool, true, false, List, [], ◌�
 use Rattle.std.specs.Prelude.{None, ◌⊎◌, if◌then◌else◌}
 use Rattle.std.specs.Char.{is_digit}
 use Rattle.std.specs.List.{list_all}
-use Rattle.js_text.specs.Ascii.{full_stop, low_line, plus_sign, hyphen_minus}
+use Rattle.js_text.specs.Ascii.{full_stop, low_line}
 use Rattle.js_text.specs.Characters.{begins, is_identifier_start}
 use Rattle.js_kind.specs.Digits.{radix_of}
 use Rattle.js_kind.specs.declared.kind.Kind.{Kind}

@@ -1,5 +1,5 @@
 -- What is read of a number, good or at fault (ECMA-262 12.9.3 and B.1.1).
-use Rattle.std.specs.Prelude.{ℕ, ◌+◌, Bool, List, [], ◌∷◌, ◌++◌, length, take, drop, ◌==◌, not, codes, Option, Some}
+use Rattle.std.specs.Prelude.{ℕ, Bool, List, [], ◌∷◌, ◌++◌, length, take, drop, ◌==◌, not, codes, Option, Some}
 use Rattle.std.specs.Prelude.{None, if◌then◌else◌}
 use Rattle.std.specs.List.{list_any}
 use Rattle.js_text.specs.Characters.{begins, from_first, before_first, is_identifier_start}
