@@ -1,5 +1,4 @@
 -- The families of punctuators that there are.
-use Rattle.std.proofs.Common.{ℕ}
 use Rattle.js_grammar.proofs.PunctuatorLeaves.{amp, amp2, amp2_eq, amp_eq, pipe, pipe2, pipe2_eq, pipe_eq, star, star2}
 use Rattle.js_grammar.proofs.PunctuatorLeaves.{star2_eq, star_eq, l_angle, shift_left, shift_left_eq, lt_eq, plus}
 use Rattle.js_grammar.proofs.PunctuatorLeaves.{plus2, plus_eq, minus, minus2, minus_eq, caret, caret_eq, percent}
