@@ -6,7 +6,8 @@ use Rattle.std.specs.Prelude.{codes}
 use Rattle.js_text.specs.Ascii.{full_stop}
 use Rattle.js_text.specs.Characters.{begins}
 use Rattle.js_grammar.specs.Number.{IsBeforePoint, IsNumber}
-use Rattle.js_grammar.specs.Number.{is_digit_of, begins_number}
+use Rattle.js_grammar.specs.Number.{begins_number}
+use Rattle.js_kind.specs.Digits.{is_digit_of}
 use Rattle.js_grammar.specs.Number.IsLegacyOctal.{legacy as legacy_octal_digits}
 use Rattle.js_grammar.specs.Number.IsLegacyDecimal.{legacy as legacy_decimal_digits}
 use Rattle.js_grammar.specs.Number.IsNumber.{prefixed, prefixed_big, decimal, decimal_big, with_point, with_exponent}

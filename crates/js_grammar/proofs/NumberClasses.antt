@@ -6,7 +6,8 @@ use Rattle.std.proofs.lemmas.Bool.Decides.{nat_tests}
 use Rattle.unicode_ident.proofs.Computing.{unicode_ident}
 use Rattle.js_text.specs.Characters.{begins, is_identifier_start}
 use Rattle.js_text.specs.Ascii.{full_stop, low_line}
-use Rattle.js_grammar.specs.Number.{is_digit_of, latin_small_letter_n, is_exponent_mark, may_not_follow_number}
+use Rattle.js_grammar.specs.Number.{latin_small_letter_n, is_exponent_mark, may_not_follow_number}
+use Rattle.js_kind.specs.Digits.{is_digit_of}
 use Rattle.js_grammar.proofs.NumberItems.{Stops, true_or_false}
 use Rattle.js_grammar.proofs.Tests.{and_true}
 

@@ -8,7 +8,8 @@ use Rattle.unicode_ident.proofs.Computing.{unicode_ident}
 use Rattle.js_text.specs.Characters.{is_identifier_start, begins, from_first, before_first}
 use Rattle.js_text.specs.Ascii.{full_stop}
 use Rattle.js_grammar.specs.Number.{Item, whole, run, integer, Is, IsOptional, IsExponent, IsFloatExponent}
-use Rattle.js_grammar.specs.Number.{IsLegacyOctal, IsLegacyDecimal, base_of, Sign, sign_text, sign_kind, is_digit_of}
+use Rattle.js_grammar.specs.Number.{IsLegacyOctal, IsLegacyDecimal, base_of, Sign, sign_text, sign_kind}
+use Rattle.js_kind.specs.Digits.{is_digit_of}
 use Rattle.js_grammar.specs.Number.{are_digits, is_exponent_mark, may_not_follow_number, latin_small_letter_n}
 use Rattle.js_grammar.specs.Number.{digit_zero}
 use Rattle.js_grammar.specs.Number.Sign.{no_sign, plus, minus}

@@ -5,7 +5,8 @@ use Rattle.std.specs.Prelude.{codes}
 use Rattle.std.proofs.lemmas.Bool.{eqb-true}
 use Rattle.js_text.specs.Characters.{begins}
 use Rattle.js_text.specs.Ascii.{low_line}
-use Rattle.js_grammar.specs.Number.{Item, whole, item-cons, digits_on, run, integer, Is, is_digit_of, digit_zero}
+use Rattle.js_grammar.specs.Number.{Item, whole, item-cons, digits_on, run, integer, Is, digit_zero}
+use Rattle.js_kind.specs.Digits.{is_digit_of}
 
 pub true_or_false : (b : Bool) → (b ≡ true) ⊎ (b ≡ false)
 true_or_false true = inl refl

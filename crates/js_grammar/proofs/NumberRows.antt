@@ -7,7 +7,8 @@ use Rattle.js_text.specs.Characters.{is_identifier_start}
 use Rattle.js_text.specs.declared.diagnostic.Diagnostic.{Diagnostic}
 use Rattle.js_text.specs.declared.diagnostic.Diagnostic.TheVariants.{InvalidCharacter, UnexpectedEnd, InvalidNumberEnd}
 use Rattle.js_text.specs.declared.span.Span.{Span}
-use Rattle.js_grammar.specs.Number.{is_digit_of, is_exponent_mark, may_not_follow_number, run, integer}
+use Rattle.js_grammar.specs.Number.{is_exponent_mark, may_not_follow_number, run, integer}
+use Rattle.js_kind.specs.Digits.{is_digit_of}
 use Rattle.js_grammar.specs.NumberReads.{number_read, exponent_items, exponent_or, fraction_items, point_items}
 use Rattle.js_grammar.specs.NumberReads.{behind_digits, suffix_or, decimal_items, plain_digits, legacy_items}
 use Rattle.js_grammar.specs.NumberReads.{behind_prefix, zero_items, number_items, items_read}

@@ -6,7 +6,8 @@ use Rattle.std.proofs.lemmas.List.{append-nil}
 use Rattle.js_text.specs.Characters.{begins}
 use Rattle.js_text.specs.Ascii.{full_stop}
 use Rattle.js_grammar.specs.Number.{whole, run, Is, IsOptional, IsExponent, IsFloatExponent, Sign, sign_text}
-use Rattle.js_grammar.specs.Number.{is_digit_of, is_exponent_mark}
+use Rattle.js_grammar.specs.Number.{is_exponent_mark}
+use Rattle.js_kind.specs.Digits.{is_digit_of}
 use Rattle.js_grammar.specs.Number.IsExponent.{exponent}
 use Rattle.js_grammar.specs.NumberReads.{items_text, Items, sign_of, exponent_items, exponent_or, fraction_items}
 use Rattle.js_grammar.specs.NumberReads.{point_items}

@@ -3,7 +3,8 @@ use Rattle.std.proofs.Common.{◌≡◌, ℕ, Bool, true, false, List, [], ◌�
 use Rattle.std.specs.Prelude.{codes}
 use Rattle.js_text.specs.Characters.{begins}
 use Rattle.js_text.specs.Ascii.{full_stop}
-use Rattle.js_grammar.specs.Number.{Item, whole, broken, run, integer, digits_on, Base, is_digit_of, are_digits}
+use Rattle.js_grammar.specs.Number.{Item, whole, broken, run, integer, digits_on, Base, are_digits}
+use Rattle.js_kind.specs.Digits.{is_digit_of}
 use Rattle.js_grammar.specs.Number.{is_exponent_mark, may_not_follow_number, latin_small_letter_n, digit_zero}
 use Rattle.js_grammar.specs.NumberReads.{Items, no_items, items-cons, last_item, sign_of, exponent_items, exponent_or}
 use Rattle.js_grammar.specs.NumberReads.{fraction_items, point_items, behind_digits, suffix_or, decimal_items}

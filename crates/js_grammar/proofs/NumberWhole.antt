@@ -7,7 +7,8 @@ use Rattle.std.specs.Prelude.{codes}
 use Rattle.js_text.specs.Characters.{begins, before_first, from_first}
 use Rattle.js_text.specs.Ascii.{full_stop}
 use Rattle.js_grammar.specs.Number.{whole, run, integer, IsExponent, IsBeforePoint, IsNumber, Base, base_of, Sign}
-use Rattle.js_grammar.specs.Number.{sign_kind, is_digit_of, are_digits, may_not_follow_number, excluded_after}
+use Rattle.js_grammar.specs.Number.{sign_kind, are_digits, may_not_follow_number, excluded_after}
+use Rattle.js_kind.specs.Digits.{is_digit_of}
 use Rattle.js_grammar.specs.Number.{begins_number, latin_small_letter_n, digit_zero}
 use Rattle.js_grammar.specs.Number.IsExponent.{exponent}
 use Rattle.js_grammar.specs.Number.IsLegacyOctal.{legacy as legacy_octal_digits}

@@ -2,19 +2,14 @@
 -- item a digit may be missing, so that good numbers and those at fault are said of the same items.
 use Rattle.std.specs.Prelude.{◌≡◌, ℕ, Bool, true, false, List, [], ◌∷◌, ◌++◌, drop, ◌==◌, ◌||◌, codes, Option, Some}
 use Rattle.std.specs.Prelude.{None, ◌⊎◌, if◌then◌else◌}
-use Rattle.std.specs.Char.{is_digit}
 use Rattle.std.specs.List.{list_all}
 use Rattle.js_text.specs.Ascii.{full_stop, low_line}
 use Rattle.js_text.specs.Characters.{begins, is_identifier_start}
-use Rattle.js_kind.specs.Digits.{radix_of}
+use Rattle.js_kind.specs.Digits.{is_digit_of, radix_of}
 use Rattle.js_kind.specs.declared.kind.Kind.{Kind}
 use Rattle.js_kind.specs.declared.kind.Kind.TheVariants.{Decimal, Float, Binary, Octal, Hex, PositiveExponential}
 use Rattle.js_kind.specs.declared.kind.Kind.TheVariants.{NegativeExponential, DecimalBigInt, BinaryBigInt, OctalBigInt}
 use Rattle.js_kind.specs.declared.kind.Kind.TheVariants.{HexBigInt}
-
--- the digits of a radix
-unfoldable pub is_digit_of : ℕ → ℕ → Bool
-is_digit_of radix c = is_digit c radix
 
 abbrev pub digit_zero : ℕ
 digit_zero = 48

@@ -7,7 +7,8 @@ use Rattle.js_text.specs.declared.diagnostic.Diagnostic.{Diagnostic}
 use Rattle.js_text.specs.declared.diagnostic.Diagnostic.TheVariants.{InvalidCharacter, UnexpectedEnd, InvalidNumberEnd}
 use Rattle.js_text.specs.declared.span.Span.{Span}
 use Rattle.js_text.specs.Ascii.{full_stop, low_line, plus_sign, hyphen_minus}
-use Rattle.js_grammar.specs.Number.{Item, whole, run, integer, is_digit_of, are_digits, Base, base_of, Sign, sign_text}
+use Rattle.js_grammar.specs.Number.{Item, whole, run, integer, are_digits, Base, base_of, Sign, sign_text}
+use Rattle.js_kind.specs.Digits.{is_digit_of}
 use Rattle.js_grammar.specs.Number.{sign_kind, is_exponent_mark, digit_zero, latin_small_letter_n}
 use Rattle.js_grammar.specs.Number.{may_not_follow_number}
 use Rattle.js_grammar.specs.Number.Sign.{no_sign, plus, minus}

@@ -1,7 +1,7 @@
 -- Values of integers, one by one: the definitions compute to what stands here.
 use Rattle.std.proofs.Common.{◌≡◌, ℕ, ◌-◌, ◌^◌, true, false, Bool, List, ◌++◌, replicate, refl}
 use Rattle.std.specs.Prelude.{codes}
-use Rattle.js_grammar.specs.Number.{is_digit_of}
+use Rattle.js_kind.specs.Digits.{is_digit_of}
 use Rattle.js_kind.specs.declared.kind.Kind.{Kind}
 use Rattle.js_kind.specs.declared.kind.Kind.TheVariants.{Decimal, Binary, Octal, Hex}
 use Rattle.js_spell.specs.Integer.{IsInteger, integer_digits, integer_value}

@@ -7,7 +7,7 @@ use Rattle.std.proofs.lemmas.Bool.Decides.{nat_tests}
 use Rattle.std.specs.List.{list_all}
 use Rattle.std.specs.Char.{digit_value}
 use Rattle.std.specs.Str.Parse.{digits_value_after}
-use Rattle.js_grammar.specs.Number.{is_digit_of}
+use Rattle.js_kind.specs.Digits.{is_digit_of}
 use Rattle.js_grammar.proofs.Tests.{and_true}
 use Rattle.js_spell.specs.Integer.{is_underscore, is_digit_or_separator, without_separators}
 

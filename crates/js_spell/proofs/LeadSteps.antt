@@ -6,7 +6,8 @@ use Rattle.std.proofs.lemmas.Bool.Decides.{nat_tests}
 use Rattle.js_text.specs.Ascii.{full_stop}
 use Rattle.js_text.specs.Characters.{begins}
 use Rattle.js_source.specs.Source.{HasFirstByte, HasFirstTwoBytes, HasAtMostOneByte}
-use Rattle.js_grammar.specs.Number.{Base, base_of, digit_zero, is_digit_of}
+use Rattle.js_grammar.specs.Number.{Base, base_of, digit_zero}
+use Rattle.js_kind.specs.Digits.{is_digit_of}
 use Rattle.js_grammar.specs.NumberReads.{base_at, number_items, legacy_items, decimal_items, zero_items}
 use Rattle.js_grammar.proofs.NumberCuts.{digit_names_no_base}
 use Rattle.js_grammar.proofs.NumberItems.{true_or_false}

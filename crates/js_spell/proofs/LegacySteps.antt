@@ -7,7 +7,8 @@ use Rattle.js_text.specs.declared.diagnostic.Diagnostic.{Diagnostic}
 use Rattle.js_source.specs.Source.{At, rest, IsPlaced}
 use Rattle.js_source.specs.Search.{matches_at}
 use Rattle.js_source.specs.Runs.{IsRun, PassesRun}
-use Rattle.js_grammar.specs.Number.{Item, whole, are_digits, is_digit_of}
+use Rattle.js_grammar.specs.Number.{Item, whole, are_digits}
+use Rattle.js_kind.specs.Digits.{is_digit_of}
 use Rattle.js_grammar.specs.NumberReads.{contains_separator, plain_digits, legacy_items, items-cons, last_item}
 use Rattle.js_grammar.specs.NumberReads.{behind_digits}
 use Rattle.js_grammar.proofs.NumberCuts.{plain_digits_append, octal_digits}

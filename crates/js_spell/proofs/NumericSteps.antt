@@ -25,7 +25,8 @@ use Rattle.js_grammar.proofs.NumberSteps.{suffix_missing, exponent_there, expone
 use Rattle.js_grammar.proofs.NumberSteps.{fraction_missing, behind_digits_point, behind_digits_other}
 use Rattle.js_source.specs.Search.{matches_at}
 use Rattle.js_source.specs.Runs.{HasAscii, IsRun, PassesRun}
-use Rattle.js_grammar.specs.Number.{Item, whole, broken, item-cons, digits_on, run, integer, digit_zero, is_digit_of}
+use Rattle.js_grammar.specs.Number.{Item, whole, broken, item-cons, digits_on, run, integer, digit_zero}
+use Rattle.js_kind.specs.Digits.{is_digit_of}
 use Rattle.js_grammar.specs.Number.{Sign, sign_text, sign_kind, is_exponent_mark}
 use Rattle.js_grammar.specs.NumberReads.{contains_separator, missing_digit, missing_digits, items_text, sign_of}
 use Rattle.js_grammar.specs.NumberReads.{exponent_or, exponent_items, items-cons, last_item, fraction_items}

@@ -5,8 +5,7 @@ use Rattle.std.specs.List.{filter, find, list_any, list_all}
 use Rattle.std.specs.Str.Parse.{digits_value}
 use Rattle.js_grammar.specs.Gap.{is_prefix}
 use Rattle.js_text.specs.Ascii.{low_line}
-use Rattle.js_grammar.specs.Number.{is_digit_of}
-use Rattle.js_kind.specs.Digits.{radix_of}
+use Rattle.js_kind.specs.Digits.{is_digit_of, radix_of}
 use Rattle.js_kind.specs.declared.kind.Kind.{Kind}
 use Rattle.js_kind.specs.declared.kind.Kind.TheVariants.{Decimal, Binary, Octal, Hex}
 

@@ -7,7 +7,8 @@ use Rattle.js_source.specs.Runs.{HasAscii}
 use Rattle.js_source.specs.Search.{matches_at}
 use Rattle.js_source.specs.Source.{At, rest, Reads}
 use Rattle.js_grammar.specs.Number.{Item, Base, may_not_follow_number, base_of, digit_zero, whole, broken, digits_on}
-use Rattle.js_grammar.specs.Number.{run, integer, are_digits, is_digit_of, is_exponent_mark, sign_text, sign_kind}
+use Rattle.js_grammar.specs.Number.{run, integer, are_digits, is_exponent_mark, sign_text, sign_kind}
+use Rattle.js_kind.specs.Digits.{is_digit_of}
 use Rattle.js_grammar.specs.NumberReads.{Items, number_read, invalid_number_end, number_items, legacy_items}
 use Rattle.js_grammar.specs.NumberReads.{decimal_items, behind_prefix, plain_digits, sign_of, items_text}
 use Rattle.js_grammar.specs.NumberReads.{contains_separator, missing_digits}

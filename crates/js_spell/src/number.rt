@@ -4,8 +4,7 @@ ghost use Rattle.std.specs.Prelude.{◌≡◌, ◌+◌, ◌*◌, ◌<◌, ◌≤
 ghost use Rattle.std.specs.Char.{digit_value};
 ghost use Rattle.std.specs.List.{list_any};
 ghost use Rattle.std.specs.Option.{SomeIff};
-ghost use Rattle.js_grammar.specs.Number.{is_digit_of};
-ghost use Rattle.js_kind.specs.Digits.{radix_of};
+ghost use Rattle.js_kind.specs.Digits.{is_digit_of, radix_of};
 ghost use Rattle.js_spell.specs.Integer.{prefix_of, legacy_prefix, behind_prefix, IsInteger, integer_digits};
 ghost use Rattle.js_spell.specs.Integer.{integer_value};
 

@@ -3,7 +3,8 @@
 ghost use Rattle.std.specs.Prelude.{◌≡◌, ◌≤◌, ◌==◌, ◌++◌, ◌∷◌, [], false, IfOk, OnOk, OnErr, MatchBool};
 ghost use Rattle.js_text.specs.Ascii.{full_stop};
 ghost use Rattle.js_text.specs.Characters.{begins, before_first};
-ghost use Rattle.js_grammar.specs.Number.{is_digit_of, is_exponent_mark, may_not_follow_number};
+ghost use Rattle.js_grammar.specs.Number.{is_exponent_mark, may_not_follow_number};
+ghost use Rattle.js_kind.specs.Digits.{is_digit_of};
 ghost use Rattle.js_grammar.specs.NumberReads.{missing_digit, exponent_or, fraction_items, behind_digits};
 ghost use Rattle.js_grammar.specs.NumberReads.{decimal_items, legacy_items, number_items, is_no_start};
 ghost use Rattle.js_source.specs.Source.{rest, IsPlaced};
@@ -350,7 +351,7 @@ enum Lead {
 }
 
 /// How a number begins that has this byte behind a leading `0`.
-#[tactic(auto, unfolding(js_grammar::specs::Number::is_digit_of))]
+#[tactic(auto, unfolding(js_kind::specs::Digits::is_digit_of))]
 fn behind_zero(b: u8) -> Lead
     ensures { LeadsWith result b }
 {
@@ -422,7 +423,7 @@ fn skip_starts(source: &mut Source<'_>)
 }
 
 /// Whether the character may not follow a number.
-#[tactic(auto, unfolding(js_grammar::specs::Number::is_digit_of, js_grammar::specs::Number::may_not_follow_number))]
+#[tactic(auto, unfolding(js_kind::specs::Digits::is_digit_of, js_grammar::specs::Number::may_not_follow_number))]
 fn may_not_follow(c: char) -> bool
     ensures { result ≡ may_not_follow_number c }
 {

@@ -5,7 +5,7 @@ use js_text::DiagnosticList;
 use std::test::Fail;
 
 #[test]
-#[tactic(auto, unfolding(js_grammar::specs::Number::is_digit_of))]
+#[tactic(auto, unfolding(js_kind::specs::Digits::is_digit_of))]
 fn decimal_values(rt: HostRuntime) {
     assert_eq!(rt;
         parse_int("1_000_000", Kind::Decimal, true),
@@ -16,7 +16,7 @@ fn decimal_values(rt: HostRuntime) {
 }
 
 #[test]
-#[tactic(auto, unfolding(js_grammar::specs::Number::is_digit_of))]
+#[tactic(auto, unfolding(js_kind::specs::Digits::is_digit_of))]
 fn values_behind_prefixes(rt: HostRuntime) {
     assert_eq!(rt; parse_int("0b1_", Kind::Binary, true), Some(1));
     assert_eq!(rt; parse_int("0777", Kind::Octal, false), Some(511));
@@ -27,7 +27,7 @@ fn values_behind_prefixes(rt: HostRuntime) {
 }
 
 #[test]
-#[tactic(auto, unfolding(js_grammar::specs::Number::is_digit_of))]
+#[tactic(auto, unfolding(js_kind::specs::Digits::is_digit_of))]
 fn digits_of_a_big_integer(rt: HostRuntime) -> Result<(), Fail> {
     let (digits, radix) = parse_big_int(rt.alloc(), "0xFF_AA", Kind::Hex, true)?;
     assert_eq!(rt; digits.as_str(), "FFAA");

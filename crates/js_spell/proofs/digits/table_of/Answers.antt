@@ -1,5 +1,5 @@
 use Rattle.std.proofs.Common.{refl}
-use Rattle.js_grammar.specs.Number.{is_digit_of}
+use Rattle.js_kind.specs.Digits.{is_digit_of}
 use Rattle.js_spell.proofs.NumericSteps.{tells_digits}
 use Rattle.js_spell.proofs.digits.table_of.Goals as goal
 
