@@ -11,17 +11,28 @@ take_front : {X : Type 0} (xs ys : List X) → take (length xs) (xs ++ ys) ≡ x
 take_front xs ys = take-append-le (length xs) xs ys (omega arith) ∙ take_all (length xs) xs (omega arith)
 
 abbrev parts : (s : Trivia) → List Comment → List Comment → List Span → Trivia
-parts s attached pending spans = record s { attachment = record s.attachment { attached = attached; pending = pending }; irregular_whitespaces = spans }
+parts s attached pending spans =
+    record s {
+      attachment = record s.attachment { attached = attached; pending = pending };
+      irregular_whitespaces =
+          spans;
+    }
 
 pub cut_back_restores : (s now : Trivia) → s.attachment.pending ≡ [] → GrewFrom s now → cut_to (lengths_of s) now ≡ s
 cut_back_restores s now none grew =
     let front : held now.attachment ≡ s.attachment.attached ++ grew.comments =
-    grew.held_now ∙ ap (λ cs. (s.attachment.attached ++ cs) ++ grew.comments) none ∙ ap (λ cs. cs ++ grew.comments) (append-nil s.attachment.attached) in
-    ap (λ cs. parts s (take (length s.attachment.attached) cs) [] (take (length s.irregular_whitespaces) now.irregular_whitespaces)) front
-    ∙ ap (λ cs. parts s cs [] (take (length s.irregular_whitespaces) now.irregular_whitespaces)) (take_front s.attachment.attached grew.comments)
-    ∙ ap (λ cs. parts s s.attachment.attached cs (take (length s.irregular_whitespaces) now.irregular_whitespaces)) (sym none)
-    ∙ ap (λ spans. parts s s.attachment.attached s.attachment.pending (take (length s.irregular_whitespaces) spans)) grew.irregular_now
-    ∙ ap (λ spans. parts s s.attachment.attached s.attachment.pending spans) (take_front s.irregular_whitespaces grew.spans)
+    grew.held_now ∙ ap (λ cs. (s.attachment.attached ++ cs) ++ grew.comments) none
+    ∙ ap (λ cs. cs ++ grew.comments) (append-nil s.attachment.attached) in
+    ap (λ cs. parts s (take (length s.attachment.attached) cs) []
+    (take (length s.irregular_whitespaces) now.irregular_whitespaces)) front
+    ∙ ap (λ cs. parts s cs [] (take (length s.irregular_whitespaces) now.irregular_whitespaces))
+    (take_front s.attachment.attached grew.comments)
+    ∙ ap (λ cs. parts s s.attachment.attached cs (take (length s.irregular_whitespaces) now.irregular_whitespaces))
+    (sym none)
+    ∙ ap (λ spans. parts s s.attachment.attached s.attachment.pending (take (length s.irregular_whitespaces) spans))
+    grew.irregular_now
+    ∙ ap (λ spans. parts s s.attachment.attached s.attachment.pending spans)
+    (take_front s.irregular_whitespaces grew.spans)
 
 pub grew_after_gap : (low high : ℕ) (gap : Gap) (s : Trivia) → BeforeGap low high gap s → GrewFrom s (after_gap gap s)
 grew_after_gap low high gap s h = record {
@@ -38,6 +49,8 @@ pub grew_on : (s then now : Trivia) → GrewFrom s then → GrewFrom then now �
 grew_on s then now first second = record {
   comments = first.comments ++ second.comments;
   spans = first.spans ++ second.spans;
-  held_now = second.held_now ∙ ap (λ cs. cs ++ second.comments) first.held_now ∙ append_assoc (held s.attachment) first.comments second.comments;
-  irregular_now = second.irregular_now ∙ ap (λ xs. xs ++ second.spans) first.irregular_now ∙ append_assoc s.irregular_whitespaces first.spans second.spans;
+  held_now = second.held_now ∙ ap (λ cs. cs ++ second.comments) first.held_now
+      ∙ append_assoc (held s.attachment) first.comments second.comments;
+  irregular_now = second.irregular_now ∙ ap (λ xs. xs ++ second.spans) first.irregular_now
+      ∙ append_assoc s.irregular_whitespaces first.spans second.spans;
 }

@@ -55,7 +55,8 @@ front_walks l previous (line_end ∷ xs) = and_true (may_trail l)
 front_walks l previous (comment found ∷ xs) =
     elim (bool_cases (is_line_kind found.kind)) [
       | inl h ↦ rw h (and_swap (not (stays_leading found.content)) (not (keeps_line_comment_leading previous)))
-      | inr h ↦ rw h (ap (λ o. has_newline_event xs && may_trail o && (begins_with_line_end (from_newline_event xs) || not (keeps_line_comment_leading previous)))
+      | inr h ↦ rw h (ap (λ o. has_newline_event xs && may_trail o
+          && (begins_with_line_end (from_newline_event xs) || not (keeps_line_comment_leading previous)))
           (sym (option_or-some (last_comment (up_to_newline_event xs)) found))
           ∙ front_walks (Some found) previous xs)
     ]
@@ -69,8 +70,15 @@ and_four true b c d = refl
 and_four false b c d = refl
 
 -- the five conditions
-pub front_trails_walks : (gap : Gap) → front_trails gap ≡ (not gap.is_first && trails_from false gap.previous.kind gap.items)
+pub front_trails_walks : (gap : Gap) → front_trails gap
+    ≡ (not gap.is_first && trails_from false gap.previous.kind gap.items)
 front_trails_walks gap =
-    and_four (not gap.is_first) (has_newline_event gap.items) (may_trail (last_comment (up_to_newline_event gap.items))) (begins_with_line_end (from_newline_event gap.items) || not (keeps_line_comment_leading gap.previous.kind))
-    ∙ ap (λ o. not gap.is_first && (has_newline_event gap.items && may_trail o && (begins_with_line_end (from_newline_event gap.items) || not (keeps_line_comment_leading gap.previous.kind)))) (sym (option_or-none (last_comment (up_to_newline_event gap.items))))
+    and_four (not gap.is_first) (has_newline_event gap.items)
+    (may_trail (last_comment (up_to_newline_event gap.items)))
+    (begins_with_line_end (from_newline_event gap.items) || not (keeps_line_comment_leading gap.previous.kind))
+    ∙ ap (λ o. not gap.is_first
+    && (has_newline_event gap.items && may_trail o
+    && (begins_with_line_end (from_newline_event gap.items)
+    || not (keeps_line_comment_leading gap.previous.kind))))
+    (sym (option_or-none (last_comment (up_to_newline_event gap.items))))
     ∙ ap (λ b. not gap.is_first && b) (front_walks None gap.previous.kind gap.items)

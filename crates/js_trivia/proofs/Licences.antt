@@ -32,12 +32,14 @@ without_ats zero text h = refl
 without_ats (suc k) [] h = refl
 without_ats (suc k) (b ∷ bs) h = not_here b bs (h 0 (omega arith)) ∙ without_ats k bs (λ i lt. h (suc i) (omega arith))
 
-pub at_first : (text : List ℕ) (k : ℕ) → IsFirstByte (is_byte 64) text (Some k) → is_licensed (drop k text) ≡ is_licensed text
+pub at_first : (text : List ℕ) (k : ℕ) → IsFirstByte (is_byte 64) text (Some k) → is_licensed (drop k text)
+    ≡ is_licensed text
 at_first text k h = sym (without_ats k text (λ i lt. not_true _ (h.0.before i (omega arith) lt)))
 
 pub at_none : (text : List ℕ) → IsFirstByte (is_byte 64) text None → is_licensed text ≡ false
 at_none text h =
-    without_ats (length text) text (λ i lt. not_true _ (h i (omega arith) lt)) ∙ nothing_left (length text) text (omega arith)
+    without_ats (length text) text (λ i lt. not_true _ (h i (omega arith) lt))
+    ∙ nothing_left (length text) text (omega arith)
   where
     nothing_left : (n : ℕ) (xs : List ℕ) → length xs ≤ n → is_licensed (drop n xs) ≡ false
     nothing_left zero [] le = refl

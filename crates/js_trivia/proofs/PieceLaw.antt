@@ -31,11 +31,16 @@ module _ (place high : ℕ) (x : Piece) (has : 1 ≤ piece_length x) where
       → Ascends place (items_of_kind kind place ends x ++ xs) high
   piece_ascends white_space ends xs h = listed_ascends (begins is_irregular_whitespace x.text) xs h
   piece_ascends line_terminator ends xs h = line_end_ascends (begins is_separator x.text && not ends) xs h
-  piece_ascends single_line_comment ends xs h = (omega arith, from_lower (place + piece_length x) (place + 1) high xs h (omega arith))
-  piece_ascends multi_line_comment ends xs h = (omega arith, from_lower (place + piece_length x) (place + 1) high xs h (omega arith))
-  piece_ascends html_open_comment ends xs h = (omega arith, from_lower (place + piece_length x) (place + 1) high xs h (omega arith))
-  piece_ascends html_close_comment ends xs h = (omega arith, from_lower (place + piece_length x) (place + 1) high xs h (omega arith))
-  piece_ascends reported_comment ends xs h = (omega arith, from_lower (place + piece_length x) (place + 1) high xs h (omega arith))
+  piece_ascends single_line_comment ends xs h =
+      (omega arith, from_lower (place + piece_length x) (place + 1) high xs h (omega arith))
+  piece_ascends multi_line_comment ends xs h =
+      (omega arith, from_lower (place + piece_length x) (place + 1) high xs h (omega arith))
+  piece_ascends html_open_comment ends xs h =
+      (omega arith, from_lower (place + piece_length x) (place + 1) high xs h (omega arith))
+  piece_ascends html_close_comment ends xs h =
+      (omega arith, from_lower (place + piece_length x) (place + 1) high xs h (omega arith))
+  piece_ascends reported_comment ends xs h =
+      (omega arith, from_lower (place + piece_length x) (place + 1) high xs h (omega arith))
 
 items_ascend : (place : ℕ) (ends : Bool) (pieces : List Piece) → HaveBytes pieces
     → Ascends place (items_from place ends pieces) (end_of place pieces)

@@ -17,7 +17,8 @@ use Rattle.js_trivia.specs.Attachment.{Attachment, attach_to, attach_by, attach_
 use Rattle.js_trivia.specs.Builder.{IsInOrder}
 use Rattle.js_trivia.specs.Trivia.{held, span_starts, comment_starts, is_past, is_span, AscendFrom}
 
-pub starts_attached : (position : CommentPosition) (place : ℕ) (cs : List Comment) → comment_starts (map (attach_to position place) cs) ≡ comment_starts cs
+pub starts_attached : (position : CommentPosition) (place : ℕ) (cs : List Comment)
+    → comment_starts (map (attach_to position place) cs) ≡ comment_starts cs
 starts_attached position place [] = refl
 starts_attached position place (c ∷ cs) = ap (λ ss. c.span.start ∷ ss) (starts_attached position place cs)
 
@@ -37,7 +38,8 @@ starts_trailing true a =
     ∙ sym (starts_held a)
 starts_trailing false a = refl
 
-pub starts_after_comment : (found : Found) (a : Attachment) → comment_starts (held (after_comment found a)) ≡ comment_starts (held a) ++ found.span.start ∷ []
+pub starts_after_comment : (found : Found) (a : Attachment) → comment_starts (held (after_comment found a))
+    ≡ comment_starts (held a) ++ found.span.start ∷ []
 starts_after_comment found a =
     starts_trailing (line_comment_trails found a) (push_waiting found a)
     ∙ ap comment_starts (sym (append_assoc a.attached a.pending (waiting found a.saw_newline_for_comment ∷ [])))
@@ -45,22 +47,28 @@ starts_after_comment found a =
 
 pub starts_after_newline : (a : Attachment) → comment_starts (held (after_newline a)) ≡ comment_starts (held a)
 starts_after_newline a =
-    starts_trailing (not a.saw_newline && last_may_trail a.pending) (record a { pending = mark_last_followed a.pending; saw_newline = true; saw_newline_for_comment = true })
+    starts_trailing (not a.saw_newline && last_may_trail a.pending)
+    (record a { pending = mark_last_followed a.pending; saw_newline = true; saw_newline_for_comment = true })
     ∙ map-append (λ (c : Comment). c.span.start) a.attached (mark_last_followed a.pending)
     ∙ ap (λ ss. comment_starts a.attached ++ ss) (starts_marked a.pending)
     ∙ sym (starts_held a)
 
-starts_attached_by : (trails : Bool) (end start : ℕ) (c : Comment) → (attach_by trails end start c).span.start ≡ c.span.start
+starts_attached_by : (trails : Bool) (end start : ℕ) (c : Comment) → (attach_by trails end start c).span.start
+    ≡ c.span.start
 starts_attached_by true end start c = refl
 starts_attached_by false end start c = refl
 
-pub starts_attached_alone : (previous token : TokenParts) (cs : List Comment) → comment_starts (map (attach_alone previous token) cs) ≡ comment_starts cs
+pub starts_attached_alone : (previous token : TokenParts) (cs : List Comment)
+    → comment_starts (map (attach_alone previous token) cs) ≡ comment_starts cs
 starts_attached_alone previous token [] = refl
 starts_attached_alone previous token (c ∷ cs) =
-    ap (λ s. s ∷ comment_starts (map (attach_alone previous token) cs)) (starts_attached_by (trails_alone previous token c.preceded (stays_leading c.content)) previous.end token.start c)
+    ap (λ s. s ∷ comment_starts (map (attach_alone previous token) cs))
+    (starts_attached_by (trails_alone previous token c.preceded (stays_leading c.content)) previous.end
+    token.start c)
     ∙ ap (λ ss. c.span.start ∷ ss) (starts_attached_alone previous token cs)
 
-pub starts_after_token : (token : TokenParts) (a : Attachment) → comment_starts (held (after_token token a)) ≡ comment_starts (held a)
+pub starts_after_token : (token : TokenParts) (a : Attachment) → comment_starts (held (after_token token a))
+    ≡ comment_starts (held a)
 starts_after_token token a =
     ap comment_starts (append-nil (a.attached ++ map (attach_alone a.previous token) a.pending))
     ∙ map-append (λ (c : Comment). c.span.start) a.attached (map (attach_alone a.previous token) a.pending)
@@ -71,7 +79,8 @@ length_starts : (cs : List Comment) → length (comment_starts cs) ≡ length cs
 length_starts [] = refl
 length_starts (c ∷ cs) = ap suc (length_starts cs)
 
-pub length_after_comment : (found : Found) (a : Attachment) → length (held (after_comment found a)) ≡ length (held a) + 1
+pub length_after_comment : (found : Found) (a : Attachment) → length (held (after_comment found a))
+    ≡ length (held a) + 1
 length_after_comment found a =
     sym (length_starts (held (after_comment found a)))
     ∙ ap length (starts_after_comment found a)
@@ -99,7 +108,8 @@ is_past_push n (s ∷ []) = lt_suc n
 is_past_push n (s ∷ t ∷ ss) = is_past_push n (t ∷ ss)
 
 -- a list whose later part has other comments that start where the old ones did
-pub starts_put : (n : ℕ) (cs ds : List Comment) → comment_starts ds ≡ comment_starts (drop n cs) → comment_starts (take n cs ++ ds) ≡ comment_starts cs
+pub starts_put : (n : ℕ) (cs ds : List Comment) → comment_starts ds ≡ comment_starts (drop n cs)
+    → comment_starts (take n cs ++ ds) ≡ comment_starts cs
 starts_put n cs ds same =
     map-append (λ (c : Comment). c.span.start) (take n cs) ds
     ∙ ap (λ ss. comment_starts (take n cs) ++ ss) same
@@ -128,7 +138,8 @@ below low n (s ∷ t ∷ ss) h past one =
     let l : low ≤ s = h.0 in
     omega arith
 
-ascend_push : (low n : ℕ) (ss : List ℕ) → AscendFrom low ss → is_past n ss ≡ true → low ≤ n → n + 1 < 2 ^ 32 → AscendFrom low (ss ++ n ∷ [])
+ascend_push : (low n : ℕ) (ss : List ℕ) → AscendFrom low ss → is_past n ss ≡ true → low ≤ n → n + 1 < 2 ^ 32
+    → AscendFrom low (ss ++ n ∷ [])
 ascend_push low n [] h past le bound = (le, bound, tt)
 ascend_push low n (s ∷ []) h past le bound = (h.0, h.1, (past_head s n past, bound, tt))
 ascend_push low n (s ∷ t ∷ ss) h past le bound =
@@ -158,14 +169,16 @@ count_past n [] h past = omega arith
 count_past n (s ∷ ss) h past = let le : length (s ∷ ss) + 0 ≤ n = below 0 n (s ∷ ss) h past (omega arith) in omega arith
 
 -- as many comments as start before n
-pub count_below : (n : ℕ) (cs : List Comment) → AscendFrom 0 (comment_starts cs) → is_past n (comment_starts cs) ≡ true → length cs ≤ n
+pub count_below : (n : ℕ) (cs : List Comment) → AscendFrom 0 (comment_starts cs) → is_past n (comment_starts cs)
+    ≡ true → length cs ≤ n
 count_below n cs h past =
     let le : length (comment_starts cs) ≤ n = count_past n (comment_starts cs) h past in
     let same : length (comment_starts cs) ≡ length cs = length_starts cs in
     omega arith
 
 -- the same, as a write to the later part leaves it
-pub starts_put_mid : (n : ℕ) (cs ds : List Comment) → n ≤ length cs → comment_starts ds ≡ comment_starts (mid_of n (length cs - n) cs)
+pub starts_put_mid : (n : ℕ) (cs ds : List Comment) → n ≤ length cs → comment_starts ds
+    ≡ comment_starts (mid_of n (length cs - n) cs)
     → comment_starts (put_mid n (length cs - n) cs ds) ≡ comment_starts cs
 starts_put_mid n cs ds le same =
     let len : length (drop n cs) ≤ length cs - n = omega (arith, length-drop n cs) in
@@ -175,38 +188,48 @@ starts_put_mid n cs ds le same =
     ∙ ap (λ es. comment_starts (take n cs ++ es)) (append-nil ds)
     ∙ starts_put n cs ds (same ∙ ap comment_starts whole)
 
-pub cut_in_order : (n m p : ℕ) (cs : List Comment) (spans : List Span) → IsInOrder p cs spans → n ≤ length (take p cs ++ drop p cs)
+pub cut_in_order : (n m p : ℕ) (cs : List Comment) (spans : List Span) → IsInOrder p cs spans
+    → n ≤ length (take p cs ++ drop p cs)
     → IsInOrder n (take n cs) (take m spans)
 cut_in_order n m p cs spans h le =
     let whole : length (take p cs ++ drop p cs) ≡ length cs = ap length (take-append-drop p cs) in
     record {
       within = omega (arith, length-take n cs);
-      comments_ascend = subst (λ ss. AscendFrom 0 ss) (sym (take_map (λ (c : Comment). c.span.start) n cs)) (ascend_take 0 n (comment_starts cs) h.comments_ascend);
-      spans_ascend = subst (λ ss. AscendFrom 0 ss) (sym (take_map (λ (x : Span). x.start) m spans)) (ascend_take 0 m (span_starts spans) h.spans_ascend);
+      comments_ascend = subst (λ ss. AscendFrom 0 ss) (sym (take_map (λ (c : Comment). c.span.start) n cs))
+          (ascend_take 0 n (comment_starts cs) h.comments_ascend);
+      spans_ascend = subst (λ ss. AscendFrom 0 ss) (sym (take_map (λ (x : Span). x.start) m spans))
+          (ascend_take 0 m (span_starts spans) h.spans_ascend);
     }
 
 pub push_in_order : (p : ℕ) (cs new : List Comment) (spans : List Span) (c : Comment) → IsInOrder p cs spans
-    → is_past c.span.start (comment_starts (take p cs ++ drop p cs)) ≡ true → c.span.start + 1 < 2 ^ 32 → new ≡ cs ++ c ∷ [] → IsInOrder p new spans
+    → is_past c.span.start (comment_starts (take p cs ++ drop p cs)) ≡ true → c.span.start + 1 < 2 ^ 32 → new
+    ≡ cs ++ c ∷ [] → IsInOrder p new spans
 push_in_order p cs new spans c h past bound pushed =
-    let starts : comment_starts (cs ++ c ∷ []) ≡ comment_starts cs ++ c.span.start ∷ [] = map-append (λ (x : Comment). x.span.start) cs (c ∷ []) in
-    let last : is_past c.span.start (comment_starts cs) ≡ true = ap (λ xs. is_past c.span.start (comment_starts xs)) (sym (take-append-drop p cs)) ∙ past in
+    let starts : comment_starts (cs ++ c ∷ []) ≡ comment_starts cs ++ c.span.start ∷ [] =
+    map-append (λ (x : Comment). x.span.start) cs (c ∷ []) in
+    let last : is_past c.span.start (comment_starts cs) ≡ true =
+    ap (λ xs. is_past c.span.start (comment_starts xs)) (sym (take-append-drop p cs)) ∙ past in
     let within : p ≤ length cs = h.within in
     subst (λ xs. IsInOrder p xs spans) (sym pushed)
     (record {
       within = omega (arith, length-append cs (c ∷ []));
-      comments_ascend = subst (λ ss. AscendFrom 0 ss) (sym starts) (ascend_push 0 c.span.start (comment_starts cs) h.comments_ascend last (omega arith) bound);
+      comments_ascend = subst (λ ss. AscendFrom 0 ss) (sym starts)
+          (ascend_push 0 c.span.start (comment_starts cs) h.comments_ascend last (omega arith) bound);
       spans_ascend = h.spans_ascend;
     })
 
 pub push_span_in_order : (p : ℕ) (cs : List Comment) (spans new : List Span) (span : Span) → IsInOrder p cs spans
-    → is_past span.start (span_starts spans) ≡ true → span.start + 1 < 2 ^ 32 → new ≡ spans ++ span ∷ [] → IsInOrder p cs new
+    → is_past span.start (span_starts spans) ≡ true → span.start + 1 < 2 ^ 32 → new ≡ spans ++ span ∷ []
+    → IsInOrder p cs new
 push_span_in_order p cs spans new span h past bound pushed =
-    let starts : span_starts (spans ++ span ∷ []) ≡ span_starts spans ++ span.start ∷ [] = map-append (λ (x : Span). x.start) spans (span ∷ []) in
+    let starts : span_starts (spans ++ span ∷ []) ≡ span_starts spans ++ span.start ∷ [] =
+    map-append (λ (x : Span). x.start) spans (span ∷ []) in
     subst (λ xs. IsInOrder p cs xs) (sym pushed)
     (record {
       within = h.within;
       comments_ascend = h.comments_ascend;
-      spans_ascend = subst (λ ss. AscendFrom 0 ss) (sym starts) (ascend_push 0 span.start (span_starts spans) h.spans_ascend past (omega arith) bound);
+      spans_ascend = subst (λ ss. AscendFrom 0 ss) (sym starts)
+          (ascend_push 0 span.start (span_starts spans) h.spans_ascend past (omega arith) bound);
     })
 
 and_left : (a b : Bool) → (a && b) ≡ true → a ≡ true
@@ -216,12 +239,14 @@ and_left false b h = cc
 eqb_same : (m n : ℕ) → eqb m n ≡ true → m ≡ n
 eqb_same m n h = grind (arith, nat_tests)
 
-position_step : (b : Bool) (k i start end low : ℕ) (c : Comment) (cs : List Comment) → is_span start end c ≡ b → k ≤ low → low ≤ c.span.start
+position_step : (b : Bool) (k i start end low : ℕ) (c : Comment) (cs : List Comment) → is_span start end c ≡ b
+    → k ≤ low → low ≤ c.span.start
     → cond b (Some k) (position_from (is_span start end) (k + 1) cs) ≡ Some i
     → (position_from (is_span start end) (k + 1) cs ≡ Some i → i ≤ start) → i ≤ start
 position_step true k i start end low c cs test le at e rest =
     let same : k ≡ i = cc in
-    let starts : c.span.start ≡ start = eqb_same c.span.start start (and_left (eqb c.span.start start) (eqb c.span.end end) test) in
+    let starts : c.span.start ≡ start =
+    eqb_same c.span.start start (and_left (eqb c.span.start start) (eqb c.span.end end) test) in
     omega arith
 position_step false k i start end low c cs test le at e rest = rest e
 
@@ -231,4 +256,5 @@ pub position_bound : (k i start end low : ℕ) (cs : List Comment) → k ≤ low
 position_bound k i start end low [] le h e = absurd cc
 position_bound k i start end low (c ∷ cs) le h e =
     let at : low ≤ c.span.start = h.0 in
-    position_step (is_span start end c) k i start end low c cs refl le at e (position_bound (k + 1) i start end (c.span.start + 1) cs (omega arith) h.2)
+    position_step (is_span start end c) k i start end low c cs refl le at e
+    (position_bound (k + 1) i start end (c.span.start + 1) cs (omega arith) h.2)

@@ -57,7 +57,8 @@ pub mark_if_none : (b : Bool) → mark_if b [] ≡ []
 mark_if_none true = refl
 mark_if_none false = refl
 
-pub last_may_trail_push : (cs : List Comment) (c : Comment) → last_may_trail (cs ++ c ∷ []) ≡ not (stays_leading c.content)
+pub last_may_trail_push : (cs : List Comment) (c : Comment) → last_may_trail (cs ++ c ∷ [])
+    ≡ not (stays_leading c.content)
 last_may_trail_push [] c = refl
 last_may_trail_push (a ∷ []) c = refl
 last_may_trail_push (a ∷ b ∷ cs) c = last_may_trail_push (b ∷ cs) c
@@ -76,9 +77,12 @@ or_false true = refl
 or_false false = refl
 
 mark_waiting : (followed : Bool) (found : Found) (preceded : Bool)
-    → mark_one_if followed (waiting found preceded) ≡ record (waiting found preceded) { followed = is_line_kind found.kind || followed }
-mark_waiting true found preceded = ap (λ f. record (waiting found preceded) { followed = f }) (sym (or_true (is_line_kind found.kind)))
-mark_waiting false found preceded = ap (λ f. record (waiting found preceded) { followed = f }) (sym (or_false (is_line_kind found.kind)))
+    → mark_one_if followed (waiting found preceded)
+    ≡ record (waiting found preceded) { followed = is_line_kind found.kind || followed }
+mark_waiting true found preceded =
+    ap (λ f. record (waiting found preceded) { followed = f }) (sym (or_true (is_line_kind found.kind)))
+mark_waiting false found preceded =
+    ap (λ f. record (waiting found preceded) { followed = f }) (sym (or_false (is_line_kind found.kind)))
 
 attached_by : (trailing : Bool) (end start : ℕ) (c : Comment)
     → (if trailing then attach_to Trailing end c else attach_to Leading start c)
@@ -88,11 +92,14 @@ attached_by false end start c = refl
 
 -- a comment that waited is placed as the walk places it
 pub placed_waiting : (gap : Gap) (front preceded : Bool) (found : Found) (after : List Item)
-    → placed gap front (mark_one_if (line_end_next after) (waiting found preceded)) ≡ walked gap front preceded found after
-placed_waiting gap true preceded found after = ap (λ c. placed gap true c) (mark_waiting (line_end_next after) found preceded)
+    → placed gap front (mark_one_if (line_end_next after) (waiting found preceded))
+    ≡ walked gap front preceded found after
+placed_waiting gap true preceded found after =
+    ap (λ c. placed gap true c) (mark_waiting (line_end_next after) found preceded)
 placed_waiting gap false preceded found after =
     ap (λ c. placed gap false c) (mark_waiting (line_end_next after) found preceded)
-    ∙ attached_by (trails_alone gap.previous gap.token preceded (stays_leading found.content)) gap.previous.end gap.token.start (record (waiting found preceded) { followed = is_followed found after })
+    ∙ attached_by (trails_alone gap.previous gap.token preceded (stays_leading found.content)) gap.previous.end
+    gap.token.start (record (waiting found preceded) { followed = is_followed found after })
 
 -- a comment after a newline event waits
 pub after_comment_waits : (attached pending : List Comment) (preceded : Bool) (previous : TokenParts) (found : Found)
@@ -102,13 +109,15 @@ after_comment_waits attached pending preceded previous found =
     elim (bool_cases (is_line_kind found.kind)) [ inl h ↦ rw h refl | inr h ↦ rw h refl ]
 
 -- a line comment that is the first newline event
-pub after_line_comment : (attached pending : List Comment) (preceded : Bool) (previous : TokenParts) (found : Found) → is_line_kind found.kind ≡ true
+pub after_line_comment : (attached pending : List Comment) (preceded : Bool) (previous : TokenParts) (found : Found)
+    → is_line_kind found.kind ≡ true
     → after_comment found (state attached pending false preceded previous)
     ≡ trail_pending_if (not (keeps_line_comment_leading previous.kind) && not (stays_leading found.content))
     (state attached (pending ++ waiting found preceded ∷ []) true true previous)
 after_line_comment attached pending preceded previous found h = rw h refl
 
-pub after_block_comment : (attached pending : List Comment) (preceded : Bool) (previous : TokenParts) (found : Found) → is_line_kind found.kind ≡ false
+pub after_block_comment : (attached pending : List Comment) (preceded : Bool) (previous : TokenParts) (found : Found)
+    → is_line_kind found.kind ≡ false
     → after_comment found (state attached pending false preceded previous)
     ≡ state attached (pending ++ waiting found preceded ∷ []) false false previous
 after_block_comment attached pending preceded previous found h = rw h refl

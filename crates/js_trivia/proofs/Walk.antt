@@ -27,7 +27,8 @@ walk gap front preceded [] = []
 walk gap front preceded (irregular span ∷ after) = walk gap front preceded after
 walk gap front preceded (line_end ∷ after) = walk gap false true after
 walk gap front preceded (comment found ∷ after) =
-    walked gap front preceded found after ∷ walk gap (front && not (is_line_kind found.kind)) (is_line_kind found.kind) after
+    walked gap front preceded found after ∷ walk gap (front && not (is_line_kind found.kind))
+    (is_line_kind found.kind) after
 
 -- whether a comment after these events is trailing with others
 abbrev pub front_at : Gap → List Item → Bool
@@ -64,5 +65,7 @@ attach_walks gap before (line_end ∷ after) =
 attach_walks gap before (comment found ∷ after) =
     ap (λ cs. attached gap before found after ∷ cs)
     (attach_walks gap (comment found ∷ before) after
-    ∙ ap (λ f. walk gap f (is_preceded gap.is_first (comment found ∷ before)) after) (not_past_newline_event (front_trails gap) (is_line_kind found.kind) (has_newline_event before))
-    ∙ ap (λ p. walk gap (front_at gap before && not (is_line_kind found.kind)) p after) (preceded_past_comment gap.is_first found before))
+    ∙ ap (λ f. walk gap f (is_preceded gap.is_first (comment found ∷ before)) after)
+    (not_past_newline_event (front_trails gap) (is_line_kind found.kind) (has_newline_event before))
+    ∙ ap (λ p. walk gap (front_at gap before && not (is_line_kind found.kind)) p after)
+    (preceded_past_comment gap.is_first found before))

@@ -36,7 +36,8 @@ takes_comments previous token =
 
 -- A comment is trailing by itself.
 abbrev pub trails_alone : TokenParts → TokenParts → Bool → Bool → Bool
-trails_alone previous token preceded stays_leading = takes_comments previous.kind token.kind && not preceded && not stays_leading
+trails_alone previous token preceded stays_leading =
+    takes_comments previous.kind token.kind && not preceded && not stays_leading
 
 abbrev pub is_trailing : Gap → List Item → Found → Bool
 is_trailing gap before found =
@@ -59,7 +60,8 @@ abbrev pub attach_from : Gap → List Item → List Item → List Comment
 attach_from gap before [] = []
 attach_from gap before (irregular span ∷ after) = attach_from gap (irregular span ∷ before) after
 attach_from gap before (line_end ∷ after) = attach_from gap (line_end ∷ before) after
-attach_from gap before (comment found ∷ after) = attached gap before found after ∷ attach_from gap (comment found ∷ before) after
+attach_from gap before (comment found ∷ after) =
+    attached gap before found after ∷ attach_from gap (comment found ∷ before) after
 
 -- The comments of a gap, in their order.
 abbrev pub attach : Gap → List Comment

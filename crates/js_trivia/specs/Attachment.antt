@@ -75,7 +75,8 @@ push_waiting found s = record s {
 -- a line comment takes those that wait with it, where it is trailing
 abbrev pub line_comment_trails : Found → Attachment → Bool
 line_comment_trails found s =
-    is_line_kind found.kind && not s.saw_newline && not (keeps_line_comment_leading s.previous.kind) && not (stays_leading found.content)
+    is_line_kind found.kind && not s.saw_newline && not (keeps_line_comment_leading s.previous.kind)
+    && not (stays_leading found.content)
 
 abbrev pub after_comment : Found → Attachment → Attachment
 after_comment found s = trail_pending_if (line_comment_trails found s) (push_waiting found s)
@@ -87,10 +88,12 @@ after_newline s =
 
 -- trailing at the end of the token before, or leading at the start of the token after
 abbrev pub attach_by : Bool → ℕ → ℕ → Comment → Comment
-attach_by trails previous_end token_start c = if trails then attach_to Trailing previous_end c else attach_to Leading token_start c
+attach_by trails previous_end token_start c =
+    if trails then attach_to Trailing previous_end c else attach_to Leading token_start c
 
 abbrev pub attach_alone : TokenParts → TokenParts → Comment → Comment
-attach_alone previous token c = attach_by (trails_alone previous token c.preceded (stays_leading c.content)) previous.end token.start c
+attach_alone previous token c =
+    attach_by (trails_alone previous token c.preceded (stays_leading c.content)) previous.end token.start c
 
 abbrev pub after_token : TokenParts → Attachment → Attachment
 after_token token s = record {

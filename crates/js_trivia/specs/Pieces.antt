@@ -98,9 +98,11 @@ abbrev pub end_of : ℕ → List Piece → ℕ
 end_of place [] = place
 end_of place (x ∷ xs) = end_of (place + piece_length x) xs
 
--- A builder may be told of a gap of these pieces: no comment waits, both flags tell whether the gap is the first, what is
+-- A builder may be told of a gap of these pieces: no comment waits, both flags tell whether the gap is the first,
+-- what is
 -- held starts before it, and no piece is empty.
-pub record MayRead (is_first : Bool) (previous : TokenParts) (place : ℕ) (pieces : List Piece) (s : Trivia) : Type 0 where
-  pub attachment : s.attachment ≡ between_gaps s.attachment.attached is_first previous
-  pub held : HeldBefore place s
-  pub have_bytes : HaveBytes pieces
+pub record MayRead (is_first : Bool) (previous : TokenParts) (place : ℕ) (pieces : List Piece) (s : Trivia) : Type 0
+  where
+    pub attachment : s.attachment ≡ between_gaps s.attachment.attached is_first previous
+    pub held : HeldBefore place s
+    pub have_bytes : HaveBytes pieces

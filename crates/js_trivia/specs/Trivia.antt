@@ -65,7 +65,8 @@ is_no_side_effects_not_applied _ = false
 -- The comment at an index begins a range, or the range ends after it; one that starts later becomes that comment alone.
 abbrev pub extend : ℕ → Option CommentRange → Option CommentRange
 extend index None = Some (record { start = index; end = index + 1 })
-extend index (Some range) = Some (record { start = if nat_lt index range.start then index else range.start; end = index + 1 })
+extend index (Some range) =
+    Some (record { start = if nat_lt index range.start then index else range.start; end = index + 1 })
 
 abbrev pub extend_if : Bool → ℕ → Option CommentRange → Option CommentRange
 extend_if true index range = extend index range
@@ -115,7 +116,8 @@ abbrev pub push_comment : Found → Trivia → Trivia
 push_comment found s = record s { attachment = after_comment found s.attachment }
 
 abbrev pub add_new_comment : Found → Trivia → Trivia
-add_new_comment found s = note_class found.content (length (held s.attachment)) (record s { attachment = after_comment found s.attachment })
+add_new_comment found s =
+    note_class found.content (length (held s.attachment)) (record s { attachment = after_comment found s.attachment })
 
 -- A comment that starts past the last one is added. Another one is not, but is noted where it is held already.
 abbrev pub add_comment : Found → Trivia → Trivia
@@ -169,9 +171,11 @@ abbrev pub range_after : (CommentContent → Bool) → ℕ → Option CommentRan
 range_after is_noted index range [] = range
 range_after is_noted index range (irregular span ∷ xs) = range_after is_noted index range xs
 range_after is_noted index range (line_end ∷ xs) = range_after is_noted index range xs
-range_after is_noted index range (comment found ∷ xs) = range_after is_noted (index + 1) (extend_if (is_noted found.content) index range) xs
+range_after is_noted index range (comment found ∷ xs) =
+    range_after is_noted (index + 1) (extend_if (is_noted found.content) index range) xs
 
--- A gap from low to high may be read: no comment waits, both flags tell whether it is the first, and all that is held starts before it.
+-- A gap from low to high may be read: no comment waits, both flags tell whether it is the first, and all that is held
+-- starts before it.
 pub record BeforeGap (low high : ℕ) (gap : Gap) (s : Trivia) : Type 0 where
   pub attachment : s.attachment ≡ between_gaps s.attachment.attached gap.is_first gap.previous
   pub held : HeldBefore low s

@@ -170,7 +170,8 @@ impl TriviaBuilder {
     ) -> Result<(), AllocError>
         requires new { IsNew start self.old }
         requires span { start < end }
-        ensures ok { OnOk result (self.new ≡ push_comment (found_at (record { start = start; end = end }) kind content) self.old) }
+        ensures ok { OnOk result (self.new
+            ≡ push_comment (found_at (record { start = start; end = end }) kind content) self.old) }
         ensures err { OnErr result (self.new ≡ self.old) }
     {
         let is_line = kind.is_line();
@@ -219,7 +220,8 @@ impl TriviaBuilder {
         content: CommentContent,
     ) -> Result<(), AllocError>
         requires { start < end }
-        ensures ok { OnOk result (self.new ≡ add_comment (found_at (record { start = start; end = end }) kind content) self.old) }
+        ensures ok { OnOk result (self.new
+            ≡ add_comment (found_at (record { start = start; end = end }) kind content) self.old) }
         ensures err { OnErr result (self.new ≡ self.old) }
     {
         match new_index(self.comments.as_slice(), start) {
@@ -236,8 +238,8 @@ impl TriviaBuilder {
         Ok(())
     }
 
-    /// Adds a comment that ends before the next line end. One that starts at or before the last one is not added, but counts
-    /// for the range of its class where it is held already.
+    /// Adds a comment that ends before the next line end. One that starts at or before the last one is not added, but
+    /// counts for the range of its class where it is held already.
     pub fn add_line_comment(
         &mut self,
         start: u32,
@@ -247,15 +249,16 @@ impl TriviaBuilder {
     ) -> Result<(), AllocError>
         requires kind { is_line_kind kind ≡ true }
         requires placed { IsPlacedIn source_text.now kind (record { start = start; end = end }) }
-        ensures ok { OnOk result (self.new ≡ add_comment (found_in source_text.now kind (record { start = start; end = end })) self.old) }
+        ensures ok { OnOk result (self.new
+            ≡ add_comment (found_in source_text.now kind (record { start = start; end = end })) self.old) }
         ensures err { OnErr result (self.new ≡ self.old) }
     {
         let content = class_in(source_text, kind, Span { start, end });
         self.add_comment(start, end, kind, content)
     }
 
-    /// Adds a comment `/* .. */`. One that starts at or before the last one is not added, but counts for the range of its
-    /// class where it is held already.
+    /// Adds a comment `/* .. */`. One that starts at or before the last one is not added, but counts for the range of
+    /// its class where it is held already.
     pub fn add_block_comment(
         &mut self,
         start: u32,
@@ -265,7 +268,8 @@ impl TriviaBuilder {
     ) -> Result<(), AllocError>
         requires kind { is_line_kind kind ≡ false }
         requires placed { IsPlacedIn source_text.now kind (record { start = start; end = end }) }
-        ensures ok { OnOk result (self.new ≡ add_comment (found_in source_text.now kind (record { start = start; end = end })) self.old) }
+        ensures ok { OnOk result (self.new
+            ≡ add_comment (found_in source_text.now kind (record { start = start; end = end })) self.old) }
         ensures err { OnErr result (self.new ≡ self.old) }
     {
         let content = class_in(source_text, kind, Span { start, end });

@@ -4,4 +4,5 @@ use Rattle.js_trivia.proofs.attaching.attach_all.Given as goal
 
 abbrev pub invariant-loop-comment : goal.invariant-loop-comment
 invariant-loop-comment l =
-    l.comments ≡ map (attach_to l.position l.attached_to) (take l.comment-index l.initial.comments) ++ drop l.comment-index l.initial.comments
+    l.comments ≡ map (attach_to l.position l.attached_to) (take l.comment-index l.initial.comments)
+    ++ drop l.comment-index l.initial.comments

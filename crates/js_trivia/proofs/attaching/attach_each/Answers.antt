@@ -6,4 +6,5 @@ use Rattle.js_trivia.proofs.attaching.attach_each.Goals as goal
 
 pub loop-comment-preserved : goal.loop-comment-preserved
 loop-comment-preserved c =
-    rw (c.attach_alone.ensures, c.takes_comments-may_trail.ensures) (grind (arith, common_steps, map_over_more (attach_alone c.args.previous.now c.args.token.now)))
+    rw (c.attach_alone.ensures, c.takes_comments-may_trail.ensures)
+    (grind (arith, common_steps, map_over_more (attach_alone c.args.previous.now c.args.token.now)))

@@ -4,4 +4,5 @@ use Rattle.js_trivia.proofs.attaching.attach_each.Given as goal
 
 abbrev pub invariant-loop-comment : goal.invariant-loop-comment
 invariant-loop-comment l =
-    l.comments ≡ map (attach_alone l.previous l.token) (take l.comment-index l.initial.comments) ++ drop l.comment-index l.initial.comments
+    l.comments ≡ map (attach_alone l.previous l.token) (take l.comment-index l.initial.comments)
+    ++ drop l.comment-index l.initial.comments

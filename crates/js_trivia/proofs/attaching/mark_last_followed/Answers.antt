@@ -5,4 +5,5 @@ pub returns-in-len1-up-clause-marked : goal.returns-in-len1-up-clause-marked
 returns-in-len1-up-clause-marked c = mark_last_at c.args.comments.now _ c.in-len1-up.len_at_least
 
 pub returns-in-len1-up-clause-trails : goal.returns-in-len1-up-clause-trails
-returns-in-len1-up-clause-trails c = rw c.stays_leading.ensures (last_may_trail_at c.args.comments.now _ c.in-len1-up.len_at_least)
+returns-in-len1-up-clause-trails c =
+    rw c.stays_leading.ensures (last_may_trail_at c.args.comments.now _ c.in-len1-up.len_at_least)

@@ -9,4 +9,5 @@ overflow_cast-result c = omega (arith, count_fits (λ (x : Comment). x.span.star
 
 pub returns-then-is_past_comments-clause-bound : goal.returns-then-is_past_comments-clause-bound
 returns-then-is_past_comments-clause-bound c =
-    count_below c.args.start c.args.comments.now c.requires (sym c.is_past_comments.ensures ∙ c.if-is_past_comments.true)
+    count_below c.args.start c.args.comments.now c.requires
+    (sym c.is_past_comments.ensures ∙ c.if-is_past_comments.true)
