@@ -7,6 +7,8 @@ mod kinds;
 pub mod laws;
 mod lengths;
 mod order;
+#[cfg(test)]
+mod tests;
 mod trivia_builder;
 
 pub use classes::classify;
