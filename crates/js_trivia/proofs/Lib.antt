@@ -1,0 +1,10 @@
+pub mod CutBack
+pub mod Front
+pub mod GapLaw
+pub mod Last
+pub mod Law
+pub mod Licences
+pub mod PieceLaw
+pub mod Starts
+pub mod Steps
+pub mod Walk

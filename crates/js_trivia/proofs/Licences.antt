@@ -1,0 +1,48 @@
+-- A search for licences goes from one `@` to the next.
+use Rattle.std.proofs.Common.{◌≡◌, ℕ, zero, suc, ◌<◌, ◌≤◌, Bool, true, false, List, [], ◌∷◌, length, drop, take, refl, sym, ◌∙◌, arith, get_or, None, Some}
+use Rattle.std.specs.Prelude.{◌==◌, ◌&&◌, ◌||◌, codes}
+use Rattle.std.proofs.lemmas.Bool.{eqb-true, eq-eqb}
+use lib.Pointwise.{pointwise}
+use Rattle.memchr.specs.Find.{IsFirstByte, is_byte}
+use Rattle.js_trivia.specs.Classes.{is_licensed}
+
+not_true : (x : Bool) → (x ≡ true → ⊥) → x ≡ false
+not_true true h = absurd (h refl)
+not_true false h = refl
+
+without_front : (front p q rest : Bool) → front ≡ false → (((front && p) || (front && q)) || rest) ≡ rest
+without_front true p q rest h = absurd cc
+without_front false p q rest h = refl
+
+turned : (b : ℕ) → (b == 64) ≡ false → (64 == b) ≡ false
+turned b h = not_true (64 == b) (λ same. absurd (by_test (sym (eqb-true 64 b same))))
+  where
+    by_test : b ≡ 64 → ⊥
+    by_test e = let one : (b == 64) ≡ true = eq-eqb b 64 e in cc
+
+not_here : (b : ℕ) (bs : List ℕ) → (b == 64) ≡ false → is_licensed (b ∷ bs) ≡ is_licensed bs
+not_here b bs h =
+    without_front (64 == b) (pointwise (λ x y. x == y) (codes "license") (take 7 bs))
+    (pointwise (λ x y. x == y) (codes "preserve") (take 8 bs)) (is_licensed bs) (turned b h)
+
+-- where no `@` stands in front, nothing there matters
+pub without_ats : (k : ℕ) (text : List ℕ) → ((i : ℕ) → i < k → (get_or text i 0 == 64) ≡ false)
+    → is_licensed text ≡ is_licensed (drop k text)
+without_ats zero text h = refl
+without_ats (suc k) [] h = refl
+without_ats (suc k) (b ∷ bs) h = not_here b bs (h 0 (omega arith)) ∙ without_ats k bs (λ i lt. h (suc i) (omega arith))
+
+pub at_first : (text : List ℕ) (k : ℕ) → IsFirstByte (is_byte 64) text (Some k) → is_licensed (drop k text)
+    ≡ is_licensed text
+at_first text k h = sym (without_ats k text (λ i lt. not_true _ (h.0.before i (omega arith) lt)))
+
+pub at_none : (text : List ℕ) → IsFirstByte (is_byte 64) text None → is_licensed text ≡ false
+at_none text h =
+    without_ats (length text) text (λ i lt. not_true _ (h i (omega arith) lt))
+    ∙ nothing_left (length text) text (omega arith)
+  where
+    nothing_left : (n : ℕ) (xs : List ℕ) → length xs ≤ n → is_licensed (drop n xs) ≡ false
+    nothing_left zero [] le = refl
+    nothing_left zero (x ∷ xs) le = absurd (omega arith)
+    nothing_left (suc n) [] le = refl
+    nothing_left (suc n) (x ∷ xs) le = nothing_left n xs (omega arith)

@@ -1,0 +1,23 @@
+use Rattle.std.proofs.Common.{arith}
+use Rattle.js_text.specs.declared.comment.Comment.{Comment}
+use Rattle.js_text.specs.declared.span.Span.{Span}
+use Rattle.js_trivia.proofs.Starts.{count_fits}
+use Rattle.js_trivia.proofs.trivia_builder.TriviaBuilder.lengths.Goals as goal
+
+pub overflow_cast-result : goal.overflow_cast-result
+overflow_cast-result c =
+    omega (
+      arith,
+      c.self.invariant.within,
+      count_fits (λ (x : Comment). x.span.start) c.self.inside.comments.items
+          c.self.invariant.comments_ascend,
+    )
+
+pub overflow_cast-result-2 : goal.overflow_cast-result-2
+overflow_cast-result-2 c =
+    omega (
+      arith,
+      c.len.ensures,
+      count_fits (λ (x : Span). x.start) c.self.inside.irregular_whitespaces.items
+          c.self.invariant.spans_ascend,
+    )

@@ -1,0 +1,16 @@
+//! Comments and irregular white space between tokens, and the tokens that comments belong to.
+#![tactic(auto)]
+
+mod attaching;
+mod classes;
+mod kinds;
+pub mod laws;
+mod lengths;
+mod order;
+#[cfg(test)]
+mod tests;
+mod trivia_builder;
+
+pub use classes::classify;
+pub use lengths::TriviaLengths;
+pub use trivia_builder::TriviaBuilder;

@@ -1,0 +1,334 @@
+//! The trivia builder: it collects comments and irregular white space, and attaches each comment to a token.
+
+ghost use Rattle.std.specs.Prelude.{◌≡◌, ◌-◌, ◌^◌, ◌<◌, ◌≤◌, [], length, true, false, OnOk, OnErr, None};
+ghost use Rattle.js_text.specs.Comment.{is_line_kind, HoldsMarks, content_span};
+ghost use Rattle.js_trivia.specs.Attachment.{trail_pending, after_comment};
+ghost use Rattle.js_trivia.specs.Items.{found_at};
+ghost use Rattle.js_trivia.specs.Trivia.{Trivia, no_trivia, held, IsNew, push_comment, note_class, add_comment, add_irregular, handle_newline, handle_token, lengths_of, cut_to, IsPlacedIn, class_in_text, found_in};
+
+use crate::attaching::{attach_each_pending, attach_pending, mark_last_pending};
+use crate::classes::{classify, stays_leading};
+use crate::kinds::keeps_line_comment_leading;
+use crate::lengths::TriviaLengths;
+use crate::order::{extend_if, find_comment, is_past_spans, new_index};
+use js_kind::{Kind, Token};
+use js_text::{Comment, CommentContent, CommentKind, CommentPosition, CommentRange, Span};
+use std::alloc::{AllocError, Global};
+use std::marker::Model;
+
+/// The class of a comment of a text.
+fn class_in(source_text: &str, kind: CommentKind, span: Span) -> CommentContent
+    requires { IsPlacedIn source_text.now kind span }
+    ensures { result ≡ class_in_text source_text.now kind span }
+{
+    let start = span.start + kind.opening_length();
+    let end = span.end - kind.closing_length();
+    classify(&source_text[start as usize..end as usize], !kind.is_line())
+}
+
+/// Comments and irregular white space in the order of the text. Comments wait for the next token, until it is clear to
+/// which token they belong.
+#[derive(Drop)]
+pub struct TriviaBuilder {
+    comments: Vec<Comment>,
+    irregular_whitespaces: Vec<Span>,
+    /// How many comments are attached.
+    processed: usize,
+    /// A newline event came since the last token.
+    saw_newline: bool,
+    /// A newline event came since the last block comment or token.
+    saw_newline_for_comment: bool,
+    /// The last token.
+    previous: Token,
+    pure_comments: Option<CommentRange>,
+    no_side_effects_comments: Option<CommentRange>,
+}
+
+impl Model for TriviaBuilder {
+    ghost use Rattle.std.specs.Prelude.{take, drop, length, ◌≤◌};
+    ghost use Rattle.js_trivia.specs.Trivia.{Trivia};
+    ghost use Rattle.js_trivia.specs.Builder.{IsInOrder};
+
+    ghost Value = { Trivia };
+
+    ghost view = { λ b. record {
+      attachment = record {
+        attached = take b.processed b.comments.items;
+        pending = drop b.processed b.comments.items;
+        saw_newline = b.saw_newline;
+        saw_newline_for_comment = b.saw_newline_for_comment;
+        previous = b.previous;
+      };
+      irregular_whitespaces = b.irregular_whitespaces.items;
+      pure_comments = b.pure_comments;
+      no_side_effects_comments = b.no_side_effects_comments;
+    } };
+
+    ghost invariant = { λ b. IsInOrder b.processed b.comments.items b.irregular_whitespaces.items };
+}
+
+impl TriviaBuilder {
+    /// A builder that holds nothing, at the start of a source.
+    pub fn new_in(alloc: Global) -> TriviaBuilder
+        ensures { result ≡ no_trivia }
+    {
+        TriviaBuilder {
+            comments: Vec::new(alloc),
+            irregular_whitespaces: Vec::new(alloc),
+            processed: 0,
+            saw_newline: true,
+            saw_newline_for_comment: true,
+            previous: Token::new(Kind::Undetermined, Span::empty(0), false),
+            pure_comments: None,
+            no_side_effects_comments: None,
+        }
+    }
+
+    /// The comments, in the order of the text.
+    pub fn comments(&self) -> &[Comment]
+        ensures { result.now ≡ held self.now.attachment }
+    {
+        self.comments.as_slice()
+    }
+
+    /// The irregular white space that is listed, in the order of the text.
+    pub fn irregular_whitespaces(&self) -> &[Span]
+        ensures { result.now ≡ self.now.irregular_whitespaces }
+    {
+        self.irregular_whitespaces.as_slice()
+    }
+
+    /// The last token, of kind `Undetermined` before the first.
+    pub fn previous_token(&self) -> Token
+        ensures { result ≡ self.now.attachment.previous }
+    {
+        self.previous
+    }
+
+    /// The comments of class `PureNotApplied` before the last token, from the first of them to the last.
+    pub fn previous_token_pure_comments(&self) -> Option<CommentRange>
+        ensures { result ≡ self.now.pure_comments }
+    {
+        self.pure_comments
+    }
+
+    /// The comments of class `NoSideEffectsNotApplied` before the last token, from the first of them to the last.
+    pub fn previous_token_no_side_effects_comments(&self) -> Option<CommentRange>
+        ensures { result ≡ self.now.no_side_effects_comments }
+    {
+        self.no_side_effects_comments
+    }
+
+    /// Forgets the range of comments of class `PureNotApplied`.
+    pub fn clear_pure_comments(&mut self)
+        ensures { self.new ≡ record self.old { pure_comments = None } }
+    {
+        self.pure_comments = None;
+    }
+
+    /// Forgets the range of comments of class `NoSideEffectsNotApplied`.
+    pub fn clear_no_side_effects_comments(&mut self)
+        ensures { self.new ≡ record self.old { no_side_effects_comments = None } }
+    {
+        self.no_side_effects_comments = None;
+    }
+
+    /// Attaches the comments that wait to the last token.
+    fn trail_pending(&mut self)
+        ensures { self.new ≡ record self.old { attachment = trail_pending self.old.attachment } }
+    {
+        attach_pending(
+            &mut self.comments,
+            self.processed,
+            CommentPosition::Trailing,
+            self.previous.end(),
+        );
+        self.processed = self.comments.len();
+    }
+
+    /// Takes notice of the next token: the comments that wait are attached to it or to the token before.
+    pub fn handle_token(&mut self, token: Token)
+        ensures { self.new ≡ handle_token token self.old }
+    {
+        let len = self.comments.len();
+        if self.processed < len {
+            attach_each_pending(&mut self.comments, self.processed, &self.previous, &token);
+            self.processed = len;
+        }
+        self.saw_newline = false;
+        self.saw_newline_for_comment = false;
+        self.previous = token;
+    }
+
+    /// Adds a comment after those that wait, and attaches them if it is a trailing line comment.
+    fn push_comment(
+        &mut self,
+        start: u32,
+        end: u32,
+        kind: CommentKind,
+        content: CommentContent,
+    ) -> Result<(), AllocError>
+        requires new { IsNew start self.old }
+        requires span { start < end }
+        ensures ok { OnOk result (self.new
+            ≡ push_comment (found_at (record { start = start; end = end }) kind content) self.old) }
+        ensures err { OnErr result (self.new ≡ self.old) }
+    {
+        let is_line = kind.is_line();
+        self.comments.push(Comment {
+            span: Span { start, end },
+            kind,
+            position: CommentPosition::Leading,
+            attached_to: 0,
+            preceded: self.saw_newline_for_comment,
+            followed: is_line,
+            content,
+        })?;
+        let trails = is_line
+            && !self.saw_newline
+            && !keeps_line_comment_leading(self.previous.kind())
+            && !stays_leading(content);
+        self.saw_newline = is_line || self.saw_newline;
+        self.saw_newline_for_comment = is_line;
+        if trails {
+            self.trail_pending();
+        }
+        Ok(())
+    }
+
+    /// Notes the comment at an index in the range of its class, if it has one.
+    fn note_class(&mut self, content: CommentContent, index: u32)
+        requires { index < 2 ^ 32 - 1 }
+        ensures { self.new ≡ note_class content index self.old }
+    {
+        let is_pure = matches!(content, CommentContent::PureNotApplied);
+        let has_no_side_effects = matches!(content, CommentContent::NoSideEffectsNotApplied);
+        self.pure_comments = extend_if(is_pure, self.pure_comments, index);
+        self.no_side_effects_comments = extend_if(
+            has_no_side_effects,
+            self.no_side_effects_comments,
+            index,
+        );
+    }
+
+    /// Adds a comment, or counts it for the range of its class where it is held already.
+    fn add_comment(
+        &mut self,
+        start: u32,
+        end: u32,
+        kind: CommentKind,
+        content: CommentContent,
+    ) -> Result<(), AllocError>
+        requires { start < end }
+        ensures ok { OnOk result (self.new
+            ≡ add_comment (found_at (record { start = start; end = end }) kind content) self.old) }
+        ensures err { OnErr result (self.new ≡ self.old) }
+    {
+        match new_index(self.comments.as_slice(), start) {
+            Some(index) => {
+                self.push_comment(start, end, kind, content)?;
+                self.note_class(content, index);
+            }
+            None => {
+                if let Some(index) = find_comment(self.comments.as_slice(), start, end) {
+                    self.note_class(content, index);
+                }
+            }
+        }
+        Ok(())
+    }
+
+    /// Adds a comment that ends before the next line end. One that starts at or before the last one is not added, but
+    /// counts for the range of its class where it is held already.
+    pub fn add_line_comment(
+        &mut self,
+        start: u32,
+        end: u32,
+        kind: CommentKind,
+        source_text: &str,
+    ) -> Result<(), AllocError>
+        requires kind { is_line_kind kind ≡ true }
+        requires placed { IsPlacedIn source_text.now kind (record { start = start; end = end }) }
+        ensures ok { OnOk result (self.new
+            ≡ add_comment (found_in source_text.now kind (record { start = start; end = end })) self.old) }
+        ensures err { OnErr result (self.new ≡ self.old) }
+    {
+        let content = class_in(source_text, kind, Span { start, end });
+        self.add_comment(start, end, kind, content)
+    }
+
+    /// Adds a comment `/* .. */`. One that starts at or before the last one is not added, but counts for the range of
+    /// its class where it is held already.
+    pub fn add_block_comment(
+        &mut self,
+        start: u32,
+        end: u32,
+        kind: CommentKind,
+        source_text: &str,
+    ) -> Result<(), AllocError>
+        requires kind { is_line_kind kind ≡ false }
+        requires placed { IsPlacedIn source_text.now kind (record { start = start; end = end }) }
+        ensures ok { OnOk result (self.new
+            ≡ add_comment (found_in source_text.now kind (record { start = start; end = end })) self.old) }
+        ensures err { OnErr result (self.new ≡ self.old) }
+    {
+        let content = class_in(source_text, kind, Span { start, end });
+        self.add_comment(start, end, kind, content)
+    }
+
+    /// Takes notice of a line end.
+    pub fn handle_newline(&mut self)
+        ensures { self.new ≡ handle_newline self.old }
+    {
+        let trails = mark_last_pending(&mut self.comments, self.processed) && !self.saw_newline;
+        self.saw_newline = true;
+        self.saw_newline_for_comment = true;
+        if trails {
+            self.trail_pending();
+        }
+    }
+
+    /// Adds irregular white space. Where it starts at or before the last one, nothing is added.
+    pub fn add_irregular_whitespace(&mut self, start: u32, end: u32) -> Result<(), AllocError>
+        requires { start < end }
+        ensures ok { OnOk result (self.new ≡ add_irregular (record { start = start; end = end }) self.old) }
+        ensures err { OnErr result (self.new ≡ self.old) }
+    {
+        if is_past_spans(self.irregular_whitespaces.as_slice(), start) {
+            self.irregular_whitespaces.push(Span { start, end })?;
+        }
+        Ok(())
+    }
+
+    /// How far it has come, between two gaps.
+    pub fn lengths(&self) -> TriviaLengths
+        requires { self.now.attachment.pending ≡ [] }
+        ensures { result ≡ lengths_of self.now }
+    {
+        TriviaLengths {
+            comments: self.processed as u32,
+            irregular: self.irregular_whitespaces.len() as u32,
+            saw_newline: self.saw_newline,
+            saw_newline_for_comment: self.saw_newline_for_comment,
+            previous: self.previous,
+            pure_range: self.pure_comments,
+            no_side_effects: self.no_side_effects_comments,
+        }
+    }
+
+    /// Goes back to where it was, if since then the lists only grew.
+    pub fn cut_back(&mut self, to: &TriviaLengths)
+        requires comments { to.now.comments ≤ length (held self.old.attachment) }
+        requires irregular { to.now.irregular ≤ length self.old.irregular_whitespaces }
+        ensures { self.new ≡ cut_to to.now self.old }
+    {
+        self.comments.truncate(to.comments as usize);
+        self.irregular_whitespaces.truncate(to.irregular as usize);
+        self.processed = to.comments as usize;
+        self.saw_newline = to.saw_newline;
+        self.saw_newline_for_comment = to.saw_newline_for_comment;
+        self.previous = to.previous;
+        self.pure_comments = to.pure_range;
+        self.no_side_effects_comments = to.no_side_effects;
+    }
+}
