@@ -1,9 +1,11 @@
 -- Whether the comments up to the first newline event are trailing, as one walk to that event.
-use Rattle.std.proofs.Common.{◌≡◌, Bool, true, false, List, [], ◌∷◌, Option, Some, None, refl, sym, ◌∙◌, ap, ◌⊎◌, inl, inr}
+use Rattle.std.proofs.Common.{◌≡◌, Bool, true, false, List, [], ◌∷◌, Option, Some, None, refl, sym, ◌∙◌, ap, ◌⊎◌, inl}
+use Rattle.std.proofs.Common.{inr}
 use Rattle.std.specs.Prelude.{not, ◌&&◌, ◌||◌, unwrap_or, if◌then◌else◌}
 use Rattle.js_kind.specs.declared.kind.Kind.{Kind}
 use Rattle.js_trivia.specs.Kinds.{keeps_line_comment_leading}
-use Rattle.js_trivia.specs.Items.{Found, Item, irregular, line_end, comment, Gap, has_newline_event, up_to_newline_event, last_comment, begins_with_line_end, from_newline_event}
+use Rattle.js_trivia.specs.Items.{Found, Item, irregular, line_end, comment, Gap, has_newline_event}
+use Rattle.js_trivia.specs.Items.{up_to_newline_event, last_comment, begins_with_line_end, from_newline_event}
 use Rattle.js_trivia.specs.Classes.{stays_leading}
 use Rattle.js_text.specs.Comment.{is_line_kind}
 use Rattle.js_trivia.specs.Attach.{may_trail, front_trails}

@@ -1,5 +1,6 @@
 -- The calls for a gap attach its comments as the definition says.
-use Rattle.std.proofs.Common.{◌≡◌, Bool, true, false, List, [], ◌∷◌, ◌++◌, map, refl, sym, ◌∙◌, ap, inl, inr, append-nil, append_assoc}
+use Rattle.std.proofs.Common.{◌≡◌, Bool, true, false, List, [], ◌∷◌, ◌++◌, map, refl, sym, ◌∙◌, ap, inl, inr}
+use Rattle.std.proofs.Common.{append-nil, append_assoc}
 use Rattle.std.specs.Prelude.{not, ◌&&◌}
 use Rattle.std.proofs.lemmas.List.{map-append}
 use Rattle.js_text.specs.declared.comment.Comment.{Comment}
@@ -8,10 +9,13 @@ use Rattle.js_trivia.specs.Items.{Found, Item, irregular, line_end, comment, Gap
 use Rattle.js_trivia.specs.Classes.{stays_leading}
 use Rattle.js_text.specs.Comment.{is_line_kind}
 use Rattle.js_trivia.specs.Attach.{front_trails, attach}
-use Rattle.js_trivia.specs.Attachment.{mark_last_followed, last_may_trail, waiting, trail_pending_if, after_token, after_items, between_gaps}
+use Rattle.js_trivia.specs.Attachment.{mark_last_followed, last_may_trail, waiting, trail_pending_if, after_token}
+use Rattle.js_trivia.specs.Attachment.{after_items, between_gaps}
 use Rattle.js_trivia.proofs.Walk.{walked, walk, front_at, attach_walks}
 use Rattle.js_trivia.proofs.Front.{bool_cases, trails_from, front_trails_walks}
-use Rattle.js_trivia.proofs.Steps.{state, line_end_next, mark_if, mark_one_if, mark_if_push, mark_if_marked, mark_if_none, last_may_trail_push, placed, placed_waiting, after_comment_waits, after_line_comment, after_block_comment}
+use Rattle.js_trivia.proofs.Steps.{state, line_end_next, mark_if, mark_one_if, mark_if_push, mark_if_marked}
+use Rattle.js_trivia.proofs.Steps.{mark_if_none, last_may_trail_push, placed, placed_waiting, after_comment_waits}
+use Rattle.js_trivia.proofs.Steps.{after_line_comment, after_block_comment}
 
 -- one more comment that waits, and then the walk
 next_waits : (gap : Gap) (att ps : List Comment) (front n : Bool) (found : Found) (xs : List Item) (rest : List Comment)

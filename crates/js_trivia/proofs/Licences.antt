@@ -1,5 +1,6 @@
 -- A search for licences goes from one `@` to the next.
-use Rattle.std.proofs.Common.{◌≡◌, ℕ, zero, suc, ◌<◌, ◌≤◌, Bool, true, false, List, [], ◌∷◌, length, drop, take, refl, sym, ◌∙◌, arith, get_or, None, Some}
+use Rattle.std.proofs.Common.{◌≡◌, ℕ, zero, suc, ◌<◌, ◌≤◌, Bool, true, false, List, [], ◌∷◌, length, drop, take, refl}
+use Rattle.std.proofs.Common.{sym, ◌∙◌, arith, get_or, None, Some}
 use Rattle.std.specs.Prelude.{◌==◌, ◌&&◌, ◌||◌, codes}
 use Rattle.std.proofs.lemmas.Bool.{eqb-true, eq-eqb}
 use lib.Pointwise.{pointwise}

@@ -1,5 +1,7 @@
 -- Where comments start is not changed by attaching them.
-use Rattle.std.proofs.Common.{◌≡◌, ℕ, zero, suc, ◌+◌, ◌-◌, ◌≤◌, ◌<◌, ◌^◌, Bool, true, false, List, [], ◌∷◌, ◌++◌, map, length, take, drop, refl, sym, ◌∙◌, ap, subst, arith, length-append, length-drop, length-take, append-nil, append_assoc}
+use Rattle.std.proofs.Common.{◌≡◌, ℕ, zero, suc, ◌+◌, ◌-◌, ◌≤◌, ◌<◌, ◌^◌, Bool, true, false, List, [], ◌∷◌, ◌++◌, map}
+use Rattle.std.proofs.Common.{length, take, drop, refl, sym, ◌∙◌, ap, subst, arith, length-append, length-drop}
+use Rattle.std.proofs.Common.{length-take, append-nil, append_assoc}
 use Rattle.std.specs.Prelude.{nat_lt, not, ◌&&◌, eqb, cond, Some}
 use Rattle.std.specs.List.{position_from}
 use Rattle.std.proofs.lemmas.List.{map-append, take-append-drop, drop_all, take_all}
@@ -13,7 +15,9 @@ use Rattle.js_text.specs.declared.span.Span.{Span}
 use Rattle.js_trivia.specs.Items.{Found}
 use Rattle.js_trivia.specs.Classes.{stays_leading}
 use Rattle.js_trivia.specs.Attach.{trails_alone}
-use Rattle.js_trivia.specs.Attachment.{Attachment, attach_to, attach_by, attach_alone, after_token, mark_last_followed, waiting, push_waiting, last_may_trail, line_comment_trails, trail_pending_if, after_comment, after_newline}
+use Rattle.js_trivia.specs.Attachment.{Attachment, attach_to, attach_by, attach_alone, after_token, mark_last_followed}
+use Rattle.js_trivia.specs.Attachment.{waiting, push_waiting, last_may_trail, line_comment_trails, trail_pending_if}
+use Rattle.js_trivia.specs.Attachment.{after_comment, after_newline}
 use Rattle.js_trivia.specs.Builder.{IsInOrder}
 use Rattle.js_trivia.specs.Trivia.{held, span_starts, comment_starts, is_past, is_span, AscendFrom}
 

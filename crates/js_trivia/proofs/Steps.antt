@@ -9,7 +9,8 @@ use Rattle.js_trivia.specs.Items.{Found, Item, Gap, begins_with_line_end, skip_i
 use Rattle.js_trivia.specs.Classes.{stays_leading}
 use Rattle.js_text.specs.Comment.{is_line_kind}
 use Rattle.js_trivia.specs.Attach.{is_followed, trails_alone}
-use Rattle.js_trivia.specs.Attachment.{Attachment, attach_to, mark_followed, mark_last_followed, last_may_trail, waiting, trail_pending_if, attach_alone, after_comment}
+use Rattle.js_trivia.specs.Attachment.{Attachment, attach_to, mark_followed, mark_last_followed, last_may_trail}
+use Rattle.js_trivia.specs.Attachment.{waiting, trail_pending_if, attach_alone, after_comment}
 use Rattle.js_trivia.proofs.Walk.{walked}
 use Rattle.js_trivia.proofs.Front.{bool_cases}
 

@@ -4,8 +4,11 @@ use Rattle.js_kind.specs.declared.kind.Kind.{Kind}
 use Rattle.js_kind.specs.TokenParts.{TokenParts}
 use Rattle.js_text.specs.declared.comment.CommentPosition.TheVariants.{Leading, Trailing}
 use Rattle.js_text.specs.declared.comment.Comment.{Comment}
-use Rattle.js_trivia.specs.Kinds.{is_eof, is_undetermined, can_end_expression, continues_expression, keeps_line_comment_leading}
-use Rattle.js_trivia.specs.Items.{Found, Item, irregular, line_end, comment, Gap, has_newline_event, up_to_newline_event, last_comment, begins_with_line_end, from_newline_event, skip_irregular, stretch, has_comment}
+use Rattle.js_trivia.specs.Kinds.{is_eof, is_undetermined, can_end_expression, continues_expression}
+use Rattle.js_trivia.specs.Kinds.{keeps_line_comment_leading}
+use Rattle.js_trivia.specs.Items.{Found, Item, irregular, line_end, comment, Gap, has_newline_event}
+use Rattle.js_trivia.specs.Items.{up_to_newline_event, last_comment, begins_with_line_end, from_newline_event}
+use Rattle.js_trivia.specs.Items.{skip_irregular, stretch, has_comment}
 use Rattle.js_trivia.specs.Classes.{stays_leading}
 use Rattle.js_text.specs.Comment.{is_line_kind}
 

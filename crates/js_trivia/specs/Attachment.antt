@@ -1,5 +1,6 @@
 -- What a trivia builder holds, and what each call makes of it.
-use Rattle.std.specs.Prelude.{ℕ, Bool, true, false, not, ◌&&◌, ◌||◌, List, [], ◌∷◌, ◌++◌, map, take, drop, if◌then◌else◌}
+use Rattle.std.specs.Prelude.{ℕ, Bool, true, false, not, ◌&&◌, ◌||◌, List, [], ◌∷◌, ◌++◌, map, take, drop}
+use Rattle.std.specs.Prelude.{if◌then◌else◌}
 use Rattle.js_kind.specs.TokenParts.{TokenParts}
 use Rattle.js_text.specs.declared.comment.CommentPosition.{CommentPosition}
 use Rattle.js_text.specs.declared.comment.CommentPosition.TheVariants.{Leading, Trailing}

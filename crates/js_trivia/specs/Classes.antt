@@ -1,5 +1,6 @@
 -- The classes of comments by what is in them, and which of them keep a comment before what it speaks of.
-use Rattle.std.specs.Prelude.{ℕ, Bool, true, false, ◌&&◌, ◌||◌, ◌==◌, List, [], ◌∷◌, codes, nat_le, drop, length, if◌then◌else◌}
+use Rattle.std.specs.Prelude.{ℕ, Bool, true, false, ◌&&◌, ◌||◌, ◌==◌, List, [], ◌∷◌, codes, nat_le, drop, length}
+use Rattle.std.specs.Prelude.{if◌then◌else◌}
 use Rattle.std.specs.List.{list_all, starts_with}
 use Rattle.std.specs.Str.{bytes_eq, trim}
 use Rattle.js_text.specs.Ascii.{asterisk}

@@ -2,7 +2,8 @@
 use Rattle.std.specs.Prelude.{Bool, List, [], ◌∷◌, ◌||◌}
 use Rattle.js_kind.specs.declared.kind.Kind.{Kind}
 use Rattle.js_kind.specs.declared.kind.Kind.TheVariants as variant
-use Rattle.js_kind.specs.Kinds.{is_one_of, is_identifier, is_literal, is_binary_operator, is_logical_operator, is_assignment_operator}
+use Rattle.js_kind.specs.Kinds.{is_one_of, is_identifier, is_literal, is_binary_operator, is_logical_operator}
+use Rattle.js_kind.specs.Kinds.{is_assignment_operator}
 
 -- the end of the source
 unfoldable pub is_eof : Kind → Bool

@@ -1,13 +1,16 @@
 -- The items of a gap by its pieces.
-use Rattle.std.specs.Prelude.{ℕ, ◌+◌, ◌-◌, ◌≤◌, ◌≡◌, ◌==◌, ◌||◌, ◌&&◌, ⊤, Bool, true, false, not, List, [], ◌∷◌, ◌++◌, length, take, drop, if◌then◌else◌}
+use Rattle.std.specs.Prelude.{ℕ, ◌+◌, ◌-◌, ◌≤◌, ◌≡◌, ◌==◌, ◌||◌, ◌&&◌, ⊤, Bool, true, false, not, List, [], ◌∷◌, ◌++◌}
+use Rattle.std.specs.Prelude.{length, take, drop, if◌then◌else◌}
 use Rattle.std.specs.List.{list_any}
 use Rattle.std.specs.Str.{encode_utf8_all}
 use Rattle.js_text.specs.Characters.{begins, is_irregular_whitespace, is_line_terminator}
 use Rattle.js_text.specs.Comment.{is_line_kind, opening_length, closing_length}
 use Rattle.js_text.specs.declared.span.Span.{Span}
 use Rattle.js_text.specs.declared.comment.CommentKind.{CommentKind}
-use Rattle.js_text.specs.declared.comment.CommentKind.TheVariants.{Line, SingleLineBlock, MultiLineBlock, HtmlOpen, HtmlClose}
-use Rattle.js_grammar.specs.Gap.{PieceKind, white_space, line_terminator, single_line_comment, multi_line_comment, html_open_comment, html_close_comment, reported_comment, Piece}
+use Rattle.js_text.specs.declared.comment.CommentKind.TheVariants.{Line, SingleLineBlock, MultiLineBlock, HtmlOpen}
+use Rattle.js_text.specs.declared.comment.CommentKind.TheVariants.{HtmlClose}
+use Rattle.js_grammar.specs.Gap.{PieceKind, white_space, line_terminator, single_line_comment, multi_line_comment}
+use Rattle.js_grammar.specs.Gap.{html_open_comment, html_close_comment, reported_comment, Piece}
 use Rattle.js_trivia.specs.Classes.{class_of}
 use Rattle.js_trivia.specs.Items.{Found, Item, irregular, line_end, comment, Gap}
 use Rattle.js_trivia.specs.Attachment.{between_gaps}

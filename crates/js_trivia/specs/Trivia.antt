@@ -1,5 +1,6 @@
 -- What a trivia builder holds, and what each call makes of it.
-use Rattle.std.specs.Prelude.{◌≡◌, ℕ, ◌+◌, ◌^◌, ◌<◌, ◌≤◌, Bool, true, false, ◌&&◌, eqb, nat_lt, List, [], ◌∷◌, ◌++◌, map, length, take, Option, Some, None, if◌then◌else◌, ⊤, not, slice_range}
+use Rattle.std.specs.Prelude.{◌≡◌, ℕ, ◌+◌, ◌^◌, ◌<◌, ◌≤◌, Bool, true, false, ◌&&◌, eqb, nat_lt, List, [], ◌∷◌, ◌++◌}
+use Rattle.std.specs.Prelude.{map, length, take, Option, Some, None, if◌then◌else◌, ⊤, not, slice_range}
 use Rattle.std.specs.List.{position_from}
 use Rattle.js_kind.specs.TokenParts.{TokenParts}
 use Rattle.js_text.specs.declared.comment.CommentContent.{CommentContent}

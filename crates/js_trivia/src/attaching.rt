@@ -1,7 +1,8 @@
 //! Attaching the comments that wait.
 
 ghost use Rattle.std.specs.Prelude.{◌≡◌, ◌≤◌, ◌++◌, length, map, take, drop};
-ghost use Rattle.js_trivia.specs.Attachment.{attach_to, attach_by, attach_alone, attached_from, trails, mark_last_followed, last_may_trail};
+ghost use Rattle.js_trivia.specs.Attachment.{attach_to, attach_by, attach_alone, attached_from, trails};
+ghost use Rattle.js_trivia.specs.Attachment.{mark_last_followed, last_may_trail};
 ghost use Rattle.js_trivia.specs.Trivia.{comment_starts};
 
 use crate::classes::stays_leading;

@@ -2,7 +2,11 @@
 
 ghost use Rattle.std.specs.Prelude.{◌≡◌, ◌<◌, ◌≤◌, ◌==◌, ◌||◌, false, codes, drop, length, IfNone, IfSome};
 ghost use Rattle.js_text.specs.Characters.{begins};
-ghost use Rattle.js_trivia.specs.Classes.{stays_leading, begins_with, is_licensed, is_blank, without_blanks, is_capital, is_beyond_ascii, is_empty, begins_with_either, is_hint_for, is_key_mark, may_mark_key, is_alone_with, ends_or_is_blank, is_word, is_for_coverage, is_for_whole_file, has_stars_alone, documentation_class, annotation_class, tool_class, worded_class, class_of};
+ghost use Rattle.js_trivia.specs.Classes.{stays_leading, begins_with, is_licensed, is_blank, without_blanks};
+ghost use Rattle.js_trivia.specs.Classes.{is_capital, is_beyond_ascii, is_empty, begins_with_either, is_hint_for};
+ghost use Rattle.js_trivia.specs.Classes.{is_key_mark, may_mark_key, is_alone_with, ends_or_is_blank, is_word};
+ghost use Rattle.js_trivia.specs.Classes.{is_for_coverage, is_for_whole_file, has_stars_alone, documentation_class};
+ghost use Rattle.js_trivia.specs.Classes.{annotation_class, tool_class, worded_class, class_of};
 
 use js_text::CommentContent;
 use memchr::memchr;

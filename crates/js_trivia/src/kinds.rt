@@ -2,7 +2,8 @@
 
 ghost use Rattle.std.specs.Prelude.{◌≡◌};
 ghost use Rattle.js_trivia.specs.Attach.{takes_comments};
-ghost use Rattle.js_trivia.specs.Kinds.{is_eof, is_undetermined, is_end_of_expression, can_end_expression, continues_expression, keeps_line_comment_leading};
+ghost use Rattle.js_trivia.specs.Kinds.{is_eof, is_undetermined, is_end_of_expression, can_end_expression};
+ghost use Rattle.js_trivia.specs.Kinds.{continues_expression, keeps_line_comment_leading};
 
 use js_kind::Kind;
 

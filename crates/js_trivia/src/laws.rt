@@ -5,7 +5,8 @@ ghost use Rattle.js_kind.specs.TokenParts.{TokenParts};
 ghost use Rattle.js_grammar.specs.Gap.{Piece};
 ghost use Rattle.js_trivia.specs.Pieces.{items_of, gap_of, end_of, MayRead};
 ghost use Rattle.js_trivia.specs.Items.{Gap};
-ghost use Rattle.js_trivia.specs.Trivia.{Trivia, BeforeGap, HeldBefore, calls, handle_token, after_gap, lengths_of, cut_to, GrewFrom};
+ghost use Rattle.js_trivia.specs.Trivia.{Trivia, BeforeGap, HeldBefore, calls, handle_token, after_gap, lengths_of};
+ghost use Rattle.js_trivia.specs.Trivia.{cut_to, GrewFrom};
 
 /// The calls for a whole gap add its comments as `attach` has them, its irregular white space, and its annotations.
 pub fn gap_is_attached()

@@ -2,7 +2,8 @@
 
 ghost use Rattle.std.specs.Prelude.{◌≡◌, ◌-◌, ◌^◌, ◌<◌, ◌≤◌, IfSome};
 ghost use Rattle.std.specs.List.{position_from};
-ghost use Rattle.js_trivia.specs.Trivia.{is_past, AscendFrom, comment_starts, span_starts, is_span, index_of_new, extend, extend_if};
+ghost use Rattle.js_trivia.specs.Trivia.{is_past, AscendFrom, comment_starts, span_starts, is_span, index_of_new};
+ghost use Rattle.js_trivia.specs.Trivia.{extend, extend_if};
 
 use js_text::{Comment, CommentRange, Span};
 

@@ -4,7 +4,9 @@ ghost use Rattle.std.specs.Prelude.{◌≡◌, ◌-◌, ◌^◌, ◌<◌, ◌≤
 ghost use Rattle.js_text.specs.Comment.{is_line_kind, HoldsMarks, content_span};
 ghost use Rattle.js_trivia.specs.Attachment.{trail_pending, after_comment};
 ghost use Rattle.js_trivia.specs.Items.{found_at};
-ghost use Rattle.js_trivia.specs.Trivia.{Trivia, no_trivia, held, IsNew, push_comment, note_class, add_comment, add_irregular, handle_newline, handle_token, lengths_of, cut_to, IsPlacedIn, class_in_text, found_in};
+ghost use Rattle.js_trivia.specs.Trivia.{Trivia, no_trivia, held, IsNew, push_comment, note_class, add_comment};
+ghost use Rattle.js_trivia.specs.Trivia.{add_irregular, handle_newline, handle_token, lengths_of, cut_to, IsPlacedIn};
+ghost use Rattle.js_trivia.specs.Trivia.{class_in_text, found_in};
 
 use crate::attaching::{attach_each_pending, attach_pending, mark_last_pending};
 use crate::classes::{classify, stays_leading};
