@@ -13,73 +13,38 @@ use Rattle.js_grammar.specs.Punctuators.{Punctuator, punctuators, IsIn, is_spell
 use Rattle.js_grammar.proofs.PunctuatorLemmas.{passes_at, spelled_at}
 use Rattle.js_grammar.proofs.Tests.{and_true}
 
+not_both : (b : Bool) → not b ≡ true → b ≡ true → ⊥
+not_both true e f = cc
+not_both false e f = cc
+
 -- a punctuator that stands there, with what may follow it
 pub spelled_there : (t : SourceType) (line_has_ended : Bool) (p : Punctuator) (vs : List ℕ) → IsIn p punctuators
     → p.excluded t line_has_ended vs ≡ false → NoPunctuator t line_has_ended (p.text ++ vs) → ⊥
 spelled_there t line_has_ended p vs i allowed none =
-    not_both _ (spelled_at t line_has_ended p vs allowed)
-    (passes_at (λ q. not (is_spelled t line_has_ended (p.text ++ vs) q)) p punctuators i none)
-  where
-    not_both : (b : Bool) → b ≡ true → not b ≡ true → ⊥
-    not_both true e f = cc
-    not_both false e f = cc
+    not_both _ (passes_at (λ q. not (is_spelled t line_has_ended (p.text ++ vs) q)) p punctuators i none)
+    (spelled_at t line_has_ended p vs allowed)
 
 -- the characters of ASCII that are punctuators whatever follows them
 abbrev pub lone_characters : List ℕ
 lone_characters = codes "&!^:,=[{(-%|+?>]});*~@"
 
+-- some punctuator is spelled there
+abbrev is_begun : SourceType → Bool → List ℕ → Bool
+is_begun t line_has_ended text = not (list_all (λ q. not (is_spelled t line_has_ended text q)) punctuators)
+
+each_begins : (t : SourceType) (line_has_ended : Bool) (cs xs : List ℕ)
+    → list_all (λ x. is_begun t line_has_ended (x ∷ cs)) xs ≡ true
+    → AllByRecursion (λ x. NoPunctuator t line_has_ended (x ∷ cs) → ⊥) xs
+each_begins t line_has_ended cs [] e = tt
+each_begins t line_has_ended cs (x ∷ xs) e =
+    let both =
+    and_true (is_begun t line_has_ended (x ∷ cs)) (list_all (λ y. is_begun t line_has_ended (y ∷ cs)) xs) e in
+    (λ none. not_both _ both.0 none, each_begins t line_has_ended cs xs both.1)
+
 -- where no punctuator stands, none of these begins the text
 pub lone_begin : (t : SourceType) (line_has_ended : Bool) (cs : List ℕ)
     → AllByRecursion (λ x. NoPunctuator t line_has_ended (x ∷ cs) → ⊥) lone_characters
-lone_begin t line_has_ended cs = (
-  (λ n. cc),
-  (
-    (λ n. cc),
-    (
-      (λ n. cc),
-      (
-        (λ n. cc),
-        (
-          (λ n. cc),
-          (
-            (λ n. cc),
-            (
-              (λ n. cc),
-              (
-                (λ n. cc),
-                (
-                  (λ n. cc),
-                  (
-                    (λ n. cc),
-                    (
-                      (λ n. cc),
-                      (
-                        (λ n. cc),
-                        (
-                          (λ n. cc),
-                          (
-                            (λ n. cc),
-                            (
-                              (λ n. cc),
-                              (
-                                (λ n. cc),
-                                ((λ n. cc), ((λ n. cc), ((λ n. cc), ((λ n. cc), ((λ n. cc), ((λ n. cc), tt)))))),
-                              ),
-                            ),
-                          ),
-                        ),
-                      ),
-                    ),
-                  ),
-                ),
-              ),
-            ),
-          ),
-        ),
-      ),
-    ),
-  ),
-)
+lone_begin t line_has_ended cs = each_begins t line_has_ended cs lone_characters refl
 
 pub none_of : (P : ℕ → Type 0) (c : ℕ) (xs : List ℕ) → AllByRecursion P xs → list_any (λ x. x == c) xs ≡ true → P c
 none_of P c [] all e = absurd (cc)

@@ -1,12 +1,16 @@
 -- What the grammar reads is one.
-use Rattle.std.proofs.Common.{◌≡◌, ℕ, Bool, List, [], ◌∷◌, ◌++◌, length}
-use Rattle.std.proofs.Common.{refl, sym, ◌∙◌, ap, subst, arith, Option, Some, None, inl, inr}
+use Rattle.std.proofs.Common.{◌≡◌, ℕ, Bool, true, false, ◌==◌, List, [], ◌∷◌, ◌++◌, length}
+use Rattle.std.proofs.Common.{refl, sym, ◌∙◌, ap, subst, arith, Option, Some, None}
 use Rattle.std.specs.Prelude.{if◌then◌else◌}
+use Rattle.std.specs.List.{list_all}
 use Rattle.std.specs.Str.{IsCharBoundary, IsUtf8, bytes_eq}
+use Rattle.std.proofs.lemmas.Bool.{eqb-true}
 use Rattle.js_text.specs.Characters.{from_place}
 use Rattle.js_text.specs.declared.source_type.SourceType.{SourceType}
 use Rattle.js_text.proofs.TextLemmas.{place_unique}
+use Rattle.js_kind.specs.Kinds.{number}
 use Rattle.js_kind.specs.TokenParts.{TokenParts}
+use Rattle.js_kind.proofs.KindNumbers.{number_injective}
 use Rattle.js_kind.specs.declared.kind.Kind.{Kind}
 use Rattle.js_grammar.specs.Goals.{ReadsHere, ReadsBehindGap, ReadsHashbang, GoalReads, spelled_reading, outcome_behind}
 use Rattle.js_grammar.specs.Goals.{token_alone, line_has_ended_behind}
@@ -22,7 +26,7 @@ use Rattle.js_grammar.specs.Recovery.{Reading}
 use Rattle.js_grammar.specs.Spelling.{Spelling, IsName, LongestSpelling}
 use Rattle.js_grammar.specs.Spelling.Spelling.{name, punctuator, end_of_source}
 use Rattle.js_grammar.proofs.GapLemmas.{longest_gap_unique, whole_gap_unique}
-use Rattle.js_grammar.proofs.PunctuatorLemmas.{name_begins_no_punctuator, some_text}
+use Rattle.js_grammar.proofs.PunctuatorLemmas.{name_begins_no_punctuator, some_text, passes_at}
 
 -- fronts of one length are equal
 fronts : {A : Type 0} (xs ys us vs : List A) → xs ++ ys ≡ us ++ vs → length xs ≡ length us → (xs ≡ us) × (ys ≡ vs)
@@ -40,179 +44,24 @@ abbrev kind_of : List Punctuator → List ℕ → Option Kind
 kind_of [] text = None
 kind_of (p ∷ ps) text = if bytes_eq p.text text then Some p.kind else kind_of ps text
 
+-- the kind was found, and is this one
+abbrev is_found : Option Kind → Kind → Bool
+is_found None k = false
+is_found (Some j) k = number j == number k
+
+found_is : (found : Option Kind) (k : Kind) → is_found found k ≡ true → found ≡ Some k
+found_is None k e = absurd (cc)
+found_is (Some j) k e = ap Some (number_injective j k (eqb-true (number j) (number k) e))
+
 -- each entry is the first of its text
-abbrev Firsts : List Punctuator → List Punctuator → Type 0
-Firsts all [] = Unit {0}
-Firsts all (p ∷ ps) = (kind_of all p.text ≡ Some p.kind) × Firsts all ps
+abbrev is_first : Punctuator → Bool
+is_first p = is_found (kind_of punctuators p.text) p.kind
 
-firsts : Firsts punctuators punctuators
-firsts = (
-  refl,
-  (
-    refl,
-    (
-      refl,
-      (
-        refl,
-        (
-          refl,
-          (
-            refl,
-            (
-              refl,
-              (
-                refl,
-                (
-                  refl,
-                  (
-                    refl,
-                    (
-                      refl,
-                      (
-                        refl,
-                        (
-                          refl,
-                          (
-                            refl,
-                            (
-                              refl,
-                              (
-                                refl,
-                                (
-                                  refl,
-                                  (
-                                    refl,
-                                    (
-                                      refl,
-                                      (
-                                        refl,
-                                        (
-                                          refl,
-                                          (
-                                            refl,
-                                            (
-                                              refl,
-                                              (
-                                                refl,
-                                                (
-                                                  refl,
-                                                  (
-                                                    refl,
-                                                    (
-                                                      refl,
-                                                      (
-                                                        refl,
-                                                        (
-                                                          refl,
-                                                          (
-                                                            refl,
-                                                            (
-                                                              refl,
-                                                              (
-                                                                refl,
-                                                                (
-                                                                  refl,
-                                                                  (
-                                                                    refl,
-                                                                    (
-                                                                      refl,
-                                                                      (
-                                                                        refl,
-                                                                        (
-                                                                          refl,
-                                                                          (
-                                                                            refl,
-                                                                            (
-                                                                              refl,
-                                                                              (
-                                                                                refl,
-                                                                                (
-                                                                                  refl,
-                                                                                  (
-                                                                                    refl,
-                                                                                    (
-                                                                                      refl,
-                                                                                      (
-                                                                                        refl,
-                                                                                        (
-                                                                                          refl,
-                                                                                          (
-                                                                                            refl,
-                                                                                            (
-                                                                                              refl,
-                                                                                              (
-                                                                                                refl,
-                                                                                                (
-                                                                                                  refl,
-                                                                                                  (
-                                                                                                    refl,
-                                                                                                    (
-                                                                                                      refl,
-                                                                                                      (
-                                                                                                        refl,
-                                                                                                        (refl, tt),
-                                                                                                      ),
-                                                                                                    ),
-                                                                                                  ),
-                                                                                                ),
-                                                                                              ),
-                                                                                            ),
-                                                                                          ),
-                                                                                        ),
-                                                                                      ),
-                                                                                    ),
-                                                                                  ),
-                                                                                ),
-                                                                              ),
-                                                                            ),
-                                                                          ),
-                                                                        ),
-                                                                      ),
-                                                                    ),
-                                                                  ),
-                                                                ),
-                                                              ),
-                                                            ),
-                                                          ),
-                                                        ),
-                                                      ),
-                                                    ),
-                                                  ),
-                                                ),
-                                              ),
-                                            ),
-                                          ),
-                                        ),
-                                      ),
-                                    ),
-                                  ),
-                                ),
-                              ),
-                            ),
-                          ),
-                        ),
-                      ),
-                    ),
-                  ),
-                ),
-              ),
-            ),
-          ),
-        ),
-      ),
-    ),
-  ),
-)
+firsts : list_all is_first punctuators ≡ true
+firsts = refl
 
-first_at : (all : List Punctuator) (p : Punctuator) (ps : List Punctuator) → IsIn p ps → Firsts all ps
-    → kind_of all p.text ≡ Some p.kind
-first_at all p [] i h = absurd i
-first_at all p (q ∷ ps) i h =
-    elim i [
-      | inl here ↦ subst (λ r. kind_of all r.text ≡ Some r.kind)
-          (sym here) h.0
-      | inr there ↦ first_at all p ps there h.1
-    ]
+first_at : (p : Punctuator) → IsIn p punctuators → kind_of punctuators p.text ≡ Some p.kind
+first_at p i = found_is (kind_of punctuators p.text) p.kind (passes_at is_first p punctuators i firsts)
 
 -- a text has one kind
 kind_unique : (t : SourceType) (line_has_ended : Bool) (xs ys : List ℕ) (j k : Kind)
@@ -227,8 +76,7 @@ kind_unique t line_has_ended xs ys j k (punctuator p i same allowed kind) (name 
 kind_unique t line_has_ended xs ys j k (punctuator p i same allowed kind) (punctuator q i' same' allowed' kind') =
     let texts : p.text ≡ q.text = sym same ∙ same' in
     let kinds : Some p.kind ≡ Some q.kind =
-    sym (first_at punctuators p punctuators i firsts) ∙ ap (kind_of punctuators) texts
-    ∙ first_at punctuators q punctuators i' firsts in
+    sym (first_at p i) ∙ ap (kind_of punctuators) texts ∙ first_at q i' in
     cc
 kind_unique t line_has_ended xs ys j k (punctuator p i same allowed kind) (end_of_source none end kind') =
     absurd (some_text p i (sym same ∙ none))
