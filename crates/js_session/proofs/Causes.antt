@@ -67,7 +67,7 @@ cause_unique source commands (NoMark i) (NoMark j) c d = ap NoMark (mark_unique 
 cause_unique source commands (NoMark i) Memory c d = absurd d
 cause_unique source commands Memory b c d = absurd c
 
--- Where a fault has its cause, it comes, or want of memory does.
+-- Where a fault has its cause, it comes, or a lack of memory is reported.
 pub exactly : (source : List ℕ) (commands : List Command) (result : Result Report LexFault) (fault : LexFault)
     → OnOk result (IsReadable source × HasMarks commands)
     → IfErr result (λ e. (e ≡ Memory) ⊎ Cause source commands e) → Cause source commands fault
@@ -77,7 +77,7 @@ exactly source commands (Err e) fault ok cause c =
     elim cause
     [ inl memory ↦ inr (ap Err memory) | inr other ↦ inl (ap Err (cause_unique source commands e fault other c)) ]
 
--- Where nothing is at fault, there is a report, or want of memory.
+-- Where nothing is at fault, there is a report, or a lack of memory is reported.
 pub completely : (source : List ℕ) (commands : List Command) (result : Result Report LexFault)
     → IfErr result (λ e. (e ≡ Memory) ⊎ Cause source commands e)
     → IsReadable source → HasMarks commands → IsOk result ⊎ (result ≡ Err Memory)

@@ -1,4 +1,4 @@
--- What a trivia builder holds, and what each call makes of it.
+-- The comments that wait for a token, and how they get one.
 use Rattle.std.specs.Prelude.{ℕ, Bool, true, false, not, ◌&&◌, ◌||◌, List, [], ◌∷◌, ◌++◌, map, take, drop}
 use Rattle.std.specs.Prelude.{if◌then◌else◌}
 use Rattle.js_kind.specs.TokenParts.{TokenParts}
