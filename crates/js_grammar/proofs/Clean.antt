@@ -6,12 +6,14 @@ use Rattle.unicode_ident.proofs.Computing.{unicode_ident}
 use Rattle.js_text.specs.Characters.{from_place, begins, is_identifier_start}
 use Rattle.js_text.specs.SourceType.{is_module}
 use Rattle.js_text.specs.declared.source_type.SourceType.{SourceType}
+use Rattle.js_kind.specs.Digits.{is_digit_of}
 use Rattle.js_kind.specs.TokenParts.{TokenParts}
 use Rattle.js_kind.specs.declared.kind.Kind.{Kind}
 use Rattle.js_grammar.specs.Gap.{is_prefix, is_reported, LongestGap}
 use Rattle.js_grammar.specs.Goals.{ReadsHere, GoalReads, AgreesWithGrammar, line_has_ended_behind}
 use Rattle.js_grammar.specs.Goals.ReadsHere.{spelled as spelled_here, recovers}
 use Rattle.js_grammar.specs.Goals.GoalReads.{hashbang as hashbang_read, behind_gap}
+use Rattle.js_grammar.specs.Number.{begins_number}
 use Rattle.js_grammar.specs.Outcome.{Outcome, gap_diagnostics}
 use Rattle.js_grammar.specs.Reads.{PlainReads}
 use Rattle.js_grammar.specs.Reads.PlainReads.{hashbang, spelled}
@@ -19,6 +21,7 @@ use Rattle.js_grammar.specs.Recovery.{Reading, recovered, recovered_character, i
 use Rattle.js_grammar.specs.Spelling.{LongestSpelling, NothingSpelled}
 use Rattle.js_grammar.specs.declared.goal.Goal.{Goal}
 use Rattle.js_grammar.proofs.GapLemmas.{whole_gap_unique}
+use Rattle.js_grammar.proofs.NumberReadings.{faulty_number_reports}
 use Rattle.js_grammar.proofs.Reported.{longest_of_whole, whole_of_longest, gap_reports_nothing, append_nil}
 use Rattle.js_grammar.proofs.PunctuatorLeaves.{none_reported}
 use Rattle.js_grammar.proofs.PunctuatorLemmas.{nothing_spelled}
@@ -29,6 +32,11 @@ angle_begins_no_name : is_identifier_start 60 ≡ false
 unfolding is_identifier_start unicode_ident
 angle_begins_no_name = refl
 
+-- and no number
+angle_is_no_digit : is_digit_of 10 60 ≡ false
+unfolding is_digit_of
+angle_is_no_digit = refl
+
 -- Where a reported comment stands, nothing is spelled.
 pub reported_spells_nothing : (t : SourceType) (line_has_ended : Bool) (here : List ℕ)
     → is_reported t line_has_ended here ≡ true → NothingSpelled t line_has_ended here
@@ -36,7 +44,7 @@ reported_spells_nothing t line_has_ended here e =
     let both = and_true (is_prefix (codes "<!--") here) (is_module t && line_has_ended) e in
     let text : here ≡ codes "<!--" ++ drop 4 here = prefix_is (codes "<!--") here both.0 in
     subst (NothingSpelled t line_has_ended) (sym text)
-    (nothing_spelled t line_has_ended 60 _ angle_begins_no_name
+    (nothing_spelled t line_has_ended 60 _ angle_begins_no_name angle_is_no_digit
     (none_reported t line_has_ended (drop 4 here) both.1))
 
 -- and so where something is spelled, no reported comment stands
@@ -55,23 +63,28 @@ spelled_is_not_reported t line_has_ended here xs ys k s =
 abbrev Reports : Option Reading → Type 0
 Reports found = IfSome found (λ r. r.diagnostics ≢ [])
 
-reports_if : (b : Bool) (x y : Option Reading) → Reports x → Reports y → Reports (if b then x else y)
-reports_if true x y h k = h
+reports_if : (b : Bool) (x y : Option Reading) → (b ≡ true → Reports x) → Reports y → Reports (if b then x else y)
+reports_if true x y h k = h refl
 reports_if false x y h k = k
 
-recovered_reports : (line_has_ended : Bool) (place : ℕ) (here : List ℕ) → Reports (recovered line_has_ended place here)
-recovered_reports line_has_ended place here =
-    reports_if (is_prefix (codes "/*") here) _ _ (λ e. cc) (
-    reports_if (is_prefix (codes "#!") here) _ _ (λ e. cc) (
-    reports_if (begins (λ c. c == 0xFFFD) here) _ _ (λ e. cc) (character here)))
+recovered_reports : (t : SourceType) (line_has_ended : Bool) (place : ℕ) (here : List ℕ)
+    → NothingSpelled t line_has_ended here → Reports (recovered line_has_ended place here)
+recovered_reports t line_has_ended place here nothing =
+    reports_if (is_prefix (codes "/*") here) _ _ (λ _ e. cc) (
+    reports_if (is_prefix (codes "#!") here) _ _ (λ _ e. cc) (
+    reports_if (begins_number here) _ _
+    (λ begun. faulty_number_reports t line_has_ended place here begun nothing) (
+    reports_if (begins (λ c. c == 0xFFFD) here) _ _ (λ _ e. cc) (character here))))
   where
     character : (here : List ℕ) → Reports (recovered_character line_has_ended place here)
     character [] = tt
-    character (c ∷ cs) = reports_if (is_control_or_wide c) _ None (λ e. cc) tt
+    character (c ∷ cs) = reports_if (is_control_or_wide c) _ None (λ _ e. cc) tt
 
-pub recovery_reports : (line_has_ended : Bool) (place : ℕ) (here : List ℕ) (r : Reading)
+pub recovery_reports : (t : SourceType) (line_has_ended : Bool) (place : ℕ) (here : List ℕ) (r : Reading)
+    → NothingSpelled t line_has_ended here
     → recovered line_has_ended place here ≡ Some r → r.diagnostics ≢ []
-recovery_reports line_has_ended place here r e = subst Reports e (recovered_reports line_has_ended place here)
+recovery_reports t line_has_ended place here r nothing e =
+    subst Reports e (recovered_reports t line_has_ended place here nothing)
 
 -- what is read behind a gap without a report is spelled
 spelled_clean : (t : SourceType) (line_has_ended : Bool) (place : ℕ) (here : List ℕ) (r : Reading)
@@ -80,7 +93,7 @@ spelled_clean : (t : SourceType) (line_has_ended : Bool) (place : ℕ) (here : L
 spelled_clean t line_has_ended place here r (spelled_here xs spelling is) clean =
     (ap (λ x. x.is_on_new_line) is, xs, spelling)
 spelled_clean t line_has_ended place here r (recovers nothing e) clean =
-    absurd (recovery_reports line_has_ended place here r e clean)
+    absurd (recovery_reports t line_has_ended place here r nothing e clean)
 
 -- A reading that reports nothing is the grammar's.
 pub clean_reads : (text : List ℕ) (t : SourceType) (goal : Goal) (before : Option TokenParts) (place : ℕ) (o : Outcome)

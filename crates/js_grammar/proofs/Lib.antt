@@ -6,10 +6,14 @@ pub mod NumberBegins
 pub mod NumberClasses
 pub mod NumberCuts
 pub mod NumberItems
+pub mod NumberKinds
 pub mod NumberLaws
+pub mod NumberReadings
 pub mod NumberRows
 pub mod NumberShapes
 pub mod NumberSound
+pub mod NumberSpans
+pub mod NumberStarts
 pub mod NumberSteps
 pub mod NumberWhole
 pub mod PieceLemmas

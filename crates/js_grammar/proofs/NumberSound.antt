@@ -27,7 +27,7 @@ pub record Sound (P : List ℕ → Kind → List ℕ → Type 0) (text : List �
   pub is : P (items_text number.items) number.kind number.rest
 
 -- the sign that stands here
-sign_here : (text : List ℕ) → text ≡ sign_text (sign_of text) ++ drop (length (sign_text (sign_of text))) text
+pub sign_here : (text : List ℕ) → text ≡ sign_text (sign_of text) ++ drop (length (sign_text (sign_of text))) text
 sign_here [] = refl
 sign_here (c ∷ cs) =
     elim (true_or_false (c == 45)) [

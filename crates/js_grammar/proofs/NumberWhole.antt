@@ -103,7 +103,7 @@ decimal_sound text whole =
     ]
 
 -- digits with no `_`
-plain_text : (text : List ℕ) → text ≡ before_first is_no_digit text ++ from_first is_no_digit text
+pub plain_text : (text : List ℕ) → text ≡ before_first is_no_digit text ++ from_first is_no_digit text
 plain_text [] = refl
 plain_text (c ∷ cs) =
     elim (true_or_false (is_digit_of 10 c)) [

@@ -11,10 +11,13 @@ use Rattle.js_text.specs.declared.source_type.SourceType.{SourceType}
 use Rattle.js_text.proofs.TextLemmas.{before_from}
 use Rattle.js_kind.specs.Keywords.{name_kind}
 use Rattle.js_kind.specs.declared.kind.Kind.{Kind}
+use Rattle.js_grammar.specs.Number.{begins_number}
 use Rattle.js_grammar.specs.Punctuators.{Punctuator, punctuators, IsIn, is_spelled, LongestPunctuator, NoPunctuator}
 use Rattle.js_grammar.specs.Spelling.{Spelling, IsName, is_no_part, LongestSpelling, NothingSpelled}
-use Rattle.js_grammar.specs.Spelling.Spelling.{name, punctuator, end_of_source}
+use Rattle.js_grammar.specs.Spelling.Spelling.{name, punctuator, number, end_of_source}
 use Rattle.js_grammar.proofs.NameLemmas.{parts, parts_all, parts_end}
+use Rattle.js_grammar.proofs.NumberBegins.{number_begins}
+use Rattle.js_grammar.proofs.NumberStarts.{number_begins_no_name, number_begins_no_punctuator}
 use Rattle.js_grammar.proofs.Tests.{and_true, prefix_of}
 
 pub passes_at : (test : Punctuator → Bool) (p : Punctuator) (ps : List Punctuator) → IsIn p ps
@@ -31,7 +34,7 @@ punctuators_begin_no_name : list_all begins_no_name punctuators ≡ true
 unfolding is_identifier_start unicode_ident
 punctuators_begin_no_name = refl
 
-no_name_begins : (text us vs : List ℕ) → begins is_identifier_start text ≡ false → text ≡ us ++ vs → IsName us → ⊥
+pub no_name_begins : (text us vs : List ℕ) → begins is_identifier_start text ≡ false → text ≡ us ++ vs → IsName us → ⊥
 no_name_begins text [] vs none e is = is
 no_name_begins text (u ∷ us) vs none e is =
     let here : begins is_identifier_start text ≡ true = ap (begins is_identifier_start) e ∙ is.0 in cc
@@ -46,7 +49,7 @@ not_or : (a b : Bool) → a ≡ true → (not a || b) ≡ true → b ≡ true
 not_or true b h e = e
 not_or false b h e = absurd (cc)
 
-not_true : (a : Bool) → a ≡ true → not a ≡ true → ⊥
+pub not_true : (a : Bool) → a ≡ true → not a ≡ true → ⊥
 not_true true h e = cc
 not_true false h e = cc
 
@@ -64,6 +67,22 @@ longest_at t line_has_ended text rest k l p vs i e f =
     (λ q. not (is_spelled t line_has_ended text q) || nat_le (length q.text) (length l.it.text)) p punctuators i
     l.longest))
 
+-- where a punctuator stands, no number begins
+pub punctuator_begins_no_number : (t : SourceType) (line_has_ended : Bool) (text rest : List ℕ) (k : Kind)
+    → LongestPunctuator t line_has_ended text rest k → begins_number text ≡ false
+punctuator_begins_no_number t line_has_ended text rest k l = by_test (begins_number text) refl
+  where
+    by_test : (b : Bool) → begins_number text ≡ b → b ≡ false
+    by_test true begun =
+        let spelled : is_spelled t line_has_ended text l.it ≡ true =
+        subst (λ u. is_spelled t line_has_ended u l.it ≡ true) (sym l.here)
+        (spelled_at t line_has_ended l.it rest l.allowed) in
+        absurd
+        (not_true _ spelled
+        (passes_at (λ q. not (is_spelled t line_has_ended text q)) l.it punctuators l.in_table
+        (number_begins_no_punctuator t line_has_ended text begun)))
+    by_test false e = refl
+
 -- a text that begins no name: its longest punctuator is its longest spelling
 pub longest_of_punctuator : (t : SourceType) (line_has_ended : Bool) (text rest : List ℕ) (k : Kind)
     → begins is_identifier_start text ≡ false → (l : LongestPunctuator t line_has_ended text rest k)
@@ -80,19 +99,25 @@ longest_of_punctuator t line_has_ended text rest k no_name l = record {
     others us vs j e (punctuator p i same allowed kind) =
         subst (λ xs. length xs ≤ length l.it.text) (sym same)
         (longest_at t line_has_ended text rest k l p vs i (e ∙ ap (λ xs. xs ++ vs) same) allowed)
+    others us vs j e (number is follows) =
+        let begun : begins_number text ≡ true = ap begins_number e ∙ number_begins us vs j is in
+        let none = punctuator_begins_no_number t line_has_ended text rest k l in
+        absurd (cc)
     others us vs j e (end_of_source none end kind) = subst (λ xs. length xs ≤ length l.it.text) (sym none) (omega arith)
 
--- where no punctuator and no name begins, and the text is not at its end, nothing is spelled
+-- where no name, no number and no punctuator begins, and the text is not at its end, nothing is spelled
 pub nothing_spelled : (t : SourceType) (line_has_ended : Bool) (c : ℕ) (cs : List ℕ) → is_identifier_start c ≡ false
-    → NoPunctuator t line_has_ended (c ∷ cs) → NothingSpelled t line_has_ended (c ∷ cs)
-nothing_spelled t line_has_ended c cs no_name none us vs j e (name is end kind) =
+    → begins_number (c ∷ cs) ≡ false → NoPunctuator t line_has_ended (c ∷ cs) → NothingSpelled t line_has_ended (c ∷ cs)
+nothing_spelled t line_has_ended c cs no_name no_number none us vs j e (name is end kind) =
     no_name_begins (c ∷ cs) us vs no_name e is
-nothing_spelled t line_has_ended c cs no_name none us vs j e (punctuator p i same allowed kind) =
+nothing_spelled t line_has_ended c cs no_name no_number none us vs j e (punctuator p i same allowed kind) =
     let spelled : is_spelled t line_has_ended (c ∷ cs) p ≡ true =
     subst (λ u. is_spelled t line_has_ended u p ≡ true) (sym (e ∙ ap (λ xs. xs ++ vs) same))
     (spelled_at t line_has_ended p vs allowed) in
     not_true _ spelled (passes_at (λ q. not (is_spelled t line_has_ended (c ∷ cs) q)) p punctuators i none)
-nothing_spelled t line_has_ended c cs no_name none us vs j e (end_of_source empty end kind) =
+nothing_spelled t line_has_ended c cs no_name no_number none us vs j e (number is follows) =
+    let begun : begins_number (c ∷ cs) ≡ true = ap begins_number e ∙ number_begins us vs j is in cc
+nothing_spelled t line_has_ended c cs no_name no_number none us vs j e (end_of_source empty end kind) =
     let at_end : c ∷ cs ≡ [] = e ∙ ap (λ xs. xs ++ vs) empty ∙ end in cc
 
 not_of_and : (a b : Bool) → (not a && b) ≡ true → a ≡ false
@@ -128,6 +153,10 @@ longest_of_name t line_has_ended c cs start = record {
         let here : is_identifier_start c ≡ begins is_identifier_start p.text =
         ap (begins is_identifier_start) (e ∙ ap (λ xs. xs ++ vs) same) ∙ first_of p.text vs tested in
         cc
+    others (u ∷ us) vs j e (number is follows) =
+        let begun : begins_number (c ∷ cs) ≡ true = ap begins_number e ∙ number_begins (u ∷ us) vs j is in
+        let no_name = number_begins_no_name c cs begun in
+        absurd (cc)
     others (u ∷ us) vs j e (end_of_source empty end kind) = let no : u ∷ us ≡ [] = empty in cc
 
 -- no punctuator begins as a name does, and none is empty

@@ -17,12 +17,15 @@ use Rattle.js_grammar.specs.Goals.{ReadsHere, GoalReads}
 use Rattle.js_grammar.specs.Goals.ReadsHere.{spelled as spelled_here, recovers}
 use Rattle.js_grammar.specs.Goals.GoalReads.{hashbang as hashbang_read, behind_gap}
 use Rattle.js_grammar.specs.Hashbang.{begins_hashbang, IsHashbang}
+use Rattle.js_grammar.specs.Number.{begins_number}
 use Rattle.js_grammar.specs.Outcome.{Outcome}
 use Rattle.js_grammar.specs.Recovery.{Reading, recovered, recovered_character, is_control_or_wide}
 use Rattle.js_grammar.specs.Spelling.{Spelling, IsName, value_of}
 use Rattle.js_grammar.specs.declared.goal.Goal.{Goal}
 use Rattle.js_grammar.specs.declared.goal.Goal.TheVariants.{First, Next}
-use Rattle.js_grammar.specs.Spelling.Spelling.{name, punctuator, end_of_source}
+use Rattle.js_grammar.specs.Spelling.Spelling.{name, punctuator, number, end_of_source}
+use Rattle.js_grammar.proofs.NumberBegins.{number_begins}
+use Rattle.js_grammar.proofs.NumberSpans.{number_characters}
 use Rattle.js_grammar.proofs.PieceLemmas.{from_first-hashbang}
 use Rattle.js_grammar.proofs.PunctuatorLemmas.{some_text}
 use Rattle.js_grammar.proofs.Tests.{prefix_is}
@@ -37,6 +40,10 @@ spelling_has_text : (t : SourceType) (line_has_ended : Bool) (xs ys : List ℕ) 
     → Spelling t line_has_ended xs ys k → k ≢ Eof → xs ≢ []
 spelling_has_text t line_has_ended xs ys k (name is end kind) some e = subst IsName e is
 spelling_has_text t line_has_ended xs ys k (punctuator p i same allowed kind) some e = some_text p i (sym same ∙ e)
+spelling_has_text t line_has_ended xs ys k (number is follows) some e =
+    let begun : begins_number [] ≡ true = subst (λ us. begins_number us ≡ true) (append-nil xs ∙ e)
+    (number_begins xs [] k is) in
+    cc
 spelling_has_text t line_has_ended xs ys k (end_of_source none end kind) some e = some kind
 
 -- a place from which these characters lead to another is not behind it, and before it where there are any
@@ -56,26 +63,30 @@ to_end text p q u b d e =
     (leads text p q (from_place text p) u b d
     (sym (append-nil (from_place text p)) ∙ ap (λ r. from_place text p ++ r) (sym e))).0
 
--- what is read to recover is the rest of the source, or a character
+-- what is read to recover is the rest of the source, or some characters
 abbrev LeavesBehind : List ℕ → Reading → Type 0
-LeavesBehind here r = ((r.kind ≡ Eof) × (r.rest ≡ [])) ⊎ ((c : ℕ) × (here ≡ c ∷ r.rest))
+LeavesBehind here r = ((r.kind ≡ Eof) × (r.rest ≡ [])) ⊎ ((xs : List ℕ) × (xs ≢ []) × (here ≡ xs ++ r.rest))
 
 -- what holds of each way to recover
-each_recovery : (P : Reading → Type 0) (b : Bool) (x y : Option Reading) → IfSome x P → IfSome y P
+each_recovery : (P : Reading → Type 0) (b : Bool) (x y : Option Reading) → (b ≡ true → IfSome x P) → IfSome y P
     → IfSome (if b then x else y) P
-each_recovery P true x y h k = h
+each_recovery P true x y h k = h refl
 each_recovery P false x y h k = k
 
 recovered_leaves : (line_has_ended : Bool) (place : ℕ) (here : List ℕ)
     → IfSome (recovered line_has_ended place here) (LeavesBehind here)
 recovered_leaves line_has_ended place here =
-    each_recovery (LeavesBehind here) (is_prefix (codes "/*") here) _ _ (inl (refl, refl))
-    (each_recovery (LeavesBehind here) (is_prefix (codes "#!") here) _ _ (inl (refl, refl))
-    (each_recovery (LeavesBehind here) (begins (λ c. c == 0xFFFD) here) _ _ (inl (refl, refl)) (character here)))
+    each_recovery (LeavesBehind here) (is_prefix (codes "/*") here) _ _ (λ _. inl (refl, refl))
+    (each_recovery (LeavesBehind here) (is_prefix (codes "#!") here) _ _ (λ _. inl (refl, refl))
+    (each_recovery (LeavesBehind here) (begins_number here) _ _
+    (λ begun. (number_characters place here begun).leaves)
+    (each_recovery (LeavesBehind here) (begins (λ c. c == 0xFFFD) here) _ _ (λ _. inl (refl, refl)) (character here))))
   where
     character : (here : List ℕ) → IfSome (recovered_character line_has_ended place here) (LeavesBehind here)
     character [] = tt
-    character (c ∷ cs) = each_recovery (LeavesBehind (c ∷ cs)) (is_control_or_wide c) _ None (inr (c, refl)) tt
+    character (c ∷ cs) =
+        each_recovery (LeavesBehind (c ∷ cs)) (is_control_or_wide c) _ None
+        (λ _. inr (c ∷ [], (λ none. cc), refl)) tt
 
 pub here_span : (text : List ℕ) (t : SourceType) (line_has_ended : Bool) (start end : ℕ) (r : Reading) → IsUtf8 text
     → IsCharBoundary text start → IsCharBoundary text end
@@ -90,8 +101,9 @@ here_span text t line_has_ended start end r u b d rest (recovers nothing e) =
     (recovered_leaves line_has_ended start (from_place text start)) in
     elim leaves [
       | inl whole ↦ (to_end text start end u b d (sym rest ∙ whole.1), λ some. absurd (some whole.0))
-      | inr one ↦ let way = leads text start end (one.0 ∷ []) u b d (one.1 ∙ ap (λ ys. one.0 ∷ ys) rest) in
-          (way.0, λ some. way.1 (λ none. cc))
+      | inr some_text ↦ let way = leads text start end some_text.0 u b d
+          (some_text.2 ∙ ap (λ ys. some_text.0 ++ ys) rest) in
+          (way.0, λ some. way.1 some_text.1)
     ]
 
 hashbang_start : (goal : Goal) (text : List ℕ) (place : ℕ) → begins_hashbang goal text place ≡ true
@@ -145,14 +157,18 @@ recovered_value : (a b : ℕ) (line_has_ended : Bool) (place : ℕ) (here : List
     → IfSome (recovered line_has_ended place here) (λ r. r.value ≡ value_of r.kind a b)
 unfolding is_identifier_name
 recovered_value a b line_has_ended place here =
-    each_recovery (λ r. r.value ≡ value_of r.kind a b) (is_prefix (codes "/*") here) _ _ refl
-    (each_recovery (λ r. r.value ≡ value_of r.kind a b) (is_prefix (codes "#!") here) _ _ refl
-    (each_recovery (λ r. r.value ≡ value_of r.kind a b) (begins (λ c. c == 0xFFFD) here) _ _ refl (character here)))
+    each_recovery (λ r. r.value ≡ value_of r.kind a b) (is_prefix (codes "/*") here) _ _ (λ _. refl)
+    (each_recovery (λ r. r.value ≡ value_of r.kind a b) (is_prefix (codes "#!") here) _ _ (λ _. refl)
+    (each_recovery (λ r. r.value ≡ value_of r.kind a b) (begins_number here) _ _
+    (λ begun. rw (number_characters place here begun).no_name refl)
+    (each_recovery (λ r. r.value ≡ value_of r.kind a b) (begins (λ c. c == 0xFFFD) here) _ _ (λ _. refl)
+    (character here))))
   where
     character : (here : List ℕ)
         → IfSome (recovered_character line_has_ended place here) (λ r. r.value ≡ value_of r.kind a b)
     character [] = tt
-    character (c ∷ cs) = each_recovery (λ r. r.value ≡ value_of r.kind a b) (is_control_or_wide c) _ None refl tt
+    character (c ∷ cs) =
+        each_recovery (λ r. r.value ≡ value_of r.kind a b) (is_control_or_wide c) _ None (λ _. refl) tt
 
 here_value : (text : List ℕ) (t : SourceType) (line_has_ended : Bool) (start end : ℕ) (r : Reading) → IsUtf8 text
     → IsCharBoundary text start → IsCharBoundary text end

@@ -17,6 +17,7 @@ use Rattle.js_grammar.specs.Goals.{token_alone, line_has_ended_behind}
 use Rattle.js_grammar.specs.Goals.ReadsHere.{spelled as spelled_here, recovers}
 use Rattle.js_grammar.specs.Goals.GoalReads.{hashbang as hashbang_read, behind_gap}
 use Rattle.js_grammar.specs.Hashbang.{IsHashbang}
+use Rattle.js_grammar.specs.Number.{IsNumber}
 use Rattle.js_grammar.specs.Outcome.{Outcome}
 use Rattle.js_grammar.specs.declared.goal.Goal.{Goal}
 use Rattle.js_grammar.specs.Punctuators.{Punctuator, punctuators, IsIn}
@@ -24,8 +25,11 @@ use Rattle.js_grammar.specs.Reads.{IsSpelled, PlainReads, SameReading}
 use Rattle.js_grammar.specs.Reads.PlainReads.{hashbang, spelled}
 use Rattle.js_grammar.specs.Recovery.{Reading}
 use Rattle.js_grammar.specs.Spelling.{Spelling, IsName, LongestSpelling}
-use Rattle.js_grammar.specs.Spelling.Spelling.{name, punctuator, end_of_source}
+use Rattle.js_grammar.specs.Spelling.Spelling.{name, punctuator, number as number_spelled, end_of_source}
 use Rattle.js_grammar.proofs.GapLemmas.{longest_gap_unique, whole_gap_unique}
+use Rattle.js_grammar.proofs.NumberBegins.{number_begins}
+use Rattle.js_grammar.proofs.NumberLaws.{one_kind}
+use Rattle.js_grammar.proofs.NumberReadings.{only_number}
 use Rattle.js_grammar.proofs.PunctuatorLemmas.{name_begins_no_punctuator, some_text, passes_at}
 
 -- fronts of one length are equal
@@ -63,9 +67,19 @@ firsts = refl
 first_at : (p : Punctuator) → IsIn p punctuators → kind_of punctuators p.text ≡ Some p.kind
 first_at p i = found_is (kind_of punctuators p.text) p.kind (passes_at is_first p punctuators i firsts)
 
+-- a number is spelled as no name, no punctuator and no end of the source
+no_other_number : (t : SourceType) (line_has_ended : Bool) (xs ys : List ℕ) (j k : Kind) → IsNumber xs j
+    → Spelling t line_has_ended xs ys k → IsNumber xs k
+no_other_number t line_has_ended xs ys j k is s =
+    (only_number t line_has_ended (xs ++ ys) xs ys k (number_begins xs ys j is) refl s).0
+
 -- a text has one kind
 kind_unique : (t : SourceType) (line_has_ended : Bool) (xs ys : List ℕ) (j k : Kind)
     → Spelling t line_has_ended xs ys j → Spelling t line_has_ended xs ys k → j ≡ k
+kind_unique t line_has_ended xs ys j k (number_spelled is follows) s =
+    one_kind xs j k is (no_other_number t line_has_ended xs ys j k is s)
+kind_unique t line_has_ended xs ys j k s (number_spelled is follows) =
+    one_kind xs j k (no_other_number t line_has_ended xs ys k j is s) is
 kind_unique t line_has_ended xs ys j k (name is end kind) (name is' end' kind') = kind ∙ sym kind'
 kind_unique t line_has_ended xs ys j k (name is end kind) (punctuator p i same allowed kind') =
     absurd (name_begins_no_punctuator xs p is i same)

@@ -20,7 +20,7 @@ spelled_reading line_has_ended place xs rest kind = record {
   kind = kind;
   rest = rest;
   is_on_new_line = line_has_ended;
-  escaped = is_escaped xs;
+  escaped = is_escaped kind xs;
   has_separator = has_separator kind xs;
   value = value_of kind place (place_behind place xs);
   diagnostics = [];
@@ -94,8 +94,7 @@ pub data GoalReads (text : List ℕ) (t : SourceType) (goal : Goal) (before : Op
       → ReadsBehindGap text t (line_has_ended_behind before) place outcome → GoalReads text t goal before place outcome
 
 -- What the grammar says of a reading of the first or the plain goal: it has no diagnostic exactly where the grammar
--- reads a
--- token, and then it is this one.
+-- reads a token, and then it is this one.
 pub record AgreesWithGrammar (text : List ℕ) (t : SourceType) (goal : Goal) (before : Option TokenParts) (place : ℕ)
     (outcome : Outcome) : Type 0 where
   pub clean : (outcome.findings.diagnostics ≡ [])

@@ -10,6 +10,8 @@ use Rattle.js_text.specs.declared.diagnostic.Diagnostic.TheVariants.{Unterminate
 use Rattle.js_text.specs.declared.value.RowValue.{RowValue}
 use Rattle.js_text.specs.declared.value.RowValue.TheVariants.{Nothing}
 use Rattle.js_grammar.specs.Gap.{is_prefix}
+use Rattle.js_grammar.specs.Number.{begins_number}
+use Rattle.js_grammar.specs.NumberReads.{NumberRead, number_read}
 use Rattle.js_grammar.specs.Outcome.{place_behind}
 use Rattle.js_kind.specs.declared.kind.Kind.{Kind}
 use Rattle.js_kind.specs.declared.kind.Kind.TheVariants.{Eof, Undetermined}
@@ -34,6 +36,18 @@ faulty kind rest is_on_new_line diagnostic = record {
   has_separator = false;
   value = Nothing;
   diagnostics = diagnostic ∷ [];
+}
+
+-- what is read of a number: one with a fault, where nothing is spelled
+abbrev pub number_reading : Bool → NumberRead → Reading
+number_reading line_has_ended read = record {
+  kind = read.kind;
+  rest = read.rest;
+  is_on_new_line = line_has_ended;
+  escaped = false;
+  has_separator = read.has_separator;
+  value = Nothing;
+  diagnostics = read.diagnostics;
 }
 
 -- `/*` that no `*/` ends: the rest of the source. The newline flag counts the line terminators inside it.
@@ -74,5 +88,6 @@ abbrev pub recovered : Bool → ℕ → List ℕ → Option Reading
 recovered line_has_ended place here =
     if is_prefix (codes "/*") here then Some (unterminated_comment line_has_ended place here)
     else if is_prefix (codes "#!") here then Some (number_sign line_has_ended place)
+    else if begins_number here then Some (number_reading line_has_ended (number_read place here))
     else if begins (λ c. c == 0xFFFD) here then Some (binary_file line_has_ended)
     else recovered_character line_has_ended place here

@@ -1,4 +1,4 @@
--- The spellings of the plain goal (ECMA-262 12.7 and 12.8): what a token's text may be, and what may not follow it.
+-- The spellings of the plain goal (ECMA-262 12.7 to 12.9): what a token's text may be, and what may not follow it.
 use Rattle.std.specs.Prelude.{◌≡◌, ℕ, ◌≤◌, Bool, false, List, [], ◌∷◌, ◌++◌, length, not, ◌==◌, ◌&&◌, IsTrue}
 use Rattle.std.specs.Prelude.{if◌then◌else◌}
 use Rattle.std.specs.List.{AllByRecursion, list_any}
@@ -8,6 +8,7 @@ use Rattle.js_text.specs.Characters.{is_identifier_start, is_identifier_part, be
 use Rattle.js_text.specs.declared.source_type.SourceType.{SourceType}
 use Rattle.js_text.specs.declared.value.RowValue.{RowValue}
 use Rattle.js_text.specs.declared.value.RowValue.TheVariants.{Nothing, Slice}
+use Rattle.js_grammar.specs.Number.{IsNumber, excluded_after}
 use Rattle.js_grammar.specs.Punctuators.{Punctuator, punctuators, IsIn}
 use Rattle.js_kind.specs.Keywords.{name_kind}
 use Rattle.js_kind.specs.Kinds.{is_identifier_name, is_number_kind}
@@ -30,6 +31,7 @@ pub data Spelling (t : SourceType) (line_has_ended : Bool) (xs ys : List ℕ) (k
       → Spelling t line_has_ended xs ys kind
   punctuator : (p : Punctuator) → IsIn p punctuators → xs ≡ p.text → p.excluded t line_has_ended ys ≡ false
       → kind ≡ p.kind → Spelling t line_has_ended xs ys kind
+  number : IsNumber xs kind → excluded_after kind ys ≡ false → Spelling t line_has_ended xs ys kind
   end_of_source : xs ≡ [] → ys ≡ [] → kind ≡ Eof → Spelling t line_has_ended xs ys kind
 
 -- xs is the longest spelling that the text begins with, of this kind, and ys follow it.
@@ -44,9 +46,9 @@ abbrev pub NothingSpelled : SourceType → Bool → List ℕ → Type 0
 NothingSpelled t line_has_ended text =
     (us vs : List ℕ) (kind : Kind) → text ≡ us ++ vs → Spelling t line_has_ended us vs kind → ⊥
 
--- an escape stands in the characters of a spelling: a backslash begins each
-abbrev pub is_escaped : List ℕ → Bool
-is_escaped xs = list_any (λ c. c == backslash) xs
+-- an escape stands in the characters of a spelling of this kind: a backslash begins each, in a name
+abbrev pub is_escaped : Kind → List ℕ → Bool
+is_escaped kind xs = is_identifier_name kind && list_any (λ c. c == backslash) xs
 
 -- a separator stands in the characters of a spelling of this kind: a `_` in a number
 abbrev pub has_separator : Kind → List ℕ → Bool
