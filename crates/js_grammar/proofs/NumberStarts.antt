@@ -57,6 +57,15 @@ number_begins_no_name c cs e =
           (digit_begins_no_other c (rw other at e))).0
     ]
 
+-- and what begins a name begins no number
+pub name_begins_no_number : (text : List ℕ) → begins is_identifier_start text ≡ true → begins_number text ≡ false
+name_begins_no_number [] e = refl
+name_begins_no_number (c ∷ cs) e = by_test (begins_number (c ∷ cs)) refl
+  where
+    by_test : (b : Bool) → begins_number (c ∷ cs) ≡ b → b ≡ false
+    by_test true begun = let none = number_begins_no_name c cs begun in absurd (cc)
+    by_test false begun = refl
+
 ascii_digit_begins : (cs : List ℕ) → begins (is_digit_of 10) cs ≡ true → begins is_ascii_digit cs ≡ true
 ascii_digit_begins [] e = e
 ascii_digit_begins (c ∷ cs) e = digits_of_ten c ∙ e

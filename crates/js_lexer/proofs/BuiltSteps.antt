@@ -9,13 +9,17 @@ use Rattle.std.proofs.lemmas.Bool.{eqb-true, leb-true, leb-false, ltb-false, or_
 use Rattle.std.proofs.lemmas.Bool.Decides.{nat_tests}
 use Rattle.js_text.specs.Characters.{begins, is_identifier_start, is_white_space}
 use Rattle.js_text.specs.declared.source_type.SourceType.{SourceType}
+use Rattle.js_kind.specs.Digits.{is_digit_of}
+use Rattle.js_kind.proofs.Digits.{digits_of_ten}
 use Rattle.js_source.specs.Source.{At, rest, IsPlaced, HasFirstByte, HasFirstTwoBytes}
 use Rattle.js_source.proofs.Places.{first_byte_at, none_at_end, first_two_bytes, placed_ascii, reads_ascii}
 use Rattle.js_grammar.specs.Built.{is_unbuilt_byte, IsBuilt}
 use Rattle.js_grammar.specs.Gap.{is_prefix, is_reported, whole_gap_piece}
+use Rattle.js_grammar.specs.Number.{begins_number}
 use Rattle.js_grammar.specs.Punctuators.{NoPunctuator, before_no_digit, slash as slash_alone, left_angle}
 use Rattle.js_grammar.specs.Recovery.{Reading, recovered, is_control_or_wide}
 use Rattle.js_grammar.proofs.GapLemmas.{none_behind}
+use Rattle.js_grammar.proofs.NumberBegins.{digit_begins_number}
 use Rattle.js_grammar.proofs.PieceLemmas.{piece-white}
 use Rattle.js_grammar.proofs.PunctuatorLeaves.{listed}
 use Rattle.js_grammar.proofs.Printable.{lone_characters, lone_begin, none_of, is_known, printable_known, known_at}
@@ -76,48 +80,9 @@ built_here s c cs h built e low =
           (ap (λ p. get_or s.text p 0) one ∙ bytes.2) two)
     ]
 
-digit_is_unbuilt : (d : ℕ) → is_ascii_digit d ≡ true → is_unbuilt_byte d ≡ true
-digit_is_unbuilt d e = last (d == 92) (d == 34) (d == 39) (d == 96) (d == 35) (is_ascii_digit d) e
-  where
-    last : (a b c g n x : Bool) → x ≡ true → (((a || b) || (c || g)) || (n || x)) ≡ true
-    last true b c g n x h = refl
-    last false true c g n x h = refl
-    last false false true g n x h = refl
-    last false false false true n x h = refl
-    last false false false false true x h = refl
-    last false false false false false x h = h
-
-digit_is_low : (d : ℕ) → is_ascii_digit d ≡ true → (48 ≤ d) × (d ≤ 57)
-digit_is_low d e = let both = and_true (nat_le 48 d) (nat_le d 57) e in (leb-true 48 d both.0, leb-true d 57 both.1)
-
-hashbang_begins : (d : ℕ) (ds : List ℕ) → is_prefix (codes "#!") (d ∷ ds) ≡ true → d ≡ 35
-hashbang_begins d ds e = eqb-true d 35 (and_true (d == 35) (is_prefix (codes "!") ds) e).0
-
--- no digit stands behind a `.` in a built text
-no_digit_behind : (s : At) (cs : List ℕ) → IsPlaced s → IsBuilt s.text → rest s ≡ 46 ∷ cs
-    → begins is_ascii_digit cs ≡ false
-no_digit_behind s [] h built e = refl
-no_digit_behind s (d ∷ ds) h built e = by_test (is_ascii_digit d) refl
-  where
-    next : At
-    next = record s { place = s.place + 1 }
-
-    by_test : (b : Bool) → is_ascii_digit d ≡ b → b ≡ false
-    by_test false t = refl
-    by_test true t =
-        let here = byte_here s 46 (d ∷ ds) h e (omega arith) in
-        let first = first_byte_at s h here.0 in
-        let byte : HasFirstByte 46 (rest s) = subst (λ b. HasFirstByte b (rest s)) (sym here.1) first in
-        let placed : IsPlaced (record s { place = s.place + 1 }) = placed_ascii s 46 h (omega arith) byte in
-        let reads = reads_ascii s 46 h (omega arith) byte in
-        let there : rest (record s { place = s.place + 1 }) ≡ d ∷ ds =
-        let both : 46 ∷ (d ∷ ds) ≡ 46 ∷ rest (record s { place = s.place + 1 }) = sym e ∙ reads.here in cc in
-        let low = digit_is_low d t in
-        absurd (elim (built_here (record s { place = s.place + 1 }) d ds placed built there (omega (arith, low))) [
-          | inl known ↦ let no : true ≡ false = sym (digit_is_unbuilt d t) ∙ known in cc
-          | inr mark ↦ let is : d ≡ 35 =
-              hashbang_begins d ds (subst (λ xs. is_prefix (codes "#!") xs ≡ true) there mark) in omega (arith, low, is)
-        ])
+digit_of_ten : (cs : List ℕ) → begins is_ascii_digit cs ≡ begins (is_digit_of 10) cs
+digit_of_ten [] = refl
+digit_of_ten (d ∷ ds) = digits_of_ten d
 
 no_star : (cs : List ℕ) → is_prefix (codes "/*") (47 ∷ cs) ≡ false → begins (λ c. c == 42) cs ≡ false
 no_star [] e = refl
@@ -134,9 +99,10 @@ either_false false b e = (refl, e)
 -- No printable character of ASCII stands where nothing is spelled.
 no_printable : (t : SourceType) (line_has_ended : Bool) (s : At) (c : ℕ) (cs : List ℕ) → IsPlaced s → IsBuilt s.text
     → rest s ≡ c ∷ cs → whole_gap_piece t line_has_ended (c ∷ cs) ≡ None
-    → is_identifier_start c ≡ false → NoPunctuator t line_has_ended (c ∷ cs) → is_prefix (codes "/*") (c ∷ cs) ≡ false
+    → is_identifier_start c ≡ false → begins_number (c ∷ cs) ≡ false → NoPunctuator t line_has_ended (c ∷ cs)
+    → is_prefix (codes "/*") (c ∷ cs) ≡ false
     → is_prefix (codes "#!") (c ∷ cs) ≡ false → is_control_or_wide c ≡ false → ⊥
-no_printable t line_has_ended s c cs h built e gap no_name none no_comment no_mark printable =
+no_printable t line_has_ended s c cs h built e gap no_name no_number none no_comment no_mark printable =
     let ends = either_false (nat_lt c 32) (nat_le 127 c) printable in
     let low : 32 ≤ c = ltb-false c 32 ends.0 in
     let high : c < 127 = leb-false 127 c ends.1 in
@@ -146,6 +112,8 @@ no_printable t line_has_ended s c cs h built e gap no_name none no_comment no_ma
       | inl start ↦ let no : true ≡ false = sym start ∙ no_name in cc
       | inr k1 ↦ elim (or_cases (is_white_space c) _ k1) [
         | inl white ↦ let no = sym behind.1 ∙ piece-white t line_has_ended c cs white in cc
+        | inr k0 ↦ elim (or_cases (is_digit_of 10 c) _ k0) [
+        | inl digit ↦ let begun = digit_begins_number (c ∷ cs) digit in cc
         | inr k2 ↦ elim (or_cases (is_unbuilt_byte c) _ k2) [
           | inl unbuilt ↦ elim (built_here s c cs h built e (omega (arith, high))) [
             | inl known ↦ let no : true ≡ false = sym unbuilt ∙ known in cc
@@ -158,7 +126,7 @@ no_printable t line_has_ended s c cs h built e gap no_name none no_comment no_ma
             | inr k4 ↦ elim (or_cases (c == 46) _ k4) [
               | inl dotted ↦ let is : c ≡ 46 = eqb-true c 46 dotted in
                   spelled_there t line_has_ended (before_no_digit Dot) cs (listed refl)
-                  (no_digit_behind s cs h built (e ∙ ap (λ x. x ∷ cs) is))
+                  (digit_of_ten cs ∙ subst (λ x. begins_number (x ∷ cs) ≡ false) is no_number)
                   (subst (λ x. NoPunctuator t line_has_ended (x ∷ cs)) is none)
               | inr k5 ↦ elim (or_cases (c == 47) _ k5) [
                 | inl slashed ↦ let is : c ≡ 47 = eqb-true c 47 slashed in
@@ -173,6 +141,7 @@ no_printable t line_has_ended s c cs h built e gap no_name none no_comment no_ma
             ]
           ]
         ]
+        ]
       ]
     ]
 
@@ -181,7 +150,7 @@ some_of : (b : Bool) (x : Reading) (y : Option Reading) → (b ≡ false → is_
 some_of true x y h = refl
 some_of false x y h = h refl
 
--- Where no name and no punctuator begins behind a whole gap, something is read to recover.
+-- Where no name, no number and no punctuator begins behind a whole gap, something is read to recover.
 pub recovers_some : (t : SourceType) (line_has_ended : Bool) (s : At) → IsPlaced s → IsBuilt s.text
     → whole_gap_piece t line_has_ended (rest s) ≡ None → NothingHere t line_has_ended (rest s)
     → IsSome (recovered line_has_ended s.place (rest s))
@@ -193,8 +162,9 @@ recovers_some t line_has_ended s h built gap n = at (rest s) refl gap n
     at (c ∷ cs) e gap n =
         some_of (is_prefix (codes "/*") (c ∷ cs)) _ _ (λ no_comment.
         some_of (is_prefix (codes "#!") (c ∷ cs)) _ _ (λ no_mark.
+        some_of (begins_number (c ∷ cs)) _ _ (λ no_number.
         some_of (c == 0xFFFD) _ _ (λ no_binary.
         some_of (is_control_or_wide c) _ None (λ printable.
         absurd
-        (no_printable t line_has_ended s c cs h built e gap n.no_name n.no_punctuator no_comment no_mark
-        printable)))))
+        (no_printable t line_has_ended s c cs h built e gap n.no_name no_number n.no_punctuator no_comment no_mark
+        printable))))))

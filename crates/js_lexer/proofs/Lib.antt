@@ -4,6 +4,7 @@ pub mod FamilyFacts
 pub mod FastSteps
 pub mod GapSteps
 pub mod LexerSteps
+pub mod NumberSteps
 pub mod PartSteps
 pub mod ReadingSteps
 pub mod RecoverSteps

@@ -17,13 +17,17 @@ use Rattle.js_grammar.specs.Goals.{line_has_ended_behind, ReadsBehindGap}
 use Rattle.js_grammar.specs.Goals.ReadsHere.{spelled, recovers}
 use Rattle.js_grammar.specs.Goals.GoalReads.{hashbang, behind_gap}
 use Rattle.js_grammar.specs.Hashbang.{begins_hashbang}
-use Rattle.js_grammar.specs.Recovery.{faulty}
+use Rattle.js_grammar.specs.Number.{begins_number}
+use Rattle.js_grammar.specs.NumberReads.{NumberRead, number_read}
+use Rattle.js_grammar.specs.Recovery.{faulty, number_reading}
 use Rattle.js_grammar.specs.Spelling.{NothingSpelled, is_escaped, has_separator}
 use Rattle.js_grammar.specs.declared.goal.Goal.{Goal}
 use Rattle.js_grammar.specs.declared.goal.Goal.TheVariants.{First}
 use Rattle.js_grammar.proofs.Flags.{spelling_flags}
 use Rattle.js_grammar.proofs.PieceLemmas.{from_first-hashbang}
+use Rattle.js_grammar.proofs.NumberReadings.{number_reads_here}
 use Rattle.js_grammar.proofs.PunctuatorLemmas.{nothing_spelled}
+use Rattle.js_spell.specs.Numeric.{ReadsNumber}
 use Rattle.js_grammar.proofs.Spans.{here_span}
 use Rattle.js_grammar.proofs.Tests.{prefix_of}
 use Rattle.js_lexer.specs.Gaps.{TakesMark}
@@ -43,12 +47,15 @@ unflagged : (k : Kind) (line_has_ended e s : Bool) → e ≡ false → s ≡ fal
     ≡ record { kind = k; is_on_new_line = line_has_ended; escaped = e; has_separator = s }
 unflagged k line_has_ended e s f g = rw (f, g) refl
 
--- a spelling was read
+-- a spelling was read where no number begins
 pub lexeme_spelled : (old new : Reader) (k : Kind) (l : Lexeme) → StaysWithin old new
+    → begins_number (rest old.source) ≡ false
     → Spells old.source_type old.line_has_ended old.source new.source k
     → l ≡ plain_lexeme k new.line_has_ended → ReadsLexeme old l new
-lexeme_spelled old new k l within s is =
-    let flags = spelling_flags old.source_type old.line_has_ended s.spelled (rest new.source) k s.spelling.spelling in
+lexeme_spelled old new k l within no_number s is =
+    let flags =
+    spelling_flags old.source_type old.line_has_ended s.spelled (rest new.source) k
+    (ap begins_number (sym s.spelling.here) ∙ no_number) s.spelling.spelling in
     record {
       text = s.text;
       source_type = within.source_type;
@@ -57,15 +64,15 @@ lexeme_spelled old new k l within s is =
       behind = refl;
       lexeme_is =
           is ∙ ap (plain_lexeme k) within.line_has_ended
-          ∙ unflagged k old.line_has_ended (is_escaped s.spelled) (has_separator k s.spelled) flags.0 flags.1;
+          ∙ unflagged k old.line_has_ended (is_escaped k s.spelled) (has_separator k s.spelled) flags.0 flags.1;
       errors = within.errors ∙ sym (append-nil old.errors);
     }
 
--- where no name and no punctuator begins, nothing is spelled
+-- where no name, no number and no punctuator begins, nothing is spelled
 pub nothing_here : (t : SourceType) (line_has_ended : Bool) (here : List ℕ) → NothingHere t line_has_ended here
     → NothingSpelled t line_has_ended here
 nothing_here t line_has_ended [] n = absurd (n.some refl)
-nothing_here t line_has_ended (c ∷ cs) n = nothing_spelled t line_has_ended c cs n.no_name n.no_punctuator
+nothing_here t line_has_ended (c ∷ cs) n = nothing_spelled t line_has_ended c cs n.no_name n.no_number n.no_punctuator
 
 -- what was read to recover, and reported
 pub lexeme_recovered : (old new : Reader) (r : Recovered) → Recovers old.line_has_ended old.source r new.source
@@ -81,6 +88,27 @@ lexeme_recovered old new r rec nothing source_type errors = record {
   behind = refl;
   lexeme_is = refl;
   errors = errors;
+}
+
+-- what was read of a number
+pub lexeme_of_number : (old new : Reader) (kind : Kind) (has_separator : Bool) → begins_number (rest old.source) ≡ true
+    → ReadsNumber old.source new.source old.errors new.errors kind has_separator → new.source_type ≡ old.source_type
+    → ReadsLexeme old
+    (record {
+      kind = kind;
+      is_on_new_line = old.line_has_ended;
+      escaped = false;
+      has_separator = has_separator;
+    }) new
+lexeme_of_number old new kind has_separator begun read source_type = record {
+  text = read.text;
+  source_type = source_type;
+  reading = number_reading old.line_has_ended (number_read old.source.place (rest old.source));
+  here =
+      number_reads_here old.source_type old.line_has_ended old.source.place (rest old.source) begun;
+  behind = ap (λ r. r.rest) read.read;
+  lexeme_is = rw read.read refl;
+  errors = read.reports ∙ ap (λ (r : NumberRead). old.errors ++ r.diagnostics) (sym read.read);
 }
 
 abbrev pub lexeme_token : ℕ → ℕ → Lexeme → TokenParts

@@ -14,6 +14,7 @@ use Rattle.js_kind.specs.declared.kind.Kind.TheVariants.{Eof, Undetermined}
 use Rattle.js_source.specs.Source.{At, rest, IsPlaced, Reads}
 use Rattle.js_grammar.specs.Gap.{is_prefix}
 use Rattle.js_grammar.specs.Outcome.{place_behind}
+use Rattle.js_grammar.specs.Number.{begins_number}
 use Rattle.js_grammar.specs.Recovery.{Reading, recovered, recovered_character, is_control_or_wide}
 use Rattle.js_grammar.specs.Recovery.{binary_file, invalid_character}
 use Rattle.js_grammar.proofs.Tests.{prefix_of}
@@ -113,27 +114,28 @@ unread_hashbang line_has_ended old mid new start middle end h g no_comment takes
 
 -- where neither mark stands
 no_mark : (line_has_ended : Bool) (old : At) → is_prefix (codes "/*") (rest old) ≡ false
-    → is_prefix (codes "#!") (rest old) ≡ false
+    → is_prefix (codes "#!") (rest old) ≡ false → begins_number (rest old) ≡ false
     → recovered line_has_ended old.place (rest old)
     ≡ (if begins (λ c. c == 0xFFFD) (rest old) then Some
     (binary_file line_has_ended) else recovered_character line_has_ended old.place
     (rest old))
-no_mark line_has_ended old e f =
+no_mark line_has_ended old e f n =
     if_not (is_prefix (codes "/*") (rest old)) _ _ e ∙ if_not (is_prefix (codes "#!") (rest old)) _ _ f
+    ∙ if_not (begins_number (rest old)) _ _ n
 
 pub binary : (line_has_ended : Bool) (old mid new : At) (c : ℕ) → IsPlaced old
     → is_prefix (codes "/*") (rest old) ≡ false
-    → is_prefix (codes "#!") (rest old) ≡ false → Reads old mid c → c ≡ 0xFFFD
+    → is_prefix (codes "#!") (rest old) ≡ false → begins_number (rest old) ≡ false → Reads old mid c → c ≡ 0xFFFD
     → new ≡ record mid { place = length mid.text } → rest new ≡ []
     → Recovers line_has_ended old
     (record { kind = Eof; is_on_new_line = line_has_ended; diagnostic = FileAppearsToBeBinary }) new
-binary line_has_ended old mid new c h e f reads same to none =
+binary line_has_ended old mid new c h e f n reads same to none =
     let begun : begins (λ d. d == 0xFFFD) (rest old) ≡ true =
     ap (begins (λ d. d == 0xFFFD)) (reads.here ∙ ap (λ d. d ∷ rest mid) same) in
     record {
       text = ap (λ a. a.text) to ∙ reads.text;
       recovery =
-          no_mark line_has_ended old e f ∙ if_true (begins (λ d. d == 0xFFFD) (rest old)) _ _ begun ∙ rw none refl;
+          no_mark line_has_ended old e f n ∙ if_true (begins (λ d. d == 0xFFFD) (rest old)) _ _ begun ∙ rw none refl;
       onward = subst (λ (n : ℕ). old.place ≤ n) (sym (ap (λ a. a.place) to ∙ ap length reads.text)) (h.boundary.0);
     }
 
@@ -157,6 +159,7 @@ some_text line_has_ended old some none = let no : is_some (recovered line_has_en
 
 pub invalid : (line_has_ended : Bool) (old new : At) (c start end : ℕ) → IsPlaced old → IsPlaced new
     → is_prefix (codes "/*") (rest old) ≡ false → is_prefix (codes "#!") (rest old) ≡ false
+    → begins_number (rest old) ≡ false
     → IsSome (recovered line_has_ended old.place (rest old)) → Reads old new c → (c ≡ 0xFFFD → ⊥)
     → old.place ≤ new.place
     → start ≡ old.place → end ≡ new.place
@@ -166,11 +169,11 @@ pub invalid : (line_has_ended : Bool) (old new : At) (c start end : ℕ) → IsP
       is_on_new_line = line_has_ended;
       diagnostic = InvalidCharacter c (record { start = start; end = end });
     }) new
-invalid line_has_ended old new c start end h g e f some reads other onward s t =
+invalid line_has_ended old new c start end h g e f n some reads other onward s t =
     let begun : begins (λ d. d == 0xFFFD) (rest old) ≡ false =
     ap (begins (λ d. d == 0xFFFD)) reads.here ∙ ne_eqb c 0xFFFD other in
     let same =
-    no_mark line_has_ended old e f ∙ if_not (begins (λ d. d == 0xFFFD) (rest old)) _ _ begun
+    no_mark line_has_ended old e f n ∙ if_not (begins (λ d. d == 0xFFFD) (rest old)) _ _ begun
     ∙ ap (recovered_character line_has_ended old.place) reads.here in
     let there : is_some (recovered_character line_has_ended old.place (c ∷ rest new)) ≡ true =
     sym (ap is_some same) ∙ some in

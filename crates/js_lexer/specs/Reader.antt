@@ -6,6 +6,7 @@ use Rattle.js_text.specs.declared.source_type.SourceType.{SourceType}
 use Rattle.js_grammar.specs.Gap.{Piece, piece, is_reported, whole_gap_piece, Pieces, LongestGap}
 use Rattle.js_grammar.specs.Goals.{GoalReads, ReadsBehindGap, ReadsHere}
 use Rattle.js_grammar.specs.Hashbang.{begins_hashbang, IsHashbang}
+use Rattle.js_grammar.specs.Number.{begins_number}
 use Rattle.js_grammar.specs.Outcome.{Outcome, reports, gap_diagnostics}
 use Rattle.js_grammar.specs.Punctuators.{NoPunctuator}
 use Rattle.js_grammar.specs.Recovery.{Reading}
@@ -141,8 +142,9 @@ ReadsHashbang old (Some token) new = IsHashbangRead old token new
 ReadsHashbang old None new =
     (begins_hashbang First old.source.text old.source.place ≡ false) × IsUnmoved old new
 
--- No name and no punctuator begins the text, which is not at its end.
+-- No name, no number and no punctuator begins the text, which is not at its end.
 pub record NothingHere (t : SourceType) (line_has_ended : Bool) (here : List ℕ) : Type 0 where
   pub some : here ≢ []
   pub no_name : begins is_identifier_start here ≡ false
+  pub no_number : begins_number here ≡ false
   pub no_punctuator : NoPunctuator t line_has_ended here

@@ -62,7 +62,6 @@ pub enum NewFault {
 pub struct Lexer<'a, C: LexerConfig + Drop> {
     reader: Reader<'a>,
     config: C,
-    alloc: Global,
     last: Option<Token>,
     tokens: TokenList,
 }
@@ -108,9 +107,9 @@ impl<'a, C: LexerConfig + Drop> Lexer<'a, C> {
                 tables: ByteTables::new(),
                 line_has_ended: true,
                 errors: DiagnosticList::new_in(alloc),
+                alloc,
             },
             config,
-            alloc,
             last: None,
             tokens: TokenList::new_in(alloc),
         })
@@ -219,7 +218,8 @@ impl<'a, C: LexerConfig + Drop> Lexer<'a, C> {
         ensures errors { self.old.findings ≡ reports result }
         ensures after { self.new ≡ record self.old { findings = no_findings } }
     {
-        std::mem::replace(&mut self.reader.errors, DiagnosticList::new_in(self.alloc))
+        let alloc = self.reader.alloc;
+        std::mem::replace(&mut self.reader.errors, DiagnosticList::new_in(alloc))
     }
 
     /// The tokens that were collected.
@@ -234,7 +234,7 @@ impl<'a, C: LexerConfig + Drop> Lexer<'a, C> {
         ensures tokens { result ≡ self.old.tokens }
         ensures after { self.new ≡ record self.old { tokens = [] } }
     {
-        std::mem::replace(&mut self.tokens, TokenList::new_in(self.alloc))
+        std::mem::replace(&mut self.tokens, TokenList::new_in(self.reader.alloc))
     }
 
     /// What `rewind` goes back to: places and lengths alone, so it takes no memory.

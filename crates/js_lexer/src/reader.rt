@@ -3,6 +3,7 @@
 use crate::tables::ByteTables;
 use js_source::Source;
 use js_text::{DiagnosticList, SourceType};
+use std::alloc::Global;
 
 /// The source and its type, whether a line has ended before the place where it stands, and what was reported.
 #[derive(Drop)]
@@ -12,4 +13,5 @@ pub(crate) struct Reader<'a> {
     pub tables: ByteTables,
     pub line_has_ended: bool,
     pub errors: DiagnosticList,
+    pub alloc: Global,
 }

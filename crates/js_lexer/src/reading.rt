@@ -6,6 +6,8 @@ ghost use Rattle.js_text.specs.Characters.{begins, is_identifier_start};
 ghost use Rattle.js_grammar.specs.Built.{IsBuilt};
 ghost use Rattle.js_grammar.specs.Gap.{whole_gap_piece};
 ghost use Rattle.js_grammar.specs.Goals.{line_has_ended_behind};
+ghost use Rattle.js_grammar.specs.Number.{begins_number};
+ghost use Rattle.js_grammar.specs.Punctuators.{NoPunctuator};
 ghost use Rattle.js_kind.specs.TokenParts.{TokenParts};
 ghost use Rattle.js_source.specs.Source.{rest, IsPlaced};
 ghost use Rattle.js_lexer.specs.Reader.{ReadsLexeme, ReadsBehind, ReadsGoal, ReadsHashbang, NothingHere, MovesOn};
@@ -20,6 +22,7 @@ use crate::reader::Reader;
 use crate::recover::recover;
 use js_grammar::Goal;
 use js_kind::{Kind, Token};
+use js_spell::read_number;
 use js_text::{Span, is_identifier_start};
 use std::alloc::AllocError;
 
@@ -72,6 +75,57 @@ impl Reader<'_> {
         })
     }
 
+    /// Whether a number begins here, where no punctuator does: a digit follows a `.` that is none.
+    #[inline(always)]
+    fn begins_number(&self) -> bool
+        requires { NoPunctuator self.now.source_type self.now.line_has_ended (rest self.now.source) }
+        ensures { result ≡ begins_number (rest self.now.source) }
+    {
+        match self.source.peek_byte() {
+            Some(b) => b == b'.' || b.is_ascii_digit(),
+            None => false,
+        }
+    }
+
+    /// Reads the number that begins here, good or at fault.
+    #[inline(always)]
+    fn read_number(&mut self) -> Result<Lexeme, AllocError>
+        requires begun { begins_number (rest self.old.source) ≡ true }
+        requires placed { IsPlaced self.old.source }
+        ensures ok { IfOk result (λ lexeme. ReadsLexeme self.old lexeme self.new) }
+        ensures err { OnErr result (MovesOn self.old self.new) }
+    {
+        let mut token = Token::default();
+        token.set_start(self.source.offset());
+        let spelt = read_number(self.alloc, &mut self.source, &mut self.errors, &mut token)?;
+        Ok(Lexeme {
+            kind: spelt.kind,
+            is_on_new_line: self.line_has_ended,
+            escaped: token.escaped(),
+            has_separator: token.has_separator(),
+        })
+    }
+
+    /// Reads a number, or reads on where nothing is spelled.
+    #[inline(always)]
+    fn read_number_or_recover(&mut self) -> Result<Lexeme, AllocError>
+        requires gap { whole_gap_piece self.old.source_type self.old.line_has_ended (rest self.old.source) ≡ None }
+        requires placed { IsPlaced self.old.source }
+        requires built { IsBuilt self.old.source.text }
+        requires some { rest self.old.source ≢ [] }
+        requires no_name { begins is_identifier_start (rest self.old.source) ≡ false }
+        requires no_punctuator {
+            NoPunctuator self.old.source_type self.old.line_has_ended (rest self.old.source) }
+        ensures ok { IfOk result (λ lexeme. ReadsLexeme self.old lexeme self.new) }
+        ensures err { OnErr result (MovesOn self.old self.new) }
+    {
+        if self.begins_number() {
+            self.read_number()
+        } else {
+            self.recover()
+        }
+    }
+
     /// Reads what stands behind a gap, where no name begins.
     #[inline(always)]
     fn read_mark(&mut self) -> Result<Lexeme, AllocError>
@@ -85,7 +139,7 @@ impl Reader<'_> {
     {
         match read_punctuator(&mut self.source) {
             Some(kind) => Ok(self.lexeme(kind)),
-            None => self.recover(),
+            None => self.read_number_or_recover(),
         }
     }
 

@@ -4,6 +4,7 @@ ghost use Rattle.std.specs.Prelude.{◌≡◌, [], Bool, false, codes, length, I
 ghost use Rattle.std.specs.List.{list_any};
 ghost use Rattle.js_text.specs.Characters.{is_line_terminator};
 ghost use Rattle.js_grammar.specs.Gap.{is_prefix};
+ghost use Rattle.js_grammar.specs.Number.{begins_number};
 ghost use Rattle.js_grammar.specs.Recovery.{recovered};
 ghost use Rattle.js_source.specs.Source.{rest};
 ghost use Rattle.js_lexer.specs.Spellings.{Recovers};
@@ -33,6 +34,7 @@ fn recover_character(source: &mut Source<'_>, line_has_ended: bool) -> Recovered
     requires some { IsSome (recovered line_has_ended source.old.place (rest source.old)) }
     requires comment { is_prefix (codes "/*") (rest source.old) ≡ false }
     requires number_sign { is_prefix (codes "#!") (rest source.old) ≡ false }
+    requires no_number { begins_number (rest source.old) ≡ false }
     ensures { Recovers line_has_ended source.old result source.new }
 {
     let start = source.offset();
@@ -57,14 +59,15 @@ fn recover_character(source: &mut Source<'_>, line_has_ended: bool) -> Recovered
     }
 }
 
-/// Reads on where nothing is spelled, and tells what is to be reported.
+/// Reads on where nothing is spelled and no number begins, and tells what is to be reported.
 #[inline(never)]
 pub(crate) fn recover(
     source: &mut Source<'_>,
     tables: &ByteTables,
     line_has_ended: bool,
 ) -> Recovered
-    requires { IsSome (recovered line_has_ended source.old.place (rest source.old)) }
+    requires some { IsSome (recovered line_has_ended source.old.place (rest source.old)) }
+    requires no_number { begins_number (rest source.old) ≡ false }
     ensures { Recovers line_has_ended source.old result source.new }
 {
     let start = source.offset();

@@ -16,7 +16,7 @@ use std::test::Fail;
 fn is_unbuilt_byte(byte: u8) -> bool
     ensures { result ≡ is_unbuilt_byte byte }
 {
-    matches!(byte, b'\\' | b'"' | b'\'' | b'`' | b'#' | b'0'..=b'9')
+    matches!(byte, b'\\' | b'"' | b'\'' | b'`' | b'#')
 }
 
 /// Whether the text begins with the mark of a hashbang comment.

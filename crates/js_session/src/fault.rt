@@ -27,7 +27,7 @@ pub enum LexFault {
 fn is_unbuilt_byte(byte: u8) -> bool
     ensures { result ≡ is_unbuilt_byte byte }
 {
-    matches!(byte, b'\\' | b'"' | b'\'' | b'`' | b'#' | b'0'..=b'9')
+    matches!(byte, b'\\' | b'"' | b'\'' | b'`' | b'#')
 }
 
 fn begins_hashbang(source: &[u8]) -> bool

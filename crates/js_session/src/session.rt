@@ -164,6 +164,7 @@ impl<'a, C: LexerConfig + Drop> Session<'a, C> {
     /// The report of the calls so far. A mark may still be open.
     pub fn finish(self) -> Report
         ensures report { result ≡ report_of self.entry }
+        ensures unfilled { (result.deferred ≡ []) × (result.comments ≡ []) × (result.irregular ≡ []) }
         ensures rows_lie { AllByRecursion (LiesOnPlaces self.entry.text) result.rows }
         ensures tokens_lie { AllByRecursion (IsOnPlaces self.entry.text) result.tokens }
     {

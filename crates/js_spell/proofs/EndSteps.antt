@@ -49,7 +49,7 @@ bad_end_read old mid skipped new before after c start end h k first past bad mov
 -- a number that ends well
 pub good_number_read : (old mid new : At) (before during after : List Diagnostic) (g : Bool) (kind : Kind)
     → ReadsCut old mid before during false g kind (number_items (rest old)) → ReadsBadEnd mid new during after false
-    → ReadsNumber old new before after (record { kind = kind; has_separator = g })
+    → ReadsNumber old new before after kind g
 good_number_read old mid new before during after g kind cut end =
     let number = number_items (rest old) in
     let well = read_well old.place number (ap (begins may_not_follow_number) cut.left ∙ end.0) in
@@ -64,7 +64,7 @@ good_number_read old mid new before during after g kind cut end =
 pub bad_number_read : (old mid new : At) (before during after : List Diagnostic) (g : Bool) (kind : Kind)
     → IsPlaced old → IsPlaced mid
     → ReadsCut old mid before during false g kind (number_items (rest old)) → ReadsBadEnd mid new during after true
-    → ReadsNumber old new before after (record { kind = Eof; has_separator = g })
+    → ReadsNumber old new before after Eof g
 bad_number_read old mid new before during after g kind h k cut end =
     let number = number_items (rest old) in
     let bad = read_badly old.place number (ap (begins may_not_follow_number) cut.left ∙ end.0) in

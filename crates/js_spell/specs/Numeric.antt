@@ -20,7 +20,9 @@ use Rattle.js_spell.specs.declared.numeric.Prefix.TheVariants as Prefixes
 use Rattle.js_kind.specs.declared.kind.Kind.TheVariants as kinds
 use Rattle.js_spell.specs.declared.numeric.Lead.{Lead}
 use Rattle.js_spell.specs.declared.numeric.Lead.TheVariants.{Prefix as LedByPrefix, Legacy, Decimal as DecimalLead}
-use Rattle.js_spell.specs.declared.numeric.Numeral.{Numeral}
+use Rattle.js_kind.specs.TokenParts.{TokenParts}
+use Rattle.js_spell.specs.declared.spelt.Spelt.{Spelt}
+use Rattle.js_spell.specs.declared.spelt.SpeltValue.TheVariants.{Plain}
 use Rattle.js_spell.specs.declared.numeric.Passed.{Passed}
 use Rattle.js_spell.specs.declared.numeric.Passed.TheVariants.{Whole, Separator, Broken}
 
@@ -142,12 +144,19 @@ ReadsBadEnd old new before after true =
     × (after ≡ before ++ invalid_number_end old.place (rest old) ∷ [])
 
 -- The number that is next was read, good or at fault.
-pub record ReadsNumber (old new : At) (before after : List Diagnostic) (numeral : Numeral) : Type 0 where
+pub record ReadsNumber (old new : At) (before after : List Diagnostic) (kind : Kind) (has_separator : Bool) : Type 0 where
   pub text : new.text ≡ old.text
   pub added : List Diagnostic
   pub reports : after ≡ before ++ added
   pub read : number_read old.place (rest old)
-      ≡ record { kind = numeral.kind; rest = rest new; has_separator = numeral.has_separator; diagnostics = added }
+      ≡ record { kind = kind; rest = rest new; has_separator = has_separator; diagnostics = added }
+
+-- A number was read: the flags of its token were set, and its value is a stretch of the source.
+pub record SpellsNumber (old new : At) (before after : List Diagnostic) (was now : TokenParts) (spelt : Spelt)
+    : Type 0 where
+  pub read : ReadsNumber old new before after spelt.kind now.has_separator
+  pub flags : now ≡ record was { escaped = false; has_separator = now.has_separator }
+  pub value : spelt.value ≡ Plain
 
 -- what a prefix says
 abbrev pub base_of_prefix : Prefix → Base

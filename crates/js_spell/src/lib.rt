@@ -4,8 +4,10 @@
 mod digits;
 mod number;
 mod numeric;
+mod spelt;
 #[cfg(test)]
 mod tests;
 
 pub use number::{parse_big_int, parse_int};
-pub use numeric::{Numeral, read_number};
+pub use numeric::read_number;
+pub use spelt::{Spelt, SpeltValue};

@@ -10,14 +10,15 @@ ghost use Rattle.js_grammar.specs.NumberReads.{decimal_items, legacy_items, numb
 ghost use Rattle.js_source.specs.Source.{rest, IsPlaced};
 ghost use Rattle.js_spell.specs.Numeric.{radix_of_digits, PassesDigits, PassesPlainDigits, PassesGroups, end_of};
 ghost use Rattle.js_spell.specs.Numeric.{ReadsRun, BreaksOff, ReadsPart, ReadsInteger, ReadsEnd, ReadsCut, ReadsBadEnd};
-ghost use Rattle.js_spell.specs.Numeric.{ReadsNumber, LeadsWith, Leads, base_of_prefix, behind_base, TakesExponentMark};
+ghost use Rattle.js_spell.specs.Numeric.{ReadsNumber, SpellsNumber, LeadsWith, Leads, base_of_prefix, behind_base, TakesExponentMark};
 ghost use Rattle.js_spell.specs.Numeric.{TakesSign};
 
 use crate::digits::{Digits, table_of};
-use js_kind::Kind;
+use crate::spelt::{Spelt, SpeltValue};
+use js_kind::{Kind, Token};
 use js_source::Source;
 use js_text::{Diagnostic, DiagnosticList, Span, is_identifier_start};
-use std::alloc::AllocError;
+use std::alloc::{AllocError, Global};
 
 /// What passing digits came to.
 #[derive(Clone, Copy, Debug)]
@@ -453,20 +454,21 @@ fn read_bad_end(source: &mut Source<'_>, errors: &mut DiagnosticList) -> Result<
     Ok(true)
 }
 
-/// What was read of a number.
+/// The kind of a number, and whether a separator was read in it.
 #[derive(Clone, Copy, Debug)]
-pub struct Numeral {
-    pub kind: Kind,
-    pub has_separator: bool,
+struct Numeral {
+    kind: Kind,
+    has_separator: bool,
 }
 
-/// Reads the number that is next, good or at fault: its diagnostics are added to the list.
-pub fn read_number(
+/// Reads the number that is next, with what follows it and may not.
+fn read_numeral(
     source: &mut Source<'_>,
     errors: &mut DiagnosticList,
 ) -> Result<Numeral, AllocError>
     requires { IsPlaced source.old }
-    ensures ok { IfOk result (λ numeral. ReadsNumber source.old source.new errors.old errors.new numeral) }
+    ensures ok { IfOk result (λ numeral.
+        ReadsNumber source.old source.new errors.old errors.new numeral.kind numeral.has_separator) }
     ensures err { OnErr result (BreaksOff source.old source.new errors.old errors.new) }
     ensures placed { IsPlaced source.new }
 {
@@ -482,5 +484,29 @@ pub fn read_number(
     Ok(Numeral {
         kind,
         has_separator,
+    })
+}
+
+/// Reads the number that is next, good or at fault: what is to be reported is added to the list, and the flags of the
+/// token are set. Its start is where the number begins. A number asks for no memory but for what is reported.
+pub fn read_number(
+    _alloc: Global,
+    source: &mut Source<'_>,
+    errors: &mut DiagnosticList,
+    token: &mut Token,
+) -> Result<Spelt, AllocError>
+    requires { IsPlaced source.old }
+    ensures ok { IfOk result (λ spelt.
+        SpellsNumber source.old source.new errors.old errors.new token.old token.new spelt) }
+    ensures err { OnErr result (BreaksOff source.old source.new errors.old errors.new) }
+    ensures token { OnErr result (token.new ≡ token.old) }
+    ensures placed { IsPlaced source.new }
+{
+    let numeral = read_numeral(source, errors)?;
+    token.set_escaped(false);
+    token.set_has_separator(numeral.has_separator);
+    Ok(Spelt {
+        kind: numeral.kind,
+        value: SpeltValue::Plain,
     })
 }

@@ -1,5 +1,5 @@
 use super::*;
-use js_kind::Kind;
+use js_kind::{Kind, Token};
 use js_source::Source;
 use js_text::DiagnosticList;
 use std::test::Fail;
@@ -56,10 +56,11 @@ fn numbers(rt: HostRuntime) -> Result<(), Fail> {
     for (text, kind, end, has_separator, reported) in NUMBERS {
         let mut source = Source::new(text);
         let mut errors = DiagnosticList::new_in(rt.alloc());
-        let numeral = read_number(&mut source, &mut errors)?;
-        assert!(rt; numeral.kind.is_same(kind), "{text}");
+        let mut token = Token::default();
+        let spelt = read_number(rt.alloc(), &mut source, &mut errors, &mut token)?;
+        assert!(rt; spelt.kind.is_same(kind), "{text}");
         assert_eq!(rt; source.offset(), end, "{text}");
-        assert_eq!(rt; numeral.has_separator, has_separator, "{text}");
+        assert_eq!(rt; token.has_separator(), has_separator, "{text}");
         assert_eq!(rt; errors.len(), reported, "{text}");
     }
     Ok(())

@@ -1,9 +1,11 @@
-use Rattle.std.proofs.Common.{refl, sym, subst, ◌≡◌}
+use Rattle.std.proofs.Common.{refl, sym, subst, ◌≡◌, ◌≢◌, [], false}
+use Rattle.js_text.specs.Characters.{begins, is_identifier_start}
 use Rattle.js_source.specs.Source.{At, rest, IsPlaced}
 use Rattle.js_grammar.specs.Built.{IsBuilt}
 use Rattle.js_grammar.specs.Gap.{whole_gap_piece}
+use Rattle.js_grammar.specs.Punctuators.{NoPunctuator}
+use Rattle.js_grammar.proofs.PunctuatorLemmas.{punctuator_begins_no_number}
 use Rattle.js_grammar.proofs.GapLemmas.{none_behind}
-use Rattle.js_lexer.specs.Reader.{NothingHere}
 use Rattle.js_lexer.proofs.ReadingSteps.{lexeme_spelled, answers_from, fails_from}
 use Rattle.js_lexer.proofs.SpellingSteps.{punctuator_spelled}
 use Rattle.js_lexer.proofs.reader.Reader.read_mark.Goals as goal
@@ -15,12 +17,14 @@ returns-in-Some-clause-ok c =
     let quiet = (none_behind t line_has_ended (rest c.args.self.now.source) c.requires.gap).0 in
     lexeme_spelled c.args.self.now _ c.in-Some.kind c.lexeme.result
     record { source_type = refl; line_has_ended = refl; errors = refl }
+    (punctuator_begins_no_number t line_has_ended (rest c.args.self.now.source) (rest c.read_punctuator.new.source)
+    c.in-Some.kind (c.in-Some.ensures t line_has_ended quiet).1)
     (punctuator_spelled t line_has_ended c.args.self.now.source c.read_punctuator.new.source c.in-Some.kind
     c.requires.no_name
     (c.in-Some.ensures t line_has_ended quiet)) c.lexeme.ensures
 
-pub recover-requires : goal.recover-requires
-recover-requires c =
+pub read_number_or_recover-requires : goal.read_number_or_recover-requires
+read_number_or_recover-requires c =
     let t = c.args.self.now.source_type in
     let line_has_ended = c.args.self.now.line_has_ended in
     let quiet = (none_behind t line_has_ended (rest c.args.self.now.source) c.requires.gap).0 in
@@ -28,9 +32,9 @@ recover-requires c =
     record {
       gap = subst (λ (a : At). whole_gap_piece t line_has_ended (rest a) ≡ _) (sym none.0) c.requires.gap;
       built = subst (λ (a : At). IsBuilt a.text) (sym none.0) c.requires.built;
-      nothing =
-          subst (λ (a : At). NothingHere t line_has_ended (rest a)) (sym none.0)
-          record { some = c.requires.some; no_name = c.requires.no_name; no_punctuator = none.1 };
+      some = subst (λ (a : At). rest a ≢ []) (sym none.0) c.requires.some;
+      no_name = subst (λ (a : At). begins is_identifier_start (rest a) ≡ false) (sym none.0) c.requires.no_name;
+      no_punctuator = subst (λ (a : At). NoPunctuator t line_has_ended (rest a)) (sym none.0) none.1;
       placed = subst (λ (a : At). IsPlaced a) (sym none.0) c.requires.placed;
     }
 
@@ -42,9 +46,9 @@ returns-in-None-clause-ok c =
     c.in-None.ensures t line_has_ended
     (none_behind t line_has_ended (rest c.args.self.now.source) c.requires.gap).0 in
     answers_from c.args.self.now
-    (record c.args.self.now { source = c.read_punctuator.new.source }) c.recover.new.self c.recover.result
+    (record c.args.self.now { source = c.read_punctuator.new.source }) c.read_number_or_recover.new.self c.read_number_or_recover.result
     record { source = none.0; stays = record { source_type = refl; line_has_ended = refl; errors = refl } }
-    c.recover.ensures.ok
+    c.read_number_or_recover.ensures.ok
 
 pub returns-in-None-clause-err : goal.returns-in-None-clause-err
 returns-in-None-clause-err c =
@@ -54,6 +58,6 @@ returns-in-None-clause-err c =
     c.in-None.ensures t line_has_ended
     (none_behind t line_has_ended (rest c.args.self.now.source) c.requires.gap).0 in
     fails_from c.args.self.now
-    (record c.args.self.now { source = c.read_punctuator.new.source }) c.recover.new.self c.recover.result
+    (record c.args.self.now { source = c.read_punctuator.new.source }) c.read_number_or_recover.new.self c.read_number_or_recover.result
     record { source = none.0; stays = record { source_type = refl; line_has_ended = refl; errors = refl } }
-    c.recover.ensures.err
+    c.read_number_or_recover.ensures.err

@@ -7,8 +7,12 @@ use Rattle.js_lexer.proofs.reader.Reader.recover.Goals as goal
 
 pub recover-recovered-requires : goal.recover-recovered-requires
 recover-recovered-requires c =
-    recovers_some c.args.self.now.source_type c.args.self.now.line_has_ended c.args.self.now.source c.requires.placed
-    c.requires.built c.requires.gap c.requires.nothing
+    record {
+      some =
+          recovers_some c.args.self.now.source_type c.args.self.now.line_has_ended c.args.self.now.source
+          c.requires.placed c.requires.built c.requires.gap c.requires.nothing;
+      no_number = c.requires.nothing.no_number;
+    }
 
 pub returns-in_err-push-clause-err : goal.returns-in_err-push-clause-err
 returns-in_err-push-clause-err c =

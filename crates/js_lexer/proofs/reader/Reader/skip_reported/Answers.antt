@@ -1,4 +1,5 @@
-use Rattle.std.proofs.Common.{sym, refl}
+use Rattle.std.proofs.Common.{[], ◌∷◌, ◌++◌, ◌∙◌, ap, sym, refl}
+use Rattle.js_text.specs.declared.diagnostic.Diagnostic.TheVariants.{HtmlCommentInModule}
 use Rattle.js_lexer.proofs.WholeSteps.{reported_skips}
 use Rattle.js_lexer.proofs.reader.Reader.skip_reported.Goals as goal
 
@@ -8,4 +9,6 @@ returns-clause-ok c =
     c.offset.result c.offset-start.ensures.placed c.offset.ensures.placed
     c.if-not-advance_if_reported.ensures c.skip_line.ensures.text c.skip_line.ensures.rest c.offset-start.ensures.place
     c.offset.ensures.place refl refl
-    (rw (sym c.new-span.ensures) c.in_ok-push.ensures.ok) c.skip_gap.ensures.skips
+    (c.in_ok-push.ensures.ok
+    ∙ ap (λ span. c.args.self.now.errors ++ HtmlCommentInModule span ∷ []) c.new-span.ensures)
+    c.skip_gap.ensures.skips

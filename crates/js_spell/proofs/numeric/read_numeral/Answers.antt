@@ -1,5 +1,5 @@
 use Rattle.js_spell.proofs.EndSteps.{good_number_read, bad_number_read}
-use Rattle.js_spell.proofs.numeric.read_number.Goals as goal
+use Rattle.js_spell.proofs.numeric.read_numeral.Goals as goal
 
 pub returns-then-is_bad-clause-ok : goal.returns-then-is_bad-clause-ok
 returns-then-is_bad-clause-ok c =
