@@ -9,3 +9,4 @@ pub mod Punctuators
 pub mod Reads
 pub mod Recovery
 pub mod Spelling
+pub mod UnicodeEscape
