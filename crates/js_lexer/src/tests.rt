@@ -72,7 +72,8 @@ fn push_token(text: &mut String, token: &Token) -> Result<(), AllocError> {
     let start = token.start();
     let end = token.end();
     let newline = if token.is_on_new_line() { " n" } else { "" };
-    write!(text, "{name} {start}..{end}{newline};")
+    let separator = if token.has_separator() { " s" } else { "" };
+    write!(text, "{name} {start}..{end}{newline}{separator};")
 }
 
 fn push_diagnostic(text: &mut String, diagnostic: &Diagnostic) -> Result<(), AllocError> {
@@ -106,7 +107,7 @@ fn lexed(alloc: Global, source: &str, source_type: SourceType) -> Result<String,
 }
 
 /// A source type, a source, its tokens and what is reported.
-static READINGS: [(SourceType, &str, &str); 30] = [
+static READINGS: [(SourceType, &str, &str); 38] = [
     (SourceType::Module, "", "Eof 0..0 n;"),
     (SourceType::Module, "\u{A0}a", "Ident 2..3 n;Eof 3..3;"),
     (
@@ -224,6 +225,46 @@ static READINGS: [(SourceType, &str, &str); 30] = [
         SourceType::Module,
         "instanceof $ _x",
         "Instanceof 0..10 n;Ident 11..12;Ident 13..15;Eof 15..15;",
+    ),
+    (
+        SourceType::Module,
+        "a?.1:b",
+        "Ident 0..1 n;Question 1..2;Float 2..4;Colon 4..5;Ident 5..6;Eof 6..6;",
+    ),
+    (
+        SourceType::Module,
+        "1.x",
+        "Eof 0..3 n;InvalidNumberEnd 2..3;",
+    ),
+    (
+        SourceType::Module,
+        "1e5.x",
+        "PositiveExponential 0..3 n;Dot 3..4;Ident 4..5;Eof 5..5;",
+    ),
+    (
+        SourceType::Module,
+        "07.5",
+        "Octal 0..2 n;Float 2..4;Eof 4..4;",
+    ),
+    (
+        SourceType::Module,
+        "1__2",
+        "Eof 0..4 n s;InvalidCharacter 2..2;InvalidNumberEnd 2..3;",
+    ),
+    (
+        SourceType::Module,
+        "0b1_0n",
+        "BinaryBigInt 0..6 n s;Eof 6..6;",
+    ),
+    (
+        SourceType::Module,
+        "1a2",
+        "Eof 0..3 n;InvalidNumberEnd 1..2;",
+    ),
+    (
+        SourceType::Module,
+        "07_1",
+        "Eof 0..4 n;InvalidNumberEnd 2..3;",
     ),
 ];
 

@@ -61,7 +61,7 @@ static FAULTS: [(&[u8], &[Command], LexFault); 4] = [
         &[Command::Mark, Command::Rewind, Command::Rewind],
         LexFault::NoMark(2),
     ),
-    (b"a 1", &[Command::Commit], LexFault::NotBuilt(2)),
+    (b"a '", &[Command::Commit], LexFault::NotBuilt(2)),
     (b"#!a\n#", &[], LexFault::NotBuilt(4)),
     (b"\"a \xFF", &[], LexFault::NotUtf8(3)),
 ];

@@ -36,10 +36,11 @@ fn digits_of_a_big_integer(rt: HostRuntime) -> Result<(), Fail> {
 }
 
 /// Texts, and the kind, the end, the separator flag and the count of diagnostics of the number that each begins with.
-static NUMBERS: [(&str, Kind, u32, bool, usize); 12] = [
+static NUMBERS: [(&str, Kind, u32, bool, usize); 13] = [
     ("1.x", Kind::Eof, 3, false, 1),
     ("1e5.x", Kind::PositiveExponential, 3, false, 0),
     ("0e1a", Kind::Eof, 4, false, 1),
+    ("08e1a", Kind::Eof, 5, false, 1),
     ("08E1", Kind::PositiveExponential, 4, false, 0),
     ("07.5", Kind::Octal, 2, false, 0),
     ("1__2", Kind::Eof, 4, true, 2),
