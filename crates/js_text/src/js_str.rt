@@ -1,8 +1,10 @@
 //! Texts as lists of UTF-16 units (ECMA-262 6.1.4).
 
-ghost use Rattle.std.specs.Prelude.{◌≡◌, [], ◌∷◌, ◌++◌, IfOk, IfSome, OnOk, OnErr, is_none, string_bytes};
+ghost use Rattle.std.specs.Prelude.{◌≡◌, [], ◌∷◌, ◌++◌, IfOk, IfSome, OnOk, OnErr, is_none, nat_eq, string_bytes};
 ghost use Rattle.std.specs.Char.Escape.{encode_utf16};
 ghost use Rattle.std.specs.Char.Utf16.{has_unpaired_surrogate};
+ghost use Rattle.std.specs.Cmp.{partial_equiv_from_equiv};
+ghost use Rattle.std.specs.Cmp.Lexicographic.{nat_list_eq_equiv, pointwise};
 ghost use Rattle.std.specs.Str.{chars};
 ghost use Rattle.js_text.specs.JsStr.{units_of, AddsPrefix};
 
@@ -10,7 +12,7 @@ use std::alloc::{AllocError, Global};
 use std::marker::Model;
 
 /// A text of JavaScript, seen as the list of its UTF-16 units. A surrogate may stand outside a pair.
-#[derive(Drop)]
+#[derive(Debug, Drop)]
 pub struct JSStr {
     units: Vec<u16>,
 }
@@ -21,6 +23,20 @@ impl Model for JSStr {
     ghost Value = { List ℕ };
 
     ghost view = { λ s. s.units.items };
+}
+
+impl PartialEq for JSStr {
+    ghost eq = { λ a b. pointwise nat_eq a b };
+
+    ghost laws = { partial_equiv_from_equiv nat_list_eq_equiv };
+
+    fn eq(&self, other: &JSStr) -> bool {
+        self.units == other.units
+    }
+}
+
+impl Eq for JSStr {
+    ghost laws = { nat_list_eq_equiv };
 }
 
 impl JSStr {

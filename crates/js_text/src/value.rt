@@ -2,6 +2,7 @@
 
 ghost use Rattle.std.specs.Prelude.{◌≡◌, IfOk};
 
+use crate::js_str::JSStr;
 use crate::span::Span;
 use std::alloc::{AllocError, Global};
 
@@ -12,16 +13,19 @@ pub enum RowValue {
     Nothing,
     /// This stretch of the source, in bytes.
     Slice(Span),
+    /// These UTF-16 units, since the spelling has escapes.
+    Units(JSStr),
 }
 
 impl RowValue {
     /// An equal value.
-    pub fn copy(&self, _alloc: Global) -> Result<RowValue, AllocError>
+    pub fn copy(&self, alloc: Global) -> Result<RowValue, AllocError>
         ensures { IfOk result (λ value. value ≡ self.now) }
     {
         match self {
             RowValue::Nothing => Ok(RowValue::Nothing),
             RowValue::Slice(span) => Ok(RowValue::Slice(*span)),
+            RowValue::Units(text) => Ok(RowValue::Units(text.copy(alloc)?)),
         }
     }
 }
