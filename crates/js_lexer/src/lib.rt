@@ -3,6 +3,7 @@
 
 mod checkpoint;
 mod comment;
+mod decoded;
 mod gap;
 mod lexeme;
 mod lexer;
