@@ -23,4 +23,5 @@ pub mod PunctuatorLemmas
 pub mod Reported
 pub mod Spans
 pub mod Tests
+pub mod UnicodeEscapes
 pub mod Unique
