@@ -24,4 +24,5 @@ pub mod PunctuatorLemmas
 pub mod Reported
 pub mod Spans
 pub mod Tests
+pub mod UnicodeEscapes
 pub mod Unique
