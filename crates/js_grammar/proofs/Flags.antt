@@ -79,6 +79,8 @@ spelling_flags t line_has_ended xs ys k no_number (punctuator p i same allowed k
     (rw no_name refl, rw none refl)
 spelling_flags t line_has_ended xs ys k no_number (number is follows) =
     let begun = number_begins xs ys k is in absurd (cc)
-spelling_flags t line_has_ended xs ys k no_number (end_of_source none end kind) =
-    (ap (is_escaped k) none ∙ and_false (is_identifier_name k), ap (has_separator k) none
-    ∙ and_false (is_number_kind k))
+spelling_flags t line_has_ended xs ys k no_number (end_of_source none end kind) = (
+  ap (is_escaped k) none ∙ and_false (is_identifier_name k),
+  ap (has_separator k) none
+      ∙ and_false (is_number_kind k),
+)

@@ -2,6 +2,7 @@ pub mod Clean
 pub mod Flags
 pub mod GapLemmas
 pub mod NameLemmas
+pub mod NameRows
 pub mod NumberBegins
 pub mod NumberClasses
 pub mod NumberCuts
@@ -23,4 +24,5 @@ pub mod PunctuatorLemmas
 pub mod Reported
 pub mod Spans
 pub mod Tests
+pub mod UnicodeEscapes
 pub mod Unique

@@ -2,6 +2,7 @@ pub mod Built
 pub mod Gap
 pub mod Goals
 pub mod Hashbang
+pub mod Name
 pub mod Number
 pub mod NumberReads
 pub mod Outcome

@@ -26,15 +26,19 @@ pub record UnicodeEscape : Type 0 where
   pub code_point : Option ℕ
   pub rest : List ℕ
 
--- four hexadecimal digits, or as many as stand there
-unfoldable pub four_digits : List ℕ → UnicodeEscape
-four_digits text =
-    let digits = before_first is_no_hex_digit (take 4 text) in
+-- just so many hexadecimal digits, or as many of them as stand there
+abbrev pub hex_digits : ℕ → List ℕ → UnicodeEscape
+hex_digits count text =
+    let digits = before_first is_no_hex_digit (take count text) in
     record {
       text = digits;
-      code_point = if length digits == 4 then Some (digits_value 16 digits) else None;
+      code_point = if length digits == count then Some (digits_value 16 digits) else None;
       rest = drop (length digits) text;
     }
+
+-- four hexadecimal digits, or as many as stand there
+unfoldable pub four_digits : List ℕ → UnicodeEscape
+four_digits text = hex_digits 4 text
 
 -- Hexadecimal digits that go on a number, up to the first one that brings it past the last code point, that one too.
 unfoldable pub digits_of_code_point : ℕ → List ℕ → List ℕ

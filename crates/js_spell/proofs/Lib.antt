@@ -5,3 +5,4 @@ pub mod LegacySteps
 pub mod PrefixSteps
 pub mod LeadSteps
 pub mod EndSteps
+pub mod EscapeSteps

@@ -7,6 +7,7 @@ mod numeric;
 mod spelt;
 #[cfg(test)]
 mod tests;
+mod unicode_escape;
 
 pub use number::{parse_big_int, parse_int};
 pub use numeric::read_number;

@@ -462,10 +462,7 @@ struct Numeral {
 }
 
 /// Reads the number that is next, with what follows it and may not.
-fn read_numeral(
-    source: &mut Source<'_>,
-    errors: &mut DiagnosticList,
-) -> Result<Numeral, AllocError>
+fn read_numeral(source: &mut Source<'_>, errors: &mut DiagnosticList) -> Result<Numeral, AllocError>
     requires { IsPlaced source.old }
     ensures ok { IfOk result (λ numeral.
         ReadsNumber source.old source.new errors.old errors.new numeral.kind numeral.has_separator) }

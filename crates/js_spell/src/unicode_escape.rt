@@ -1,0 +1,76 @@
+//! Reading unicode escapes (ECMA-262 12.9.4).
+
+ghost use Rattle.std.specs.Prelude.{◌≤◌, ◌<◌, ◌^◌, IfSome};
+ghost use Rattle.js_grammar.specs.UnicodeEscape.{hex_digits, braced_digits, unicode_escape, last_code_point};
+ghost use Rattle.js_source.specs.Source.{rest, IsPlaced};
+ghost use Rattle.js_spell.specs.Escape.{TakesDigit, ReadsUnicodeEscape};
+
+use js_source::Source;
+
+/// The greatest code point.
+const LAST_CODE_POINT: u32 = 0x10FFFF;
+
+/// Takes a digit of the radix, if one is next, and gives its value.
+pub(crate) fn take_digit(source: &mut Source<'_>, radix: u32) -> Option<u32>
+    requires placed { IsPlaced source.old }
+    requires least { 2 ≤ radix }
+    requires greatest { radix ≤ 16 }
+    ensures digit { TakesDigit radix source.old source.new result }
+    ensures value { IfSome result (λ value. value < radix) }
+    ensures placed { IsPlaced source.new }
+{
+    let value = source.peek_char()?.to_digit(radix)?;
+    source.next_char();
+    Some(value)
+}
+
+/// Reads just so many hexadecimal digits and gives their value, or reads those that are there.
+pub(crate) fn read_hex_digits(source: &mut Source<'_>, count: u32) -> Option<u32>
+    requires few { count ≤ 4 }
+    requires placed { IsPlaced source.old }
+    ensures read { ReadsUnicodeEscape (hex_digits count (rest source.old)) source.old source.new result }
+    ensures small { IfSome result (λ value. value < 16 ^ count) }
+    ensures placed { IsPlaced source.new }
+{
+    let mut value = 0;
+    'digits: for _ in 0..count {
+        value = value * 16 + take_digit(source, 16)?;
+    }
+    Some(value)
+}
+
+/// Reads the digits of a code point behind a `{`, and the `}`.
+fn read_braced_digits(source: &mut Source<'_>) -> Option<u32>
+    requires { IsPlaced source.old }
+    ensures read { ReadsUnicodeEscape (braced_digits (rest source.old)) source.old source.new result }
+    ensures small { IfSome result (λ value. value ≤ last_code_point) }
+    ensures placed { IsPlaced source.new }
+{
+    let mut value = take_digit(source, 16)?;
+    'digits: while let Some(digit) = take_digit(source, 16) {
+        value = value * 16 + digit;
+        if value > LAST_CODE_POINT {
+            return None;
+        }
+    }
+    if source.advance_if_ascii_eq(b'}') {
+        Some(value)
+    } else {
+        None
+    }
+}
+
+/// Reads what stands behind the `\u` of an escape: four hexadecimal digits, or a code point in braces. It gives the
+/// code point, which may be a surrogate; None: the escape is none, and breaks off before the first character that does
+/// not fit, or behind the digit that passes 10FFFF.
+pub(crate) fn read_unicode_escape(source: &mut Source<'_>) -> Option<u32>
+    requires { IsPlaced source.old }
+    ensures read { ReadsUnicodeEscape (unicode_escape (rest source.old)) source.old source.new result }
+    ensures small { IfSome result (λ value. value ≤ last_code_point) }
+    ensures placed { IsPlaced source.new }
+{
+    if source.advance_if_ascii_eq(b'{') {
+        return read_braced_digits(source);
+    }
+    read_hex_digits(source, 4)
+}
