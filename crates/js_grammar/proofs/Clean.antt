@@ -1,9 +1,10 @@
 -- A reading reports nothing exactly where the grammar reads a token, and then it is this one.
-use Rattle.std.proofs.Common.{◌≡◌, ◌≢◌, ℕ, Bool, true, false, List, [], ◌∷◌, ◌++◌, ◌==◌, ◌&&◌}
+use Rattle.std.proofs.Common.{◌≡◌, ◌≢◌, ℕ, ◌+◌, Bool, true, false, List, [], ◌∷◌, ◌++◌, ◌==◌, ◌&&◌}
 use Rattle.std.proofs.Common.{drop, refl, sym, ◌∙◌, ap, subst, Option, Some, None}
 use Rattle.std.specs.Prelude.{codes, if◌then◌else◌, IfSome}
 use Rattle.unicode_ident.proofs.Computing.{unicode_ident}
 use Rattle.js_text.specs.Characters.{from_place, begins, is_identifier_start}
+use Rattle.js_text.specs.Ascii.{number_sign}
 use Rattle.js_text.specs.SourceType.{is_module}
 use Rattle.js_text.specs.declared.source_type.SourceType.{SourceType}
 use Rattle.js_kind.specs.Digits.{is_digit_of}
@@ -13,29 +14,28 @@ use Rattle.js_grammar.specs.Gap.{is_prefix, is_reported, LongestGap}
 use Rattle.js_grammar.specs.Goals.{ReadsHere, GoalReads, AgreesWithGrammar, line_has_ended_behind}
 use Rattle.js_grammar.specs.Goals.ReadsHere.{spelled as spelled_here, recovers}
 use Rattle.js_grammar.specs.Goals.GoalReads.{hashbang as hashbang_read, behind_gap}
+use Rattle.js_grammar.specs.Name.{begins_name, private_read}
 use Rattle.js_grammar.specs.Number.{begins_number}
 use Rattle.js_grammar.specs.Outcome.{Outcome, gap_diagnostics}
 use Rattle.js_grammar.specs.Reads.{PlainReads}
 use Rattle.js_grammar.specs.Reads.PlainReads.{hashbang, spelled}
-use Rattle.js_grammar.specs.Recovery.{Reading, recovered, recovered_character, is_control_or_wide}
+use Rattle.js_grammar.specs.Recovery.{Reading, recovered, private_reading, recovered_character, is_control_or_wide}
 use Rattle.js_grammar.specs.Spelling.{LongestSpelling, NothingSpelled}
 use Rattle.js_grammar.specs.declared.goal.Goal.{Goal}
 use Rattle.js_grammar.proofs.GapLemmas.{whole_gap_unique}
 use Rattle.js_grammar.proofs.NumberReadings.{faulty_number_reports}
 use Rattle.js_grammar.proofs.Reported.{longest_of_whole, whole_of_longest, gap_reports_nothing, append_nil}
 use Rattle.js_grammar.proofs.PunctuatorLeaves.{none_reported}
-use Rattle.js_grammar.proofs.PunctuatorLemmas.{nothing_spelled}
+use Rattle.js_grammar.proofs.NameReadings.{faulty_name_reports, faulty_private_reports}
+use Rattle.js_grammar.proofs.NumberSound.{first_is}
+use Rattle.js_grammar.proofs.SpellingClasses.{nothing_spelled}
+use Rattle.js_grammar.proofs.Starts.{begins_named}
 use Rattle.js_grammar.proofs.Tests.{and_true, prefix_is}
 
--- `<` begins no name
-angle_begins_no_name : is_identifier_start 60 ≡ false
-unfolding is_identifier_start unicode_ident
-angle_begins_no_name = refl
-
--- and no number
-angle_is_no_digit : is_digit_of 10 60 ≡ false
-unfolding is_digit_of
-angle_is_no_digit = refl
+-- `<` begins no name and no number
+angle_begins_none : (begins_named 60 ≡ false) × (is_digit_of 10 60 ≡ false)
+unfolding is_identifier_start is_digit_of unicode_ident
+angle_begins_none = (refl, refl)
 
 -- Where a reported comment stands, nothing is spelled.
 pub reported_spells_nothing : (t : SourceType) (line_has_ended : Bool) (here : List ℕ)
@@ -44,7 +44,7 @@ reported_spells_nothing t line_has_ended here e =
     let both = and_true (is_prefix (codes "<!--") here) (is_module t && line_has_ended) e in
     let text : here ≡ codes "<!--" ++ drop 4 here = prefix_is (codes "<!--") here both.0 in
     subst (NothingSpelled t line_has_ended) (sym text)
-    (nothing_spelled t line_has_ended 60 _ angle_begins_no_name angle_is_no_digit
+    (nothing_spelled t line_has_ended (codes "<!--" ++ drop 4 here) (λ e. cc) angle_begins_none.0 angle_begins_none.1
     (none_reported t line_has_ended (drop 4 here) both.1))
 
 -- and so where something is spelled, no reported comment stands
@@ -71,11 +71,19 @@ recovered_reports : (t : SourceType) (line_has_ended : Bool) (place : ℕ) (here
     → NothingSpelled t line_has_ended here → Reports (recovered line_has_ended place here)
 recovered_reports t line_has_ended place here nothing =
     reports_if (is_prefix (codes "/*") here) _ _ (λ _ e. cc) (
-    reports_if (is_prefix (codes "#!") here) _ _ (λ _ e. cc) (
+    reports_if (begins_name here) _ _
+    (λ begun. faulty_name_reports t line_has_ended place here begun nothing) (
+    reports_if (begins (λ c. c == number_sign) here) _ _
+    (λ begun. private_reports (first_is number_sign here begun)) (
     reports_if (begins_number here) _ _
     (λ begun. faulty_number_reports t line_has_ended place here begun nothing) (
-    reports_if (begins (λ c. c == 0xFFFD) here) _ _ (λ _ e. cc) (character here))))
+    reports_if (begins (λ c. c == 0xFFFD) here) _ _ (λ _ e. cc) (character here)))))
   where
+    private_reports : here ≡ number_sign ∷ drop 1 here
+        → (private_reading line_has_ended (private_read (place + 1) (drop 1 here))).diagnostics ≢ []
+    private_reports e =
+        faulty_private_reports t line_has_ended (place + 1) (drop 1 here) (subst (NothingSpelled t line_has_ended) e nothing)
+
     character : (here : List ℕ) → Reports (recovered_character line_has_ended place here)
     character [] = tt
     character (c ∷ cs) = reports_if (is_control_or_wide c) _ None (λ _ e. cc) tt

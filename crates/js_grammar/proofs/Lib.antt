@@ -2,6 +2,7 @@ pub mod Clean
 pub mod Flags
 pub mod GapLemmas
 pub mod NameLemmas
+pub mod NameReadings
 pub mod NameRows
 pub mod NumberBegins
 pub mod NumberClasses
@@ -14,7 +15,6 @@ pub mod NumberRows
 pub mod NumberShapes
 pub mod NumberSound
 pub mod NumberSpans
-pub mod NumberStarts
 pub mod NumberSteps
 pub mod NumberWhole
 pub mod PieceLemmas
@@ -23,6 +23,9 @@ pub mod PunctuatorLeaves
 pub mod PunctuatorLemmas
 pub mod Reported
 pub mod Spans
+pub mod SpellingClasses
+pub mod Starts
 pub mod Tests
 pub mod UnicodeEscapes
 pub mod Unique
+pub mod Values

@@ -4,7 +4,7 @@ use Rattle.std.proofs.Common.{ap}
 use Rattle.std.specs.Prelude.{IsTrue}
 use Rattle.std.specs.List.{AllByRecursion}
 use Rattle.js_text.specs.Characters.{is_identifier_part, begins, from_first, before_first}
-use Rattle.js_grammar.specs.Spelling.{is_no_part}
+use Rattle.js_grammar.specs.Name.{is_no_part}
 
 -- the parts of a name end where no part follows
 pub parts : (us vs : List ℕ) → AllByRecursion (λ d. IsTrue (is_identifier_part d)) us

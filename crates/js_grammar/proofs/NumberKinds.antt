@@ -2,6 +2,7 @@
 use Rattle.std.proofs.Common.{◌≡◌, ℕ, false, true, List, refl, ◌∙◌, ap, inl, inr, ◌==◌, ◌||◌, Option, Some, None}
 use Rattle.std.proofs.Common.{subst}
 use Rattle.js_kind.specs.Kinds.{is_identifier_name, is_number_kind}
+use Rattle.js_grammar.specs.Spelling.{is_named, is_private_name}
 use Rattle.js_kind.specs.declared.kind.Kind.{Kind}
 use Rattle.js_grammar.specs.Number.{Base, base_of, IsExponent, IsNumber, Sign, sign_kind}
 use Rattle.js_grammar.specs.Number.Sign.{no_sign, plus, minus}
@@ -13,7 +14,7 @@ use Rattle.js_grammar.proofs.NumberItems.{true_or_false}
 -- a kind of numbers is none of names
 pub record IsNumberKind (kind : Kind) : Type 0 where
   pub is_number : is_number_kind kind ≡ true
-  pub no_name : is_identifier_name kind ≡ false
+  pub no_name : is_named kind ≡ false
 
 abbrev AreNumberKinds : Base → Type 0
 AreNumberKinds base = IsNumberKind base.kind × IsNumberKind base.big_kind
@@ -22,7 +23,7 @@ some_base : (a b : Base) → Some a ≡ Some b → AreNumberKinds a → AreNumbe
 some_base a b e h = let same : a ≡ b = cc in subst AreNumberKinds same h
 
 pub base_kinds : (c : ℕ) (base : Base) → base_of c ≡ Some base → AreNumberKinds base
-unfolding is_identifier_name is_number_kind
+unfolding is_identifier_name is_private_name is_number_kind
 base_kinds c base e =
     elim (true_or_false ((c == 98) || (c == 66))) [
       | inl is ↦
@@ -42,7 +43,7 @@ base_kinds c base e =
     ]
 
 pub sign_is_number : (sign : Sign) → IsNumberKind (sign_kind sign)
-unfolding is_identifier_name is_number_kind
+unfolding is_identifier_name is_private_name is_number_kind
 sign_is_number no_sign = record { is_number = refl; no_name = refl }
 sign_is_number plus = record { is_number = refl; no_name = refl }
 sign_is_number minus = record { is_number = refl; no_name = refl }
@@ -52,7 +53,7 @@ exponent_kind xs kind (exponent mark sign digits is run here kind_is) = rw kind_
 
 -- a number has a kind of numbers
 pub number_kind : (xs : List ℕ) (kind : Kind) → IsNumber xs kind → IsNumberKind kind
-unfolding is_identifier_name is_number_kind
+unfolding is_identifier_name is_private_name is_number_kind
 number_kind xs kind (prefixed c base ds letter is here kind_is) = rw kind_is (base_kinds c base letter).0
 number_kind xs kind (prefixed_big c base ds letter is here kind_is) = rw kind_is (base_kinds c base letter).1
 number_kind xs kind (decimal is kind_is) = rw kind_is (record { is_number = refl; no_name = refl })

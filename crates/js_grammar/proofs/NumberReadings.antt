@@ -4,8 +4,8 @@ use Rattle.std.proofs.Common.{◌∙◌, ap, subst, inl, inr, arith, Some}
 use Rattle.std.specs.Prelude.{codes}
 use Rattle.std.proofs.lemmas.Bool.{eqb-true}
 use Rattle.std.proofs.lemmas.Bool.Decides.{nat_tests}
-use Rattle.js_text.specs.Ascii.{full_stop}
-use Rattle.js_text.specs.Characters.{is_identifier_start}
+use Rattle.js_text.specs.Ascii.{full_stop, number_sign}
+use Rattle.js_text.specs.Characters.{begins}
 use Rattle.js_text.specs.declared.diagnostic.Diagnostic.{Diagnostic}
 use Rattle.js_text.specs.declared.source_type.SourceType.{SourceType}
 use Rattle.js_kind.specs.Digits.{is_digit_of}
@@ -16,45 +16,18 @@ use Rattle.js_grammar.specs.Goals.{ReadsHere}
 use Rattle.js_grammar.specs.Goals.ReadsHere.{spelled, recovers}
 use Rattle.js_grammar.specs.Number.{IsNumber, begins_number, excluded_after}
 use Rattle.js_grammar.specs.NumberReads.{number_read}
-use Rattle.js_grammar.specs.Punctuators.{Punctuator, punctuators, IsIn, is_spelled}
 use Rattle.js_grammar.specs.Recovery.{number_reading, recovered}
 use Rattle.js_grammar.specs.Spelling.{Spelling, LongestSpelling, NothingSpelled}
-use Rattle.js_grammar.specs.Spelling.Spelling.{name, punctuator, number, end_of_source}
+use Rattle.js_grammar.specs.Spelling.Spelling.{number}
 use Rattle.js_grammar.proofs.NumberBegins.{number_begins}
 use Rattle.js_grammar.proofs.NumberItems.{true_or_false}
 use Rattle.js_grammar.proofs.NumberKinds.{number_kind}
 use Rattle.js_grammar.proofs.NumberLaws.{BeginsWithNumber, good_read, number_is_read, clean_is_number, one_number}
-use Rattle.js_grammar.proofs.NumberStarts.{number_begins_no_name, number_begins_no_punctuator}
-use Rattle.js_grammar.proofs.PunctuatorLemmas.{no_name_begins, passes_at, spelled_at, not_true}
-use Rattle.js_grammar.specs.Spelling.{IsName}
-
--- what is spelled where a number begins is a number
-abbrev pub OnlyNumber : List ℕ → List ℕ → Kind → Type 0
-OnlyNumber us vs kind = IsNumber us kind × (excluded_after kind vs ≡ false)
-
-pub only_number : (t : SourceType) (line_has_ended : Bool) (here us vs : List ℕ) (kind : Kind) → begins_number here ≡ true
-    → here ≡ us ++ vs → Spelling t line_has_ended us vs kind → OnlyNumber us vs kind
-only_number t line_has_ended here us vs kind begun e (name is end kind_is) = absurd (no_name here us vs begun e is)
-  where
-    no_name : (here us vs : List ℕ) → begins_number here ≡ true → here ≡ us ++ vs → IsName us → ⊥
-    no_name here [] vs begun e is = is
-    no_name here (u ∷ us) vs begun e is =
-        let starts : is_identifier_start u ≡ true = is.0 in
-        let none = number_begins_no_name u (us ++ vs) (ap begins_number (sym e) ∙ begun) in
-        cc
-only_number t line_has_ended here us vs kind begun e (punctuator p i same allowed kind_is) =
-    let there : is_spelled t line_has_ended here p ≡ true =
-    subst (λ u. is_spelled t line_has_ended u p ≡ true) (sym (e ∙ ap (λ xs. xs ++ vs) same))
-    (spelled_at t line_has_ended p vs allowed) in
-    absurd
-    (not_true _ there
-    (passes_at (λ q. not (is_spelled t line_has_ended here q)) p punctuators i
-    (number_begins_no_punctuator t line_has_ended here begun)))
-only_number t line_has_ended here us vs kind begun e (number is follows) = (is, follows)
-only_number t line_has_ended here us vs kind begun e (end_of_source empty end kind_is) =
-    let at_end : here ≡ [] = e ∙ ap (λ xs. xs ++ vs) empty ∙ end in
-    let no : true ≡ false = sym begun ∙ ap begins_number at_end in
-    cc
+use Rattle.js_grammar.proofs.SpellingClasses.{only_number}
+use Rattle.js_grammar.proofs.Values.{unnamed_value}
+use Rattle.js_grammar.specs.Outcome.{place_behind}
+use Rattle.js_grammar.proofs.Starts.{number_begins_no_named, named_false}
+use Rattle.js_grammar.specs.Name.{begins_name}
 
 -- the number that a text begins with is its longest spelling
 pub longest_of_number : (t : SourceType) (line_has_ended : Bool) (here xs ys : List ℕ) (kind : Kind)
@@ -71,7 +44,7 @@ longest_of_number t line_has_ended here xs ys kind b = record {
         let begun : begins_number here ≡ true = ap begins_number b.here ∙ number_begins xs ys kind b.number in
         let other = only_number t line_has_ended here us vs j begun e s in
         let same =
-        one_number here xs ys kind us vs j b (record { here = e; number = other.0; follows = other.1 }) in
+        one_number here xs ys kind us vs j b (record { here = e; number = other.number; follows = other.follows }) in
         omega (arith, ap length same.characters)
 
 -- a number without a fault
@@ -80,31 +53,34 @@ good_number : (t : SourceType) (line_has_ended : Bool) (place : ℕ) (here xs ys
     → ReadsHere t line_has_ended place here (number_reading line_has_ended (good_read xs kind ys))
 good_number t line_has_ended place here xs ys kind b =
     let kinds = number_kind xs kind b.number in
-    spelled xs (longest_of_number t line_has_ended here xs ys kind b) (rw (kinds.is_number, kinds.no_name) refl)
+    spelled xs (longest_of_number t line_has_ended here xs ys kind b)
+    (rw (kinds.is_number, kinds.no_name, unnamed_value kind xs place (place_behind place xs) kinds.no_name) refl)
 
-digit_is_no_mark : (c : ℕ) → is_digit_of 10 c ≡ true → ((c == 47) ≡ false) × ((c == 35) ≡ false)
+digit_is_no_slash : (c : ℕ) → is_digit_of 10 c ≡ true → (c == 47) ≡ false
 unfolding is_digit_of
-digit_is_no_mark c e = (grind (arith, nat_tests), grind (arith, nat_tests))
+digit_is_no_slash c e = grind (arith, nat_tests)
 
-begins_no_mark : (here : List ℕ) → begins_number here ≡ true
-    → (is_prefix (codes "/*") here ≡ false) × (is_prefix (codes "#!") here ≡ false)
-begins_no_mark [] begun = absurd (cc)
-begins_no_mark (c ∷ cs) begun =
+begins_no_comment : (here : List ℕ) → begins_number here ≡ true → is_prefix (codes "/*") here ≡ false
+begins_no_comment [] begun = absurd (cc)
+begins_no_comment (c ∷ cs) begun =
     elim (true_or_false (c == full_stop)) [
-      | inl is ↦
-          subst (λ d. (is_prefix (codes "/*") (d ∷ cs) ≡ false) × (is_prefix (codes "#!") (d ∷ cs) ≡ false))
-          (sym (eqb-true c full_stop is)) (refl, refl)
-      | inr other ↦ (
-          let none = digit_is_no_mark c (rw other at begun) in
-          (rw none.0 refl, rw none.1 refl))
+      | inl is ↦ subst (λ d. is_prefix (codes "/*") (d ∷ cs) ≡ false) (sym (eqb-true c full_stop is)) refl
+      | inr other ↦ rw (digit_is_no_slash c (rw other at begun)) refl
     ]
+
+-- where a number begins, no name and no private name does
+no_named : (here : List ℕ) → begins_number here ≡ true
+    → (begins_name here ≡ false) × (begins (λ c. c == number_sign) here ≡ false)
+no_named here begun =
+    let none = number_begins_no_named here begun in
+    named_false here none
 
 -- a number at fault
 pub number_is_recovered : (line_has_ended : Bool) (place : ℕ) (here : List ℕ) → begins_number here ≡ true
     → recovered line_has_ended place here ≡ Some (number_reading line_has_ended (number_read place here))
 number_is_recovered line_has_ended place here begun =
-    let none = begins_no_mark here begun in
-    rw (none.0, none.1, begun) refl
+    let none = no_named here begun in
+    rw (begins_no_comment here begun, none.0, none.1, begun) refl
 
 -- where a number has a fault, nothing is spelled
 faulty_spells_nothing : (t : SourceType) (line_has_ended : Bool) (place : ℕ) (here : List ℕ)
@@ -113,7 +89,7 @@ faulty_spells_nothing : (t : SourceType) (line_has_ended : Bool) (place : ℕ) (
 faulty_spells_nothing t line_has_ended place here begun faults us vs kind e s =
     let is = only_number t line_has_ended here us vs kind begun e s in
     faults (ap (λ xs. (number_read place xs).diagnostics) e
-    ∙ ap (λ r. r.diagnostics) (number_is_read place us vs kind is.0 is.1))
+    ∙ ap (λ r. r.diagnostics) (number_is_read place us vs kind is.number is.follows))
 
 -- What is read of a number is what is read where it begins.
 pub number_reads_here : (t : SourceType) (line_has_ended : Bool) (place : ℕ) (here : List ℕ)

@@ -26,18 +26,19 @@ use Rattle.js_grammar.proofs.NumberSteps.{number_zero, number_decimal, read_well
 use Rattle.js_grammar.proofs.NumberWhole.{plain_text}
 use Rattle.js_kind.specs.Digits.{is_digit_of}
 use Rattle.js_kind.specs.Kinds.{is_identifier_name}
+use Rattle.js_grammar.specs.Spelling.{is_named, is_private_name}
 use Rattle.js_kind.specs.declared.kind.Kind.{Kind}
 use Rattle.js_kind.specs.declared.kind.Kind.TheVariants.{Eof, Decimal, DecimalBigInt, Float, Octal}
 
 -- The text is the characters of the items and what is left behind them, and their kind is none of names.
 record IsCut (text : List ℕ) (number : Items) : Type 0 where
   pub here : text ≡ items_text number.items ++ number.rest
-  pub no_name : is_identifier_name number.kind ≡ false
+  pub no_name : is_named number.kind ≡ false
 
 -- the kinds that are no name
-unnamed : (is_identifier_name Decimal ≡ false) × (is_identifier_name DecimalBigInt ≡ false)
-    × (is_identifier_name Float ≡ false) × (is_identifier_name Octal ≡ false) × (is_identifier_name Eof ≡ false)
-unfolding is_identifier_name
+unnamed : (is_named Decimal ≡ false) × (is_named DecimalBigInt ≡ false)
+    × (is_named Float ≡ false) × (is_named Octal ≡ false) × (is_named Eof ≡ false)
+unfolding is_identifier_name is_private_name
 unnamed = (refl, refl, refl, refl, refl)
 
 exponent_cut : (mark : ℕ) (text : List ℕ) → IsCut (mark ∷ text) (exponent_items mark (sign_of text) text)
@@ -55,7 +56,7 @@ exponent_cut mark text =
     same : (xs ys zs : List ℕ) → xs ++ (ys ++ zs) ≡ (xs ++ (ys ++ [])) ++ zs
     same xs ys zs = rw append-nil (sym (append_assoc xs ys zs))
 
-exponent_or_cut : (without : Kind) (text : List ℕ) → is_identifier_name without ≡ false
+exponent_or_cut : (without : Kind) (text : List ℕ) → is_named without ≡ false
     → IsCut text (exponent_or without text)
 exponent_or_cut without [] e = rw (exponent_missing without [] refl) (record { here = refl; no_name = e })
 exponent_or_cut without (c ∷ cs) e =
@@ -97,7 +98,7 @@ behind_digits_cut text =
       | inr none ↦ rw (behind_digits_other text none) (exponent_or_cut Decimal text unnamed.0)
     ]
 
-suffix_cut : (big : Kind) (without : Items) (text : List ℕ) → is_identifier_name big ≡ false → IsCut text without
+suffix_cut : (big : Kind) (without : Items) (text : List ℕ) → is_named big ≡ false → IsCut text without
     → IsCut text (suffix_or big without text)
 suffix_cut big without text e cut =
     elim (true_or_false (begins (λ c. c == latin_small_letter_n) text)) [
@@ -209,7 +210,7 @@ some_characters (c ∷ cs) begun follows cut none =
 -- What is read of a number is the rest of the source, or some characters; and it is of no kind of names.
 pub record ReadsCharacters (here : List ℕ) (read : NumberRead) : Type 0 where
   pub leaves : ((read.kind ≡ Eof) × (read.rest ≡ [])) ⊎ ((xs : List ℕ) × (xs ≢ []) × (here ≡ xs ++ read.rest))
-  pub no_name : is_identifier_name read.kind ≡ false
+  pub no_name : is_named read.kind ≡ false
 
 pub number_characters : (place : ℕ) (here : List ℕ) → begins_number here ≡ true
     → ReadsCharacters here (number_read place here)
@@ -222,7 +223,7 @@ number_characters place here begun =
           rw (read_well place number well)
           (elim (number_reaches here) [
             | inl broken ↦
-                (record { leaves = inl broken; no_name = ap is_identifier_name broken.0 ∙ unnamed.4 })
+                (record { leaves = inl broken; no_name = ap is_named broken.0 ∙ unnamed.4 })
             | inr cut ↦ (record {
               leaves = inr (items_text number.items, some_characters here begun well cut, cut.here);
               no_name = cut.no_name;

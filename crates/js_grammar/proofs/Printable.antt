@@ -13,6 +13,7 @@ use Rattle.js_kind.specs.Digits.{is_digit_of}
 use Rattle.js_grammar.specs.Built.{is_unbuilt_byte}
 use Rattle.js_grammar.specs.Punctuators.{Punctuator, punctuators, IsIn, is_spelled, NoPunctuator}
 use Rattle.js_grammar.proofs.PunctuatorLemmas.{passes_at, spelled_at}
+use Rattle.js_grammar.proofs.Starts.{begins_named}
 use Rattle.js_grammar.proofs.Tests.{and_true}
 
 not_both : (b : Bool) → not b ≡ true → b ≡ true → ⊥
@@ -57,7 +58,7 @@ none_of P c (x ∷ xs) all e =
 -- what a printable character of ASCII is
 abbrev pub is_known : ℕ → Bool
 is_known c =
-    is_identifier_start c ||
+    begins_named c ||
     (is_white_space c ||
     (is_digit_of 10 c ||
     (is_unbuilt_byte c || (list_any (λ x. x == c) lone_characters || ((c == 46) || ((c == 47) || (c == 60)))))))

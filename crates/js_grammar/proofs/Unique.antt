@@ -1,11 +1,12 @@
 -- What the grammar reads is one.
 use Rattle.std.proofs.Common.{◌≡◌, ℕ, Bool, true, false, ◌==◌, List, [], ◌∷◌, ◌++◌, length}
-use Rattle.std.proofs.Common.{refl, sym, ◌∙◌, ap, subst, arith, Option, Some, None}
+use Rattle.std.proofs.Common.{drop, refl, sym, ◌∙◌, ap, subst, arith, inl, inr, Option, Some, None}
 use Rattle.std.specs.Prelude.{if◌then◌else◌}
 use Rattle.std.specs.List.{list_all}
 use Rattle.std.specs.Str.{IsCharBoundary, IsUtf8, bytes_eq}
 use Rattle.std.proofs.lemmas.Bool.{eqb-true}
-use Rattle.js_text.specs.Characters.{from_place}
+use Rattle.js_text.specs.Ascii.{number_sign}
+use Rattle.js_text.specs.Characters.{from_place, begins}
 use Rattle.js_text.specs.declared.source_type.SourceType.{SourceType}
 use Rattle.js_text.proofs.TextLemmas.{place_unique}
 use Rattle.js_kind.specs.Kinds.{number}
@@ -17,20 +18,24 @@ use Rattle.js_grammar.specs.Goals.{token_alone, line_has_ended_behind}
 use Rattle.js_grammar.specs.Goals.ReadsHere.{spelled as spelled_here, recovers}
 use Rattle.js_grammar.specs.Goals.GoalReads.{hashbang as hashbang_read, behind_gap}
 use Rattle.js_grammar.specs.Hashbang.{IsHashbang}
-use Rattle.js_grammar.specs.Number.{IsNumber}
+use Rattle.js_grammar.specs.Name.{begins_name}
+use Rattle.js_grammar.specs.Number.{IsNumber, begins_number}
 use Rattle.js_grammar.specs.Outcome.{Outcome}
 use Rattle.js_grammar.specs.declared.goal.Goal.{Goal}
 use Rattle.js_grammar.specs.Punctuators.{Punctuator, punctuators, IsIn}
 use Rattle.js_grammar.specs.Reads.{IsSpelled, PlainReads, SameReading}
 use Rattle.js_grammar.specs.Reads.PlainReads.{hashbang, spelled}
 use Rattle.js_grammar.specs.Recovery.{Reading}
-use Rattle.js_grammar.specs.Spelling.{Spelling, IsName, LongestSpelling}
-use Rattle.js_grammar.specs.Spelling.Spelling.{name, punctuator, number as number_spelled, end_of_source}
+use Rattle.js_grammar.specs.Spelling.{Spelling, LongestSpelling}
+use Rattle.js_grammar.specs.Spelling.Spelling.{name, private_name, punctuator, number as number_spelled, end_of_source}
 use Rattle.js_grammar.proofs.GapLemmas.{longest_gap_unique, whole_gap_unique}
 use Rattle.js_grammar.proofs.NumberBegins.{number_begins}
 use Rattle.js_grammar.proofs.NumberLaws.{one_kind}
-use Rattle.js_grammar.proofs.NumberReadings.{only_number}
-use Rattle.js_grammar.proofs.PunctuatorLemmas.{name_begins_no_punctuator, some_text, passes_at}
+use Rattle.js_grammar.proofs.NumberItems.{true_or_false}
+use Rattle.js_grammar.proofs.NumberSound.{first_is}
+use Rattle.js_grammar.proofs.SpellingClasses.{only_name, only_private_name, only_number}
+use Rattle.js_grammar.proofs.Starts.{begins_named, name_begins, name_is_named, private_is_named, none_named}
+use Rattle.js_grammar.proofs.PunctuatorLemmas.{some_text, passes_at}
 
 -- fronts of one length are equal
 fronts : {A : Type 0} (xs ys us vs : List A) → xs ++ ys ≡ us ++ vs → length xs ≡ length us → (xs ≡ us) × (ys ≡ vs)
@@ -67,38 +72,62 @@ firsts = refl
 first_at : (p : Punctuator) → IsIn p punctuators → kind_of punctuators p.text ≡ Some p.kind
 first_at p i = found_is (kind_of punctuators p.text) p.kind (passes_at is_first p punctuators i firsts)
 
--- a number is spelled as no name, no punctuator and no end of the source
-no_other_number : (t : SourceType) (line_has_ended : Bool) (xs ys : List ℕ) (j k : Kind) → IsNumber xs j
-    → Spelling t line_has_ended xs ys k → IsNumber xs k
-no_other_number t line_has_ended xs ys j k is s =
-    (only_number t line_has_ended (xs ++ ys) xs ys k (number_begins xs ys j is) refl s).0
-
--- a text has one kind
-kind_unique : (t : SourceType) (line_has_ended : Bool) (xs ys : List ℕ) (j k : Kind)
-    → Spelling t line_has_ended xs ys j → Spelling t line_has_ended xs ys k → j ≡ k
-kind_unique t line_has_ended xs ys j k (number_spelled is follows) s =
-    one_kind xs j k is (no_other_number t line_has_ended xs ys j k is s)
-kind_unique t line_has_ended xs ys j k s (number_spelled is follows) =
-    one_kind xs j k (no_other_number t line_has_ended xs ys k j is s) is
-kind_unique t line_has_ended xs ys j k (name is end kind) (name is' end' kind') = kind ∙ sym kind'
-kind_unique t line_has_ended xs ys j k (name is end kind) (punctuator p i same allowed kind') =
-    absurd (name_begins_no_punctuator xs p is i same)
-kind_unique t line_has_ended xs ys j k (name is end kind) (end_of_source none end' kind') =
-    absurd (subst IsName none is)
-kind_unique t line_has_ended xs ys j k (punctuator p i same allowed kind) (name is end kind') =
-    absurd (name_begins_no_punctuator xs p is i same)
-kind_unique t line_has_ended xs ys j k (punctuator p i same allowed kind) (punctuator q i' same' allowed' kind') =
+-- the kind of what is spelled without a name or a number
+kind_of_other : (t : SourceType) (line_has_ended : Bool) (xs ys : List ℕ) (j k : Kind)
+    → Spelling t line_has_ended xs ys j → Spelling t line_has_ended xs ys k
+    → begins begins_named (xs ++ ys) ≡ false → begins_number (xs ++ ys) ≡ false → j ≡ k
+kind_of_other t line_has_ended xs ys j k (name is follows kind) s no_named no_number =
+    let no : true ≡ false = sym (name_is_named (xs ++ ys) (name_begins xs ys is)) ∙ no_named in cc
+kind_of_other t line_has_ended xs ys j k (private_name named is follows same kind) s no_named no_number =
+    let no : true ≡ false =
+    sym (private_is_named (named ++ ys)) ∙ ap (λ zs. begins begins_named (zs ++ ys)) (sym same) ∙ no_named in cc
+kind_of_other t line_has_ended xs ys j k (number_spelled is follows) s no_named no_number =
+    let no : true ≡ false = sym (number_begins xs ys j is) ∙ no_number in cc
+kind_of_other t line_has_ended xs ys j k s (name is follows kind) no_named no_number =
+    let no : true ≡ false = sym (name_is_named (xs ++ ys) (name_begins xs ys is)) ∙ no_named in cc
+kind_of_other t line_has_ended xs ys j k s (private_name named is follows same kind) no_named no_number =
+    let no : true ≡ false =
+    sym (private_is_named (named ++ ys)) ∙ ap (λ zs. begins begins_named (zs ++ ys)) (sym same) ∙ no_named in cc
+kind_of_other t line_has_ended xs ys j k s (number_spelled is follows) no_named no_number =
+    let no : true ≡ false = sym (number_begins xs ys k is) ∙ no_number in cc
+kind_of_other t line_has_ended xs ys j k (punctuator p i same allowed kind)
+    (punctuator q i' same' allowed' kind') no_named no_number =
     let texts : p.text ≡ q.text = sym same ∙ same' in
     let kinds : Some p.kind ≡ Some q.kind =
     sym (first_at p i) ∙ ap (kind_of punctuators) texts ∙ first_at q i' in
     cc
-kind_unique t line_has_ended xs ys j k (punctuator p i same allowed kind) (end_of_source none end kind') =
-    absurd (some_text p i (sym same ∙ none))
-kind_unique t line_has_ended xs ys j k (end_of_source none end kind) (name is end' kind') =
-    absurd (subst IsName none is)
-kind_unique t line_has_ended xs ys j k (end_of_source none end kind) (punctuator p i same allowed kind') =
-    absurd (some_text p i (sym same ∙ none))
-kind_unique t line_has_ended xs ys j k (end_of_source none end kind) (end_of_source none' end' kind') = kind ∙ sym kind'
+kind_of_other t line_has_ended xs ys j k (punctuator p i same allowed kind) (end_of_source none end kind')
+    no_named no_number = absurd (some_text p i (sym same ∙ none))
+kind_of_other t line_has_ended xs ys j k (end_of_source none end kind) (punctuator p i same allowed kind')
+    no_named no_number = absurd (some_text p i (sym same ∙ none))
+kind_of_other t line_has_ended xs ys j k (end_of_source none end kind) (end_of_source none' end' kind')
+    no_named no_number = kind ∙ sym kind'
+
+-- a text has one kind
+kind_unique : (t : SourceType) (line_has_ended : Bool) (xs ys : List ℕ) (j k : Kind)
+    → Spelling t line_has_ended xs ys j → Spelling t line_has_ended xs ys k → j ≡ k
+kind_unique t line_has_ended xs ys j k s r =
+    elim (true_or_false (begins_name (xs ++ ys))) [
+      | inl named ↦ (
+          let a = only_name t line_has_ended (xs ++ ys) xs ys j named refl s in
+          let b = only_name t line_has_ended (xs ++ ys) xs ys k named refl r in
+          a.kind_is ∙ sym b.kind_is)
+      | inr no_name ↦ elim (true_or_false (begins (λ c. c == number_sign) (xs ++ ys))) [
+        | inl private ↦ (
+            let here : number_sign ∷ drop 1 (xs ++ ys) ≡ xs ++ ys = sym (first_is number_sign (xs ++ ys) private) in
+            let a = only_private_name t line_has_ended (drop 1 (xs ++ ys)) xs ys j here s in
+            let b = only_private_name t line_has_ended (drop 1 (xs ++ ys)) xs ys k here r in
+            a.kind_is ∙ sym b.kind_is)
+        | inr no_private ↦ elim (true_or_false (begins_number (xs ++ ys))) [
+          | inl number ↦ (
+              let a = only_number t line_has_ended (xs ++ ys) xs ys j number refl s in
+              let b = only_number t line_has_ended (xs ++ ys) xs ys k number refl r in
+              one_kind xs j k a.number b.number)
+          | inr no_number ↦
+              kind_of_other t line_has_ended xs ys j k s r (none_named (xs ++ ys) no_name no_private) no_number
+        ]
+      ]
+    ]
 
 -- the longest spelling is one
 pub longest_unique : (t : SourceType) (line_has_ended : Bool) (text xs ys us vs : List ℕ) (j k : Kind)

@@ -11,3 +11,4 @@ pub mod Reads
 pub mod Recovery
 pub mod Spelling
 pub mod UnicodeEscape
+pub mod Values

@@ -1,15 +1,20 @@
 -- What is read where nothing is spelled, and what is reported of it.
-use Rattle.std.specs.Prelude.{ℕ, ◌+◌, Bool, false, List, [], ◌∷◌, ◌==◌, ◌||◌, nat_lt, nat_le, codes, Option, Some, None}
+use Rattle.std.specs.Prelude.{ℕ, ◌+◌, Bool, false, List, [], ◌∷◌, ◌==◌, ◌||◌, nat_lt, nat_le, drop, codes, Option, Some, None}
 use Rattle.std.specs.Prelude.{if◌then◌else◌}
 use Rattle.std.specs.List.{list_any}
-use Rattle.js_text.specs.Ascii.{exclamation_mark}
+use Rattle.std.specs.Str.{encode_utf8_all}
+use Rattle.js_text.specs.Ascii.{number_sign}
 use Rattle.js_text.specs.Characters.{is_line_terminator, begins}
 use Rattle.js_text.specs.declared.diagnostic.Diagnostic.{Diagnostic}
 use Rattle.js_text.specs.declared.diagnostic.Diagnostic.TheVariants.{InvalidCharacter, FileAppearsToBeBinary}
 use Rattle.js_text.specs.declared.diagnostic.Diagnostic.TheVariants.{UnterminatedMultiLineComment}
 use Rattle.js_text.specs.declared.value.RowValue.{RowValue}
-use Rattle.js_text.specs.declared.value.RowValue.TheVariants.{Nothing}
+use Rattle.js_text.specs.declared.value.RowValue.TheVariants.{Nothing, Units}
 use Rattle.js_grammar.specs.Gap.{is_prefix}
+use Rattle.js_text.specs.JsStr.{units_of}
+use Rattle.js_kind.specs.Keywords.{name_kind}
+use Rattle.js_grammar.specs.Name.{NameRead, name_read, PrivateRead, private_read, begins_name}
+use Rattle.js_grammar.specs.Spelling.{is_private_name}
 use Rattle.js_grammar.specs.Number.{begins_number}
 use Rattle.js_grammar.specs.NumberReads.{NumberRead, number_read}
 use Rattle.js_grammar.specs.Outcome.{place_behind}
@@ -50,6 +55,34 @@ number_reading line_has_ended read = record {
   diagnostics = read.diagnostics;
 }
 
+-- what is read of a name, from the place on: one with an escape at fault, where nothing is spelled
+abbrev pub name_reading : Bool → NameRead → Reading
+name_reading line_has_ended read = record {
+  kind = name_kind (encode_utf8_all read.decoded);
+  rest = read.rest;
+  is_on_new_line = line_has_ended;
+  escaped = read.has_escape;
+  has_separator = false;
+  value = Units (units_of read.decoded);
+  diagnostics = read.diagnostics;
+}
+
+-- the value of what was read behind a `#`: a name at fault has an escape
+abbrev pub private_value : PrivateRead → RowValue
+private_value read = if is_private_name read.kind then Units (units_of read.decoded) else Nothing
+
+-- what is read of a `#` and what follows it: a name with an escape at fault, or no name
+abbrev pub private_reading : Bool → PrivateRead → Reading
+private_reading line_has_ended read = record {
+  kind = read.kind;
+  rest = read.rest;
+  is_on_new_line = line_has_ended;
+  escaped = read.has_escape;
+  has_separator = false;
+  value = private_value read;
+  diagnostics = read.diagnostics;
+}
+
 -- `/*` that no `*/` ends: the rest of the source. The newline flag counts the line terminators inside it.
 abbrev pub unterminated_comment : Bool → ℕ → List ℕ → Reading
 unterminated_comment line_has_ended place here =
@@ -59,12 +92,6 @@ unterminated_comment line_has_ended place here =
 -- U+FFFD, which stands where the bytes of a file were no text: the rest of the source
 abbrev pub binary_file : Bool → Reading
 binary_file line_has_ended = faulty Eof [] line_has_ended FileAppearsToBeBinary
-
--- `#!` where no hashbang is read: a `#` begins no private name before `!`, which is reported; the rest of the source
-abbrev pub number_sign : Bool → ℕ → Reading
-number_sign line_has_ended place =
-    faulty Eof [] line_has_ended
-    (InvalidCharacter exclamation_mark (record { start = place + 1; end = place + 2 }))
 
 -- the control characters of ASCII, and all characters beyond it
 abbrev pub is_control_or_wide : ℕ → Bool
@@ -87,7 +114,9 @@ recovered_character line_has_ended place (c ∷ cs) =
 abbrev pub recovered : Bool → ℕ → List ℕ → Option Reading
 recovered line_has_ended place here =
     if is_prefix (codes "/*") here then Some (unterminated_comment line_has_ended place here)
-    else if is_prefix (codes "#!") here then Some (number_sign line_has_ended place)
+    else if begins_name here then Some (name_reading line_has_ended (name_read place here))
+    else if begins (λ c. c == number_sign) here
+    then Some (private_reading line_has_ended (private_read (place + 1) (drop 1 here)))
     else if begins_number here then Some (number_reading line_has_ended (number_read place here))
     else if begins (λ c. c == 0xFFFD) here then Some (binary_file line_has_ended)
     else recovered_character line_has_ended place here

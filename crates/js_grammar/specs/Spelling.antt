@@ -1,34 +1,28 @@
 -- The spellings of the plain goal (ECMA-262 12.7 to 12.9): what a token's text may be, and what may not follow it.
-use Rattle.std.specs.Prelude.{◌≡◌, ℕ, ◌≤◌, Bool, false, List, [], ◌∷◌, ◌++◌, length, not, ◌==◌, ◌&&◌, IsTrue}
+use Rattle.std.specs.Prelude.{◌≡◌, ℕ, ◌≤◌, Bool, false, List, [], ◌∷◌, ◌++◌, length, ◌==◌, ◌&&◌, ◌||◌, drop, ◌+◌}
 use Rattle.std.specs.Prelude.{if◌then◌else◌}
-use Rattle.std.specs.List.{AllByRecursion, list_any}
+use Rattle.std.specs.List.{list_any}
 use Rattle.std.specs.Str.{encode_utf8_all}
-use Rattle.js_text.specs.Ascii.{backslash, low_line}
-use Rattle.js_text.specs.Characters.{is_identifier_start, is_identifier_part, begins}
+use Rattle.js_text.specs.Ascii.{low_line, number_sign}
+use Rattle.js_text.specs.JsStr.{units_of}
 use Rattle.js_text.specs.declared.source_type.SourceType.{SourceType}
 use Rattle.js_text.specs.declared.value.RowValue.{RowValue}
-use Rattle.js_text.specs.declared.value.RowValue.TheVariants.{Nothing, Slice}
+use Rattle.js_text.specs.declared.value.RowValue.TheVariants.{Nothing, Slice, Units}
+use Rattle.js_grammar.specs.Name.{IsName, decoded, has_escape, continues_name}
 use Rattle.js_grammar.specs.Number.{IsNumber, excluded_after}
 use Rattle.js_grammar.specs.Punctuators.{Punctuator, punctuators, IsIn}
 use Rattle.js_kind.specs.Keywords.{name_kind}
-use Rattle.js_kind.specs.Kinds.{is_identifier_name, is_number_kind}
+use Rattle.js_kind.specs.Kinds.{is_one_of, is_identifier_name, is_number_kind}
 use Rattle.js_kind.specs.declared.kind.Kind.{Kind}
-use Rattle.js_kind.specs.declared.kind.Kind.TheVariants.{Eof}
-
--- the characters that end a name
-abbrev pub is_no_part : ℕ → Bool
-is_no_part c = not (is_identifier_part c)
-
--- A name without escapes (12.7).
-abbrev pub IsName : List ℕ → Type 0
-IsName [] = ⊥
-IsName (c ∷ cs) = IsTrue (is_identifier_start c) × AllByRecursion (λ d. IsTrue (is_identifier_part d)) cs
+use Rattle.js_kind.specs.declared.kind.Kind.TheVariants.{Eof, PrivateIdentifier}
 
 -- The characters xs are a spelling of this kind where ys follow them; the flag tells whether a line has ended before
 -- them.
 pub data Spelling (t : SourceType) (line_has_ended : Bool) (xs ys : List ℕ) (kind : Kind) : Type 0 where
-  name : IsName xs → begins is_identifier_part ys ≡ false → kind ≡ name_kind (encode_utf8_all xs)
+  name : IsName xs → continues_name ys ≡ false → kind ≡ name_kind (encode_utf8_all (decoded xs))
       → Spelling t line_has_ended xs ys kind
+  private_name : (named : List ℕ) → IsName named → continues_name ys ≡ false → xs ≡ number_sign ∷ named
+      → kind ≡ PrivateIdentifier → Spelling t line_has_ended xs ys kind
   punctuator : (p : Punctuator) → IsIn p punctuators → xs ≡ p.text → p.excluded t line_has_ended ys ≡ false
       → kind ≡ p.kind → Spelling t line_has_ended xs ys kind
   number : IsNumber xs kind → excluded_after kind ys ≡ false → Spelling t line_has_ended xs ys kind
@@ -46,14 +40,31 @@ abbrev pub NothingSpelled : SourceType → Bool → List ℕ → Type 0
 NothingSpelled t line_has_ended text =
     (us vs : List ℕ) (kind : Kind) → text ≡ us ++ vs → Spelling t line_has_ended us vs kind → ⊥
 
--- an escape stands in the characters of a spelling of this kind: a backslash begins each, in a name
+-- tokens of the kind are private names
+unfoldable pub is_private_name : Kind → Bool
+is_private_name kind = is_one_of (PrivateIdentifier ∷ []) kind
+
+-- tokens of the kind are names, private or not
+abbrev pub is_named : Kind → Bool
+is_named kind = is_identifier_name kind || is_private_name kind
+
+-- an escape stands in the characters of a spelling of this kind: in those of a name
 abbrev pub is_escaped : Kind → List ℕ → Bool
-is_escaped kind xs = is_identifier_name kind && list_any (λ c. c == backslash) xs
+is_escaped kind xs = is_named kind && has_escape xs
 
 -- a separator stands in the characters of a spelling of this kind: a `_` in a number
 abbrev pub has_separator : Kind → List ℕ → Bool
 has_separator kind xs = is_number_kind kind && list_any (λ c. c == low_line) xs
 
--- The value of a token of this kind, from start to end: its stretch of the source for an identifier name.
-abbrev pub value_of : Kind → ℕ → ℕ → RowValue
-value_of kind start end = if is_identifier_name kind then Slice (record { start = start; end = end }) else Nothing
+-- The value of a name from start to end, without a `#`, that stands for these characters: its stretch of the source, or
+-- where it has an escape, its characters as UTF-16 units.
+abbrev pub name_value : Bool → List ℕ → ℕ → ℕ → RowValue
+name_value escaped cs start end =
+    if escaped then Units (units_of cs) else Slice (record { start = start; end = end })
+
+-- The value of a token of this kind and these characters, from start to end: a name has one.
+abbrev pub value_of : Kind → List ℕ → ℕ → ℕ → RowValue
+value_of kind xs start end =
+    if is_identifier_name kind then name_value (has_escape xs) (decoded xs) start end
+    else if is_private_name kind then name_value (has_escape xs) (decoded (drop 1 xs)) (start + 1) end
+    else Nothing
