@@ -2,6 +2,7 @@ pub mod Clean
 pub mod Flags
 pub mod GapLemmas
 pub mod NameLemmas
+pub mod NameItems
 pub mod NameRows
 pub mod NumberBegins
 pub mod NumberClasses
