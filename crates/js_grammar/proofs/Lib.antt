@@ -1,6 +1,9 @@
 pub mod Clean
 pub mod Flags
 pub mod GapLemmas
+pub mod NameCuts
+pub mod NameItems
+pub mod NameLaws
 pub mod NameLemmas
 pub mod NameReadings
 pub mod NameRows

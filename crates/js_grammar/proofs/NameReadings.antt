@@ -22,7 +22,7 @@ use Rattle.js_grammar.specs.Name.{continues_name, decoded, has_escape}
 use Rattle.js_grammar.specs.Recovery.{Reading, name_reading, private_reading, recovered}
 use Rattle.js_grammar.specs.Spelling.{LongestSpelling, NothingSpelled, Spelling, is_escaped, is_private_name}
 use Rattle.js_grammar.specs.Spelling.Spelling.{name, private_name}
-use Rattle.js_grammar.proofs.NameLaws.{BeginsWithName, good_read, name_is_read, clean_is_name, one_name}
+use Rattle.js_grammar.proofs.NameLaws.{BeginsWithName, good_name, name_is_read, clean_is_name, one_name}
 use Rattle.js_grammar.proofs.NumberItems.{true_or_false}
 use Rattle.js_grammar.proofs.SpellingClasses.{only_name, only_private_name}
 use Rattle.js_grammar.proofs.Starts.{name_begins, private_begins_no_name}
@@ -59,7 +59,7 @@ longest_of_name t line_has_ended here xs ys b = record {
         let other = only_name t line_has_ended here us vs j begun e s in
         let same =
         one_name here xs ys us vs b (record { here = e; name = other.name; follows = other.follows }) in
-        omega (arith, ap length same.0)
+        omega (arith, ap length same.characters)
 
 name_flags : (cs : List ℕ)
     → (is_identifier_name (kind_of_name cs) ≡ true) × (is_number_kind (kind_of_name cs) ≡ false)
@@ -67,9 +67,9 @@ name_flags cs =
     let is = name_kind-is_identifier_name (encode_utf8_all cs) in
     (is, identifier_name-is_no_number (kind_of_name cs) is)
 
-good_name : (t : SourceType) (line_has_ended : Bool) (place : ℕ) (here xs ys : List ℕ) → BeginsWithName here xs ys
+reads_good_name : (t : SourceType) (line_has_ended : Bool) (place : ℕ) (here xs ys : List ℕ) → BeginsWithName here xs ys
     → ReadsAs t line_has_ended place here (kind_of_name (decoded xs)) ys (has_escape xs) []
-good_name t line_has_ended place here xs ys b =
+reads_good_name t line_has_ended place here xs ys b =
     let flags = name_flags (decoded xs) in
     record {
       reading = spelled_reading line_has_ended place xs ys (kind_of_name (decoded xs));
@@ -121,11 +121,11 @@ name_reads_here t line_has_ended place here begun = by_faults (name_read place h
         let found = clean_is_name place here begun e in
         let b = found.1 in
         let rest = (name_read place here).rest in
-        let same : name_read place here ≡ good_read found.0 rest =
+        let same : name_read place here ≡ good_name found.0 rest =
         ap (name_read place) b.here ∙ name_is_read place found.0 rest b.name b.follows in
         subst
         (λ (read : NameRead). ReadsAs t line_has_ended place here (kind_of_name read.decoded) read.rest read.has_escape
-        read.diagnostics) (sym same) (good_name t line_has_ended place here found.0 rest b)
+        read.diagnostics) (sym same) (reads_good_name t line_has_ended place here found.0 rest b)
     by_faults (d ∷ ds) e = record {
       reading = name_reading line_has_ended (name_read place here);
       reads =
@@ -170,7 +170,7 @@ longest_of_private_name t line_has_ended cs xs ys b = record {
         let both : number_sign ∷ cs ≡ number_sign ∷ (other.named ++ vs) = e ∙ ap (λ zs. zs ++ vs) other.same in cc in
         let same =
         one_name cs xs ys other.named vs b (record { here = behind; name = other.name; follows = other.follows }) in
-        omega (arith, ap length other.same, ap length same.0)
+        omega (arith, ap length other.same, ap length same.characters)
 
 good_private_name : (t : SourceType) (line_has_ended : Bool) (place : ℕ) (cs xs ys : List ℕ) → BeginsWithName cs xs ys
     → ReadsAs t line_has_ended place (number_sign ∷ cs) PrivateIdentifier ys (has_escape xs) []
@@ -243,7 +243,7 @@ private_reads_here t line_has_ended place cs =
         let found = clean_is_name (place + 1) cs begun e in
         let b = found.1 in
         let rest = (name_read (place + 1) cs).rest in
-        let same : private_read (place + 1) cs ≡ named (good_read found.0 rest) =
+        let same : private_read (place + 1) cs ≡ named (good_name found.0 rest) =
         rw begun
         (ap named (ap (name_read (place + 1)) b.here
         ∙ name_is_read (place + 1) found.0 rest b.name b.follows)) in

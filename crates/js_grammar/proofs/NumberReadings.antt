@@ -24,7 +24,7 @@ use Rattle.js_grammar.proofs.NumberItems.{true_or_false}
 use Rattle.js_grammar.proofs.NumberKinds.{number_kind}
 use Rattle.js_grammar.proofs.NumberLaws.{BeginsWithNumber, good_read, number_is_read, clean_is_number, one_number}
 use Rattle.js_grammar.proofs.SpellingClasses.{only_number}
-use Rattle.js_grammar.proofs.Values.{unnamed_value}
+use Rattle.js_grammar.proofs.Flags.{unnamed_value}
 use Rattle.js_grammar.specs.Outcome.{place_behind}
 use Rattle.js_grammar.proofs.Starts.{number_begins_no_named, named_false}
 use Rattle.js_grammar.specs.Name.{begins_name}

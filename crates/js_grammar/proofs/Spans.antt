@@ -1,14 +1,14 @@
 -- The spans of what is read: in order, and not empty but for the end of the source.
-use Rattle.std.proofs.Common.{◌≡◌, ◌≢◌, ℕ, ◌<◌, ◌≤◌, Bool, true, false, List, [], ◌∷◌, ◌++◌, ◌==◌}
+use Rattle.std.proofs.Common.{◌≡◌, ◌≢◌, ℕ, ◌+◌, ◌<◌, ◌≤◌, Bool, true, false, List, [], ◌∷◌, ◌++◌, ◌==◌}
 use Rattle.std.proofs.Common.{length, drop, refl, sym, ◌∙◌, ap, subst, arith, zero, suc, append-nil, append_assoc, ◌⊎◌}
 use Rattle.std.proofs.Common.{inl, inr, Option, None}
 use Rattle.std.specs.Prelude.{codes, if◌then◌else◌, IfSome}
 use Rattle.std.proofs.lemmas.Str.{length-le-encodes, IsCharBoundary-start}
 use Rattle.std.specs.Str.{IsCharBoundary, IsUtf8}
+use Rattle.js_text.specs.Ascii.{number_sign}
 use Rattle.js_text.specs.Characters.{from_place, from_first, before_first, is_line_terminator, begins}
 use Rattle.js_text.specs.declared.source_type.SourceType.{SourceType}
 use Rattle.js_text.proofs.TextLemmas.{place_past, before_from}
-use Rattle.js_kind.specs.Kinds.{is_identifier_name}
 use Rattle.js_kind.specs.TokenParts.{TokenParts}
 use Rattle.js_kind.specs.declared.kind.Kind.{Kind}
 use Rattle.js_kind.specs.declared.kind.Kind.TheVariants.{Eof}
@@ -19,12 +19,16 @@ use Rattle.js_grammar.specs.Goals.GoalReads.{hashbang as hashbang_read, behind_g
 use Rattle.js_grammar.specs.Hashbang.{begins_hashbang, IsHashbang}
 use Rattle.js_grammar.specs.Number.{begins_number}
 use Rattle.js_grammar.specs.Outcome.{Outcome}
-use Rattle.js_grammar.specs.Recovery.{Reading, recovered, recovered_character, is_control_or_wide}
-use Rattle.js_grammar.specs.Spelling.{Spelling, IsName, value_of}
+use Rattle.js_grammar.specs.Name.{begins_name, private_read, no_private_name}
+use Rattle.js_grammar.specs.Recovery.{Reading, recovered, recovered_character, is_control_or_wide, private_reading}
+use Rattle.js_grammar.specs.Spelling.{Spelling}
 use Rattle.js_grammar.specs.declared.goal.Goal.{Goal}
 use Rattle.js_grammar.specs.declared.goal.Goal.TheVariants.{First, Next}
-use Rattle.js_grammar.specs.Spelling.Spelling.{name, punctuator, number, end_of_source}
+use Rattle.js_grammar.specs.Spelling.Spelling.{name, private_name, punctuator, number, end_of_source}
+use Rattle.js_grammar.proofs.NameLaws.{name_characters}
 use Rattle.js_grammar.proofs.NumberBegins.{number_begins}
+use Rattle.js_grammar.proofs.NumberItems.{true_or_false}
+use Rattle.js_grammar.proofs.NumberSound.{first_is}
 use Rattle.js_grammar.proofs.NumberSpans.{number_characters}
 use Rattle.js_grammar.proofs.PieceLemmas.{from_first-hashbang}
 use Rattle.js_grammar.proofs.PunctuatorLemmas.{some_text}
@@ -38,7 +42,9 @@ pub record IsSpan (token : TokenParts) : Type 0 where
 -- where a spelling is no end of the source, it has a character
 spelling_has_text : (t : SourceType) (line_has_ended : Bool) (xs ys : List ℕ) (k : Kind)
     → Spelling t line_has_ended xs ys k → k ≢ Eof → xs ≢ []
-spelling_has_text t line_has_ended xs ys k (name is end kind) some e = subst IsName e is
+spelling_has_text t line_has_ended xs ys k (name is follows kind) some e = is.some e
+spelling_has_text t line_has_ended xs ys k (private_name named is follows same kind) some e =
+    let no : number_sign ∷ named ≡ [] = sym same ∙ e in cc
 spelling_has_text t line_has_ended xs ys k (punctuator p i same allowed kind) some e = some_text p i (sym same ∙ e)
 spelling_has_text t line_has_ended xs ys k (number is follows) some e =
     let begun : begins_number [] ≡ true = subst (λ us. begins_number us ≡ true) (append-nil xs ∙ e)
@@ -73,15 +79,39 @@ each_recovery : (P : Reading → Type 0) (b : Bool) (x y : Option Reading) → (
 each_recovery P true x y h k = h refl
 each_recovery P false x y h k = k
 
+-- and of a `#` and what follows it: the rest of the source, or the `#` and perhaps a name
+unnamed_leaves : (line_has_ended : Bool) (place : ℕ) (here cs : List ℕ) → here ≡ number_sign ∷ cs
+    → LeavesBehind here (private_reading line_has_ended (no_private_name place cs))
+unnamed_leaves line_has_ended place here [] e = inr (number_sign ∷ [], (λ none. cc), e)
+unnamed_leaves line_has_ended place here (c ∷ cs) e = inl (refl, refl)
+
+private_leaves : (line_has_ended : Bool) (place : ℕ) (here cs : List ℕ) → here ≡ number_sign ∷ cs
+    → LeavesBehind here (private_reading line_has_ended (private_read (place + 1) cs))
+private_leaves line_has_ended place here cs e =
+    elim (true_or_false (begins_name cs)) [
+      | inl begun ↦ (
+          let found = name_characters (place + 1) cs begun in
+          rw begun
+          (inr (number_sign ∷ found.0, (λ none. cc), e ∙ ap (λ t. number_sign ∷ t) found.2)))
+      | inr none ↦ rw none (unnamed_leaves line_has_ended (place + 1) here cs e)
+    ]
+
 recovered_leaves : (line_has_ended : Bool) (place : ℕ) (here : List ℕ)
     → IfSome (recovered line_has_ended place here) (LeavesBehind here)
 recovered_leaves line_has_ended place here =
     each_recovery (LeavesBehind here) (is_prefix (codes "/*") here) _ _ (λ _. inl (refl, refl))
-    (each_recovery (LeavesBehind here) (is_prefix (codes "#!") here) _ _ (λ _. inl (refl, refl))
+    (each_recovery (LeavesBehind here) (begins_name here) _ _
+    (λ begun. inr (name_characters place here begun))
+    (each_recovery (LeavesBehind here) (begins (λ c. c == number_sign) here) _ _
+    (λ begun. private here (drop 1 here) (first_is number_sign here begun))
     (each_recovery (LeavesBehind here) (begins_number here) _ _
     (λ begun. (number_characters place here begun).leaves)
-    (each_recovery (LeavesBehind here) (begins (λ c. c == 0xFFFD) here) _ _ (λ _. inl (refl, refl)) (character here))))
+    (each_recovery (LeavesBehind here) (begins (λ c. c == 0xFFFD) here) _ _ (λ _. inl (refl, refl)) (character here)))))
   where
+    private : (here cs : List ℕ) → here ≡ number_sign ∷ cs
+        → LeavesBehind here (private_reading line_has_ended (private_read (place + 1) cs))
+    private here cs e = private_leaves line_has_ended place here cs e
+
     character : (here : List ℕ) → IfSome (recovered_character line_has_ended place here) (LeavesBehind here)
     character [] = tt
     character (c ∷ cs) =
@@ -151,46 +181,3 @@ pub goal_reads_places : (text : List ℕ) (t : SourceType) (goal : Goal) (before
 goal_reads_places text t goal before place o u (hashbang_read begins read) =
     (subst (IsCharBoundary text) (sym read.is_hashbang.start) (IsCharBoundary-start text u), read.is_hashbang.end)
 goal_reads_places text t goal before place o u (behind_gap begins read) = (read.start, read.end)
-
--- the value of what is read to recover is that of its kind: none
-recovered_value : (a b : ℕ) (line_has_ended : Bool) (place : ℕ) (here : List ℕ)
-    → IfSome (recovered line_has_ended place here) (λ r. r.value ≡ value_of r.kind a b)
-unfolding is_identifier_name
-recovered_value a b line_has_ended place here =
-    each_recovery (λ r. r.value ≡ value_of r.kind a b) (is_prefix (codes "/*") here) _ _ (λ _. refl)
-    (each_recovery (λ r. r.value ≡ value_of r.kind a b) (is_prefix (codes "#!") here) _ _ (λ _. refl)
-    (each_recovery (λ r. r.value ≡ value_of r.kind a b) (begins_number here) _ _
-    (λ begun. rw (number_characters place here begun).no_name refl)
-    (each_recovery (λ r. r.value ≡ value_of r.kind a b) (begins (λ c. c == 0xFFFD) here) _ _ (λ _. refl)
-    (character here))))
-  where
-    character : (here : List ℕ)
-        → IfSome (recovered_character line_has_ended place here) (λ r. r.value ≡ value_of r.kind a b)
-    character [] = tt
-    character (c ∷ cs) =
-        each_recovery (λ r. r.value ≡ value_of r.kind a b) (is_control_or_wide c) _ None (λ _. refl) tt
-
-here_value : (text : List ℕ) (t : SourceType) (line_has_ended : Bool) (start end : ℕ) (r : Reading) → IsUtf8 text
-    → IsCharBoundary text start → IsCharBoundary text end
-    → r.rest ≡ from_place text end → ReadsHere t line_has_ended start (from_place text start) r
-    → r.value ≡ value_of r.kind start end
-here_value text t line_has_ended start end r u b d rest (spelled_here xs spelling is) =
-    ap (λ x. x.value) is
-    ∙ ap (value_of r.kind start)
-    (sym (place_past text start end xs u b d (spelling.here ∙ ap (λ ys. xs ++ ys) rest)))
-here_value text t line_has_ended start end r u b d rest (recovers nothing e) =
-    subst (λ found. IfSome found (λ x. x.value ≡ value_of x.kind start end)) e
-    (recovered_value start end line_has_ended start (from_place text start))
-
--- The value of a reading is that of its token's kind and span.
-pub goal_reads_value : (text : List ℕ) (t : SourceType) (goal : Goal) (before : Option TokenParts) (place : ℕ)
-    (o : Outcome) → IsUtf8 text
-    → GoalReads text t goal before place o → o.value ≡ value_of o.token.kind o.token.start o.token.end
-unfolding is_identifier_name
-goal_reads_value text t goal before place o u (hashbang_read begins read) =
-    ap (λ x. x.value) read.alone ∙ ap (λ k. value_of k o.token.start o.token.end) (sym read.is_hashbang.kind)
-goal_reads_value text t goal before place o u (behind_gap begins read) =
-    ap (λ x. x.value) read.outcome_is
-    ∙ here_value text t read.line_has_ended o.token.start o.token.end read.reading u read.start read.end read.rest
-    read.here
-    ∙ ap (λ x. value_of x.token.kind o.token.start o.token.end) (sym read.outcome_is)

@@ -163,6 +163,18 @@ private_is_named cs = number_sign_is_named.0
 pub private_begins_no_name : (cs : List ℕ) → begins_name (number_sign ∷ cs) ≡ false
 private_begins_no_name cs = number_sign_is_named.1
 
+-- where a name begins, no `#` does
+pub named_apart : (text : List ℕ) → begins_name text ≡ true → begins (λ c. c == number_sign) text ≡ false
+named_apart [] e = absurd (cc)
+named_apart (c ∷ cs) e =
+    elim (true_or_false (c == number_sign)) [
+      | inl is ↦ (
+          let no : true ≡ false =
+          sym e ∙ ap (λ d. begins_name (d ∷ [])) (eqb-true c number_sign is) ∙ number_sign_is_named.1 in
+          absurd (cc))
+      | inr other ↦ other
+    ]
+
 -- the characters of a name begin one, whatever follows
 pub name_begins : (xs ys : List ℕ) → IsName xs → begins_name (xs ++ ys) ≡ true
 name_begins [] ys is = absurd (is.some refl)

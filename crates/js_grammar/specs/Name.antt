@@ -112,6 +112,14 @@ items_at zero allowed (c ∷ cs) =
 abbrev pub name_items : (ℕ → Bool) → List ℕ → List NameItem
 name_items allowed text = items_at 0 allowed text
 
+-- The text begins with these items, each of them what stands where the one before it ends; they are all, and then rest
+-- is left. The first one may be of the characters that are allowed.
+abbrev pub CutsInto : (ℕ → Bool) → List ℕ → List NameItem → List ℕ → Type 0
+CutsInto allowed text [] rest = (name_item allowed text ≡ None) × (rest ≡ text)
+CutsInto allowed text (item ∷ items) rest =
+    (name_item allowed text ≡ Some item)
+    × CutsInto is_identifier_part (drop (length item.text) text) items rest
+
 -- the characters of items
 abbrev pub items_text : List NameItem → List ℕ
 items_text [] = []
