@@ -29,7 +29,7 @@ use Rattle.js_grammar.proofs.PunctuatorLeaves.{none_reported}
 use Rattle.js_grammar.proofs.NameReadings.{faulty_name_reports, faulty_private_reports}
 use Rattle.js_grammar.proofs.NumberSound.{first_is}
 use Rattle.js_grammar.proofs.SpellingClasses.{nothing_spelled}
-use Rattle.js_grammar.proofs.Starts.{begins_named}
+use Rattle.js_grammar.specs.Spelling.{begins_named}
 use Rattle.js_grammar.proofs.Tests.{and_true, prefix_is}
 
 -- `<` begins no name and no number

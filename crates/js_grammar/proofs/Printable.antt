@@ -13,7 +13,7 @@ use Rattle.js_kind.specs.Digits.{is_digit_of}
 use Rattle.js_grammar.specs.Built.{is_unbuilt_byte}
 use Rattle.js_grammar.specs.Punctuators.{Punctuator, punctuators, IsIn, is_spelled, NoPunctuator}
 use Rattle.js_grammar.proofs.PunctuatorLemmas.{passes_at, spelled_at}
-use Rattle.js_grammar.proofs.Starts.{begins_named}
+use Rattle.js_grammar.specs.Spelling.{begins_named}
 use Rattle.js_grammar.proofs.Tests.{and_true}
 
 not_both : (b : Bool) → not b ≡ true → b ≡ true → ⊥

@@ -16,7 +16,8 @@ use Rattle.js_grammar.specs.Spelling.{Spelling, LongestSpelling, NothingSpelled}
 use Rattle.js_grammar.specs.Spelling.Spelling.{name, private_name, punctuator, number, end_of_source}
 use Rattle.js_grammar.proofs.NumberBegins.{number_begins}
 use Rattle.js_grammar.proofs.PunctuatorLemmas.{longest_at, stands_there}
-use Rattle.js_grammar.proofs.Starts.{begins_named, name_is_named, private_is_named, private_begins_no_name, name_begins}
+use Rattle.js_grammar.specs.Spelling.{begins_named}
+use Rattle.js_grammar.proofs.Starts.{name_is_named, private_is_named, private_begins_no_name, name_begins}
 use Rattle.js_grammar.proofs.Starts.{named_begins_no_number, named_begins_no_punctuator, number_begins_no_punctuator}
 
 -- a name is spelled

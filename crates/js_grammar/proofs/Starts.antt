@@ -13,14 +13,11 @@ use Rattle.js_kind.proofs.Digits.{digits_of_ten}
 use Rattle.js_grammar.specs.Name.{IsName, begins_name}
 use Rattle.js_grammar.specs.Number.{begins_number}
 use Rattle.js_grammar.specs.Punctuators.{Punctuator, punctuators, NoPunctuator}
+use Rattle.js_grammar.specs.Spelling.{begins_named}
 use Rattle.js_grammar.proofs.NumberClasses.{all_below, below, digit_more, digit_is_ascii}
 use Rattle.js_grammar.proofs.NumberItems.{true_or_false}
 use Rattle.js_grammar.proofs.PunctuatorLeaves.{none, none_dot}
 use Rattle.js_grammar.proofs.Tests.{and_true}
-
--- a name or a private name begins with the character
-abbrev pub begins_named : ℕ → Bool
-begins_named c = is_identifier_start c || ((c == backslash) || (c == number_sign))
 
 not_true : (b : Bool) → not b ≡ true → b ≡ false
 not_true true e = absurd (cc)

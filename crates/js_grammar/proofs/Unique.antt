@@ -34,7 +34,8 @@ use Rattle.js_grammar.proofs.NumberLaws.{one_kind}
 use Rattle.js_grammar.proofs.NumberItems.{true_or_false}
 use Rattle.js_grammar.proofs.NumberSound.{first_is}
 use Rattle.js_grammar.proofs.SpellingClasses.{only_name, only_private_name, only_number}
-use Rattle.js_grammar.proofs.Starts.{begins_named, name_begins, name_is_named, private_is_named, none_named}
+use Rattle.js_grammar.specs.Spelling.{begins_named}
+use Rattle.js_grammar.proofs.Starts.{name_begins, name_is_named, private_is_named, none_named}
 use Rattle.js_grammar.proofs.PunctuatorLemmas.{some_text, passes_at}
 
 -- fronts of one length are equal

@@ -1,8 +1,11 @@
 -- The values of what is read: as the kind and the span of its token say, or as its name stands for.
-use Rattle.std.proofs.Common.{◌≡◌, ◌≢◌, ℕ, ◌+◌, Bool, true, false, ◌||◌, ◌==◌, List, [], ◌∷◌, ◌++◌, drop, refl, sym, ◌∙◌}
+use Rattle.std.proofs.Common.{◌≡◌, ◌≢◌, ℕ, ◌+◌, Bool, true, false, not, ◌||◌, ◌==◌, List, [], ◌∷◌, ◌++◌, drop, refl, sym, ◌∙◌}
 use Rattle.std.proofs.Common.{ap, subst, inl, inr, Option, None}
 use Rattle.std.specs.Prelude.{codes, if◌then◌else◌, IfSome}
+use Rattle.std.specs.List.{list_all}
 use Rattle.std.specs.Str.{IsCharBoundary, IsUtf8, encode_utf8_all}
+use Rattle.std.proofs.lemmas.Bool.{not-true}
+use Rattle.js_kind.proofs.Members.{one_passes}
 use Rattle.js_text.specs.Ascii.{number_sign}
 use Rattle.js_text.specs.Characters.{begins, from_place}
 use Rattle.js_text.specs.JsStr.{units_of}
@@ -10,10 +13,12 @@ use Rattle.js_text.specs.declared.source_type.SourceType.{SourceType}
 use Rattle.js_text.specs.declared.value.RowValue.{RowValue}
 use Rattle.js_text.specs.declared.value.RowValue.TheVariants.{Nothing, Slice, Units}
 use Rattle.js_text.proofs.TextLemmas.{place_past}
-use Rattle.js_kind.specs.Kinds.{is_identifier_name}
+use Rattle.js_kind.specs.Keywords.{name_kind}
+use Rattle.js_kind.specs.Kinds.{is_identifier_name, keywords}
 use Rattle.js_kind.specs.TokenParts.{TokenParts}
 use Rattle.js_kind.specs.declared.kind.Kind.{Kind}
-use Rattle.js_kind.specs.declared.kind.Kind.TheVariants.{Eof, HashbangComment, PrivateIdentifier, Undetermined}
+use Rattle.js_kind.specs.declared.kind.Kind.TheVariants.{Eof, HashbangComment, Ident, PrivateIdentifier}
+use Rattle.js_kind.specs.declared.kind.Kind.TheVariants.{Undetermined}
 use Rattle.js_kind.proofs.NameKinds.{name_kind-is_identifier_name}
 use Rattle.js_grammar.specs.Gap.{is_prefix}
 use Rattle.js_grammar.specs.Goals.{ReadsHere, GoalReads}
@@ -31,7 +36,7 @@ use Rattle.js_grammar.specs.Spelling.{value_of}
 use Rattle.js_grammar.specs.Spelling.Spelling.{name, private_name, punctuator, number, end_of_source}
 use Rattle.js_grammar.specs.Values.{plain_value, decoded_units, IsValueOf}
 use Rattle.js_grammar.specs.declared.goal.Goal.{Goal}
-use Rattle.js_grammar.proofs.Flags.{unnamed_value, unnamed_plain_value, punctuator_unflagged, end_unflagged}
+use Rattle.js_grammar.proofs.Flags.{neither_name, unnamed_value, unnamed_plain_value, punctuator_unflagged, end_unflagged}
 use Rattle.js_grammar.proofs.NameReadings.{faulty_name_reports, faulty_private_reports}
 use Rattle.js_grammar.proofs.NameLaws.{name_is_read, name_has_fault_only_escaped}
 use Rattle.js_grammar.proofs.NumberItems.{true_or_false}
@@ -253,3 +258,87 @@ goal_reads_value text t goal before place o u (behind_gap begun read) =
           ∙ ap (λ k. plain_value k o.token.start o.token.end) (sym kind);
       decoded = λ e. is ∙ value.1 (sym escaped ∙ e);
     }
+
+-- no kind of identifier names is that of private names
+abbrev is_no_private : Kind → Bool
+is_no_private kind = not (is_private_name kind)
+
+names_are_not_private : list_all is_no_private (Ident ∷ keywords) ≡ true
+unfolding is_private_name
+names_are_not_private = refl
+
+identifier_is_not_private : (kind : Kind) → is_identifier_name kind ≡ true → is_private_name kind ≡ false
+unfolding is_identifier_name
+identifier_is_not_private kind is =
+    not-true (is_private_name kind) (one_passes is_no_private (Ident ∷ keywords) kind names_are_not_private is)
+
+-- a token of a kind that is none of private names begins with whatever it does
+no_private : (kind : Kind) (here : List ℕ) → is_private_name kind ≡ false → is_private_name kind ≡ true
+    → begins (λ c. c == number_sign) here ≡ true
+no_private kind here none is = let no : true ≡ false = sym is ∙ none in absurd (cc)
+
+no_named_private : (kind : Kind) (here : List ℕ) → is_named kind ≡ false → is_private_name kind ≡ true
+    → begins (λ c. c == number_sign) here ≡ true
+no_named_private kind here none is = no_private kind here (neither_name kind none).1 is
+
+name_of_name : (cs here : List ℕ) → is_private_name (name_kind (encode_utf8_all cs)) ≡ true
+    → begins (λ c. c == number_sign) here ≡ true
+name_of_name cs here is =
+    no_private (name_kind (encode_utf8_all cs)) here
+    (identifier_is_not_private (name_kind (encode_utf8_all cs)) (name_kind-is_identifier_name (encode_utf8_all cs))) is
+
+spelled_private : (t : SourceType) (line_has_ended : Bool) (xs ys : List ℕ) (kind : Kind)
+    → Spelling t line_has_ended xs ys kind → is_private_name kind ≡ true
+    → begins (λ c. c == number_sign) (xs ++ ys) ≡ true
+spelled_private t line_has_ended xs ys kind (name is follows kind_is) private =
+    name_of_name (decoded xs) (xs ++ ys) (ap is_private_name (sym kind_is) ∙ private)
+spelled_private t line_has_ended xs ys kind (private_name named is follows same kind_is) private =
+    ap (λ zs. begins (λ c. c == number_sign) (zs ++ ys)) same
+spelled_private t line_has_ended xs ys kind (punctuator p i same allowed kind_is) private =
+    no_named_private kind (xs ++ ys) (punctuator_unflagged p kind i kind_is).no_name private
+spelled_private t line_has_ended xs ys kind (number is follows) private =
+    no_named_private kind (xs ++ ys) (number_kind xs kind is).no_name private
+spelled_private t line_has_ended xs ys kind (end_of_source none at_end kind_is) private =
+    no_named_private kind (xs ++ ys) (ap is_named kind_is ∙ end_unflagged.no_name) private
+
+abbrev BeginsPrivate : List ℕ → Reading → Type 0
+BeginsPrivate here r = is_private_name r.kind ≡ true → begins (λ c. c == number_sign) here ≡ true
+
+recovered_private_name : (line_has_ended : Bool) (place : ℕ) (here : List ℕ)
+    → IfSome (recovered line_has_ended place here) (BeginsPrivate here)
+recovered_private_name line_has_ended place here =
+    each_recovery (BeginsPrivate here) (is_prefix (codes "/*") here) _ _
+    (λ _. no_named_private Eof here faulty_kinds.0)
+    (each_recovery (BeginsPrivate here) (begins_name here) _ _
+    (λ _. name_of_name (name_read place here).decoded here)
+    (each_recovery (BeginsPrivate here) (begins (λ c. c == number_sign) here) _ _ (λ begun _. begun)
+    (each_recovery (BeginsPrivate here) (begins_number here) _ _
+    (λ begun. no_named_private (number_read place here).kind here (number_characters place here begun).no_name)
+    (each_recovery (BeginsPrivate here) (begins (λ c. c == 0xFFFD) here) _ _
+    (λ _. no_named_private Eof here faulty_kinds.0) (character here)))))
+  where
+    character : (xs : List ℕ) → IfSome (recovered_character line_has_ended place xs) (BeginsPrivate here)
+    character [] = tt
+    character (c ∷ cs) =
+        each_recovery (BeginsPrivate here) (is_control_or_wide c) _ None
+        (λ _. no_named_private Undetermined here faulty_kinds.1) tt
+
+-- A private name begins with a `#`.
+pub private_name_begins : (text : List ℕ) (t : SourceType) (goal : Goal) (before : Option TokenParts) (place : ℕ)
+    (o : Outcome)
+    → GoalReads text t goal before place o → is_private_name o.token.kind ≡ true
+    → begins (λ c. c == number_sign) (from_place text o.token.start) ≡ true
+private_name_begins text t goal before place o (hashbang begun read) private =
+    no_named_private o.token.kind (from_place text o.token.start)
+    (ap is_named read.is_hashbang.kind ∙ faulty_kinds.2) private
+private_name_begins text t goal before place o (behind_gap begun read) private =
+    here read.reading read.here (ap is_private_name (ap (λ x. x.token.kind) (sym read.outcome_is)) ∙ private)
+  where
+    here : (r : Reading) → ReadsHere t read.line_has_ended o.token.start (from_place text o.token.start) r
+        → BeginsPrivate (from_place text o.token.start) r
+    here r (spelled xs spelling is) private =
+        ap (begins (λ c. c == number_sign)) spelling.here
+        ∙ spelled_private t read.line_has_ended xs r.rest r.kind spelling.spelling private
+    here r (recovers nothing e) private =
+        subst (λ found. IfSome found (BeginsPrivate (from_place text o.token.start))) e
+        (recovered_private_name read.line_has_ended o.token.start (from_place text o.token.start)) private

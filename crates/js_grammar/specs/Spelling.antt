@@ -3,7 +3,8 @@ use Rattle.std.specs.Prelude.{◌≡◌, ℕ, ◌≤◌, Bool, false, List, [], 
 use Rattle.std.specs.Prelude.{if◌then◌else◌}
 use Rattle.std.specs.List.{list_any}
 use Rattle.std.specs.Str.{encode_utf8_all}
-use Rattle.js_text.specs.Ascii.{low_line, number_sign}
+use Rattle.js_text.specs.Ascii.{backslash, low_line, number_sign}
+use Rattle.js_text.specs.Characters.{is_identifier_start}
 use Rattle.js_text.specs.JsStr.{units_of}
 use Rattle.js_text.specs.declared.source_type.SourceType.{SourceType}
 use Rattle.js_text.specs.declared.value.RowValue.{RowValue}
@@ -12,7 +13,7 @@ use Rattle.js_grammar.specs.Name.{IsName, decoded, has_escape, continues_name}
 use Rattle.js_grammar.specs.Number.{IsNumber, excluded_after}
 use Rattle.js_grammar.specs.Punctuators.{Punctuator, punctuators, IsIn}
 use Rattle.js_kind.specs.Keywords.{name_kind}
-use Rattle.js_kind.specs.Kinds.{is_one_of, is_identifier_name, is_number_kind}
+use Rattle.js_kind.specs.Kinds.{number as kind_number, is_identifier_name, is_number_kind}
 use Rattle.js_kind.specs.declared.kind.Kind.{Kind}
 use Rattle.js_kind.specs.declared.kind.Kind.TheVariants.{Eof, PrivateIdentifier}
 
@@ -40,9 +41,13 @@ abbrev pub NothingSpelled : SourceType → Bool → List ℕ → Type 0
 NothingSpelled t line_has_ended text =
     (us vs : List ℕ) (kind : Kind) → text ≡ us ++ vs → Spelling t line_has_ended us vs kind → ⊥
 
+-- a name or a private name begins with the character
+abbrev pub begins_named : ℕ → Bool
+begins_named c = is_identifier_start c || ((c == backslash) || (c == number_sign))
+
 -- tokens of the kind are private names
 unfoldable pub is_private_name : Kind → Bool
-is_private_name kind = is_one_of (PrivateIdentifier ∷ []) kind
+is_private_name kind = kind_number kind == kind_number PrivateIdentifier
 
 -- tokens of the kind are names, private or not
 abbrev pub is_named : Kind → Bool

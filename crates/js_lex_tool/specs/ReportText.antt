@@ -11,9 +11,9 @@ use Rattle.js_session.specs.declared.command.Command.{Command}
 use Rattle.js_session.specs.declared.report.Report.{Report}
 use Rattle.js_session.specs.declared.row.Row.{Row}
 use Rattle.js_text.specs.declared.value.RowValue.{RowValue}
-use Rattle.js_text.specs.declared.value.RowValue.TheVariants.{Nothing, Slice}
+use Rattle.js_text.specs.declared.value.RowValue.TheVariants.{Nothing, Slice, Units}
 use Rattle.js_lex_tool.specs.Command.{command_word}
-use Rattle.js_lex_tool.specs.Units.{text_in_units, number_text}
+use Rattle.js_lex_tool.specs.Units.{text_in_units, all_units_text, number_text}
 
 -- the letter of a flag that holds
 abbrev pub letter : Bool → ℕ → List ℕ
@@ -55,6 +55,7 @@ row_head i row =
 abbrev pub value_text : List ℕ → RowValue → List ℕ
 value_text source Nothing = []
 value_text source (Slice span) = codes " =" ++ text_in_units (slice_range source span.start span.end)
+value_text source (Units units) = codes " =" ++ all_units_text units
 
 -- a row with its number
 abbrev pub row_line : List ℕ → ℕ → Row → List ℕ

@@ -17,11 +17,15 @@ is_plain u = nat_le 32 u && nat_le u 126 && not (u == 92)
 abbrev pub unit_text : ℕ → List ℕ
 unit_text u = cond (is_plain u) (u ∷ []) (codes "\\u" ++ four_digits false u)
 
+-- the units of a text
+abbrev pub all_units_text : List ℕ → List ℕ
+all_units_text units = flat_map unit_text units
+
 -- the one or two units of a character
 abbrev pub units_text : ℕ → List ℕ
-units_text c = flat_map unit_text (encode_utf16 c)
+units_text c = all_units_text (encode_utf16 c)
 
--- the units of a text
+-- the units of a text, from its bytes
 abbrev pub text_in_units : List ℕ → List ℕ
 text_in_units text = flat_map units_text (chars text)
 

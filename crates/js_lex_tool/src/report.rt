@@ -8,7 +8,7 @@ ghost use Rattle.js_lex_tool.specs.ReportText.{row_line, row_lines, token_line, 
 ghost use Rattle.js_lex_tool.specs.ReportText.{diagnostic_text, diagnostic_line, report_text_of};
 
 use crate::command::command_word;
-use crate::units::{push_number, push_text_in_units};
+use crate::units::{push_number, push_text_in_units, push_units};
 use js_kind::Token;
 use js_session::{Command, Report, Row, RowValue};
 use js_text::{Diagnostic, Span};
@@ -80,6 +80,10 @@ fn push_value(text: &mut String, source: &str, value: &RowValue) -> Result<(), A
         RowValue::Slice(span) => {
             text.push_str(" =")?;
             push_text_in_units(text, &source[span.start as usize..span.end as usize])
+        }
+        RowValue::Units(units) => {
+            text.push_str(" =")?;
+            push_units(text, units.units())
         }
     }
 }

@@ -1,8 +1,8 @@
 //! Characters and UTF-16 units, as a report prints them.
 
 ghost use Rattle.std.specs.Prelude.{◌≡◌, ◌<◌, ◌++◌, true, false, OnOk, codes, string_bytes};
-ghost use Rattle.std.specs.List.{flat_map};
 ghost use Rattle.js_lex_tool.specs.Units.{is_plain, four_digits, unit_text, units_text, text_in_units, number_text};
+ghost use Rattle.js_lex_tool.specs.Units.{all_units_text};
 
 use std::alloc::AllocError;
 use std::fmt::Write;
@@ -31,8 +31,9 @@ fn push_unit(text: &mut String, unit: u16) -> Result<(), AllocError>
     }
 }
 
-fn push_units(text: &mut String, units: &[u16]) -> Result<(), AllocError>
-    ensures { OnOk result (string_bytes text.new ≡ string_bytes text.old ++ flat_map unit_text units.now) }
+/// Appends units.
+pub fn push_units(text: &mut String, units: &[u16]) -> Result<(), AllocError>
+    ensures { OnOk result (string_bytes text.new ≡ string_bytes text.old ++ all_units_text units.now) }
 {
     for unit in units {
         push_unit(text, *unit)?;

@@ -15,7 +15,9 @@ use Rattle.js_source.specs.Source.{At, rest, IsPlaced, HasFirstByte, HasFirstTwo
 use Rattle.js_source.proofs.Places.{first_byte_at, none_at_end, first_two_bytes, placed_ascii, reads_ascii}
 use Rattle.js_grammar.specs.Built.{is_unbuilt_byte, IsBuilt}
 use Rattle.js_grammar.specs.Gap.{is_prefix, is_reported, whole_gap_piece}
+use Rattle.js_grammar.specs.Name.{begins_name}
 use Rattle.js_grammar.specs.Number.{begins_number}
+use Rattle.js_grammar.specs.Spelling.{begins_named}
 use Rattle.js_grammar.specs.Punctuators.{NoPunctuator, before_no_digit, slash as slash_alone, left_angle}
 use Rattle.js_grammar.specs.Recovery.{Reading, recovered, is_control_or_wide}
 use Rattle.js_grammar.proofs.GapLemmas.{none_behind}
@@ -42,43 +44,12 @@ byte_here s c cs h e low =
         absurd
         (let none = none_at_end s (ltb-false s.place (length s.text) t) in let no : c ∷ cs ≡ [] = sym e ∙ none in cc)
 
--- what is not unbuilt at a place
-unbuilt_cases : (a b : Bool) → (a && not b) ≡ false → (a ≡ false) ⊎ (b ≡ true)
-unbuilt_cases true true e = inr refl
-unbuilt_cases true false e = absurd (cc)
-unbuilt_cases false b e = inl refl
-
--- the marks of a hashbang, as bytes and as characters
-hashbang_bytes : (bytes : List ℕ) → is_prefix (codes "#!") bytes ≡ true
-    → (1 < length bytes) × (get_or bytes 0 0 ≡ 35) × (get_or bytes 1 0 ≡ 33)
-hashbang_bytes bytes e =
-    let text = prefix_is (codes "#!") bytes e in
-    (omega (arith, ap length text), ap (λ bs. get_or bs 0 0) text, ap (λ bs. get_or bs 1 0) text)
-
-hashbang_characters : (cs : List ℕ) (a b : ℕ) → a ≡ 35 → b ≡ 33 → HasFirstTwoBytes a b cs
-    → is_prefix (codes "#!") cs ≡ true
-hashbang_characters [] a b e f h = absurd h
-hashbang_characters (c ∷ []) a b e f h = absurd (h.1 (omega (arith, e)))
-hashbang_characters (c ∷ d ∷ ds) a b e f h =
-    let first : c ≡ 35 = h.0.0 (omega (arith, e)) ∙ e in
-    let second : d ≡ 33 = (h.1 (omega (arith, e))).0 (omega (arith, f)) ∙ f in
-    rw (first, second) refl
-
--- The character at a place of a built text: it is built, or a hashbang stands there.
+-- The character at a place of a built text is built.
 pub built_here : (s : At) (c : ℕ) (cs : List ℕ) → IsPlaced s → IsBuilt s.text → rest s ≡ c ∷ cs → c < 128
-    → (is_unbuilt_byte c ≡ false) ⊎ (is_prefix (codes "#!") (rest s) ≡ true)
+    → is_unbuilt_byte c ≡ false
 built_here s c cs h built e low =
     let here = byte_here s c cs h e low in
-    elim (unbuilt_cases (is_unbuilt_byte (get_or s.text s.place 0)) _ (built s.place here.0)) [
-      | inl known ↦ inl (ap is_unbuilt_byte here.1 ∙ known)
-      | inr start ↦ let both = and_true (s.place == 0) (is_prefix (codes "#!") s.text) start in
-          let at : s.place ≡ 0 = eqb-true s.place 0 both.0 in
-          let bytes = hashbang_bytes s.text both.1 in
-          let two = first_two_bytes s h (omega (arith, at, bytes.0)) in
-          let one : s.place + 1 ≡ 1 = omega (arith, at) in
-          inr (hashbang_characters (rest s) _ _ (ap (λ p. get_or s.text p 0) at ∙ bytes.1)
-          (ap (λ p. get_or s.text p 0) one ∙ bytes.2) two)
-    ]
+    ap is_unbuilt_byte here.1 ∙ built s.place here.0
 
 digit_of_ten : (cs : List ℕ) → begins is_ascii_digit cs ≡ begins (is_digit_of 10) cs
 digit_of_ten [] = refl
@@ -99,27 +70,23 @@ either_false false b e = (refl, e)
 -- No printable character of ASCII stands where nothing is spelled.
 no_printable : (t : SourceType) (line_has_ended : Bool) (s : At) (c : ℕ) (cs : List ℕ) → IsPlaced s → IsBuilt s.text
     → rest s ≡ c ∷ cs → whole_gap_piece t line_has_ended (c ∷ cs) ≡ None
-    → is_identifier_start c ≡ false → begins_number (c ∷ cs) ≡ false → NoPunctuator t line_has_ended (c ∷ cs)
-    → is_prefix (codes "/*") (c ∷ cs) ≡ false
-    → is_prefix (codes "#!") (c ∷ cs) ≡ false → is_control_or_wide c ≡ false → ⊥
-no_printable t line_has_ended s c cs h built e gap no_name no_number none no_comment no_mark printable =
+    → begins_named c ≡ false → begins_number (c ∷ cs) ≡ false → NoPunctuator t line_has_ended (c ∷ cs)
+    → is_prefix (codes "/*") (c ∷ cs) ≡ false → is_control_or_wide c ≡ false → ⊥
+no_printable t line_has_ended s c cs h built e gap no_name no_number none no_comment printable =
     let ends = either_false (nat_lt c 32) (nat_le 127 c) printable in
     let low : 32 ≤ c = ltb-false c 32 ends.0 in
     let high : c < 127 = leb-false 127 c ends.1 in
     let behind = none_behind t line_has_ended (c ∷ cs) gap in
     let known = known_at is_known 32 95 c printable_known low high in
-    elim (or_cases (is_identifier_start c) _ known) [
+    elim (or_cases (begins_named c) _ known) [
       | inl start ↦ let no : true ≡ false = sym start ∙ no_name in cc
       | inr k1 ↦ elim (or_cases (is_white_space c) _ k1) [
         | inl white ↦ let no = sym behind.1 ∙ piece-white t line_has_ended c cs white in cc
         | inr k0 ↦ elim (or_cases (is_digit_of 10 c) _ k0) [
         | inl digit ↦ let begun = digit_begins_number (c ∷ cs) digit in cc
         | inr k2 ↦ elim (or_cases (is_unbuilt_byte c) _ k2) [
-          | inl unbuilt ↦ elim (built_here s c cs h built e (omega (arith, high))) [
-            | inl known ↦ let no : true ≡ false = sym unbuilt ∙ known in cc
-            | inr mark ↦ let no : true ≡ false =
-                sym (subst (λ xs. is_prefix (codes "#!") xs ≡ true) e mark) ∙ no_mark in cc
-          ]
+          | inl unbuilt ↦
+              let no : true ≡ false = sym unbuilt ∙ built_here s c cs h built e (omega (arith, high)) in cc
           | inr k3 ↦ elim (or_cases (list_any (λ x. x == c) lone_characters) _ k3) [
             | inl lone ↦ none_of (λ x. NoPunctuator t line_has_ended (x ∷ cs) → ⊥) c lone_characters
                 (lone_begin t line_has_ended cs) lone none
@@ -161,10 +128,10 @@ recovers_some t line_has_ended s h built gap n = at (rest s) refl gap n
     at [] e gap n = absurd (n.some refl)
     at (c ∷ cs) e gap n =
         some_of (is_prefix (codes "/*") (c ∷ cs)) _ _ (λ no_comment.
-        some_of (is_prefix (codes "#!") (c ∷ cs)) _ _ (λ no_mark.
+        some_of (begins_name (c ∷ cs)) _ _ (λ no_name.
+        some_of (c == number_sign) _ _ (λ no_mark.
         some_of (begins_number (c ∷ cs)) _ _ (λ no_number.
         some_of (c == 0xFFFD) _ _ (λ no_binary.
         some_of (is_control_or_wide c) _ None (λ printable.
         absurd
-        (no_printable t line_has_ended s c cs h built e gap n.no_name no_number n.no_punctuator no_comment no_mark
-        printable))))))
+        (no_printable t line_has_ended s c cs h built e gap n.no_named no_number n.no_punctuator no_comment printable)))))))

@@ -1,5 +1,6 @@
 pub mod BuiltSteps
 pub mod CommentSteps
+pub mod DecodedSteps
 pub mod FamilyFacts
 pub mod FastSteps
 pub mod GapSteps

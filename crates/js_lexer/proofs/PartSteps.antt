@@ -76,27 +76,17 @@ module _ (f : ℕ → Bool) where
       by_test true t = entry xs b e n (ltb-true b 256 t) ∙ high (f b) b le
       by_test false t = get_or-eq_default xs false (omega (arith, ltb-false b 256 t))
 
-abbrev pub is_part : ℕ → Bool
-is_part b = is_ascii_alphanumeric b || ((b == 36) || (b == 95))
-
 abbrev pub is_start : ℕ → Bool
-is_start b = is_ascii_alphabetic b || ((b == 36) || (b == 95))
+is_start b = (is_ascii_alphabetic b || ((b == 36) || (b == 95))) || (b == 92)
 
 abbrev pub is_blank : ℕ → Bool
 is_blank b = (b == 9) || (b == 32)
-
-pub tells_parts : (xs : List Bool) → tells is_part 0 xs ≡ true → length xs ≡ 256 → TellsParts xs
-tells_parts xs e n =
-    record {
-      ascii = ascii_alone is_part xs e n;
-      tells = λ b lt. entry_low is_part xs e n b lt ∙ sym (part_in_ascii b lt);
-    }
 
 pub tells_starts : (xs : List Bool) → tells is_start 0 xs ≡ true → length xs ≡ 256 → TellsStarts xs
 tells_starts xs e n =
     record {
       ascii = ascii_alone is_start xs e n;
-      tells = λ b lt. entry_low is_start xs e n b lt ∙ sym (start_in_ascii b lt);
+      tells = λ b lt. entry_low is_start xs e n b lt ∙ ap (λ x. x || (b == 92)) (sym (start_in_ascii b lt));
     }
 
 white : (b : ℕ) → is_blank b ≡ true → is_white_space b ≡ true
@@ -106,14 +96,6 @@ white b e = rw e refl
 pub tells_blanks : (xs : List Bool) → tells is_blank 0 xs ≡ true → length xs ≡ 256 → TellsBlanks xs
 tells_blanks xs e n =
     record { ascii = ascii_alone is_blank xs e n; tells = λ b lt m. white b (sym (entry_low is_blank xs e n b lt) ∙ m) }
-
-pub parts_passed : (table : List Bool) (old new : At) → TellsParts table → new.text ≡ old.text
-    → PassesRun table old.text old.place new.place → from_first is_no_part (rest new) ≡ from_first is_no_part (rest old)
-parts_passed table old new tells text run =
-    ap (λ u. from_first is_no_part (from_place u new.place)) text
-    ∙ sym
-    (ap (from_first is_no_part) run.here
-    ∙ from_first-run is_no_part table (λ b small m. rw (sym (tells.tells b small) ∙ m) refl) run.run _ run.all)
 
 pub run_fewer : (table : List Bool) (old new : At) → new.text ≡ old.text → PassesRun table old.text old.place new.place
     → length (rest new) ≤ length (rest old)
@@ -144,15 +126,3 @@ blanks_passed table old new tells text run t line_had_ended line_has_ended left 
     let here : rest old ≡ run.run ++ rest new = run.here ∙ ap (λ u. run.run ++ from_place u new.place) (sym text) in
     subst (λ (xs : List ℕ). LongestGap t line_had_ended xs line_has_ended left) (sym here)
     (blanks_before table tells t line_had_ended run.run (rest new) line_has_ended left run.all g)
-
-pub starts_with : (p : ℕ → Bool) (c : ℕ) (xs : List ℕ) → BeginsWith c xs → p c ≡ true → begins_text p xs ≡ true
-starts_with p c [] h e = absurd h
-starts_with p c (d ∷ ds) h e = ap p h ∙ e
-
-pub none_begins : (p : ℕ → Bool) (c : ℕ) (xs : List ℕ) → begins_text p xs ≡ false → BeginsWith c xs → p c ≡ false
-none_begins p c [] e h = absurd h
-none_begins p c (d ∷ ds) e h = ap p (sym h) ∙ e
-
-pub part_ends : (c : ℕ) (xs : List ℕ) → BeginsWith c xs → is_identifier_part c ≡ false → from_first is_no_part xs ≡ xs
-part_ends c [] b e = absurd b
-part_ends c (d ∷ ds) b e = let here : is_identifier_part d ≡ false = ap is_identifier_part b ∙ e in rw here refl

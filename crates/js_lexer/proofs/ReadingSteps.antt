@@ -23,10 +23,10 @@ use Rattle.js_grammar.specs.Recovery.{faulty, number_reading}
 use Rattle.js_grammar.specs.Spelling.{NothingSpelled, is_escaped, has_separator}
 use Rattle.js_grammar.specs.declared.goal.Goal.{Goal}
 use Rattle.js_grammar.specs.declared.goal.Goal.TheVariants.{First}
-use Rattle.js_grammar.proofs.Flags.{spelling_flags}
+use Rattle.js_grammar.proofs.Flags.{IsUnflagged}
 use Rattle.js_grammar.proofs.PieceLemmas.{from_first-hashbang}
 use Rattle.js_grammar.proofs.NumberReadings.{number_reads_here}
-use Rattle.js_grammar.proofs.PunctuatorLemmas.{nothing_spelled}
+use Rattle.js_grammar.proofs.SpellingClasses.{nothing_spelled}
 use Rattle.js_spell.specs.Numeric.{ReadsNumber}
 use Rattle.js_grammar.proofs.Spans.{here_span}
 use Rattle.js_grammar.proofs.Tests.{prefix_of}
@@ -42,37 +42,25 @@ abbrev pub plain_lexeme : Kind → Bool → Lexeme
 plain_lexeme kind line_has_ended =
     record { kind = kind; is_on_new_line = line_has_ended; escaped = false; has_separator = false }
 
-unflagged : (k : Kind) (line_has_ended e s : Bool) → e ≡ false → s ≡ false
-    → plain_lexeme k line_has_ended
-    ≡ record { kind = k; is_on_new_line = line_has_ended; escaped = e; has_separator = s }
-unflagged k line_has_ended e s f g = rw (f, g) refl
-
--- a spelling was read where no number begins
-pub lexeme_spelled : (old new : Reader) (k : Kind) (l : Lexeme) → StaysWithin old new
-    → begins_number (rest old.source) ≡ false
+-- a spelling without a flag and a value was read
+pub lexeme_spelled : (old new : Reader) (k : Kind) (l : Lexeme) → StaysWithin old new → IsUnflagged k
     → Spells old.source_type old.line_has_ended old.source new.source k
     → l ≡ plain_lexeme k new.line_has_ended → ReadsLexeme old l new
-lexeme_spelled old new k l within no_number s is =
-    let flags =
-    spelling_flags old.source_type old.line_has_ended s.spelled (rest new.source) k
-    (ap begins_number (sym s.spelling.here) ∙ no_number) s.spelling.spelling in
-    record {
-      text = s.text;
-      source_type = within.source_type;
-      reading = spelled_reading old.line_has_ended old.source.place s.spelled (rest new.source) k;
-      here = spelled s.spelled s.spelling refl;
-      behind = refl;
-      lexeme_is =
-          is ∙ ap (plain_lexeme k) within.line_has_ended
-          ∙ unflagged k old.line_has_ended (is_escaped k s.spelled) (has_separator k s.spelled) flags.0 flags.1;
-      errors = within.errors ∙ sym (append-nil old.errors);
-    }
+lexeme_spelled old new k l within plain s is = record {
+  text = s.text;
+  source_type = within.source_type;
+  reading = spelled_reading old.line_has_ended old.source.place s.spelled (rest new.source) k;
+  here = spelled s.spelled s.spelling refl;
+  behind = refl;
+  lexeme_is =
+      is ∙ ap (plain_lexeme k) within.line_has_ended ∙ rw (plain.no_name, plain.no_number) refl;
+  errors = within.errors ∙ sym (append-nil old.errors);
+}
 
 -- where no name, no number and no punctuator begins, nothing is spelled
 pub nothing_here : (t : SourceType) (line_has_ended : Bool) (here : List ℕ) → NothingHere t line_has_ended here
     → NothingSpelled t line_has_ended here
-nothing_here t line_has_ended [] n = absurd (n.some refl)
-nothing_here t line_has_ended (c ∷ cs) n = nothing_spelled t line_has_ended c cs n.no_name n.no_number n.no_punctuator
+nothing_here t line_has_ended here n = nothing_spelled t line_has_ended here n.some n.no_named n.no_number n.no_punctuator
 
 -- what was read to recover, and reported
 pub lexeme_recovered : (old new : Reader) (r : Recovered) → Recovers old.line_has_ended old.source r new.source

@@ -14,7 +14,10 @@ use Rattle.js_kind.specs.declared.kind.Kind.TheVariants.{Eof, Undetermined}
 use Rattle.js_source.specs.Source.{At, rest, IsPlaced, Reads}
 use Rattle.js_grammar.specs.Gap.{is_prefix}
 use Rattle.js_grammar.specs.Outcome.{place_behind}
+use Rattle.js_grammar.specs.Name.{begins_name}
 use Rattle.js_grammar.specs.Number.{begins_number}
+use Rattle.js_grammar.specs.Spelling.{begins_named}
+use Rattle.js_grammar.proofs.Starts.{named_false}
 use Rattle.js_grammar.specs.Recovery.{Reading, recovered, recovered_character, is_control_or_wide}
 use Rattle.js_grammar.specs.Recovery.{binary_file, invalid_character}
 use Rattle.js_grammar.proofs.Tests.{prefix_of}
@@ -84,48 +87,21 @@ unterminated line_has_ended old mid new b start end h g takes e none line s f =
       onward = subst (λ (n : ℕ). old.place ≤ n) (sym (ap (λ a. a.place) e ∙ ap length takes.0)) (h.boundary.0);
     }
 
-behind_number_sign : (place : ℕ) → place_behind place (codes "#!") ≡ place + 2
-unfolding lib.Utf8.encode
-behind_number_sign place = refl
-
-pub unread_hashbang : (line_has_ended : Bool) (old mid new : At) (start middle end : ℕ) → IsPlaced old → IsPlaced mid
-    → is_prefix (codes "/*") (rest old) ≡ false → TakesMark (codes "#!") old true mid
-    → new ≡ record mid { place = length mid.text } → rest new ≡ [] → start ≡ old.place → middle ≡ start + 1
-    → end ≡ mid.place
-    → Recovers line_has_ended old
-    (record {
-      kind = Eof;
-      is_on_new_line = line_has_ended;
-      diagnostic = InvalidCharacter exclamation_mark (record { start = middle; end = end });
-    }) new
-unread_hashbang line_has_ended old mid new start middle end h g no_comment takes e none s m f =
-    let begun : is_prefix (codes "#!") (rest old) ≡ true =
-    ap (is_prefix (codes "#!")) takes.1 ∙ prefix_of (codes "#!") (rest mid) in
-    let to : end ≡ old.place + 2 =
-    f ∙ leads_to old mid (codes "#!") h g takes.0 takes.1 ∙ behind_number_sign old.place in
-    let from : middle ≡ old.place + 1 = m ∙ ap (λ n. n + 1) s in
-    record {
-      text = ap (λ a. a.text) e ∙ takes.0;
-      recovery =
-          if_not (is_prefix (codes "/*") (rest old)) _ _ no_comment
-          ∙ if_true (is_prefix (codes "#!") (rest old)) _ _ begun ∙ rw (none, from, to) refl;
-      onward = subst (λ (n : ℕ). old.place ≤ n) (sym (ap (λ a. a.place) e ∙ ap length takes.0)) (h.boundary.0);
-    }
-
--- where neither mark stands
+-- where no comment, no name and no number begins
 no_mark : (line_has_ended : Bool) (old : At) → is_prefix (codes "/*") (rest old) ≡ false
-    → is_prefix (codes "#!") (rest old) ≡ false → begins_number (rest old) ≡ false
+    → begins begins_named (rest old) ≡ false → begins_number (rest old) ≡ false
     → recovered line_has_ended old.place (rest old)
     ≡ (if begins (λ c. c == 0xFFFD) (rest old) then Some
     (binary_file line_has_ended) else recovered_character line_has_ended old.place
     (rest old))
 no_mark line_has_ended old e f n =
-    if_not (is_prefix (codes "/*") (rest old)) _ _ e ∙ if_not (is_prefix (codes "#!") (rest old)) _ _ f
-    ∙ if_not (begins_number (rest old)) _ _ n
+    let none = named_false (rest old) f in
+    if_not (is_prefix (codes "/*") (rest old)) _ _ e ∙ if_not (begins_name (rest old)) _ _ none.0
+    ∙ if_not (begins (λ c. c == number_sign) (rest old)) _ _ none.1 ∙ if_not (begins_number (rest old)) _ _ n
 
 pub binary : (line_has_ended : Bool) (old mid new : At) (c : ℕ) → IsPlaced old
     → is_prefix (codes "/*") (rest old) ≡ false
-    → is_prefix (codes "#!") (rest old) ≡ false → begins_number (rest old) ≡ false → Reads old mid c → c ≡ 0xFFFD
+    → begins begins_named (rest old) ≡ false → begins_number (rest old) ≡ false → Reads old mid c → c ≡ 0xFFFD
     → new ≡ record mid { place = length mid.text } → rest new ≡ []
     → Recovers line_has_ended old
     (record { kind = Eof; is_on_new_line = line_has_ended; diagnostic = FileAppearsToBeBinary }) new
@@ -158,7 +134,7 @@ some_text line_has_ended old some none = let no : is_some (recovered line_has_en
     subst (λ xs. is_some (recovered line_has_ended old.place xs) ≡ true) none some in absurd (cc)
 
 pub invalid : (line_has_ended : Bool) (old new : At) (c start end : ℕ) → IsPlaced old → IsPlaced new
-    → is_prefix (codes "/*") (rest old) ≡ false → is_prefix (codes "#!") (rest old) ≡ false
+    → is_prefix (codes "/*") (rest old) ≡ false → begins begins_named (rest old) ≡ false
     → begins_number (rest old) ≡ false
     → IsSome (recovered line_has_ended old.place (rest old)) → Reads old new c → (c ≡ 0xFFFD → ⊥)
     → old.place ≤ new.place

@@ -12,13 +12,14 @@ use Rattle.js_grammar.specs.Outcome.{Findings, FindingLengths, no_findings, join
 use Rattle.js_grammar.specs.Outcome.{AreWithin, Outcome}
 use Rattle.js_grammar.specs.declared.goal.Goal.{Goal}
 use Rattle.js_grammar.specs.declared.goal.Goal.TheVariants.{Next}
+use Rattle.js_lexer.specs.Decoded.{Values, AreValues, Keeps, HasValue}
 use Rattle.js_kind.specs.Kinds.{number}
 use Rattle.js_kind.specs.TokenParts.{TokenParts, default_parts}
 use Rattle.js_kind.specs.declared.kind.Kind.{Kind}
 use Rattle.js_kind.specs.declared.kind.Kind.TheVariants.{Eof, HashbangComment}
 
 -- A lexer: its text and the type of that, whether it collects tokens, its place, the last token if one was read, the
--- collected tokens, and what its readings have found.
+-- collected tokens, what its readings have found, and the decoded values of tokens that were read.
 pub record LexerState : Type 0 where
   pub text : List ℕ
   pub source_type : SourceType
@@ -27,6 +28,7 @@ pub record LexerState : Type 0 where
   pub last : Option TokenParts
   pub tokens : List TokenParts
   pub findings : Findings
+  pub decoded : Values
 
 -- a lexer that has read nothing
 abbrev pub fresh : List ℕ → SourceType → Bool → LexerState
@@ -38,6 +40,7 @@ fresh text t collects = record {
   last = None;
   tokens = [];
   findings = no_findings;
+  decoded = [];
 }
 
 -- the token, or the default token where none was read yet
@@ -50,12 +53,14 @@ pub record IsOnPlaces (text : List ℕ) (token : TokenParts) : Type 0 where
   pub end : IsCharBoundary text token.end
   pub ordered : token.start ≤ token.end
 
--- The text can be read, and the last token lies on its places.
-pub record IsSound (text : List ℕ) (last : Option TokenParts) : Type 0 where
+-- The text can be read, the last token lies on its places, and decoded values are those of names of the text.
+pub record IsSound (text : List ℕ) (last : Option TokenParts) (decoded : Values) : Type 0 where
   pub built : IsBuilt text
   pub last_lies : IfSome last (IsOnPlaces text)
+  pub are_values : AreValues text decoded
 
--- The parts of a lexer that a rewind, a peek and a call that cannot allocate restore.
+-- The parts of a lexer that a rewind, a peek and a call that cannot allocate restore: all but decoded values, which
+-- stay.
 pub record IsRestored (old new : LexerState) : Type 0 where
   pub text : new.text ≡ old.text
   pub source_type : new.source_type ≡ old.source_type
@@ -104,12 +109,17 @@ pub record ReadsToken (goal : Goal) (old : LexerState) (token : TokenParts) (new
   pub reads : ReadsOutcome goal old outcome
   pub agrees : AgreesWithGrammar old.text old.source_type goal old.last old.place outcome
   pub after : IsRestored (after_outcome old outcome) new
+  pub kept : Keeps old.decoded new.decoded
+  pub has_value : HasValue old.text new.decoded token
 
--- A reading that could not allocate: the lexer may have moved on and reported, and nothing else has changed.
+-- A reading that could not allocate: the lexer may have moved on, reported and added values, and nothing else has
+-- changed.
 pub record HasMovedOn (old new : LexerState) : Type 0 where
   pub place : ℕ
   pub more : List Diagnostic
-  pub after : new ≡ record old { place = place; findings = joined old.findings (reports more) }
+  pub decoded : Values
+  pub kept : Keeps old.decoded decoded
+  pub after : new ≡ record old { place = place; findings = joined old.findings (reports more); decoded = decoded }
 
 -- A checkpoint: the place, the last token, the last collected one, and how long the lists were.
 pub record Checkpoint : Type 0 where
@@ -169,6 +179,7 @@ pub record GoesOnFrom (old now : LexerState) : Type 0 where
 -- a peek: the token is what a reading would give, and the lexer is as before
 pub record Peeks (old : LexerState) (token : TokenParts) (new : LexerState) : Type 0 where
   pub restored : IsRestored old new
+  pub kept : Keeps old.decoded new.decoded
   pub outcome : Outcome
   pub token_is : token ≡ outcome.token
   pub reads : ReadsOutcome Next old outcome

@@ -1,6 +1,6 @@
 -- What the steps of a reading do to the reader that they work on.
 use Rattle.std.specs.Prelude.{◌≡◌, ◌≢◌, ℕ, ◌<◌, Bool, true, false, List, [], ◌++◌, length, Option, Some, None}
-use Rattle.js_text.specs.Characters.{begins, is_identifier_start}
+use Rattle.js_text.specs.Characters.{begins}
 use Rattle.js_text.specs.declared.diagnostic.Diagnostic.{Diagnostic}
 use Rattle.js_text.specs.declared.source_type.SourceType.{SourceType}
 use Rattle.js_grammar.specs.Gap.{Piece, piece, is_reported, whole_gap_piece, Pieces, LongestGap}
@@ -10,6 +10,7 @@ use Rattle.js_grammar.specs.Number.{begins_number}
 use Rattle.js_grammar.specs.Outcome.{Outcome, reports, gap_diagnostics}
 use Rattle.js_grammar.specs.Punctuators.{NoPunctuator}
 use Rattle.js_grammar.specs.Recovery.{Reading}
+use Rattle.js_grammar.specs.Spelling.{begins_named}
 use Rattle.js_grammar.specs.declared.goal.Goal.{Goal}
 use Rattle.js_grammar.specs.declared.goal.Goal.TheVariants.{First}
 use Rattle.js_kind.specs.TokenParts.{TokenParts}
@@ -142,9 +143,9 @@ ReadsHashbang old (Some token) new = IsHashbangRead old token new
 ReadsHashbang old None new =
     (begins_hashbang First old.source.text old.source.place ≡ false) × IsUnmoved old new
 
--- No name, no number and no punctuator begins the text, which is not at its end.
+-- No name, private or not, no number and no punctuator begins the text, which is not at its end.
 pub record NothingHere (t : SourceType) (line_has_ended : Bool) (here : List ℕ) : Type 0 where
   pub some : here ≢ []
-  pub no_name : begins is_identifier_start here ≡ false
+  pub no_named : begins begins_named here ≡ false
   pub no_number : begins_number here ≡ false
   pub no_punctuator : NoPunctuator t line_has_ended here

@@ -2,21 +2,26 @@
 
 ghost use Rattle.std.specs.Prelude.{◌≡◌, ◌≤◌, ◌^◌, ◌↔◌, ◌++◌, [], length, drop, None, IsTrue, IfOk, OnOk, OnErr};
 ghost use Rattle.std.specs.List.{last_or};
+ghost use Rattle.std.specs.Option.{option_map};
 ghost use Rattle.std.specs.Str.{IsCharBoundary, IsUtf8};
 ghost use Rattle.js_grammar.specs.Built.{IsBuilt};
 ghost use Rattle.js_grammar.specs.Outcome.{no_findings, reports};
+ghost use Rattle.js_text.specs.JsText.{js_text_units};
+ghost use Rattle.js_grammar.specs.Spelling.{is_private_name};
 ghost use Rattle.js_source.specs.Source.{IsPlaced};
+ghost use Rattle.js_lexer.specs.Decoded.{Keeps, value_of, GivesText, GivesStretch, text_start};
 ghost use Rattle.js_lexer.specs.Lexer.{LexerState, fresh, token_or_default, ReadsToken, IsRestored, HasMovedOn};
 ghost use Rattle.js_lexer.specs.Lexer.{IsOnPlaces, Peeks, checkpoint_of, CanRewind, rewound, GoesOnFrom, collected};
 ghost use Rattle.js_lexer.specs.Lexer.{is_hashbang};
 
 use crate::checkpoint::{LexerCheckpoint, is_on_places_if_some, is_place, put_back};
+use crate::decoded::DecodedValues;
 use crate::reader::Reader;
 use crate::tables::ByteTables;
 use js_grammar::Goal;
 use js_kind::{Kind, LexerConfig, Token, TokenList};
 use js_source::Source;
-use js_text::{Diagnostic, DiagnosticList, SourceType};
+use js_text::{Diagnostic, DiagnosticList, JsText, SourceType};
 use std::alloc::{AllocError, Global};
 use std::marker::Model;
 
@@ -25,6 +30,14 @@ fn is_hashbang(kind: Kind) -> bool
     ensures { result ≡ is_hashbang kind }
 {
     kind.number() == Kind::HashbangComment.number()
+}
+
+/// Whether the kind is that of private names.
+#[tactic(auto, unfolding(js_grammar::specs::Spelling::is_private_name))]
+fn is_private_name(kind: Kind) -> bool
+    ensures { result ≡ is_private_name kind }
+{
+    kind.number() == Kind::PrivateIdentifier.number()
 }
 
 /// Collects the token, where tokens are collected and it is no hashbang comment.
@@ -57,13 +70,14 @@ pub enum NewFault {
 }
 
 /// A lexer over a source text, with the last token that it gave, the tokens that it collected where its configuration
-/// says so, and what its readings reported.
+/// says so, what its readings reported, and the values of names that have escapes.
 #[derive(Drop)]
 pub struct Lexer<'a, C: LexerConfig + Drop> {
     reader: Reader<'a>,
     config: C,
     last: Option<Token>,
     tokens: TokenList,
+    decoded: DecodedValues,
 }
 
 impl<'a, C: LexerConfig + Drop> Model for Lexer<'a, C> {
@@ -80,9 +94,10 @@ impl<'a, C: LexerConfig + Drop> Model for Lexer<'a, C> {
       last = l.last;
       tokens = l.tokens;
       findings = reports l.reader.errors;
+      decoded = l.decoded;
     } };
 
-    ghost invariant = { λ l. IsSound l.reader.source.text l.last };
+    ghost invariant = { λ l. IsSound l.reader.source.text l.last l.decoded };
 }
 
 impl<'a, C: LexerConfig + Drop> Lexer<'a, C> {
@@ -112,6 +127,7 @@ impl<'a, C: LexerConfig + Drop> Lexer<'a, C> {
             config,
             last: None,
             tokens: TokenList::new_in(alloc),
+            decoded: DecodedValues::new_in(alloc),
         })
     }
 
@@ -120,6 +136,7 @@ impl<'a, C: LexerConfig + Drop> Lexer<'a, C> {
         requires { self.old.last ≡ None }
         ensures ok { IfOk result (λ token. ReadsToken Goal.First self.old token self.new) }
         ensures err { OnErr result (IsRestored self.old self.new) }
+        ensures kept { Keeps self.old.decoded self.new.decoded }
     {
         self.read(Goal::First)
     }
@@ -128,6 +145,7 @@ impl<'a, C: LexerConfig + Drop> Lexer<'a, C> {
     pub fn next_token(&mut self) -> Result<Token, AllocError>
         ensures ok { IfOk result (λ token. ReadsToken Goal.Next self.old token self.new) }
         ensures err { OnErr result (IsRestored self.old self.new) }
+        ensures kept { Keeps self.old.decoded self.new.decoded }
     {
         self.read(Goal::Next)
     }
@@ -139,7 +157,7 @@ impl<'a, C: LexerConfig + Drop> Lexer<'a, C> {
         ensures err { OnErr result (HasMovedOn self.old self.new) }
     {
         self.reader.line_has_ended = self.last.is_none();
-        let token = self.reader.read_goal(goal)?;
+        let token = self.reader.read_goal(goal, &mut self.decoded)?;
         collect(&mut self.tokens, self.config.tokens(), &token)?;
         self.last = Some(token);
         Ok(token)
@@ -149,6 +167,7 @@ impl<'a, C: LexerConfig + Drop> Lexer<'a, C> {
     fn read(&mut self, goal: Goal) -> Result<Token, AllocError>
         ensures ok { IfOk result (λ token. ReadsToken goal self.old token self.new) }
         ensures err { OnErr result (IsRestored self.old self.new) }
+        ensures kept { Keeps self.old.decoded self.new.decoded }
     {
         let start = self.reader.source.position();
         let reported = self.reader.errors.len();
@@ -166,6 +185,7 @@ impl<'a, C: LexerConfig + Drop> Lexer<'a, C> {
     pub fn peek_token(&mut self) -> Result<Token, AllocError>
         ensures ok { IfOk result (λ token. Peeks self.old token self.new) }
         ensures err { OnErr result (IsRestored self.old self.new) }
+        ensures kept { Keeps self.old.decoded self.new.decoded }
     {
         let checkpoint = self.checkpoint();
         let token = self.next_token()?;
@@ -181,6 +201,61 @@ impl<'a, C: LexerConfig + Drop> Lexer<'a, C> {
         // The text is UTF-8, so the default token lies on it too.
         let _place = self.reader.source.position();
         self.last.unwrap_or(Token::default())
+    }
+
+    /// The text of a token of this source. Of one with an escape it is the value that was decoded where it was read, and
+    /// none where no such token was read; of any other its stretch of the source, and none where there is no such
+    /// stretch. A private name's `#` is left out.
+    pub fn get_string(&self, token: Token) -> Option<JsText<'_>>
+        ensures { GivesText self.now.text self.now.decoded token result }
+    {
+        if token.escaped() {
+            self.decoded_text(token.start())
+        } else {
+            self.source_text(&token)
+        }
+    }
+
+    /// The text of a token, as `get_string` gives it.
+    pub fn get_js_string(&self, token: Token) -> Option<JsText<'_>>
+        ensures { GivesText self.now.text self.now.decoded token result }
+    {
+        self.get_string(token)
+    }
+
+    /// The decoded value of the token that starts at the offset.
+    fn decoded_text(&self, start: u32) -> Option<JsText<'_>>
+        ensures { option_map js_text_units result ≡ value_of self.now.decoded start }
+    {
+        match self.decoded.get(start) {
+            Some(text) => Some(JsText::Decoded(text)),
+            None => None,
+        }
+    }
+
+    /// The stretch of the source that a token's text is.
+    fn source_text(&self, token: &Token) -> Option<JsText<'_>>
+        ensures { GivesStretch self.now.text (text_start token.now.kind token.now.start) token.now.end result }
+    {
+        let start = if is_private_name(token.kind()) {
+            token.start().checked_add(1)?
+        } else {
+            token.start()
+        };
+        self.stretch(start, token.end())
+    }
+
+    /// The stretch of the source from an offset to another.
+    fn stretch(&self, start: u32, end: u32) -> Option<JsText<'_>>
+        ensures { GivesStretch self.now.text start end result }
+    {
+        if start > end {
+            return None;
+        }
+        let source = &self.reader.source;
+        let from = source.position_at(start)?;
+        let to = source.position_at(end)?;
+        Some(JsText::Source(source.str_between(from, to)))
     }
 
     /// The place of the lexer, as an offset in bytes.

@@ -8,7 +8,6 @@ mod gap;
 mod lexeme;
 mod lexer;
 mod mark;
-mod name;
 mod punctuator;
 mod reader;
 mod reading;

@@ -1,39 +1,52 @@
 //! Readings of the first and the plain goal.
 
-ghost use Rattle.std.specs.Prelude.{◌≡◌, ◌≢◌, ◌<◌, Bool, true, false, [], Option, None, IsTrue, IfOk, IfSome, OnOk};
+ghost use Rattle.std.specs.Prelude.{◌≡◌, ◌≢◌, ◌<◌, ◌==◌, Bool, true, false, [], Option, None, IsTrue, IfOk, IfSome, OnOk};
 ghost use Rattle.std.specs.Prelude.{OnErr};
-ghost use Rattle.js_text.specs.Characters.{begins, is_identifier_start};
+ghost use Rattle.js_text.specs.Ascii.{number_sign};
+ghost use Rattle.js_text.specs.Characters.{begins};
 ghost use Rattle.js_grammar.specs.Built.{IsBuilt};
 ghost use Rattle.js_grammar.specs.Gap.{whole_gap_piece};
 ghost use Rattle.js_grammar.specs.Goals.{line_has_ended_behind};
+ghost use Rattle.js_grammar.specs.Name.{begins_name};
 ghost use Rattle.js_grammar.specs.Number.{begins_number};
 ghost use Rattle.js_grammar.specs.Punctuators.{NoPunctuator};
 ghost use Rattle.js_kind.specs.TokenParts.{TokenParts};
-ghost use Rattle.js_source.specs.Source.{rest, IsPlaced};
+ghost use Rattle.js_source.specs.Source.{rest, IsPlaced, BeginsWith};
+ghost use Rattle.js_lexer.specs.Decoded.{HasValue, HasValueHere, KeepsValues};
 ghost use Rattle.js_lexer.specs.Reader.{ReadsLexeme, ReadsBehind, ReadsGoal, ReadsHashbang, NothingHere, MovesOn};
-ghost use Rattle.js_lexer.specs.Tables.{TellsStarts};
+ghost use Rattle.js_lexer.specs.Tables.{TellsStarts, is_name_start};
 
 use crate::comment::skip_line;
+use crate::decoded::DecodedValues;
 use crate::lexeme::Lexeme;
 use crate::mark::advance_if_mark;
-use crate::name::read_name;
 use crate::punctuator::read_punctuator;
 use crate::reader::Reader;
 use crate::recover::recover;
 use js_grammar::Goal;
 use js_kind::{Kind, Token};
-use js_spell::read_number;
+use js_spell::{SpeltValue, read_name, read_number, read_private_name};
 use js_text::{Span, is_identifier_start};
 use std::alloc::AllocError;
 
-/// Whether a name begins with the ASCII character.
+/// Whether a name begins with the ASCII character, or with an escape of it.
 #[inline(always)]
-fn begins_name(table: &[bool; 256], b: u8) -> bool
+fn begins_ascii_name(table: &[bool; 256], b: u8) -> bool
     requires table { TellsStarts table.now }
     requires ascii { b < 128 }
-    ensures { result ≡ is_identifier_start b }
+    ensures { result ≡ is_name_start b }
 {
     table[b as usize]
+}
+
+/// Whether a name begins with the character, or with an escape.
+fn begins_name(c: char) -> bool
+    ensures { result ≡ is_name_start c }
+{
+    if c == '\\' {
+        return true;
+    }
+    is_identifier_start(c)
 }
 
 impl Reader<'_> {
@@ -106,76 +119,138 @@ impl Reader<'_> {
         })
     }
 
-    /// Reads a number, or reads on where nothing is spelled.
+    /// Whether a `#` is next.
     #[inline(always)]
-    fn read_number_or_recover(&mut self) -> Result<Lexeme, AllocError>
+    fn begins_private_name(&self) -> bool
+        ensures { result ≡ begins (λ c. c == number_sign) (rest self.now.source) }
+    {
+        match self.source.peek_byte() {
+            Some(b) => b == b'#',
+            None => false,
+        }
+    }
+
+    /// Reads a number or a private name, or reads on where nothing is spelled.
+    #[inline(always)]
+    fn read_other(&mut self, decoded: &mut DecodedValues) -> Result<Lexeme, AllocError>
         requires gap { whole_gap_piece self.old.source_type self.old.line_has_ended (rest self.old.source) ≡ None }
         requires placed { IsPlaced self.old.source }
         requires built { IsBuilt self.old.source.text }
         requires some { rest self.old.source ≢ [] }
-        requires no_name { begins is_identifier_start (rest self.old.source) ≡ false }
+        requires no_name { begins_name (rest self.old.source) ≡ false }
         requires no_punctuator {
             NoPunctuator self.old.source_type self.old.line_has_ended (rest self.old.source) }
         ensures ok { IfOk result (λ lexeme. ReadsLexeme self.old lexeme self.new) }
+        ensures value { IfOk result (λ lexeme. HasValueHere self.old.source decoded.new lexeme.escaped) }
+        ensures kept { KeepsValues self.old.source.text decoded.old decoded.new }
         ensures err { OnErr result (MovesOn self.old self.new) }
     {
         if self.begins_number() {
-            self.read_number()
-        } else {
-            self.recover()
+            return self.read_number();
         }
+        if self.begins_private_name() {
+            return self.read_private_name(decoded);
+        }
+        self.recover()
     }
 
     /// Reads what stands behind a gap, where no name begins.
     #[inline(always)]
-    fn read_mark(&mut self) -> Result<Lexeme, AllocError>
+    fn read_mark(&mut self, decoded: &mut DecodedValues) -> Result<Lexeme, AllocError>
         requires gap { whole_gap_piece self.old.source_type self.old.line_has_ended (rest self.old.source) ≡ None }
         requires placed { IsPlaced self.old.source }
         requires built { IsBuilt self.old.source.text }
         requires some { rest self.old.source ≢ [] }
-        requires no_name { begins is_identifier_start (rest self.old.source) ≡ false }
+        requires no_name { begins_name (rest self.old.source) ≡ false }
         ensures ok { IfOk result (λ lexeme. ReadsLexeme self.old lexeme self.new) }
+        ensures value { IfOk result (λ lexeme. HasValueHere self.old.source decoded.new lexeme.escaped) }
+        ensures kept { KeepsValues self.old.source.text decoded.old decoded.new }
         ensures err { OnErr result (MovesOn self.old self.new) }
     {
         match read_punctuator(&mut self.source) {
             Some(kind) => Ok(self.lexeme(kind)),
-            None => self.read_number_or_recover(),
+            None => self.read_other(decoded),
         }
     }
 
-    /// Reads the name that begins here.
+    /// Reads the name that begins here, good or at fault, and keeps its value where it has an escape.
     #[inline(always)]
-    fn read_name(&mut self) -> Lexeme
-        requires { IsTrue (begins is_identifier_start (rest self.old.source)) }
-        ensures { ReadsLexeme self.old result self.new }
+    fn read_name(&mut self, decoded: &mut DecodedValues) -> Result<Lexeme, AllocError>
+        requires begun { begins_name (rest self.old.source) ≡ true }
+        requires placed { IsPlaced self.old.source }
+        ensures ok { IfOk result (λ lexeme. ReadsLexeme self.old lexeme self.new) }
+        ensures value { IfOk result (λ lexeme. HasValueHere self.old.source decoded.new lexeme.escaped) }
+        ensures kept { KeepsValues self.old.source.text decoded.old decoded.new }
+        ensures err { OnErr result (MovesOn self.old self.new) }
     {
-        let kind = read_name(&mut self.source, &self.tables.parts);
-        self.lexeme(kind)
+        let mut token = Token::default();
+        let start = self.source.offset();
+        token.set_start(start);
+        let spelt = read_name(self.alloc, &mut self.source, &mut self.errors, &mut token)?;
+        if let SpeltValue::Decoded(value) = spelt.value {
+            decoded.insert(start, value)?;
+        }
+        Ok(Lexeme {
+            kind: spelt.kind,
+            is_on_new_line: self.line_has_ended,
+            escaped: token.escaped(),
+            has_separator: false,
+        })
+    }
+
+    /// Reads the private name that begins here, good or at fault, and keeps its value where it has an escape.
+    #[inline(never)]
+    fn read_private_name(&mut self, decoded: &mut DecodedValues) -> Result<Lexeme, AllocError>
+        requires begun { BeginsWith number_sign (rest self.old.source) }
+        requires placed { IsPlaced self.old.source }
+        ensures ok { IfOk result (λ lexeme. ReadsLexeme self.old lexeme self.new) }
+        ensures value { IfOk result (λ lexeme. HasValueHere self.old.source decoded.new lexeme.escaped) }
+        ensures kept { KeepsValues self.old.source.text decoded.old decoded.new }
+        ensures err { OnErr result (MovesOn self.old self.new) }
+    {
+        let mut token = Token::default();
+        let start = self.source.offset();
+        token.set_start(start);
+        self.source.next_char();
+        let spelt = read_private_name(self.alloc, &mut self.source, &mut self.errors, &mut token)?;
+        if let SpeltValue::Decoded(value) = spelt.value {
+            decoded.insert(start, value)?;
+        }
+        Ok(Lexeme {
+            kind: spelt.kind,
+            is_on_new_line: self.line_has_ended,
+            escaped: token.escaped(),
+            has_separator: false,
+        })
     }
 
     /// Reads what stands behind a gap, whatever it begins with.
     #[inline(never)]
-    fn read_any(&mut self) -> Result<Lexeme, AllocError>
+    fn read_any(&mut self, decoded: &mut DecodedValues) -> Result<Lexeme, AllocError>
         requires gap { whole_gap_piece self.old.source_type self.old.line_has_ended (rest self.old.source) ≡ None }
         requires placed { IsPlaced self.old.source }
         requires built { IsBuilt self.old.source.text }
         ensures ok { IfOk result (λ lexeme. ReadsLexeme self.old lexeme self.new) }
+        ensures value { IfOk result (λ lexeme. HasValueHere self.old.source decoded.new lexeme.escaped) }
+        ensures kept { KeepsValues self.old.source.text decoded.old decoded.new }
         ensures err { OnErr result (MovesOn self.old self.new) }
     {
         match self.source.peek_char() {
             None => Ok(self.lexeme(Kind::Eof)),
-            Some(c) if is_identifier_start(c) => Ok(self.read_name()),
-            Some(_) => self.read_mark(),
+            Some(c) if begins_name(c) => self.read_name(decoded),
+            Some(_) => self.read_mark(decoded),
         }
     }
 
     /// Reads what stands behind a gap: the longest spelling, or what is read to recover.
     #[inline(always)]
-    fn read_lexeme(&mut self) -> Result<Lexeme, AllocError>
+    fn read_lexeme(&mut self, decoded: &mut DecodedValues) -> Result<Lexeme, AllocError>
         requires gap { whole_gap_piece self.old.source_type self.old.line_has_ended (rest self.old.source) ≡ None }
         requires placed { IsPlaced self.old.source }
         requires built { IsBuilt self.old.source.text }
         ensures ok { IfOk result (λ lexeme. ReadsLexeme self.old lexeme self.new) }
+        ensures value { IfOk result (λ lexeme. HasValueHere self.old.source decoded.new lexeme.escaped) }
+        ensures kept { KeepsValues self.old.source.text decoded.old decoded.new }
         ensures err { OnErr result (MovesOn self.old self.new) }
     {
         let b = match self.source.peek_byte() {
@@ -183,25 +258,27 @@ impl Reader<'_> {
             None => return Ok(self.lexeme(Kind::Eof)),
         };
         if b >= 128 {
-            return self.read_any();
+            return self.read_any(decoded);
         }
-        if begins_name(&self.tables.starts, b) {
-            return Ok(self.read_name());
+        if begins_ascii_name(&self.tables.starts, b) {
+            return self.read_name(decoded);
         }
-        self.read_mark()
+        self.read_mark(decoded)
     }
 
     /// Reads a token behind a whole gap.
-    fn read_behind_gap(&mut self) -> Result<Token, AllocError>
+    fn read_behind_gap(&mut self, decoded: &mut DecodedValues) -> Result<Token, AllocError>
         requires placed { IsPlaced self.old.source }
         requires built { IsBuilt self.old.source.text }
         ensures ok { IfOk result (λ token. ReadsBehind self.old token self.new) }
         ensures placed { OnOk result (IsPlaced self.new.source) }
+        ensures value { IfOk result (λ token. HasValue self.old.source.text decoded.new token) }
+        ensures kept { KeepsValues self.old.source.text decoded.old decoded.new }
         ensures err { OnErr result (MovesOn self.old self.new) }
     {
         self.skip_whole_gap()?;
         let start = self.source.offset();
-        let lexeme = self.read_lexeme()?;
+        let lexeme = self.read_lexeme(decoded)?;
         let span = Span::new(start, self.source.offset());
         Ok(lexeme.token(span))
     }
@@ -222,21 +299,27 @@ impl Reader<'_> {
         Some(Token::new(Kind::HashbangComment, span, self.line_has_ended))
     }
 
-    /// Reads a token of a goal.
-    pub fn read_goal(&mut self, goal: Goal) -> Result<Token, AllocError>
+    /// Reads a token of a goal, and keeps its value where it has an escape.
+    pub fn read_goal(
+        &mut self,
+        goal: Goal,
+        decoded: &mut DecodedValues,
+    ) -> Result<Token, AllocError>
         requires placed { IsPlaced self.old.source }
         requires built { IsBuilt self.old.source.text }
         ensures ok { IfOk result (λ token. (before : Option TokenParts)
             → line_has_ended_behind before ≡ self.old.line_has_ended → ReadsGoal goal before self.old token self.new) }
         ensures placed { OnOk result (IsPlaced self.new.source) }
+        ensures value { IfOk result (λ token. HasValue self.old.source.text decoded.new token) }
+        ensures kept { KeepsValues self.old.source.text decoded.old decoded.new }
         ensures err { OnErr result (MovesOn self.old self.new) }
     {
         match goal {
             Goal::First => match self.read_hashbang() {
                 Some(token) => Ok(token),
-                None => self.read_behind_gap(),
+                None => self.read_behind_gap(decoded),
             },
-            Goal::Next => self.read_behind_gap(),
+            Goal::Next => self.read_behind_gap(decoded),
         }
     }
 }

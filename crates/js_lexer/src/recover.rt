@@ -2,10 +2,11 @@
 
 ghost use Rattle.std.specs.Prelude.{◌≡◌, [], Bool, false, codes, length, IsSome};
 ghost use Rattle.std.specs.List.{list_any};
-ghost use Rattle.js_text.specs.Characters.{is_line_terminator};
+ghost use Rattle.js_text.specs.Characters.{begins, is_line_terminator};
 ghost use Rattle.js_grammar.specs.Gap.{is_prefix};
 ghost use Rattle.js_grammar.specs.Number.{begins_number};
 ghost use Rattle.js_grammar.specs.Recovery.{recovered};
+ghost use Rattle.js_grammar.specs.Spelling.{begins_named};
 ghost use Rattle.js_source.specs.Source.{rest};
 ghost use Rattle.js_lexer.specs.Spellings.{Recovers};
 
@@ -33,7 +34,8 @@ fn skip_to_end(source: &mut Source<'_>, tables: &ByteTables) -> bool
 fn recover_character(source: &mut Source<'_>, line_has_ended: bool) -> Recovered
     requires some { IsSome (recovered line_has_ended source.old.place (rest source.old)) }
     requires comment { is_prefix (codes "/*") (rest source.old) ≡ false }
-    requires number_sign { is_prefix (codes "#!") (rest source.old) ≡ false }
+    requires no_named { begins begins_named (rest source.old) ≡ false }
+    requires no_named { begins begins_named (rest source.old) ≡ false }
     requires no_number { begins_number (rest source.old) ≡ false }
     ensures { Recovers line_has_ended source.old result source.new }
 {
@@ -67,6 +69,7 @@ pub(crate) fn recover(
     line_has_ended: bool,
 ) -> Recovered
     requires some { IsSome (recovered line_has_ended source.old.place (rest source.old)) }
+    requires no_named { begins begins_named (rest source.old) ≡ false }
     requires no_number { begins_number (rest source.old) ≡ false }
     ensures { Recovers line_has_ended source.old result source.new }
 {
@@ -78,15 +81,6 @@ pub(crate) fn recover(
             kind: Kind::Eof,
             is_on_new_line: either(line_has_ended, has_line_end),
             diagnostic: Diagnostic::UnterminatedMultiLineComment { span },
-        };
-    }
-    if advance_if_mark(source, b"#!") {
-        let span = Span::new(start + 1, source.offset());
-        source.advance_to_end();
-        return Recovered {
-            kind: Kind::Eof,
-            is_on_new_line: line_has_ended,
-            diagnostic: Diagnostic::InvalidCharacter { c: '!', span },
         };
     }
     recover_character(source, line_has_ended)

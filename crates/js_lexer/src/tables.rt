@@ -2,34 +2,11 @@
 
 ghost use Rattle.std.specs.Prelude.{◌≡◌, false};
 ghost use Rattle.js_lexer.specs.Comments.{StopsAtLineEnds, StopsInBlocks, stopping_bytes};
-ghost use Rattle.js_lexer.specs.Tables.{TellsParts, TellsStarts, TellsBlanks};
+ghost use Rattle.js_lexer.specs.Tables.{TellsStarts, TellsBlanks};
 
 use js_source::SafeByteMatchTable;
 
-/// The ASCII characters that are parts of names.
-static PARTS: [bool; 256] = [
-    false, false, false, false, false, false, false, false, false, false, false, false, false,
-    false, false, false, false, false, false, false, false, false, false, false, false, false,
-    false, false, false, false, false, false, false, false, false, false, true, false, false,
-    false, false, false, false, false, false, false, false, false, true, true, true, true, true,
-    true, true, true, true, true, false, false, false, false, false, false, false, true, true,
-    true, true, true, true, true, true, true, true, true, true, true, true, true, true, true, true,
-    true, true, true, true, true, true, true, true, false, false, false, false, true, false, true,
-    true, true, true, true, true, true, true, true, true, true, true, true, true, true, true, true,
-    true, true, true, true, true, true, true, true, true, false, false, false, false, false, false,
-    false, false, false, false, false, false, false, false, false, false, false, false, false,
-    false, false, false, false, false, false, false, false, false, false, false, false, false,
-    false, false, false, false, false, false, false, false, false, false, false, false, false,
-    false, false, false, false, false, false, false, false, false, false, false, false, false,
-    false, false, false, false, false, false, false, false, false, false, false, false, false,
-    false, false, false, false, false, false, false, false, false, false, false, false, false,
-    false, false, false, false, false, false, false, false, false, false, false, false, false,
-    false, false, false, false, false, false, false, false, false, false, false, false, false,
-    false, false, false, false, false, false, false, false, false, false, false, false, false,
-    false, false, false, false, false, false, false, false, false, false,
-];
-
-/// The ASCII characters that begin names.
+/// The ASCII characters that begin names, and `\`, which begins an escape.
 static STARTS: [bool; 256] = [
     false, false, false, false, false, false, false, false, false, false, false, false, false,
     false, false, false, false, false, false, false, false, false, false, false, false, false,
@@ -37,7 +14,7 @@ static STARTS: [bool; 256] = [
     false, false, false, false, false, false, false, false, false, false, false, false, false,
     false, false, false, false, false, false, false, false, false, false, false, false, false,
     true, true, true, true, true, true, true, true, true, true, true, true, true, true, true, true,
-    true, true, true, true, true, true, true, true, true, true, false, false, false, false, true,
+    true, true, true, true, true, true, true, true, true, true, false, true, false, false, true,
     false, true, true, true, true, true, true, true, true, true, true, true, true, true, true,
     true, true, true, true, true, true, true, true, true, true, true, true, false, false, false,
     false, false, false, false, false, false, false, false, false, false, false, false, false,
@@ -76,15 +53,7 @@ static BLANKS: [bool; 256] = [
     false, false, false, false, false, false, false, false, false,
 ];
 
-/// The table of the ASCII characters that are parts of names.
-#[inline(always)]
-pub(crate) fn parts() -> &'static [bool; 256]
-    ensures { TellsParts result.now }
-{
-    &PARTS
-}
-
-/// The table of the ASCII characters that begin names.
+/// The table of the ASCII characters that begin names, and of `\`.
 #[inline(always)]
 pub(crate) fn starts() -> &'static [bool; 256]
     ensures { TellsStarts result.now }
@@ -107,16 +76,13 @@ pub(crate) struct ByteTables {
     pub line: SafeByteMatchTable,
     /// Stops at `*` too.
     pub block: SafeByteMatchTable,
-    /// The ASCII characters that are parts of names. The tables stand here, and not where they are made, since a loop
+    /// The ASCII characters that begin names, and `\`. The tables stand here, and not where they are made, since a loop
     /// over a table in a static takes its address anew at each byte.
-    pub parts: [bool; 256],
-    /// The ASCII characters that begin names.
     pub starts: [bool; 256],
     /// TAB and SP.
     pub blanks: [bool; 256],
     ghost line_ends: { StopsAtLineEnds line },
     ghost block_ends: { StopsInBlocks block },
-    ghost name_parts: { TellsParts parts },
     ghost name_starts: { TellsStarts starts },
     ghost gap_blanks: { TellsBlanks blanks },
 }
@@ -141,7 +107,6 @@ impl ByteTables {
         ByteTables {
             line,
             block,
-            parts: *parts(),
             starts: *starts(),
             blanks: *blanks(),
         }

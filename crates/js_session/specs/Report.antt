@@ -1,11 +1,12 @@
 -- What a session reports: which rows answer its commands, and what is live after them.
-use Rattle.std.specs.Prelude.{◌≡◌, ◌≢◌, ℕ, ◌<◌, ◌≤◌, ◌^◌, Bool, true, false, List, [], ◌∷◌, length, Option, Some, None}
+use Rattle.std.specs.Prelude.{◌≡◌, ◌≢◌, ℕ, ◌<◌, ◌≤◌, ◌^◌, Bool, true, false, List, [], ◌∷◌, length, Option, Some, None, slice_range}
 use Rattle.std.specs.Prelude.{MatchBool}
 use Rattle.std.specs.List.{flat_map}
-use Rattle.std.specs.Str.{IsUtf8, IsCharBoundary}
+use Rattle.std.specs.Str.{IsUtf8, IsCharBoundary, chars}
+use Rattle.js_text.specs.JsStr.{units_of}
 use Rattle.js_text.specs.declared.source_type.SourceType.{SourceType}
 use Rattle.js_text.specs.declared.value.RowValue.{RowValue}
-use Rattle.js_text.specs.declared.value.RowValue.TheVariants.{Nothing, Slice}
+use Rattle.js_text.specs.declared.value.RowValue.TheVariants.{Nothing, Slice, Units}
 use Rattle.js_grammar.specs.Goals.{GoalReads, AgreesWithGrammar}
 use Rattle.js_grammar.specs.Outcome.{no_findings}
 use Rattle.js_grammar.specs.Reads.{is_plain}
@@ -27,6 +28,13 @@ abbrev pub IsSliceOnPlaces : List ℕ → RowValue → Type 0
 IsSliceOnPlaces source Nothing = Unit {0}
 IsSliceOnPlaces source (Slice span) =
     IsCharBoundary source span.start × IsCharBoundary source span.end × (span.start ≤ span.end)
+IsSliceOnPlaces source (Units units) = Unit {0}
+
+-- the UTF-16 units of a value, of a stretch of the source those of its characters
+abbrev pub text_of : List ℕ → RowValue → Option (List ℕ)
+text_of source Nothing = None
+text_of source (Slice span) = Some (units_of (chars (slice_range source span.start span.end)))
+text_of source (Units units) = Some units
 
 -- The token and the value of a row lie on places of the source.
 pub record LiesOnPlaces (source : List ℕ) (row : Row) : Type 0 where

@@ -1,10 +1,13 @@
 //! Rows.
 
 ghost use Rattle.std.specs.Prelude.{◌≡◌, IfOk};
+ghost use Rattle.std.specs.Option.{option_map};
+ghost use Rattle.js_text.specs.JsText.{js_text_units};
+ghost use Rattle.js_session.specs.Report.{IsSliceOnPlaces, text_of};
 
 use crate::command::Command;
 use js_kind::Token;
-use js_text::{CommentList, DiagnosticList, RegexInfo, RowValue, SpanList};
+use js_text::{CommentList, DiagnosticList, JsText, RegexInfo, RowValue, SpanList};
 use std::alloc::{AllocError, Global};
 
 /// What a step gave.
@@ -30,6 +33,21 @@ pub struct Row {
 }
 
 impl Row {
+    /// The text of its token, of which this is the source; none for a token without a value.
+    pub fn text<'t>(&'t self, source: &'t str) -> Option<JsText<'t>>
+        requires { IsSliceOnPlaces source.now self.now.value }
+        ensures { option_map js_text_units result ≡ text_of source.now self.now.value }
+    {
+        match &self.value {
+            RowValue::Nothing => None,
+            RowValue::Slice(span) => {
+                let range = span.start as usize..span.end as usize;
+                Some(JsText::Source(&source[range]))
+            }
+            RowValue::Units(text) => Some(JsText::Decoded(text)),
+        }
+    }
+
     /// An equal row.
     pub fn copy(&self, alloc: Global) -> Result<Row, AllocError>
         ensures { IfOk result (λ row. row ≡ self.now) }

@@ -2,7 +2,7 @@ use Rattle.std.proofs.Common.{◌∙◌, ◌+◌, ◌||◌, ap, subst, refl, tru
 use Rattle.std.specs.Prelude.{codes}
 use Rattle.js_source.specs.Source.{At}
 use Rattle.js_lexer.specs.Gaps.{TakesMark}
-use Rattle.js_lexer.proofs.RecoverSteps.{unterminated, unread_hashbang}
+use Rattle.js_lexer.proofs.RecoverSteps.{unterminated}
 use Rattle.js_lexer.proofs.recover.recover.Goals as goal
 
 pub returns-then-advance_if_mark : goal.returns-then-advance_if_mark
@@ -15,19 +15,3 @@ returns-then-advance_if_mark c =
     (c.either.ensures ∙ ap (λ b. c.args.line_has_ended || b) c.skip_to_end-has_line_end.ensures.line_end)
     c.offset-start.ensures.place c.offset.ensures.place in
     rw c.new-span.ensures d
-
-pub returns-then-advance_if_mark-2 : goal.returns-then-advance_if_mark-2
-returns-then-advance_if_mark-2 c =
-    let same = c.if-advance_if_mark.ensures.1 in
-    let takes =
-    subst
-    (λ (a : At). TakesMark (codes "#!") a true c.advance_if_mark-2.new.source) same
-    c.if-advance_if_mark-2.ensures in
-    let d =
-    unread_hashbang c.args.line_has_ended c.args.source.now c.advance_if_mark-2.new.source
-    c.advance_to_end.new.self c.offset-start.result
-    (c.offset-start.result + 1) c.offset-then-advance_if_mark-2.result
-    c.offset-start.ensures.placed c.offset-then-advance_if_mark-2.ensures.placed c.if-advance_if_mark.ensures.0 takes
-    c.advance_to_end.ensures.place c.advance_to_end.ensures.nothing
-    c.offset-start.ensures.place refl c.offset-then-advance_if_mark-2.ensures.place in
-    rw c.new-span-then-advance_if_mark-2.ensures d

@@ -15,7 +15,6 @@ invariant_of-result c =
     record {
       line_ends = subst StopsAtLineEnds (sym line) stops_at_three;
       block_ends = subst StopsInBlocks (sym block) stops_in_blocks;
-      name_parts = c.parts.ensures;
       name_starts = c.starts.ensures;
       gap_blanks = c.blanks.ensures;
     }
