@@ -59,7 +59,7 @@ same_decoded : (p q : ℕ) (text : List ℕ) → (name_read p text).decoded ≡ 
 unfolding items_read
 same_decoded p q text = refl
 
-decoded_of_name : (place : ℕ) (here : List ℕ) → begins_name here ≡ true
+pub decoded_of_name : (place : ℕ) (here : List ℕ) → begins_name here ≡ true
     → units_of (name_read place here).decoded ≡ decoded_units here
 decoded_of_name place [] begun = absurd (cc)
 decoded_of_name place (c ∷ cs) begun =
@@ -69,6 +69,20 @@ decoded_of_name place (c ∷ cs) begun =
 decoded_of_private : (place : ℕ) (cs : List ℕ) → begins_name cs ≡ true
     → units_of (name_read place cs).decoded ≡ decoded_units (number_sign ∷ cs)
 decoded_of_private place cs begun = rw begun (ap units_of (same_decoded place 0 cs))
+
+-- and so for what is read behind a `#`, if it is a name
+pub decoded_of_private_read : (place : ℕ) (cs : List ℕ)
+    → units_of (private_read place cs).decoded ≡ decoded_units (number_sign ∷ cs)
+decoded_of_private_read place cs = by_begun (begins_name cs) refl
+  where
+    unnamed : (p : ℕ) (xs : List ℕ) → (no_private_name p xs).decoded ≡ []
+    unnamed p [] = refl
+    unnamed p (x ∷ xs) = refl
+
+    by_begun : (b : Bool) → begins_name cs ≡ b
+        → units_of (private_read place cs).decoded ≡ decoded_units (number_sign ∷ cs)
+    by_begun true begun = rw begun (ap units_of (same_decoded place 0 cs))
+    by_begun false none = rw none (ap units_of (unnamed place cs ∙ sym (unnamed 0 cs)))
 
 -- the value of a token, by its kind, span and escaped flag, and the text at its start
 abbrev IsValueAt : Kind → Bool → ℕ → ℕ → List ℕ → RowValue → Type 0
@@ -271,6 +285,10 @@ identifier_is_not_private : (kind : Kind) → is_identifier_name kind ≡ true �
 unfolding is_identifier_name
 identifier_is_not_private kind is =
     not-true (is_private_name kind) (one_passes is_no_private (Ident ∷ keywords) kind names_are_not_private is)
+
+pub private_is_not_end : (kind : Kind) → is_private_name kind ≡ true → kind ≢ Eof
+private_is_not_end kind is end =
+    let no : true ≡ false = sym is ∙ ap is_private_name end ∙ (neither_name Eof faulty_kinds.0).1 in cc
 
 -- a token of a kind that is none of private names begins with whatever it does
 no_private : (kind : Kind) (here : List ℕ) → is_private_name kind ≡ false → is_private_name kind ≡ true

@@ -1,19 +1,28 @@
 -- The steps of a lexer.
-use Rattle.std.proofs.Common.{◌≡◌, ◌-◌, Bool, true, false, not, List, [], ◌∷◌, ◌++◌, length, take, refl, sym, ◌∙◌, ap}
+use Rattle.std.proofs.Common.{◌≡◌, ◌==◌, ◌+◌, ◌-◌, Bool, true, false, not, List, [], ◌∷◌, ◌++◌, length, take, drop, cond, refl, sym, ◌∙◌, ap}
 use Rattle.std.proofs.Common.{subst, arith, append-nil, Option, Some, None}
 use Rattle.std.specs.Prelude.{slice_get, ℕ, IfSome}
 use Rattle.std.specs.Option.{is_some}
 use Rattle.std.specs.List.{last_or}
-use Rattle.std.specs.Str.{IsUtf8}
-use Rattle.std.proofs.lemmas.Str.{IsCharBoundary-start}
+use Rattle.std.specs.Char.{encode_utf8 as encode}
+use Rattle.std.specs.Str.{IsUtf8, IsCharBoundary, encode_utf8_all}
+use Rattle.std.proofs.lemmas.Str.{IsCharBoundary-start, IsCharBoundary-past_char, IsUtf8-drop, len_utf8_ascii}
 use Rattle.std.proofs.Math.Seq.{take-append_seam}
+use Rattle.js_text.specs.Ascii.{number_sign}
+use Rattle.js_text.specs.Characters.{begins, from_place}
 use Rattle.js_text.specs.Lists.{with_last}
+use Rattle.js_text.proofs.TextLemmas.{rest_bytes}
+use Rattle.js_kind.specs.declared.kind.Kind.{Kind}
 use Rattle.js_kind.specs.TokenParts.{TokenParts}
 use Rattle.js_grammar.specs.Built.{IsBuilt}
 use Rattle.js_grammar.specs.Goals.{GoalReads, line_has_ended_behind}
 use Rattle.js_grammar.specs.Outcome.{Findings, joined, lengths_of, cut_to}
 use Rattle.js_grammar.specs.declared.goal.Goal.{Goal}
 use Rattle.js_grammar.proofs.Clean.{agrees_with_grammar}
+use Rattle.js_grammar.specs.Spelling.{is_private_name}
+use Rattle.js_grammar.proofs.NumberSound.{first_is}
+use Rattle.js_grammar.proofs.Values.{private_name_begins}
+use Rattle.js_lexer.specs.Decoded.{Values, AreValues, Keeps, HasValue, text_start}
 use Rattle.js_grammar.proofs.Spans.{goal_reads_span, goal_reads_places}
 use Rattle.js_lexer.specs.Lexer.{LexerState, IsOnPlaces, IsSound, IsRestored, collected, ReadsOutcome, ReadsToken}
 use Rattle.js_lexer.specs.Lexer.{HasMovedOn, Checkpoint, checkpoint_of, put_back, rewound, BeginsAlike, GoesOnFrom}
@@ -49,11 +58,23 @@ read_places goal before old new token u r =
 -- and so a lexer behind it is sound
 pub sound_after : (goal : Goal) (before : Option TokenParts) (old new : Reader) (token : TokenParts)
     → IsUtf8 new.source.text
-    → IsBuilt old.source.text → ReadsGoal goal before old token new → IsSound new.source.text (Some token)
-sound_after goal before old new token u built r =
-    let same : IsSound old.source.text (Some token) =
-    record { built = built; last_lies = read_places goal before old new token (subst IsUtf8 r.text u) r } in
-    subst (λ text. IsSound text (Some token)) (sym r.text) same
+    → IsBuilt old.source.text → (values : Values) → AreValues old.source.text values
+    → ReadsGoal goal before old token new → IsSound new.source.text (Some token) values
+sound_after goal before old new token u built values are r =
+    let same : IsSound old.source.text (Some token) values = record {
+      built = built;
+      last_lies =
+          read_places goal before old new token (subst IsUtf8 r.text u) r;
+      are_values = are;
+    } in
+    subst (λ text. IsSound text (Some token) values) (sym r.text) same
+
+-- and so is one whose values alone have changed
+pub sound_still : (old new : List ℕ) (last : Option TokenParts) (values more : Values) → new ≡ old
+    → IsSound old last values → AreValues old more → IsSound new last more
+sound_still old new last values more same sound are =
+    subst (λ text. IsSound text last more) (sym same)
+    (record { built = sound.built; last_lies = sound.last_lies; are_values = are })
 
 -- a reading of a lexer's reader is one from the lexer's place
 goal_of_lexer : (l : LexerState) (r new : Reader) (goal : Goal) (token : TokenParts) → IsReaderOf l r
@@ -62,6 +83,27 @@ goal_of_lexer : (l : LexerState) (r new : Reader) (goal : Goal) (token : TokenPa
 goal_of_lexer l r new goal token is reads =
     subst (λ (a : At). GoalReads a.text l.source_type goal l.last a.place reads.outcome) is.source
     (subst (λ t. GoalReads r.source.text t goal l.last r.source.place reads.outcome) is.source_type reads.reads)
+
+-- behind a `#` stands a place
+past_mark : (text : List ℕ) (start : ℕ) → IsUtf8 text → IsCharBoundary text start
+    → begins (λ c. c == number_sign) (from_place text start) ≡ true → IsCharBoundary text (start + 1)
+past_mark text start u b e =
+    let cs = drop 1 (from_place text start) in
+    let here : from_place text start ≡ number_sign ∷ cs = first_is number_sign (from_place text start) e in
+    let bytes : drop start text ≡ encode number_sign ++ encode_utf8_all cs =
+    sym (rest_bytes text start u b) ∙ ap encode_utf8_all here in
+    subst (λ n. IsCharBoundary text (start + n)) (len_utf8_ascii number_sign (omega arith))
+    (IsCharBoundary-past_char text (encode_utf8_all cs) start number_sign b.0 (IsUtf8-drop text start u b) bytes)
+
+text_lies : (kind : Kind) (text : List ℕ) (start : ℕ) → IsUtf8 text → IsCharBoundary text start
+    → (is_private_name kind ≡ true → begins (λ c. c == number_sign) (from_place text start) ≡ true)
+    → IsCharBoundary text (text_start kind start)
+text_lies kind text start u b private = by_kind (is_private_name kind) private
+  where
+    by_kind : (p : Bool) → (p ≡ true → begins (λ c. c == number_sign) (from_place text start) ≡ true)
+        → IsCharBoundary text (cond p (start + 1) start)
+    by_kind true h = past_mark text start u b (h refl)
+    by_kind false h = b
 
 -- what a reading gives
 pub reads_outcome : (l : LexerState) (r new : Reader) (goal : Goal) (token : TokenParts) → IsUtf8 l.text
@@ -75,11 +117,15 @@ reads_outcome l r new goal token u is reads =
       reads = here;
       places = record { start = places.0; end = places.1; ordered = span.ordered };
       some_text = span.some_text;
+      text_lies =
+          text_lies reads.outcome.token.kind l.text reads.outcome.token.start u places.0
+          (private_name_begins l.text l.source_type goal l.last l.place reads.outcome here);
     }
 
 -- a reading, as contracts see it
-pub reads_token : (old new : LexerState) (r reader : Reader) (goal : Goal) (token : TokenParts) → IsUtf8 old.text
-    → IsReaderOf old r → ReadsGoal goal old.last r token reader
+pub reads_token : (old new : LexerState) (r reader : Reader) (goal : Goal) (token : TokenParts) (values : Values)
+    → IsUtf8 old.text → IsReaderOf old r → ReadsGoal goal old.last r token reader
+    → Keeps old.decoded values → HasValue old.text values token
     → new ≡ record old {
       text = reader.source.text;
       source_type = reader.source_type;
@@ -87,9 +133,10 @@ pub reads_token : (old new : LexerState) (r reader : Reader) (goal : Goal) (toke
       last = Some token;
       tokens = old.tokens ++ collected old.collects token;
       findings = record old.findings { diagnostics = reader.errors };
+      decoded = values;
     }
     → ReadsToken goal old token new
-reads_token old new r reader goal token u is reads e = record {
+reads_token old new r reader goal token values u is reads kept has e = record {
   outcome = reads.outcome;
   token_is = reads.token_is;
   reads = reads_outcome old r reader goal token u is reads;
@@ -105,6 +152,8 @@ reads_token old new r reader goal token u is reads e = record {
     tokens = ap (λ x. x.tokens) e ∙ ap (λ x. old.tokens ++ collected old.collects x) reads.token_is;
     findings = ap (λ x. x.findings) e ∙ found;
   };
+  kept = subst (Keeps old.decoded) (sym (ap (λ x. x.decoded) e)) kept;
+  has_value = subst (λ (v : Values). HasValue old.text v token) (sym (ap (λ x. x.decoded) e)) has;
 }
   where
     errors : reader.errors ≡ old.findings.diagnostics ++ reads.outcome.findings.diagnostics
@@ -121,21 +170,25 @@ reads_token old new r reader goal token u is reads e = record {
         ) refl
 
 -- a reading that could not allocate
-pub moves_on : (old new : LexerState) (r reader : Reader) → IsReaderOf old r → MovesOn r reader
+pub moves_on : (old new : LexerState) (r reader : Reader) (values : Values) → IsReaderOf old r → MovesOn r reader
+    → Keeps old.decoded values
     → new ≡ record old {
       text = reader.source.text;
       source_type = reader.source_type;
       place = reader.source.place;
       findings = record old.findings { diagnostics = reader.errors };
+      decoded = values;
     }
     → HasMovedOn old new
-moves_on old new r reader is m e =
+moves_on old new r reader values is m kept e =
     let text : reader.source.text ≡ old.text = m.text ∙ ap (λ a. a.text) is.source in
     let source_type : reader.source_type ≡ old.source_type = m.source_type ∙ is.source_type in
     let errors : reader.errors ≡ old.findings.diagnostics ++ m.more = m.errors ∙ ap (λ es. es ++ m.more) is.errors in
     record {
       place = reader.source.place;
       more = m.more;
+      decoded = values;
+      kept = kept;
       after =
           e ∙ rw (
             text,

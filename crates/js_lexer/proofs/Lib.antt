@@ -5,6 +5,7 @@ pub mod FamilyFacts
 pub mod FastSteps
 pub mod GapSteps
 pub mod LexerSteps
+pub mod NameSteps
 pub mod NumberSteps
 pub mod PartSteps
 pub mod ReadingSteps

@@ -15,8 +15,7 @@ use Rattle.js_grammar.specs.Gap.{LongestGap, one_character}
 use Rattle.js_grammar.specs.Gap.PieceKind.{white_space}
 use Rattle.js_grammar.proofs.GapLemmas.{longest_gap-cons}
 use Rattle.js_grammar.proofs.PieceLemmas.{piece-white}
-use Rattle.js_grammar.specs.Spelling.{is_no_part}
-use Rattle.js_lexer.specs.Tables.{TellsParts, TellsStarts, TellsBlanks}
+use Rattle.js_lexer.specs.Tables.{TellsStarts, TellsBlanks}
 
 abbrev same : Bool → Bool → Bool
 same true y = y

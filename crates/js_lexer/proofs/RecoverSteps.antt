@@ -5,7 +5,7 @@ use Rattle.std.specs.Prelude.{codes, IsTrue, IsSome, is_some, ◌↔◌, if◌th
 use Rattle.std.specs.List.{list_any}
 use Rattle.std.specs.Str.{IsCharBoundary}
 use Rattle.std.proofs.lemmas.Bool.{ne_eqb}
-use Rattle.js_text.specs.Ascii.{exclamation_mark}
+use Rattle.js_text.specs.Ascii.{number_sign}
 use Rattle.js_text.specs.Characters.{is_line_terminator, begins, from_first, from_place}
 use Rattle.js_text.specs.declared.diagnostic.Diagnostic.TheVariants.{InvalidCharacter, FileAppearsToBeBinary}
 use Rattle.js_text.specs.declared.diagnostic.Diagnostic.TheVariants.{UnterminatedMultiLineComment}
@@ -48,7 +48,7 @@ unfolding is_line_terminator
 mark_has_no_line_end cs = refl
 
 -- a place behind characters that were passed
-leads_to : (old new : At) (xs : List ℕ) → IsPlaced old → IsPlaced new → new.text ≡ old.text → rest old ≡ xs ++ rest new
+pub leads_to : (old new : At) (xs : List ℕ) → IsPlaced old → IsPlaced new → new.text ≡ old.text → rest old ≡ xs ++ rest new
     → new.place ≡ place_behind old.place xs
 leads_to old new xs h g text e =
     let there : IsCharBoundary old.text new.place =

@@ -1,18 +1,19 @@
 -- The decoded values that a lexer keeps, and the texts of tokens.
-use Rattle.std.specs.Prelude.{◌≡◌, ℕ, ◌+◌, ◌≤◌, Bool, true, List, nat_eq, Option, Some, None, MatchOption, slice_range}
+use Rattle.std.specs.Prelude.{◌≡◌, ℕ, ◌+◌, ◌≤◌, Bool, true, false, List, nat_eq, Option, Some, None, slice_range}
 use Rattle.std.specs.Prelude.{if◌then◌else◌}
 use Rattle.std.specs.Map.{lookup}
-use Rattle.std.specs.Option.{option_map}
 use Rattle.std.specs.Str.{IsCharBoundary, chars}
 use Rattle.js_text.specs.Characters.{from_place}
 use Rattle.js_text.specs.JsStr.{units_of}
-use Rattle.js_text.specs.JsText.{js_text_units}
+use Rattle.js_text.specs.JsText.{js_text_units, is_decoded}
 use Rattle.js_text.specs.declared.js_text.JsText.{JsText}
 use Rattle.js_grammar.specs.Spelling.{is_private_name}
 use Rattle.js_grammar.specs.Values.{decoded_units}
 use Rattle.js_kind.specs.TokenParts.{TokenParts}
 use Rattle.js_kind.specs.declared.kind.Kind.{Kind}
 use Rattle.js_source.specs.Source.{At, rest}
+use Rattle.js_lexer.specs.declared.stub.Value2.{Value2 as SpeltValue}
+use Rattle.js_lexer.specs.declared.stub.Value2.TheVariants.{Plain, Decoded}
 
 -- decoded values, in UTF-16 units, with the places where their tokens start
 abbrev pub Values : Type 0
@@ -25,6 +26,11 @@ value_of values start = lookup (nat_eq start) values
 -- the value is kept of the token that starts there, and all others as before
 abbrev pub Holds : ℕ → List ℕ → Values → Values → Type 0
 Holds start value old new = (at : ℕ) → value_of new at ≡ (if nat_eq at start then Some value else value_of old at)
+
+-- the value that was spelt is kept of the token that starts there, where it was decoded
+abbrev pub KeepsSpelt : ℕ → SpeltValue → Values → Values → Type 0
+KeepsSpelt start Plain old new = new ≡ old
+KeepsSpelt start (Decoded units) old new = Holds start units old new
 
 -- each value is what the name at the start of its token stands for
 abbrev pub AreValues : List ℕ → Values → Type 0
@@ -61,12 +67,18 @@ pub record IsStretch (text : List ℕ) (start end : ℕ) : Type 0 where
 
 -- The answer is the stretch of the text; none, where there is no such stretch.
 abbrev pub GivesStretch : List ℕ → ℕ → ℕ → Option JsText → Type 0
-GivesStretch text start end answer =
-    MatchOption answer (IsStretch text start end → ⊥)
-    (λ given. IsStretch text start end × (js_text_units given ≡ units_of (chars (slice_range text start end))))
+GivesStretch text start end None = IsStretch text start end → ⊥
+GivesStretch text start end (Some given) =
+    IsStretch text start end × (js_text_units given ≡ units_of (chars (slice_range text start end)))
+    × (is_decoded given ≡ false)
+
+-- The answer is the value that was decoded; none, where there is no value.
+abbrev pub GivesDecoded : Option (List ℕ) → Option JsText → Type 0
+GivesDecoded value None = value ≡ None
+GivesDecoded value (Some given) = (value ≡ Some (js_text_units given)) × (is_decoded given ≡ true)
 
 -- The answer is the text of the token: its decoded value where it has an escape, and none where no value is there; else
--- its stretch of the source.
+-- its stretch of the source, and none where there is no such stretch.
 pub record GivesText (text : List ℕ) (values : Values) (token : TokenParts) (answer : Option JsText) : Type 0 where
-  pub escaped : token.escaped ≡ true → option_map js_text_units answer ≡ value_of values token.start
-  pub plain : (token.escaped ≡ true → ⊥) → GivesStretch text (text_start token.kind token.start) token.end answer
+  pub escaped : token.escaped ≡ true → GivesDecoded (value_of values token.start) answer
+  pub plain : token.escaped ≡ false → GivesStretch text (text_start token.kind token.start) token.end answer

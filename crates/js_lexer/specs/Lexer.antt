@@ -12,7 +12,7 @@ use Rattle.js_grammar.specs.Outcome.{Findings, FindingLengths, no_findings, join
 use Rattle.js_grammar.specs.Outcome.{AreWithin, Outcome}
 use Rattle.js_grammar.specs.declared.goal.Goal.{Goal}
 use Rattle.js_grammar.specs.declared.goal.Goal.TheVariants.{Next}
-use Rattle.js_lexer.specs.Decoded.{Values, AreValues, Keeps, HasValue}
+use Rattle.js_lexer.specs.Decoded.{Values, AreValues, Keeps, HasValue, text_start}
 use Rattle.js_kind.specs.Kinds.{number}
 use Rattle.js_kind.specs.TokenParts.{TokenParts, default_parts}
 use Rattle.js_kind.specs.declared.kind.Kind.{Kind}
@@ -96,11 +96,12 @@ after_re_lex l outcome = record l {
   findings = joined l.findings outcome.findings;
 }
 
--- A reading of a goal from a lexer's place: what it gives, and where its token lies.
+-- A reading of a goal from a lexer's place: what it gives, and where its token and the text of that lie.
 pub record ReadsOutcome (goal : Goal) (l : LexerState) (outcome : Outcome) : Type 0 where
   pub reads : GoalReads l.text l.source_type goal l.last l.place outcome
   pub places : IsOnPlaces l.text outcome.token
   pub some_text : outcome.token.kind ≢ Eof → outcome.token.start < outcome.token.end
+  pub text_lies : IsCharBoundary l.text (text_start outcome.token.kind outcome.token.start)
 
 -- One reading: the token is that of the goal's reading from the lexer's place, and nothing changed but by that reading.
 pub record ReadsToken (goal : Goal) (old : LexerState) (token : TokenParts) (new : LexerState) : Type 0 where

@@ -2,14 +2,12 @@
 
 ghost use Rattle.std.specs.Prelude.{◌≡◌, ◌≤◌, ◌^◌, ◌↔◌, ◌++◌, [], length, drop, None, IsTrue, IfOk, OnOk, OnErr};
 ghost use Rattle.std.specs.List.{last_or};
-ghost use Rattle.std.specs.Option.{option_map};
 ghost use Rattle.std.specs.Str.{IsCharBoundary, IsUtf8};
 ghost use Rattle.js_grammar.specs.Built.{IsBuilt};
 ghost use Rattle.js_grammar.specs.Outcome.{no_findings, reports};
-ghost use Rattle.js_text.specs.JsText.{js_text_units};
 ghost use Rattle.js_grammar.specs.Spelling.{is_private_name};
 ghost use Rattle.js_source.specs.Source.{IsPlaced};
-ghost use Rattle.js_lexer.specs.Decoded.{Keeps, value_of, GivesText, GivesStretch, text_start};
+ghost use Rattle.js_lexer.specs.Decoded.{Keeps, value_of, GivesDecoded, GivesText, GivesStretch, text_start};
 ghost use Rattle.js_lexer.specs.Lexer.{LexerState, fresh, token_or_default, ReadsToken, IsRestored, HasMovedOn};
 ghost use Rattle.js_lexer.specs.Lexer.{IsOnPlaces, Peeks, checkpoint_of, CanRewind, rewound, GoesOnFrom, collected};
 ghost use Rattle.js_lexer.specs.Lexer.{is_hashbang};
@@ -34,7 +32,7 @@ fn is_hashbang(kind: Kind) -> bool
 
 /// Whether the kind is that of private names.
 #[tactic(auto, unfolding(js_grammar::specs::Spelling::is_private_name))]
-fn is_private_name(kind: Kind) -> bool
+pub fn is_private_name(kind: Kind) -> bool
     ensures { result ≡ is_private_name kind }
 {
     kind.number() == Kind::PrivateIdentifier.number()
@@ -225,7 +223,7 @@ impl<'a, C: LexerConfig + Drop> Lexer<'a, C> {
 
     /// The decoded value of the token that starts at the offset.
     fn decoded_text(&self, start: u32) -> Option<JsText<'_>>
-        ensures { option_map js_text_units result ≡ value_of self.now.decoded start }
+        ensures { GivesDecoded (value_of self.now.decoded start) result }
     {
         match self.decoded.get(start) {
             Some(text) => Some(JsText::Decoded(text)),
@@ -237,12 +235,13 @@ impl<'a, C: LexerConfig + Drop> Lexer<'a, C> {
     fn source_text(&self, token: &Token) -> Option<JsText<'_>>
         ensures { GivesStretch self.now.text (text_start token.now.kind token.now.start) token.now.end result }
     {
-        let start = if is_private_name(token.kind()) {
-            token.start().checked_add(1)?
-        } else {
-            token.start()
-        };
-        self.stretch(start, token.end())
+        if !is_private_name(token.kind()) {
+            return self.stretch(token.start(), token.end());
+        }
+        if token.start() >= token.end() {
+            return None;
+        }
+        self.stretch(token.start() + 1, token.end())
     }
 
     /// The stretch of the source from an offset to another.

@@ -14,10 +14,11 @@ mod reading;
 mod recover;
 mod recovery;
 mod skipped;
+mod stub;
 mod tables;
 
 pub use checkpoint::LexerCheckpoint;
-pub use lexer::{Lexer, NewFault};
+pub use lexer::{Lexer, NewFault, is_private_name};
 
 #[cfg(test)]
 mod tests;

@@ -12,7 +12,7 @@ ghost use Rattle.js_grammar.specs.Number.{begins_number};
 ghost use Rattle.js_grammar.specs.Punctuators.{NoPunctuator};
 ghost use Rattle.js_kind.specs.TokenParts.{TokenParts};
 ghost use Rattle.js_source.specs.Source.{rest, IsPlaced, BeginsWith};
-ghost use Rattle.js_lexer.specs.Decoded.{HasValue, HasValueHere, KeepsValues};
+ghost use Rattle.js_lexer.specs.Decoded.{HasValue, HasValueHere, KeepsValues, KeepsSpelt};
 ghost use Rattle.js_lexer.specs.Reader.{ReadsLexeme, ReadsBehind, ReadsGoal, ReadsHashbang, NothingHere, MovesOn};
 ghost use Rattle.js_lexer.specs.Tables.{TellsStarts, is_name_start};
 
@@ -25,7 +25,8 @@ use crate::reader::Reader;
 use crate::recover::recover;
 use js_grammar::Goal;
 use js_kind::{Kind, Token};
-use js_spell::{SpeltValue, read_name, read_number, read_private_name};
+use crate::stub::{Spelt2 as Spelt, Value2 as SpeltValue, read_name, read_private_name};
+use js_spell::read_number;
 use js_text::{Span, is_identifier_start};
 use std::alloc::AllocError;
 
@@ -47,6 +48,21 @@ fn begins_name(c: char) -> bool
         return true;
     }
     is_identifier_start(c)
+}
+
+/// Keeps the value of the token that starts at the offset, where it was decoded.
+fn keep_value(
+    decoded: &mut DecodedValues,
+    start: u32,
+    value: SpeltValue,
+) -> Result<(), AllocError>
+    ensures ok { OnOk result (KeepsSpelt start value decoded.old decoded.new) }
+    ensures err { OnErr result (decoded.new ≡ decoded.old) }
+{
+    match value {
+        SpeltValue::Plain => Ok(()),
+        SpeltValue::Decoded(units) => decoded.insert(start, units),
+    }
 }
 
 impl Reader<'_> {
@@ -76,6 +92,7 @@ impl Reader<'_> {
         requires nothing { NothingHere self.old.source_type self.old.line_has_ended (rest self.old.source) }
         requires placed { IsPlaced self.old.source }
         ensures ok { IfOk result (λ lexeme. ReadsLexeme self.old lexeme self.new) }
+        ensures plain { IfOk result (λ lexeme. lexeme.escaped ≡ false) }
         ensures err { OnErr result (MovesOn self.old self.new) }
     {
         let recovered = recover(&mut self.source, &self.tables, self.line_has_ended);
@@ -106,6 +123,7 @@ impl Reader<'_> {
         requires begun { begins_number (rest self.old.source) ≡ true }
         requires placed { IsPlaced self.old.source }
         ensures ok { IfOk result (λ lexeme. ReadsLexeme self.old lexeme self.new) }
+        ensures plain { IfOk result (λ lexeme. lexeme.escaped ≡ false) }
         ensures err { OnErr result (MovesOn self.old self.new) }
     {
         let mut token = Token::default();
@@ -187,11 +205,10 @@ impl Reader<'_> {
         let start = self.source.offset();
         token.set_start(start);
         let spelt = read_name(self.alloc, &mut self.source, &mut self.errors, &mut token)?;
-        if let SpeltValue::Decoded(value) = spelt.value {
-            decoded.insert(start, value)?;
-        }
+        let Spelt { kind, value } = spelt;
+        keep_value(decoded, start, value)?;
         Ok(Lexeme {
-            kind: spelt.kind,
+            kind,
             is_on_new_line: self.line_has_ended,
             escaped: token.escaped(),
             has_separator: false,
@@ -213,11 +230,10 @@ impl Reader<'_> {
         token.set_start(start);
         self.source.next_char();
         let spelt = read_private_name(self.alloc, &mut self.source, &mut self.errors, &mut token)?;
-        if let SpeltValue::Decoded(value) = spelt.value {
-            decoded.insert(start, value)?;
-        }
+        let Spelt { kind, value } = spelt;
+        keep_value(decoded, start, value)?;
         Ok(Lexeme {
-            kind: spelt.kind,
+            kind,
             is_on_new_line: self.line_has_ended,
             escaped: token.escaped(),
             has_separator: false,

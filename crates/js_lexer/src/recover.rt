@@ -35,7 +35,6 @@ fn recover_character(source: &mut Source<'_>, line_has_ended: bool) -> Recovered
     requires some { IsSome (recovered line_has_ended source.old.place (rest source.old)) }
     requires comment { is_prefix (codes "/*") (rest source.old) ≡ false }
     requires no_named { begins begins_named (rest source.old) ≡ false }
-    requires no_named { begins begins_named (rest source.old) ≡ false }
     requires no_number { begins_number (rest source.old) ≡ false }
     ensures { Recovers line_has_ended source.old result source.new }
 {

@@ -44,15 +44,6 @@ pub never_without : (commands : List Command) (index : ℕ) → length commands 
 never_without commands index whole earlier i h =
     earlier i (omega (arith, slice_get_within commands i h.command h.here, whole)) h
 
--- the test for a hashbang
-eqb_turned : (a b : ℕ) → (a == b) ≡ (b == a)
-eqb_turned a b = grind (arith, nat_tests)
-
-pub begins_hash : (xs : List ℕ) → starts_with nat_eq xs (codes "#!") ≡ is_prefix (codes "#!") xs
-begins_hash [] = refl
-begins_hash (a ∷ []) = rw (eqb_turned 35 a) refl
-begins_hash (a ∷ b ∷ xs) = rw (eqb_turned 35 a, eqb_turned 33 b) refl
-
 -- one command more
 pub keeps_count : (commands : List Command) (index marks now : ℕ) (d : Command) → index < length commands
     → now + cond (closes (get_or commands index d)) 1 0 ≡ marks + cond (opens_one (get_or commands index d)) 1 0

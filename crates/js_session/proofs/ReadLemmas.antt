@@ -1,19 +1,25 @@
 -- What a reading makes of a row.
-use Rattle.std.proofs.Common.{◌≡◌, ℕ, Bool, true, false, cond, List, [], ◌∷◌, length, take, drop, refl, sym, ◌∙◌, ap}
-use Rattle.std.proofs.Common.{subst, Option, None}
+use Rattle.std.proofs.Common.{◌≡◌, ◌≢◌, ℕ, ◌+◌, ◌<◌, ◌≤◌, Bool, true, false, cond, List, [], ◌∷◌, length, take}
+use Rattle.std.proofs.Common.{drop, refl, sym, ◌∙◌, ap, arith}
+use Rattle.std.proofs.Common.{subst, Option, None, Some}
 use Rattle.std.proofs.Math.Seq.{drop-append_seam, take-append_seam}
-use Rattle.std.specs.Str.{IsUtf8}
+use Rattle.std.specs.Str.{IsUtf8, IsCharBoundary}
 use Rattle.js_text.specs.declared.diagnostic.Diagnostic.{Diagnostic}
 use Rattle.js_text.specs.declared.source_type.SourceType.{SourceType}
-use Rattle.js_text.specs.declared.value.RowValue.TheVariants.{Nothing, Slice}
+use Rattle.js_text.specs.Characters.{from_place}
+use Rattle.js_text.specs.declared.value.RowValue.{RowValue}
+use Rattle.js_text.specs.declared.value.RowValue.TheVariants.{Nothing, Slice, Units}
 use Rattle.js_grammar.specs.Goals.{GoalReads}
 use Rattle.js_grammar.specs.Goals.GoalReads.{hashbang, behind_gap}
 use Rattle.js_grammar.specs.Outcome.{Findings, Outcome, reports, joined}
-use Rattle.js_grammar.specs.Spelling.{value_of}
+use Rattle.js_grammar.specs.Spelling.{is_private_name}
+use Rattle.js_grammar.specs.Values.{IsValueOf, decoded_units}
 use Rattle.js_grammar.specs.declared.goal.Goal.{Goal}
-use Rattle.js_grammar.proofs.Spans.{goal_reads_value}
+use Rattle.js_grammar.proofs.Values.{goal_reads_value, private_is_not_end}
 use Rattle.js_kind.specs.Kinds.{is_identifier_name}
 use Rattle.js_kind.specs.TokenParts.{TokenParts}
+use Rattle.js_kind.specs.declared.kind.Kind.TheVariants.{Eof}
+use Rattle.js_lexer.specs.Decoded.{Values, value_of, HasValue, text_start}
 use Rattle.js_lexer.specs.Lexer.{LexerState, IsRestored, IsOnPlaces, ReadsToken, Checkpoint, checkpoint_of}
 use Rattle.js_lexer.proofs.LexerSteps.{reading_goes_on}
 use Rattle.js_session.specs.declared.command.Command.{Command}
@@ -22,7 +28,7 @@ use Rattle.js_session.specs.Effects.{row_effect}
 use Rattle.js_session.specs.Live.{Live, outcome_of}
 use Rattle.js_session.specs.Marks.{lexer_behind}
 use Rattle.js_session.specs.Report.{IsRow, IsRead, IsOfEffect, LiesOnPlaces, IsSliceOnPlaces}
-use Rattle.js_session.specs.RowReader.{RowReaderState, ReadsRow, AddsLive, AddsPeek, GoesBack}
+use Rattle.js_session.specs.RowReader.{RowReaderState, ReadsRow, AddsLive, AddsPeek, GoesBack, HoldsUnits, HoldsValue}
 
 -- no reading finds a regular expression
 regex_none : (text : List ℕ) (t : SourceType) (goal : Goal) (before : Option TokenParts) (place : ℕ) (o : Outcome)
@@ -46,67 +52,104 @@ found_since_is before found old new is now =
     let irregular : found.irregular ≡ [] = ap (λ f. f.irregular) whole in
     rw (diagnostics, ← deferred, ← comments, ← irregular) refl
 
--- the outcome of a row that was made of a token and of what was reported since
-pub made_outcome : (goal : Goal) (old new : LexerState) (token : TokenParts) (errors errors' : List Diagnostic)
-    (row : Outcome) → IsUtf8 old.text → (r : ReadsToken goal old token new)
+-- a token has one value
+one_value : (text : List ℕ) (token : TokenParts) (a b : RowValue) → IsValueOf text token a → IsValueOf text token b
+    → a ≡ b
+one_value text token a b h g = by_flag token.escaped refl
+  where
+    by_flag : (escaped : Bool) → token.escaped ≡ escaped → a ≡ b
+    by_flag true e = h.decoded e ∙ sym (g.decoded e)
+    by_flag false e = h.plain e ∙ sym (g.plain e)
+
+-- a value that was held is that of the token
+held_value : (text : List ℕ) (decoded : Values) (token : TokenParts) (value : RowValue) → HasValue text decoded token
+    → HoldsValue decoded token value → IsValueOf text token value
+held_value text decoded token value has h = record {
+  plain = h.plain;
+  decoded = λ e. units_are (value_of decoded token.start) (has e) (h.escaped e);
+}
+  where
+    units_are : (found : Option (List ℕ)) → found ≡ Some (decoded_units (from_place text token.start))
+        → HoldsUnits found value → value ≡ Units (decoded_units (from_place text token.start))
+    units_are None e held = absurd held
+    units_are (Some units) e held =
+        let same : units ≡ decoded_units (from_place text token.start) = cc in held ∙ ap Units same
+
+-- the outcome of a row that was made of a token, its value, and what was reported since
+pub made_outcome : (goal : Goal) (old new : LexerState) (token : TokenParts) (value : RowValue)
+    (errors errors' : List Diagnostic) (row : Outcome)
+    → IsUtf8 old.text → (r : ReadsToken goal old token new) → HoldsValue new.decoded token value
     → old.findings ≡ reports errors → new.findings ≡ reports errors'
     → row
-    ≡ record {
-      token = token;
-      value = value_of token.kind token.start token.end;
-      regex = None;
-      findings =
-          reports (drop (length errors) errors');
-    } → row ≡ r.outcome
-made_outcome goal old new token errors errors' row u r before after made =
+    ≡ record { token = token; value = value; regex = None; findings = reports (drop (length errors) errors') }
+    → row ≡ r.outcome
+made_outcome goal old new token value errors errors' row u r held before after made =
     let reads = r.reads.reads in
-    let value : value_of token.kind token.start token.end ≡ r.outcome.value =
-    ap (λ x. value_of x.kind x.start x.end) r.token_is
-    ∙ sym (goal_reads_value old.text old.source_type goal old.last old.place r.outcome u reads)
-    in
+    let here : IsValueOf old.text token value = held_value old.text new.decoded token value r.has_value held in
+    let there : IsValueOf old.text r.outcome.token r.outcome.value =
+    goal_reads_value old.text old.source_type goal old.last old.place r.outcome u reads in
+    let same : value ≡ r.outcome.value =
+    one_value old.text token value r.outcome.value here
+    (subst (λ t. IsValueOf old.text t r.outcome.value) (sym r.token_is) there) in
     let regex : None ≡ r.outcome.regex =
     sym (regex_none old.text old.source_type goal old.last old.place r.outcome reads) in
     let found = found_since_is old.findings r.outcome.findings errors errors' before (sym r.after.findings ∙ after) in
-    made ∙ same_outcome _ r.outcome r.token_is value regex found
+    made ∙ same_outcome _ r.outcome r.token_is same regex found
+
+-- the value of a token without an escape lies on places, if its text does
+plain_lies : (name private : Bool) (text : List ℕ) (start end : ℕ) → IsCharBoundary text start
+    → IsCharBoundary text (cond private (start + 1) start) → IsCharBoundary text end → start ≤ end
+    → (private ≡ true → start < end)
+    → IsSliceOnPlaces text
+    (cond name (Slice (record { start = start; end = end }))
+    (cond private (Slice (record { start = start + 1; end = end })) Nothing))
+plain_lies true private text start end b d e ordered some = (b, e, ordered)
+plain_lies false true text start end b d e ordered some = let more = some refl in (d, e, omega (arith, more))
+plain_lies false false text start end b d e ordered some = tt
 
 -- the value of a token lies on places
-slice_by_name : (b : Bool) (text : List ℕ) (token : TokenParts) → IsOnPlaces text token
-    → IsSliceOnPlaces text (cond b (Slice (record { start = token.start; end = token.end })) Nothing)
-slice_by_name true text token h = (h.start, h.end, h.ordered)
-slice_by_name false text token h = tt
-
-value_lies : (text : List ℕ) (token : TokenParts) → IsOnPlaces text token
-    → IsSliceOnPlaces text (value_of token.kind token.start token.end)
-value_lies text token h = slice_by_name (is_identifier_name token.kind) text token h
+value_lies : (text : List ℕ) (token : TokenParts) (value : RowValue) → IsOnPlaces text token
+    → IsCharBoundary text (text_start token.kind token.start) → (token.kind ≢ Eof → token.start < token.end)
+    → IsValueOf text token value → IsSliceOnPlaces text value
+value_lies text token value h lies some is = by_flag token.escaped refl
+  where
+    by_flag : (escaped : Bool) → token.escaped ≡ escaped → IsSliceOnPlaces text value
+    by_flag true e = subst (IsSliceOnPlaces text) (sym (is.decoded e)) tt
+    by_flag false e =
+        subst (IsSliceOnPlaces text) (sym (is.plain e))
+        (plain_lies (is_identifier_name token.kind) (is_private_name token.kind) text token.start token.end h.start
+        lies h.end h.ordered (λ private. some (private_is_not_end token.kind private)))
 
 -- and so a row that was made of a token lies on places
 pub made_lies : (goal : Goal) (old new : LexerState) (row : Row) → IsUtf8 old.text
     → (r : ReadsToken goal old row.token new) → outcome_of row ≡ r.outcome → LiesOnPlaces old.text row
 made_lies goal old new row u r is =
     let text = old.text in
-    let places : IsOnPlaces text row.token = subst (IsOnPlaces text) (sym r.token_is) r.reads.places in
-    let value : row.value ≡ value_of row.token.kind row.token.start row.token.end =
-    ap (λ x. x.value) is ∙ goal_reads_value text old.source_type goal old.last old.place r.outcome u r.reads.reads
-    ∙ ap (λ x. value_of x.kind x.start x.end) (sym r.token_is)
-    in
-    record { token = places; value = subst (IsSliceOnPlaces text) (sym value) (value_lies text row.token places) }
+    let token : row.token ≡ r.outcome.token = r.token_is in
+    let value : IsValueOf text r.outcome.token r.outcome.value =
+    goal_reads_value text old.source_type goal old.last old.place r.outcome u r.reads.reads in
+    record {
+      token = subst (IsOnPlaces text) (sym token) r.reads.places;
+      value =
+          subst (IsSliceOnPlaces text) (sym (ap (λ x. x.value) is))
+          (value_lies text r.outcome.token r.outcome.value r.reads.places r.reads.text_lies r.reads.some_text value);
+    }
 
 -- a row that was made of a token
 pub made_row : (goal : Goal) (command : Option Command) (old new : LexerState) (errors errors' : List Diagnostic)
-    (row : Row) → IsUtf8 old.text → ReadsToken goal old row.token new
+    (row : Row) → IsUtf8 old.text → ReadsToken goal old row.token new → HoldsValue new.decoded row.token row.value
     → old.findings ≡ reports errors → new.findings ≡ reports errors' → row.command ≡ command → row.place ≡ old.place
     → row.taken ≡ true
     → outcome_of row
     ≡ record {
       token = row.token;
-      value = value_of row.token.kind row.token.start row.token.end;
+      value = row.value;
       regex = None;
-      findings =
-          reports (drop (length errors) errors');
+      findings = reports (drop (length errors) errors');
     }
     → ReadsRow goal command old row new
-made_row goal command old new errors errors' row u r before after command_is place taken made =
-    let is = made_outcome goal old new row.token errors errors' (outcome_of row) u r before after made in
+made_row goal command old new errors errors' row u r held before after command_is place taken made =
+    let is = made_outcome goal old new row.token row.value errors errors' (outcome_of row) u r held before after made in
     record {
       reads = r;
       outcome_is = is;

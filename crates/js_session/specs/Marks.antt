@@ -34,7 +34,7 @@ fronts now (m ∷ ms) = front now m ∷ fronts (front now m) ms
 abbrev pub state_of : Live → List SessionMark → State
 state_of now marks = record { now = now; marks = fronts now (reverse marks) }
 
--- the lexer behind the last live token
+-- the lexer behind the last live token, without the decoded values, which no rewind takes back
 abbrev pub lexer_behind : List ℕ → SourceType → Bool → Live → LexerState
 lexer_behind text t collects now = record {
   text = text;
@@ -44,6 +44,7 @@ lexer_behind text t collects now = record {
   last = last_live now;
   tokens = all_collected collects now.tokens;
   findings = now.findings;
+  decoded = [];
 }
 
 -- A mark: its checkpoint is of the lexer behind what was live then. The lexer has gone on from there, and may go back.

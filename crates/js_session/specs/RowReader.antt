@@ -1,7 +1,11 @@
 -- How rows are read from a lexer.
-use Rattle.std.specs.Prelude.{◌≡◌, ℕ, true, List, [], ◌∷◌, ◌++◌, length, take, Option}
+use Rattle.std.specs.Prelude.{◌≡◌, ℕ, true, false, List, [], ◌∷◌, ◌++◌, length, take, Option, Some, None}
 use Rattle.js_text.specs.Lists.{with_last}
+use Rattle.js_text.specs.declared.value.RowValue.{RowValue}
+use Rattle.js_text.specs.declared.value.RowValue.TheVariants.{Units}
+use Rattle.js_grammar.specs.Values.{plain_value}
 use Rattle.js_grammar.specs.declared.goal.Goal.{Goal}
+use Rattle.js_lexer.specs.Decoded.{Values, value_of}
 use Rattle.js_kind.specs.TokenParts.{TokenParts}
 use Rattle.js_lexer.specs.Lexer.{LexerState, ReadsToken, IsRestored, GoesOnFrom, CanRewind, Checkpoint, checkpoint_of}
 use Rattle.js_lexer.specs.Lexer.{token_or_default}
@@ -16,6 +20,16 @@ pub record RowReaderState : Type 0 where
   pub lexer : LexerState
   pub rows : List Row
   pub tokens : List TokenParts
+
+-- the value is that of these units
+abbrev pub HoldsUnits : Option (List ℕ) → RowValue → Type 0
+HoldsUnits None value = ⊥
+HoldsUnits (Some units) value = value ≡ Units units
+
+-- The value is that of the token: the decoded one where it has an escape, else the one that kind and span tell.
+pub record HoldsValue (decoded : Values) (token : TokenParts) (value : RowValue) : Type 0 where
+  pub escaped : token.escaped ≡ true → HoldsUnits (value_of decoded token.start) value
+  pub plain : token.escaped ≡ false → value ≡ plain_value token.kind token.start token.end
 
 -- A row was read for a goal from where the lexer stands, and the lexer is behind its token, which lies on places.
 pub record ReadsRow (goal : Goal) (command : Option Command) (old : LexerState) (row : Row) (new : LexerState)

@@ -1,11 +1,10 @@
 //! Why there is no report, and the tests for it.
 
-ghost use Rattle.std.specs.Prelude.{◌≡◌, ◌+◌, ◌<◌, List, length, cond, codes, true, IfOk, IfErr, IfSome, IfNone};
+ghost use Rattle.std.specs.Prelude.{◌≡◌, ◌+◌, ◌<◌, List, length, cond, true, IfOk, IfErr, IfSome, IfNone};
 ghost use Rattle.std.specs.Prelude.{MatchOption};
-ghost use Rattle.js_grammar.specs.Gap.{is_prefix};
 ghost use Rattle.js_session.specs.Effects.{opens_one, closes};
 ghost use Rattle.js_session.specs.declared.command.Command.{Command};
-ghost use Rattle.js_session.specs.Faults.{is_unbuilt_byte, is_unbuilt_at, FirstUnbuilt, IsBuilt, FirstWithoutMark};
+ghost use Rattle.js_session.specs.Faults.{is_unbuilt_byte, FirstUnbuilt, IsBuilt, FirstWithoutMark};
 ghost use Rattle.js_session.specs.Faults.{HasMarks, IsReadable, Cause};
 
 use crate::command::Command;
@@ -27,31 +26,15 @@ pub enum LexFault {
 fn is_unbuilt_byte(byte: u8) -> bool
     ensures { result ≡ is_unbuilt_byte byte }
 {
-    matches!(byte, b'\\' | b'"' | b'\'' | b'`' | b'#')
+    matches!(byte, b'"' | b'\'' | b'`')
 }
 
-fn begins_hashbang(source: &[u8]) -> bool
-    ensures { result ≡ is_prefix (codes "#!") source.now }
-{
-    source.starts_with(b"#!")
-}
-
-/// Whether an unknown byte stands at the offset, where `hashbang` tells whether a hashbang comment begins the source.
-fn is_unbuilt_at(source: &[u8], at: usize, hashbang: bool) -> bool
-    requires within { at < length source.now }
-    requires begins { hashbang ≡ is_prefix (codes "#!") source.now }
-    ensures { result ≡ is_unbuilt_at source.now at }
-{
-    is_unbuilt_byte(source[at]) && !(at == 0 && hashbang)
-}
-
-/// The first offset at which an unknown byte stands, but for the `#` of a hashbang comment.
+/// The first offset at which an unknown byte stands.
 fn first_unbuilt(source: &[u8]) -> Option<usize>
     ensures { MatchOption result (IsBuilt source.now) (FirstUnbuilt source.now) }
 {
-    let hashbang = begins_hashbang(source);
     for at in 0..source.len() {
-        if is_unbuilt_at(source, at, hashbang) {
+        if is_unbuilt_byte(source[at]) {
             return Some(at);
         }
     }

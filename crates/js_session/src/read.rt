@@ -1,11 +1,13 @@
 //! Rows that are read from a lexer.
 
-ghost use Rattle.std.specs.Prelude.{◌≡◌, ◌≤◌, [], length, drop, None, IfOk, OnOk, OnErr, MatchBool};
+ghost use Rattle.std.specs.Prelude.{◌≡◌, ◌≤◌, ◌<◌, true, [], length, drop, is_some, None, IfOk, OnOk, OnErr, MatchBool};
 ghost use Rattle.js_grammar.specs.Outcome.{reports};
-ghost use Rattle.js_grammar.specs.Spelling.{value_of};
+ghost use Rattle.js_grammar.specs.Spelling.{is_private_name};
+ghost use Rattle.js_grammar.specs.Values.{plain_value};
+ghost use Rattle.js_lexer.specs.Decoded.{value_of};
 ghost use Rattle.js_lexer.specs.Lexer.{LexerState, ReadsToken, IsRestored, CanRewind, GoesOnFrom};
 ghost use Rattle.js_session.specs.RowReader.{RowReaderState, ReadsRow, AddsLive, AddsPeek, MayGoOn, IsUndone, GoesBack};
-ghost use Rattle.js_session.specs.RowReader.{IsMarkOf, GoesToMark};
+ghost use Rattle.js_session.specs.RowReader.{IsMarkOf, GoesToMark, HoldsUnits, HoldsValue};
 
 use crate::command::Command;
 use crate::mark::SessionMark;
@@ -13,19 +15,56 @@ use crate::row::Row;
 use crate::row_list::RowList;
 use js_grammar::Goal;
 use js_kind::{LexerConfig, Token, TokenList};
-use js_lexer::{Lexer, LexerCheckpoint};
-use js_text::{CommentList, DiagnosticList, RowValue, SpanList};
+use js_lexer::{Lexer, LexerCheckpoint, is_private_name};
+use js_text::{CommentList, DiagnosticList, JsText, RowValue, Span, SpanList};
 use std::alloc::{AllocError, Global};
 use std::marker::Model;
 
-/// The value of a token.
-fn value_of(token: &Token) -> RowValue
-    ensures { result ≡ value_of token.now.kind token.now.start token.now.end }
+/// The value of a token without an escape.
+fn plain_value(token: &Token) -> RowValue
+    requires { is_private_name token.now.kind ≡ true → token.now.start < token.now.end }
+    ensures { result ≡ plain_value token.now.kind token.now.start token.now.end }
 {
     if token.kind().is_identifier_name() {
-        RowValue::Slice(token.span())
+        return RowValue::Slice(token.span());
+    }
+    if is_private_name(token.kind()) {
+        let end = token.end();
+        return RowValue::Slice(Span::new(token.start() + 1, end));
+    }
+    RowValue::Nothing
+}
+
+/// The value of a token with an escape, which the lexer has decoded.
+fn decoded_value<C: LexerConfig + Drop>(
+    lexer: &Lexer<'_, C>,
+    alloc: Global,
+    token: &Token,
+) -> Result<RowValue, AllocError>
+    requires escaped { token.now.escaped ≡ true }
+    requires value { is_some (value_of lexer.now.decoded token.now.start) ≡ true }
+    ensures { IfOk result (λ value. HoldsUnits (value_of lexer.now.decoded token.now.start) value) }
+{
+    match lexer.get_string(*token) {
+        Some(JsText::Decoded(text)) => Ok(RowValue::Units(text.copy(alloc)?)),
+        _ => unreachable!(),
+    }
+}
+
+/// The value of a token that was read.
+fn value_of<C: LexerConfig + Drop>(
+    lexer: &Lexer<'_, C>,
+    alloc: Global,
+    token: &Token,
+) -> Result<RowValue, AllocError>
+    requires some_text { is_private_name token.now.kind ≡ true → token.now.start < token.now.end }
+    requires value { token.now.escaped ≡ true → is_some (value_of lexer.now.decoded token.now.start) ≡ true }
+    ensures { IfOk result (λ value. HoldsValue lexer.now.decoded token.now value) }
+{
+    if token.escaped() {
+        decoded_value(lexer, alloc, token)
     } else {
-        RowValue::Nothing
+        Ok(plain_value(token))
     }
 }
 
@@ -73,13 +112,14 @@ fn read_row<C: LexerConfig + Drop>(
     let place = lexer.offset();
     let reported = lexer.errors().len();
     let token = read_token(lexer, goal)?;
+    let value = value_of(lexer, alloc, &token)?;
     let diagnostics = errors_since(lexer, alloc, reported)?;
     Ok(Row {
         command,
         place,
         taken: true,
         token,
-        value: value_of(&token),
+        value,
         regex: None,
         diagnostics,
         deferred: DiagnosticList::new_in(alloc),

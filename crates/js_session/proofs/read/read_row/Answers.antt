@@ -1,4 +1,6 @@
-use Rattle.std.proofs.Common.{refl}
+use Rattle.std.proofs.Common.{refl, sym, ap, ◌∙◌}
+use Rattle.js_grammar.specs.Spelling.{is_private_name}
+use Rattle.js_grammar.proofs.Values.{private_is_not_end}
 use Rattle.std.proofs.lemmas.Result.{err_from_is_err_and}
 use Rattle.js_lexer.proofs.LexerSteps.{reading_goes_on}
 use Rattle.js_session.proofs.LexerLemmas.{goes_on-restored}
@@ -20,12 +22,23 @@ pub returns-clause-ok : goal.returns-clause-ok
 returns-clause-ok g c =
     made_row c.args.goal c.args.command c.args.lexer.now c.read_token.new.lexer c.errors-reported.result.now
     c.read_token.new.lexer.findings.diagnostics _ c.offset-place.ensures.utf8
-    c.in_ok-token.ensures.ok c.errors-reported.ensures c.in_ok-diagnostics.ensures.nothing_else refl
+    c.in_ok-token.ensures.ok c.in_ok-value.ensures c.errors-reported.ensures c.in_ok-diagnostics.ensures.nothing_else refl
     c.offset-place.ensures.place refl
     (rw (
-      c.value_of.ensures,
       c.in_ok-diagnostics.ensures.errors,
       c.new_in.ensures,
       c.new_in-2.ensures,
       c.new_in-3.ensures,
     ) refl)
+
+pub value_of-requires-clause-some_text : goal.value_of-requires-clause-some_text
+value_of-requires-clause-some_text g c =
+    let read = c.in_ok-token.ensures.ok in
+    λ private. rw read.token_is
+    (read.reads.some_text
+    (private_is_not_end read.outcome.token.kind (ap (λ t. is_private_name t.kind) (sym read.token_is) ∙ private)))
+
+pub returns-in_err-value-clause-err : goal.returns-in_err-value-clause-err
+returns-in_err-value-clause-err g c =
+    let p = err_from_is_err_and c.from_residual-in_err-value.result c.from_residual-in_err-value.ensures.1 in
+    rw p.1 (reading_goes_on _ c.args.lexer.now c.read_token.new.lexer c.in_ok-token.token c.in_ok-token.ensures.ok)

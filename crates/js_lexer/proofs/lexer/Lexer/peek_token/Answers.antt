@@ -9,6 +9,7 @@ returns-clause-ok g c =
       restored =
           c.rewind.ensures.restores c.args.self.now c.checkpoint-checkpoint.ensures.state
           (reading_goes_on Next c.args.self.now c.next_token.new.self c.in_ok-token.token read);
+      kept = rw c.rewind.ensures.state read.kept;
       outcome = read.outcome;
       token_is = read.token_is;
       reads = read.reads;

@@ -1,12 +1,34 @@
-use Rattle.std.proofs.Common.{refl}
-use Rattle.js_source.specs.Source.{rest}
-use Rattle.js_grammar.proofs.NumberStarts.{name_begins_no_number}
-use Rattle.js_lexer.proofs.ReadingSteps.{lexeme_spelled}
+use Rattle.std.proofs.Common.{◌≡◌, ◌∙◌, ap, refl, Bool, subst}
+use Rattle.js_lexer.specs.Decoded.{KeepsValues, HasValueHere}
+use Rattle.js_lexer.proofs.NameSteps.{IsKept, lexeme_of_name, name_units, spelt_kept}
 use Rattle.js_lexer.proofs.reader.Reader.read_name.Goals as goal
 
-pub returns : goal.returns
-returns c =
-    lexeme_spelled c.args.self.now _ c.read_name-kind.result c.lexeme.result
-    record { source_type = refl; line_has_ended = refl; errors = refl }
-    (name_begins_no_number (rest c.args.self.now.source) c.requires)
-    (c.read_name-kind.ensures c.args.self.now.source_type c.args.self.now.line_has_ended) c.lexeme.ensures
+pub returns-clause-ok : goal.returns-clause-ok
+returns-clause-ok c =
+    let spells = c.in_ok-spelt.ensures.ok in
+    rw c.escaped.ensures
+    (lexeme_of_name c.args.self.now
+    (record c.args.self.now { source = c.read_name.new.source; errors = c.read_name.new.errors })
+    c.in_ok-spelt.spelt.kind c.read_name.new.token.escaped spells.decoded c.requires.begun spells.read spells.kind refl)
+
+kept : goal.returns-clause-kept
+kept c =
+    let spells = c.in_ok-spelt.ensures.ok in
+    (spelt_kept c.args.self.now.source c.args.decoded.now c.keep_value.new.decoded c.read_name.new.token.escaped
+    spells.decoded c.in_ok-spelt.spelt.value c.offset-start.result c.offset-start.ensures.place spells.value
+    c.in_ok-keep_value.ensures.ok
+    (λ _. name_units c.args.self.now.source c.read_name.new.source c.args.self.now.errors c.read_name.new.errors
+    c.read_name.new.token.escaped spells.decoded c.requires.begun spells.read)).kept
+
+pub returns-clause-kept : goal.returns-clause-kept
+returns-clause-kept c = kept c
+
+pub returns-clause-value : goal.returns-clause-value
+returns-clause-value c =
+    let spells = c.in_ok-spelt.ensures.ok in
+    rw c.escaped.ensures
+    (spelt_kept c.args.self.now.source c.args.decoded.now c.keep_value.new.decoded c.read_name.new.token.escaped
+    spells.decoded c.in_ok-spelt.spelt.value c.offset-start.result c.offset-start.ensures.place spells.value
+    c.in_ok-keep_value.ensures.ok
+    (λ _. name_units c.args.self.now.source c.read_name.new.source c.args.self.now.errors c.read_name.new.errors
+    c.read_name.new.token.escaped spells.decoded c.requires.begun spells.read)).has_value

@@ -11,6 +11,7 @@ recover-recovered-requires c =
       some =
           recovers_some c.args.self.now.source_type c.args.self.now.line_has_ended c.args.self.now.source
           c.requires.placed c.requires.built c.requires.gap c.requires.nothing;
+      no_named = c.requires.nothing.no_named;
       no_number = c.requires.nothing.no_number;
     }
 

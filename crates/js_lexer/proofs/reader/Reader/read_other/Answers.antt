@@ -1,0 +1,18 @@
+use Rattle.std.proofs.lemmas.Result.{IfOk-weaker}
+use Rattle.js_source.specs.Source.{At, rest}
+use Rattle.js_lexer.specs.Decoded.{HasValueHere}
+use Rattle.js_lexer.proofs.DecodedSteps.{needs_no_value}
+use Rattle.js_grammar.proofs.Starts.{none_named}
+use Rattle.js_lexer.proofs.reader.Reader.read_other.Goals as goal
+
+pub returns-then-begins_number-clause-value : goal.returns-then-begins_number-clause-value
+returns-then-begins_number-clause-value c =
+    IfOk-weaker c.read_number.result (λ lexeme. _) (λ lexeme. _)
+    (λ lexeme e. needs_no_value c.args.self.now.source c.args.decoded.now lexeme.escaped e)
+    c.read_number.ensures.plain
+
+pub returns-clause-value : goal.returns-clause-value
+returns-clause-value c =
+    IfOk-weaker c.recover.result (λ lexeme. _) (λ lexeme. _)
+    (λ lexeme e. needs_no_value c.args.self.now.source c.args.decoded.now lexeme.escaped e)
+    c.recover.ensures.plain
