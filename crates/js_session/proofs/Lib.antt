@@ -7,3 +7,4 @@ pub mod ReadLemmas
 pub mod RunLemmas
 pub mod StepLemmas
 pub mod Unique
+pub mod WholeLemmas
