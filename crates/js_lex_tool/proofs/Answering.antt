@@ -24,7 +24,8 @@ without_run n = record { status = n; ran = None }
 unbuilt : (bytes : List ℕ) (at : ℕ) → FirstUnbuilt bytes at → ¬ (IsBuilt bytes)
 unbuilt bytes at first built = let here = first.here in let not_here = built at first.within in cc
 
-without_mark : (line : CommandLine) (index : ℕ) → FirstWithoutMark (listed_commands line.commands) index → ¬ (HasMarks (listed_commands line.commands))
+without_mark : (line : CommandLine) (index : ℕ) → FirstWithoutMark (listed_commands line.commands) index
+    → ¬ (HasMarks (listed_commands line.commands))
 without_mark line index first marks = marks index first.here
 
 -- A run without a report has written nothing; what is left to show are its three tests.

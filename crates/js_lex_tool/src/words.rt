@@ -2,7 +2,8 @@
 
 ghost use Rattle.std.specs.Prelude.{◌≡◌, ◌++◌, IfOk, OnOk, map, replicate, string_bytes};
 ghost use Rattle.js_lex_tool.specs.Words.{entry_for, source_type_words, tokens_words, command_of, count_in};
-ghost use Rattle.js_lex_tool.specs.Words.{repeated_command, allowed_commands_in, is_all, commands_meant, command_line_of};
+ghost use Rattle.js_lex_tool.specs.Words.{repeated_command, allowed_commands_in, is_all, commands_meant};
+ghost use Rattle.js_lex_tool.specs.Words.{command_line_of};
 
 use crate::command::{COMMANDS, command_word};
 use js_session::{Command, CommandList};

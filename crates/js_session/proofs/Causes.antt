@@ -1,6 +1,6 @@
 -- A source and a list of commands have one fault at most.
-use Rattle.std.proofs.Common.{◌≡◌, ◌≢◌, ◌⊎◌, ℕ, true, false, List, [], refl, sym, ◌∙◌, ap, arith, inl, inr, Result, Ok, Err}
-use Rattle.std.proofs.Common.{OnOk, IfErr, IsOk, subst}
+use Rattle.std.proofs.Common.{◌≡◌, ◌≢◌, ◌⊎◌, ℕ, true, false, List, [], refl, sym, ◌∙◌, ap, arith, inl, inr}
+use Rattle.std.proofs.Common.{Result, Ok, Err, OnOk, IfErr, IsOk, subst}
 use Rattle.std.proofs.lemmas.Bool.{cases_lt}
 use Rattle.std.proofs.lemmas.Result.{on_ok_weaker}
 use Rattle.js_session.specs.declared.command.Command.{Command}

@@ -8,3 +8,4 @@ pub mod RunLemmas
 pub mod StepLemmas
 pub mod Unique
 pub mod WholeLemmas
+pub mod WholeUnique
