@@ -1,19 +1,17 @@
 -- The steps to the end of a source are the least that lead there, and there is one number of them.
-use Rattle.std.proofs.Common.{◌≡◌, ℕ, zero, suc, ◌+◌, ◌<◌, ◌≤◌, Bool, List, [], ◌∷◌, ◌++◌, length, take, refl, sym, ◌∙◌, ap}
-use Rattle.std.proofs.Common.{subst, arith, length-append, inl, inr}
+use Rattle.std.proofs.Common.{◌≡◌, ℕ, zero, suc, ◌+◌, ◌<◌, ◌≤◌, Bool, List, [], ◌∷◌, ◌++◌, length, take, refl}
+use Rattle.std.proofs.Common.{sym, ◌∙◌, ap, subst, arith, length-append, inl, inr}
 use Rattle.std.proofs.lemmas.Bool.{cases_lt}
 use Rattle.std.proofs.lemmas.List.{take-append-le}
 use Rattle.std.specs.List.{AllByRecursion}
-use Rattle.std.specs.Str.{IsUtf8}
 use Rattle.js_text.specs.declared.source_type.SourceType.{SourceType}
-use Rattle.js_session.specs.declared.command.Command.{Command}
 use Rattle.js_session.specs.declared.command.Command.TheVariants.{Next}
 use Rattle.js_session.specs.declared.report.Report.{Report}
 use Rattle.js_session.specs.declared.row.Row.{Row}
 use Rattle.js_session.specs.Effects.{effect_of}
 use Rattle.js_session.specs.Live.{State, after_row, state_after_first}
 use Rattle.js_session.specs.Report.{Run, AreRows, ReportOf}
-use Rattle.js_session.specs.WholeSource.{nexts, IsEof, EndsAtEof, ReportOfWhole}
+use Rattle.js_session.specs.WholeSource.{nexts, IsEof, ReportOfWhole}
 use Rattle.js_session.proofs.Unique.{rows_unique, report_unique}
 
 -- the first rows answer the first steps
@@ -92,5 +90,5 @@ whole_unique source t collects m n a b h g =
     ] in (
       same,
       report_unique source t collects (nexts n) a b
-      (subst (λ k. ReportOf source t collects (nexts k) a) same h.report_is) g.report_is,
+          (subst (λ k. ReportOf source t collects (nexts k) a) same h.report_is) g.report_is,
     )

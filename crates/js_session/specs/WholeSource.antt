@@ -25,8 +25,8 @@ pub record EndsAtEof (rows : List Row) : Type 0 where
   pub is_eof : IsEof last
   pub none_before : AllByRecursion (λ row. ¬ (IsEof row)) before
 
--- The least number of `next` after which the last row is `Eof`, and the report of a session with so many. A session with
--- fewer has the first of these rows alone, and so none that is `Eof`; the laws of this crate say so.
+-- The least number of `next` after which the last row is `Eof`, and the report of a session with so many. With fewer, a
+-- session has the first of these rows alone, and so none that is `Eof`; the laws of this crate say so.
 pub record ReportOfWhole (source : List ℕ) (t : SourceType) (collects : Bool) (steps : ℕ) (report : Report)
     : Type 0 where
   pub report_is : ReportOf source t collects (nexts steps) report
