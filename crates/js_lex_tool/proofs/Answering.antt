@@ -10,6 +10,7 @@ use Rattle.js_session.specs.declared.fault.LexFault.TheVariants.{Memory}
 use Rattle.js_lex_tool.specs.Outside.{OutputState}
 use Rattle.js_lex_tool.specs.ReportText.{report_text_of}
 use Rattle.js_lex_tool.specs.Run.{most_bytes, status_of, CountsFault, Answers, HasReport, IsRunOver, Writes}
+use Rattle.js_lex_tool.specs.Run.{listed_commands}
 use Rattle.js_lex_tool.specs.Status.{number, IsOneOf, HasPassed, Tests}
 use Rattle.js_lex_tool.specs.Status.Status.{OutOfMemory, WriteFailed, NotUtf8, NotBuilt, NoMark}
 use Rattle.js_lex_tool.specs.declared.tool.Ran.{Ran}
@@ -23,14 +24,15 @@ without_run n = record { status = n; ran = None }
 unbuilt : (bytes : List ℕ) (at : ℕ) → FirstUnbuilt bytes at → ¬ (IsBuilt bytes)
 unbuilt bytes at first built = let here = first.here in let not_here = built at first.within in cc
 
-without_mark : (line : CommandLine) (index : ℕ) → FirstWithoutMark line.commands index → ¬ (HasMarks line.commands)
+without_mark : (line : CommandLine) (index : ℕ) → FirstWithoutMark (listed_commands line.commands) index
+    → ¬ (HasMarks (listed_commands line.commands))
 without_mark line index first marks = marks index first.here
 
 -- A run without a report has written nothing; what is left to show are its three tests.
 refusal : (line : CommandLine) (bytes : List ℕ) (output : OutputState) (n : ℕ)
     → IsOneOf (OutOfMemory ∷ NotUtf8 ∷ NotBuilt ∷ NoMark ∷ []) n → Tests NotUtf8 n (¬ (IsUtf8 bytes)) (IsUtf8 bytes)
     → Tests NotBuilt n (¬ (IsBuilt bytes)) (IsBuilt bytes)
-    → Tests NoMark n (¬ (HasMarks line.commands)) (HasMarks line.commands)
+    → Tests NoMark n (¬ (HasMarks (listed_commands line.commands))) (HasMarks (listed_commands line.commands))
     → Answers line bytes output output (without_run n)
 refusal line bytes output n is utf8 built marks = record {
   known = grind (arith, is);
@@ -47,7 +49,7 @@ refusal line bytes output n is utf8 built marks = record {
 
 -- A fault's status is the one that its bytes and commands call for.
 pub answers_at_fault : (line : CommandLine) (bytes : List ℕ) (output : OutputState) (fault : LexFault)
-    → length bytes ≤ most_bytes → Cause bytes line.commands fault
+    → length bytes ≤ most_bytes → Cause bytes (listed_commands line.commands) fault
     → Answers line bytes output output (without_run (number (status_of fault)))
 answers_at_fault line bytes output Overlong few cause = absurd (omega (arith, few, cause))
 answers_at_fault line bytes output (NotUtf8Fault at) few cause = refusal line bytes output 6 (inr (inl refl))
@@ -75,7 +77,7 @@ answers_at_memory line bytes output = refusal line bytes output 1 (inl refl)
 
 -- What a session's fault comes to.
 pub answers_at_refusal : (line : CommandLine) (bytes : List ℕ) (output : OutputState) (fault : LexFault)
-    → length bytes ≤ most_bytes → (fault ≡ Memory) ⊎ Cause bytes line.commands fault
+    → length bytes ≤ most_bytes → (fault ≡ Memory) ⊎ Cause bytes (listed_commands line.commands) fault
     → Answers line bytes output output (without_run (number (status_of fault)))
 answers_at_refusal line bytes output fault few (inl e) = rw e (answers_at_memory line bytes output)
 answers_at_refusal line bytes output fault few (inr cause) = answers_at_fault line bytes output fault few cause
@@ -83,11 +85,15 @@ answers_at_refusal line bytes output fault few (inr cause) = answers_at_fault li
 -- the report of what ran is one over the bytes
 report_over : (line : CommandLine) (bytes : List ℕ) (ran : Ran) → IsRunOver line bytes ran
     → HasReport line bytes ran.report
-report_over line bytes ran over = rw (over.source, over.source_type, over.tokens, over.commands) at over.report
+report_over line bytes ran over = (
+  ran.commands,
+  rw (over.source, over.source_type, over.tokens) at over.commands,
+  rw (over.source, over.source_type, over.tokens) at over.report,
+)
 
 -- A run that has its report has passed all three tests, or is out of memory.
 pub answers_at_report : (line : CommandLine) (bytes : List ℕ) (ran : Ran) (old new : OutputState)
-    (outcome : ToolOutcome) → IsReadable bytes → HasMarks line.commands → IsRunOver line bytes ran
+    (outcome : ToolOutcome) → IsReadable bytes → HasMarks (listed_commands line.commands) → IsRunOver line bytes ran
     → (outcome ≡ without_run 1) ⊎ (HasPassed NoMark outcome.status × (outcome.ran ≡ Some ran))
     → Writes (report_text_of bytes ran.report) old new outcome.status
     → CountsFault WriteFailed outcome.status old.faults new.faults → Answers line bytes old new outcome

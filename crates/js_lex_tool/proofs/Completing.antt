@@ -5,7 +5,7 @@ use Rattle.std.specs.Io.KnownBytes.{Consumes, IsAtEnd}
 use Rattle.std.proofs.KnownBytes.{Consumes-nil}
 use Rattle.js_session.specs.Faults.{HasMarks}
 use Rattle.js_lex_tool.specs.Outside.{InputState, OutputState, Rises}
-use Rattle.js_lex_tool.specs.Run.{CanRun, RunsLine, RunsTool}
+use Rattle.js_lex_tool.specs.Run.{CanRun, RunsLine, RunsTool, listed_commands}
 use Rattle.js_lex_tool.specs.Status.{number, later_than, IsOneOf}
 use Rattle.js_lex_tool.specs.Status.Status.{Done, OutOfMemory, Usage, ReadFailed, TooLong}
 use Rattle.js_lex_tool.specs.declared.tool.ToolOutcome.{ToolOutcome}
@@ -39,7 +39,7 @@ pub completes : (line : CommandLine) (input input_new : InputState) (output outp
     → IsOneOf (Done ∷ OutOfMemory ∷ []) outcome.status
 completes line input input_new output output_new outcome runs can no_read_fault no_write_fault =
     let same : line ≡ can.line = cc in
-    let marks : HasMarks line.commands = rw same can.marks in
+    let marks : HasMarks (listed_commands line.commands) = rw same can.marks in
     let took : Consumes (Some can.bytes) input_new.left runs.bytes = rw can.left_is at runs.read in
     let few = taken_few can.bytes runs.bytes input_new.left took in
     elim runs.ends [

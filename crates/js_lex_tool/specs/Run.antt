@@ -1,15 +1,18 @@
 -- What a run reads, answers and writes.
 use Rattle.std.specs.Prelude.{◌≡◌, ◌≢◌, ℕ, ◌+◌, ◌≤◌, ◌⊎◌, ◌↔◌, List, [], ◌∷◌, length, Option, Some, None, IfSome}
-use Rattle.std.specs.Prelude.{IsSome}
+use Rattle.std.specs.Prelude.{IsSome, Bool}
 use Rattle.std.specs.Io.KnownBytes.{Consumes, Keeps, IsAtEnd}
 use Rattle.std.specs.Str.{IsUtf8}
 use Rattle.js_session.specs.Faults.{IsBuilt, HasMarks}
 use Rattle.js_session.specs.Report.{ReportOf}
+use Rattle.js_session.specs.WholeSource.{nexts, ReportOfWhole}
+use Rattle.js_session.specs.declared.command.Command.{Command}
 use Rattle.js_session.specs.declared.fault.LexFault.{LexFault}
 use Rattle.js_session.specs.declared.fault.LexFault.TheVariants.{Overlong, NotUtf8 as NotUtf8Fault}
 use Rattle.js_session.specs.declared.fault.LexFault.TheVariants.{NotBuilt as NotBuiltFault, NoMark as NoMarkFault}
 use Rattle.js_session.specs.declared.fault.LexFault.TheVariants.{Memory}
 use Rattle.js_session.specs.declared.report.Report.{Report}
+use Rattle.js_text.specs.declared.source_type.SourceType.{SourceType}
 use Rattle.js_lex_tool.specs.Outside.{InputState, OutputState, Rises, WritesAll, WritesPrefix}
 use Rattle.js_lex_tool.specs.ReportText.{report_text_of}
 use Rattle.js_lex_tool.specs.Status.{Status, number, order, later_than, IsOneOf, HasPassed, Tests}
@@ -18,6 +21,8 @@ use Rattle.js_lex_tool.specs.Status.Status.{NotBuilt}
 use Rattle.js_lex_tool.specs.declared.tool.Ran.{Ran}
 use Rattle.js_lex_tool.specs.declared.tool.ToolOutcome.{ToolOutcome}
 use Rattle.js_lex_tool.specs.declared.words.CommandLine.{CommandLine}
+use Rattle.js_lex_tool.specs.declared.words.Commands.{Commands}
+use Rattle.js_lex_tool.specs.declared.words.Commands.TheVariants.{Listed, All}
 
 -- the most bytes that an input may have
 abbrev pub most_bytes : ℕ
@@ -36,13 +41,25 @@ pub record CountsFault (status : Status) (n before now : ℕ) : Type 0 where
   pub rises : n ≡ number status → Rises before now
   pub stays : n ≢ number status → now ≡ before
 
+-- the commands that the words list: none with `all`, which closes no mark
+abbrev pub listed_commands : Commands → List Command
+listed_commands (Listed commands) = commands
+listed_commands All = []
+
+-- The commands of a session over a source are those that are meant: the listed ones, or, with `all`, the least number
+-- of `next` after which the last row is `Eof`.
+abbrev pub AreMeant : Commands → List ℕ → SourceType → Bool → List Command → Report → Type 0
+AreMeant (Listed listed) source t tokens commands report = commands ≡ listed
+AreMeant All source t tokens commands report =
+    (steps : ℕ) × (commands ≡ nexts steps) × ReportOfWhole source t tokens steps report
+
 -- What a run over the bytes was: its source is exactly these bytes, its source type, tokens and commands are those of
 -- the command line, and its report is that of a session over them.
 pub record IsRunOver (line : CommandLine) (bytes : List ℕ) (ran : Ran) : Type 0 where
   pub source : ran.source ≡ bytes
   pub source_type : ran.source_type ≡ line.source_type
   pub tokens : ran.tokens ≡ line.tokens
-  pub commands : ran.commands ≡ line.commands
+  pub commands : AreMeant line.commands ran.source ran.source_type ran.tokens ran.commands ran.report
   pub report : ReportOf ran.source ran.source_type ran.tokens ran.commands ran.report
 
 -- What was written of a text: a beginning of it, and all of it, flushed, where the run is done.
@@ -52,7 +69,9 @@ pub record Writes (text : List ℕ) (old new : OutputState) (n : ℕ) : Type 0 w
 
 -- the report of a session over the bytes, with the command line's source type, tokens and commands
 abbrev pub HasReport : CommandLine → List ℕ → Report → Type 0
-HasReport line bytes report = ReportOf bytes line.source_type line.tokens line.commands report
+HasReport line bytes report =
+    (commands : List Command) × AreMeant line.commands bytes line.source_type line.tokens commands report
+    × ReportOf bytes line.source_type line.tokens commands report
 
 -- nothing was written, or a beginning of the text of a report over the bytes
 abbrev pub MayWrite : CommandLine → List ℕ → OutputState → OutputState → Type 0
@@ -66,7 +85,8 @@ pub record Answers (line : CommandLine) (bytes : List ℕ) (old new : OutputStat
   -- the tests of the bytes and the commands
   pub utf8 : Tests NotUtf8 outcome.status (¬ (IsUtf8 bytes)) (IsUtf8 bytes)
   pub built : Tests NotBuilt outcome.status (¬ (IsBuilt bytes)) (IsBuilt bytes)
-  pub marks : Tests NoMark outcome.status (¬ (HasMarks line.commands)) (HasMarks line.commands)
+  pub marks : Tests NoMark outcome.status (¬ (HasMarks (listed_commands line.commands)))
+      (HasMarks (listed_commands line.commands))
   -- where all of these were passed, the outcome tells what ran, and its text was written or the output failed
   pub has_run : IsSome outcome.ran ↔ HasPassed NoMark outcome.status
   pub ran : IfSome outcome.ran (IsRunOver line bytes)
@@ -99,7 +119,7 @@ pub record RunsLine (line : CommandLine) (input input_new : InputState) (output 
 pub record CanRun (words : Option CommandLine) (left : Option (List ℕ)) : Type 0 where
   pub line : CommandLine
   pub words_are : words ≡ Some line
-  pub marks : HasMarks line.commands
+  pub marks : HasMarks (listed_commands line.commands)
   pub bytes : List ℕ
   pub left_is : left ≡ Some bytes
   pub few : length bytes ≤ most_bytes

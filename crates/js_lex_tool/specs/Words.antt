@@ -12,6 +12,8 @@ use Rattle.js_text.specs.declared.source_type.SourceType.TheVariants.{Module, Sc
 use Rattle.js_lex_tool.specs.Command.{command_word, all_commands}
 use Rattle.js_session.specs.declared.command.Command.{Command}
 use Rattle.js_lex_tool.specs.declared.words.CommandLine.{CommandLine}
+use Rattle.js_lex_tool.specs.declared.words.Commands.{Commands}
+use Rattle.js_lex_tool.specs.declared.words.Commands.TheVariants.{Listed, All}
 
 -- at most so many commands, and so many repetitions of one
 abbrev pub most_commands : ℕ
@@ -66,20 +68,30 @@ allowed_commands commands = if nat_le (length commands) most_commands then Some 
 abbrev pub allowed_commands_in : List (List ℕ) → Option (List Command)
 allowed_commands_in words = option_and_then allowed_commands (commands_in words)
 
+-- the word `all`, alone
+abbrev pub is_all : List (List ℕ) → Bool
+is_all [] = false
+is_all (word ∷ []) = bytes_eq word (codes "all")
+is_all (word ∷ other ∷ words) = false
+
+-- what words mean in the place of commands: `all` alone, or commands that are listed
+abbrev pub commands_meant : List (List ℕ) → Option Commands
+commands_meant words = if is_all words then Some All else option_map Listed (allowed_commands_in words)
+
 -- the command line of these parts, where each is there
-abbrev pub command_line : Option SourceType → Option Bool → Option (List Command) → Option CommandLine
+abbrev pub command_line : Option SourceType → Option Bool → Option Commands → Option CommandLine
 command_line None tokens commands = None
 command_line (Some source_type) None commands = None
 command_line (Some source_type) (Some tokens) None = None
 command_line (Some source_type) (Some tokens) (Some commands) =
     Some (record { source_type = source_type; tokens = tokens; commands = commands })
 
--- the command line that words are: a source type, tokens or none, and commands
+-- the command line that words are: a source type, tokens or none, and commands or `all`
 abbrev pub command_line_in : List (List ℕ) → Option CommandLine
 command_line_in [] = None
 command_line_in (first ∷ []) = None
 command_line_in (first ∷ second ∷ words) =
-    command_line (entry_for source_type_words first) (entry_for tokens_words second) (allowed_commands_in words)
+    command_line (entry_for source_type_words first) (entry_for tokens_words second) (commands_meant words)
 
 -- the command line that the words of a run are
 abbrev pub command_line_of : List (String Global) → Option CommandLine

@@ -25,4 +25,4 @@ pub use report::report_text;
 pub use status::{StatusLine, status_line};
 pub use std_streams::{StdIn, StdOut};
 pub use tool::{Ran, ToolOutcome, lex_tool_run, lex_tool_run_sure};
-pub use words::{CommandLine, read_words};
+pub use words::{CommandLine, Commands, read_words};

@@ -1,13 +1,14 @@
 //! A run of the program: from words and bytes to a status and a text.
 
-ghost use Rattle.std.specs.Prelude.{◌≡◌, ◌≢◌, ◌≤◌, ◌⊎◌, [], ◌∷◌, length, string_bytes, IfOk, Some};
+ghost use Rattle.std.specs.Prelude.{◌≡◌, ◌≢◌, ◌≤◌, ◌⊎◌, [], ◌∷◌, length, string_bytes, IfOk, OnOk, IfErr, Some};
 ghost use Rattle.std.specs.List.{AllByRecursion};
 ghost use Rattle.std.specs.Str.{IsUtf8};
-ghost use Rattle.js_session.specs.Report.{IsSliceOnPlaces};
+ghost use Rattle.js_session.specs.Faults.{IsReadable, HasMarks, SourceCause, Cause};
+ghost use Rattle.js_session.specs.Report.{IsSliceOnPlaces, ReportOf};
 ghost use Rattle.js_lex_tool.specs.Memory.{sure_input, sure_output};
 ghost use Rattle.js_lex_tool.specs.ReportText.{report_text_of};
 ghost use Rattle.js_lex_tool.specs.Run.{most_bytes, status_of, CountsFault, Writes, Answers, RunsLine, RunsTool};
-ghost use Rattle.js_lex_tool.specs.Run.{CanRun};
+ghost use Rattle.js_lex_tool.specs.Run.{CanRun, AreMeant, listed_commands};
 ghost use Rattle.js_lex_tool.specs.Status.{number, IsOneOf, HasPassed};
 ghost use Rattle.js_lex_tool.specs.Status.Status.{Done, OutOfMemory, ReadFailed, WriteFailed, NoMark};
 ghost use Rattle.js_lex_tool.specs.Words.{command_line_of};
@@ -20,9 +21,9 @@ use crate::report::report_text;
 use crate::status::{
     DONE, MEMORY, NO_MARK, NOT_BUILT, NOT_UTF8, READ_FAILED, TOO_LONG, USAGE, WRITE_FAILED,
 };
-use crate::words::{CommandLine, read_words};
+use crate::words::{CommandLine, Commands, push_repeated, read_words};
 use crate::write_all::{WriteFault, write_all};
-use js_session::{CommandList, LexFault, Report, lex_session};
+use js_session::{Command, CommandList, LexFault, Report, lex_all, lex_session};
 use js_text::{ByteList, SourceType};
 use std::alloc::{AllocError, Global};
 
@@ -108,6 +109,71 @@ fn write_report<O: ByteOut>(alloc: Global, ran: Ran, output: &mut O) -> ToolOutc
     }
 }
 
+/// A session over the source with the listed commands: these, and its report.
+fn run_listed(
+    alloc: Global,
+    source: &[u8],
+    source_type: SourceType,
+    tokens: bool,
+    commands: CommandList,
+) -> Result<(CommandList, Report), LexFault>
+    ensures commands { IfOk result (λ ran. ran.0 ≡ commands) }
+    ensures report { IfOk result (λ ran. ReportOf source.now source_type tokens ran.0 ran.1) }
+    ensures slices { IfOk result (λ ran. AllByRecursion (λ row. IsSliceOnPlaces source.now row.value) ran.1.rows) }
+    ensures ok { OnOk result (IsReadable source.now × HasMarks commands) }
+    ensures cause { IfErr result (λ fault. (fault ≡ LexFault.Memory) ⊎ Cause source.now commands fault) }
+{
+    match lex_session(alloc, source, source_type, tokens, commands.as_slice()) {
+        Ok(report) => Ok((commands, report)),
+        Err(fault) => Err(fault),
+    }
+}
+
+/// A session up to the end of the source: its commands, and its report.
+fn run_all(
+    alloc: Global,
+    source: &[u8],
+    source_type: SourceType,
+    tokens: bool,
+) -> Result<(CommandList, Report), LexFault>
+    ensures commands { IfOk result (λ ran. AreMeant Commands.All source.now source_type tokens ran.0 ran.1) }
+    ensures report { IfOk result (λ ran. ReportOf source.now source_type tokens ran.0 ran.1) }
+    ensures slices { IfOk result (λ ran. AllByRecursion (λ row. IsSliceOnPlaces source.now row.value) ran.1.rows) }
+    ensures ok { OnOk result (IsReadable source.now) }
+    ensures cause { IfErr result (λ fault. (fault ≡ LexFault.Memory) ⊎ SourceCause source.now fault) }
+{
+    let (count, report) = match lex_all(alloc, source, source_type, tokens) {
+        Ok(whole) => whole,
+        Err(fault) => return Err(fault),
+    };
+    let mut commands = CommandList::new_in(alloc);
+    match push_repeated(&mut commands, Command::Next, count as usize) {
+        Ok(()) => Ok((commands, report)),
+        Err(_) => Err(LexFault::Memory),
+    }
+}
+
+/// A session over the source as it is meant: its commands, and its report.
+fn run_commands(
+    alloc: Global,
+    source: &[u8],
+    source_type: SourceType,
+    tokens: bool,
+    commands: Commands,
+) -> Result<(CommandList, Report), LexFault>
+    ensures commands { IfOk result (λ ran. AreMeant commands source.now source_type tokens ran.0 ran.1) }
+    ensures report { IfOk result (λ ran. ReportOf source.now source_type tokens ran.0 ran.1) }
+    ensures slices { IfOk result (λ ran. AllByRecursion (λ row. IsSliceOnPlaces source.now row.value) ran.1.rows) }
+    ensures ok { OnOk result (IsReadable source.now × HasMarks (listed_commands commands)) }
+    ensures cause { IfErr result (λ fault.
+        (fault ≡ LexFault.Memory) ⊎ Cause source.now (listed_commands commands) fault) }
+{
+    match commands {
+        Commands::Listed(commands) => run_listed(alloc, source, source_type, tokens, commands),
+        Commands::All => run_all(alloc, source, source_type, tokens),
+    }
+}
+
 /// Runs a session over the bytes of an input, and writes its report.
 fn answer<O: ByteOut>(
     alloc: Global,
@@ -118,21 +184,26 @@ fn answer<O: ByteOut>(
     requires { length source ≤ most_bytes }
     ensures { Answers line source (O.state output.old) (O.state output.new) result }
 {
-    let report = match lex_session(
+    let CommandLine {
+        source_type,
+        tokens,
+        commands,
+    } = line;
+    let (commands, report) = match run_commands(
         alloc,
         source.as_slice(),
-        line.source_type,
-        line.tokens,
-        line.commands.as_slice(),
+        source_type,
+        tokens,
+        commands,
     ) {
-        Ok(report) => report,
+        Ok(ran) => ran,
         Err(fault) => return outcome_without_run(status_of(fault)),
     };
     let ran = Ran {
         source,
-        source_type: line.source_type,
-        tokens: line.tokens,
-        commands: line.commands,
+        source_type,
+        tokens,
+        commands,
         report,
     };
     write_report(alloc, ran, output)

@@ -2,7 +2,8 @@
 
 ghost use Rattle.std.specs.Prelude.{◌≡◌, ◌++◌, IfOk, OnOk, map, replicate, string_bytes};
 ghost use Rattle.js_lex_tool.specs.Words.{entry_for, source_type_words, tokens_words, command_of, count_in};
-ghost use Rattle.js_lex_tool.specs.Words.{repeated_command, allowed_commands_in, command_line_of};
+ghost use Rattle.js_lex_tool.specs.Words.{repeated_command, allowed_commands_in, is_all, commands_meant};
+ghost use Rattle.js_lex_tool.specs.Words.{command_line_of};
 
 use crate::command::{COMMANDS, command_word};
 use js_session::{Command, CommandList};
@@ -12,13 +13,22 @@ use std::alloc::{AllocError, Global};
 /// The most commands, and the most repetitions of one.
 const MOST_COMMANDS: usize = 1_000_000;
 
+/// What a session is to do.
+#[derive(Drop)]
+pub enum Commands {
+    /// These commands.
+    Listed(CommandList),
+    /// As many steps as lead to the end of the source.
+    All,
+}
+
 /// What the words of a run mean.
 #[derive(Drop)]
 pub struct CommandLine {
     pub source_type: SourceType,
     /// Whether the tokens are collected.
     pub tokens: bool,
-    pub commands: CommandList,
+    pub commands: Commands,
 }
 
 fn parse_source_type(word: &str) -> Option<SourceType>
@@ -77,7 +87,8 @@ fn parse_repeated(word: &str) -> Option<(Command, usize)>
     }
 }
 
-fn push_repeated(
+/// Adds a command so many times.
+pub(crate) fn push_repeated(
     commands: &mut CommandList,
     command: Command,
     count: usize,
@@ -90,7 +101,8 @@ fn push_repeated(
     Ok(())
 }
 
-fn read_commands(alloc: Global, words: &[String]) -> Result<Option<CommandList>, AllocError>
+/// The commands that command words mean. None: they are not valid.
+fn read_listed(alloc: Global, words: &[String]) -> Result<Option<CommandList>, AllocError>
     ensures { IfOk result (λ commands. commands ≡ allowed_commands_in (map string_bytes words.now)) }
 {
     let mut commands = CommandList::new_in(alloc);
@@ -104,6 +116,28 @@ fn read_commands(alloc: Global, words: &[String]) -> Result<Option<CommandList>,
         push_repeated(&mut commands, command, count)?;
     }
     Ok(Some(commands))
+}
+
+fn is_all(words: &[String]) -> bool
+    ensures { result ≡ is_all (map string_bytes words.now) }
+{
+    match words {
+        [word] => word.as_str() == "all",
+        _ => false,
+    }
+}
+
+/// What the words in the place of commands mean. None: they are not valid.
+fn read_commands(alloc: Global, words: &[String]) -> Result<Option<Commands>, AllocError>
+    ensures { IfOk result (λ commands. commands ≡ commands_meant (map string_bytes words.now)) }
+{
+    if is_all(words) {
+        return Ok(Some(Commands::All));
+    }
+    match read_listed(alloc, words)? {
+        Some(commands) => Ok(Some(Commands::Listed(commands))),
+        None => Ok(None),
+    }
 }
 
 /// The command line that the words after the program's name are. None: they are not valid.

@@ -1,12 +1,13 @@
 -- A source and a list of commands have one fault at most.
-use Rattle.std.proofs.Common.{◌≡◌, ◌⊎◌, ℕ, true, false, List, refl, sym, ◌∙◌, ap, arith, inl, inr, Result, Ok, Err}
-use Rattle.std.proofs.Common.{OnOk, IfErr, IsOk}
+use Rattle.std.proofs.Common.{◌≡◌, ◌≢◌, ◌⊎◌, ℕ, true, false, List, [], refl, sym, ◌∙◌, ap, arith, inl, inr}
+use Rattle.std.proofs.Common.{Result, Ok, Err, OnOk, IfErr, IsOk, subst}
 use Rattle.std.proofs.lemmas.Bool.{cases_lt}
+use Rattle.std.proofs.lemmas.Result.{on_ok_weaker}
 use Rattle.js_session.specs.declared.command.Command.{Command}
 use Rattle.js_session.specs.declared.fault.LexFault.{LexFault}
 use Rattle.js_session.specs.declared.fault.LexFault.TheVariants.{Overlong, NotUtf8, NotBuilt, NoMark, Memory}
-use Rattle.js_session.specs.declared.report.Report.{Report}
-use Rattle.js_session.specs.Faults.{IsBuilt, FirstUnbuilt, FirstWithoutMark, HasMarks, IsReadable, Cause}
+use Rattle.js_session.specs.Faults.{IsBuilt, FirstUnbuilt, FirstWithoutMark, HasMarks, IsReadable}
+use Rattle.js_session.specs.Faults.{SourceCause, Cause}
 
 unbuilt_unique : (source : List ℕ) (a b : ℕ) → FirstUnbuilt source a → FirstUnbuilt source b → a ≡ b
 unbuilt_unique source a b h g =
@@ -67,8 +68,17 @@ cause_unique source commands (NoMark i) (NoMark j) c d = ap NoMark (mark_unique 
 cause_unique source commands (NoMark i) Memory c d = absurd d
 cause_unique source commands Memory b c d = absurd c
 
+-- what is a cause in the source is one whatever the commands are
+pub source_cause : (source : List ℕ) (commands : List Command) (fault : LexFault) → SourceCause source fault
+    → Cause source commands fault
+source_cause source commands Overlong c = c
+source_cause source commands (NotUtf8 at) c = c
+source_cause source commands (NotBuilt at) c = c
+source_cause source commands (NoMark index) c = absurd c
+source_cause source commands Memory c = absurd c
+
 -- Where a fault has its cause, it comes, or a lack of memory is reported.
-pub exactly : (source : List ℕ) (commands : List Command) (result : Result Report LexFault) (fault : LexFault)
+pub exactly : {A : Type 0} (source : List ℕ) (commands : List Command) (result : Result A LexFault) (fault : LexFault)
     → OnOk result (IsReadable source × HasMarks commands)
     → IfErr result (λ e. (e ≡ Memory) ⊎ Cause source commands e) → Cause source commands fault
     → (result ≡ Err fault) ⊎ (result ≡ Err Memory)
@@ -78,10 +88,41 @@ exactly source commands (Err e) fault ok cause c =
     [ inl memory ↦ inr (ap Err memory) | inr other ↦ inl (ap Err (cause_unique source commands e fault other c)) ]
 
 -- Where nothing is at fault, there is a report, or a lack of memory is reported.
-pub completely : (source : List ℕ) (commands : List Command) (result : Result Report LexFault)
+pub completely : {A : Type 0} (source : List ℕ) (commands : List Command) (result : Result A LexFault)
     → IfErr result (λ e. (e ≡ Memory) ⊎ Cause source commands e)
     → IsReadable source → HasMarks commands → IsOk result ⊎ (result ≡ Err Memory)
 completely source commands (Ok report) cause h marks = inl refl
 completely source commands (Err e) cause h marks =
     elim cause
     [ inl memory ↦ inr (ap Err memory) | inr other ↦ absurd (sound_no_cause source commands e h marks other) ]
+
+-- where there are no commands, none closes a mark
+no_commands : HasMarks []
+no_commands i c = absurd (let no = c.here in cc)
+
+-- a cause in the source, or a lack of memory, seen as that of a session without commands
+source_causes : {A : Type 0} (source : List ℕ) (result : Result A LexFault)
+    → IfErr result (λ e. (e ≡ Memory) ⊎ SourceCause source e) → IfErr result (λ e. (e ≡ Memory) ⊎ Cause source [] e)
+source_causes source (Ok whole) cause = tt
+source_causes source (Err e) (inl memory) = inl memory
+source_causes source (Err e) (inr cause) = inr (source_cause source [] e cause)
+
+pub exactly_source : {A : Type 0} (source : List ℕ) (result : Result A LexFault) (fault : LexFault)
+    → OnOk result (IsReadable source) → IfErr result (λ e. (e ≡ Memory) ⊎ SourceCause source e)
+    → SourceCause source fault → (result ≡ Err fault) ⊎ (result ≡ Err Memory)
+exactly_source source result fault ok cause c =
+    exactly source [] result fault (on_ok_weaker result (λ h. (h, no_commands)) ok) (source_causes source result cause)
+    (source_cause source [] fault c)
+
+pub completely_source : {A : Type 0} (source : List ℕ) (result : Result A LexFault)
+    → IfErr result (λ e. (e ≡ Memory) ⊎ SourceCause source e) → IsReadable source → IsOk result ⊎ (result ≡ Err Memory)
+completely_source source result cause h =
+    completely source [] result (source_causes source result cause) h no_commands
+
+-- no command closes a mark too many where there are none
+pub never_no_mark : {A : Type 0} (source : List ℕ) (result : Result A LexFault) (index : ℕ)
+    → IfErr result (λ e. (e ≡ Memory) ⊎ SourceCause source e) → result ≢ Err (NoMark index)
+never_no_mark source (Ok whole) index cause e = absurd (cc)
+never_no_mark source (Err fault) index (inl memory) e = absurd (cc)
+never_no_mark source (Err fault) index (inr cause) e =
+    let is : fault ≡ NoMark index = cc in absurd (subst (SourceCause source) is cause)

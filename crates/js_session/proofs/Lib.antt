@@ -7,3 +7,5 @@ pub mod ReadLemmas
 pub mod RunLemmas
 pub mod StepLemmas
 pub mod Unique
+pub mod WholeLemmas
+pub mod WholeUnique

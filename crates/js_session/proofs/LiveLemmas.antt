@@ -18,7 +18,7 @@ use Rattle.js_session.proofs.LexerLemmas.{restored-trans}
 pub same_live : (a b : Live) → a.tokens ≡ b.tokens → a.findings ≡ b.findings → a ≡ b
 same_live a b e1 e2 = rw (e1, e2) refl
 
-last_or-push : (o : Option TokenParts) (ts : List TokenParts) (t : TokenParts) → last_or o (ts ++ t ∷ []) ≡ Some t
+pub last_or-push : (o : Option TokenParts) (ts : List TokenParts) (t : TokenParts) → last_or o (ts ++ t ∷ []) ≡ Some t
 last_or-push o [] t = refl
 last_or-push o (u ∷ ts) t = last_or-push (Some u) ts t
 

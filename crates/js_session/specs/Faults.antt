@@ -36,10 +36,18 @@ pub record IsReadable (source : List ℕ) : Type 0 where
   pub utf8 : IsUtf8 source
   pub built : IsBuilt source
 
--- The cause of a fault: that of one is none of those tested before it. A lack of memory has none here.
+-- The cause of a fault of the source: that of one is none of those tested before it. A lack of memory has none here.
+abbrev pub SourceCause : List ℕ → LexFault → Type 0
+SourceCause source Overlong = 2 ^ 32 ≤ length source
+SourceCause source (NotUtf8 at) = (length source < 2 ^ 32) × (¬ (IsUtf8 source)) × (at ≡ utf8_valid_len source)
+SourceCause source (NotBuilt at) = (length source < 2 ^ 32) × IsUtf8 source × FirstUnbuilt source at
+SourceCause source (NoMark index) = ⊥
+SourceCause source Memory = ⊥
+
+-- The cause of a fault: one of the source, or, where the source has none, one of the commands.
 abbrev pub Cause : List ℕ → List Command → LexFault → Type 0
-Cause source commands Overlong = 2 ^ 32 ≤ length source
-Cause source commands (NotUtf8 at) = (length source < 2 ^ 32) × (¬ (IsUtf8 source)) × (at ≡ utf8_valid_len source)
-Cause source commands (NotBuilt at) = (length source < 2 ^ 32) × IsUtf8 source × FirstUnbuilt source at
+Cause source commands Overlong = SourceCause source Overlong
+Cause source commands (NotUtf8 at) = SourceCause source (NotUtf8 at)
+Cause source commands (NotBuilt at) = SourceCause source (NotBuilt at)
 Cause source commands (NoMark index) = IsReadable source × FirstWithoutMark commands index
-Cause source commands Memory = ⊥
+Cause source commands Memory = SourceCause source Memory

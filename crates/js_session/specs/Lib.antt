@@ -5,3 +5,4 @@ pub mod Marks
 pub mod Report
 pub mod RowReader
 pub mod Session
+pub mod WholeSource

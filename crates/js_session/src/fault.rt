@@ -1,11 +1,10 @@
 //! Why there is no report, and the tests for it.
 
-ghost use Rattle.std.specs.Prelude.{◌≡◌, ◌+◌, ◌<◌, List, length, cond, true, IfOk, IfErr, IfSome, IfNone};
+ghost use Rattle.std.specs.Prelude.{◌≡◌, ◌+◌, ◌<◌, length, cond, true, IfOk, IfErr, IfSome, IfNone};
 ghost use Rattle.std.specs.Prelude.{MatchOption};
 ghost use Rattle.js_session.specs.Effects.{opens_one, closes};
-ghost use Rattle.js_session.specs.declared.command.Command.{Command};
 ghost use Rattle.js_session.specs.Faults.{is_unbuilt_byte, FirstUnbuilt, IsBuilt, FirstWithoutMark};
-ghost use Rattle.js_session.specs.Faults.{HasMarks, IsReadable, Cause};
+ghost use Rattle.js_session.specs.Faults.{HasMarks, IsReadable, SourceCause, Cause};
 
 use crate::command::Command;
 
@@ -70,9 +69,9 @@ fn first_without_mark(commands: &[Command]) -> Option<usize>
 }
 
 /// The source as a text that can be read.
-fn text_of(source: &[u8]) -> Result<&str, LexFault>
+pub(crate) fn text_of(source: &[u8]) -> Result<&str, LexFault>
     ensures ok { IfOk result (λ text. (text.now ≡ source.now) × IsReadable source.now) }
-    ensures err { IfErr result (λ fault. (commands : List Command) → Cause source.now commands fault) }
+    ensures err { IfErr result (SourceCause source.now) }
 {
     if source.len() > u32::MAX as usize {
         return Err(LexFault::Overlong);

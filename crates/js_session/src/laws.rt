@@ -1,6 +1,7 @@
 //! Laws of the definitions alone: each function carries one for all arguments, and does nothing.
 
-ghost use Rattle.std.specs.Prelude.{◌≡◌, ℕ, Bool, List, Option, Some};
+ghost use Rattle.std.specs.Prelude.{◌≡◌, ◌<◌, ℕ, Bool, List, Option, Some};
+ghost use Rattle.std.specs.List.{AllByRecursion};
 ghost use Rattle.std.specs.Str.{IsUtf8};
 ghost use Rattle.js_text.specs.declared.source_type.SourceType.{SourceType};
 ghost use Rattle.js_session.specs.declared.command.Command.{Command};
@@ -8,6 +9,7 @@ ghost use Rattle.js_session.specs.declared.report.Report.{Report};
 ghost use Rattle.js_session.specs.declared.row.Row.{Row};
 ghost use Rattle.js_session.specs.Live.{Live, outcome_of};
 ghost use Rattle.js_session.specs.Report.{IsRow, ReportOf};
+ghost use Rattle.js_session.specs.WholeSource.{nexts, IsEof, ReportOfWhole};
 
 use crate::command::Command;
 pub use js_grammar::laws::{one_piece_starts_at_a_place, one_token_is_read};
@@ -22,6 +24,20 @@ pub fn one_row_is_given()
 pub fn one_report_is_given()
     ensures { (source : List ℕ) (t : SourceType) (collects : Bool) (commands : List Command) (a b : Report)
         → ReportOf source t collects commands a → ReportOf source t collects commands b → a ≡ b }
+{}
+
+/// A source, of a type, and with tokens collected or not, has at most one number of steps that lead to its end, and at
+/// most one report of them.
+pub fn one_whole_report_is_given()
+    ensures { (source : List ℕ) (t : SourceType) (collects : Bool) (m n : ℕ) (a b : Report)
+        → ReportOfWhole source t collects m a → ReportOfWhole source t collects n b → (m ≡ n) × (a ≡ b) }
+{}
+
+/// A session with fewer steps than lead to the end of a source has no row that is the end.
+pub fn fewer_steps_stop_before_the_end()
+    ensures { (source : List ℕ) (t : SourceType) (collects : Bool) (steps fewer : ℕ) (whole report : Report)
+        → ReportOfWhole source t collects steps whole → fewer < steps
+        → ReportOf source t collects (nexts fewer) report → AllByRecursion (λ row. ¬ (IsEof row)) report.rows }
 {}
 
 /// A peek gives the token that the next step gives, with its value, and finds what that finds.

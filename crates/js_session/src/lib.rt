@@ -14,6 +14,7 @@ mod session;
 mod steps;
 #[cfg(test)]
 mod tests;
+mod whole_source;
 
 pub use command::{Command, CommandList};
 pub use fault::LexFault;
@@ -25,3 +26,4 @@ pub use row::Row;
 pub use row_list::RowList;
 pub use session::Session;
 pub use steps::Steps;
+pub use whole_source::lex_all;

@@ -2,7 +2,7 @@
 
 ghost use Rattle.std.specs.Prelude.{◌≡◌, ◌<◌};
 
-use crate::{Command, LexFault, Report, Row, RowList, Session, Steps, lex_session};
+use crate::{Command, LexFault, Report, Row, RowList, Session, Steps, lex_all, lex_session};
 use js_kind::{
     Kind, LexerConfig, NoTokensLexerConfig, RuntimeLexerConfig, Token, TokensLexerConfig,
 };
@@ -109,6 +109,51 @@ fn faults(rt: HostRuntime) {
     for (source, commands, fault) in &FAULTS {
         let result = lex_session(rt.alloc(), source, SourceType::Module, false, commands);
         assert_eq!(rt; result.err(), Some(*fault));
+    }
+}
+
+/// A source, how many steps lead to its end, and where its last row is.
+static WHOLE_SOURCES: [(&str, u64, (u32, u32)); 4] = [
+    ("", 0, (0, 0)),
+    ("a b", 2, (3, 3)),
+    ("a\u{1}b ", 3, (4, 4)),
+    ("a /* b", 1, (2, 6)),
+];
+
+/// Whether the last row alone is the end of the source, and lies there.
+fn ends_at(rows: &[Row], place: (u32, u32)) -> bool {
+    let ends = rows
+        .iter()
+        .filter(|row| row.token.kind().is_same(Kind::Eof))
+        .count();
+    match rows.last() {
+        Some(row) => ends == 1 && row.token.start() == place.0 && row.token.end() == place.1,
+        None => false,
+    }
+}
+
+#[test]
+fn whole_sources(rt: HostRuntime) -> Result<(), Fail> {
+    for (source, steps, end) in &WHOLE_SOURCES {
+        let bytes = source.as_bytes();
+        let (count, report) = lex_all(rt.alloc(), bytes, SourceType::Module, true)
+            .ok()
+            .ok_or("no report")?;
+        assert_eq!(rt; count, *steps, "{source:?}");
+        assert_eq!(rt; report.rows.len() as u64, *steps + 1, "{source:?}");
+        assert!(rt; ends_at(report.rows.as_slice(), *end), "{source:?}");
+    }
+    Ok(())
+}
+
+#[test]
+fn faults_of_whole_sources(rt: HostRuntime) {
+    for (source, fault) in [
+        (b"a \"".as_slice(), LexFault::NotBuilt(2)),
+        (b"\"a \xFF".as_slice(), LexFault::NotUtf8(3)),
+    ] {
+        let result = lex_all(rt.alloc(), source, SourceType::Module, false);
+        assert_eq!(rt; result.err(), Some(fault));
     }
 }
 

@@ -41,12 +41,24 @@ const CALL: &str = concat!(
 );
 
 /// Words, a source, and the text that is written.
-static TEXTS: [(&str, &str, &str); 14] = [
+static TEXTS: [(&str, &str, &str); 15] = [
     ("module no-tokens next*5", "foo(a);", CALL),
     (
         "module no-tokens",
         "",
         "row 0 first 0 1 Eof 0..0 n\ntoken Eof 0..0 n\n",
+    ),
+    (
+        "module no-tokens all",
+        "a b",
+        concat!(
+            "row 0 first 0 1 Ident 0..1 n =a\n",
+            "row 1 next 1 1 Ident 2..3 - =b\n",
+            "row 2 next 3 1 Eof 3..3 -\n",
+            "token Ident 0..1 n\n",
+            "token Ident 2..3 -\n",
+            "token Eof 3..3 -\n",
+        ),
     ),
     (
         "module no-tokens next",
@@ -167,7 +179,7 @@ fn texts(rt: HostRuntime) -> Result<(), Fail> {
 }
 
 /// Words, a source, and the status that comes of them.
-static REFUSALS: [(&str, &[u8], u8); 17] = [
+static REFUSALS: [(&str, &[u8], u8); 22] = [
     ("module", b"a", USAGE),
     ("tokens module", b"a", USAGE),
     ("module no-tokens nxt", b"a", USAGE),
@@ -179,10 +191,15 @@ static REFUSALS: [(&str, &[u8], u8); 17] = [
     ("module no-tokens next*2*2", b"a", USAGE),
     ("module no-tokens next*1000001", b"a", USAGE),
     ("module no-tokens next*600000 peek*400001", b"a", USAGE),
-    ("module no-tokens", b"a1", NOT_BUILT),
+    ("module no-tokens all next", b"a", USAGE),
+    ("module no-tokens next all", b"a", USAGE),
+    ("module no-tokens all*2", b"a", USAGE),
+    ("module no-tokens all", b"a\"", NOT_BUILT),
+    ("module no-tokens all", b"a\xff", NOT_UTF8),
+    ("module no-tokens", b"a'", NOT_BUILT),
     ("module no-tokens", b"a\xe2\x82", NOT_UTF8),
-    ("module no-tokens", b"1\xff", NOT_UTF8),
-    ("module no-tokens rewind", b"1", NOT_BUILT),
+    ("module no-tokens", b"'\xff", NOT_UTF8),
+    ("module no-tokens rewind", b"'", NOT_BUILT),
     ("module no-tokens mark rewind rewind next", b"a", NO_MARK),
     ("module no-tokens commit", b"", NO_MARK),
 ];
@@ -192,6 +209,24 @@ fn refusals(rt: HostRuntime) -> Result<(), Fail> {
     for (words, source, wanted) in REFUSALS.iter() {
         let (status, _) = run_sure(rt.alloc(), words, source)?;
         assert_eq!(rt; status, *wanted, "{words} of {wanted}");
+    }
+    Ok(())
+}
+
+/// How many commands ran, if any did.
+fn commands_run(alloc: Global, words: &str, source: &[u8]) -> Result<Option<usize>, AllocError> {
+    let mut input = SureIn::new(source, 3);
+    let mut output = SureOut::new(alloc, 10);
+    let words = strings_of(alloc, words)?;
+    let outcome = lex_tool_run_sure(alloc, &words, &mut input, &mut output);
+    Ok(outcome.ran.map(|ran| ran.commands.len()))
+}
+
+#[test]
+fn commands_of_all(rt: HostRuntime) -> Result<(), Fail> {
+    for (source, count) in [(b"".as_slice(), 0), (b"a b", 2), (b"foo(a);", 5)] {
+        let commands = commands_run(rt.alloc(), "module no-tokens all", source)?;
+        assert_eq!(rt; commands, Some(count));
     }
     Ok(())
 }

@@ -1,7 +1,7 @@
 use Rattle.std.proofs.Common.{◌≡◌, ◌≤◌, ◌++◌, length, drop, map, string_bytes}
 use Rattle.std.specs.Option.{option_map}
 use Rattle.js_lex_tool.specs.Words.{commands_in, most_commands}
-use Rattle.js_lex_tool.proofs.words.read_commands.Given as goal
+use Rattle.js_lex_tool.proofs.words.read_listed.Given as goal
 
 -- All words say the commands so far, and then those of the words that are left.
 abbrev pub invariant-loop-word : goal.invariant-loop-word
