@@ -1,7 +1,10 @@
 pub mod Clean
 pub mod Flags
 pub mod GapLemmas
+pub mod NameLaws
 pub mod NameLemmas
+pub mod NameBegins
+pub mod NameCuts
 pub mod NameItems
 pub mod NameRows
 pub mod NumberBegins

@@ -1,23 +1,21 @@
 -- The items of names: what each takes of a text, and that a good one is the same whatever follows it.
-use Rattle.std.proofs.Common.{◌≡◌, ◌≢◌, ℕ, zero, suc, ◌+◌, ◌*◌, ◌<◌, ◌≤◌, Bool, true, false, not, ◌&&◌, ◌||◌, ◌==◌, List, [], ◌∷◌}
+use Rattle.std.proofs.Common.{◌≡◌, ℕ, zero, suc, ◌+◌, ◌*◌, ◌<◌, Bool, true, false, not, ◌&&◌, ◌==◌, List, [], ◌∷◌}
 use Rattle.std.proofs.Common.{◌++◌, length, take, drop, refl, sym, ◌∙◌, ap, subst, arith, Option, Some, None, inl, inr}
 use Rattle.std.proofs.Common.{append_assoc}
 use Rattle.std.specs.Prelude.{codes, nat_lt, nat_le}
 use Rattle.std.specs.Char.{digit_value}
 use Rattle.std.specs.Char.Utf16.{is_high_surrogate, is_low_surrogate}
-use Rattle.std.specs.List.{list_any}
 use Rattle.std.specs.Option.{option_map_or}
 use Rattle.std.specs.Str.Parse.{AllDigits, digits_value}
 use Rattle.std.proofs.lemmas.Bool.{eqb-true, ltb-true, leb-true}
-use Rattle.std.proofs.lemmas.Bool.Decides.{nat_tests}
-use Rattle.std.proofs.Math.Seq.{drop-append_seam}
 use Rattle.unicode_ident.proofs.Computing.{unicode_ident}
 use Rattle.js_text.specs.Ascii.{backslash}
 use Rattle.js_text.specs.Characters.{begins, before_first, is_identifier_start, is_identifier_part}
 use Rattle.js_kind.specs.Digits.{is_digit_of}
 use Rattle.js_grammar.specs.Gap.{is_prefix}
 use Rattle.js_grammar.specs.Name.{NameItem, NameFault, latin_small_letter_u, is_surrogate, low_surrogate_escape}
-use Rattle.js_grammar.specs.Name.{surrogate_text, item_of_code_point, item_of_escape, escape_item, name_item, plain_item}
+use Rattle.js_grammar.specs.Name.{surrogate_text, item_of_code_point, item_of_escape, escape_item, name_item}
+use Rattle.js_grammar.specs.Name.{plain_item}
 use Rattle.js_grammar.specs.Name.{good_escape, faulty_escape, has_escape}
 use Rattle.js_grammar.specs.Name.NameFault.{bad_escape, not_allowed}
 use Rattle.js_grammar.specs.UnicodeEscape.{UnicodeEscape, hex_digits, four_digits, digits_of_code_point, braced_digits}
@@ -196,10 +194,10 @@ low_first text =
     let digits = hex_digits 4 (drop 2 text) in
     elim (true_or_false (is_prefix mark text && option_map_or is_low_surrogate digits.code_point false)) [
       | inl there ↦ (
-          let first = (and_true (is_prefix mark text) (option_map_or is_low_surrogate digits.code_point false) there).0 in
+          let both = and_true (is_prefix mark text) (option_map_or is_low_surrogate digits.code_point false) there in
           rw there (
             digits.rest,
-            prefix_is mark text first ∙ ap (λ t. backslash ∷ latin_small_letter_u ∷ t) (digits_first 4 (drop 2 text)),
+            prefix_is mark text both.0 ∙ ap (λ t. backslash ∷ latin_small_letter_u ∷ t) (digits_first 4 (drop 2 text)),
           ))
       | inr none ↦ rw none (text, refl)
     ]
@@ -436,6 +434,7 @@ escaped_anywhere allowed (c ∷ cs) ys good =
         ∙ ap Some
         (escape_there allowed ((unicode_escape cs).text ++ ys) ∙ good_unicode allowed cs ys is
         ∙ sym (escape_there allowed cs))
+
     by_mark : (c : ℕ) (cs : List ℕ) → c ≡ latin_small_letter_u → (escape_item allowed (c ∷ cs)).fault ≡ None
         → name_item allowed ((escape_item allowed (c ∷ cs)).text ++ ys) ≡ Some (escape_item allowed (c ∷ cs))
     by_mark c cs same =

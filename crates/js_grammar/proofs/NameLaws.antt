@@ -1,0 +1,230 @@
+-- What is read of a name is what its characters say, and a name is read without a fault exactly where it has none.
+use Rattle.std.proofs.Common.{◌≡◌, ◌≢◌, ℕ, Bool, true, false, ◌==◌, List, [], ◌∷◌, ◌++◌, length, refl, sym}
+use Rattle.std.proofs.Common.{◌∙◌, ap, subst, arith, Some, None, inl, inr}
+use Rattle.std.specs.List.{list_any}
+use Rattle.std.proofs.lemmas.Bool.{eqb-true}
+use Rattle.std.proofs.lemmas.List.{append_cancel_right, append-nil, length-append}
+use Rattle.js_text.specs.Ascii.{backslash}
+use Rattle.js_text.specs.Characters.{begins, before_first, from_first, is_identifier_start, is_identifier_part}
+use Rattle.js_grammar.specs.Name.{NameItem, name_item, name_items, CutsInto, items_text, items_value, has_fault}
+use Rattle.js_grammar.specs.Name.{has_escape, decoded, begins_name, continues_name, IsName, NameRead, name_read}
+use Rattle.js_grammar.specs.Name.{items_report, is_no_part, plain_item, escape_item}
+use Rattle.js_grammar.proofs.NameCuts.{items_cut, cut_items, cut_text, read_of_cut, no_item, nothing_continues}
+use Rattle.js_grammar.proofs.NameCuts.{cut_anywhere, none_behind, escapes_of_cut, plain_items, nothing_reported}
+use Rattle.js_grammar.proofs.NameCuts.{reports_nothing}
+use Rattle.js_grammar.proofs.NameItems.{backslash_is_no_name, item_takes}
+use Rattle.js_grammar.proofs.NumberItems.{true_or_false}
+
+-- what is read of a name without a fault
+abbrev pub good_name : List ℕ → List ℕ → NameRead
+good_name xs ys = record { rest = ys; has_escape = has_escape xs; decoded = decoded xs; diagnostics = [] }
+
+-- A name is read as such where what follows does not go on with it.
+pub name_is_read : (place : ℕ) (xs ys : List ℕ) → IsName xs → continues_name ys ≡ false
+    → name_read place (xs ++ ys) ≡ good_name xs ys
+name_is_read place xs ys is end =
+    let items = name_items is_identifier_start xs in
+    let found = items_cut is_identifier_start xs in
+    let some : items ≢ [] = λ none. is.some (sym is.whole ∙ ap items_text none) in
+    let moved =
+    cut_anywhere is_identifier_start xs items found.rest ys found.cut some is.good (no_item ys end) in
+    let cut : CutsInto is_identifier_start (xs ++ ys) items ys =
+    subst (λ t. CutsInto is_identifier_start (t ++ ys) items ys) is.whole moved in
+    let escapes = sym (escapes_of_cut is_identifier_start (xs ++ ys) items ys cut) ∙ ap has_escape is.whole in
+    read_of_cut place (xs ++ ys) items ys cut
+    ∙ rw (escapes, nothing_reported place items is.good) refl
+
+-- xs is a name that the text begins with, and ys follow it.
+pub record BeginsWithName (text xs ys : List ℕ) : Type 0 where
+  pub here : text ≡ xs ++ ys
+  pub name : IsName xs
+  pub follows : continues_name ys ≡ false
+
+-- where a name begins, an item is
+pub some_item : (text : List ℕ) → begins_name text ≡ true → name_item is_identifier_start text ≢ None
+some_item [] begun none = cc
+some_item (c ∷ cs) begun none =
+    elim (true_or_false (c == backslash)) [
+      | inl mark ↦ (let no : Some (escape_item is_identifier_start cs) ≡ None = rw mark at none in cc)
+      | inr other ↦ elim (true_or_false (is_identifier_start c)) [
+        | inl is ↦ (let no : Some (plain_item c) ≡ None = rw (other, is) at none in cc)
+        | inr missing ↦ (let nothing : false ≡ true = rw (missing, other) at begun in cc)
+      ]
+    ]
+
+some_items : (text : List ℕ) (items : List NameItem) (rest : List ℕ) → begins_name text ≡ true
+    → CutsInto is_identifier_start text items rest → items ≢ []
+some_items text [] rest begun cut none = some_item text begun cut.0
+some_items text (item ∷ items) rest begun cut none = cc
+
+-- the characters of good items are a name
+name_of_cut : (text : List ℕ) (items : List NameItem) (rest : List ℕ) → CutsInto is_identifier_start text items rest
+    → items ≢ [] → has_fault items ≡ false → BeginsWithName text (items_text items) rest
+name_of_cut text items rest cut some good =
+    let xs = items_text items in
+    let alone = cut_anywhere is_identifier_start text items rest [] cut some good refl in
+    let same : name_items is_identifier_start xs ≡ items =
+    ap (name_items is_identifier_start) (sym (append-nil xs))
+    ∙ cut_items is_identifier_start (xs ++ []) items [] alone in
+    record {
+      here = cut_text is_identifier_start text items rest cut;
+      name = record {
+        some = some_text items cut some;
+        whole = ap items_text same;
+        good = ap has_fault same ∙ good;
+      };
+      follows = nothing_continues rest (none_behind is_identifier_start text items rest cut some);
+    }
+  where
+    some_text : (items : List NameItem) → CutsInto is_identifier_start text items rest → items ≢ []
+        → items_text items ≢ []
+    some_text [] cut some none = some refl
+    some_text (item ∷ items) cut some none =
+        let takes = item_takes is_identifier_start text item cut.0 in
+        omega (arith, takes.some, ap length none, length-append item.text (items_text items))
+
+-- What is read without a fault is a name.
+pub clean_is_name : (place : ℕ) (text : List ℕ) → begins_name text ≡ true → (name_read place text).diagnostics ≡ []
+    → (xs : List ℕ) × BeginsWithName text xs (name_read place text).rest
+clean_is_name place text begun clean =
+    let items = name_items is_identifier_start text in
+    let found = items_cut is_identifier_start text in
+    let read = read_of_cut place text items found.rest found.cut in
+    let none : items_report place items ≡ [] = ap (λ (r : NameRead). r.diagnostics) (sym read) ∙ clean in (
+      items_text items,
+      subst (λ ys. BeginsWithName text (items_text items) ys) (ap (λ (r : NameRead). r.rest) (sym read))
+          (name_of_cut text items found.rest found.cut (some_items text items found.rest begun found.cut)
+          (reports_nothing place items none)),
+    )
+
+-- A text begins with one name at most. So this is the longest.
+pub record SameName (xs ys us vs : List ℕ) : Type 0 where
+  pub characters : xs ≡ us
+  pub rest : ys ≡ vs
+
+pub one_name : (text xs ys us vs : List ℕ) → BeginsWithName text xs ys → BeginsWithName text us vs
+    → SameName xs ys us vs
+one_name text xs ys us vs a b =
+    let same : good_name xs ys ≡ good_name us vs =
+    sym (name_is_read 0 xs ys a.name a.follows) ∙ ap (name_read 0) (sym a.here ∙ b.here)
+    ∙ name_is_read 0 us vs b.name b.follows in
+    let left : ys ≡ vs = ap (λ (r : NameRead). r.rest) same in
+    record {
+      characters = append_cancel_right xs us ys (sym a.here ∙ b.here ∙ ap (λ t. us ++ t) (sym left));
+      rest = left;
+    }
+
+-- What is read of a name has characters.
+pub name_characters : (place : ℕ) (text : List ℕ) → begins_name text ≡ true
+    → (xs : List ℕ) × (xs ≢ []) × (text ≡ xs ++ (name_read place text).rest)
+name_characters place text begun =
+    let items = name_items is_identifier_start text in
+    let found = items_cut is_identifier_start text in
+    let read = read_of_cut place text items found.rest found.cut in (
+      items_text items,
+      some_text items found.cut,
+      cut_text is_identifier_start text items found.rest found.cut
+          ∙ ap (λ (r : NameRead). items_text items ++ r.rest) (sym read),
+    )
+  where
+    some_text : (items : List NameItem)
+        → CutsInto is_identifier_start text items (items_cut is_identifier_start text).rest
+        → items_text items ≢ []
+    some_text [] cut none = some_item text begun cut.0
+    some_text (item ∷ items) cut none =
+        let takes = item_takes is_identifier_start text item cut.0 in
+        omega (arith, takes.some, ap length none, length-append item.text (items_text items))
+
+-- Only a name with an escape has a fault.
+pub name_has_fault_only_escaped : (place : ℕ) (text : List ℕ) → (name_read place text).diagnostics ≢ []
+    → (name_read place text).has_escape ≡ true
+name_has_fault_only_escaped place text faults =
+    let items = name_items is_identifier_start text in
+    let found = items_cut is_identifier_start text in
+    let read = read_of_cut place text items found.rest found.cut in
+    elim (true_or_false (list_any (λ item. item.is_escape) items)) [
+      | inl some ↦ ap (λ (r : NameRead). r.has_escape) read ∙ some
+      | inr none ↦ (
+          let plain = plain_items is_identifier_start text items found.rest found.cut none in
+          absurd
+          (faults (ap (λ (r : NameRead). r.diagnostics) read ∙ nothing_reported place items plain.0)))
+    ]
+
+-- A name without escapes stands for itself.
+pub plain_decoded : (xs : List ℕ) → IsName xs → has_escape xs ≡ false → decoded xs ≡ xs
+plain_decoded xs is none =
+    let items = name_items is_identifier_start xs in
+    let found = items_cut is_identifier_start xs in
+    let escapes = sym (escapes_of_cut is_identifier_start xs items found.rest found.cut) ∙ ap has_escape is.whole in
+    (plain_items is_identifier_start xs items found.rest found.cut (escapes ∙ none)).1 ∙ is.whole
+
+-- Parts of a name, up to what is none: each is an item.
+abbrev plain_ones : List ℕ → List NameItem
+plain_ones [] = []
+plain_ones (c ∷ cs) = plain_item c ∷ plain_ones cs
+
+class_differs : (allowed : ℕ → Bool) (c : ℕ) → allowed backslash ≡ false → allowed c ≡ true
+    → (c == backslash) ≡ false
+class_differs allowed c none is =
+    elim (true_or_false (c == backslash)) [
+      | inl same ↦ (let no : allowed c ≡ false = ap allowed (eqb-true c backslash same) ∙ none in absurd (cc))
+      | inr other ↦ other
+    ]
+
+pub plain_here : (allowed : ℕ → Bool) (c : ℕ) (cs : List ℕ) → allowed backslash ≡ false → allowed c ≡ true
+    → name_item allowed (c ∷ cs) ≡ Some (plain_item c)
+plain_here allowed c cs none is = rw (class_differs allowed c none is, is) refl
+
+pub plain_parts : (cs : List ℕ) → begins (λ c. c == backslash) (from_first is_no_part cs) ≡ false
+    → CutsInto is_identifier_part cs (plain_ones (before_first is_no_part cs)) (from_first is_no_part cs)
+plain_parts [] end = (refl, refl)
+plain_parts (c ∷ cs) end =
+    elim (true_or_false (is_identifier_part c)) [
+      | inl is ↦
+          rw is (plain_here is_identifier_part c cs backslash_is_no_name.1 is, plain_parts cs (rw is at end))
+      | inr none ↦ (let mark : (c == backslash) ≡ false = rw none at end in rw none (rw (mark, none) refl, refl))
+    ]
+
+plain_values : (cs : List ℕ) → (items_value (plain_ones cs) ≡ cs)
+    × (items_text (plain_ones cs) ≡ cs) × (has_fault (plain_ones cs) ≡ false)
+    × (list_any (λ item. item.is_escape) (plain_ones cs) ≡ false)
+plain_values [] = (refl, refl, refl, refl)
+plain_values (c ∷ cs) =
+    let more = plain_values cs in (ap (λ xs. c ∷ xs) more.0, ap (λ xs. c ∷ xs) more.1, more.2, more.3)
+
+-- what is read of a name that has no escape
+abbrev pub plain_name_read : ℕ → List ℕ → NameRead
+plain_name_read c cs = record {
+  rest = from_first is_no_part cs;
+  has_escape = false;
+  decoded = c ∷ before_first is_no_part cs;
+  diagnostics = [];
+}
+
+-- A name of characters that stand for themselves.
+pub record PlainName (c : ℕ) (cs : List ℕ) : Type 0 where
+  pub read : (place : ℕ) → name_read place (c ∷ cs) ≡ plain_name_read c cs
+  pub name : BeginsWithName (c ∷ cs) (c ∷ before_first is_no_part cs) (from_first is_no_part cs)
+  pub value : decoded (c ∷ before_first is_no_part cs) ≡ c ∷ before_first is_no_part cs
+
+pub plain_name : (c : ℕ) (cs : List ℕ) → is_identifier_start c ≡ true
+    → begins (λ d. d == backslash) (from_first is_no_part cs) ≡ false
+    → PlainName c cs
+plain_name c cs is end =
+    let parts = before_first is_no_part cs in
+    let rest = from_first is_no_part cs in
+    let items = plain_item c ∷ plain_ones parts in
+    let cut : CutsInto is_identifier_start (c ∷ cs) items rest =
+    (plain_here is_identifier_start c cs backslash_is_no_name.0 is, plain_parts cs end) in
+    let values = plain_values parts in
+    let begun = name_of_cut (c ∷ cs) items rest cut (λ none. cc) values.2 in
+    let name : BeginsWithName (c ∷ cs) (c ∷ parts) rest =
+    subst (λ xs. BeginsWithName (c ∷ cs) (c ∷ xs) rest) values.1 begun in
+    record {
+      read = λ place. read_of_cut place (c ∷ cs) items rest cut
+          ∙ rw (values.0, values.3, nothing_reported place items values.2) refl;
+      name = name;
+      value = plain_decoded (c ∷ parts) name.name
+          (sym (ap (λ xs. has_escape (c ∷ xs)) values.1)
+          ∙ escapes_of_cut is_identifier_start (c ∷ cs) items rest cut ∙ values.3);
+    }
