@@ -2,12 +2,15 @@
 #![tactic(auto)]
 
 mod digits;
+mod name;
 mod number;
 mod numeric;
+mod parts;
 mod spelt;
 #[cfg(test)]
 mod tests;
 mod unicode_escape;
+
 
 pub use number::{parse_big_int, parse_int};
 pub use numeric::read_number;

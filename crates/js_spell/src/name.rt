@@ -1,0 +1,281 @@
+//! Reading a name or a private name, good or at fault (ECMA-262 12.7).
+
+ghost use Rattle.std.specs.Prelude.{◌≡◌, ◌≤◌, ◌==◌, ◌++◌, length, true, false, IfOk, IfSome, IfNone, OnOk, OnErr, MatchBool};
+ghost use Rattle.std.specs.Prelude.{[], string_bytes};
+ghost use Rattle.js_text.specs.Ascii.{backslash};
+ghost use Rattle.js_text.specs.Characters.{begins, from_first, is_identifier_part};
+ghost use Rattle.js_grammar.specs.Name.{begins_name, is_no_part, low_surrogate_escape, name_item, no_private_name};
+ghost use Rattle.js_kind.specs.Keywords.{name_kind};
+ghost use Rattle.js_source.specs.Source.{rest, IsPlaced, BeginsWith};
+ghost use Rattle.js_spell.specs.Name.{class_of, PassesPlain, DecodesEscape, DecodesUnicode, ReadsEscape, ReadsItems};
+ghost use Rattle.js_spell.specs.Name.{PassesParts, ReadsParts};
+ghost use Rattle.js_spell.specs.Numeric.{BreaksOff};
+
+use crate::parts::parts;
+use crate::spelt::{Spelt, SpeltValue};
+use crate::unicode_escape::{read_hex_digits, read_unicode_escape};
+use js_kind::{Kind, Token, match_keyword};
+use js_source::Source;
+use js_text::{
+    Diagnostic, DiagnosticList, JSStrBuilder, Span, is_identifier_part, is_identifier_start,
+};
+use std::alloc::{AllocError, Global};
+
+/// The first of the low surrogates.
+const FIRST_LOW_SURROGATE: u32 = 0xDC00;
+
+/// The last of the low surrogates.
+const LAST_LOW_SURROGATE: u32 = 0xDFFF;
+
+/// Where in a name an item stands.
+#[derive(Clone, Copy, Debug)]
+enum Position {
+    /// It begins the name.
+    First,
+    /// Other items are before it.
+    Later,
+}
+
+impl Position {
+    /// Whether a name may have the character here.
+    fn allows(self, c: char) -> bool
+        ensures { result ≡ class_of self c }
+    {
+        match self {
+            Position::First => is_identifier_start(c),
+            Position::Later => is_identifier_part(c),
+        }
+    }
+}
+
+/// What an escape in a name came to.
+#[derive(Clone, Copy, Debug)]
+enum Decoding {
+    /// It stands for the character.
+    Character(char),
+    /// It would stand for the character, which may not be here.
+    NotAllowed(char),
+    /// It is none.
+    Bad,
+}
+
+/// Whether an escape is next.
+#[inline(always)]
+fn begins_escape(source: &Source<'_>) -> bool
+    ensures { result ≡ begins (λ c. c == backslash) (rest source.now) }
+{
+    match source.peek_byte() {
+        Some(b) => b == b'\\',
+        None => false,
+    }
+}
+
+/// Passes the parts of names in ASCII, and tells the character behind them, where it is a part too.
+#[inline(always)]
+fn pass_parts(source: &mut Source<'_>) -> Option<char>
+    ensures text { source.new.text ≡ source.old.text }
+    ensures rest { from_first is_no_part (rest source.new) ≡ from_first is_no_part (rest source.old) }
+    ensures none { IfNone result (from_first is_no_part (rest source.new) ≡ rest source.new) }
+    ensures some { IfSome result (λ c. BeginsWith c (rest source.new)) }
+    ensures part { IfSome result (λ c. is_identifier_part c ≡ true) }
+    ensures onward { source.old.place ≤ source.new.place }
+    ensures fewer { length (rest source.new) ≤ length (rest source.old) }
+    ensures placed { IsPlaced source.new }
+{
+    let b = source.pass_ascii(parts())?;
+    if b < 128 {
+        return None;
+    }
+    let c = source.peek_char()?;
+    if !is_identifier_part(c) {
+        return None;
+    }
+    Some(c)
+}
+
+/// Goes to the first character that is no part of a name.
+#[inline(always)]
+fn skip_parts(source: &mut Source<'_>)
+    requires { IsPlaced source.old }
+    ensures text { source.new.text ≡ source.old.text }
+    ensures rest { rest source.new ≡ from_first is_no_part (rest source.old) }
+    ensures onward { source.old.place ≤ source.new.place }
+    ensures placed { IsPlaced source.new }
+{
+    while let Some(_c) = pass_parts(source) {
+        source.next_char();
+    }
+}
+
+/// Passes the characters of the name that begins here up to its first escape, or its end, and tells where in the name
+/// the source stands then.
+#[inline(always)]
+fn pass_plain(source: &mut Source<'_>) -> Position
+    requires placed { IsPlaced source.old }
+    requires begun { begins_name (rest source.old) ≡ true }
+    ensures passes { PassesPlain source.old result source.new }
+    ensures onward { source.old.place ≤ source.new.place }
+    ensures placed { IsPlaced source.new }
+{
+    if begins_escape(source) {
+        return Position::First;
+    }
+    source.next_char();
+    skip_parts(source);
+    Position::Later
+}
+
+/// Takes the escape of a low surrogate by four digits, if one is next, or some of what is.
+fn take_low_surrogate(source: &mut Source<'_>) -> bool
+    requires { IsPlaced source.old }
+    ensures text { source.new.text ≡ source.old.text }
+    ensures taken { MatchBool result (rest source.old ≡ low_surrogate_escape (rest source.old) ++ rest source.new)
+        (low_surrogate_escape (rest source.old) ≡ []) }
+    ensures placed { IsPlaced source.new }
+{
+    if !source.advance_if_ascii_eq(b'\\') {
+        return false;
+    }
+    if !source.advance_if_ascii_eq(b'u') {
+        return false;
+    }
+    match read_hex_digits(source, 4) {
+        Some(value) => (FIRST_LOW_SURROGATE..=LAST_LOW_SURROGATE).contains(&value),
+        None => false,
+    }
+}
+
+/// Passes the escape of a low surrogate by four digits, if one is next.
+fn pass_low_surrogate(source: &mut Source<'_>)
+    requires { IsPlaced source.old }
+    ensures text { source.new.text ≡ source.old.text }
+    ensures passed { rest source.old ≡ low_surrogate_escape (rest source.old) ++ rest source.new }
+    ensures placed { IsPlaced source.new }
+{
+    let start = source.position();
+    if !take_low_surrogate(source) {
+        source.set_position(start);
+    }
+}
+
+/// Reads an escape behind its `\u`.
+fn decode_unicode(source: &mut Source<'_>, position: Position) -> Decoding
+    requires { IsPlaced source.old }
+    ensures decodes { DecodesUnicode position source.old result source.new }
+    ensures placed { IsPlaced source.new }
+{
+    let is_braced = source.peek_byte() == Some(b'{');
+    let value = match read_unicode_escape(source) {
+        Some(value) => value,
+        None => return Decoding::Bad,
+    };
+    if let Some(c) = char::from_u32(value) {
+        if position.allows(c) {
+            return Decoding::Character(c);
+        }
+        return Decoding::NotAllowed(c);
+    }
+    if is_braced {
+        return Decoding::Bad;
+    }
+    if value < FIRST_LOW_SURROGATE {
+        pass_low_surrogate(source);
+    }
+    Decoding::Bad
+}
+
+/// Reads an escape behind its `\`.
+fn decode_escape(source: &mut Source<'_>, position: Position) -> Decoding
+    requires { IsPlaced source.old }
+    ensures decodes { DecodesEscape position source.old result source.new }
+    ensures placed { IsPlaced source.new }
+{
+    if !source.advance_if_ascii_eq(b'u') {
+        source.next_char();
+        return Decoding::Bad;
+    }
+    decode_unicode(source, position)
+}
+
+/// Reads the escape that is next, and gives the character that it stands for. None: it is at fault, which was reported.
+fn read_escape(
+    source: &mut Source<'_>,
+    errors: &mut DiagnosticList,
+    position: Position,
+) -> Result<Option<char>, AllocError>
+    requires placed { IsPlaced source.old }
+    requires begun { begins (λ c. c == backslash) (rest source.old) ≡ true }
+    ensures ok { IfOk result (λ c. ReadsEscape position source.old source.new errors.old errors.new c) }
+    ensures err { OnErr result (BreaksOff source.old source.new errors.old errors.new) }
+    ensures placed { IsPlaced source.new }
+{
+    source.next_char();
+    let start = source.offset();
+    let decoding = decode_escape(source, position);
+    let end = source.offset();
+    match decoding {
+        Decoding::Character(c) => return Ok(Some(c)),
+        Decoding::NotAllowed(c) => {
+            let span = Span::empty(end);
+            errors.push(Diagnostic::InvalidCharacter { c, span })?;
+        }
+        Decoding::Bad => {
+            let span = Span::new(start, end);
+            errors.push(Diagnostic::UnicodeEscapeSequence { span })?;
+        }
+    }
+    Ok(None)
+}
+
+/// Reads the escape that is next, and adds what it stands for to the text.
+fn read_escape_into(
+    source: &mut Source<'_>,
+    errors: &mut DiagnosticList,
+    position: Position,
+    decoded: &mut String,
+) -> Result<(), AllocError>
+    requires placed { IsPlaced source.old }
+    requires begun { begins (λ c. c == backslash) (rest source.old) ≡ true }
+    ensures ok { OnOk result (ReadsItems position source.old source.new errors.old errors.new
+        (string_bytes decoded.old) (string_bytes decoded.new) true) }
+    ensures err { OnErr result (BreaksOff source.old source.new errors.old errors.new) }
+    ensures placed { IsPlaced source.new }
+{
+    if let Some(c) = read_escape(source, errors, position)? {
+        decoded.push(c)?;
+    }
+    Ok(())
+}
+
+/// Reads the parts that are next and stand for themselves, and adds them to the text.
+fn read_parts_into(source: &mut Source<'_>, decoded: &mut String) -> Result<(), AllocError>
+    requires { IsPlaced source.old }
+    ensures text { source.new.text ≡ source.old.text }
+    ensures ok { OnOk result (PassesParts source.old source.new (string_bytes decoded.old) (string_bytes decoded.new)) }
+    ensures placed { IsPlaced source.new }
+{
+    let start = source.position();
+    skip_parts(source);
+    decoded.push_str(source.str_from_pos_to_current(start))
+}
+
+/// Reads the rest of a name, and adds what it stands for to the text.
+fn read_rest_into(
+    source: &mut Source<'_>,
+    errors: &mut DiagnosticList,
+    decoded: &mut String,
+) -> Result<(), AllocError>
+    requires { IsPlaced source.old }
+    ensures ok { OnOk result (ReadsParts source.old source.new errors.old errors.new
+        (string_bytes decoded.old) (string_bytes decoded.new)) }
+    ensures err { OnErr result (BreaksOff source.old source.new errors.old errors.new) }
+    ensures placed { IsPlaced source.new }
+{
+    'parts: loop {
+        read_parts_into(source, decoded)?;
+        if !begins_escape(source) {
+            return Ok(());
+        }
+        read_escape_into(source, errors, Position::Later, decoded)?;
+    }
+}
