@@ -380,7 +380,7 @@ unicode_takes allowed cs = by_code_point (unicode_escape cs).code_point refl
         subst (λ x. TakesEscape (latin_small_letter_u ∷ cs) x) (sym (of_code_point allowed c (unicode_escape cs) e))
         (code_point_takes allowed c cs)
 
-escape_takes : (allowed : ℕ → Bool) (text : List ℕ) → TakesEscape text (escape_item allowed text)
+pub escape_takes : (allowed : ℕ → Bool) (text : List ℕ) → TakesEscape text (escape_item allowed text)
 unfolding escape_item
 escape_takes allowed [] = faulty_takes [] [] bad_escape ([], refl)
 escape_takes allowed (c ∷ cs) =
@@ -403,7 +403,7 @@ pub record TakesItem (text : List ℕ) (item : NameItem) : Type 0 where
   pub whole : item.is_escape ≡ false → item.fault ≡ None
   pub plain : item.is_escape ≡ false → item.value ≡ item.text
 
-escape_is_item : (text : List ℕ) (item : NameItem) → TakesEscape text item → TakesItem (backslash ∷ text) item
+pub escape_is_item : (text : List ℕ) (item : NameItem) → TakesEscape text item → TakesItem (backslash ∷ text) item
 escape_is_item text item takes = record {
   left = takes.left;
   here = ap (λ t. backslash ∷ t) takes.here ∙ ap (λ t. t ++ takes.left) (sym takes.text_is);

@@ -1,15 +1,15 @@
 -- The steps of reading a name.
-use Rattle.std.specs.Prelude.{◌≡◌, ℕ, ◌<◌, Bool, true, false, List, [], ◌∷◌, ◌++◌, ◌==◌, ◌×◌, map, Option, Some, None}
+use Rattle.std.specs.Prelude.{◌≡◌, ℕ, ◌<◌, Bool, true, false, List, [], ◌∷◌, ◌++◌, ◌==◌, map, Option, Some, None}
 use Rattle.std.specs.Prelude.{option_to_list}
 use Rattle.std.specs.List.{list_any}
-use Rattle.std.specs.Str.{encode_utf8_all}
+use Rattle.std.specs.Str.{chars, encode_utf8_all, IsUtf8}
 use Rattle.js_text.specs.Ascii.{backslash}
 use Rattle.js_text.specs.Characters.{begins, is_identifier_start, is_identifier_part}
 use Rattle.js_text.specs.JsStr.{units_of}
 use Rattle.js_text.specs.declared.diagnostic.Diagnostic.{Diagnostic}
 use Rattle.js_grammar.specs.Name.{NameItem, NameFault, CutsInto, items_text, items_value, items_report, item_report}
 use Rattle.js_grammar.specs.Name.{plain_item, escape_item, item_of_escape, latin_small_letter_u, name_read, private_read}
-use Rattle.js_grammar.specs.Name.{name_item, no_private_name, begins_name}
+use Rattle.js_grammar.specs.Name.{name_item, no_private_name, unnamed}
 use Rattle.js_grammar.specs.Name.NameFault.{bad_escape, not_allowed}
 use Rattle.js_grammar.specs.UnicodeEscape.{unicode_escape}
 use Rattle.js_kind.specs.Keywords.{name_kind}
@@ -91,11 +91,11 @@ pub record ReadsEscape (position : Position) (old new : At) (before after : List
 
 -- Items were read, what is wrong with them was reported, and the bytes of what they stand for were added. The flag
 -- tells whether there is an escape among them.
-pub record ReadsItems (from : Position) (old new : At) (before after : List Diagnostic) (was now : List ℕ)
-    (has_escape : Bool)
+pub record ReadsItems (from : Position) (old : At) (to : Position) (new : At) (before after : List Diagnostic)
+    (was now : List ℕ) (has_escape : Bool)
     : Type 0 where
   pub items : List NameItem
-  pub goes_on : GoesOn from old items Later new
+  pub goes_on : GoesOn from old items to new
   pub reports : after ≡ before ++ items_report old.place items
   pub value : now ≡ was ++ encode_utf8_all (items_value items)
   pub escapes : list_any (λ item. item.is_escape) items ≡ has_escape
@@ -107,8 +107,66 @@ pub record PassesParts (old new : At) (was now : List ℕ) : Type 0 where
   pub value : now ≡ was ++ encode_utf8_all characters
   pub stops : begins is_identifier_part (rest new) ≡ false
 
--- The rest of a name was read, all of it.
-pub record ReadsParts (old new : At) (before after : List Diagnostic) (was now : List ℕ) : Type 0 where
-  pub has_escape : Bool
-  pub read : ReadsItems Later old new before after was now has_escape
+-- Items were read, up to the end of the name.
+pub record ReadsToEnd (from : Position) (old new : At) (before after : List Diagnostic) (was now : List ℕ)
+    (has_escape : Bool)
+    : Type 0 where
+  pub read : ReadsItems from old Later new before after was now has_escape
   pub end : name_item is_identifier_part (rest new) ≡ None
+
+-- A name was read on from its first escape: its kind, and its value.
+pub record SpellsDecoded (from : Position) (old new : At) (before after : List Diagnostic) (plain : List ℕ)
+    (spelt : Spelt)
+    : Type 0 where
+  pub text : List ℕ
+  pub utf8 : IsUtf8 text
+  pub read : ReadsToEnd from old new before after plain text true
+  pub kind : spelt.kind ≡ name_kind text
+  pub value : spelt.value ≡ Decoded (units_of (chars text))
+
+-- The name that is next was read, good or at fault.
+pub record ReadsName (old new : At) (before after : List Diagnostic) (has_escape : Bool) (decoded : List ℕ)
+    : Type 0 where
+  pub text : new.text ≡ old.text
+  pub added : List Diagnostic
+  pub reports : after ≡ before ++ added
+  pub read : name_read old.place (rest old)
+      ≡ record { rest = rest new; has_escape = has_escape; decoded = decoded; diagnostics = added }
+
+-- the value of a spelling: a stretch of the source where it has no escape, and else the units of what it stands for
+abbrev pub HasValue : Bool → List ℕ → SpeltValue → Type 0
+HasValue false decoded value = value ≡ Plain
+HasValue true decoded value = value ≡ Decoded (units_of decoded)
+
+-- A name was read: its kind and its value are those of what it stands for, and the flags of its token were set.
+pub record SpellsName (old new : At) (before after : List Diagnostic) (was now : TokenParts) (spelt : Spelt)
+    : Type 0 where
+  pub decoded : List ℕ
+  pub read : ReadsName old new before after now.escaped decoded
+  pub kind : spelt.kind ≡ name_kind (encode_utf8_all decoded)
+  pub flags : now ≡ record was { escaped = now.escaped; has_separator = false }
+  pub value : HasValue now.escaped decoded spelt.value
+
+-- It was reported that no name follows a `#`; the token is of this kind.
+pub record ReportsNoName (old : At) (before after : List Diagnostic) (kind : Kind) : Type 0 where
+  pub report : Diagnostic
+  pub reports : after ≡ before ++ report ∷ []
+  pub read : no_private_name old.place (rest old) ≡ unnamed kind report
+
+-- What follows a `#` was read, a name or none.
+pub record ReadsPrivateName (old new : At) (before after : List Diagnostic) (kind : Kind) (has_escape : Bool)
+    (decoded : List ℕ)
+    : Type 0 where
+  pub text : new.text ≡ old.text
+  pub added : List Diagnostic
+  pub reports : after ≡ before ++ added
+  pub read : private_read old.place (rest old)
+      ≡ record { kind = kind; rest = rest new; has_escape = has_escape; decoded = decoded; diagnostics = added }
+
+-- A private name was read, or a `#` that no name follows: its value leaves `#` out, and the flags of its token were set.
+pub record SpellsPrivateName (old new : At) (before after : List Diagnostic) (was now : TokenParts) (spelt : Spelt)
+    : Type 0 where
+  pub decoded : List ℕ
+  pub read : ReadsPrivateName old new before after spelt.kind now.escaped decoded
+  pub flags : now ≡ record was { escaped = now.escaped; has_separator = false }
+  pub value : HasValue now.escaped decoded spelt.value

@@ -1,15 +1,21 @@
 //! Reading a name or a private name, good or at fault (ECMA-262 12.7).
 
-ghost use Rattle.std.specs.Prelude.{◌≡◌, ◌≤◌, ◌==◌, ◌++◌, length, true, false, IfOk, IfSome, IfNone, OnOk, OnErr, MatchBool};
-ghost use Rattle.std.specs.Prelude.{[], string_bytes};
+ghost use Rattle.std.specs.Prelude.{◌≡◌, ◌≤◌, ◌<◌, ◌==◌, ◌++◌, ◌∷◌, [], length, Bool, true, IfOk, IfSome, IfNone, OnOk};
+ghost use Rattle.std.specs.Prelude.{OnErr, MatchBool, string_bytes};
+ghost use Rattle.std.specs.Char.Utf16.{is_low_surrogate};
+ghost use Rattle.std.specs.Str.{chars};
 ghost use Rattle.js_text.specs.Ascii.{backslash};
 ghost use Rattle.js_text.specs.Characters.{begins, from_first, is_identifier_part};
-ghost use Rattle.js_grammar.specs.Name.{begins_name, is_no_part, low_surrogate_escape, name_item, no_private_name};
+ghost use Rattle.js_text.specs.JsStr.{units_of};
+ghost use Rattle.js_grammar.specs.Name.{begins_name, is_no_part, low_surrogate_escape};
 ghost use Rattle.js_kind.specs.Keywords.{name_kind};
 ghost use Rattle.js_source.specs.Source.{rest, IsPlaced, BeginsWith};
 ghost use Rattle.js_spell.specs.Name.{class_of, PassesPlain, DecodesEscape, DecodesUnicode, ReadsEscape, ReadsItems};
-ghost use Rattle.js_spell.specs.Name.{PassesParts, ReadsParts};
+ghost use Rattle.js_spell.specs.Name.{PassesParts, ReadsToEnd, SpellsDecoded, SpellsName, ReportsNoName};
+ghost use Rattle.js_spell.specs.Name.{SpellsPrivateName};
 ghost use Rattle.js_spell.specs.Numeric.{BreaksOff};
+ghost use Rattle.js_spell.specs.declared.name.Position.TheVariants.{Later};
+ghost use Rattle.js_spell.specs.declared.spelt.SpeltValue.TheVariants.{Decoded};
 
 use crate::parts::parts;
 use crate::spelt::{Spelt, SpeltValue};
@@ -59,15 +65,23 @@ enum Decoding {
     Bad,
 }
 
-/// Whether an escape is next.
+/// Whether the ASCII character `b` is next.
 #[inline(always)]
-fn begins_escape(source: &Source<'_>) -> bool
-    ensures { result ≡ begins (λ c. c == backslash) (rest source.now) }
+fn begins_ascii(source: &Source<'_>, b: u8) -> bool
+    requires { b < 128 }
+    ensures { result ≡ begins (λ c. c == b) (rest source.now) }
 {
     match source.peek_byte() {
-        Some(b) => b == b'\\',
+        Some(next) => next == b,
         None => false,
     }
+}
+
+/// Whether the code point is a low surrogate.
+fn is_low_surrogate(code_point: u32) -> bool
+    ensures { result ≡ is_low_surrogate code_point }
+{
+    (FIRST_LOW_SURROGATE..=LAST_LOW_SURROGATE).contains(&code_point)
 }
 
 /// Passes the parts of names in ASCII, and tells the character behind them, where it is a part too.
@@ -117,7 +131,7 @@ fn pass_plain(source: &mut Source<'_>) -> Position
     ensures onward { source.old.place ≤ source.new.place }
     ensures placed { IsPlaced source.new }
 {
-    if begins_escape(source) {
+    if begins_ascii(source, b'\\') {
         return Position::First;
     }
     source.next_char();
@@ -140,7 +154,7 @@ fn take_low_surrogate(source: &mut Source<'_>) -> bool
         return false;
     }
     match read_hex_digits(source, 4) {
-        Some(value) => (FIRST_LOW_SURROGATE..=LAST_LOW_SURROGATE).contains(&value),
+        Some(value) => is_low_surrogate(value),
         None => false,
     }
 }
@@ -164,7 +178,7 @@ fn decode_unicode(source: &mut Source<'_>, position: Position) -> Decoding
     ensures decodes { DecodesUnicode position source.old result source.new }
     ensures placed { IsPlaced source.new }
 {
-    let is_braced = source.peek_byte() == Some(b'{');
+    let is_braced = begins_ascii(source, b'{');
     let value = match read_unicode_escape(source) {
         Some(value) => value,
         None => return Decoding::Bad,
@@ -236,7 +250,7 @@ fn read_escape_into(
 ) -> Result<(), AllocError>
     requires placed { IsPlaced source.old }
     requires begun { begins (λ c. c == backslash) (rest source.old) ≡ true }
-    ensures ok { OnOk result (ReadsItems position source.old source.new errors.old errors.new
+    ensures ok { OnOk result (ReadsItems position source.old Later source.new errors.old errors.new
         (string_bytes decoded.old) (string_bytes decoded.new) true) }
     ensures err { OnErr result (BreaksOff source.old source.new errors.old errors.new) }
     ensures placed { IsPlaced source.new }
@@ -266,16 +280,170 @@ fn read_rest_into(
     decoded: &mut String,
 ) -> Result<(), AllocError>
     requires { IsPlaced source.old }
-    ensures ok { OnOk result (ReadsParts source.old source.new errors.old errors.new
-        (string_bytes decoded.old) (string_bytes decoded.new)) }
+    ensures ok { OnOk result ((has_escape : Bool) × ReadsToEnd Later source.old source.new errors.old errors.new
+        (string_bytes decoded.old) (string_bytes decoded.new) has_escape) }
     ensures err { OnErr result (BreaksOff source.old source.new errors.old errors.new) }
     ensures placed { IsPlaced source.new }
 {
     'parts: loop {
         read_parts_into(source, decoded)?;
-        if !begins_escape(source) {
+        if !begins_ascii(source, b'\\') {
             return Ok(());
         }
         read_escape_into(source, errors, Position::Later, decoded)?;
     }
+}
+
+/// Reads a name on from its first escape, behind its plain beginning, and gives the text that it stands for.
+fn decode_name(
+    alloc: Global,
+    source: &mut Source<'_>,
+    errors: &mut DiagnosticList,
+    position: Position,
+    plain: &str,
+) -> Result<String, AllocError>
+    requires placed { IsPlaced source.old }
+    requires begun { begins (λ c. c == backslash) (rest source.old) ≡ true }
+    ensures ok { IfOk result (λ text. ReadsToEnd position source.old source.new errors.old errors.new
+        plain.now (string_bytes text) true) }
+    ensures err { OnErr result (BreaksOff source.old source.new errors.old errors.new) }
+    ensures placed { IsPlaced source.new }
+{
+    let mut decoded = String::new(alloc);
+    decoded.push_str(plain)?;
+    read_escape_into(source, errors, position, &mut decoded)?;
+    read_rest_into(source, errors, &mut decoded)?;
+    Ok(decoded)
+}
+
+/// The kind and the value of a name that stands for the text.
+fn spell_decoded(alloc: Global, text: &str) -> Result<Spelt, AllocError>
+    ensures kind { IfOk result (λ spelt. spelt.kind ≡ name_kind text.now) }
+    ensures value { IfOk result (λ spelt. spelt.value ≡ Decoded (units_of (chars text.now))) }
+{
+    let mut units = JSStrBuilder::new_in(alloc);
+    units.push_str(text)?;
+    Ok(Spelt {
+        kind: match_keyword(text),
+        value: SpeltValue::Decoded(units.into_js_str()),
+    })
+}
+
+/// Reads a name on from its first escape, behind its plain beginning.
+#[inline(never)]
+fn read_escaped_name(
+    alloc: Global,
+    source: &mut Source<'_>,
+    errors: &mut DiagnosticList,
+    position: Position,
+    plain: &str,
+) -> Result<Spelt, AllocError>
+    requires placed { IsPlaced source.old }
+    requires begun { begins (λ c. c == backslash) (rest source.old) ≡ true }
+    ensures ok { IfOk result (λ spelt.
+        SpellsDecoded position source.old source.new errors.old errors.new plain.now spelt) }
+    ensures err { OnErr result (BreaksOff source.old source.new errors.old errors.new) }
+    ensures placed { IsPlaced source.new }
+{
+    let text = decode_name(alloc, source, errors, position, plain)?;
+    spell_decoded(alloc, text.as_str())
+}
+
+/// Reads the name that is next, good or at fault: what is to be reported is added to the list, and the flags of the
+/// token are set. Its start is where the name begins. A name without escapes asks for no memory.
+#[inline(always)]
+pub fn read_name(
+    alloc: Global,
+    source: &mut Source<'_>,
+    errors: &mut DiagnosticList,
+    token: &mut Token,
+) -> Result<Spelt, AllocError>
+    requires placed { IsPlaced source.old }
+    requires begun { begins_name (rest source.old) ≡ true }
+    ensures ok { IfOk result (λ spelt.
+        SpellsName source.old source.new errors.old errors.new token.old token.new spelt) }
+    ensures err { OnErr result (BreaksOff source.old source.new errors.old errors.new) }
+    ensures token { OnErr result (token.new ≡ token.old) }
+    ensures placed { IsPlaced source.new }
+{
+    let start = source.position();
+    let position = pass_plain(source);
+    let plain = source.str_from_pos_to_current(start);
+    if !begins_ascii(source, b'\\') {
+        token.set_escaped(false);
+        token.set_has_separator(false);
+        return Ok(Spelt {
+            kind: match_keyword(plain),
+            value: SpeltValue::Plain,
+        });
+    }
+    let spelt = read_escaped_name(alloc, source, errors, position, plain)?;
+    token.set_escaped(true);
+    token.set_has_separator(false);
+    Ok(spelt)
+}
+
+/// Whether a name is next, good or at fault.
+fn begins_name(source: &Source<'_>) -> bool
+    ensures { result ≡ begins_name (rest source.now) }
+{
+    match source.peek_char() {
+        Some(c) => is_identifier_start(c) || c == '\\',
+        None => false,
+    }
+}
+
+/// Reports that no name follows a `#`, and gives the kind of the token.
+fn report_no_name(source: &mut Source<'_>, errors: &mut DiagnosticList) -> Result<Kind, AllocError>
+    requires { IsPlaced source.old }
+    ensures text { source.new.text ≡ source.old.text }
+    ensures ok { IfOk result (λ kind. ReportsNoName source.old errors.old errors.new kind) }
+    ensures err { OnErr result (errors.new ≡ errors.old) }
+    ensures placed { IsPlaced source.new }
+{
+    let start = source.offset();
+    match source.next_char() {
+        Some(c) => {
+            let span = Span::new(start, source.offset());
+            errors.push(Diagnostic::InvalidCharacter { c, span })?;
+            Ok(Kind::Eof)
+        }
+        None => {
+            let span = Span::empty(start);
+            errors.push(Diagnostic::UnexpectedEnd { span })?;
+            Ok(Kind::Undetermined)
+        }
+    }
+}
+
+/// Reads what follows a `#` that was just read: a name, good or at fault, or what is read where no name follows. What
+/// is to be reported is added to the list, and the flags of the token are set. Its start is where the `#` stands.
+pub fn read_private_name(
+    alloc: Global,
+    source: &mut Source<'_>,
+    errors: &mut DiagnosticList,
+    token: &mut Token,
+) -> Result<Spelt, AllocError>
+    requires { IsPlaced source.old }
+    ensures ok { IfOk result (λ spelt.
+        SpellsPrivateName source.old source.new errors.old errors.new token.old token.new spelt) }
+    ensures err { OnErr result (BreaksOff source.old source.new errors.old errors.new) }
+    ensures token { OnErr result (token.new ≡ token.old) }
+    ensures placed { IsPlaced source.new }
+{
+    if begins_name(source) {
+        let spelt = read_name(alloc, source, errors, token)?;
+        return Ok(Spelt {
+            kind: Kind::PrivateIdentifier,
+            value: spelt.value,
+        });
+    }
+    let kind = report_no_name(source, errors)?;
+    source.advance_to_end();
+    token.set_escaped(false);
+    token.set_has_separator(false);
+    Ok(Spelt {
+        kind,
+        value: SpeltValue::Plain,
+    })
 }
