@@ -7,3 +7,4 @@ pub mod LeadSteps
 pub mod EndSteps
 pub mod EscapeSteps
 pub mod NameSteps
+pub mod NameReadings

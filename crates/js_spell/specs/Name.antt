@@ -1,5 +1,5 @@
 -- The steps of reading a name.
-use Rattle.std.specs.Prelude.{◌≡◌, ℕ, ◌<◌, Bool, true, false, List, [], ◌∷◌, ◌++◌, ◌==◌, map, Option, Some, None}
+use Rattle.std.specs.Prelude.{◌≡◌, ℕ, ◌<◌, Bool, true, false, List, [], ◌∷◌, ◌++◌, ◌==◌, map, length, Option, Some, None}
 use Rattle.std.specs.Prelude.{option_to_list}
 use Rattle.std.specs.List.{list_any}
 use Rattle.std.specs.Str.{chars, encode_utf8_all, IsUtf8}
@@ -88,6 +88,7 @@ pub record ReadsEscape (position : Position) (old new : At) (before after : List
   pub reports : after ≡ before ++ item_report old.place item
   pub value : item.value ≡ option_to_list c
   pub is_escape : item.is_escape ≡ true
+  pub fewer : length (rest new) < length (rest old)
 
 -- Items were read, what is wrong with them was reported, and the bytes of what they stand for were added. The flag
 -- tells whether there is an escape among them.

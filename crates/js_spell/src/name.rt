@@ -252,6 +252,7 @@ fn read_escape_into(
     requires begun { begins (λ c. c == backslash) (rest source.old) ≡ true }
     ensures ok { OnOk result (ReadsItems position source.old Later source.new errors.old errors.new
         (string_bytes decoded.old) (string_bytes decoded.new) true) }
+    ensures fewer { OnOk result (length (rest source.new) < length (rest source.old)) }
     ensures err { OnErr result (BreaksOff source.old source.new errors.old errors.new) }
     ensures placed { IsPlaced source.new }
 {
