@@ -1,18 +1,17 @@
 -- A text is cut into the items of a name in one way.
-use Rattle.std.proofs.Common.{◌≡◌, ◌≢◌, ℕ, zero, suc, ◌-◌, ◌<◌, Bool, true, false, ◌||◌, ◌==◌, List, [], ◌∷◌, ◌++◌, length}
-use Rattle.std.proofs.Common.{drop, refl, sym, ◌∙◌, ap, subst, arith, Option, Some, None, inl, inr, append_assoc}
+use Rattle.std.proofs.Common.{◌≡◌, ◌≢◌, ℕ, zero, suc, ◌-◌, ◌<◌, Bool, true, false, ◌||◌, ◌==◌, List, [], ◌∷◌, ◌++◌}
+use Rattle.std.proofs.Common.{length}
+use Rattle.std.proofs.Common.{drop, refl, sym, ◌∙◌, ap, subst, arith, Option, Some, None, append_assoc}
 use Rattle.std.specs.List.{list_any}
-use Rattle.std.proofs.lemmas.List.{append_cancel_left}
 use Rattle.std.proofs.Math.Seq.{drop-append_seam}
 use Rattle.js_text.specs.Ascii.{backslash}
-use Rattle.js_text.specs.Characters.{begins, is_identifier_start, is_identifier_part}
-use Rattle.js_text.specs.declared.diagnostic.Diagnostic.{Diagnostic}
-use Rattle.js_grammar.specs.Name.{NameItem, NameFault, name_item, items_at, name_items, CutsInto, items_text, items_value}
-use Rattle.js_grammar.specs.Name.{has_fault, has_escape, continues_name, items_report, item_report, items_read, name_read}
-use Rattle.js_grammar.specs.Name.{NameRead, escape_item, plain_item, fault_report}
+use Rattle.js_text.specs.Characters.{is_identifier_start, is_identifier_part}
+use Rattle.js_grammar.specs.Name.{NameItem, NameFault, name_item, items_at, name_items, CutsInto, items_text}
+use Rattle.js_grammar.specs.Name.{items_value}
+use Rattle.js_grammar.specs.Name.{has_fault, has_escape, continues_name, items_report, items_read, name_read}
+use Rattle.js_grammar.specs.Name.{escape_item, plain_item, fault_report}
 use Rattle.js_grammar.specs.Outcome.{place_behind}
-use Rattle.js_grammar.proofs.NameItems.{TakesItem, item_takes, item_anywhere}
-use Rattle.js_grammar.proofs.NumberItems.{true_or_false}
+use Rattle.js_grammar.proofs.NameItems.{item_takes, item_anywhere}
 
 -- the items that are found are what the text is cut into
 step_over : (n : ℕ) (c : ℕ) (cs : List ℕ) → 0 < n → drop n (c ∷ cs) ≡ drop (n - 1) cs

@@ -1,23 +1,21 @@
 -- The items of names: what each takes of a text, and that a good one is the same whatever follows it.
-use Rattle.std.proofs.Common.{◌≡◌, ◌≢◌, ℕ, zero, suc, ◌+◌, ◌*◌, ◌<◌, ◌≤◌, Bool, true, false, not, ◌&&◌, ◌||◌, ◌==◌, List, [], ◌∷◌}
+use Rattle.std.proofs.Common.{◌≡◌, ℕ, zero, suc, ◌+◌, ◌*◌, ◌<◌, Bool, true, false, not, ◌&&◌, ◌==◌, List, [], ◌∷◌}
 use Rattle.std.proofs.Common.{◌++◌, length, take, drop, refl, sym, ◌∙◌, ap, subst, arith, Option, Some, None, inl, inr}
 use Rattle.std.proofs.Common.{append_assoc}
 use Rattle.std.specs.Prelude.{codes, nat_lt, nat_le}
 use Rattle.std.specs.Char.{digit_value}
 use Rattle.std.specs.Char.Utf16.{is_high_surrogate, is_low_surrogate}
-use Rattle.std.specs.List.{list_any}
 use Rattle.std.specs.Option.{option_map_or}
 use Rattle.std.specs.Str.Parse.{AllDigits, digits_value}
 use Rattle.std.proofs.lemmas.Bool.{eqb-true, ltb-true, leb-true}
-use Rattle.std.proofs.lemmas.Bool.Decides.{nat_tests}
-use Rattle.std.proofs.Math.Seq.{drop-append_seam}
 use Rattle.unicode_ident.proofs.Computing.{unicode_ident}
 use Rattle.js_text.specs.Ascii.{backslash}
 use Rattle.js_text.specs.Characters.{begins, before_first, is_identifier_start, is_identifier_part}
 use Rattle.js_kind.specs.Digits.{is_digit_of}
 use Rattle.js_grammar.specs.Gap.{is_prefix}
 use Rattle.js_grammar.specs.Name.{NameItem, NameFault, latin_small_letter_u, is_surrogate, low_surrogate_escape}
-use Rattle.js_grammar.specs.Name.{surrogate_text, item_of_code_point, item_of_escape, escape_item, name_item, plain_item}
+use Rattle.js_grammar.specs.Name.{surrogate_text, item_of_code_point, item_of_escape, escape_item, name_item}
+use Rattle.js_grammar.specs.Name.{plain_item}
 use Rattle.js_grammar.specs.Name.{good_escape, faulty_escape, has_escape}
 use Rattle.js_grammar.specs.Name.NameFault.{bad_escape, not_allowed}
 use Rattle.js_grammar.specs.UnicodeEscape.{UnicodeEscape, hex_digits, four_digits, digits_of_code_point, braced_digits}
@@ -196,13 +194,65 @@ low_first text =
     let digits = hex_digits 4 (drop 2 text) in
     elim (true_or_false (is_prefix mark text && option_map_or is_low_surrogate digits.code_point false)) [
       | inl there ↦ (
-          let first = (and_true (is_prefix mark text) (option_map_or is_low_surrogate digits.code_point false) there).0 in
+          let both = and_true (is_prefix mark text) (option_map_or is_low_surrogate digits.code_point false) there in
           rw there (
             digits.rest,
-            prefix_is mark text first ∙ ap (λ t. backslash ∷ latin_small_letter_u ∷ t) (digits_first 4 (drop 2 text)),
+            prefix_is mark text both.0 ∙ ap (λ t. backslash ∷ latin_small_letter_u ∷ t) (digits_first 4 (drop 2 text)),
           ))
       | inr none ↦ rw none (text, refl)
     ]
+
+-- a low surrogate's escape, by what begins the text
+pub no_low_mark : (text : List ℕ) → begins (λ c. c == backslash) text ≡ false → low_surrogate_escape text ≡ []
+unfolding low_surrogate_escape
+no_low_mark [] e = refl
+no_low_mark (c ∷ cs) e = rw e refl
+
+pub no_low_letter : (cs : List ℕ) → begins (λ c. c == latin_small_letter_u) cs ≡ false
+    → low_surrogate_escape (backslash ∷ cs) ≡ []
+unfolding low_surrogate_escape
+no_low_letter [] e = refl
+no_low_letter (c ∷ cs) e = rw e refl
+
+abbrev low_text : List ℕ → List ℕ
+low_text cs = backslash ∷ latin_small_letter_u ∷ cs
+
+pub low_there : (cs : List ℕ) (c : ℕ) → (hex_digits 4 cs).code_point ≡ Some c → is_low_surrogate c ≡ true
+    → low_text cs ≡ low_surrogate_escape (low_text cs) ++ (hex_digits 4 cs).rest
+unfolding low_surrogate_escape four_digits
+low_there cs c e is = rw (e, is) (ap (λ t. backslash ∷ latin_small_letter_u ∷ t) (digits_first 4 cs))
+
+pub no_low : (cs : List ℕ) → option_map_or is_low_surrogate (hex_digits 4 cs).code_point false ≡ false
+    → low_surrogate_escape (low_text cs) ≡ []
+unfolding low_surrogate_escape four_digits
+no_low cs e = rw e refl
+
+braced_text : (text : List ℕ) → begins (λ c. c == left_curly_bracket) (braced_digits text).text ≡ true
+unfolding braced_digits
+braced_text text =
+    let ds = digits_of_code_point 0 text in
+    elim (true_or_false (nat_lt 0 (length ds) && nat_le (digits_value 16 ds) last_code_point
+    && begins (λ c. c == right_curly_bracket) (drop (length ds) text))) [
+      | inl closed ↦ rw closed refl
+      | inr none ↦ rw none refl
+    ]
+
+-- braces are told by what begins the escape
+pub brace_begins : (text : List ℕ)
+    → begins (λ c. c == left_curly_bracket) (unicode_escape text).text ≡ begins (λ c. c == left_curly_bracket) text
+brace_begins text =
+    elim (true_or_false (begins (λ c. c == left_curly_bracket) text)) [
+      | inl brace ↦
+          ap (λ (u : UnicodeEscape). begins (λ c. c == left_curly_bracket) u.text) (with_brace text brace)
+          ∙ braced_text (drop 1 text) ∙ sym brace
+      | inr none ↦
+          ap (λ (u : UnicodeEscape). begins (λ c. c == left_curly_bracket) u.text) (without_brace text none)
+          ∙ no_brace (before_first is_no_hex_digit (take 4 text)) (digits_all 4 text) ∙ sym none
+    ]
+  where
+    no_brace : (ds : List ℕ) → AllDigits 16 ds → begins (λ c. c == left_curly_bracket) ds ≡ false
+    no_brace [] all = refl
+    no_brace (d ∷ ds) all = digits_are_no_brace (d ∷ ds) [] all (omega arith)
 
 surrogate_first : (c : ℕ) (text : List ℕ) → Starts (surrogate_text c (unicode_escape text)) text
 unfolding surrogate_text
@@ -218,6 +268,61 @@ surrogate_first c text =
           ))
       | inr other ↦ rw other (escape.rest, escape_first text)
     ]
+
+-- Which item an escape is, case by case.
+pub of_code_point : (allowed : ℕ → Bool) (c : ℕ) (escape : UnicodeEscape) → escape.code_point ≡ Some c
+    → item_of_escape allowed escape ≡ item_of_code_point allowed escape c
+unfolding item_of_escape
+of_code_point allowed c escape e = rw e refl
+
+pub of_no_code_point : (allowed : ℕ → Bool) (escape : UnicodeEscape) → escape.code_point ≡ None
+    → item_of_escape allowed escape ≡ faulty_escape (backslash ∷ latin_small_letter_u ∷ escape.text) bad_escape
+unfolding item_of_escape
+of_no_code_point allowed escape e = rw e refl
+
+pub of_allowed : (allowed : ℕ → Bool) (c : ℕ) (escape : UnicodeEscape) → is_surrogate c ≡ false → allowed c ≡ true
+    → item_of_code_point allowed escape c ≡ good_escape (backslash ∷ latin_small_letter_u ∷ escape.text) c
+unfolding item_of_code_point
+of_allowed allowed c escape none is = rw (none, is) refl
+
+pub of_not_allowed : (allowed : ℕ → Bool) (c : ℕ) (escape : UnicodeEscape) → is_surrogate c ≡ false
+    → allowed c ≡ false
+    → item_of_code_point allowed escape c
+    ≡ faulty_escape (backslash ∷ latin_small_letter_u ∷ escape.text) (not_allowed c)
+unfolding item_of_code_point
+of_not_allowed allowed c escape none other = rw (none, other) refl
+
+pub of_surrogate : (allowed : ℕ → Bool) (c : ℕ) (escape : UnicodeEscape) → is_surrogate c ≡ true
+    → item_of_code_point allowed escape c
+    ≡ faulty_escape (backslash ∷ latin_small_letter_u ∷ surrogate_text c escape) bad_escape
+unfolding item_of_code_point
+of_surrogate allowed c escape is = rw is refl
+
+pub surrogate_alone : (c : ℕ) (escape : UnicodeEscape)
+    → (is_high_surrogate c && not (begins (λ d. d == left_curly_bracket) escape.text)) ≡ false
+    → surrogate_text c escape ≡ escape.text
+unfolding surrogate_text
+surrogate_alone c escape e = rw e refl
+
+pub surrogate_pair : (c : ℕ) (escape : UnicodeEscape)
+    → (is_high_surrogate c && not (begins (λ d. d == left_curly_bracket) escape.text)) ≡ true
+    → surrogate_text c escape ≡ escape.text ++ low_surrogate_escape escape.rest
+unfolding surrogate_text
+surrogate_pair c escape e = rw e refl
+
+pub escape_there : (allowed : ℕ → Bool) (cs : List ℕ)
+    → escape_item allowed (latin_small_letter_u ∷ cs) ≡ item_of_escape allowed (unicode_escape cs)
+unfolding escape_item
+escape_there allowed cs = refl
+
+pub other_escape : (allowed : ℕ → Bool) (c : ℕ) (cs : List ℕ) → (c == latin_small_letter_u) ≡ false
+    → escape_item allowed (c ∷ cs) ≡ faulty_escape (backslash ∷ c ∷ []) bad_escape
+unfolding escape_item
+other_escape allowed c cs other = rw other refl
+
+pub no_escape : (allowed : ℕ → Bool) → escape_item allowed [] ≡ faulty_escape (backslash ∷ []) bad_escape
+unfolding escape_item
+no_escape allowed = refl
 
 -- What an item takes of the text behind a `\`.
 pub record TakesEscape (text : List ℕ) (item : NameItem) : Type 0 where
@@ -260,11 +365,6 @@ code_point_takes allowed c cs =
       ]
     ]
 
-of_code_point : (allowed : ℕ → Bool) (c : ℕ) (escape : UnicodeEscape) → escape.code_point ≡ Some c
-    → item_of_escape allowed escape ≡ item_of_code_point allowed escape c
-unfolding item_of_escape
-of_code_point allowed c escape e = rw e refl
-
 unicode_takes : (allowed : ℕ → Bool) (cs : List ℕ)
     → TakesEscape (latin_small_letter_u ∷ cs) (item_of_escape allowed (unicode_escape cs))
 unfolding item_of_escape
@@ -280,7 +380,7 @@ unicode_takes allowed cs = by_code_point (unicode_escape cs).code_point refl
         subst (λ x. TakesEscape (latin_small_letter_u ∷ cs) x) (sym (of_code_point allowed c (unicode_escape cs) e))
         (code_point_takes allowed c cs)
 
-escape_takes : (allowed : ℕ → Bool) (text : List ℕ) → TakesEscape text (escape_item allowed text)
+pub escape_takes : (allowed : ℕ → Bool) (text : List ℕ) → TakesEscape text (escape_item allowed text)
 unfolding escape_item
 escape_takes allowed [] = faulty_takes [] [] bad_escape ([], refl)
 escape_takes allowed (c ∷ cs) =
@@ -303,7 +403,7 @@ pub record TakesItem (text : List ℕ) (item : NameItem) : Type 0 where
   pub whole : item.is_escape ≡ false → item.fault ≡ None
   pub plain : item.is_escape ≡ false → item.value ≡ item.text
 
-escape_is_item : (text : List ℕ) (item : NameItem) → TakesEscape text item → TakesItem (backslash ∷ text) item
+pub escape_is_item : (text : List ℕ) (item : NameItem) → TakesEscape text item → TakesItem (backslash ∷ text) item
 escape_is_item text item takes = record {
   left = takes.left;
   here = ap (λ t. backslash ∷ t) takes.here ∙ ap (λ t. t ++ takes.left) (sym takes.text_is);
@@ -357,16 +457,6 @@ good_code_point allowed c escape good =
       ]
     ]
 
-well_escaped : (allowed : ℕ → Bool) (c : ℕ) (escape : UnicodeEscape) → is_surrogate c ≡ false → allowed c ≡ true
-    → item_of_code_point allowed escape c ≡ good_escape (backslash ∷ latin_small_letter_u ∷ escape.text) c
-unfolding item_of_code_point
-well_escaped allowed c escape none is = rw (none, is) refl
-
-of_none : (allowed : ℕ → Bool) (escape : UnicodeEscape) → escape.code_point ≡ None
-    → (item_of_escape allowed escape).fault ≡ Some bad_escape
-unfolding item_of_escape
-of_none allowed escape e = rw e refl
-
 good_unicode : (allowed : ℕ → Bool) (cs ys : List ℕ) → (item_of_escape allowed (unicode_escape cs)).fault ≡ None
     → item_of_escape allowed (unicode_escape ((unicode_escape cs).text ++ ys))
     ≡ item_of_escape allowed (unicode_escape cs)
@@ -376,20 +466,17 @@ good_unicode allowed cs ys good = by_code_point (unicode_escape cs).code_point r
         → item_of_escape allowed (unicode_escape ((unicode_escape cs).text ++ ys))
         ≡ item_of_escape allowed (unicode_escape cs)
     by_code_point None e =
-        let no : Some bad_escape ≡ None = sym (of_none allowed (unicode_escape cs) e) ∙ good in absurd (cc)
+        let no : Some bad_escape ≡ None =
+        ap (λ (x : NameItem). x.fault) (sym (of_no_code_point allowed (unicode_escape cs) e)) ∙ good in
+        absurd (cc)
     by_code_point (Some c) e =
         let escape = unicode_escape cs in
         let here = of_code_point allowed c escape e in
         let is = good_code_point allowed c escape (ap (λ (x : NameItem). x.fault) (sym here) ∙ good) in
         ap (item_of_escape allowed) (escape_anywhere cs ys c e)
         ∙ of_code_point allowed c (escape_of escape.text c ys) refl
-        ∙ well_escaped allowed c (escape_of escape.text c ys) is.0 is.1
-        ∙ sym (here ∙ well_escaped allowed c escape is.0 is.1)
-
-escape_there : (allowed : ℕ → Bool) (cs : List ℕ)
-    → escape_item allowed (latin_small_letter_u ∷ cs) ≡ item_of_escape allowed (unicode_escape cs)
-unfolding escape_item
-escape_there allowed cs = refl
+        ∙ of_allowed allowed c (escape_of escape.text c ys) is.0 is.1
+        ∙ sym (here ∙ of_allowed allowed c escape is.0 is.1)
 
 unicode_text : (allowed : ℕ → Bool) (cs : List ℕ) → (item_of_escape allowed (unicode_escape cs)).fault ≡ None
     → (item_of_escape allowed (unicode_escape cs)).text ≡ backslash ∷ latin_small_letter_u ∷ (unicode_escape cs).text
@@ -399,31 +486,27 @@ unicode_text allowed cs good = by_code_point (unicode_escape cs).code_point refl
         → (item_of_escape allowed (unicode_escape cs)).text
         ≡ backslash ∷ latin_small_letter_u ∷ (unicode_escape cs).text
     by_code_point None e =
-        let no : Some bad_escape ≡ None = sym (of_none allowed (unicode_escape cs) e) ∙ good in absurd (cc)
+        let no : Some bad_escape ≡ None =
+        ap (λ (x : NameItem). x.fault) (sym (of_no_code_point allowed (unicode_escape cs) e)) ∙ good in
+        absurd (cc)
     by_code_point (Some c) e =
         let escape = unicode_escape cs in
         let here = of_code_point allowed c escape e in
         let is = good_code_point allowed c escape (ap (λ (x : NameItem). x.fault) (sym here) ∙ good) in
-        ap (λ (x : NameItem). x.text) (here ∙ well_escaped allowed c escape is.0 is.1)
-
-other_escape : (allowed : ℕ → Bool) (c : ℕ) (cs : List ℕ) → (c == latin_small_letter_u) ≡ false
-    → (escape_item allowed (c ∷ cs)).fault ≡ Some bad_escape
-unfolding escape_item
-other_escape allowed c cs other = rw other refl
-
-no_escape : (allowed : ℕ → Bool) → (escape_item allowed []).fault ≡ Some bad_escape
-unfolding escape_item
-no_escape allowed = refl
+        ap (λ (x : NameItem). x.text) (here ∙ of_allowed allowed c escape is.0 is.1)
 
 escaped_anywhere : (allowed : ℕ → Bool) (cs ys : List ℕ) → (escape_item allowed cs).fault ≡ None
     → name_item allowed ((escape_item allowed cs).text ++ ys) ≡ Some (escape_item allowed cs)
 escaped_anywhere allowed [] ys good =
-    let no : Some bad_escape ≡ None = sym (no_escape allowed) ∙ good in absurd (cc)
+    let no : Some bad_escape ≡ None = ap (λ (x : NameItem). x.fault) (sym (no_escape allowed)) ∙ good in
+    absurd (cc)
 escaped_anywhere allowed (c ∷ cs) ys good =
     elim (true_or_false (c == latin_small_letter_u)) [
       | inl is ↦ by_mark c cs (eqb-true c latin_small_letter_u is) good
       | inr other ↦ (
-          let no : Some bad_escape ≡ None = sym (other_escape allowed c cs other) ∙ good in absurd (cc))
+          let no : Some bad_escape ≡ None =
+          ap (λ (x : NameItem). x.fault) (sym (other_escape allowed c cs other)) ∙ good in
+          absurd (cc))
     ]
   where
     marked_anywhere : (cs : List ℕ) → (escape_item allowed (latin_small_letter_u ∷ cs)).fault ≡ None
@@ -436,6 +519,7 @@ escaped_anywhere allowed (c ∷ cs) ys good =
         ∙ ap Some
         (escape_there allowed ((unicode_escape cs).text ++ ys) ∙ good_unicode allowed cs ys is
         ∙ sym (escape_there allowed cs))
+
     by_mark : (c : ℕ) (cs : List ℕ) → c ≡ latin_small_letter_u → (escape_item allowed (c ∷ cs)).fault ≡ None
         → name_item allowed ((escape_item allowed (c ∷ cs)).text ++ ys) ≡ Some (escape_item allowed (c ∷ cs))
     by_mark c cs same =

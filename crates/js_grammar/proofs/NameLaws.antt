@@ -1,20 +1,20 @@
 -- What is read of a name is what its characters say, and a name is read without a fault exactly where it has none.
-use Rattle.std.proofs.Common.{◌≡◌, ◌≢◌, ℕ, Bool, true, false, not, ◌||◌, ◌==◌, List, [], ◌∷◌, ◌++◌, length, drop, refl, sym}
-use Rattle.std.proofs.Common.{◌∙◌, ap, subst, arith, Option, Some, None, inl, inr}
+use Rattle.std.proofs.Common.{◌≡◌, ◌≢◌, ℕ, Bool, true, false, ◌==◌, List, [], ◌∷◌, ◌++◌, length, refl, sym}
+use Rattle.std.proofs.Common.{◌∙◌, ap, subst, arith, Some, None, inl, inr}
+use Rattle.std.specs.Prelude.{map}
 use Rattle.std.specs.List.{list_any}
 use Rattle.std.proofs.lemmas.Bool.{eqb-true}
 use Rattle.std.proofs.lemmas.List.{append_cancel_right, append-nil, length-append}
 use Rattle.js_text.specs.Ascii.{backslash}
 use Rattle.js_text.specs.Characters.{begins, before_first, from_first, is_identifier_start, is_identifier_part}
-use Rattle.js_text.specs.declared.diagnostic.Diagnostic.{Diagnostic}
-use Rattle.js_text.proofs.TextLemmas.{before_from}
 use Rattle.js_grammar.specs.Name.{NameItem, name_item, name_items, CutsInto, items_text, items_value, has_fault}
 use Rattle.js_grammar.specs.Name.{has_escape, decoded, begins_name, continues_name, IsName, NameRead, name_read}
 use Rattle.js_grammar.specs.Name.{items_report, is_no_part, plain_item, escape_item}
 use Rattle.js_grammar.proofs.NameCuts.{items_cut, cut_items, cut_text, read_of_cut, no_item, nothing_continues}
 use Rattle.js_grammar.proofs.NameCuts.{cut_anywhere, none_behind, escapes_of_cut, plain_items, nothing_reported}
-use Rattle.js_grammar.proofs.NameCuts.{reports_nothing, IsCut}
+use Rattle.js_grammar.proofs.NameCuts.{reports_nothing}
 use Rattle.js_grammar.proofs.NameItems.{backslash_is_no_name, item_takes}
+use Rattle.js_grammar.proofs.NameLemmas.{parts_end}
 use Rattle.js_grammar.proofs.NumberItems.{true_or_false}
 
 -- what is read of a name without a fault
@@ -129,7 +129,8 @@ name_characters place text begun =
           ∙ ap (λ (r : NameRead). items_text items ++ r.rest) (sym read),
     )
   where
-    some_text : (items : List NameItem) → CutsInto is_identifier_start text items (items_cut is_identifier_start text).rest
+    some_text : (items : List NameItem)
+        → CutsInto is_identifier_start text items (items_cut is_identifier_start text).rest
         → items_text items ≢ []
     some_text [] cut none = some_item text begun cut.0
     some_text (item ∷ items) cut none =
@@ -159,11 +160,6 @@ plain_decoded xs is none =
     let escapes = sym (escapes_of_cut is_identifier_start xs items found.rest found.cut) ∙ ap has_escape is.whole in
     (plain_items is_identifier_start xs items found.rest found.cut (escapes ∙ none)).1 ∙ is.whole
 
--- Parts of a name, up to what is none: each is an item.
-abbrev plain_ones : List ℕ → List NameItem
-plain_ones [] = []
-plain_ones (c ∷ cs) = plain_item c ∷ plain_ones cs
-
 class_differs : (allowed : ℕ → Bool) (c : ℕ) → allowed backslash ≡ false → allowed c ≡ true
     → (c == backslash) ≡ false
 class_differs allowed c none is =
@@ -176,22 +172,42 @@ pub plain_here : (allowed : ℕ → Bool) (c : ℕ) (cs : List ℕ) → allowed 
     → name_item allowed (c ∷ cs) ≡ Some (plain_item c)
 plain_here allowed c cs none is = rw (class_differs allowed c none is, is) refl
 
-pub plain_parts : (cs : List ℕ) → begins (λ c. c == backslash) (from_first is_no_part cs) ≡ false
-    → CutsInto is_identifier_part cs (plain_ones (before_first is_no_part cs)) (from_first is_no_part cs)
-plain_parts [] end = (refl, refl)
-plain_parts (c ∷ cs) end =
+-- Parts up to what is none are items, whatever items go on with the name.
+pub plain_parts : (cs : List ℕ) (more : List NameItem) (left : List ℕ)
+    → CutsInto is_identifier_part (from_first is_no_part cs) more left
+    → CutsInto is_identifier_part cs (map plain_item (before_first is_no_part cs) ++ more) left
+plain_parts [] more left cut = cut
+plain_parts (c ∷ cs) more left cut =
     elim (true_or_false (is_identifier_part c)) [
       | inl is ↦
-          rw is (plain_here is_identifier_part c cs backslash_is_no_name.1 is, plain_parts cs (rw is at end))
-      | inr none ↦ (let mark : (c == backslash) ≡ false = rw none at end in rw none (rw (mark, none) refl, refl))
+          rw is
+          (plain_here is_identifier_part c cs backslash_is_no_name.1 is, plain_parts cs more left (rw is at cut))
+      | inr none ↦ rw none (rw none at cut)
     ]
 
-plain_values : (cs : List ℕ) → (items_value (plain_ones cs) ≡ cs)
-    × (items_text (plain_ones cs) ≡ cs) × (has_fault (plain_ones cs) ≡ false)
-    × (list_any (λ item. item.is_escape) (plain_ones cs) ≡ false)
-plain_values [] = (refl, refl, refl, refl)
-plain_values (c ∷ cs) =
-    let more = plain_values cs in (ap (λ xs. c ∷ xs) more.0, ap (λ xs. c ∷ xs) more.1, more.2, more.3)
+-- what they stand for
+pub record PlainItems (items : List NameItem) (xs : List ℕ) : Type 0 where
+  pub value : items_value items ≡ xs
+  pub text : items_text items ≡ xs
+  pub good : has_fault items ≡ false
+  pub escapes : list_any (λ item. item.is_escape) items ≡ false
+
+pub plain_values : (xs : List ℕ) → PlainItems (map plain_item xs) xs
+plain_values [] = record { value = refl; text = refl; good = refl; escapes = refl }
+plain_values (x ∷ xs) =
+    let more = plain_values xs in
+    record {
+      value = ap (λ ys. x ∷ ys) more.value;
+      text = ap (λ ys. x ∷ ys) more.text;
+      good = more.good;
+      escapes = more.escapes;
+    }
+
+-- No item is where neither a part nor an escape begins.
+pub ended : (text : List ℕ) → begins is_identifier_part text ≡ false → begins (λ c. c == backslash) text ≡ false
+    → name_item is_identifier_part text ≡ None
+ended [] no_part no_mark = refl
+ended (c ∷ cs) no_part no_mark = rw (no_mark, no_part) refl
 
 -- what is read of a name that has no escape
 abbrev pub plain_name_read : ℕ → List ℕ → NameRead
@@ -214,18 +230,22 @@ pub plain_name : (c : ℕ) (cs : List ℕ) → is_identifier_start c ≡ true
 plain_name c cs is end =
     let parts = before_first is_no_part cs in
     let rest = from_first is_no_part cs in
-    let items = plain_item c ∷ plain_ones parts in
-    let cut : CutsInto is_identifier_start (c ∷ cs) items rest =
-    (plain_here is_identifier_start c cs backslash_is_no_name.0 is, plain_parts cs end) in
-    let values = plain_values parts in
-    let begun = name_of_cut (c ∷ cs) items rest cut (λ none. cc) values.2 in
+    let items = map plain_item (c ∷ parts) in
+    let last : CutsInto is_identifier_part rest [] rest = (ended rest (parts_end cs) end, refl) in
+    let cut : CutsInto is_identifier_start (c ∷ cs) items rest = (
+      plain_here is_identifier_start c cs backslash_is_no_name.0 is,
+      subst (λ xs. CutsInto is_identifier_part cs xs rest) (append-nil (map plain_item parts))
+          (plain_parts cs [] rest last),
+    ) in
+    let values = plain_values (c ∷ parts) in
+    let begun = name_of_cut (c ∷ cs) items rest cut (λ none. cc) values.good in
     let name : BeginsWithName (c ∷ cs) (c ∷ parts) rest =
-    subst (λ xs. BeginsWithName (c ∷ cs) (c ∷ xs) rest) values.1 begun in
+    subst (λ xs. BeginsWithName (c ∷ cs) xs rest) values.text begun in
     record {
       read = λ place. read_of_cut place (c ∷ cs) items rest cut
-          ∙ rw (values.0, values.3, nothing_reported place items values.2) refl;
+          ∙ rw (values.value, values.escapes, nothing_reported place items values.good) refl;
       name = name;
       value = plain_decoded (c ∷ parts) name.name
-          (sym (ap (λ xs. has_escape (c ∷ xs)) values.1)
-          ∙ escapes_of_cut is_identifier_start (c ∷ cs) items rest cut ∙ values.3);
+          (sym (ap has_escape values.text)
+          ∙ escapes_of_cut is_identifier_start (c ∷ cs) items rest cut ∙ values.escapes);
     }

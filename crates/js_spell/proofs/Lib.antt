@@ -6,3 +6,5 @@ pub mod PrefixSteps
 pub mod LeadSteps
 pub mod EndSteps
 pub mod EscapeSteps
+pub mod NameSteps
+pub mod NameReadings

@@ -52,17 +52,21 @@ same_true true false e = absurd (cc)
 same_true false true e = absurd (cc)
 same_true false false e = refl
 
--- the entry of a byte tells whether it is a digit of the radix
-abbrev pub tells_digit : ℕ → List Bool → ℕ → Bool
-tells_digit radix table b = same (matches_at table b) (ltb b 128 && is_digit_of radix b)
+-- the entry of a byte tells whether it is an ASCII character of the class
+abbrev pub tells_as : (ℕ → Bool) → List Bool → ℕ → Bool
+tells_as class table b = same (matches_at table b) (ltb b 128 && class b)
 
-pub tells_digits : (radix : ℕ) (table : List Bool) → all_below (tells_digit radix table) 256 ≡ true → length table ≡ 256
-    → TellsDigits radix table
-tells_digits radix table e n = record { ascii = alone; tells = told }
+-- a table of the ASCII characters of a class
+pub record TellsClass (class : ℕ → Bool) (table : List Bool) : Type 0 where
+  pub ascii : HasAscii table
+  pub tells : (b : ℕ) → b < 128 → matches_at table b ≡ class b
+
+pub tells_class : (class : ℕ → Bool) (table : List Bool) → all_below (tells_as class table) 256 ≡ true
+    → length table ≡ 256 → TellsClass class table
+tells_class class table e n = record { ascii = alone; tells = told }
   where
-    entry : (b : ℕ) → b < 256 → matches_at table b ≡ (ltb b 128 && is_digit_of radix b)
-    entry b h =
-        same_true (matches_at table b) (ltb b 128 && is_digit_of radix b) (below (tells_digit radix table) 256 b e h)
+    entry : (b : ℕ) → b < 256 → matches_at table b ≡ (ltb b 128 && class b)
+    entry b h = same_true (matches_at table b) (ltb b 128 && class b) (below (tells_as class table) 256 b e h)
 
     low : (x y : Bool) → y ≡ true → (y && x) ≡ x
     low x true t = refl
@@ -72,15 +76,22 @@ tells_digits radix table e n = record { ascii = alone; tells = told }
     high x true t = absurd (cc)
     high x false t = refl
 
-    told : (b : ℕ) → b < 128 → matches_at table b ≡ is_digit_of radix b
-    told b h = entry b (omega arith) ∙ low (is_digit_of radix b) (ltb b 128) (grind (arith, nat_tests))
+    told : (b : ℕ) → b < 128 → matches_at table b ≡ class b
+    told b h = entry b (omega arith) ∙ low (class b) (ltb b 128) (grind (arith, nat_tests))
 
     alone : HasAscii table
     alone b h =
         elim (true_or_false (ltb b 256)) [
-          | inl is ↦ entry b (ltb-true b 256 is) ∙ high (is_digit_of radix b) (ltb b 128) (grind (arith, nat_tests))
+          | inl is ↦ entry b (ltb-true b 256 is) ∙ high (class b) (ltb b 128) (grind (arith, nat_tests))
           | inr no_entry ↦ get_or-eq_default table false (omega (arith, ltb-false b 256 no_entry))
         ]
+
+pub tells_digits : (radix : ℕ) (table : List Bool) → all_below (tells_as (is_digit_of radix) table) 256 ≡ true
+    → length table ≡ 256
+    → TellsDigits radix table
+tells_digits radix table e n =
+    let told = tells_class (is_digit_of radix) table e n in
+    record { ascii = told.ascii; tells = told.tells }
 
 pub radix_is_small : (digits : Digits) → radix_of_digits digits ≤ 16
 radix_is_small Binary = omega arith

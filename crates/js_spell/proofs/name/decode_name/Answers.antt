@@ -1,0 +1,20 @@
+use Rattle.std.proofs.Common.{ap, ◌∙◌, ◌++◌, subst, true}
+use Rattle.std.specs.Prelude.{string_bytes}
+use Rattle.js_spell.specs.Name.{ReadsItems}
+use Rattle.js_spell.specs.declared.name.Position.TheVariants.{Later}
+use Rattle.js_spell.proofs.NameReadings.{name_decoded}
+use Rattle.js_spell.proofs.name.decode_name.Goals as goal
+
+pub returns-clause-ok : goal.returns-clause-ok
+returns-clause-ok c =
+    let start = c.in_ok-push_str.ensures.bytes ∙ ap (λ bytes. bytes ++ c.args.plain.now) c.new-decoded.ensures.bytes in
+    let more = c.in_ok-read_rest_into.ensures.ok in
+    name_decoded c.args.position c.args.source.now c.read_escape_into.new.source c.read_rest_into.new.source
+    c.args.errors.now c.read_escape_into.new.errors c.read_rest_into.new.errors c.args.plain.now
+    (string_bytes c.read_escape_into.new.decoded) (string_bytes c.read_rest_into.new.decoded) more.0
+    c.requires.placed c.read_escape_into.ensures.placed
+    (subst
+    (λ bytes. ReadsItems c.args.position c.args.source.now Later c.read_escape_into.new.source c.args.errors.now
+    c.read_escape_into.new.errors bytes (string_bytes c.read_escape_into.new.decoded) true)
+    start c.in_ok-read_escape_into.ensures.ok)
+    more.1

@@ -1,0 +1,44 @@
+use Rattle.std.proofs.Common.{refl, sym, ◌∙◌, ap, arith, subst, ◌++◌, [], Some, None}
+use Rattle.std.proofs.lemmas.List.{append-nil}
+use Rattle.js_text.specs.declared.span.Span.{Span}
+use Rattle.js_spell.specs.Name.{value_of_decoding}
+use Rattle.js_spell.proofs.NameReadings.{escape_read, bad_read, not_allowed_read, escape_onward, span_is}
+use Rattle.js_spell.proofs.NameReadings.{character_read}
+use Rattle.js_spell.proofs.name.read_escape.Goals as goal
+
+pub returns-in-Character-clause-ok : goal.returns-in-Character-clause-ok
+returns-in-Character-clause-ok c =
+    character_read c.args.position c.args.source.now c.next_char.new.self c.decode_escape-decoding.new.source
+    c.decode_escape-decoding.result c.requires.begun c.next_char.ensures.past c.decode_escape-decoding.ensures.decodes
+    c.args.errors.now c.in-Character.c c.requires.placed c.decode_escape-decoding.ensures.placed
+    c.in-Character.is
+
+pub new-span-requires : goal.new-span-requires
+new-span-requires c =
+    omega (
+      arith,
+      escape_onward c.args.position c.args.source.now c.next_char.new.self c.decode_escape-decoding.new.source
+          c.decode_escape-decoding.result c.requires.begun c.next_char.ensures.past
+          c.decode_escape-decoding.ensures.decodes
+          c.next_char.ensures.placed c.decode_escape-decoding.ensures.placed,
+      c.offset-start.ensures.place,
+      c.offset-end.ensures.place,
+    )
+
+pub returns-in_ok-push-in-NotAllowed-clause-ok : goal.returns-in_ok-push-in-NotAllowed-clause-ok
+returns-in_ok-push-in-NotAllowed-clause-ok c =
+    not_allowed_read c.args.position c.args.source.now c.next_char.new.self c.decode_escape-decoding.new.source
+    c.decode_escape-decoding.result c.requires.begun c.next_char.ensures.past c.decode_escape-decoding.ensures.decodes
+    c.args.errors.now c.push.new.self c.in-NotAllowed.c c.empty-span.result c.requires.placed
+    c.decode_escape-decoding.ensures.placed c.in-NotAllowed.is
+    (c.empty-span.ensures ∙ span_is c.offset-end.ensures.place c.offset-end.ensures.place)
+    c.in_ok-push-in-NotAllowed.ensures.ok
+
+pub returns-in_ok-push-in-Bad-clause-ok : goal.returns-in_ok-push-in-Bad-clause-ok
+returns-in_ok-push-in-Bad-clause-ok c =
+    bad_read c.args.position c.args.source.now c.next_char.new.self c.decode_escape-decoding.new.source
+    c.decode_escape-decoding.result c.requires.begun c.next_char.ensures.past c.decode_escape-decoding.ensures.decodes
+    c.args.errors.now c.push-in-Bad.new.self c.new-span.result c.requires.placed c.next_char.ensures.placed
+    c.decode_escape-decoding.ensures.placed c.in-Bad.is
+    (c.new-span.ensures ∙ span_is c.offset-start.ensures.place c.offset-end.ensures.place)
+    c.in_ok-push-in-Bad.ensures.ok

@@ -1,0 +1,26 @@
+use Rattle.std.proofs.Common.{refl, sym, ap, ◌∙◌, true, false}
+use Rattle.js_kind.specs.TokenParts.{TokenParts}
+use Rattle.js_spell.specs.declared.spelt.SpeltValue.TheVariants.{Plain}
+use Rattle.js_spell.proofs.NameReadings.{plain_spelled, escaped_spelled}
+use Rattle.js_spell.proofs.name.read_name.Goals as goal
+
+pub returns-then-not-begins_ascii-clause-ok : goal.returns-then-not-begins_ascii-clause-ok
+returns-then-not-begins_ascii-clause-ok c =
+    plain_spelled c.args.source.now c.pass_plain-position.new.source c.args.errors.now c.args.token.now
+    c.set_has_separator.new.self c.pass_plain-position.result c.str_from_pos_to_current-plain.result.now
+    (record { kind = c.match_keyword.result; value = Plain }) c.pass_plain-position.ensures.passes
+    (sym c.begins_ascii.ensures ∙ c.if-not-begins_ascii.true)
+    (rw c.position-start.ensures.place at c.str_from_pos_to_current-plain.ensures.characters)
+    (c.set_has_separator.ensures ∙ ap (λ (t : TokenParts). record t { has_separator = false }) c.set_escaped.ensures)
+    c.match_keyword.ensures refl
+
+pub returns-clause-ok : goal.returns-clause-ok
+returns-clause-ok c =
+    escaped_spelled c.args.source.now c.pass_plain-position.new.source c.read_escaped_name.new.source
+    c.args.errors.now c.read_escaped_name.new.errors c.args.token.now c.set_has_separator-2.new.self
+    c.pass_plain-position.result c.str_from_pos_to_current-plain.result.now c.in_ok-spelt.spelt c.requires.placed
+    c.pass_plain-position.ensures.placed c.pass_plain-position.ensures.passes
+    (rw c.position-start.ensures.place at c.str_from_pos_to_current-plain.ensures.characters)
+    c.in_ok-spelt.ensures.ok
+    (c.set_has_separator-2.ensures
+    ∙ ap (λ (t : TokenParts). record t { has_separator = false }) c.set_escaped-2.ensures)

@@ -1,0 +1,48 @@
+use Rattle.std.proofs.Common.{sym, ◌∙◌, ap, arith, length, length-append, ◌||◌, true, false}
+use Rattle.std.specs.Prelude.{string_bytes}
+use Rattle.js_source.specs.Source.{rest}
+use Rattle.js_grammar.proofs.NameLaws.{ended}
+use Rattle.js_spell.specs.declared.name.Position.TheVariants.{Later}
+use Rattle.js_spell.proofs.NameReadings.{parts_added, then_read, parts_fewer}
+use Rattle.js_spell.proofs.name.read_rest_into.Goals as goal
+
+pub returns-then-not-begins_ascii-clause-ok : goal.returns-then-not-begins_ascii-clause-ok
+returns-then-not-begins_ascii-clause-ok c =
+    let passes = c.in_ok-read_parts_into.ensures.ok in (
+      c.parts.invariant.has_escape || false,
+      record {
+        read =
+            parts_added Later c.args.source.now c.parts.source c.read_parts_into.new.source c.args.errors.now
+            c.parts.errors (string_bytes c.args.decoded.now) (string_bytes c.parts.decoded)
+            (string_bytes c.read_parts_into.new.decoded) c.parts.invariant.has_escape c.requires
+            c.parts.invariant.placed c.parts.invariant.read passes;
+        end =
+            ended (rest c.read_parts_into.new.source) passes.stops
+            (sym c.begins_ascii.ensures ∙ c.if-not-begins_ascii.true);
+      },
+    )
+
+pub parts-smaller : goal.parts-smaller
+parts-smaller c =
+    omega (
+      arith,
+      parts_fewer c.parts.source c.read_parts_into.new.source (string_bytes c.parts.decoded)
+          (string_bytes c.read_parts_into.new.decoded) c.in_ok-read_parts_into.ensures.ok,
+      c.in_ok-read_escape_into.ensures.fewer,
+    )
+
+pub parts-preserved : goal.parts-preserved
+parts-preserved c = record {
+  has_escape = (c.parts.invariant.has_escape || false) || true;
+  read =
+      then_read Later c.args.source.now Later c.read_parts_into.new.source Later c.read_escape_into.new.source
+      c.args.errors.now c.parts.errors c.read_escape_into.new.errors (string_bytes c.args.decoded.now)
+      (string_bytes c.read_parts_into.new.decoded) (string_bytes c.read_escape_into.new.decoded)
+      (c.parts.invariant.has_escape || false) true c.requires c.read_parts_into.ensures.placed
+      (parts_added Later c.args.source.now c.parts.source c.read_parts_into.new.source c.args.errors.now
+      c.parts.errors (string_bytes c.args.decoded.now) (string_bytes c.parts.decoded)
+      (string_bytes c.read_parts_into.new.decoded) c.parts.invariant.has_escape c.requires
+      c.parts.invariant.placed c.parts.invariant.read c.in_ok-read_parts_into.ensures.ok)
+      c.in_ok-read_escape_into.ensures.ok;
+  placed = c.read_escape_into.ensures.placed;
+}

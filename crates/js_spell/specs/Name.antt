@@ -1,0 +1,173 @@
+-- The steps of reading a name.
+use Rattle.std.specs.Prelude.{◌≡◌, ℕ, ◌<◌, Bool, true, false, List, [], ◌∷◌, ◌++◌, ◌==◌, map, length, Option, Some, None}
+use Rattle.std.specs.Prelude.{option_to_list}
+use Rattle.std.specs.List.{list_any}
+use Rattle.std.specs.Str.{chars, encode_utf8_all, IsUtf8}
+use Rattle.js_text.specs.Ascii.{backslash}
+use Rattle.js_text.specs.Characters.{begins, is_identifier_start, is_identifier_part}
+use Rattle.js_text.specs.JsStr.{units_of}
+use Rattle.js_text.specs.declared.diagnostic.Diagnostic.{Diagnostic}
+use Rattle.js_grammar.specs.Name.{NameItem, NameFault, CutsInto, items_text, items_value, items_report, item_report}
+use Rattle.js_grammar.specs.Name.{plain_item, escape_item, item_of_escape, latin_small_letter_u, name_read, private_read}
+use Rattle.js_grammar.specs.Name.{name_item, no_private_name, unnamed}
+use Rattle.js_grammar.specs.Name.NameFault.{bad_escape, not_allowed}
+use Rattle.js_grammar.specs.UnicodeEscape.{unicode_escape}
+use Rattle.js_kind.specs.Keywords.{name_kind}
+use Rattle.js_kind.specs.TokenParts.{TokenParts}
+use Rattle.js_kind.specs.declared.kind.Kind.{Kind}
+use Rattle.js_source.specs.Runs.{HasAscii}
+use Rattle.js_source.specs.Search.{matches_at}
+use Rattle.js_source.specs.Source.{At, rest}
+use Rattle.js_spell.specs.declared.name.Decoding.{Decoding}
+use Rattle.js_spell.specs.declared.name.Decoding.TheVariants.{Character, NotAllowed, Bad}
+use Rattle.js_spell.specs.declared.name.Position.{Position}
+use Rattle.js_spell.specs.declared.name.Position.TheVariants.{First, Later}
+use Rattle.js_spell.specs.declared.spelt.Spelt.{Spelt}
+use Rattle.js_spell.specs.declared.spelt.SpeltValue.{SpeltValue}
+use Rattle.js_spell.specs.declared.spelt.SpeltValue.TheVariants.{Plain, Decoded}
+
+-- the ASCII characters that are parts of names
+pub record TellsParts (table : List Bool) : Type 0 where
+  pub ascii : HasAscii table
+  pub tells : (b : ℕ) → b < 128 → matches_at table b ≡ is_identifier_part b
+
+-- the characters that an item of a name may be of
+abbrev pub class_of : Position → ℕ → Bool
+class_of First = is_identifier_start
+class_of Later = is_identifier_part
+
+-- These items stand between the two places: with whatever items go on with the name, they are its items.
+pub record GoesOn (from : Position) (old : At) (items : List NameItem) (to : Position) (new : At) : Type 0 where
+  pub text : new.text ≡ old.text
+  pub here : rest old ≡ items_text items ++ rest new
+  pub go_on : (more : List NameItem) (left : List ℕ) → CutsInto (class_of to) (rest new) more left
+      → CutsInto (class_of from) (rest old) (items ++ more) left
+
+-- The characters of a name up to its first escape, or its end, were passed.
+pub record PassesPlain (old : At) (to : Position) (new : At) : Type 0 where
+  pub characters : List ℕ
+  pub goes_on : GoesOn First old (map plain_item characters) to new
+  pub stops : begins is_identifier_part (rest new) ≡ false
+  pub escape : to ≡ First → begins (λ c. c == backslash) (rest new) ≡ true
+
+-- what an escape stands for
+abbrev pub value_of_decoding : Decoding → List ℕ
+value_of_decoding (Character c) = c ∷ []
+value_of_decoding (NotAllowed c) = []
+value_of_decoding Bad = []
+
+-- what is wrong with it
+abbrev pub fault_of_decoding : Decoding → Option NameFault
+fault_of_decoding (Character c) = None
+fault_of_decoding (NotAllowed c) = Some (not_allowed c)
+fault_of_decoding Bad = Some bad_escape
+
+-- The item was read, from behind its first characters on, and came to this.
+pub record Decodes (item : NameItem) (first : List ℕ) (old : At) (decoding : Decoding) (new : At) : Type 0 where
+  pub text : new.text ≡ old.text
+  pub here : first ++ rest old ≡ item.text ++ rest new
+  pub value : item.value ≡ value_of_decoding decoding
+  pub fault : item.fault ≡ fault_of_decoding decoding
+
+-- an escape was read behind its `\u`
+abbrev pub DecodesUnicode : Position → At → Decoding → At → Type 0
+DecodesUnicode position old decoding new =
+    Decodes (item_of_escape (class_of position) (unicode_escape (rest old))) (backslash ∷ latin_small_letter_u ∷ []) old
+    decoding new
+
+-- an escape was read behind its `\`
+abbrev pub DecodesEscape : Position → At → Decoding → At → Type 0
+DecodesEscape position old decoding new =
+    Decodes (escape_item (class_of position) (rest old)) (backslash ∷ []) old decoding new
+
+-- An escape was read, and what is wrong with it was reported.
+pub record ReadsEscape (position : Position) (old new : At) (before after : List Diagnostic) (c : Option ℕ)
+    : Type 0 where
+  pub item : NameItem
+  pub goes_on : GoesOn position old (item ∷ []) Later new
+  pub reports : after ≡ before ++ item_report old.place item
+  pub value : item.value ≡ option_to_list c
+  pub is_escape : item.is_escape ≡ true
+  pub fewer : length (rest new) < length (rest old)
+
+-- Items were read, what is wrong with them was reported, and the bytes of what they stand for were added. The flag
+-- tells whether there is an escape among them.
+pub record ReadsItems (from : Position) (old : At) (to : Position) (new : At) (before after : List Diagnostic)
+    (was now : List ℕ) (has_escape : Bool)
+    : Type 0 where
+  pub items : List NameItem
+  pub goes_on : GoesOn from old items to new
+  pub reports : after ≡ before ++ items_report old.place items
+  pub value : now ≡ was ++ encode_utf8_all (items_value items)
+  pub escapes : list_any (λ item. item.is_escape) items ≡ has_escape
+
+-- Parts that stand for themselves were read, all of them.
+pub record PassesParts (old new : At) (was now : List ℕ) : Type 0 where
+  pub characters : List ℕ
+  pub goes_on : GoesOn Later old (map plain_item characters) Later new
+  pub value : now ≡ was ++ encode_utf8_all characters
+  pub stops : begins is_identifier_part (rest new) ≡ false
+
+-- Items were read, up to the end of the name.
+pub record ReadsToEnd (from : Position) (old new : At) (before after : List Diagnostic) (was now : List ℕ)
+    (has_escape : Bool)
+    : Type 0 where
+  pub read : ReadsItems from old Later new before after was now has_escape
+  pub end : name_item is_identifier_part (rest new) ≡ None
+
+-- A name was read on from its first escape: its kind, and its value.
+pub record SpellsDecoded (from : Position) (old new : At) (before after : List Diagnostic) (plain : List ℕ)
+    (spelt : Spelt)
+    : Type 0 where
+  pub text : List ℕ
+  pub utf8 : IsUtf8 text
+  pub read : ReadsToEnd from old new before after plain text true
+  pub kind : spelt.kind ≡ name_kind text
+  pub value : spelt.value ≡ Decoded (units_of (chars text))
+
+-- The name that is next was read, good or at fault.
+pub record ReadsName (old new : At) (before after : List Diagnostic) (has_escape : Bool) (decoded : List ℕ)
+    : Type 0 where
+  pub text : new.text ≡ old.text
+  pub added : List Diagnostic
+  pub reports : after ≡ before ++ added
+  pub read : name_read old.place (rest old)
+      ≡ record { rest = rest new; has_escape = has_escape; decoded = decoded; diagnostics = added }
+
+-- the value of a spelling: a stretch of the source where it has no escape, and else the units of what it stands for
+abbrev pub HasValue : Bool → List ℕ → SpeltValue → Type 0
+HasValue false decoded value = value ≡ Plain
+HasValue true decoded value = value ≡ Decoded (units_of decoded)
+
+-- A name was read: its kind and its value are those of what it stands for, and the flags of its token were set.
+pub record SpellsName (old new : At) (before after : List Diagnostic) (was now : TokenParts) (spelt : Spelt)
+    : Type 0 where
+  pub decoded : List ℕ
+  pub read : ReadsName old new before after now.escaped decoded
+  pub kind : spelt.kind ≡ name_kind (encode_utf8_all decoded)
+  pub flags : now ≡ record was { escaped = now.escaped; has_separator = false }
+  pub value : HasValue now.escaped decoded spelt.value
+
+-- It was reported that no name follows a `#`; the token is of this kind.
+pub record ReportsNoName (old : At) (before after : List Diagnostic) (kind : Kind) : Type 0 where
+  pub report : Diagnostic
+  pub reports : after ≡ before ++ report ∷ []
+  pub read : no_private_name old.place (rest old) ≡ unnamed kind report
+
+-- What follows a `#` was read, a name or none.
+pub record ReadsPrivateName (old new : At) (before after : List Diagnostic) (kind : Kind) (has_escape : Bool)
+    (decoded : List ℕ)
+    : Type 0 where
+  pub text : new.text ≡ old.text
+  pub added : List Diagnostic
+  pub reports : after ≡ before ++ added
+  pub read : private_read old.place (rest old)
+      ≡ record { kind = kind; rest = rest new; has_escape = has_escape; decoded = decoded; diagnostics = added }
+
+-- A private name was read, or a `#` that no name follows: its value leaves `#` out, and the flags of its token were set.
+pub record SpellsPrivateName (old new : At) (before after : List Diagnostic) (was now : TokenParts) (spelt : Spelt)
+    : Type 0 where
+  pub decoded : List ℕ
+  pub read : ReadsPrivateName old new before after spelt.kind now.escaped decoded
+  pub flags : now ≡ record was { escaped = now.escaped; has_separator = false }
+  pub value : HasValue now.escaped decoded spelt.value

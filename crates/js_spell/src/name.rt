@@ -1,0 +1,450 @@
+//! Reading a name or a private name, good or at fault (ECMA-262 12.7).
+
+ghost use Rattle.std.specs.Prelude.{◌≡◌, ◌≤◌, ◌<◌, ◌==◌, ◌++◌, ◌∷◌, [], length, Bool, true, IfOk, IfSome, IfNone, OnOk};
+ghost use Rattle.std.specs.Prelude.{OnErr, MatchBool, string_bytes};
+ghost use Rattle.std.specs.Char.Utf16.{is_low_surrogate};
+ghost use Rattle.std.specs.Str.{chars};
+ghost use Rattle.js_text.specs.Ascii.{backslash};
+ghost use Rattle.js_text.specs.Characters.{begins, from_first, is_identifier_part};
+ghost use Rattle.js_text.specs.JsStr.{units_of};
+ghost use Rattle.js_grammar.specs.Name.{begins_name, is_no_part, low_surrogate_escape};
+ghost use Rattle.js_kind.specs.Keywords.{name_kind};
+ghost use Rattle.js_source.specs.Source.{rest, IsPlaced, BeginsWith};
+ghost use Rattle.js_spell.specs.Name.{class_of, PassesPlain, DecodesEscape, DecodesUnicode, ReadsEscape, ReadsItems};
+ghost use Rattle.js_spell.specs.Name.{PassesParts, ReadsToEnd, SpellsDecoded, SpellsName, ReportsNoName};
+ghost use Rattle.js_spell.specs.Name.{SpellsPrivateName};
+ghost use Rattle.js_spell.specs.Numeric.{BreaksOff};
+ghost use Rattle.js_spell.specs.declared.name.Position.TheVariants.{Later};
+ghost use Rattle.js_spell.specs.declared.spelt.SpeltValue.TheVariants.{Decoded};
+
+use crate::parts::parts;
+use crate::spelt::{Spelt, SpeltValue};
+use crate::unicode_escape::{read_hex_digits, read_unicode_escape};
+use js_kind::{Kind, Token, match_keyword};
+use js_source::Source;
+use js_text::{
+    Diagnostic, DiagnosticList, JSStrBuilder, Span, is_identifier_part, is_identifier_start,
+};
+use std::alloc::{AllocError, Global};
+
+/// The first of the low surrogates.
+const FIRST_LOW_SURROGATE: u32 = 0xDC00;
+
+/// The last of the low surrogates.
+const LAST_LOW_SURROGATE: u32 = 0xDFFF;
+
+/// Where in a name an item stands.
+#[derive(Clone, Copy, Debug)]
+enum Position {
+    /// It begins the name.
+    First,
+    /// Other items are before it.
+    Later,
+}
+
+impl Position {
+    /// Whether a name may have the character here.
+    fn allows(self, c: char) -> bool
+        ensures { result ≡ class_of self c }
+    {
+        match self {
+            Position::First => is_identifier_start(c),
+            Position::Later => is_identifier_part(c),
+        }
+    }
+}
+
+/// What an escape in a name came to.
+#[derive(Clone, Copy, Debug)]
+enum Decoding {
+    /// It stands for the character.
+    Character(char),
+    /// It would stand for the character, which may not be here.
+    NotAllowed(char),
+    /// It is none.
+    Bad,
+}
+
+/// Whether the ASCII character `b` is next.
+#[inline(always)]
+fn begins_ascii(source: &Source<'_>, b: u8) -> bool
+    requires { b < 128 }
+    ensures { result ≡ begins (λ c. c == b) (rest source.now) }
+{
+    match source.peek_byte() {
+        Some(next) => next == b,
+        None => false,
+    }
+}
+
+/// Whether the code point is a low surrogate.
+fn is_low_surrogate(code_point: u32) -> bool
+    ensures { result ≡ is_low_surrogate code_point }
+{
+    (FIRST_LOW_SURROGATE..=LAST_LOW_SURROGATE).contains(&code_point)
+}
+
+/// Passes the parts of names in ASCII, and tells the character behind them, where it is a part too.
+#[inline(always)]
+fn pass_parts(source: &mut Source<'_>) -> Option<char>
+    ensures text { source.new.text ≡ source.old.text }
+    ensures rest { from_first is_no_part (rest source.new) ≡ from_first is_no_part (rest source.old) }
+    ensures none { IfNone result (from_first is_no_part (rest source.new) ≡ rest source.new) }
+    ensures some { IfSome result (λ c. BeginsWith c (rest source.new)) }
+    ensures part { IfSome result (λ c. is_identifier_part c ≡ true) }
+    ensures onward { source.old.place ≤ source.new.place }
+    ensures fewer { length (rest source.new) ≤ length (rest source.old) }
+    ensures placed { IsPlaced source.new }
+{
+    let b = source.pass_ascii(parts())?;
+    if b < 128 {
+        return None;
+    }
+    let c = source.peek_char()?;
+    if !is_identifier_part(c) {
+        return None;
+    }
+    Some(c)
+}
+
+/// Goes to the first character that is no part of a name.
+#[inline(always)]
+fn skip_parts(source: &mut Source<'_>)
+    requires { IsPlaced source.old }
+    ensures text { source.new.text ≡ source.old.text }
+    ensures rest { rest source.new ≡ from_first is_no_part (rest source.old) }
+    ensures onward { source.old.place ≤ source.new.place }
+    ensures placed { IsPlaced source.new }
+{
+    while let Some(_c) = pass_parts(source) {
+        source.next_char();
+    }
+}
+
+/// Passes the characters of the name that begins here up to its first escape, or its end, and tells where in the name
+/// the source stands then.
+#[inline(always)]
+fn pass_plain(source: &mut Source<'_>) -> Position
+    requires placed { IsPlaced source.old }
+    requires begun { begins_name (rest source.old) ≡ true }
+    ensures passes { PassesPlain source.old result source.new }
+    ensures onward { source.old.place ≤ source.new.place }
+    ensures placed { IsPlaced source.new }
+{
+    if begins_ascii(source, b'\\') {
+        return Position::First;
+    }
+    source.next_char();
+    skip_parts(source);
+    Position::Later
+}
+
+/// Takes the escape of a low surrogate by four digits, if one is next, or some of what is.
+fn take_low_surrogate(source: &mut Source<'_>) -> bool
+    requires { IsPlaced source.old }
+    ensures text { source.new.text ≡ source.old.text }
+    ensures taken { MatchBool result (rest source.old ≡ low_surrogate_escape (rest source.old) ++ rest source.new)
+        (low_surrogate_escape (rest source.old) ≡ []) }
+    ensures placed { IsPlaced source.new }
+{
+    if !source.advance_if_ascii_eq(b'\\') {
+        return false;
+    }
+    if !source.advance_if_ascii_eq(b'u') {
+        return false;
+    }
+    match read_hex_digits(source, 4) {
+        Some(value) => is_low_surrogate(value),
+        None => false,
+    }
+}
+
+/// Passes the escape of a low surrogate by four digits, if one is next.
+fn pass_low_surrogate(source: &mut Source<'_>)
+    requires { IsPlaced source.old }
+    ensures text { source.new.text ≡ source.old.text }
+    ensures passed { rest source.old ≡ low_surrogate_escape (rest source.old) ++ rest source.new }
+    ensures placed { IsPlaced source.new }
+{
+    let start = source.position();
+    if !take_low_surrogate(source) {
+        source.set_position(start);
+    }
+}
+
+/// Reads an escape behind its `\u`.
+fn decode_unicode(source: &mut Source<'_>, position: Position) -> Decoding
+    requires { IsPlaced source.old }
+    ensures decodes { DecodesUnicode position source.old result source.new }
+    ensures placed { IsPlaced source.new }
+{
+    let is_braced = begins_ascii(source, b'{');
+    let value = match read_unicode_escape(source) {
+        Some(value) => value,
+        None => return Decoding::Bad,
+    };
+    if let Some(c) = char::from_u32(value) {
+        if position.allows(c) {
+            return Decoding::Character(c);
+        }
+        return Decoding::NotAllowed(c);
+    }
+    if is_braced {
+        return Decoding::Bad;
+    }
+    if value < FIRST_LOW_SURROGATE {
+        pass_low_surrogate(source);
+    }
+    Decoding::Bad
+}
+
+/// Reads an escape behind its `\`.
+fn decode_escape(source: &mut Source<'_>, position: Position) -> Decoding
+    requires { IsPlaced source.old }
+    ensures decodes { DecodesEscape position source.old result source.new }
+    ensures placed { IsPlaced source.new }
+{
+    if !source.advance_if_ascii_eq(b'u') {
+        source.next_char();
+        return Decoding::Bad;
+    }
+    decode_unicode(source, position)
+}
+
+/// Reads the escape that is next, and gives the character that it stands for. None: it is at fault, which was reported.
+fn read_escape(
+    source: &mut Source<'_>,
+    errors: &mut DiagnosticList,
+    position: Position,
+) -> Result<Option<char>, AllocError>
+    requires placed { IsPlaced source.old }
+    requires begun { begins (λ c. c == backslash) (rest source.old) ≡ true }
+    ensures ok { IfOk result (λ c. ReadsEscape position source.old source.new errors.old errors.new c) }
+    ensures err { OnErr result (BreaksOff source.old source.new errors.old errors.new) }
+    ensures placed { IsPlaced source.new }
+{
+    source.next_char();
+    let start = source.offset();
+    let decoding = decode_escape(source, position);
+    let end = source.offset();
+    match decoding {
+        Decoding::Character(c) => return Ok(Some(c)),
+        Decoding::NotAllowed(c) => {
+            let span = Span::empty(end);
+            errors.push(Diagnostic::InvalidCharacter { c, span })?;
+        }
+        Decoding::Bad => {
+            let span = Span::new(start, end);
+            errors.push(Diagnostic::UnicodeEscapeSequence { span })?;
+        }
+    }
+    Ok(None)
+}
+
+/// Reads the escape that is next, and adds what it stands for to the text.
+fn read_escape_into(
+    source: &mut Source<'_>,
+    errors: &mut DiagnosticList,
+    position: Position,
+    decoded: &mut String,
+) -> Result<(), AllocError>
+    requires placed { IsPlaced source.old }
+    requires begun { begins (λ c. c == backslash) (rest source.old) ≡ true }
+    ensures ok { OnOk result (ReadsItems position source.old Later source.new errors.old errors.new
+        (string_bytes decoded.old) (string_bytes decoded.new) true) }
+    ensures fewer { OnOk result (length (rest source.new) < length (rest source.old)) }
+    ensures err { OnErr result (BreaksOff source.old source.new errors.old errors.new) }
+    ensures placed { IsPlaced source.new }
+{
+    if let Some(c) = read_escape(source, errors, position)? {
+        decoded.push(c)?;
+    }
+    Ok(())
+}
+
+/// Reads the parts that are next and stand for themselves, and adds them to the text.
+fn read_parts_into(source: &mut Source<'_>, decoded: &mut String) -> Result<(), AllocError>
+    requires { IsPlaced source.old }
+    ensures text { source.new.text ≡ source.old.text }
+    ensures ok { OnOk result (PassesParts source.old source.new (string_bytes decoded.old) (string_bytes decoded.new)) }
+    ensures placed { IsPlaced source.new }
+{
+    let start = source.position();
+    skip_parts(source);
+    decoded.push_str(source.str_from_pos_to_current(start))
+}
+
+/// Reads the rest of a name, and adds what it stands for to the text.
+fn read_rest_into(
+    source: &mut Source<'_>,
+    errors: &mut DiagnosticList,
+    decoded: &mut String,
+) -> Result<(), AllocError>
+    requires { IsPlaced source.old }
+    ensures ok { OnOk result ((has_escape : Bool) × ReadsToEnd Later source.old source.new errors.old errors.new
+        (string_bytes decoded.old) (string_bytes decoded.new) has_escape) }
+    ensures err { OnErr result (BreaksOff source.old source.new errors.old errors.new) }
+    ensures placed { IsPlaced source.new }
+{
+    'parts: loop {
+        read_parts_into(source, decoded)?;
+        if !begins_ascii(source, b'\\') {
+            return Ok(());
+        }
+        read_escape_into(source, errors, Position::Later, decoded)?;
+    }
+}
+
+/// Reads a name on from its first escape, behind its plain beginning, and gives the text that it stands for.
+fn decode_name(
+    alloc: Global,
+    source: &mut Source<'_>,
+    errors: &mut DiagnosticList,
+    position: Position,
+    plain: &str,
+) -> Result<String, AllocError>
+    requires placed { IsPlaced source.old }
+    requires begun { begins (λ c. c == backslash) (rest source.old) ≡ true }
+    ensures ok { IfOk result (λ text. ReadsToEnd position source.old source.new errors.old errors.new
+        plain.now (string_bytes text) true) }
+    ensures err { OnErr result (BreaksOff source.old source.new errors.old errors.new) }
+    ensures placed { IsPlaced source.new }
+{
+    let mut decoded = String::new(alloc);
+    decoded.push_str(plain)?;
+    read_escape_into(source, errors, position, &mut decoded)?;
+    read_rest_into(source, errors, &mut decoded)?;
+    Ok(decoded)
+}
+
+/// The kind and the value of a name that stands for the text.
+fn spell_decoded(alloc: Global, text: &str) -> Result<Spelt, AllocError>
+    ensures kind { IfOk result (λ spelt. spelt.kind ≡ name_kind text.now) }
+    ensures value { IfOk result (λ spelt. spelt.value ≡ Decoded (units_of (chars text.now))) }
+{
+    let mut units = JSStrBuilder::new_in(alloc);
+    units.push_str(text)?;
+    Ok(Spelt {
+        kind: match_keyword(text),
+        value: SpeltValue::Decoded(units.into_js_str()),
+    })
+}
+
+/// Reads a name on from its first escape, behind its plain beginning.
+#[inline(never)]
+fn read_escaped_name(
+    alloc: Global,
+    source: &mut Source<'_>,
+    errors: &mut DiagnosticList,
+    position: Position,
+    plain: &str,
+) -> Result<Spelt, AllocError>
+    requires placed { IsPlaced source.old }
+    requires begun { begins (λ c. c == backslash) (rest source.old) ≡ true }
+    ensures ok { IfOk result (λ spelt.
+        SpellsDecoded position source.old source.new errors.old errors.new plain.now spelt) }
+    ensures err { OnErr result (BreaksOff source.old source.new errors.old errors.new) }
+    ensures placed { IsPlaced source.new }
+{
+    let text = decode_name(alloc, source, errors, position, plain)?;
+    spell_decoded(alloc, text.as_str())
+}
+
+/// Reads the name that is next, good or at fault: what is to be reported is added to the list, and the flags of the
+/// token are set. Its start is where the name begins. A name without escapes asks for no memory.
+#[inline(always)]
+pub fn read_name(
+    alloc: Global,
+    source: &mut Source<'_>,
+    errors: &mut DiagnosticList,
+    token: &mut Token,
+) -> Result<Spelt, AllocError>
+    requires placed { IsPlaced source.old }
+    requires begun { begins_name (rest source.old) ≡ true }
+    ensures ok { IfOk result (λ spelt.
+        SpellsName source.old source.new errors.old errors.new token.old token.new spelt) }
+    ensures err { OnErr result (BreaksOff source.old source.new errors.old errors.new) }
+    ensures token { OnErr result (token.new ≡ token.old) }
+    ensures placed { IsPlaced source.new }
+{
+    let start = source.position();
+    let position = pass_plain(source);
+    let plain = source.str_from_pos_to_current(start);
+    if !begins_ascii(source, b'\\') {
+        token.set_escaped(false);
+        token.set_has_separator(false);
+        return Ok(Spelt {
+            kind: match_keyword(plain),
+            value: SpeltValue::Plain,
+        });
+    }
+    let spelt = read_escaped_name(alloc, source, errors, position, plain)?;
+    token.set_escaped(true);
+    token.set_has_separator(false);
+    Ok(spelt)
+}
+
+/// Whether a name is next, good or at fault.
+fn begins_name(source: &Source<'_>) -> bool
+    ensures { result ≡ begins_name (rest source.now) }
+{
+    match source.peek_char() {
+        Some(c) => is_identifier_start(c) || c == '\\',
+        None => false,
+    }
+}
+
+/// Reports that no name follows a `#`, and gives the kind of the token.
+fn report_no_name(source: &mut Source<'_>, errors: &mut DiagnosticList) -> Result<Kind, AllocError>
+    requires { IsPlaced source.old }
+    ensures text { source.new.text ≡ source.old.text }
+    ensures ok { IfOk result (λ kind. ReportsNoName source.old errors.old errors.new kind) }
+    ensures err { OnErr result (errors.new ≡ errors.old) }
+    ensures placed { IsPlaced source.new }
+{
+    let start = source.offset();
+    match source.next_char() {
+        Some(c) => {
+            let span = Span::new(start, source.offset());
+            errors.push(Diagnostic::InvalidCharacter { c, span })?;
+            Ok(Kind::Eof)
+        }
+        None => {
+            let span = Span::empty(start);
+            errors.push(Diagnostic::UnexpectedEnd { span })?;
+            Ok(Kind::Undetermined)
+        }
+    }
+}
+
+/// Reads what follows a `#` that was just read: a name, good or at fault, or what is read where no name follows. What
+/// is to be reported is added to the list, and the flags of the token are set. Its start is where the `#` stands.
+pub fn read_private_name(
+    alloc: Global,
+    source: &mut Source<'_>,
+    errors: &mut DiagnosticList,
+    token: &mut Token,
+) -> Result<Spelt, AllocError>
+    requires { IsPlaced source.old }
+    ensures ok { IfOk result (λ spelt.
+        SpellsPrivateName source.old source.new errors.old errors.new token.old token.new spelt) }
+    ensures err { OnErr result (BreaksOff source.old source.new errors.old errors.new) }
+    ensures token { OnErr result (token.new ≡ token.old) }
+    ensures placed { IsPlaced source.new }
+{
+    if begins_name(source) {
+        let spelt = read_name(alloc, source, errors, token)?;
+        return Ok(Spelt {
+            kind: Kind::PrivateIdentifier,
+            value: spelt.value,
+        });
+    }
+    let kind = report_no_name(source, errors)?;
+    source.advance_to_end();
+    token.set_escaped(false);
+    token.set_has_separator(false);
+    Ok(Spelt {
+        kind,
+        value: SpeltValue::Plain,
+    })
+}
