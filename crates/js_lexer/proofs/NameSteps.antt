@@ -14,8 +14,8 @@ use Rattle.js_grammar.proofs.NameReadings.{ReadsAs, name_reads_here, private_rea
 use Rattle.js_grammar.proofs.Values.{decoded_of_name, decoded_of_private_read}
 use Rattle.js_lexer.specs.Decoded.{Values, KeepsSpelt, KeepsValues, HasValueHere}
 use Rattle.js_lexer.specs.Reader.{ReadsLexeme}
-use Rattle.js_lexer.specs.Stub.{ReadsName, ReadsPrivateName, HasValue}
-use Rattle.js_lexer.specs.declared.stub.Value2.{Value2 as SpeltValue}
+use Rattle.js_spell.specs.Name.{ReadsName, ReadsPrivateName, HasValue}
+use Rattle.js_spell.specs.declared.spelt.SpeltValue.{SpeltValue}
 use Rattle.js_lexer.specs.declared.reader.Reader.{Reader}
 use Rattle.js_lexer.proofs.DecodedSteps.{keeps_same, keeps_held, has_held, needs_no_value}
 use Rattle.js_lexer.proofs.RecoverSteps.{leads_to}

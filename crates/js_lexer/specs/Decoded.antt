@@ -12,8 +12,8 @@ use Rattle.js_grammar.specs.Values.{decoded_units}
 use Rattle.js_kind.specs.TokenParts.{TokenParts}
 use Rattle.js_kind.specs.declared.kind.Kind.{Kind}
 use Rattle.js_source.specs.Source.{At, rest}
-use Rattle.js_lexer.specs.declared.stub.Value2.{Value2 as SpeltValue}
-use Rattle.js_lexer.specs.declared.stub.Value2.TheVariants.{Plain, Decoded}
+use Rattle.js_spell.specs.declared.spelt.SpeltValue.{SpeltValue}
+use Rattle.js_spell.specs.declared.spelt.SpeltValue.TheVariants.{Plain, Decoded}
 
 -- decoded values, in UTF-16 units, with the places where their tokens start
 abbrev pub Values : Type 0

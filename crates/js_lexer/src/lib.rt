@@ -14,7 +14,6 @@ mod reading;
 mod recover;
 mod recovery;
 mod skipped;
-mod stub;
 mod tables;
 
 pub use checkpoint::LexerCheckpoint;

@@ -25,8 +25,7 @@ use crate::reader::Reader;
 use crate::recover::recover;
 use js_grammar::Goal;
 use js_kind::{Kind, Token};
-use crate::stub::{Spelt2 as Spelt, Value2 as SpeltValue, read_name, read_private_name};
-use js_spell::read_number;
+use js_spell::{Spelt, SpeltValue, read_name, read_number, read_private_name};
 use js_text::{Span, is_identifier_start};
 use std::alloc::AllocError;
 
