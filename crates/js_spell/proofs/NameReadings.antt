@@ -176,20 +176,6 @@ module _ (position : Position) (old mid new : At) (decoding : Decoding)
       (λ d. before ++ option_map_or (λ fault. fault_report old.place new.place fault ∷ []) (fault_of_decoding d) [])
       (sym is))
 
--- the item of an escape, and the bytes of what it stands for
-pub escape_added : (position : Position) (old new : At) (before after : List Diagnostic) (was now : List ℕ)
-    (c : Option ℕ) → ReadsEscape position old new before after c → now ≡ was ++ encode_utf8_all (option_to_list c)
-    → ReadsItems position old Later new before after was now true
-escape_added position old new before after was now c read bytes = record {
-  items = read.item ∷ [];
-  goes_on = read.goes_on;
-  reports = read.reports ∙ ap (λ ds. before ++ ds) (sym (append-nil (item_report old.place read.item)));
-  value =
-      bytes ∙ ap (λ xs. was ++ encode_utf8_all xs) (sym (append-nil (option_to_list c)))
-      ∙ ap (λ xs. was ++ encode_utf8_all (xs ++ [])) (sym read.value);
-  escapes = rw read.is_escape refl;
-}
-
 -- parts that stand for themselves
 pub parts_read : (old new : At) (was now bytes : List ℕ) → new.text ≡ old.text
     → rest new ≡ from_first is_no_part (rest old)
@@ -301,17 +287,6 @@ parts_added from old mid new before after was between now has_escape h k so_far 
     then_read from old Later mid Later new before after after was between now has_escape false h k so_far
     (plain_read Later mid Later new after between now passes.characters passes.goes_on passes.value)
 
--- nothing was read yet
-pub nothing_read : (from : Position) (at : At) (errors : List Diagnostic) (was : List ℕ)
-    → ReadsItems from at from at errors errors was was false
-nothing_read from at errors was = record {
-  items = [];
-  goes_on = record { text = refl; here = refl; go_on = λ more left cut. cut };
-  reports = sym (append-nil errors);
-  value = sym (append-nil was);
-  escapes = refl;
-}
-
 pub parts_fewer : (old new : At) (was now : List ℕ) → PassesParts old new was now
     → length (rest new) ≤ length (rest old)
 parts_fewer old new was now passes =
@@ -421,33 +396,7 @@ escaped_spelled old mid new before after was now to plain spelt h k passes spell
           (decodes.value ∙ ap (λ ys. Decoded (units_of ys)) (sym same));
     }
 
--- A private name, by the name that follows the `#`.
-pub private_spelled : (old new : At) (before after : List Diagnostic) (was now : TokenParts) (name spelt : Spelt)
-    → begins_name (rest old) ≡ true → SpellsName old new before after was now name
-    → spelt.kind ≡ PrivateIdentifier → spelt.value ≡ name.value
-    → SpellsPrivateName old new before after was now spelt
-private_spelled old new before after was now name spelt begun spells kind value = record {
-  decoded = spells.decoded;
-  read = record {
-    text = spells.read.text;
-    added = spells.read.added;
-    reports = spells.read.reports;
-    read = rw (begun, spells.read.read, kind) refl;
-  };
-  flags = spells.flags;
-  value = subst (λ v. HasValue now.escaped spells.decoded v) (sym value) spells.value;
-}
-
--- no name follows it
-pub end_reported : (old : At) (before after : List Diagnostic) (sp : Span) → rest old ≡ []
-    → sp ≡ span old.place old.place → after ≡ before ++ UnexpectedEnd sp ∷ []
-    → ReportsNoName old before after Undetermined
-end_reported old before after sp nothing s report = record {
-  report = UnexpectedEnd (empty_span old.place);
-  reports = report ∙ ap (λ (t : Span). before ++ UnexpectedEnd t ∷ []) s;
-  read = rw nothing refl;
-}
-
+-- no name follows a `#`
 pub character_reported : (old new : At) (before after : List Diagnostic) (c : ℕ) (sp : Span) → IsPlaced old
     → IsPlaced new → Reads old new c
     → sp ≡ span old.place new.place → after ≡ before ++ InvalidCharacter c sp ∷ []
@@ -460,24 +409,3 @@ character_reported old new before after c sp h k read s report = record {
       (leads_to old new (c ∷ []) h k read.text read.here);
   read = rw read.here refl;
 }
-
-pub no_name_spelled : (old mid new : At) (before after : List Diagnostic) (was now : TokenParts) (kind : Kind)
-    (spelt : Spelt)
-    → begins_name (rest old) ≡ false → ReportsNoName old before after kind → mid.text ≡ old.text
-    → new.text ≡ mid.text → rest new ≡ []
-    → now ≡ record was { escaped = false; has_separator = false }
-    → spelt.kind ≡ kind → spelt.value ≡ Plain
-    → SpellsPrivateName old new before after was now spelt
-no_name_spelled old mid new before after was now kind spelt none reported text same nothing flags kind_is value =
-    let escaped : now.escaped ≡ false = ap (λ (t : TokenParts). t.escaped) flags in
-    record {
-      decoded = [];
-      read = record {
-        text = same ∙ text;
-        added = reported.report ∷ [];
-        reports = reported.reports;
-        read = rw (none, reported.read, nothing, escaped, kind_is) refl;
-      };
-      flags = flags ∙ ap (λ (b : Bool). record was { escaped = b; has_separator = false }) (sym escaped);
-      value = subst (λ b. HasValue b [] spelt.value) (sym escaped) value;
-    }

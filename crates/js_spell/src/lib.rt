@@ -3,6 +3,8 @@
 
 mod digits;
 mod name;
+#[cfg(test)]
+mod name_tests;
 mod number;
 mod numeric;
 mod parts;

@@ -385,7 +385,7 @@ pub fn read_name(
 }
 
 /// Whether a name is next, good or at fault.
-fn begins_name(source: &Source<'_>) -> bool
+pub(crate) fn begins_name(source: &Source<'_>) -> bool
     ensures { result ≡ begins_name (rest source.now) }
 {
     match source.peek_char() {
