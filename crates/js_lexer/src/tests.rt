@@ -1,14 +1,13 @@
 //! Rows from outside, and that each call can succeed.
 
-ghost use Rattle.std.specs.Prelude.{◌≡◌, ◌<◌, None, true, false, codes, length, IsTrue, IsFalse, IfOk};
-ghost use Rattle.js_grammar.specs.Built.{IsBuilt, is_unbuilt_byte, is_unbuilt_at};
-ghost use Rattle.js_grammar.specs.Gap.{is_prefix};
+ghost use Rattle.std.specs.Prelude.{◌≡◌, None, IsTrue, IfOk};
+ghost use Rattle.js_grammar.specs.Built.{IsBuilt, is_unbuilt_byte};
 
 use crate::lexer::Lexer;
 use js_kind::{
     Kind, LexerConfig, NoTokensLexerConfig, RuntimeLexerConfig, Token, TokensLexerConfig,
 };
-use js_text::{Diagnostic, SourceType};
+use js_text::{Diagnostic, JsText, SourceType};
 use std::alloc::{AllocError, Global};
 use std::fmt::Write;
 use std::test::Fail;
@@ -16,25 +15,7 @@ use std::test::Fail;
 fn is_unbuilt_byte(byte: u8) -> bool
     ensures { result ≡ is_unbuilt_byte byte }
 {
-    matches!(byte, b'\\' | b'"' | b'\'' | b'`' | b'#')
-}
-
-/// Whether the text begins with the mark of a hashbang comment.
-fn begins_hashbang(text: &[u8]) -> bool
-    ensures { IsTrue result → is_prefix (codes "#!") text.now ≡ true }
-{
-    text.len() > 1 && text[0] == b'#' && text[1] == b'!'
-}
-
-/// Whether the byte there is of a form that is not built.
-fn is_unbuilt_at(text: &[u8], at: usize) -> bool
-    requires { at < length text.now }
-    ensures { IsFalse result → is_unbuilt_at text.now at ≡ false }
-{
-    if at == 0 && begins_hashbang(text) {
-        return false;
-    }
-    is_unbuilt_byte(text[at])
+    matches!(byte, b'"' | b'\'' | b'`')
 }
 
 /// Whether every form of the text is built.
@@ -42,7 +23,7 @@ fn is_built(text: &[u8]) -> bool
     ensures { IsTrue result → IsBuilt text.now }
 {
     for at in 0..text.len() {
-        if is_unbuilt_at(text, at) {
+        if is_unbuilt_byte(text[at]) {
             return false;
         }
     }
@@ -72,8 +53,9 @@ fn push_token(text: &mut String, token: &Token) -> Result<(), AllocError> {
     let start = token.start();
     let end = token.end();
     let newline = if token.is_on_new_line() { " n" } else { "" };
+    let escaped = if token.escaped() { " e" } else { "" };
     let separator = if token.has_separator() { " s" } else { "" };
-    write!(text, "{name} {start}..{end}{newline}{separator};")
+    write!(text, "{name} {start}..{end}{newline}{escaped}{separator};")
 }
 
 fn push_diagnostic(text: &mut String, diagnostic: &Diagnostic) -> Result<(), AllocError> {
@@ -107,7 +89,7 @@ fn lexed(alloc: Global, source: &str, source_type: SourceType) -> Result<String,
 }
 
 /// A source type, a source, its tokens and what is reported.
-static READINGS: [(SourceType, &str, &str); 38] = [
+static READINGS: [(SourceType, &str, &str); 46] = [
     (SourceType::Module, "", "Eof 0..0 n;"),
     (SourceType::Module, "\u{A0}a", "Ident 2..3 n;Eof 3..3;"),
     (
@@ -265,6 +247,42 @@ static READINGS: [(SourceType, &str, &str); 38] = [
         SourceType::Module,
         "07_1",
         "Eof 0..4 n;InvalidNumberEnd 2..3;",
+    ),
+    (SourceType::Module, "l\\u0065t", "Let 0..8 n e;Eof 8..8;"),
+    (
+        SourceType::Module,
+        "a\\",
+        "Ident 0..2 n e;Eof 2..2;UnicodeEscapeSequence 2..2;",
+    ),
+    (
+        SourceType::Module,
+        "#a\\u0062",
+        "PrivateIdentifier 0..8 n e;Eof 8..8;",
+    ),
+    (
+        SourceType::Module,
+        "#",
+        "Undetermined 0..1 n;Eof 1..1;UnexpectedEnd 1..1;",
+    ),
+    (
+        SourceType::Module,
+        "# a",
+        "Eof 0..3 n;InvalidCharacter 1..2;",
+    ),
+    (
+        SourceType::Module,
+        "\\uD800\\uDEA7",
+        "Ident 0..12 n e;Eof 12..12;UnicodeEscapeSequence 1..12;",
+    ),
+    (
+        SourceType::Module,
+        "\\uD800\\u{DEA7}",
+        "Ident 0..14 n e;Eof 14..14;UnicodeEscapeSequence 1..6;UnicodeEscapeSequence 7..14;",
+    ),
+    (
+        SourceType::Module,
+        "\\u0030",
+        "Ident 0..6 n e;Eof 6..6;InvalidCharacter 6..6;",
     ),
 ];
 
@@ -449,6 +467,7 @@ fn goes_back_before_a_fault<C: LexerConfig + Drop>(
     assert_eq!(rt; lexer.errors().len(), 0);
     assert!(rt; peeked.is_same(&lexer.next_token()?));
     assert_eq!(rt; lexer.errors().len(), 1);
+    assert!(rt; lexer.can_rewind(&checkpoint));
     lexer.rewind(checkpoint);
     assert_eq!(rt; lexer.offset(), 1);
     assert_eq!(rt; lexer.last_token().end(), 1);
@@ -489,6 +508,39 @@ fn hands_out_tokens<C: LexerConfig + Drop>(
     Ok(())
 }
 
+/// Whether the text is this stretch of the source.
+fn is_source(text: Option<JsText<'_>>, expected: &str) -> bool {
+    match text {
+        Some(JsText::Source(text)) => text == expected,
+        _ => false,
+    }
+}
+
+/// Whether the text is that of these units.
+fn is_decoded(text: Option<JsText<'_>>, expected: &[u16]) -> bool {
+    match text {
+        Some(JsText::Decoded(text)) => text.units() == expected,
+        _ => false,
+    }
+}
+
+/// Reads a private name and a name with an escape, goes back before them, and asks for their texts.
+fn tells_texts<C: LexerConfig + Drop>(
+    rt: &impl std::process::Abort,
+    alloc: Global,
+    config: C,
+) -> Result<(), Fail> {
+    let mut lexer = lexer_of(alloc, "#a \\u0062", SourceType::Module, config)?;
+    let fresh = lexer.checkpoint();
+    let private = lexer.first_token()?;
+    let escaped = lexer.next_token()?;
+    lexer.rewind(fresh);
+    assert!(rt; is_source(lexer.get_string(private), "a"));
+    assert!(rt; is_decoded(lexer.get_string(escaped), &[0x62]));
+    assert!(rt; is_decoded(lexer.get_js_string(escaped), &[0x62]));
+    Ok(())
+}
+
 /// All of these at one configuration.
 fn checkpoints<C: LexerConfig + Copy + Drop>(
     rt: &impl std::process::Abort,
@@ -499,6 +551,7 @@ fn checkpoints<C: LexerConfig + Copy + Drop>(
     rereads_a_hashbang(rt, alloc, config)?;
     goes_back_before_a_fault(rt, alloc, config)?;
     hands_out_errors(rt, alloc, config)?;
+    tells_texts(rt, alloc, config)?;
     hands_out_tokens(rt, alloc, config, collected)
 }
 

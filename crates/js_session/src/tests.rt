@@ -6,7 +6,7 @@ use crate::{Command, LexFault, Report, Row, RowList, Session, Steps, lex_all, le
 use js_kind::{
     Kind, LexerConfig, NoTokensLexerConfig, RuntimeLexerConfig, Token, TokensLexerConfig,
 };
-use js_text::SourceType;
+use js_text::{JsText, SourceType};
 use std::alloc::{AllocError, Global};
 use std::marker::Brand;
 use std::sync::ledger::{Blank, Ledger};
@@ -155,6 +155,47 @@ fn faults_of_whole_sources(rt: HostRuntime) {
         let result = lex_all(rt.alloc(), source, SourceType::Module, false);
         assert_eq!(rt; result.err(), Some(fault));
     }
+}
+
+/// Sources, the text of their first row, and whether it was decoded.
+static TEXTS: [(&str, &str, bool); 4] = [
+    ("l\\u0065t", "let", true),
+    ("#a\\u0062", "ab", true),
+    ("#ab", "ab", false),
+    ("\\uD800", "", true),
+];
+
+/// Whether the text of a row is this.
+fn has_text(
+    alloc: Global,
+    row: &Row,
+    source: &str,
+    text: &str,
+    decoded: bool,
+) -> Result<bool, AllocError> {
+    match row.text(source) {
+        Some(JsText::Source(slice)) => Ok(!decoded && slice == text),
+        Some(JsText::Decoded(units)) => match units.to_text(alloc)? {
+            Some(spelt) => Ok(decoded && spelt.as_str() == text),
+            None => Ok(false),
+        },
+        None => Ok(false),
+    }
+}
+
+#[test]
+fn texts_of_rows(rt: HostRuntime) -> Result<(), Fail> {
+    for (source, text, decoded) in &TEXTS {
+        let report = lex_session(rt.alloc(), source.as_bytes(), SourceType::Module, false, &[])
+            .ok()
+            .ok_or("no report")?;
+        for row in report.rows.as_slice() {
+            let copy = row.copy(rt.alloc())?;
+            assert!(rt; has_text(rt.alloc(), row, source, text, *decoded)?, "{source}");
+            assert!(rt; has_text(rt.alloc(), &copy, source, text, *decoded)?, "{source}");
+        }
+    }
+    Ok(())
 }
 
 /// So many times a command, behind the commands that are there.
