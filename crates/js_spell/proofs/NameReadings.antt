@@ -1,13 +1,13 @@
 -- What is read of a name, item by item.
-use Rattle.std.proofs.Common.{◌≡◌, ◌≢◌, ℕ, ◌+◌, ◌<◌, ◌≤◌, Bool, true, false, ◌||◌, ◌==◌, List, [], ◌∷◌, ◌++◌, length}
+use Rattle.std.proofs.Common.{◌≡◌, ℕ, ◌+◌, ◌<◌, ◌≤◌, Bool, true, false, ◌||◌, ◌==◌, List, [], ◌∷◌, ◌++◌, length}
 use Rattle.std.proofs.Common.{drop}
-use Rattle.std.proofs.Common.{refl, sym, ◌∙◌, ap, subst, arith, append_assoc, Option, Some, None, inl, inr, add-zero}
+use Rattle.std.proofs.Common.{refl, sym, ◌∙◌, ap, subst, arith, append_assoc, Option, Some, None, add-zero}
 use Rattle.std.proofs.Common.{length-append}
 use Rattle.std.specs.Prelude.{map, option_to_list, Result, Ok, Err, OnOk, is_ok, if◌then◌else◌}
 use Rattle.std.specs.Char.{encode_utf8}
 use Rattle.std.specs.List.{list_any}
 use Rattle.std.specs.Option.{option_map_or}
-use Rattle.std.specs.Str.{chars, encode_utf8_all, IsUtf8}
+use Rattle.std.specs.Str.{chars, encode_utf8_all}
 use Rattle.std.proofs.lemmas.List.{append-nil}
 use Rattle.std.proofs.lemmas.List.Concat.{flat_map-append}
 use Rattle.std.proofs.lemmas.List.Folds.{list_any-append}
@@ -18,39 +18,34 @@ use Rattle.js_text.specs.Characters.{begins, from_place, from_first, before_firs
 use Rattle.js_text.specs.Characters.{is_identifier_start}
 use Rattle.js_text.specs.JsStr.{units_of}
 use Rattle.js_text.specs.declared.diagnostic.Diagnostic.{Diagnostic}
-use Rattle.js_text.specs.declared.diagnostic.Diagnostic.TheVariants.{InvalidCharacter, UnexpectedEnd}
+use Rattle.js_text.specs.declared.diagnostic.Diagnostic.TheVariants.{InvalidCharacter}
 use Rattle.js_text.specs.declared.diagnostic.Diagnostic.TheVariants.{UnicodeEscapeSequence}
 use Rattle.js_text.specs.declared.span.Span.{Span}
 use Rattle.js_text.proofs.TextLemmas.{before_from}
 use Rattle.js_source.specs.Source.{At, rest, IsPlaced, StepsPast, Reads}
-use Rattle.js_grammar.specs.Name.{NameItem, NameFault, NameRead, CutsInto, items_text, items_value, items_report}
-use Rattle.js_grammar.specs.Name.{has_fault}
-use Rattle.js_grammar.specs.Name.{item_report, fault_report, plain_item, is_no_part, begins_name, name_item}
+use Rattle.js_grammar.specs.Name.{NameItem, NameFault, CutsInto, items_text, items_value, items_report}
+use Rattle.js_grammar.specs.Name.{item_report, fault_report, plain_item, is_no_part, name_item}
 use Rattle.js_grammar.specs.Name.{escape_item}
-use Rattle.js_grammar.specs.Name.{name_read, private_read, no_private_name, unnamed, PrivateRead, named}
-use Rattle.js_grammar.specs.NumberReads.{empty_span}
+use Rattle.js_grammar.specs.Name.{name_read}
 use Rattle.js_grammar.specs.Outcome.{place_behind}
 use Rattle.js_grammar.proofs.NameCuts.{read_of_cut, nothing_reported}
-use Rattle.js_grammar.proofs.NameItems.{escape_takes, TakesEscape}
+use Rattle.js_grammar.proofs.NameItems.{escape_takes}
 use Rattle.js_grammar.proofs.NameLaws.{plain_parts, plain_values, ended}
 use Rattle.js_grammar.proofs.NameLemmas.{parts_end}
-use Rattle.js_grammar.proofs.NumberItems.{true_or_false}
 use Rattle.js_grammar.proofs.NumberSound.{first_is}
 use Rattle.js_grammar.proofs.Reported.{place_behind-append}
 use Rattle.js_kind.specs.Keywords.{name_kind}
 use Rattle.js_kind.specs.TokenParts.{TokenParts}
-use Rattle.js_kind.specs.declared.kind.Kind.{Kind}
-use Rattle.js_kind.specs.declared.kind.Kind.TheVariants.{Eof, Undetermined, PrivateIdentifier}
+use Rattle.js_kind.specs.declared.kind.Kind.TheVariants.{Eof}
 use Rattle.js_spell.specs.Name.{class_of, GoesOn, PassesPlain, Decodes, ReadsEscape, ReadsItems, PassesParts}
 use Rattle.js_spell.specs.Name.{ReadsToEnd}
-use Rattle.js_spell.specs.Name.{SpellsDecoded, ReadsName, SpellsName, HasValue, ReportsNoName, ReadsPrivateName}
-use Rattle.js_spell.specs.Name.{SpellsPrivateName, value_of_decoding, fault_of_decoding}
+use Rattle.js_spell.specs.Name.{SpellsDecoded, SpellsName, HasValue, ReportsNoName}
+use Rattle.js_spell.specs.Name.{value_of_decoding, fault_of_decoding}
 use Rattle.js_spell.specs.declared.name.Decoding.{Decoding}
 use Rattle.js_spell.specs.declared.name.Decoding.TheVariants.{Character, NotAllowed, Bad}
 use Rattle.js_spell.specs.declared.name.Position.{Position}
 use Rattle.js_spell.specs.declared.name.Position.TheVariants.{First, Later}
 use Rattle.js_spell.specs.declared.spelt.Spelt.{Spelt}
-use Rattle.js_spell.specs.declared.spelt.SpeltValue.{SpeltValue}
 use Rattle.js_spell.specs.declared.spelt.SpeltValue.TheVariants.{Plain, Decoded}
 use Rattle.js_spell.proofs.NumericSteps.{leads_to}
 
@@ -64,6 +59,10 @@ span start end = record { start = start; end = end }
 
 pub span_is : {a b p q : ℕ} → a ≡ p → b ≡ q → span a b ≡ span p q
 span_is {a} {b} {p} {q} e f = ap (λ n. span n b) e ∙ ap (λ n. span p n) f
+
+-- what is reported of a fault, if there is one
+abbrev reported : ℕ → ℕ → Option NameFault → List Diagnostic
+reported place end fault = option_map_or (λ f. fault_report place end f ∷ []) fault []
 
 -- an escape, from its `\` on
 module _ (position : Position) (old mid new : At) (decoding : Decoding)
@@ -121,21 +120,15 @@ module _ (position : Position) (old mid new : At) (decoding : Decoding)
 
   pub escape_read : (before after : List Diagnostic) (c : Option ℕ) → IsPlaced old → IsPlaced new
       → value_of_decoding decoding ≡ option_to_list c
-      → after
-      ≡ before
-      ++ option_map_or (λ fault. fault_report old.place new.place fault ∷ []) (fault_of_decoding decoding) []
+      → after ≡ before ++ reported old.place new.place (fault_of_decoding decoding)
       → ReadsEscape position old new before after c
   escape_read before after c h k value report = record {
     item = item;
     goes_on = goes;
     reports =
         report
-        ∙ ap
-        (λ end. before ++ option_map_or (λ fault. fault_report old.place end fault ∷ []) (fault_of_decoding decoding) [])
-        (behind_escape h k)
-        ∙ ap
-        (λ o. before ++ option_map_or (λ fault. fault_report old.place (place_behind old.place item.text) fault ∷ []) o [])
-        (sym decodes.fault);
+        ∙ ap (λ end. before ++ reported old.place end (fault_of_decoding decoding)) (behind_escape h k)
+        ∙ ap (λ o. before ++ reported old.place (place_behind old.place item.text) o) (sym decodes.fault);
     value = decodes.value ∙ value;
     is_escape = (escape_takes (class_of position) (rest mid)).is_escape;
     fewer = escape_fewer;
@@ -146,9 +139,7 @@ module _ (position : Position) (old mid new : At) (decoding : Decoding)
   character_read errors c h k is =
       escape_read errors errors (Some c) h k (ap value_of_decoding is)
       (sym (append-nil errors)
-      ∙ ap
-      (λ d. errors ++ option_map_or (λ fault. fault_report old.place new.place fault ∷ []) (fault_of_decoding d) [])
-      (sym is))
+      ∙ ap (λ d. errors ++ reported old.place new.place (fault_of_decoding d)) (sym is))
 
   pub bad_read : (before after : List Diagnostic) (span : Span) → IsPlaced old → IsPlaced mid → IsPlaced new
       → decoding ≡ Bad → span ≡ record { start = mid.place; end = new.place }
@@ -160,9 +151,7 @@ module _ (position : Position) (old mid new : At) (decoding : Decoding)
       ∙ ap (λ (t : Span). before ++ UnicodeEscapeSequence t ∷ []) s
       ∙ ap (λ (start : ℕ). before ++ UnicodeEscapeSequence (record { start = start; end = new.place }) ∷ [])
       (behind_mark h m)
-      ∙ ap
-      (λ d. before ++ option_map_or (λ fault. fault_report old.place new.place fault ∷ []) (fault_of_decoding d) [])
-      (sym is))
+      ∙ ap (λ d. before ++ reported old.place new.place (fault_of_decoding d)) (sym is))
 
   pub not_allowed_read : (before after : List Diagnostic) (c : ℕ) (span : Span) → IsPlaced old → IsPlaced new
       → decoding ≡ NotAllowed c → span ≡ record { start = new.place; end = new.place }
@@ -172,9 +161,7 @@ module _ (position : Position) (old mid new : At) (decoding : Decoding)
       escape_read before after None h k (ap value_of_decoding is)
       (report
       ∙ ap (λ (t : Span). before ++ InvalidCharacter c t ∷ []) s
-      ∙ ap
-      (λ d. before ++ option_map_or (λ fault. fault_report old.place new.place fault ∷ []) (fault_of_decoding d) [])
-      (sym is))
+      ∙ ap (λ d. before ++ reported old.place new.place (fault_of_decoding d)) (sym is))
 
 -- parts that stand for themselves
 pub parts_read : (old new : At) (was now bytes : List ℕ) → new.text ≡ old.text
@@ -206,7 +193,8 @@ on_pushed (Ok a) P was now bytes e make = make e
 on_pushed (Err a) P was now bytes e make = tt
 
 -- items that stand for themselves
-pub plain_read : (from : Position) (old : At) (to : Position) (new : At) (errors : List Diagnostic) (was now xs : List ℕ)
+pub plain_read : (from : Position) (old : At) (to : Position) (new : At) (errors : List Diagnostic)
+    (was now xs : List ℕ)
     → GoesOn from old (map plain_item xs) to new → now ≡ was ++ encode_utf8_all xs
     → ReadsItems from old to new errors errors was now false
 plain_read from old to new errors was now xs goes bytes =

@@ -1,54 +1,40 @@
 -- The steps of reading a name.
-use Rattle.std.proofs.Common.{◌≡◌, ◌≢◌, ℕ, zero, suc, ◌+◌, ◌<◌, ◌≤◌, Bool, true, false, not, ◌&&◌, ◌||◌, ◌==◌, List, []}
-use Rattle.std.proofs.Common.{◌∷◌, ◌++◌, length, drop, length-append, refl, sym, ◌∙◌, ap, subst, arith, inl, inr}
+use Rattle.std.proofs.Common.{◌≡◌, ℕ, ◌<◌, ◌≤◌, Bool, true, false, not, ◌&&◌, ◌||◌, ◌==◌, List, []}
+use Rattle.std.proofs.Common.{◌∷◌, ◌++◌, length, length-append, refl, sym, ◌∙◌, ap, subst, arith}
 use Rattle.std.proofs.Common.{append_assoc, Option, Some, None}
-use Rattle.std.specs.Prelude.{map, option_to_list, nat_lt, nat_le, MatchBool, IfNone, IfSome}
+use Rattle.std.specs.Prelude.{map, MatchBool, IfNone, IfSome}
 use Rattle.std.specs.Char.{IsScalar, OutOfScalarRange, InScalarRange, is_ascii_alphanumeric}
 use Rattle.std.specs.Char.Utf16.{is_high_surrogate, is_low_surrogate}
-use Rattle.std.specs.List.{list_any}
 use Rattle.std.specs.Option.{option_map_or}
-use Rattle.std.specs.Str.{encode_utf8_all}
 use Rattle.std.proofs.lemmas.Bool.Decides.{nat_tests}
-use Rattle.std.proofs.lemmas.List.{append-nil}
-use Rattle.std.proofs.Math.Seq.{drop-append_seam}
 use Rattle.js_text.specs.Ascii.{backslash}
-use Rattle.js_text.specs.Characters.{begins, from_place, from_first, before_first, is_identifier_start, is_identifier_part}
-use Rattle.js_text.specs.declared.diagnostic.Diagnostic.{Diagnostic}
-use Rattle.js_text.specs.declared.diagnostic.Diagnostic.TheVariants.{InvalidCharacter, UnicodeEscapeSequence}
+use Rattle.js_text.specs.Characters.{begins, from_place, from_first, before_first, is_identifier_start}
+use Rattle.js_text.specs.Characters.{is_identifier_part}
 use Rattle.js_text.proofs.CharacterLemmas.{part_in_ascii}
 use Rattle.js_text.proofs.TextLemmas.{before_from}
-use Rattle.js_source.specs.Search.{matches_at}
-use Rattle.js_source.specs.Source.{At, rest, IsPlaced, Reads, BeginsWith, StepsPast}
+use Rattle.js_source.specs.Source.{At, rest, Reads, BeginsWith, StepsPast}
 use Rattle.js_source.specs.Runs.{PassesRun}
 use Rattle.js_source.proofs.Places.{begins_with}
 use Rattle.js_source.proofs.RunSteps.{from_first-run}
-use Rattle.js_grammar.specs.Name.{NameItem, CutsInto, items_text, items_value, items_report, item_report, plain_item}
-use Rattle.js_grammar.specs.Name.{is_no_part, begins_name, is_surrogate, low_surrogate_escape, surrogate_text, name_item}
-use Rattle.js_grammar.specs.Name.{item_of_escape, item_of_code_point, escape_item, latin_small_letter_u, good_escape}
-use Rattle.js_grammar.specs.Name.{faulty_escape, fault_report}
-use Rattle.js_grammar.specs.Name.NameFault.{bad_escape, not_allowed}
-use Rattle.js_grammar.specs.NumberReads.{empty_span}
-use Rattle.js_grammar.specs.Outcome.{place_behind}
-use Rattle.js_grammar.specs.UnicodeEscape.{UnicodeEscape, unicode_escape, hex_digits, left_curly_bracket, last_code_point}
+use Rattle.js_grammar.specs.Name.{NameItem, CutsInto, items_text, plain_item}
+use Rattle.js_grammar.specs.Name.{is_no_part, begins_name, is_surrogate, low_surrogate_escape, surrogate_text}
+use Rattle.js_grammar.specs.Name.{item_of_escape, item_of_code_point, escape_item, latin_small_letter_u}
+use Rattle.js_grammar.specs.UnicodeEscape.{unicode_escape, hex_digits, left_curly_bracket, last_code_point}
 use Rattle.js_grammar.proofs.NameItems.{backslash_is_no_name, escape_first, of_code_point, of_no_code_point, of_allowed}
 use Rattle.js_grammar.proofs.NameItems.{of_not_allowed, of_surrogate, surrogate_alone, surrogate_pair, escape_there}
-use Rattle.js_grammar.proofs.NameItems.{other_escape, no_escape, no_low_mark, no_low_letter, low_there, no_low}
-use Rattle.js_grammar.proofs.NameItems.{brace_begins, escape_takes, TakesEscape}
-use Rattle.js_grammar.proofs.NameLaws.{plain_here, plain_parts, plain_values, ended}
+use Rattle.js_grammar.proofs.NameItems.{other_escape, no_escape, low_there, no_low}
+use Rattle.js_grammar.proofs.NameItems.{brace_begins}
+use Rattle.js_grammar.proofs.NameLaws.{plain_here, plain_parts, plain_values}
 use Rattle.js_grammar.proofs.NameLemmas.{parts_end}
 use Rattle.js_grammar.proofs.NumberClasses.{all_below}
-use Rattle.js_grammar.proofs.NumberItems.{true_or_false}
 use Rattle.js_grammar.proofs.NumberSound.{first_is}
 use Rattle.js_grammar.proofs.Tests.{and_false}
 use Rattle.js_spell.specs.Escape.{ReadsUnicodeEscape}
-use Rattle.js_spell.specs.Name.{TellsParts, class_of, GoesOn, PassesPlain, Decodes, DecodesUnicode, DecodesEscape}
-use Rattle.js_spell.specs.Name.{ReadsEscape, ReadsItems, PassesParts, ReadsToEnd, SpellsDecoded, ReadsName, SpellsName}
-use Rattle.js_spell.specs.Name.{HasValue, ReportsNoName, ReadsPrivateName, SpellsPrivateName}
+use Rattle.js_spell.specs.Name.{TellsParts, PassesPlain, Decodes}
 use Rattle.js_spell.specs.declared.name.Decoding.{Decoding}
 use Rattle.js_spell.specs.declared.name.Decoding.TheVariants.{Character, NotAllowed, Bad}
-use Rattle.js_spell.specs.declared.name.Position.{Position}
 use Rattle.js_spell.specs.declared.name.Position.TheVariants.{First, Later}
-use Rattle.js_spell.proofs.NumericSteps.{tells_as, tells_class, leads_to}
+use Rattle.js_spell.proofs.NumericSteps.{tells_as, tells_class}
 
 -- the table of the parts in ASCII
 abbrev pub is_ascii_part : ℕ → Bool

@@ -1,5 +1,6 @@
 -- The steps of reading a name.
-use Rattle.std.specs.Prelude.{◌≡◌, ℕ, ◌<◌, Bool, true, false, List, [], ◌∷◌, ◌++◌, ◌==◌, map, length, Option, Some, None}
+use Rattle.std.specs.Prelude.{◌≡◌, ℕ, ◌<◌, Bool, true, false, List, [], ◌∷◌, ◌++◌, ◌==◌, map, length, Option, Some}
+use Rattle.std.specs.Prelude.{None}
 use Rattle.std.specs.Prelude.{option_to_list}
 use Rattle.std.specs.List.{list_any}
 use Rattle.std.specs.Str.{chars, encode_utf8_all, IsUtf8}
@@ -8,7 +9,8 @@ use Rattle.js_text.specs.Characters.{begins, is_identifier_start, is_identifier_
 use Rattle.js_text.specs.JsStr.{units_of}
 use Rattle.js_text.specs.declared.diagnostic.Diagnostic.{Diagnostic}
 use Rattle.js_grammar.specs.Name.{NameItem, NameFault, CutsInto, items_text, items_value, items_report, item_report}
-use Rattle.js_grammar.specs.Name.{plain_item, escape_item, item_of_escape, latin_small_letter_u, name_read, private_read}
+use Rattle.js_grammar.specs.Name.{plain_item, escape_item, item_of_escape, latin_small_letter_u, name_read}
+use Rattle.js_grammar.specs.Name.{private_read}
 use Rattle.js_grammar.specs.Name.{name_item, no_private_name, unnamed}
 use Rattle.js_grammar.specs.Name.NameFault.{bad_escape, not_allowed}
 use Rattle.js_grammar.specs.UnicodeEscape.{unicode_escape}
@@ -164,7 +166,8 @@ pub record ReadsPrivateName (old new : At) (before after : List Diagnostic) (kin
   pub read : private_read old.place (rest old)
       ≡ record { kind = kind; rest = rest new; has_escape = has_escape; decoded = decoded; diagnostics = added }
 
--- A private name was read, or a `#` that no name follows: its value leaves `#` out, and the flags of its token were set.
+-- A private name was read, or a `#` that no name follows: its value leaves `#` out, and the flags of its token were
+-- set.
 pub record SpellsPrivateName (old new : At) (before after : List Diagnostic) (was now : TokenParts) (spelt : Spelt)
     : Type 0 where
   pub decoded : List ℕ

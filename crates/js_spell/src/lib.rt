@@ -13,7 +13,6 @@ mod spelt;
 mod tests;
 mod unicode_escape;
 
-
 pub use name::{read_name, read_private_name};
 pub use number::{parse_big_int, parse_int};
 pub use numeric::read_number;

@@ -350,8 +350,10 @@ fn read_escaped_name(
     spell_decoded(alloc, text.as_str())
 }
 
-/// Reads the name that is next, good or at fault: what is to be reported is added to the list, and the flags of the
-/// token are set. Its start is where the name begins. A name without escapes asks for no memory.
+/// Reads the name that is next, good or at fault (ECMA-262 12.7): its kind is that of the word that it stands for. What
+/// is to be reported is added to the list, and the flags of the token are set, whose start is where the name begins. A
+/// name without escapes asks for no memory, and its value stays in the source. After an error the source stands
+/// somewhere in the same text, and the list has only grown.
 #[inline(always)]
 pub fn read_name(
     alloc: Global,
@@ -417,8 +419,10 @@ fn report_no_name(source: &mut Source<'_>, errors: &mut DiagnosticList) -> Resul
     }
 }
 
-/// Reads what follows a `#` that was just read: a name, good or at fault, or what is read where no name follows. What
-/// is to be reported is added to the list, and the flags of the token are set. Its start is where the `#` stands.
+/// Reads what follows a `#` that was just read (ECMA-262 12.7): a name, good or at fault, or what is read where no name
+/// follows. The value leaves `#` out. What is to be reported is added to the list, and the flags of the token are set,
+/// whose start is where the `#` stands. After an error the source stands somewhere in the same text, and the list has
+/// only grown.
 pub fn read_private_name(
     alloc: Global,
     source: &mut Source<'_>,

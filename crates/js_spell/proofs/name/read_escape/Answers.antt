@@ -1,8 +1,5 @@
-use Rattle.std.proofs.Common.{refl, sym, ◌∙◌, ap, arith, subst, ◌++◌, [], Some, None}
-use Rattle.std.proofs.lemmas.List.{append-nil}
-use Rattle.js_text.specs.declared.span.Span.{Span}
-use Rattle.js_spell.specs.Name.{value_of_decoding}
-use Rattle.js_spell.proofs.NameReadings.{escape_read, bad_read, not_allowed_read, escape_onward, span_is}
+use Rattle.std.proofs.Common.{◌∙◌, arith}
+use Rattle.js_spell.proofs.NameReadings.{bad_read, not_allowed_read, escape_onward, span_is}
 use Rattle.js_spell.proofs.NameReadings.{character_read}
 use Rattle.js_spell.proofs.name.read_escape.Goals as goal
 

@@ -1,4 +1,4 @@
-use Rattle.std.proofs.Common.{refl, sym, ap, ◌∙◌, true, false}
+use Rattle.std.proofs.Common.{refl, sym, ap, ◌∙◌, false}
 use Rattle.js_kind.specs.TokenParts.{TokenParts}
 use Rattle.js_spell.specs.declared.spelt.SpeltValue.TheVariants.{Plain}
 use Rattle.js_spell.proofs.NameReadings.{plain_spelled, escaped_spelled}

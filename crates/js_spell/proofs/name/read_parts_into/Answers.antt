@@ -1,4 +1,3 @@
-use Rattle.std.proofs.Common.{rules, subst}
 use Rattle.std.specs.Prelude.{string_bytes}
 use Rattle.js_spell.specs.Name.{PassesParts}
 use Rattle.js_spell.proofs.NameReadings.{parts_read, on_pushed}

@@ -1,4 +1,4 @@
-use Rattle.std.proofs.Common.{sym, ◌∙◌, ap, arith, length, length-append, ◌||◌, true, false}
+use Rattle.std.proofs.Common.{sym, ◌∙◌, arith, ◌||◌, true, false}
 use Rattle.std.specs.Prelude.{string_bytes}
 use Rattle.js_source.specs.Source.{rest}
 use Rattle.js_grammar.proofs.NameLaws.{ended}

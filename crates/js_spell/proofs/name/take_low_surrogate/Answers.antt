@@ -1,5 +1,4 @@
-use Rattle.std.proofs.Common.{ap, ◌∙◌, subst, rules}
-use Rattle.js_source.specs.Source.{At, rest}
+use Rattle.std.proofs.Common.{ap, ◌∙◌}
 use Rattle.js_grammar.specs.Name.{low_surrogate_escape}
 use Rattle.js_grammar.proofs.NameItems.{no_low_mark, no_low_letter}
 use Rattle.js_spell.proofs.NameSteps.{low_taken, low_broken}
