@@ -82,7 +82,8 @@ recovered_reports t line_has_ended place here nothing =
     private_reports : here ≡ number_sign ∷ drop 1 here
         → (private_reading line_has_ended (private_read (place + 1) (drop 1 here))).diagnostics ≢ []
     private_reports e =
-        faulty_private_reports t line_has_ended (place + 1) (drop 1 here) (subst (NothingSpelled t line_has_ended) e nothing)
+        faulty_private_reports t line_has_ended (place + 1) (drop 1 here) (subst
+        (NothingSpelled t line_has_ended) e nothing)
 
     character : (here : List ℕ) → Reports (recovered_character line_has_ended place here)
     character [] = tt

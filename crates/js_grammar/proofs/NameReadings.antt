@@ -130,7 +130,8 @@ name_reads_here t line_has_ended place here begun = by_faults (name_read place h
       reading = name_reading line_has_ended (name_read place here);
       reads =
           recovers
-          (faulty_name_spells_nothing t line_has_ended place here begun (λ none. let no : d ∷ ds ≡ [] = sym e ∙ none in cc))
+          (faulty_name_spells_nothing t line_has_ended place here begun (λ none. let no : d ∷ ds ≡ [] = sym e
+          ∙ none in cc))
           (name_is_recovered line_has_ended place here begun);
       kind_is = refl;
       rest_is = refl;

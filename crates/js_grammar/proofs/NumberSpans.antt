@@ -1,5 +1,6 @@
 -- How far a number reaches, good or at fault, and that it is of no kind of names.
-use Rattle.std.proofs.Common.{◌≡◌, ◌≢◌, ℕ, true, false, List, [], ◌∷◌, ◌++◌, length, drop, refl, sym, ◌∙◌, ap, subst, inl}
+use Rattle.std.proofs.Common.{◌≡◌, ◌≢◌, ℕ, true, false, List, [], ◌∷◌, ◌++◌, length, drop, refl, sym, ◌∙◌, ap, subst}
+use Rattle.std.proofs.Common.{inl}
 use Rattle.std.proofs.Common.{inr, ◌==◌, ◌||◌, ◌⊎◌, Option, Some, None, append_assoc, arith}
 use Rattle.std.proofs.lemmas.Bool.{eqb-true}
 use Rattle.std.proofs.lemmas.List.{append-nil}
@@ -151,7 +152,8 @@ prefixed_reaches c cs base letter =
           let without = no_items base.kind digits.rest in
           let more = suffix_or base.big_kind without digits.rest in
           let cut =
-          suffix_cut base.big_kind without digits.rest kinds.1.no_name (record { here = refl; no_name = kinds.0.no_name }) in
+          suffix_cut base.big_kind without digits.rest kinds.1.no_name
+          (record { here = refl; no_name = kinds.0.no_name }) in
           rw (behind_prefix_whole base digits complete) (inr (record {
             here = ap (λ t. digit_zero ∷ c ∷ t) (behind digits.text cs digits.rest more (run_text base.radix cs) cut);
             no_name = cut.no_name;

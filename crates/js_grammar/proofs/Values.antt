@@ -1,5 +1,6 @@
 -- The values of what is read: as the kind and the span of its token say, or as its name stands for.
-use Rattle.std.proofs.Common.{◌≡◌, ◌≢◌, ℕ, ◌+◌, Bool, true, false, not, ◌||◌, ◌==◌, List, [], ◌∷◌, ◌++◌, drop, refl, sym, ◌∙◌}
+use Rattle.std.proofs.Common.{◌≡◌, ◌≢◌, ℕ, ◌+◌, Bool, true, false, not, ◌||◌, ◌==◌, List, [], ◌∷◌, ◌++◌, drop, refl}
+use Rattle.std.proofs.Common.{sym, ◌∙◌}
 use Rattle.std.proofs.Common.{ap, subst, inl, inr, Option, None}
 use Rattle.std.specs.Prelude.{codes, if◌then◌else◌, IfSome}
 use Rattle.std.specs.List.{list_all}
@@ -36,7 +37,8 @@ use Rattle.js_grammar.specs.Spelling.{value_of}
 use Rattle.js_grammar.specs.Spelling.Spelling.{name, private_name, punctuator, number, end_of_source}
 use Rattle.js_grammar.specs.Values.{plain_value, decoded_units, IsValueOf}
 use Rattle.js_grammar.specs.declared.goal.Goal.{Goal}
-use Rattle.js_grammar.proofs.Flags.{neither_name, unnamed_value, unnamed_plain_value, punctuator_unflagged, end_unflagged}
+use Rattle.js_grammar.proofs.Flags.{neither_name, unnamed_value, unnamed_plain_value, punctuator_unflagged}
+use Rattle.js_grammar.proofs.Flags.{end_unflagged}
 use Rattle.js_grammar.proofs.NameReadings.{faulty_name_reports, faulty_private_reports}
 use Rattle.js_grammar.proofs.NameLaws.{name_is_read, name_has_fault_only_escaped}
 use Rattle.js_grammar.proofs.NumberItems.{true_or_false}

@@ -84,31 +84,31 @@ no_printable t line_has_ended s c cs h built e gap no_name no_number none no_com
       | inr k1 ↦ elim (or_cases (is_white_space c) _ k1) [
         | inl white ↦ let no = sym behind.1 ∙ piece-white t line_has_ended c cs white in cc
         | inr k0 ↦ elim (or_cases (is_digit_of 10 c) _ k0) [
-        | inl digit ↦ let begun = digit_begins_number (c ∷ cs) digit in cc
-        | inr k2 ↦ elim (or_cases (is_unbuilt_byte c) _ k2) [
-          | inl unbuilt ↦
-              let no : true ≡ false = sym unbuilt ∙ built_here s c cs h built e (omega (arith, high)) in cc
-          | inr k3 ↦ elim (or_cases (list_any (λ x. x == c) lone_characters) _ k3) [
-            | inl lone ↦ none_of (λ x. NoPunctuator t line_has_ended (x ∷ cs) → ⊥) c lone_characters
-                (lone_begin t line_has_ended cs) lone none
-            | inr k4 ↦ elim (or_cases (c == 46) _ k4) [
-              | inl dotted ↦ let is : c ≡ 46 = eqb-true c 46 dotted in
-                  spelled_there t line_has_ended (before_no_digit Dot) cs (listed refl)
-                  (digit_of_ten cs ∙ subst (λ x. begins_number (x ∷ cs) ≡ false) is no_number)
-                  (subst (λ x. NoPunctuator t line_has_ended (x ∷ cs)) is none)
-              | inr k5 ↦ elim (or_cases (c == 47) _ k5) [
-                | inl slashed ↦ let is : c ≡ 47 = eqb-true c 47 slashed in
-                    spelled_there t line_has_ended slash_alone cs (listed refl)
-                    (no_star cs (subst (λ x. is_prefix (codes "/*") (x ∷ cs) ≡ false) is no_comment))
+          | inl digit ↦ let begun = digit_begins_number (c ∷ cs) digit in cc
+          | inr k2 ↦ elim (or_cases (is_unbuilt_byte c) _ k2) [
+            | inl unbuilt ↦
+                let no : true ≡ false = sym unbuilt ∙ built_here s c cs h built e (omega (arith, high)) in cc
+            | inr k3 ↦ elim (or_cases (list_any (λ x. x == c) lone_characters) _ k3) [
+              | inl lone ↦ none_of (λ x. NoPunctuator t line_has_ended (x ∷ cs) → ⊥) c lone_characters
+                  (lone_begin t line_has_ended cs) lone none
+              | inr k4 ↦ elim (or_cases (c == 46) _ k4) [
+                | inl dotted ↦ let is : c ≡ 46 = eqb-true c 46 dotted in
+                    spelled_there t line_has_ended (before_no_digit Dot) cs (listed refl)
+                    (digit_of_ten cs ∙ subst (λ x. begins_number (x ∷ cs) ≡ false) is no_number)
                     (subst (λ x. NoPunctuator t line_has_ended (x ∷ cs)) is none)
-                | inr angle ↦ let is : c ≡ 60 = eqb-true c 60 angle in
-                    spelled_there t line_has_ended left_angle cs (listed refl)
-                    (subst (λ x. is_reported t line_has_ended (x ∷ cs) ≡ false) is behind.0)
-                    (subst (λ x. NoPunctuator t line_has_ended (x ∷ cs)) is none)
+                | inr k5 ↦ elim (or_cases (c == 47) _ k5) [
+                  | inl slashed ↦ let is : c ≡ 47 = eqb-true c 47 slashed in
+                      spelled_there t line_has_ended slash_alone cs (listed refl)
+                      (no_star cs (subst (λ x. is_prefix (codes "/*") (x ∷ cs) ≡ false) is no_comment))
+                      (subst (λ x. NoPunctuator t line_has_ended (x ∷ cs)) is none)
+                  | inr angle ↦ let is : c ≡ 60 = eqb-true c 60 angle in
+                      spelled_there t line_has_ended left_angle cs (listed refl)
+                      (subst (λ x. is_reported t line_has_ended (x ∷ cs) ≡ false) is behind.0)
+                      (subst (λ x. NoPunctuator t line_has_ended (x ∷ cs)) is none)
+                ]
               ]
             ]
           ]
-        ]
         ]
       ]
     ]
@@ -135,4 +135,5 @@ recovers_some t line_has_ended s h built gap n = at (rest s) refl gap n
         some_of (c == 0xFFFD) _ _ (λ no_binary.
         some_of (is_control_or_wide c) _ None (λ printable.
         absurd
-        (no_printable t line_has_ended s c cs h built e gap n.no_named no_number n.no_punctuator no_comment printable)))))))
+        (no_printable t line_has_ended s c cs h built e gap n.no_named no_number n.no_punctuator no_comment
+        printable)))))))

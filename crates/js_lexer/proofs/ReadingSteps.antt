@@ -60,7 +60,8 @@ lexeme_spelled old new k l within plain s is = record {
 -- where no name, no number and no punctuator begins, nothing is spelled
 pub nothing_here : (t : SourceType) (line_has_ended : Bool) (here : List ℕ) → NothingHere t line_has_ended here
     → NothingSpelled t line_has_ended here
-nothing_here t line_has_ended here n = nothing_spelled t line_has_ended here n.some n.no_named n.no_number n.no_punctuator
+nothing_here t line_has_ended here n = nothing_spelled t line_has_ended here n.some n.no_named n.no_number
+    n.no_punctuator
 
 -- what was read to recover, and reported
 pub lexeme_recovered : (old new : Reader) (r : Recovered) → Recovers old.line_has_ended old.source r new.source

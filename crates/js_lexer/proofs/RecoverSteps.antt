@@ -48,7 +48,8 @@ unfolding is_line_terminator
 mark_has_no_line_end cs = refl
 
 -- a place behind characters that were passed
-pub leads_to : (old new : At) (xs : List ℕ) → IsPlaced old → IsPlaced new → new.text ≡ old.text → rest old ≡ xs ++ rest new
+pub leads_to : (old new : At) (xs : List ℕ) → IsPlaced old → IsPlaced new → new.text ≡ old.text
+    → rest old ≡ xs ++ rest new
     → new.place ≡ place_behind old.place xs
 leads_to old new xs h g text e =
     let there : IsCharBoundary old.text new.place =

@@ -201,7 +201,8 @@ impl<'a, C: LexerConfig + Drop> Lexer<'a, C> {
         self.last.unwrap_or(Token::default())
     }
 
-    /// The text of a token of this source. Of one with an escape it is the value that was decoded where it was read, and
+    /// The text of a token of this source. Of one with an escape it is the value that was decoded where it was read,
+    /// and
     /// none where no such token was read; of any other its stretch of the source, and none where there is no such
     /// stretch. A private name's `#` is left out.
     pub fn get_string(&self, token: Token) -> Option<JsText<'_>>

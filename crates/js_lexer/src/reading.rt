@@ -1,6 +1,7 @@
 //! Readings of the first and the plain goal.
 
-ghost use Rattle.std.specs.Prelude.{◌≡◌, ◌≢◌, ◌<◌, ◌==◌, Bool, true, false, [], Option, None, IsTrue, IfOk, IfSome, OnOk};
+ghost use Rattle.std.specs.Prelude.{◌≡◌, ◌≢◌, ◌<◌, ◌==◌, Bool, true, false, [], Option, None, IsTrue, IfOk, IfSome};
+ghost use Rattle.std.specs.Prelude.{OnOk};
 ghost use Rattle.std.specs.Prelude.{OnErr};
 ghost use Rattle.js_text.specs.Ascii.{number_sign};
 ghost use Rattle.js_text.specs.Characters.{begins};
@@ -50,11 +51,7 @@ fn begins_name(c: char) -> bool
 }
 
 /// Keeps the value of the token that starts at the offset, where it was decoded.
-fn keep_value(
-    decoded: &mut DecodedValues,
-    start: u32,
-    value: SpeltValue,
-) -> Result<(), AllocError>
+fn keep_value(decoded: &mut DecodedValues, start: u32, value: SpeltValue) -> Result<(), AllocError>
     ensures ok { OnOk result (KeepsSpelt start value decoded.old decoded.new) }
     ensures err { OnErr result (decoded.new ≡ decoded.old) }
 {
@@ -155,8 +152,7 @@ impl Reader<'_> {
         requires built { IsBuilt self.old.source.text }
         requires some { rest self.old.source ≢ [] }
         requires no_name { begins_name (rest self.old.source) ≡ false }
-        requires no_punctuator {
-            NoPunctuator self.old.source_type self.old.line_has_ended (rest self.old.source) }
+        requires no_punctuator { NoPunctuator self.old.source_type self.old.line_has_ended (rest self.old.source) }
         ensures ok { IfOk result (λ lexeme. ReadsLexeme self.old lexeme self.new) }
         ensures value { IfOk result (λ lexeme. HasValueHere self.old.source decoded.new lexeme.escaped) }
         ensures kept { KeepsValues self.old.source.text decoded.old decoded.new }

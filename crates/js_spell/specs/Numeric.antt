@@ -144,7 +144,8 @@ ReadsBadEnd old new before after true =
     × (after ≡ before ++ invalid_number_end old.place (rest old) ∷ [])
 
 -- The number that is next was read, good or at fault.
-pub record ReadsNumber (old new : At) (before after : List Diagnostic) (kind : Kind) (has_separator : Bool) : Type 0 where
+pub record ReadsNumber (old new : At) (before after : List Diagnostic) (kind : Kind)
+    (has_separator : Bool) : Type 0 where
   pub text : new.text ≡ old.text
   pub added : List Diagnostic
   pub reports : after ≡ before ++ added

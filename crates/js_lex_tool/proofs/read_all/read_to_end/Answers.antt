@@ -3,6 +3,7 @@ use Rattle.std.proofs.Common.{rules}
 use Rattle.std.proofs.KnownBytes.{Consumes-trans}
 use Rattle.js_lex_tool.proofs.read_all.read_to_end.Goals as goal
 
-pub returns-in_err-extend_from_slice-in-Took-clause-bounded : goal.returns-in_err-extend_from_slice-in-Took-clause-bounded
+pub returns-in_err-extend_from_slice-in-Took-clause-bounded :
+    goal.returns-in_err-extend_from_slice-in-Took-clause-bounded
 returns-in_err-extend_from_slice-in-Took-clause-bounded g c =
     (_, Consumes-trans _ _ _ _ _ c.loop-buf.invariant.0 c.in-Took.ensures.bytes, length_within _ _ _ _ (search rules))

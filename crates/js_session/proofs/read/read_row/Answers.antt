@@ -22,7 +22,8 @@ pub returns-clause-ok : goal.returns-clause-ok
 returns-clause-ok g c =
     made_row c.args.goal c.args.command c.args.lexer.now c.read_token.new.lexer c.errors-reported.result.now
     c.read_token.new.lexer.findings.diagnostics _ c.offset-place.ensures.utf8
-    c.in_ok-token.ensures.ok c.in_ok-value.ensures c.errors-reported.ensures c.in_ok-diagnostics.ensures.nothing_else refl
+    c.in_ok-token.ensures.ok c.in_ok-value.ensures c.errors-reported.ensures c.in_ok-diagnostics.ensures.nothing_else
+    refl
     c.offset-place.ensures.place refl
     (rw (
       c.in_ok-diagnostics.ensures.errors,

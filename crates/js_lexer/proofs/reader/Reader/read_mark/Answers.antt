@@ -70,7 +70,8 @@ returns-in-None-clause-value c =
     let none =
     c.in-None.ensures t line_has_ended
     (none_behind t line_has_ended (rest c.args.self.now.source) c.requires.gap).0 in
-    subst (λ (a : At). IfOk c.read_other.result (λ lexeme. HasValueHere a c.read_other.new.decoded lexeme.escaped)) none.0
+    subst (λ (a : At). IfOk c.read_other.result
+    (λ lexeme. HasValueHere a c.read_other.new.decoded lexeme.escaped)) none.0
     c.read_other.ensures.value
 
 pub returns-in-None-clause-kept : goal.returns-in-None-clause-kept
