@@ -1,6 +1,5 @@
 -- What is read of a name, item by item.
-use Rattle.std.proofs.Common.{◌≡◌, ℕ, ◌+◌, ◌<◌, ◌≤◌, Bool, true, false, ◌||◌, ◌==◌, List, [], ◌∷◌, ◌++◌, length}
-use Rattle.std.proofs.Common.{drop}
+use Rattle.std.proofs.Common.{◌≡◌, ℕ, ◌+◌, ◌<◌, ◌≤◌, Bool, true, false, ◌||◌, ◌==◌, List, [], ◌∷◌, ◌++◌, length, drop}
 use Rattle.std.proofs.Common.{refl, sym, ◌∙◌, ap, subst, arith, append_assoc, Option, Some, None, add-zero}
 use Rattle.std.proofs.Common.{length-append}
 use Rattle.std.specs.Prelude.{map, option_to_list, Result, Ok, Err, OnOk, is_ok, if◌then◌else◌}
@@ -18,15 +17,12 @@ use Rattle.js_text.specs.Characters.{begins, from_place, from_first, before_firs
 use Rattle.js_text.specs.Characters.{is_identifier_start}
 use Rattle.js_text.specs.JsStr.{units_of}
 use Rattle.js_text.specs.declared.diagnostic.Diagnostic.{Diagnostic}
-use Rattle.js_text.specs.declared.diagnostic.Diagnostic.TheVariants.{InvalidCharacter}
-use Rattle.js_text.specs.declared.diagnostic.Diagnostic.TheVariants.{UnicodeEscapeSequence}
+use Rattle.js_text.specs.declared.diagnostic.Diagnostic.TheVariants.{InvalidCharacter, UnicodeEscapeSequence}
 use Rattle.js_text.specs.declared.span.Span.{Span}
 use Rattle.js_text.proofs.TextLemmas.{before_from}
 use Rattle.js_source.specs.Source.{At, rest, IsPlaced, StepsPast, Reads}
-use Rattle.js_grammar.specs.Name.{NameItem, NameFault, CutsInto, items_text, items_value, items_report}
-use Rattle.js_grammar.specs.Name.{item_report, fault_report, plain_item, is_no_part, name_item}
-use Rattle.js_grammar.specs.Name.{escape_item}
-use Rattle.js_grammar.specs.Name.{name_read}
+use Rattle.js_grammar.specs.Name.{NameItem, NameFault, CutsInto, items_text, items_value, items_report, item_report}
+use Rattle.js_grammar.specs.Name.{fault_report, plain_item, is_no_part, name_item, escape_item, name_read}
 use Rattle.js_grammar.specs.Outcome.{place_behind}
 use Rattle.js_grammar.proofs.NameCuts.{read_of_cut, nothing_reported}
 use Rattle.js_grammar.proofs.NameItems.{escape_takes}
@@ -38,9 +34,8 @@ use Rattle.js_kind.specs.Keywords.{name_kind}
 use Rattle.js_kind.specs.TokenParts.{TokenParts}
 use Rattle.js_kind.specs.declared.kind.Kind.TheVariants.{Eof}
 use Rattle.js_spell.specs.Name.{class_of, GoesOn, PassesPlain, Decodes, ReadsEscape, ReadsItems, PassesParts}
-use Rattle.js_spell.specs.Name.{ReadsToEnd}
-use Rattle.js_spell.specs.Name.{SpellsDecoded, SpellsName, HasValue, ReportsNoName}
-use Rattle.js_spell.specs.Name.{value_of_decoding, fault_of_decoding}
+use Rattle.js_spell.specs.Name.{ReadsToEnd, SpellsDecoded, SpellsName, HasValue, ReportsNoName, value_of_decoding}
+use Rattle.js_spell.specs.Name.{fault_of_decoding}
 use Rattle.js_spell.specs.declared.name.Decoding.{Decoding}
 use Rattle.js_spell.specs.declared.name.Decoding.TheVariants.{Character, NotAllowed, Bad}
 use Rattle.js_spell.specs.declared.name.Position.{Position}

@@ -1,7 +1,6 @@
 -- The steps of reading a name.
-use Rattle.std.proofs.Common.{◌≡◌, ℕ, ◌<◌, ◌≤◌, Bool, true, false, not, ◌&&◌, ◌||◌, ◌==◌, List, []}
-use Rattle.std.proofs.Common.{◌∷◌, ◌++◌, length, length-append, refl, sym, ◌∙◌, ap, subst, arith}
-use Rattle.std.proofs.Common.{append_assoc, Option, Some, None}
+use Rattle.std.proofs.Common.{◌≡◌, ℕ, ◌<◌, ◌≤◌, Bool, true, false, not, ◌&&◌, ◌||◌, ◌==◌, List, [], ◌∷◌, ◌++◌, length}
+use Rattle.std.proofs.Common.{length-append, refl, sym, ◌∙◌, ap, subst, arith, append_assoc, Option, Some, None}
 use Rattle.std.specs.Prelude.{map, MatchBool, IfNone, IfSome}
 use Rattle.std.specs.Char.{IsScalar, OutOfScalarRange, InScalarRange, is_ascii_alphanumeric}
 use Rattle.std.specs.Char.Utf16.{is_high_surrogate, is_low_surrogate}
@@ -16,14 +15,13 @@ use Rattle.js_source.specs.Source.{At, rest, Reads, BeginsWith, StepsPast}
 use Rattle.js_source.specs.Runs.{PassesRun}
 use Rattle.js_source.proofs.Places.{begins_with}
 use Rattle.js_source.proofs.RunSteps.{from_first-run}
-use Rattle.js_grammar.specs.Name.{NameItem, CutsInto, items_text, plain_item}
-use Rattle.js_grammar.specs.Name.{is_no_part, begins_name, is_surrogate, low_surrogate_escape, surrogate_text}
-use Rattle.js_grammar.specs.Name.{item_of_escape, item_of_code_point, escape_item, latin_small_letter_u}
+use Rattle.js_grammar.specs.Name.{NameItem, CutsInto, items_text, plain_item, is_no_part, begins_name, is_surrogate}
+use Rattle.js_grammar.specs.Name.{low_surrogate_escape, surrogate_text, item_of_escape, item_of_code_point, escape_item}
+use Rattle.js_grammar.specs.Name.{latin_small_letter_u}
 use Rattle.js_grammar.specs.UnicodeEscape.{unicode_escape, hex_digits, left_curly_bracket, last_code_point}
 use Rattle.js_grammar.proofs.NameItems.{backslash_is_no_name, escape_first, of_code_point, of_no_code_point, of_allowed}
 use Rattle.js_grammar.proofs.NameItems.{of_not_allowed, of_surrogate, surrogate_alone, surrogate_pair, escape_there}
-use Rattle.js_grammar.proofs.NameItems.{other_escape, no_escape, low_there, no_low}
-use Rattle.js_grammar.proofs.NameItems.{brace_begins}
+use Rattle.js_grammar.proofs.NameItems.{other_escape, no_escape, low_there, no_low, brace_begins}
 use Rattle.js_grammar.proofs.NameLaws.{plain_here, plain_parts, plain_values}
 use Rattle.js_grammar.proofs.NameLemmas.{parts_end}
 use Rattle.js_grammar.proofs.NumberClasses.{all_below}

@@ -1,7 +1,6 @@
 -- The steps of reading a name.
 use Rattle.std.specs.Prelude.{◌≡◌, ℕ, ◌<◌, Bool, true, false, List, [], ◌∷◌, ◌++◌, ◌==◌, map, length, Option, Some}
-use Rattle.std.specs.Prelude.{None}
-use Rattle.std.specs.Prelude.{option_to_list}
+use Rattle.std.specs.Prelude.{None, option_to_list}
 use Rattle.std.specs.List.{list_any}
 use Rattle.std.specs.Str.{chars, encode_utf8_all, IsUtf8}
 use Rattle.js_text.specs.Ascii.{backslash}
@@ -10,8 +9,7 @@ use Rattle.js_text.specs.JsStr.{units_of}
 use Rattle.js_text.specs.declared.diagnostic.Diagnostic.{Diagnostic}
 use Rattle.js_grammar.specs.Name.{NameItem, NameFault, CutsInto, items_text, items_value, items_report, item_report}
 use Rattle.js_grammar.specs.Name.{plain_item, escape_item, item_of_escape, latin_small_letter_u, name_read}
-use Rattle.js_grammar.specs.Name.{private_read}
-use Rattle.js_grammar.specs.Name.{name_item, no_private_name, unnamed}
+use Rattle.js_grammar.specs.Name.{private_read, name_item, no_private_name, unnamed}
 use Rattle.js_grammar.specs.Name.NameFault.{bad_escape, not_allowed}
 use Rattle.js_grammar.specs.UnicodeEscape.{unicode_escape}
 use Rattle.js_kind.specs.Keywords.{name_kind}
