@@ -22,6 +22,7 @@ pub mod PunctuatorLeaves
 pub mod PunctuatorLemmas
 pub mod Reported
 pub mod Spans
+pub mod StringRows
 pub mod Tests
 pub mod UnicodeEscapes
 pub mod Unique

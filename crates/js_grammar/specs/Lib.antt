@@ -9,4 +9,6 @@ pub mod Punctuators
 pub mod Reads
 pub mod Recovery
 pub mod Spelling
+pub mod StringItems
+pub mod Template
 pub mod UnicodeEscape
