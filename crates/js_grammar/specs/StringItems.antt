@@ -220,6 +220,15 @@ is_good unfinished_escape = false
 abbrev pub are_good : List StringItem → Bool
 are_good items = list_all (λ item. is_good item.fault) items
 
+abbrev pub is_bad_escape : Fault → Bool
+is_bad_escape no_fault = false
+is_bad_escape bad_escape = true
+is_bad_escape unfinished_escape = false
+
+-- an escape that stands for nothing is among them
+abbrev pub contains_bad_escape : List StringItem → Bool
+contains_bad_escape items = list_any (λ item. is_bad_escape item.fault) items
+
 -- the stretch from one place to another
 abbrev pub stretch : ℕ → ℕ → Span
 stretch from to = record { start = from; end = to }

@@ -1,17 +1,16 @@
 -- Templates (ECMA-262 12.9.6): their items, and what is read of a part of one, good or at fault.
 use Rattle.std.specs.Prelude.{◌≡◌, ℕ, ◌+◌, Bool, true, false, List, [], ◌∷◌, drop, ◌==◌, ◌||◌, codes, Option, Some, None}
 use Rattle.std.specs.Prelude.{if◌then◌else◌}
-use Rattle.std.specs.List.{list_any}
 use Rattle.js_text.specs.Ascii.{line_feed, carriage_return, backslash, grave_accent}
 use Rattle.js_text.specs.Characters.{begins}
 use Rattle.js_kind.specs.declared.kind.Kind.{Kind}
 use Rattle.js_kind.specs.declared.kind.Kind.TheVariants.{NoSubstitutionTemplate, TemplateHead, TemplateMiddle}
 use Rattle.js_kind.specs.declared.kind.Kind.TheVariants.{TemplateTail}
 use Rattle.js_grammar.specs.Gap.{is_prefix}
-use Rattle.js_grammar.specs.StringItems.{Fault, StringItem, plain_item, escape, StringItems, all_items, string_text}
+use Rattle.js_grammar.specs.StringItems.{StringItem, contains_bad_escape, plain_item, escape, StringItems, all_items, string_text}
 use Rattle.js_grammar.specs.StringItems.{string_units, contains_escape, item_reports, StringValue, StringRead}
 use Rattle.js_grammar.specs.StringItems.{unterminated}
-use Rattle.js_grammar.specs.StringItems.Fault.{no_fault, bad_escape, unfinished_escape}
+use Rattle.js_grammar.specs.StringItems.Fault.{no_fault}
 use Rattle.js_grammar.specs.StringItems.StringValue.{units, bad_value}
 
 -- a backquote or a `${` is next
@@ -42,15 +41,9 @@ template_item (c ∷ cs) =
 abbrev pub template_items : List ℕ → StringItems
 template_items text = all_items template_item text
 
-abbrev pub is_bad_escape : Fault → Bool
-is_bad_escape no_fault = false
-is_bad_escape bad_escape = true
-is_bad_escape unfinished_escape = false
-
 -- the value of the items of a part
 unfoldable pub template_value : List StringItem → StringValue
-template_value items =
-    if list_any (λ item. is_bad_escape item.fault) items then bad_value else units (string_units items)
+template_value items = if contains_bad_escape items then bad_value else units (string_units items)
 
 -- What is read of a part that a mark ends, of which this is left behind the mark; the part begins at the start.
 abbrev pub terminated_part : Kind → ℕ → StringItems → List ℕ → StringRead

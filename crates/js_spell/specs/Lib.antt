@@ -1,3 +1,4 @@
 pub mod Escape
 pub mod Integer
 pub mod Numeric
+pub mod Strings

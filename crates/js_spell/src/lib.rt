@@ -2,13 +2,21 @@
 #![tactic(auto)]
 
 mod digits;
+mod escape;
+mod items;
 mod number;
 mod numeric;
+mod plain;
 mod spelt;
+mod string;
+mod template;
 #[cfg(test)]
 mod tests;
 mod unicode_escape;
 
+pub use escape::read_escape;
 pub use number::{parse_big_int, parse_int};
 pub use numeric::read_number;
 pub use spelt::{Spelt, SpeltValue};
+pub use string::read_string;
+pub use template::read_template_part;

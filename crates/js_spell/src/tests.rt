@@ -2,6 +2,7 @@ use super::*;
 use js_kind::{Kind, Token};
 use js_source::Source;
 use js_text::DiagnosticList;
+use std::alloc::AllocError;
 use std::test::Fail;
 
 #[test]
@@ -62,6 +63,67 @@ fn numbers(rt: HostRuntime) -> Result<(), Fail> {
         assert_eq!(rt; source.offset(), end, "{text}");
         assert_eq!(rt; token.has_separator(), has_separator, "{text}");
         assert_eq!(rt; errors.len(), reported, "{text}");
+    }
+    Ok(())
+}
+
+/// Texts, and the kind, the end, the escaped flag and the count of diagnostics of the string or template that each
+/// begins with.
+static LITERALS: [(&str, Kind, u32, bool, usize); 20] = [
+    ("\"ab\" c", Kind::Str, 4, false, 0),
+    ("'a\"\u{E9}' c", Kind::Str, 6, false, 0),
+    ("'\\\\'x", Kind::Str, 4, true, 0),
+    ("\"\\", Kind::Undetermined, 2, false, 2),
+    ("\"\\uD83D\"", Kind::Str, 8, true, 0),
+    ("\"\\uD83D\\u{DE00}\"", Kind::Str, 16, true, 0),
+    ("\"\\uD83D\\u\"", Kind::Str, 10, true, 1),
+    ("\"\\u{110000}\"", Kind::Str, 12, true, 1),
+    ("\"ab\n", Kind::Undetermined, 4, false, 1),
+    ("\"a\\\r\nb\"", Kind::Str, 7, true, 0),
+    ("\"\\xg\\400\"", Kind::Str, 9, true, 1),
+    ("`a\r\n\\u`", Kind::NoSubstitutionTemplate, 7, true, 0),
+    ("`a", Kind::Undetermined, 2, false, 1),
+    ("`a$\u{E9}${b}c`", Kind::TemplateHead, 7, false, 0),
+    ("`$$$", Kind::Undetermined, 4, false, 1),
+    ("`\\`\\${`", Kind::NoSubstitutionTemplate, 7, true, 0),
+    ("`\\", Kind::Undetermined, 2, false, 2),
+    ("`\\00`", Kind::NoSubstitutionTemplate, 5, true, 0),
+    ("`\r`", Kind::NoSubstitutionTemplate, 3, true, 0),
+    ("`\n`", Kind::NoSubstitutionTemplate, 3, false, 0),
+];
+
+/// The kind of the string or template that the text begins with, its end, its escaped flag and its count of diagnostics.
+fn read_literal(
+    rt: HostRuntime,
+    text: &str,
+) -> Result<(Spelt, u32, bool, usize), AllocError>
+{
+    let mut source = Source::new(text);
+    let mut errors = DiagnosticList::new_in(rt.alloc());
+    let mut token = Token::default();
+    let spelt = if source.advance_if_ascii_eq(b'`') {
+        read_template_part(
+            rt.alloc(),
+            &mut source,
+            &mut errors,
+            &mut token,
+            Kind::TemplateHead,
+            Kind::NoSubstitutionTemplate,
+        )?
+    } else {
+        read_string(rt.alloc(), &mut source, &mut errors, &mut token)?
+    };
+    Ok((spelt, source.offset(), token.escaped(), errors.len()))
+}
+
+#[test]
+fn literals(rt: HostRuntime) -> Result<(), Fail> {
+    for (text, kind, end, escaped, reported) in LITERALS {
+        let read = read_literal(rt, text)?;
+        assert!(rt; read.0.kind.is_same(kind), "{text}");
+        assert_eq!(rt; read.1, end, "{text}");
+        assert_eq!(rt; read.2, escaped, "{text}");
+        assert_eq!(rt; read.3, reported, "{text}");
     }
     Ok(())
 }
