@@ -1,4 +1,5 @@
 pub mod Clean
+pub mod EscapeCases
 pub mod Flags
 pub mod GapLemmas
 pub mod NameLemmas
@@ -23,6 +24,7 @@ pub mod PunctuatorLemmas
 pub mod Reported
 pub mod Spans
 pub mod StringRows
+pub mod StringSteps
 pub mod Tests
 pub mod UnicodeEscapes
 pub mod Unique

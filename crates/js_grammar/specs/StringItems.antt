@@ -182,10 +182,14 @@ pub record StringItems : Type 0 where
 abbrev pub no_item : List ℕ → StringItems
 no_item text = record { items = []; rest = text }
 
+-- items, and those behind them
+abbrev pub items_before : List StringItem → StringItems → StringItems
+items_before items more = record more { items = items ++ more.items }
+
 -- an item where there is one, and those behind it
 abbrev pub with_item : Option StringItem → (List ℕ → StringItems) → List ℕ → StringItems
 with_item None more text = no_item text
-with_item (Some item) more text = record (more item.rest) { items = item ∷ (more item.rest).items }
+with_item (Some item) more text = items_before (item ∷ []) (more item.rest)
 
 -- the items that the text begins with, so many at most
 abbrev pub items_up_to : (List ℕ → Option StringItem) → ℕ → List ℕ → StringItems

@@ -11,7 +11,7 @@ use Rattle.js_kind.specs.TokenParts.{TokenParts}
 use Rattle.js_kind.specs.declared.kind.Kind.{Kind}
 use Rattle.js_grammar.specs.Gap.{is_prefix}
 use Rattle.js_grammar.specs.StringItems.{StringItem, StringItems, StringValue, StringRead, string_item, ends_string}
-use Rattle.js_grammar.specs.StringItems.{all_items, string_text, string_units, contains_escape, contains_bad_escape}
+use Rattle.js_grammar.specs.StringItems.{all_items, items_before, string_text, string_units, contains_escape, contains_bad_escape}
 use Rattle.js_grammar.specs.StringItems.{are_good, item_reports, stretch, string_read}
 use Rattle.js_grammar.specs.StringItems.StringValue.{no_value, units, bad_value}
 use Rattle.js_grammar.specs.Template.{template_item, template_value, template_part_read}
@@ -73,10 +73,6 @@ pub record StopsAt (literal : Literal) (b : ℕ) (text : List ℕ) : Type 0 wher
   pub behind : List ℕ
   pub here : text ≡ b ∷ behind
   pub stops_there : stops literal b ≡ true
-
--- items, and then those of the text behind them
-abbrev pub items_before : List StringItem → StringItems → StringItems
-items_before items more = record more { items = items ++ more.items }
 
 -- characters that stand for themselves were passed
 pub record PassesCharacters (literal : Literal) (old new : At) : Type 0 where
