@@ -84,8 +84,10 @@ digits_value_small radix before old new count value so_far =
 pub hex_value_fits : (old new : At) (count value : ℕ) → TakesDigits 16 [] old new count value → count < 4
     → value < 4096
 hex_value_fits old new count value so_far h =
-    let less : 16 ^ count ≤ 16 ^ 3 = pow-le-pow_right {n = 16} (omega arith) {i = count} {j = 3} (omega arith) in
-    omega (arith, digits_value_small 16 [] old new count value so_far, less)
+    let small : value < 16 ^ (0 + count) = digits_value_small 16 [] old new count value so_far in
+    let less : 16 ^ (0 + count) ≤ 16 ^ 3 =
+    pow-le-pow_right {n = 16} (omega arith) {i = 0 + count} {j = 3} (omega arith) in
+    omega arith
 
 -- all digits are there
 pub hex_digits_read : (old new : At) (count value : ℕ) → TakesDigits 16 [] old new count value

@@ -6,3 +6,4 @@ pub mod PrefixSteps
 pub mod LeadSteps
 pub mod EndSteps
 pub mod EscapeSteps
+pub mod DecodeSteps

@@ -1,12 +1,13 @@
 //! Reading the escapes of strings and templates (ECMA-262 12.9.4, 12.9.6 and B.1.1).
 
-ghost use Rattle.std.specs.Prelude.{◌≡◌, ◌≤◌, ◌∷◌, ◌++◌, [], true, IfOk, OnOk, OnErr};
+ghost use Rattle.std.specs.Prelude.{◌≡◌, ◌≤◌, ◌∷◌, ◌++◌, [], ℕ, true, IfOk, OnOk, OnErr};
+ghost use Rattle.std.specs.Char.{digit_value};
 ghost use Rattle.std.specs.Char.Escape.{encode_utf16};
 ghost use Rattle.js_text.specs.Characters.{begins, is_line_terminator};
 ghost use Rattle.js_text.specs.declared.diagnostic.Diagnostic.TheVariants.{UnterminatedString};
 ghost use Rattle.js_kind.specs.Digits.{is_digit_of};
 ghost use Rattle.js_grammar.specs.StringItems.{line_continuation, digits_escape, octal_escape, digit_in_template};
-ghost use Rattle.js_grammar.specs.StringItems.{digit_escape, single_character, escape, stretch};
+ghost use Rattle.js_grammar.specs.StringItems.{digit_escape, single_character, further_octal_digits, escape, stretch};
 ghost use Rattle.js_grammar.specs.UnicodeEscape.{hex_digits, unicode_escape, last_code_point};
 ghost use Rattle.js_source.specs.Source.{rest, IsPlaced};
 ghost use Rattle.js_spell.specs.Escape.{ReadsEscapeOf, ReadsEscape};
@@ -65,6 +66,14 @@ fn read_code_point_escape(source: &mut Source<'_>, letter: char) -> Escaped
     }
 }
 
+/// How many octal digits may follow one of this value in an escape.
+fn further_octal_digits(value: u32) -> u32
+    ensures count { (c : ℕ) → digit_value c ≡ value → result ≡ further_octal_digits c }
+    ensures few { result ≤ 2 }
+{
+    if value <= 3 { 2 } else { 1 }
+}
+
 /// Reads an octal escape behind its first digit.
 fn read_octal_escape(source: &mut Source<'_>, first: char) -> Escaped
     requires placed { IsPlaced source.old }
@@ -73,8 +82,7 @@ fn read_octal_escape(source: &mut Source<'_>, first: char) -> Escaped
     ensures placed { IsPlaced source.new }
 {
     let mut value = first as u32 - '0' as u32;
-    let most = if value <= 3 { 2 } else { 1 };
-    'digits: for _ in 0..most {
+    'digits: for _ in 0..further_octal_digits(value) {
         match take_digit(source, 8) {
             Some(digit) => value = value * 8 + digit,
             None => return Escaped::CodePoint(value),
@@ -101,7 +109,8 @@ fn read_digit_in_template(source: &mut Source<'_>, first: char) -> Escaped
 /// What a single character behind a `\` stands for.
 #[tactic(auto, unfolding(js_grammar::specs::StringItems::single_character))]
 fn single_character(c: char) -> char
-    ensures { result ≡ single_character c }
+    ensures meaning { result ≡ single_character c }
+    ensures small { result ≤ last_code_point }
 {
     match c {
         'b' => '\u{8}',
