@@ -111,12 +111,17 @@ pub record Heads (text : List ℕ) (item : StringItem) : Type 0 where
   pub here : text ≡ item.text ++ item.rest
   pub some : 0 < length item.text
 
-heads_good : (xs us rest : List ℕ) (cs : List ℕ) → cs ≡ xs ++ rest → Heads (backslash ∷ cs) (good_escape xs us rest)
-heads_good xs us rest cs e = record { here = ap (λ t. backslash ∷ t) e; some = omega arith }
+-- The text begins with the item, and it is an escape.
+pub record IsEscape (text : List ℕ) (item : StringItem) : Type 0 where
+  pub head : Heads text item
+  pub escaped : item.is_escaped ≡ true
+
+heads_good : (xs us rest : List ℕ) (cs : List ℕ) → cs ≡ xs ++ rest → IsEscape (backslash ∷ cs) (good_escape xs us rest)
+heads_good xs us rest cs e = record { head = record { here = ap (λ t. backslash ∷ t) e; some = omega arith }; escaped = refl }
 
 heads_faulty : (fault : Fault) (xs rest : List ℕ) (cs : List ℕ) → cs ≡ xs ++ rest
-    → Heads (backslash ∷ cs) (faulty_escape fault xs rest)
-heads_faulty fault xs rest cs e = record { here = ap (λ t. backslash ∷ t) e; some = omega arith }
+    → IsEscape (backslash ∷ cs) (faulty_escape fault xs rest)
+heads_faulty fault xs rest cs e = record { head = record { here = ap (λ t. backslash ∷ t) e; some = omega arith }; escaped = refl }
 
 -- characters up to one that passes, so many at most, and what is left
 pub front_and_rest : (p : ℕ → Bool) (most : ℕ) (text : List ℕ)
@@ -175,13 +180,13 @@ unicode_escape_here (c ∷ cs) =
 
 digits_head : (letter : ℕ) (digits : UnicodeEscape) (code_point : Option ℕ) (cs : List ℕ)
     → cs ≡ digits.text ++ digits.rest
-    → Heads (backslash ∷ letter ∷ cs) (escape_of (letter ∷ digits.text) code_point digits.rest)
+    → IsEscape (backslash ∷ letter ∷ cs) (escape_of (letter ∷ digits.text) code_point digits.rest)
 digits_head letter digits (Some c) cs e =
     heads_good (letter ∷ digits.text) (encode_utf16 c) digits.rest (letter ∷ cs) (ap (λ t. letter ∷ t) e)
 digits_head letter digits None cs e =
     heads_faulty bad_escape (letter ∷ digits.text) digits.rest (letter ∷ cs) (ap (λ t. letter ∷ t) e)
 
-line_head : (c : ℕ) (cs : List ℕ) → Heads (backslash ∷ c ∷ cs) (line_continuation c cs)
+line_head : (c : ℕ) (cs : List ℕ) → IsEscape (backslash ∷ c ∷ cs) (line_continuation c cs)
 line_head c cs =
     elim (true_or_false ((c == carriage_return) && begins (λ d. d == line_feed) cs)) [
       | inl two ↦ (
@@ -193,7 +198,7 @@ line_head c cs =
       | inr one ↦ rw (continuation_of_one c cs one) (heads_good (c ∷ []) [] cs (c ∷ cs) refl)
     ]
 
-octal_head : (c : ℕ) (cs : List ℕ) → Heads (backslash ∷ c ∷ cs) (octal_escape c cs)
+octal_head : (c : ℕ) (cs : List ℕ) → IsEscape (backslash ∷ c ∷ cs) (octal_escape c cs)
 octal_head c cs =
     let more = octal_digits (further_octal_digits c) cs in
     rw (octal_escape_is c cs more (drop (length more) cs) refl refl)
@@ -204,7 +209,7 @@ one_taken : (cs : List ℕ) → cs ≡ take 1 cs ++ drop 1 cs
 one_taken [] = refl
 one_taken (c ∷ cs) = refl
 
-template_digit_head : (c : ℕ) (cs : List ℕ) → Heads (backslash ∷ c ∷ cs) (digit_in_template c cs)
+template_digit_head : (c : ℕ) (cs : List ℕ) → IsEscape (backslash ∷ c ∷ cs) (digit_in_template c cs)
 template_digit_head c cs =
     elim (true_or_false (c == digit_zero)) [
       | inr other ↦ rw (nonzero_in_template c cs other) (heads_faulty bad_escape (c ∷ []) cs (c ∷ cs) refl)
@@ -217,10 +222,10 @@ template_digit_head c cs =
           ]
     ]
 
-character_head : (c : ℕ) (cs : List ℕ) → Heads (backslash ∷ c ∷ cs) (character_escape c cs)
+character_head : (c : ℕ) (cs : List ℕ) → IsEscape (backslash ∷ c ∷ cs) (character_escape c cs)
 character_head c cs = heads_good (c ∷ []) (encode_utf16 (single_character c)) cs (c ∷ cs) refl
 
-digit_head : (t : Bool) (c : ℕ) (cs : List ℕ) → Heads (backslash ∷ c ∷ cs) (digit_escape t c cs)
+digit_head : (t : Bool) (c : ℕ) (cs : List ℕ) → IsEscape (backslash ∷ c ∷ cs) (digit_escape t c cs)
 digit_head true c cs = rw (digit_escape_in_template c cs) (template_digit_head c cs)
 digit_head false c cs =
     elim (true_or_false (is_digit_of 8 c)) [
@@ -228,10 +233,10 @@ digit_head false c cs =
       | inr none ↦ rw (digit_escape_itself c cs none) (character_head c cs)
     ]
 
--- A text from a `\` on begins with its escape.
-pub escape_heads : (t : Bool) (text : List ℕ) → Heads (backslash ∷ text) (escape t text)
-escape_heads t [] = rw (escape_at_end t) (heads_faulty unfinished_escape [] [] [] refl)
-escape_heads t (c ∷ cs) =
+-- What a text from a `\` on begins with is an escape.
+pub escape_is_one : (t : Bool) (text : List ℕ) → IsEscape (backslash ∷ text) (escape t text)
+escape_is_one t [] = rw (escape_at_end t) (heads_faulty unfinished_escape [] [] [] refl)
+escape_is_one t (c ∷ cs) =
     elim (true_or_false (is_line_terminator c)) [
       | inl line ↦ rw (escape_of_line t c cs line) (line_head c cs)
       | inr line ↦

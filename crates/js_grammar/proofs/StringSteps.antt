@@ -15,8 +15,9 @@ use Rattle.js_grammar.specs.StringItems.{no_item, items_before, items_up_to, all
 use Rattle.js_grammar.specs.StringItems.{contains_escape, are_good, contains_bad_escape, fault_reports, item_reports}
 use Rattle.js_grammar.specs.StringItems.{is_good, is_bad_escape}
 use Rattle.js_grammar.specs.StringItems.Fault.{no_fault, bad_escape, unfinished_escape}
-use Rattle.js_grammar.specs.Template.{ends_part, line_end_item, carriage_return_item, template_item}
-use Rattle.js_grammar.proofs.EscapeCases.{Heads, escape_heads}
+use Rattle.js_grammar.specs.StringItems.StringValue.{units, bad_value}
+use Rattle.js_grammar.specs.Template.{ends_part, line_end_item, carriage_return_item, template_item, template_value}
+use Rattle.js_grammar.proofs.EscapeCases.{Heads, escape_is_one}
 use Rattle.js_grammar.proofs.NumberItems.{true_or_false}
 use Rattle.js_grammar.proofs.Reported.{place_behind-append}
 use Rattle.js_grammar.proofs.Tests.{and_true}
@@ -169,7 +170,7 @@ string_item_heads quote (c ∷ cs) item e =
           let at : string_item quote (backslash ∷ cs) ≡ Some item =
           ap (λ d. string_item quote (d ∷ cs)) (sym same) ∙ e in
           subst (λ d. Heads (d ∷ cs) item) (sym same)
-          (found_head (backslash ∷ cs) (escape false cs) item _ (escape_heads false cs) (string_escape quote cs) at))
+          (found_head (backslash ∷ cs) (escape false cs) item _ (escape_is_one false cs).head (string_escape quote cs) at))
       | inr other ↦
           elim (true_or_false (ends_string quote c)) [
             | inl ends ↦ nothing_found _ item (string_ends quote c cs other ends) e
@@ -225,7 +226,7 @@ template_item_heads (c ∷ cs) item e =
           let same = eqb-true c backslash is in
           let at : template_item (backslash ∷ cs) ≡ Some item = ap (λ d. template_item (d ∷ cs)) (sym same) ∙ e in
           subst (λ d. Heads (d ∷ cs) item) (sym same)
-          (found_head (backslash ∷ cs) (escape true cs) item _ (escape_heads true cs) (template_escape cs) at))
+          (found_head (backslash ∷ cs) (escape true cs) item _ (escape_is_one true cs).head (template_escape cs) at))
       | inr other ↦
           elim (true_or_false (ends_part (c ∷ cs))) [
             | inl ends ↦ nothing_found _ item (template_ends c cs other ends) e
@@ -244,3 +245,19 @@ template_item_heads (c ∷ cs) item e =
                 ]
           ]
     ]
+
+pub carriage_return_escaped : (cs : List ℕ) → (carriage_return_item cs).is_escaped ≡ true
+carriage_return_escaped cs =
+    elim (true_or_false (begins (λ d. d == line_feed) cs))
+    [ inl two ↦ rw (carriage_return_two cs two) refl | inr one ↦ rw (carriage_return_one cs one) refl ]
+
+-- the value of a part of a template
+pub template_value_bad : (items : List StringItem) → contains_bad_escape items ≡ true
+    → template_value items ≡ bad_value
+unfolding template_value
+template_value_bad items e = rw e refl
+
+pub template_value_good : (items : List StringItem) → contains_bad_escape items ≡ false
+    → template_value items ≡ units (string_units items)
+unfolding template_value
+template_value_good items e = rw e refl

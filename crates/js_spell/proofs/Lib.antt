@@ -7,3 +7,5 @@ pub mod LeadSteps
 pub mod EndSteps
 pub mod EscapeSteps
 pub mod DecodeSteps
+pub mod PlainSteps
+pub mod ItemSteps

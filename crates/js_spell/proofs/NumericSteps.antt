@@ -52,17 +52,17 @@ same_true true false e = absurd (cc)
 same_true false true e = absurd (cc)
 same_true false false e = refl
 
--- the entry of a byte tells whether it is a digit of the radix
-abbrev pub tells_digit : ℕ → List Bool → ℕ → Bool
-tells_digit radix table b = same (matches_at table b) (ltb b 128 && is_digit_of radix b)
+-- the entry of a byte tells whether it is an ASCII character that passes
+abbrev pub tells_test : (ℕ → Bool) → List Bool → ℕ → Bool
+tells_test p table b = same (matches_at table b) (ltb b 128 && p b)
 
-pub tells_digits : (radix : ℕ) (table : List Bool) → all_below (tells_digit radix table) 256 ≡ true → length table ≡ 256
-    → TellsDigits radix table
-tells_digits radix table e n = record { ascii = alone; tells = told }
+-- a table that tells so has ASCII characters alone, and those that pass
+pub told : (p : ℕ → Bool) (table : List Bool) → all_below (tells_test p table) 256 ≡ true → length table ≡ 256
+    → HasAscii table × ((b : ℕ) → b < 128 → matches_at table b ≡ p b)
+told p table e n = (alone, tells)
   where
-    entry : (b : ℕ) → b < 256 → matches_at table b ≡ (ltb b 128 && is_digit_of radix b)
-    entry b h =
-        same_true (matches_at table b) (ltb b 128 && is_digit_of radix b) (below (tells_digit radix table) 256 b e h)
+    entry : (b : ℕ) → b < 256 → matches_at table b ≡ (ltb b 128 && p b)
+    entry b h = same_true (matches_at table b) (ltb b 128 && p b) (below (tells_test p table) 256 b e h)
 
     low : (x y : Bool) → y ≡ true → (y && x) ≡ x
     low x true t = refl
@@ -72,15 +72,20 @@ tells_digits radix table e n = record { ascii = alone; tells = told }
     high x true t = absurd (cc)
     high x false t = refl
 
-    told : (b : ℕ) → b < 128 → matches_at table b ≡ is_digit_of radix b
-    told b h = entry b (omega arith) ∙ low (is_digit_of radix b) (ltb b 128) (grind (arith, nat_tests))
+    tells : (b : ℕ) → b < 128 → matches_at table b ≡ p b
+    tells b h = entry b (omega arith) ∙ low (p b) (ltb b 128) (grind (arith, nat_tests))
 
     alone : HasAscii table
     alone b h =
         elim (true_or_false (ltb b 256)) [
-          | inl is ↦ entry b (ltb-true b 256 is) ∙ high (is_digit_of radix b) (ltb b 128) (grind (arith, nat_tests))
+          | inl is ↦ entry b (ltb-true b 256 is) ∙ high (p b) (ltb b 128) (grind (arith, nat_tests))
           | inr no_entry ↦ get_or-eq_default table false (omega (arith, ltb-false b 256 no_entry))
         ]
+
+pub tells_digits : (radix : ℕ) (table : List Bool) → all_below (tells_test (is_digit_of radix) table) 256 ≡ true
+    → length table ≡ 256 → TellsDigits radix table
+tells_digits radix table e n =
+    let both = told (is_digit_of radix) table e n in record { ascii = both.0; tells = both.1 }
 
 pub radix_is_small : (digits : Digits) → radix_of_digits digits ≤ 16
 radix_is_small Binary = omega arith

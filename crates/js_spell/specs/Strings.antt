@@ -1,6 +1,6 @@
 -- The steps of reading a string or a part of a template.
 use Rattle.std.specs.Prelude.{◌≡◌, ℕ, ◌<◌, Bool, true, false, not, List, [], ◌∷◌, ◌++◌, drop, ◌==◌, ◌&&◌, ◌||◌, Option}
-use Rattle.std.specs.Prelude.{Some, None, codes}
+use Rattle.std.specs.Prelude.{Some, None, codes, if◌then◌else◌}
 use Rattle.js_text.specs.Ascii.{line_feed, carriage_return, quotation_mark, apostrophe, backslash, grave_accent}
 use Rattle.js_text.specs.Ascii.{dollar_sign}
 use Rattle.js_text.specs.Characters.{begins}
@@ -74,15 +74,19 @@ pub record StopsAt (literal : Literal) (b : ℕ) (text : List ℕ) : Type 0 wher
   pub here : text ≡ b ∷ behind
   pub stops_there : stops literal b ≡ true
 
--- characters that stand for themselves were passed
-pub record PassesCharacters (literal : Literal) (old new : At) : Type 0 where
-  pub text : new.text ≡ old.text
+-- The text begins with characters that stand for themselves, and this is left behind them.
+pub record IsPlainBefore (literal : Literal) (text left : List ℕ) : Type 0 where
   pub items : List StringItem
-  pub here : rest old ≡ string_text items ++ rest new
-  pub found : all_items (item_of literal) (rest old) ≡ items_before items (all_items (item_of literal) (rest new))
+  pub here : text ≡ string_text items ++ left
+  pub found : all_items (item_of literal) text ≡ items_before items (all_items (item_of literal) left)
   pub units : string_units items ≡ units_of (string_text items)
   pub escaped : contains_escape items ≡ false
   pub good : are_good items ≡ true
+
+-- characters that stand for themselves were passed
+pub record PassesCharacters (literal : Literal) (old new : At) : Type 0 where
+  pub text : new.text ≡ old.text
+  pub plain : IsPlainBefore literal (rest old) (rest new)
 
 -- Items were read: their units were added, and what is to be reported of them; the flag tells whether a bad escape is
 -- among them.
@@ -176,9 +180,16 @@ EndsPart start old new before after Missing =
 abbrev pub MarkIs : Literal → Mark → List ℕ → Type 0
 MarkIs literal Escape text = begins (λ c. c == backslash) text ≡ true
 MarkIs literal CarriageReturn text = (in_template literal ≡ true) × (begins (λ c. c == carriage_return) text ≡ true)
-MarkIs literal End text =
-    (begins (λ c. c == backslash) text ≡ false)
-    × ((in_template literal && begins (λ c. c == carriage_return) text) ≡ false)
+MarkIs literal End text = escape_here literal text ≡ false
+
+abbrev pub is_end : Mark → Bool
+is_end Escape = false
+is_end CarriageReturn = false
+is_end End = true
+
+-- the value of a literal with these units and an escape, by whether a bad one is in it
+abbrev pub decoded_value : Literal → Bool → List ℕ → SpeltValue
+decoded_value literal has_bad us = if has_bad && in_template literal then Bad else Decoded us
 
 -- The string that is next was read, good or at fault.
 pub record SpellsString (start : ℕ) (old new : At) (before after : List Diagnostic) (was now : TokenParts)

@@ -1,13 +1,13 @@
 //! Reading the items of strings and templates.
 
-ghost use Rattle.std.specs.Prelude.{◌≡◌, ◌≤◌, ◌==◌, ◌++◌, ◌∷◌, [], List, ℕ, true, false, not, IfOk, OnOk, OnErr};
+ghost use Rattle.std.specs.Prelude.{◌≡◌, ◌≤◌, ◌==◌, ◌++◌, ◌∷◌, ◌||◌, [], List, ℕ, true, false, not, None, IfOk, OnOk, OnErr};
 ghost use Rattle.js_text.specs.Ascii.{backslash, carriage_return};
 ghost use Rattle.js_text.specs.Characters.{begins};
 ghost use Rattle.js_text.specs.declared.diagnostic.Diagnostic.{Diagnostic};
 ghost use Rattle.js_source.specs.Source.{rest, IsPlaced};
 ghost use Rattle.js_spell.specs.Numeric.{BreaksOff};
 ghost use Rattle.js_spell.specs.Strings.{in_template, plain_here, ReadsItems, ReadsMarkedItem, ReadsValue};
-ghost use Rattle.js_spell.specs.Strings.{MarkIs, PassesCharacters, escape_here};
+ghost use Rattle.js_spell.specs.Strings.{MarkIs, PassesCharacters, escape_here, is_end, item_of, decoded_value};
 ghost use Rattle.std.specs.Prelude.{MatchOption};
 ghost use Rattle.std.specs.Str.{IsCharBoundary};
 ghost use Rattle.js_text.specs.declared.diagnostic.Diagnostic.TheVariants.{InvalidEscapeSequence};
@@ -115,14 +115,36 @@ enum Mark {
     End,
 }
 
+impl Mark {
+    /// Whether the items end here.
+    fn is_end(self) -> bool
+        ensures { result ≡ is_end self }
+    {
+        match self {
+            Mark::End => true,
+            Mark::Escape | Mark::CarriageReturn => false,
+        }
+    }
+}
+
 /// What is next where no character stands for itself, by its first byte.
 fn find_mark(literal: Literal, next: Option<u8>) -> Mark
     ensures { (text : List ℕ) → MatchOption next (text ≡ []) (λ b. HasFirstByte b text) → MarkIs literal result text }
 {
-    match next {
-        Some(b'\\') => Mark::Escape,
-        Some(b'\r') if literal.is_template() => Mark::CarriageReturn,
-        _ => Mark::End,
+    let b = match next {
+        Some(b) => b,
+        None => return Mark::End,
+    };
+    if b == b'\\' {
+        return Mark::Escape;
+    }
+    if b != b'\r' {
+        return Mark::End;
+    }
+    if literal.is_template() {
+        Mark::CarriageReturn
+    } else {
+        Mark::End
     }
 }
 
@@ -156,6 +178,13 @@ fn read_marked_item(
     }
 }
 
+/// Whether one of the two holds.
+fn either(first: bool, second: bool) -> bool
+    ensures { result ≡ (first || second) }
+{
+    first || second
+}
+
 /// Reads all items that are left, from a place on where no character stands for itself, and tells whether a bad escape
 /// is among them.
 fn read_items(
@@ -170,17 +199,31 @@ fn read_items(
     requires marked { plain_here literal (rest source.old) ≡ false }
     ensures ok { IfOk result (ReadsItems literal token.now.start source.old source.new
         text.old text.new errors.old errors.new) }
+    ensures ended { IfOk result (λ _. item_of literal (rest source.new) ≡ None) }
     ensures err { OnErr result (BreaksOff source.old source.new errors.old errors.new) }
+    ensures onward { source.old.place ≤ source.new.place }
     ensures placed { IsPlaced source.new }
 {
     let mut has_bad = false;
     'items: while let Some(is_good) = read_marked_item(source, literal, text, errors, token)? {
-        if !is_good {
-            has_bad = true;
-        }
+        has_bad = either(has_bad, !is_good);
         copy_characters(source, literal, text)?;
     }
     Ok(has_bad)
+}
+
+/// The value of a literal with these units, by whether a bad escape is in it.
+fn decoded(literal: Literal, has_bad: bool, text: JSStrBuilder) -> SpeltValue
+    ensures { result ≡ decoded_value literal has_bad text }
+{
+    if !has_bad {
+        return SpeltValue::Decoded(text.into_js_str());
+    }
+    if literal.is_template() {
+        SpeltValue::Bad
+    } else {
+        SpeltValue::Decoded(text.into_js_str())
+    }
 }
 
 /// Reads the items that are left where an escape, or a CR of a template, is next, behind the characters from a place
@@ -203,15 +246,13 @@ fn read_decoded(
     ensures ok { IfOk result (ReadsValue literal token.now.start (place_of source.old.text from) source.new
         errors.old errors.new) }
     ensures err { OnErr result (BreaksOff source.old source.new errors.old errors.new) }
+    ensures onward { source.old.place ≤ source.new.place }
     ensures placed { IsPlaced source.new }
 {
     let mut text = JSStrBuilder::new_in(alloc);
     text.push_str(source.str_from_pos_to_current(from))?;
     let has_bad = read_items(source, literal, &mut text, errors, token)?;
-    if has_bad && literal.is_template() {
-        return Ok(SpeltValue::Bad);
-    }
-    Ok(SpeltValue::Decoded(text.into_js_str()))
+    Ok(decoded(literal, has_bad, text))
 }
 
 /// Reads the items behind the mark that begins a string or a part of a template, up to what ends them, and gives their
@@ -232,7 +273,7 @@ pub(crate) fn read_value(
 {
     let from = source.position();
     let next = pass_characters(source, literal);
-    if let Mark::End = find_mark(literal, next) {
+    if find_mark(literal, next).is_end() {
         return Ok(SpeltValue::Plain);
     }
     read_decoded(alloc, source, literal, from, errors, token)

@@ -1,8 +1,9 @@
 //! The characters of strings and templates that stand for themselves.
 
-ghost use Rattle.std.specs.Prelude.{◌≡◌, false, IfNone, IfSome, []};
+ghost use Rattle.std.specs.Prelude.{◌≡◌, ◌==◌, ◌&&◌, false, codes, IfNone, IfSome, []};
+ghost use Rattle.js_text.specs.Ascii.{dollar_sign};
 ghost use Rattle.js_grammar.specs.Gap.{is_prefix};
-ghost use Rattle.std.specs.Prelude.{codes};
+ghost use Rattle.js_grammar.specs.UnicodeEscape.{left_curly_bracket};
 ghost use Rattle.js_source.specs.Source.{rest, IsPlaced, HasFirstByte};
 ghost use Rattle.js_spell.specs.Strings.{in_template, plain_here, TellsPlain, PassesCharacters, StopsAt};
 
@@ -118,8 +119,9 @@ fn pass_plain(source: &mut Source<'_>, literal: Literal) -> Option<u8>
     ensures some { IfSome result (λ b. StopsAt literal b (rest source.new)) }
     ensures placed { IsPlaced source.new }
 {
+    let table = table_of(literal);
     'characters: loop {
-        match source.pass_ascii(table_of(literal)) {
+        match source.pass_ascii(table) {
             None => return None,
             Some(b) => {
                 if b < 128 {
@@ -131,12 +133,22 @@ fn pass_plain(source: &mut Source<'_>, literal: Literal) -> Option<u8>
     }
 }
 
+/// Whether the two bytes are `${`.
+fn is_substitution(first: u8, second: u8) -> bool
+    ensures { result ≡ ((first == dollar_sign) && (second == left_curly_bracket)) }
+{
+    if first != b'$' {
+        return false;
+    }
+    second == b'{'
+}
+
 /// Whether `${` is next.
 pub(crate) fn begins_substitution(source: &Source<'_>) -> bool
     ensures { result ≡ is_prefix (codes "${") (rest source.now) }
 {
     match source.peek_2_bytes() {
-        Some(pair) => pair[0] == b'$' && pair[1] == b'{',
+        Some(pair) => is_substitution(pair[0], pair[1]),
         None => false,
     }
 }
