@@ -1,7 +1,7 @@
 -- The items of a string or a template, one after the other.
 use Rattle.std.proofs.Common.{◌≡◌, ℕ, zero, suc, ◌+◌, ◌<◌, ◌≤◌, Bool, true, false, not, ◌&&◌, ◌||◌, ◌==◌, List, [], ◌∷◌, ◌++◌}
 use Rattle.std.proofs.Common.{length, take, drop, refl, sym, ◌∙◌, ap, arith, Option, Some, None, inl, inr, ◌⊎◌, append_assoc}
-use Rattle.std.proofs.Common.{length-append, subst}
+use Rattle.std.proofs.Common.{length-append, subst, cond}
 use Rattle.std.specs.Prelude.{codes}
 use Rattle.std.specs.Char.Escape.{encode_utf16}
 use Rattle.std.specs.List.{list_any, list_all}
@@ -13,10 +13,14 @@ use Rattle.js_grammar.specs.Outcome.{place_behind}
 use Rattle.js_grammar.specs.StringItems.{Fault, StringItem, StringItems, plain_item, escape, ends_string, string_item}
 use Rattle.js_grammar.specs.StringItems.{no_item, items_before, items_up_to, all_items, string_text, string_units}
 use Rattle.js_grammar.specs.StringItems.{contains_escape, are_good, contains_bad_escape, fault_reports, item_reports}
-use Rattle.js_grammar.specs.StringItems.{is_good, is_bad_escape}
+use Rattle.js_grammar.specs.StringItems.{is_good, is_bad_escape, StringRead, string_of_items, terminated_string}
+use Rattle.js_grammar.specs.StringItems.{unterminated}
 use Rattle.js_grammar.specs.StringItems.Fault.{no_fault, bad_escape, unfinished_escape}
 use Rattle.js_grammar.specs.StringItems.StringValue.{units, bad_value}
 use Rattle.js_grammar.specs.Template.{ends_part, line_end_item, carriage_return_item, template_item, template_value}
+use Rattle.js_grammar.specs.Template.{terminated_part, part_of_items}
+use Rattle.js_kind.specs.declared.kind.Kind.{Kind}
+use Rattle.js_grammar.specs.Gap.{is_prefix}
 use Rattle.js_grammar.proofs.EscapeCases.{Heads, escape_is_one}
 use Rattle.js_grammar.proofs.NumberItems.{true_or_false}
 use Rattle.js_grammar.proofs.Reported.{place_behind-append}
@@ -261,3 +265,45 @@ pub template_value_good : (items : List StringItem) → contains_bad_escape item
     → template_value items ≡ units (string_units items)
 unfolding template_value
 template_value_good items e = rw e refl
+
+-- what is read of a string, by what stands behind its items
+pub string_terminated : (quote start : ℕ) (found : StringItems) → begins (λ c. c == quote) found.rest ≡ true
+    → string_of_items quote start found ≡ terminated_string start found
+unfolding string_of_items
+string_terminated quote start found e = rw e refl
+
+pub string_unterminated : (quote start : ℕ) (found : StringItems) → begins (λ c. c == quote) found.rest ≡ false
+    → string_of_items quote start found ≡ unterminated false start found
+unfolding string_of_items
+string_unterminated quote start found e = rw e refl
+
+-- and of a part of a template
+pub part_with_tail : (substitute tail : Kind) (start : ℕ) (found : StringItems)
+    → begins (λ c. c == grave_accent) found.rest ≡ true
+    → part_of_items substitute tail start found ≡ terminated_part tail start found (drop 1 found.rest)
+unfolding part_of_items
+part_with_tail substitute tail start found e = rw e refl
+
+pub part_with_substitution : (substitute tail : Kind) (start : ℕ) (found : StringItems)
+    → begins (λ c. c == grave_accent) found.rest ≡ false → is_prefix (codes "${") found.rest ≡ true
+    → part_of_items substitute tail start found ≡ terminated_part substitute start found (drop 2 found.rest)
+unfolding part_of_items
+part_with_substitution substitute tail start found e p = if_not _ _ _ e ∙ if_so _ _ _ p
+  where
+    if_so : (b : Bool) (x y : StringRead) → b ≡ true → cond b x y ≡ x
+    if_so true x y e = refl
+    if_so false x y e = absurd (cc)
+
+    if_not : (b : Bool) (x y : StringRead) → b ≡ false → cond b x y ≡ y
+    if_not true x y e = absurd (cc)
+    if_not false x y e = refl
+
+pub part_unterminated : (substitute tail : Kind) (start : ℕ) (found : StringItems)
+    → begins (λ c. c == grave_accent) found.rest ≡ false → is_prefix (codes "${") found.rest ≡ false
+    → part_of_items substitute tail start found ≡ unterminated true start found
+unfolding part_of_items
+part_unterminated substitute tail start found e p = if_not _ _ _ e ∙ if_not _ _ _ p
+  where
+    if_not : (b : Bool) (x y : StringRead) → b ≡ false → cond b x y ≡ y
+    if_not true x y e = absurd (cc)
+    if_not false x y e = refl

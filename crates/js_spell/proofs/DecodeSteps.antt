@@ -12,7 +12,7 @@ use Rattle.std.proofs.lemmas.Str.Parse.{digit_from_value}
 use Rattle.std.proofs.lemmas.Bool.{ne_eqb, eq-eqb}
 use Rattle.std.proofs.lemmas.Bool.Decides.{nat_tests}
 use Rattle.std.proofs.Math.Nat.{pow-le-pow_right}
-use Rattle.js_text.specs.Ascii.{line_feed, carriage_return}
+use Rattle.js_text.specs.Ascii.{line_feed, carriage_return, backslash}
 use Rattle.js_text.specs.Characters.{begins}
 use Rattle.js_text.specs.declared.diagnostic.Diagnostic.{Diagnostic}
 use Rattle.js_text.specs.declared.diagnostic.Diagnostic.TheVariants.{UnterminatedString}
@@ -25,14 +25,15 @@ use Rattle.js_grammar.specs.StringItems.Fault.{no_fault, bad_escape}
 use Rattle.js_grammar.specs.UnicodeEscape.{UnicodeEscape, last_code_point}
 use Rattle.js_grammar.proofs.EscapeCases.{continuation_of_two, continuation_of_one, nonzero_in_template, zero_and_digit}
 use Rattle.js_grammar.proofs.EscapeCases.{zero_alone, octal_escape_is, digit_escape_in_template, digit_escape_octal}
-use Rattle.js_grammar.proofs.EscapeCases.{digit_escape_itself, escape_at_end}
+use Rattle.js_grammar.proofs.EscapeCases.{digit_escape_itself, escape_at_end, escape_is_one}
 use Rattle.js_grammar.proofs.Tests.{and_false}
 use Rattle.js_grammar.proofs.UnicodeEscapes.{digits_taken, behind, below_digit}
-use Rattle.js_source.specs.Source.{At, rest, Reads}
+use Rattle.js_source.specs.Source.{At, rest, Reads, IsPlaced}
 use Rattle.js_spell.specs.Escape.{TakesDigit, TakesDigits, ReadsUnicodeEscape, ReadsEscapeOf, ReadsEscape}
 use Rattle.js_spell.specs.Escape.{escaped_units, escaped_fault}
 use Rattle.js_spell.specs.declared.escape.Escaped.{Escaped}
 use Rattle.js_spell.specs.declared.escape.Escaped.TheVariants.{Nothing, CodePoint, Bad}
+use Rattle.js_spell.proofs.NumericSteps.{leads_to}
 use Rattle.js_spell.proofs.EscapeSteps.{no_digits, digits_value_small}
 
 -- the item is known
@@ -225,3 +226,19 @@ escape_read t start c old mid new us vs reports found is_good read escaped added
     silent Nothing = refl
     silent (CodePoint d) = refl
     silent Bad = refl
+
+tail_of : (b : ℕ) (cs xs ys : List ℕ) → b ∷ cs ≡ xs ++ ys → 0 < length xs → cs ≡ drop 1 xs ++ ys
+tail_of b cs [] ys e h = absurd (omega arith)
+tail_of b cs (x ∷ xs) ys e h = ap (drop 1) e
+
+-- an escape ends no earlier than it begins
+pub escape_moves_on : (t : Bool) (c : ℕ) (old mid new : At) (found : Escaped) → IsPlaced old → IsPlaced new
+    → Reads old mid c → ReadsEscapeOf (escape t (c ∷ rest mid)) mid new found
+    → old.place ≤ new.place
+escape_moves_on t c old mid new found h g read escaped =
+    let item = escape t (rest old) in
+    let head = (escape_is_one t (rest old)).head in
+    let left : item.rest ≡ rest new = ap (λ cs. (escape t cs).rest) read.here ∙ escaped.left in
+    let here : rest old ≡ drop 1 item.text ++ rest new =
+    tail_of backslash (rest old) item.text item.rest head.here head.some ∙ ap (λ cs. drop 1 item.text ++ cs) left in
+    omega (arith, leads_to old new (drop 1 item.text) h g (escaped.text ∙ read.text) here)

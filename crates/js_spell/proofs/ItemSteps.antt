@@ -1,7 +1,7 @@
 -- The steps of reading the items of strings and templates.
 use Rattle.std.proofs.Common.{◌≡◌, ◌≢◌, ℕ, ◌+◌, ◌<◌, ◌≤◌, Bool, true, false, not, ◌&&◌, ◌||◌, ◌==◌, List, [], ◌∷◌, ◌++◌}
-use Rattle.std.proofs.Common.{length, drop, refl, sym, ◌∙◌, ap, subst, arith, Option, Some, None, inl, inr, append_assoc}
-use Rattle.std.specs.Prelude.{MatchBool, MatchOption}
+use Rattle.std.proofs.Common.{length, drop, refl, sym, ◌∙◌, ap, subst, arith, Option, Some, None, inl, inr, append_assoc, Result, Ok, Err, length-append}
+use Rattle.std.specs.Prelude.{MatchBool, MatchOption, IfNone, IfSome, OnOk}
 use Rattle.std.specs.Str.{encode_utf8_all, chars}
 use Rattle.std.specs.List.{list_any}
 use Rattle.std.proofs.Math.Utf8.{scalars}
@@ -31,7 +31,7 @@ use Rattle.js_source.specs.Source.{At, rest, Reads, IsPlaced, HasFirstByte, Step
 use Rattle.js_source.specs.Runs.{place_of}
 use Rattle.js_spell.specs.Escape.{ReadsEscape}
 use Rattle.js_spell.specs.Strings.{in_template, item_of, plain_here, escape_here, IsPlainBefore, PassesCharacters}
-use Rattle.js_spell.specs.Strings.{ReadsItems, ReadsMarkedItem, ReadsValue, value_of, spelt_value, MarkIs, is_end}
+use Rattle.js_spell.specs.Strings.{ReadsItems, ReadsOneItem, ReadsMarkedItem, ReadsValue, value_of, spelt_value, MarkIs, is_end}
 use Rattle.js_spell.specs.Strings.{decoded_value}
 use Rattle.js_spell.specs.declared.items.Mark.{Mark}
 use Rattle.js_spell.specs.declared.items.Mark.TheVariants.{Escape, CarriageReturn, End}
@@ -44,7 +44,11 @@ use Rattle.js_spell.proofs.PlainSteps.{heads_of, escape_item_here, no_item_here,
 
 scalars_front : (xs ys : List ℕ) → scalars (xs ++ ys) ≡ true → scalars xs ≡ true
 scalars_front [] ys e = refl
-scalars_front (x ∷ xs) ys e = let both = and_true _ _ e in rw both.0 (scalars_front xs ys both.1)
+scalars_front (x ∷ xs) ys e = front_of_and _ (scalars (xs ++ ys)) (scalars xs) (scalars_front xs ys) e
+  where
+    front_of_and : (a b c : Bool) → (b ≡ true → c ≡ true) → (a && b) ≡ true → (a && c) ≡ true
+    front_of_and true b c f e = f e
+    front_of_and false b c f e = absurd (cc)
 
 -- the characters of a stretch of the source are what its bytes spell
 pub stretch_chars : (at : At) (xs ys bytes : List ℕ) → IsPlaced at → rest at ≡ xs ++ ys → bytes ≡ encode_utf8_all xs
@@ -135,13 +139,15 @@ pub one_item_read : (literal : Literal) (start : ℕ) (old new : At) (us vs : Li
     → item_of literal (rest old) ≡ Some item → item.rest ≡ rest new → vs ≡ us ++ item.units
     → after ≡ before ++ fault_reports (in_template literal) start old.place new.place item.fault
     → is_bad_escape item.fault ≡ bad
-    → ReadsItems literal start old new us vs before after bad
+    → ReadsOneItem literal start old new us vs before after bad
 one_item_read literal start old new us vs before after bad item h g text found left added reported is_bad =
     let head = heads_of literal (rest old) item found in
     let here : rest old ≡ item.text ++ rest new = head.here ∙ ap (λ cs. item.text ++ cs) left in
     let place = leads_to old new item.text h g text here in
     let t = in_template literal in
     record {
+      shorter = omega (arith, ap length here, length-append item.text (rest new), head.some);
+      read = record {
       text = text;
       items = item ∷ [];
       here = here ∙ ap (λ cs. cs ++ rest new) (sym (append-nil item.text));
@@ -154,6 +160,7 @@ one_item_read literal start old new us vs before after bad item h g text found l
           ∙ ap (λ xs. before ++ xs)
           (sym (append-nil (fault_reports t start old.place (place_behind old.place item.text) item.fault)));
       bad = or_false (is_bad_escape item.fault) ∙ is_bad;
+      };
     }
   where
     or_false : (b : Bool) → (b || false) ≡ b
@@ -166,10 +173,15 @@ first_is b (c ∷ cs) e = ap (λ x. x ∷ cs) (eqb-true c b e)
 
 -- a good escape, or one that the source ends
 pub good_escape_read : (literal : Literal) (start : ℕ) (old mid new : At) (us vs : List ℕ)
-    (before after : List Diagnostic) → IsPlaced old → IsPlaced new → begins (λ c. c == backslash) (rest old) ≡ true
-    → StepsPast old mid → ReadsEscape (in_template literal) start mid new us vs before after true
-    → ReadsItems literal start old new us vs before after false
-good_escape_read literal start old mid new us vs before after h g next past read =
+    (before after : List Diagnostic) (is_template is_good : Bool) → IsPlaced old → IsPlaced new
+    → begins (λ c. c == backslash) (rest old) ≡ true
+    → StepsPast old mid → is_template ≡ in_template literal → is_good ≡ true
+    → ReadsEscape is_template start mid new us vs before after is_good
+    → ReadsOneItem literal start old new us vs before after false
+good_escape_read literal start old mid new us vs before after is_template is_good h g next past e good escape_read =
+    let read : ReadsEscape (in_template literal) start mid new us vs before after true =
+    subst (λ b. ReadsEscape (in_template literal) start mid new us vs before after b) good
+    (subst (λ b. ReadsEscape b start mid new us vs before after is_good) e escape_read) in
     let here = first_is backslash (rest old) next in
     let step = past backslash (drop 1 (rest old)) here in
     let t = in_template literal in
@@ -191,12 +203,17 @@ bad_is bad_escape e = refl
 bad_is unfinished_escape e = absurd (cc)
 
 pub bad_escape_read : (literal : Literal) (start : ℕ) (old mid new : At) (us vs : List ℕ)
-    (before between after : List Diagnostic) → IsPlaced old → IsPlaced new
+    (before between after : List Diagnostic) (is_template is_good : Bool) → IsPlaced old → IsPlaced new
     → begins (λ c. c == backslash) (rest old) ≡ true
-    → StepsPast old mid → ReadsEscape (in_template literal) start mid new us vs before between false
+    → StepsPast old mid → is_template ≡ in_template literal → is_good ≡ false
+    → ReadsEscape is_template start mid new us vs before between is_good
     → after ≡ between ++ fault_reports (in_template literal) start old.place new.place bad_escape
-    → ReadsItems literal start old new us vs before after true
-bad_escape_read literal start old mid new us vs before between after h g next past read reported =
+    → ReadsOneItem literal start old new us vs before after true
+bad_escape_read literal start old mid new us vs before between after is_template is_good h g next past e bad_one
+    escape_read reported =
+    let read : ReadsEscape (in_template literal) start mid new us vs before between false =
+    subst (λ b. ReadsEscape (in_template literal) start mid new us vs before between b) bad_one
+    (subst (λ b. ReadsEscape b start mid new us vs before between is_good) e escape_read) in
     let here = first_is backslash (rest old) next in
     let step = past backslash (drop 1 (rest old)) here in
     let t = in_template literal in
@@ -214,7 +231,7 @@ pub line_end_read : (b : Bool) (start : ℕ) (old mid new : At) (us vs : List �
     → IsPlaced old → IsPlaced new → begins (λ c. c == carriage_return) (rest old) ≡ true → StepsPast old mid
     → MatchBool b (Reads mid new line_feed) ((begins (λ d. d == line_feed) (rest mid) ≡ false) × (new ≡ mid))
     → vs ≡ us ++ (line_feed ∷ [])
-    → ReadsItems Template start old new us vs reports reports false
+    → ReadsOneItem Template start old new us vs reports reports false
 line_end_read b start old mid new us vs reports h g next past lf added =
     let here = first_is carriage_return (rest old) next in
     let step = past carriage_return (drop 1 (rest old)) here in
@@ -224,7 +241,7 @@ line_end_read b start old mid new us vs reports h g next past lf added =
   where
     cases : (b : Bool) → template_item (rest old) ≡ Some (carriage_return_item (rest mid)) → mid.text ≡ old.text
         → MatchBool b (Reads mid new line_feed) ((begins (λ d. d == line_feed) (rest mid) ≡ false) × (new ≡ mid))
-        → ReadsItems Template start old new us vs reports reports false
+        → ReadsOneItem Template start old new us vs reports reports false
     cases true found text read =
         let two = carriage_return_two (rest mid) (ap (begins (λ d. d == line_feed)) read.here) in
         one_item_read Template start old new us vs reports reports false
@@ -351,16 +368,23 @@ decoded_value_read literal start old mid new us vs before after bad h g plain ad
     ∙ ap (λ xs. record { items = xs; rest = rest new }) (append-nil read.items) in
     let escaped : contains_escape read.items ≡ true =
     ap (λ (items : StringItems). contains_escape items.items) (sym behind) ∙ escaped_found literal (rest mid) marked in
+    let found : all_items (item_of literal) (rest old) ≡ record { items = all.items; rest = rest new } =
+    all.found ∙ ap (items_before all.items) nothing
+    ∙ ap (λ xs. record { items = xs; rest = rest new }) (append-nil all.items) in
+    let two : all_items (item_of literal) (rest old)
+        ≡ record { items = plain.plain.items ++ read.items; rest = rest new } =
+    plain.plain.found ∙ ap (items_before plain.plain.items) behind in
+    let same : all.items ≡ plain.plain.items ++ read.items =
+    ap (λ (items : StringItems). items.items) (sym found ∙ two) in
     let whole : contains_escape all.items ≡ true =
-    list_any-append (λ (item : StringItem). item.is_escaped) plain.plain.items read.items
+    ap contains_escape same
+    ∙ list_any-append (λ (item : StringItem). item.is_escaped) plain.plain.items read.items
     ∙ ap (λ b. contains_escape plain.plain.items || b) escaped ∙ or_true (contains_escape plain.plain.items) in
     record {
       text = all.text;
       items = all.items;
       here = all.here;
-      found =
-          all.found ∙ ap (items_before all.items) nothing
-          ∙ ap (λ xs. record { items = xs; rest = rest new }) (append-nil all.items);
+      found = found;
       reports = all.reports;
       value_is =
           ap (decoded_value literal bad) all.units ∙ value_is_decoded literal all.items bad all.bad
@@ -370,3 +394,61 @@ decoded_value_read literal start old mid new us vs before after bad h g plain ad
     or_true : (b : Bool) → (b || true) ≡ true
     or_true true = refl
     or_true false = refl
+
+-- what a bad escape reports
+pub reported_in_string : (literal : Literal) (start from place end : ℕ) (between after : List Diagnostic)
+    → in_template literal ≡ false → from ≡ place
+    → after ≡ between ++ (InvalidEscapeSequence (stretch from end) ∷ [])
+    → after ≡ between ++ fault_reports (in_template literal) start place end bad_escape
+reported_in_string literal start from place end between after t e reported =
+    rw t (reported ∙ ap (λ p. between ++ (InvalidEscapeSequence (stretch p end) ∷ [])) e)
+
+pub silent_in_template : (literal : Literal) (start place end : ℕ) (reports : List Diagnostic)
+    → in_template literal ≡ true
+    → reports ≡ reports ++ fault_reports (in_template literal) start place end bad_escape
+silent_in_template literal start place end reports t = rw t (sym (append-nil reports))
+
+pub passes_onward : (literal : Literal) (old new : At) → IsPlaced old → IsPlaced new
+    → PassesCharacters literal old new → old.place ≤ new.place
+passes_onward literal old new h g plain =
+    omega (arith, leads_to old new (string_text plain.plain.items) h g plain.text plain.plain.here)
+
+pub on_ok_map : {T E : Type 0} (r : Result T E) (P Q : Type 0) → (P → Q) → OnOk r P → OnOk r Q
+on_ok_map (Ok x) P Q f p = f p
+on_ok_map (Err e) P Q f p = tt
+
+pub match_option : {A : Type 0} (o : Option A) (P : Type 0) (Q : A → Type 0) → IfNone o P → IfSome o Q
+    → MatchOption o P Q
+match_option None P Q p q = p
+match_option (Some x) P Q p q = q
+
+pub is_template : (literal : Literal) → in_template literal ≡ true → Template ≡ literal
+is_template DoubleQuoted e = absurd (cc)
+is_template SingleQuoted e = absurd (cc)
+is_template Template e = refl
+
+-- one more turn of the loop over items
+pub one_more_turn : (literal : Literal) (start : ℕ) (old here mid new : At) (us vs ws xs : List ℕ)
+    (before between after : List Diagnostic) (bad is_good all : Bool) → IsPlaced old → IsPlaced here → IsPlaced mid
+    → ReadsItems literal start old here us vs before between bad
+    → ReadsOneItem literal start here mid vs ws between after (not is_good)
+    → ReadsItems literal start mid new ws xs after after false
+    → all ≡ (bad || not is_good)
+    → ReadsItems literal start old new us xs before after all
+one_more_turn literal start old here mid new us vs ws xs before between after bad is_good all h g m so_far one copied e =
+    subst (λ b. ReadsItems literal start old new us xs before after b) (or_false (bad || not is_good) ∙ sym e)
+    (items_then literal start old mid new us ws xs before after after (bad || not is_good) false h m
+    (items_then literal start old here mid us vs ws before between after bad (not is_good) h g so_far one.read)
+    copied)
+  where
+    or_false : (b : Bool) → (b || false) ≡ b
+    or_false true = refl
+    or_false false = refl
+
+pub turn_shortens : (literal : Literal) (start : ℕ) (here mid new : At) (us vs ws : List ℕ)
+    (between after : List Diagnostic) (bad : Bool)
+    → ReadsOneItem literal start here mid us vs between after bad
+    → ReadsItems literal start mid new vs ws after after false
+    → length (rest new) < length (rest here)
+turn_shortens literal start here mid new us vs ws between after bad one copied =
+    omega (arith, one.shorter, ap length copied.here, length-append (string_text copied.items) (rest new))

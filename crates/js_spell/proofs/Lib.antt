@@ -9,3 +9,4 @@ pub mod EscapeSteps
 pub mod DecodeSteps
 pub mod PlainSteps
 pub mod ItemSteps
+pub mod SpellSteps

@@ -1,5 +1,5 @@
 -- The steps of reading a string or a part of a template.
-use Rattle.std.specs.Prelude.{◌≡◌, ℕ, ◌<◌, Bool, true, false, not, List, [], ◌∷◌, ◌++◌, drop, ◌==◌, ◌&&◌, ◌||◌, Option}
+use Rattle.std.specs.Prelude.{◌≡◌, ℕ, ◌<◌, Bool, true, false, not, List, [], ◌∷◌, ◌++◌, length, drop, ◌==◌, ◌&&◌, ◌||◌, Option}
 use Rattle.std.specs.Prelude.{Some, None, codes, if◌then◌else◌}
 use Rattle.js_text.specs.Ascii.{line_feed, carriage_return, quotation_mark, apostrophe, backslash, grave_accent}
 use Rattle.js_text.specs.Ascii.{dollar_sign}
@@ -100,13 +100,19 @@ pub record ReadsItems (literal : Literal) (start : ℕ) (old new : At) (units_be
   pub reports : after ≡ before ++ item_reports (in_template literal) start old.place items
   pub bad : contains_bad_escape items ≡ has_bad
 
+-- One item was read.
+pub record ReadsOneItem (literal : Literal) (start : ℕ) (old new : At) (units_before units_after : List ℕ)
+    (before after : List Diagnostic) (is_bad : Bool) : Type 0 where
+  pub read : ReadsItems literal start old new units_before units_after before after is_bad
+  pub shorter : length (rest new) < length (rest old)
+
 -- An item was read that is more than a character that stands for itself, or none is next.
 abbrev pub ReadsMarkedItem : Literal → ℕ → At → At → List ℕ → List ℕ → List Diagnostic → List Diagnostic → Option Bool
     → Type 0
 ReadsMarkedItem literal start old new units_before units_after before after None =
     (item_of literal (rest old) ≡ None) × (new ≡ old) × (units_after ≡ units_before) × (after ≡ before)
 ReadsMarkedItem literal start old new units_before units_after before after (Some is_good) =
-    ReadsItems literal start old new units_before units_after before after (not is_good)
+    ReadsOneItem literal start old new units_before units_after before after (not is_good)
 
 -- the value of items
 abbrev pub value_of : Literal → List StringItem → StringValue

@@ -203,6 +203,7 @@ pub fn read_escape(
     ensures text { OnErr result (text.new ≡ text.old) }
     ensures errors { OnErr result (errors.new ≡ errors.old) }
     ensures same_text { source.new.text ≡ source.old.text }
+    ensures onward { source.old.place ≤ source.new.place }
     ensures placed { IsPlaced source.new }
 {
     let first = match source.next_char() {

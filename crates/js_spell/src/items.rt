@@ -6,7 +6,7 @@ ghost use Rattle.js_text.specs.Characters.{begins};
 ghost use Rattle.js_text.specs.declared.diagnostic.Diagnostic.{Diagnostic};
 ghost use Rattle.js_source.specs.Source.{rest, IsPlaced};
 ghost use Rattle.js_spell.specs.Numeric.{BreaksOff};
-ghost use Rattle.js_spell.specs.Strings.{in_template, plain_here, ReadsItems, ReadsMarkedItem, ReadsValue};
+ghost use Rattle.js_spell.specs.Strings.{plain_here, ReadsItems, ReadsOneItem, ReadsMarkedItem, ReadsValue};
 ghost use Rattle.js_spell.specs.Strings.{MarkIs, PassesCharacters, escape_here, is_end, item_of, decoded_value};
 ghost use Rattle.std.specs.Prelude.{MatchOption};
 ghost use Rattle.std.specs.Str.{IsCharBoundary};
@@ -68,7 +68,7 @@ fn read_escape_item(
     requires placed { IsPlaced source.old }
     requires start { token.now.start ≤ source.old.place }
     requires escape { begins (λ c. c == backslash) (rest source.old) ≡ true }
-    ensures ok { IfOk result (λ is_good. ReadsItems literal token.now.start source.old source.new
+    ensures ok { IfOk result (λ is_good. ReadsOneItem literal token.now.start source.old source.new
         text.old text.new errors.old errors.new (not is_good)) }
     ensures err { OnErr result (BreaksOff source.old source.new errors.old errors.new) }
     ensures onward { source.old.place ≤ source.new.place }
@@ -94,7 +94,7 @@ fn read_carriage_return(
     requires placed { IsPlaced source.old }
     requires next { begins (λ c. c == carriage_return) (rest source.old) ≡ true }
     ensures ok { OnOk result ((start : ℕ) (errors : List Diagnostic)
-        → ReadsItems Template start source.old source.new text.old text.new errors errors false) }
+        → ReadsOneItem Template start source.old source.new text.old text.new errors errors false) }
     ensures same_text { source.new.text ≡ source.old.text }
     ensures onward { source.old.place ≤ source.new.place }
     ensures placed { IsPlaced source.new }
