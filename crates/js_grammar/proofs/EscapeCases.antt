@@ -106,22 +106,36 @@ pub escape_of_character : (t : Bool) (c : ℕ) (cs : List ℕ) → is_line_termi
 unfolding escape
 escape_of_character t c cs line x u none = rw (line, x, u, none) refl
 
--- The item is what a text begins with, at least one character.
+-- The item is what a text begins with, at least one character; it is unfinished at the end of the source alone.
 pub record Heads (text : List ℕ) (item : StringItem) : Type 0 where
   pub here : text ≡ item.text ++ item.rest
   pub some : 0 < length item.text
+  pub finished : item.fault ≡ unfinished_escape → item.rest ≡ []
 
 -- The text begins with the item, and it is an escape.
 pub record IsEscape (text : List ℕ) (item : StringItem) : Type 0 where
   pub head : Heads text item
   pub escaped : item.is_escaped ≡ true
 
-heads_good : (xs us rest : List ℕ) (cs : List ℕ) → cs ≡ xs ++ rest → IsEscape (backslash ∷ cs) (good_escape xs us rest)
-heads_good xs us rest cs e = record { head = record { here = ap (λ t. backslash ∷ t) e; some = omega arith }; escaped = refl }
+heads_good : (xs us rest : List ℕ) (cs : List ℕ) → cs ≡ xs ++ rest
+    → IsEscape (backslash ∷ cs) (good_escape xs us rest)
+heads_good xs us rest cs e = record {
+  head = record { here = ap (λ t. backslash ∷ t) e; some = omega arith; finished = λ unfinished. absurd (cc) };
+  escaped = refl;
+}
 
-heads_faulty : (fault : Fault) (xs rest : List ℕ) (cs : List ℕ) → cs ≡ xs ++ rest
-    → IsEscape (backslash ∷ cs) (faulty_escape fault xs rest)
-heads_faulty fault xs rest cs e = record { head = record { here = ap (λ t. backslash ∷ t) e; some = omega arith }; escaped = refl }
+heads_bad : (xs rest : List ℕ) (cs : List ℕ) → cs ≡ xs ++ rest
+    → IsEscape (backslash ∷ cs) (faulty_escape bad_escape xs rest)
+heads_bad xs rest cs e = record {
+  head = record { here = ap (λ t. backslash ∷ t) e; some = omega arith; finished = λ unfinished. absurd (cc) };
+  escaped = refl;
+}
+
+heads_unfinished : IsEscape (backslash ∷ []) (faulty_escape unfinished_escape [] [])
+heads_unfinished = record {
+  head = record { here = refl; some = omega arith; finished = λ unfinished. refl };
+  escaped = refl;
+}
 
 -- characters up to one that passes, so many at most, and what is left
 pub front_and_rest : (p : ℕ → Bool) (most : ℕ) (text : List ℕ)
@@ -184,7 +198,7 @@ digits_head : (letter : ℕ) (digits : UnicodeEscape) (code_point : Option ℕ) 
 digits_head letter digits (Some c) cs e =
     heads_good (letter ∷ digits.text) (encode_utf16 c) digits.rest (letter ∷ cs) (ap (λ t. letter ∷ t) e)
 digits_head letter digits None cs e =
-    heads_faulty bad_escape (letter ∷ digits.text) digits.rest (letter ∷ cs) (ap (λ t. letter ∷ t) e)
+    heads_bad (letter ∷ digits.text) digits.rest (letter ∷ cs) (ap (λ t. letter ∷ t) e)
 
 line_head : (c : ℕ) (cs : List ℕ) → IsEscape (backslash ∷ c ∷ cs) (line_continuation c cs)
 line_head c cs =
@@ -212,12 +226,12 @@ one_taken (c ∷ cs) = refl
 template_digit_head : (c : ℕ) (cs : List ℕ) → IsEscape (backslash ∷ c ∷ cs) (digit_in_template c cs)
 template_digit_head c cs =
     elim (true_or_false (c == digit_zero)) [
-      | inr other ↦ rw (nonzero_in_template c cs other) (heads_faulty bad_escape (c ∷ []) cs (c ∷ cs) refl)
+      | inr other ↦ rw (nonzero_in_template c cs other) (heads_bad (c ∷ []) cs (c ∷ cs) refl)
       | inl is_zero ↦
           elim (true_or_false (begins (is_digit_of 10) cs)) [
             | inl digit ↦
                 rw (zero_and_digit c cs is_zero digit)
-                (heads_faulty bad_escape (c ∷ take 1 cs) (drop 1 cs) (c ∷ cs) (ap (λ t. c ∷ t) (one_taken cs)))
+                (heads_bad (c ∷ take 1 cs) (drop 1 cs) (c ∷ cs) (ap (λ t. c ∷ t) (one_taken cs)))
             | inr none ↦ rw (zero_alone c cs is_zero none) (heads_good (c ∷ []) (0 ∷ []) cs (c ∷ cs) refl)
           ]
     ]
@@ -235,7 +249,7 @@ digit_head false c cs =
 
 -- What a text from a `\` on begins with is an escape.
 pub escape_is_one : (t : Bool) (text : List ℕ) → IsEscape (backslash ∷ text) (escape t text)
-escape_is_one t [] = rw (escape_at_end t) (heads_faulty unfinished_escape [] [] [] refl)
+escape_is_one t [] = rw (escape_at_end t) heads_unfinished
 escape_is_one t (c ∷ cs) =
     elim (true_or_false (is_line_terminator c)) [
       | inl line ↦ rw (escape_of_line t c cs line) (line_head c cs)

@@ -23,8 +23,10 @@ pub mod PunctuatorLeaves
 pub mod PunctuatorLemmas
 pub mod Reported
 pub mod Spans
+pub mod StringLaws
 pub mod StringRows
 pub mod StringSteps
+pub mod TemplateLaws
 pub mod Tests
 pub mod UnicodeEscapes
 pub mod Unique

@@ -30,7 +30,7 @@ use Rattle.js_grammar.proofs.Tests.{and_true}
 abbrev pub FindsHeads : (List ℕ → Option StringItem) → Type 0
 FindsHeads step = (text : List ℕ) (item : StringItem) → step text ≡ Some item → Heads text item
 
-none_or_some : {A : Type 0} (found : Option A) → (found ≡ None) ⊎ ((x : A) × (found ≡ Some x))
+pub none_or_some : {A : Type 0} (found : Option A) → (found ≡ None) ⊎ ((x : A) × (found ≡ Some x))
 none_or_some None = inl refl
 none_or_some (Some x) = inr (x, refl)
 
@@ -141,7 +141,7 @@ good_ones_not_bad (x ∷ xs) e =
     good_one unfinished_escape e = absurd (cc)
 
 plain_heads : (c : ℕ) (cs : List ℕ) → Heads (c ∷ cs) (plain_item c cs)
-plain_heads c cs = record { here = refl; some = omega arith }
+plain_heads c cs = record { here = refl; some = omega arith; finished = λ unfinished. absurd (cc) }
 
 -- the item of a string, case by case
 pub string_escape : (quote : ℕ) (cs : List ℕ) → string_item quote (backslash ∷ cs) ≡ Some (escape false cs)
@@ -218,8 +218,14 @@ carriage_return_heads cs =
     elim (true_or_false (begins (λ d. d == line_feed) cs)) [
       | inl two ↦
           rw (carriage_return_two cs two)
-          (record { here = ap (λ t. carriage_return ∷ t) (first_is line_feed cs two); some = omega arith })
-      | inr one ↦ rw (carriage_return_one cs one) (record { here = refl; some = omega arith })
+          (record {
+            here = ap (λ t. carriage_return ∷ t) (first_is line_feed cs two);
+            some = omega arith;
+            finished = λ unfinished. absurd (cc);
+          })
+      | inr one ↦
+          rw (carriage_return_one cs one)
+          (record { here = refl; some = omega arith; finished = λ unfinished. absurd (cc) })
     ]
 
 pub template_item_heads : FindsHeads template_item

@@ -303,11 +303,12 @@ string_of_items quote start found =
 abbrev pub string_read : ℕ → ℕ → List ℕ → StringRead
 string_read quote start text = string_of_items quote start (string_items quote text)
 
--- The characters xs are a string: a quote, items without fault, and the same quote.
-pub record IsString (xs : List ℕ) : Type 0 where
+-- The characters xs are a string where ys follow them: a quote, all items that follow it, without fault, and the same
+-- quote.
+pub record IsString (xs ys : List ℕ) : Type 0 where
   pub quote : ℕ
   pub is_quote : is_quote quote ≡ true
-  pub behind : List ℕ
-  pub here : xs ≡ quote ∷ behind
-  pub good : are_good (string_items quote behind).items ≡ true
-  pub closed : (string_items quote behind).rest ≡ quote ∷ []
+  pub items : List StringItem
+  pub here : xs ≡ quote ∷ (string_text items ++ quote ∷ [])
+  pub found : string_items quote (string_text items ++ quote ∷ ys) ≡ record { items = items; rest = quote ∷ ys }
+  pub good : are_good items ≡ true

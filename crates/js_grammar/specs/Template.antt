@@ -1,5 +1,5 @@
 -- Templates (ECMA-262 12.9.6): their items, and what is read of a part of one, good or at fault.
-use Rattle.std.specs.Prelude.{◌≡◌, ℕ, ◌+◌, Bool, true, false, List, [], ◌∷◌, drop, ◌==◌, ◌||◌, codes, Option, Some, None}
+use Rattle.std.specs.Prelude.{◌≡◌, ℕ, ◌+◌, Bool, true, false, List, [], ◌∷◌, ◌++◌, drop, ◌==◌, ◌||◌, codes, Option, Some, None}
 use Rattle.std.specs.Prelude.{if◌then◌else◌}
 use Rattle.js_text.specs.Ascii.{line_feed, carriage_return, backslash, grave_accent}
 use Rattle.js_text.specs.Characters.{begins}
@@ -67,9 +67,14 @@ part_of_items substitute tail start found =
 abbrev pub template_part_read : Kind → Kind → ℕ → List ℕ → StringRead
 template_part_read substitute tail start text = part_of_items substitute tail start (template_items text)
 
--- The characters xs are a template, or the first part of one.
-pub data IsTemplatePart (xs : List ℕ) (kind : Kind) : Type 0 where
-  no_substitution : (behind : List ℕ) → xs ≡ grave_accent ∷ behind → (template_items behind).rest ≡ codes "`"
-      → kind ≡ NoSubstitutionTemplate → IsTemplatePart xs kind
-  head : (behind : List ℕ) → xs ≡ grave_accent ∷ behind → (template_items behind).rest ≡ codes "${"
-      → kind ≡ TemplateHead → IsTemplatePart xs kind
+-- The mark `opening`, all items that follow it, and then the mark `closing` are the characters xs, where ys follow them.
+pub record IsPart (opening : ℕ) (closing xs ys : List ℕ) : Type 0 where
+  pub items : List StringItem
+  pub here : xs ≡ opening ∷ (string_text items ++ closing)
+  pub found : template_items (string_text items ++ (closing ++ ys)) ≡ record { items = items; rest = closing ++ ys }
+
+-- The characters xs are a template or the first part of one, of this kind, where ys follow them. An escape that stands
+-- for nothing is allowed: the value is bad then.
+pub data IsTemplatePart (xs ys : List ℕ) (kind : Kind) : Type 0 where
+  no_substitution : IsPart grave_accent (codes "`") xs ys → kind ≡ NoSubstitutionTemplate → IsTemplatePart xs ys kind
+  head : IsPart grave_accent (codes "${") xs ys → kind ≡ TemplateHead → IsTemplatePart xs ys kind
