@@ -23,6 +23,7 @@ pub mod PunctuatorLeaves
 pub mod PunctuatorLemmas
 pub mod Reported
 pub mod Spans
+pub mod StringBegins
 pub mod StringLaws
 pub mod StringRows
 pub mod StringSteps

@@ -1,5 +1,6 @@
 -- Laws of strings and templates: each is what is read without a fault, and nothing else.
-use Rattle.std.proofs.Common.{◌≡◌, ℕ, zero, suc, ◌+◌, ◌<◌, ◌≤◌, Bool, true, false, not, ◌&&◌, ◌||◌, ◌==◌, List, [], ◌∷◌, ◌++◌}
+use Rattle.std.proofs.Common.{◌≡◌, ℕ, zero, suc, ◌+◌, ◌<◌, ◌≤◌, Bool, true, false, not, ◌&&◌, ◌||◌, ◌==◌, List, [], ◌∷◌}
+use Rattle.std.proofs.Common.{◌++◌}
 use Rattle.std.proofs.Common.{length, take, drop, refl, sym, ◌∙◌, ap, arith, Option, Some, None, inl, inr, append_assoc}
 use Rattle.std.proofs.Common.{subst}
 use Rattle.std.specs.Prelude.{codes}
@@ -11,7 +12,8 @@ use Rattle.js_kind.specs.declared.kind.Kind.{Kind}
 use Rattle.js_kind.specs.declared.kind.Kind.TheVariants.{Str, NoSubstitutionTemplate, TemplateHead}
 use Rattle.js_grammar.specs.Gap.{is_prefix}
 use Rattle.js_grammar.specs.Outcome.{place_behind}
-use Rattle.js_grammar.specs.StringItems.{Fault, StringItem, StringItems, items_up_to, all_items, string_text, string_units}
+use Rattle.js_grammar.specs.StringItems.{Fault, StringItem, StringItems, items_up_to, all_items, string_text}
+use Rattle.js_grammar.specs.StringItems.{string_units}
 use Rattle.js_grammar.specs.StringItems.{contains_escape, is_good, are_good, fault_reports, item_reports, StringRead}
 use Rattle.js_grammar.specs.StringItems.{string_items, string_item, string_read, string_of_items, is_quote, IsString}
 use Rattle.js_grammar.specs.StringItems.{terminated_string, unterminated}
@@ -22,7 +24,8 @@ use Rattle.js_grammar.specs.Template.{IsTemplatePart, part_of_items}
 use Rattle.js_grammar.specs.Template.IsTemplatePart.{no_substitution, head}
 use Rattle.js_grammar.proofs.NumberItems.{true_or_false}
 use Rattle.js_grammar.proofs.StringSteps.{FindsHeads, none_or_some, good_ones, string_item_heads, template_item_heads}
-use Rattle.js_grammar.proofs.StringSteps.{string_terminated, string_unterminated, part_with_tail, part_with_substitution}
+use Rattle.js_grammar.proofs.StringSteps.{string_terminated, string_unterminated, part_with_tail}
+use Rattle.js_grammar.proofs.StringSteps.{part_with_substitution}
 use Rattle.js_grammar.proofs.StringSteps.{part_unterminated}
 use Rattle.js_grammar.proofs.Tests.{and_true}
 
@@ -121,27 +124,26 @@ clean_is_string quote start text is clean =
           let whole : text ≡ string_text found.items ++ (quote ∷ ys) =
           sym (string_cut quote text) ∙ ap (λ cs. string_text found.items ++ cs) left in
           let again : string_items quote (string_text found.items ++ (quote ∷ ys))
-              ≡ record { items = found.items; rest = quote ∷ ys } =
+          ≡ record { items = found.items; rest = quote ∷ ys } =
           ap (string_items quote) (sym whole) ∙ ap (λ cs. record { items = found.items; rest = cs }) left in
           let good = clean_ones start (start + 1) found.items
-              (ap (λ (r : StringRead). r.diagnostics) (sym read) ∙ clean) in
-          let rest_is : (string_read quote start text).rest ≡ ys = ap (λ (r : StringRead). r.rest) read in
-          (
+          (ap (λ (r : StringRead). r.diagnostics) (sym read) ∙ clean) in
+          let rest_is : (string_read quote start text).rest ≡ ys = ap (λ (r : StringRead). r.rest) read in (
             xs,
             subst (λ left. BeginsWithString (quote ∷ text) xs left) (sym rest_is)
-            (record {
-              here =
-                  ap (λ cs. quote ∷ cs) (whole ∙ sym (append_assoc (string_text found.items) (quote ∷ []) ys));
-              string =
-                  record {
-                    quote = quote;
-                    is_quote = is;
-                    items = found.items;
-                    here = refl;
-                    found = again;
-                    good = good;
-                  };
-            }),
+                (record {
+                  here =
+                      ap (λ cs. quote ∷ cs) (whole ∙ sym (append_assoc (string_text found.items) (quote ∷ []) ys));
+                  string =
+                      record {
+                        quote = quote;
+                        is_quote = is;
+                        items = found.items;
+                        here = refl;
+                        found = again;
+                        good = good;
+                      };
+                }),
           ))
     ]
 
@@ -153,12 +155,13 @@ one_string text xs ys us vs a b =
     let quotes : a.string.quote ≡ b.string.quote = ap first same in
     let behind = ap (drop 1) same in
     let found = sym a.string.found ∙ ap (string_items a.string.quote) behind
-        ∙ ap (λ q. string_items q (string_text b.string.items ++ (b.string.quote ∷ vs))) quotes ∙ b.string.found in
+    ∙ ap (λ q. string_items q (string_text b.string.items ++ (b.string.quote ∷ vs))) quotes ∙ b.string.found in
     let items : a.string.items ≡ b.string.items = ap (λ (i : StringItems). i.items) found in
-    let left : ys ≡ vs = ap (λ (i : StringItems). drop 1 i.rest) found in
-    (a.string.here ∙ ap (λ q. q ∷ (string_text a.string.items ++ (q ∷ []))) quotes
-    ∙ ap (λ its. b.string.quote ∷ (string_text its ++ (b.string.quote ∷ []))) items ∙ sym b.string.here,
-    left)
+    let left : ys ≡ vs = ap (λ (i : StringItems). drop 1 i.rest) found in (
+      a.string.here ∙ ap (λ q. q ∷ (string_text a.string.items ++ (q ∷ []))) quotes
+          ∙ ap (λ its. b.string.quote ∷ (string_text its ++ (b.string.quote ∷ []))) items ∙ sym b.string.here,
+      left,
+    )
   where
     first : List ℕ → ℕ
     first [] = 0

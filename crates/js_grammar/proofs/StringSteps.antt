@@ -1,6 +1,8 @@
 -- The items of a string or a template, one after the other.
-use Rattle.std.proofs.Common.{◌≡◌, ℕ, zero, suc, ◌+◌, ◌<◌, ◌≤◌, Bool, true, false, not, ◌&&◌, ◌||◌, ◌==◌, List, [], ◌∷◌, ◌++◌}
-use Rattle.std.proofs.Common.{length, take, drop, refl, sym, ◌∙◌, ap, arith, Option, Some, None, inl, inr, ◌⊎◌, append_assoc}
+use Rattle.std.proofs.Common.{◌≡◌, ℕ, zero, suc, ◌+◌, ◌<◌, ◌≤◌, Bool, true, false, not, ◌&&◌, ◌||◌, ◌==◌, List, [], ◌∷◌}
+use Rattle.std.proofs.Common.{◌++◌}
+use Rattle.std.proofs.Common.{length, take, drop, refl, sym, ◌∙◌, ap, arith, Option, Some, None, inl, inr, ◌⊎◌}
+use Rattle.std.proofs.Common.{append_assoc}
 use Rattle.std.proofs.Common.{length-append, subst, cond}
 use Rattle.std.specs.Prelude.{codes}
 use Rattle.std.specs.Char.Escape.{encode_utf16}
@@ -155,7 +157,7 @@ pub string_ends : (quote c : ℕ) (cs : List ℕ) → (c == backslash) ≡ false
     → string_item quote (c ∷ cs) ≡ None
 string_ends quote c cs other ends = rw (other, ends) refl
 
-some_is : {A : Type 0} (x y : A) → Some x ≡ Some y → x ≡ y
+pub some_is : {A : Type 0} (x y : A) → Some x ≡ Some y → x ≡ y
 some_is x y e = cc
 
 found_head : (text : List ℕ) (found item : StringItem) (at : Option StringItem) → Heads text found → at ≡ Some found
@@ -174,7 +176,8 @@ string_item_heads quote (c ∷ cs) item e =
           let at : string_item quote (backslash ∷ cs) ≡ Some item =
           ap (λ d. string_item quote (d ∷ cs)) (sym same) ∙ e in
           subst (λ d. Heads (d ∷ cs) item) (sym same)
-          (found_head (backslash ∷ cs) (escape false cs) item _ (escape_is_one false cs).head (string_escape quote cs) at))
+          (found_head (backslash ∷ cs) (escape false cs) item _ (escape_is_one false cs).head (string_escape quote cs)
+          at))
       | inr other ↦
           elim (true_or_false (ends_string quote c)) [
             | inl ends ↦ nothing_found _ item (string_ends quote c cs other ends) e

@@ -139,14 +139,15 @@ clean_is_template start text clean =
     elim (true_or_false (begins (λ c. c == grave_accent) found.rest)) [
       | inl tail ↦ (
           let read = part_with_tail TemplateHead NoSubstitutionTemplate start found tail in
-          let part = found_part grave_accent (codes "`") text (drop 1 found.rest) (first_is grave_accent found.rest tail) in
+          let part = found_part grave_accent (codes "`") text (drop 1 found.rest) (first_is grave_accent found.rest
+          tail) in
           (part.0, rw read (record { here = part.1; part = no_substitution part.2 refl })))
       | inr none ↦
           elim (true_or_false (is_prefix (codes "${") found.rest)) [
             | inl begun ↦ (
                 let read = part_with_substitution TemplateHead NoSubstitutionTemplate start found none begun in
                 let part = found_part grave_accent (codes "${") text (drop 2 found.rest)
-                    (prefix_is (codes "${") found.rest begun) in
+                (prefix_is (codes "${") found.rest begun) in
                 (part.0, rw read (record { here = part.1; part = head part.2 refl })))
             | inr other ↦ (
                 let read = part_unterminated TemplateHead NoSubstitutionTemplate start found none other in
@@ -161,9 +162,10 @@ same_part : (opening : ℕ) (closing xs ys us vs : List ℕ) (a : IsPart opening
 same_part opening closing xs ys us vs a b k size none e =
     let same = sym (part_here opening closing xs ys a) ∙ e ∙ part_here opening closing us vs b in
     let found = sym a.found ∙ ap template_items (ap (drop 1) same) ∙ b.found in
-    let items : a.items ≡ b.items = ap (λ (i : StringItems). i.items) found in
-    (a.here ∙ ap (λ its. opening ∷ (string_text its ++ closing)) items ∙ sym b.here,
-    ap (λ (i : StringItems). drop k i.rest) found)
+    let items : a.items ≡ b.items = ap (λ (i : StringItems). i.items) found in (
+      a.here ∙ ap (λ its. opening ∷ (string_text its ++ closing)) items ∙ sym b.here,
+      ap (λ (i : StringItems). drop k i.rest) found,
+    )
 
 other_part : {A : Type 0} (opening : ℕ) (xs ys us vs : List ℕ) (a : IsPart opening (codes "`") xs ys)
     (b : IsPart opening (codes "${") us vs) → xs ++ ys ≡ us ++ vs → A

@@ -1,6 +1,8 @@
 -- Laws of unicode escapes.
-use Rattle.std.proofs.Common.{◌≡◌, ℕ, zero, suc, ◌+◌, ◌*◌, ◌<◌, ◌≤◌, Bool, true, false, not, ltb, leb, ◌==◌, ◌&&◌, List, []}
-use Rattle.std.proofs.Common.{◌∷◌, ◌++◌, length, take, drop, refl, sym, ◌∙◌, ap, arith, Option, Some, None, inl, inr, cond}
+use Rattle.std.proofs.Common.{◌≡◌, ℕ, zero, suc, ◌+◌, ◌*◌, ◌<◌, ◌≤◌, Bool, true, false, not, ltb, leb, ◌==◌, ◌&&◌, List}
+use Rattle.std.proofs.Common.{[]}
+use Rattle.std.proofs.Common.{◌∷◌, ◌++◌, length, take, drop, refl, sym, ◌∙◌, ap, arith, Option, Some, None, inl, inr}
+use Rattle.std.proofs.Common.{cond}
 use Rattle.std.specs.Prelude.{codes, nat_lt, nat_le}
 use Rattle.std.specs.Char.{digit_value}
 use Rattle.std.specs.Str.Parse.{AllDigits, digits_value}
@@ -46,7 +48,12 @@ behind (x ∷ xs) ys = behind xs ys
 pub all_hex_digits : (count : ℕ) (xs ys : List ℕ) → AllDigits 16 xs → length xs ≡ count
     → hex_digits count (xs ++ ys) ≡ record { text = xs; code_point = Some (digits_value 16 xs); rest = ys }
 all_hex_digits count xs ys all e =
-    rw (digits_taken 16 count xs ys all (omega arith) (λ h. absurd (omega arith)), eq-eqb (length xs) count e, behind xs ys)
+    rw (
+      digits_taken 16 count xs ys all (omega arith) (λ h. absurd (omega arith)),
+      eq-eqb (length xs) count e,
+      behind
+          xs ys,
+    )
     refl
 
 -- fewer

@@ -266,7 +266,8 @@ pub record StringRead : Type 0 where
   pub value : StringValue
   pub diagnostics : List Diagnostic
 
--- What is read where the mark that ends it is missing: the character that stands there belongs to the token, if there is
+-- What is read where the mark that ends it is missing: the character that stands there belongs to the token, if there
+-- is
 -- one. The token begins at the start, with a mark of one byte.
 abbrev pub unterminated : Bool → ℕ → StringItems → StringRead
 unterminated in_template start found = record {

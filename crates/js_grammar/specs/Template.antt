@@ -1,5 +1,6 @@
 -- Templates (ECMA-262 12.9.6): their items, and what is read of a part of one, good or at fault.
-use Rattle.std.specs.Prelude.{◌≡◌, ℕ, ◌+◌, Bool, true, false, List, [], ◌∷◌, ◌++◌, drop, ◌==◌, ◌||◌, codes, Option, Some, None}
+use Rattle.std.specs.Prelude.{◌≡◌, ℕ, ◌+◌, Bool, true, false, List, [], ◌∷◌, ◌++◌, drop, ◌==◌, ◌||◌, codes, Option}
+use Rattle.std.specs.Prelude.{Some, None}
 use Rattle.std.specs.Prelude.{if◌then◌else◌}
 use Rattle.js_text.specs.Ascii.{line_feed, carriage_return, backslash, grave_accent}
 use Rattle.js_text.specs.Characters.{begins}
@@ -7,7 +8,8 @@ use Rattle.js_kind.specs.declared.kind.Kind.{Kind}
 use Rattle.js_kind.specs.declared.kind.Kind.TheVariants.{NoSubstitutionTemplate, TemplateHead, TemplateMiddle}
 use Rattle.js_kind.specs.declared.kind.Kind.TheVariants.{TemplateTail}
 use Rattle.js_grammar.specs.Gap.{is_prefix}
-use Rattle.js_grammar.specs.StringItems.{StringItem, contains_bad_escape, plain_item, escape, StringItems, all_items, string_text}
+use Rattle.js_grammar.specs.StringItems.{StringItem, contains_bad_escape, plain_item, escape, StringItems, all_items}
+use Rattle.js_grammar.specs.StringItems.{string_text}
 use Rattle.js_grammar.specs.StringItems.{string_units, contains_escape, item_reports, StringValue, StringRead}
 use Rattle.js_grammar.specs.StringItems.{unterminated}
 use Rattle.js_grammar.specs.StringItems.Fault.{no_fault}
@@ -62,12 +64,14 @@ part_of_items substitute tail start found =
     else if is_prefix (codes "${") found.rest then terminated_part substitute start found (drop 2 found.rest)
     else unterminated true start found
 
--- What is read of a part of a template: of the kind `substitute` where a `${` ends it, and `tail` where a backquote does.
+-- What is read of a part of a template: of the kind `substitute` where a `${` ends it, and `tail` where a backquote
+-- does.
 -- It begins at the start with a mark of one byte, and the text is what follows that.
 abbrev pub template_part_read : Kind → Kind → ℕ → List ℕ → StringRead
 template_part_read substitute tail start text = part_of_items substitute tail start (template_items text)
 
--- The mark `opening`, all items that follow it, and then the mark `closing` are the characters xs, where ys follow them.
+-- The mark `opening`, all items that follow it, and then the mark `closing` are the characters xs, where ys follow
+-- them.
 pub record IsPart (opening : ℕ) (closing xs ys : List ℕ) : Type 0 where
   pub items : List StringItem
   pub here : xs ≡ opening ∷ (string_text items ++ closing)

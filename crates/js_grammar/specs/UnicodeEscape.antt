@@ -1,5 +1,6 @@
 -- Unicode escapes (ECMA-262 12.9.4), from what stands behind their `\u` on.
-use Rattle.std.specs.Prelude.{ℕ, ◌*◌, ◌+◌, Bool, List, [], ◌∷◌, ◌++◌, length, take, drop, ◌==◌, ◌&&◌, not, nat_lt, nat_le}
+use Rattle.std.specs.Prelude.{ℕ, ◌*◌, ◌+◌, Bool, List, [], ◌∷◌, ◌++◌, length, take, drop, ◌==◌, ◌&&◌, not, nat_lt}
+use Rattle.std.specs.Prelude.{nat_le}
 use Rattle.std.specs.Prelude.{codes, Option, Some, None, if◌then◌else◌}
 use Rattle.std.specs.Char.{digit_value}
 use Rattle.std.specs.Str.Parse.{digits_value}

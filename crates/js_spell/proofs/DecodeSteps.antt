@@ -1,5 +1,6 @@
 -- The steps of reading what an escape stands for.
-use Rattle.std.proofs.Common.{◌≡◌, ◌≢◌, ℕ, ◌+◌, ◌*◌, ◌^◌, ◌<◌, ◌≤◌, Bool, true, false, not, ◌&&◌, ◌==◌, List, [], ◌∷◌, ◌++◌}
+use Rattle.std.proofs.Common.{◌≡◌, ◌≢◌, ℕ, ◌+◌, ◌*◌, ◌^◌, ◌<◌, ◌≤◌, Bool, true, false, not, ◌&&◌, ◌==◌, List, [], ◌∷◌}
+use Rattle.std.proofs.Common.{◌++◌}
 use Rattle.std.proofs.Common.{length, take, drop, refl, sym, ◌∙◌, ap, subst, arith, Option, Some, None, inl, inr}
 use Rattle.std.specs.Prelude.{nat_lt, MatchBool}
 use Rattle.std.specs.Char.{digit_value}
@@ -18,7 +19,8 @@ use Rattle.js_text.specs.declared.diagnostic.Diagnostic.{Diagnostic}
 use Rattle.js_text.specs.declared.diagnostic.Diagnostic.TheVariants.{UnterminatedString}
 use Rattle.js_kind.specs.Digits.{is_digit_of}
 use Rattle.js_grammar.specs.StringItems.{StringItem, good_escape, faulty_escape, line_continuation, digits_escape}
-use Rattle.js_grammar.specs.StringItems.{octal_escape, digit_in_template, further_octal_digits, octal_digits, digit_zero}
+use Rattle.js_grammar.specs.StringItems.{octal_escape, digit_in_template, further_octal_digits, octal_digits}
+use Rattle.js_grammar.specs.StringItems.{digit_zero}
 use Rattle.js_grammar.specs.StringItems.{character_escape, single_character, digit_escape, escape, stretch}
 use Rattle.js_grammar.specs.StringItems.{is_bad_escape, fault_reports}
 use Rattle.js_grammar.specs.StringItems.Fault.{no_fault, bad_escape}
@@ -104,8 +106,8 @@ octal_known : (c : ℕ) (old new : At) (count value : ℕ) (so_far : TakesDigits
 octal_known c old new count value so_far h taken =
     let small = octal_value_small c old new count value so_far h in
     let item = octal_escape_is c (rest old) so_far.digits (rest new)
-        (ap (octal_digits (further_octal_digits c)) so_far.here ∙ taken)
-        (ap (drop (length so_far.digits)) so_far.here ∙ behind so_far.digits (rest new)) in
+    (ap (octal_digits (further_octal_digits c)) so_far.here ∙ taken)
+    (ap (drop (length so_far.digits)) so_far.here ∙ behind so_far.digits (rest new)) in
     rw item
     (record {
       text = so_far.text;

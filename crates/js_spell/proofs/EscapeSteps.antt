@@ -1,5 +1,6 @@
 -- The steps of reading escapes.
-use Rattle.std.proofs.Common.{◌≡◌, ℕ, ◌+◌, ◌*◌, ◌^◌, ◌<◌, ◌≤◌, Bool, true, false, List, [], ◌∷◌, ◌++◌, length, refl, sym, ◌∙◌}
+use Rattle.std.proofs.Common.{◌≡◌, ℕ, ◌+◌, ◌*◌, ◌^◌, ◌<◌, ◌≤◌, Bool, true, false, List, [], ◌∷◌, ◌++◌, length, refl}
+use Rattle.std.proofs.Common.{sym, ◌∙◌}
 use Rattle.std.proofs.Common.{ap, subst, arith, append_assoc, length-append, Option, Some, None, inl, inr, ◌==◌}
 use Rattle.std.proofs.lemmas.Bool.{ltb-true, ltb-false}
 use Rattle.std.proofs.lemmas.Bool.Decides.{nat_tests}
@@ -9,7 +10,8 @@ use Rattle.std.specs.Char.{digit_value}
 use Rattle.std.specs.Str.Parse.{AllDigits, digits_value}
 use Rattle.js_text.specs.Characters.{begins}
 use Rattle.js_kind.specs.Digits.{is_digit_of}
-use Rattle.js_grammar.specs.UnicodeEscape.{UnicodeEscape, hex_digits, braced_digits, unicode_escape, digits_of_code_point}
+use Rattle.js_grammar.specs.UnicodeEscape.{UnicodeEscape, hex_digits, braced_digits, unicode_escape}
+use Rattle.js_grammar.specs.UnicodeEscape.{digits_of_code_point}
 use Rattle.js_grammar.specs.UnicodeEscape.{last_code_point, right_curly_bracket, left_curly_bracket}
 use Rattle.js_grammar.proofs.NumberItems.{true_or_false}
 use Rattle.js_grammar.proofs.UnicodeEscapes.{digit_below, below_digit, all_hex_digits, some_hex_digits}
@@ -93,7 +95,8 @@ hex_value_fits old new count value so_far h =
 pub hex_digits_read : (old new : At) (count value : ℕ) → TakesDigits 16 [] old new count value
     → ReadsUnicodeEscape (hex_digits count (rest old)) old new (Some value)
 hex_digits_read old new count value so_far =
-    let read = ap (hex_digits count) so_far.here ∙ all_hex_digits count so_far.digits (rest new) so_far.all so_far.count_is in
+    let read = ap (hex_digits count) so_far.here ∙ all_hex_digits count so_far.digits (rest new) so_far.all
+    so_far.count_is in
     record {
       text = so_far.text;
       left = ap (λ (e : UnicodeEscape). e.rest) read;

@@ -1,6 +1,7 @@
 -- The steps of reading the items of strings and templates.
 use Rattle.std.proofs.Common.{◌≡◌, ◌≢◌, ℕ, ◌+◌, ◌<◌, ◌≤◌, Bool, true, false, not, ◌&&◌, ◌||◌, ◌==◌, List, [], ◌∷◌, ◌++◌}
-use Rattle.std.proofs.Common.{length, drop, refl, sym, ◌∙◌, ap, subst, arith, Option, Some, None, inl, inr, append_assoc, Result, Ok, Err, length-append}
+use Rattle.std.proofs.Common.{length, drop, refl, sym, ◌∙◌, ap, subst, arith, Option, Some, None, inl, inr}
+use Rattle.std.proofs.Common.{append_assoc, Result, Ok, Err, length-append}
 use Rattle.std.specs.Prelude.{MatchBool, MatchOption, IfNone, IfSome, OnOk}
 use Rattle.std.specs.Str.{encode_utf8_all, chars}
 use Rattle.std.specs.List.{list_any}
@@ -25,13 +26,15 @@ use Rattle.js_grammar.proofs.EscapeCases.{escape_is_one}
 use Rattle.js_grammar.proofs.NumberItems.{true_or_false}
 use Rattle.js_grammar.proofs.StringSteps.{one_item, no_items_here, items_before-append, string_text-append}
 use Rattle.js_grammar.proofs.StringSteps.{string_units-append, item_reports-append, good_ones, good_ones_not_bad}
-use Rattle.js_grammar.proofs.StringSteps.{carriage_return_two, carriage_return_one, template_value_good, template_value_bad}
+use Rattle.js_grammar.proofs.StringSteps.{carriage_return_two, carriage_return_one, template_value_good}
+use Rattle.js_grammar.proofs.StringSteps.{template_value_bad}
 use Rattle.js_grammar.proofs.Tests.{and_true}
 use Rattle.js_source.specs.Source.{At, rest, Reads, IsPlaced, HasFirstByte, StepsPast}
 use Rattle.js_source.specs.Runs.{place_of}
 use Rattle.js_spell.specs.Escape.{ReadsEscape}
 use Rattle.js_spell.specs.Strings.{in_template, item_of, plain_here, escape_here, IsPlainBefore, PassesCharacters}
-use Rattle.js_spell.specs.Strings.{ReadsItems, ReadsOneItem, ReadsMarkedItem, ReadsValue, value_of, spelt_value, MarkIs, is_end}
+use Rattle.js_spell.specs.Strings.{ReadsItems, ReadsOneItem, ReadsMarkedItem, ReadsValue, value_of, spelt_value, MarkIs}
+use Rattle.js_spell.specs.Strings.{is_end}
 use Rattle.js_spell.specs.Strings.{decoded_value}
 use Rattle.js_spell.specs.declared.items.Mark.{Mark}
 use Rattle.js_spell.specs.declared.items.Mark.TheVariants.{Escape, CarriageReturn, End}
@@ -148,18 +151,18 @@ one_item_read literal start old new us vs before after bad item h g text found l
     record {
       shorter = omega (arith, ap length here, length-append item.text (rest new), head.some);
       read = record {
-      text = text;
-      items = item ∷ [];
-      here = here ∙ ap (λ cs. cs ++ rest new) (sym (append-nil item.text));
-      found =
-          one_item (item_of literal) (heads_of literal) (rest old) item found
-          ∙ ap (λ cs. items_before (item ∷ []) (all_items (item_of literal) cs)) left;
-      units = added ∙ ap (λ xs. us ++ xs) (sym (append-nil item.units));
-      reports =
-          reported ∙ ap (λ p. before ++ fault_reports t start old.place p item.fault) place
-          ∙ ap (λ xs. before ++ xs)
-          (sym (append-nil (fault_reports t start old.place (place_behind old.place item.text) item.fault)));
-      bad = or_false (is_bad_escape item.fault) ∙ is_bad;
+        text = text;
+        items = item ∷ [];
+        here = here ∙ ap (λ cs. cs ++ rest new) (sym (append-nil item.text));
+        found =
+            one_item (item_of literal) (heads_of literal) (rest old) item found
+            ∙ ap (λ cs. items_before (item ∷ []) (all_items (item_of literal) cs)) left;
+        units = added ∙ ap (λ xs. us ++ xs) (sym (append-nil item.units));
+        reports =
+            reported ∙ ap (λ p. before ++ fault_reports t start old.place p item.fault) place
+            ∙ ap (λ xs. before ++ xs)
+            (sym (append-nil (fault_reports t start old.place (place_behind old.place item.text) item.fault)));
+        bad = or_false (is_bad_escape item.fault) ∙ is_bad;
       };
     }
   where
@@ -372,7 +375,7 @@ decoded_value_read literal start old mid new us vs before after bad h g plain ad
     all.found ∙ ap (items_before all.items) nothing
     ∙ ap (λ xs. record { items = xs; rest = rest new }) (append-nil all.items) in
     let two : all_items (item_of literal) (rest old)
-        ≡ record { items = plain.plain.items ++ read.items; rest = rest new } =
+    ≡ record { items = plain.plain.items ++ read.items; rest = rest new } =
     plain.plain.found ∙ ap (items_before plain.plain.items) behind in
     let same : all.items ≡ plain.plain.items ++ read.items =
     ap (λ (items : StringItems). items.items) (sym found ∙ two) in
@@ -435,7 +438,8 @@ pub one_more_turn : (literal : Literal) (start : ℕ) (old here mid new : At) (u
     → ReadsItems literal start mid new ws xs after after false
     → all ≡ (bad || not is_good)
     → ReadsItems literal start old new us xs before after all
-one_more_turn literal start old here mid new us vs ws xs before between after bad is_good all h g m so_far one copied e =
+one_more_turn literal start old here mid new us vs ws xs before between after bad is_good all h g m so_far one copied
+    e =
     subst (λ b. ReadsItems literal start old new us xs before after b) (or_false (bad || not is_good) ∙ sym e)
     (items_then literal start old mid new us ws xs before after after (bad || not is_good) false h m
     (items_then literal start old here mid us vs ws before between after bad (not is_good) h g so_far one.read)

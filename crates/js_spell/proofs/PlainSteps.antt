@@ -1,5 +1,6 @@
 -- The characters of strings and templates that stand for themselves.
-use Rattle.std.proofs.Common.{◌≡◌, ℕ, ◌<◌, ◌≤◌, Bool, true, false, not, ◌&&◌, ◌||◌, ◌==◌, List, [], ◌∷◌, ◌++◌, length, refl}
+use Rattle.std.proofs.Common.{◌≡◌, ℕ, ◌<◌, ◌≤◌, Bool, true, false, not, ◌&&◌, ◌||◌, ◌==◌, List, [], ◌∷◌, ◌++◌, length}
+use Rattle.std.proofs.Common.{refl}
 use Rattle.std.proofs.Common.{sym, ◌∙◌, ap, subst, arith, Option, Some, None, inl, inr, append_assoc, drop, ltb}
 use Rattle.std.specs.Prelude.{codes}
 use Rattle.std.specs.Char.Escape.{encode_utf16}
@@ -224,7 +225,8 @@ stop_not_plain literal b text stop other = rw (stop.here, stop.stops_there, othe
 pub substitution_not_plain : (literal : Literal) (b : ℕ) (text : List ℕ) → StopsAt literal b text
     → is_prefix (codes "${") text ≡ true → plain_here literal text ≡ false
 substitution_not_plain literal b text stop begun =
-    let prefix : is_prefix (codes "${") (b ∷ stop.behind) ≡ true = ap (is_prefix (codes "${")) (sym stop.here) ∙ begun in
+    let prefix : is_prefix (codes "${") (b ∷ stop.behind) ≡ true = ap (is_prefix (codes "${")) (sym stop.here) ∙ begun
+    in
     rw (stop.here, stop.stops_there) (rw prefix (none (b == dollar_sign)))
   where
     none : (a : Bool) → (a && false) ≡ false
@@ -234,7 +236,8 @@ substitution_not_plain literal b text stop begun =
 pub dollar_is_plain : (literal : Literal) (b : ℕ) (text : List ℕ) → StopsAt literal b text → b ≡ dollar_sign
     → is_prefix (codes "${") text ≡ false → plain_here literal text ≡ true
 dollar_is_plain literal b text stop is none =
-    let prefix : is_prefix (codes "${") (b ∷ stop.behind) ≡ false = ap (is_prefix (codes "${")) (sym stop.here) ∙ none in
+    let prefix : is_prefix (codes "${") (b ∷ stop.behind) ≡ false = ap (is_prefix (codes "${")) (sym stop.here) ∙ none
+    in
     rw (stop.here, stop.stops_there) (rw prefix (rw (eq-eqb b dollar_sign is) refl))
 
 pub first_of_stop : (literal : Literal) (b : ℕ) (text : List ℕ) → StopsAt literal b text → HasFirstByte b text

@@ -106,14 +106,14 @@ pub closed_spells : (t : Bool) (start place : ℕ) (old new : At) (before after 
     old new before after was now spelt
 closed_spells t start place old new before after was now spelt kind left items v value text left_is at value_is
     elsewhere reported flags parts = record {
-  text = text;
-  kind = sym (ap (λ (s : Spelt). s.kind) parts);
-  left = left_is;
-  escaped = sym elsewhere ∙ sym (ap (λ (token : TokenParts). token.escaped) flags);
-  value = ap (λ (s : Spelt). s.value) parts ∙ value_is;
-  reports = reported ∙ ap (λ p. before ++ item_reports t start p items) at;
-  flags = flags_kept was now (is_elsewhere value) flags;
-}
+      text = text;
+      kind = sym (ap (λ (s : Spelt). s.kind) parts);
+      left = left_is;
+      escaped = sym elsewhere ∙ sym (ap (λ (token : TokenParts). token.escaped) flags);
+      value = ap (λ (s : Spelt). s.value) parts ∙ value_is;
+      reports = reported ∙ ap (λ p. before ++ item_reports t start p items) at;
+      flags = flags_kept was now (is_elsewhere value) flags;
+    }
   where
     flags_kept : (was now : TokenParts) (b : Bool) → now ≡ record was { escaped = b; has_separator = false }
         → now ≡ record was { escaped = now.escaped; has_separator = false }
@@ -229,7 +229,7 @@ string_closed start old mid here new before between after was now spelt literal 
     let found : string_items q (rest mid) ≡ record { items = read.items; rest = rest here } =
     sym (items_of_string literal (rest mid) taken.string) ∙ read.found in
     let whole : string_read q start (rest mid)
-        ≡ terminated_string start (record { items = read.items; rest = rest here }) =
+    ≡ terminated_string start (record { items = read.items; rest = rest here }) =
     ap (string_of_items q start) found
     ∙ string_terminated q start (record { items = read.items; rest = rest here })
     (ap (begins (λ c. c == q)) closing ∙ eq-eqb q q refl) in
@@ -264,7 +264,7 @@ string_open start old mid here new before between after was now spelt literal va
     let found : string_items q (rest mid) ≡ record { items = read.items; rest = rest here } =
     sym (items_of_string literal (rest mid) taken.string) ∙ read.found in
     let whole : string_read q start (rest mid)
-        ≡ unterminated false start (record { items = read.items; rest = rest here }) =
+    ≡ unterminated false start (record { items = read.items; rest = rest here }) =
     ap (string_of_items q start) found
     ∙ string_unterminated q start (record { items = read.items; rest = rest here })
     (ap (λ d. begins (λ c. c == d) (rest here)) (sym is_quote) ∙ none) in
@@ -292,8 +292,8 @@ pub part_closed : (substitute tail : Kind) (start : ℕ) (old here new : At) (be
 part_closed substitute tail start old here new before between after was now spelt value e read (end, same) flags parts =
     let found : template_items (rest old) ≡ record { items = read.items; rest = rest here } = read.found in
     let whole = ap (part_of_items substitute tail start) found
-        ∙ part_with_tail substitute tail start (record { items = read.items; rest = rest here })
-        (ap (begins (λ c. c == grave_accent)) end.here) in
+    ∙ part_with_tail substitute tail start (record { items = read.items; rest = rest here })
+    (ap (begins (λ c. c == grave_accent)) end.here) in
     rw whole
     (closed_spells true start old.place old new before after was now spelt tail (drop 1 (rest here)) read.items
     (template_value read.items) value (end.text ∙ read.text) (ap (drop 1) end.here) (sym e) read.value_is
@@ -310,7 +310,7 @@ part_substituted substitute tail start old here new before between after was now
     (none, begun, text, left, same) flags parts =
     let found : template_items (rest old) ≡ record { items = read.items; rest = rest here } = read.found in
     let whole = ap (part_of_items substitute tail start) found
-        ∙ part_with_substitution substitute tail start (record { items = read.items; rest = rest here }) none begun in
+    ∙ part_with_substitution substitute tail start (record { items = read.items; rest = rest here }) none begun in
     rw whole
     (closed_spells true start old.place old new before after was now spelt substitute (drop 2 (rest here)) read.items
     (template_value read.items) value (text ∙ read.text) left (sym e) read.value_is
@@ -327,7 +327,7 @@ part_open substitute tail start old here new before between after was now spelt 
     (none, not_begun, missing) flags parts =
     let found : template_items (rest old) ≡ record { items = read.items; rest = rest here } = read.found in
     let whole = ap (part_of_items substitute tail start) found
-        ∙ part_unterminated substitute tail start (record { items = read.items; rest = rest here }) none not_begun in
+    ∙ part_unterminated substitute tail start (record { items = read.items; rest = rest here }) none not_begun in
     rw whole
     (open_spells true start old old here new before between after was now spelt read.items h g refl read.text
     (sym e) read.here read.reports missing flags parts)

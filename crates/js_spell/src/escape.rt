@@ -57,7 +57,8 @@ fn read_hex_escape(source: &mut Source<'_>, letter: char) -> Escaped
 /// Reads what stands behind a `\u`.
 fn read_code_point_escape(source: &mut Source<'_>, letter: char) -> Escaped
     requires { IsPlaced source.old }
-    ensures read { ReadsEscapeOf (digits_escape letter (unicode_escape (rest source.old))) source.old source.new result }
+    ensures read { ReadsEscapeOf
+        (digits_escape letter (unicode_escape (rest source.old))) source.old source.new result }
     ensures placed { IsPlaced source.new }
 {
     match read_unicode_escape(source) {

@@ -1,6 +1,7 @@
 //! Reading the items of strings and templates.
 
-ghost use Rattle.std.specs.Prelude.{◌≡◌, ◌≤◌, ◌==◌, ◌++◌, ◌∷◌, ◌||◌, [], List, ℕ, true, false, not, None, IfOk, OnOk, OnErr};
+ghost use Rattle.std.specs.Prelude.{◌≡◌, ◌≤◌, ◌==◌, ◌++◌, ◌∷◌, ◌||◌, [], List, ℕ, true, false, not, None, IfOk, OnOk};
+ghost use Rattle.std.specs.Prelude.{OnErr};
 ghost use Rattle.js_text.specs.Ascii.{backslash, carriage_return};
 ghost use Rattle.js_text.specs.Characters.{begins};
 ghost use Rattle.js_text.specs.declared.diagnostic.Diagnostic.{Diagnostic};
@@ -87,10 +88,7 @@ fn read_escape_item(
 }
 
 /// Reads the CR that is next in a template, and a LF behind it: both stand for one LF.
-fn read_carriage_return(
-    source: &mut Source<'_>,
-    text: &mut JSStrBuilder,
-) -> Result<(), AllocError>
+fn read_carriage_return(source: &mut Source<'_>, text: &mut JSStrBuilder) -> Result<(), AllocError>
     requires placed { IsPlaced source.old }
     requires next { begins (λ c. c == carriage_return) (rest source.old) ≡ true }
     ensures ok { OnOk result ((start : ℕ) (errors : List Diagnostic)

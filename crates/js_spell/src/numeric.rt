@@ -10,7 +10,8 @@ ghost use Rattle.js_grammar.specs.NumberReads.{decimal_items, legacy_items, numb
 ghost use Rattle.js_source.specs.Source.{rest, IsPlaced};
 ghost use Rattle.js_spell.specs.Numeric.{radix_of_digits, PassesDigits, PassesPlainDigits, PassesGroups, end_of};
 ghost use Rattle.js_spell.specs.Numeric.{ReadsRun, BreaksOff, ReadsPart, ReadsInteger, ReadsEnd, ReadsCut, ReadsBadEnd};
-ghost use Rattle.js_spell.specs.Numeric.{ReadsNumber, SpellsNumber, LeadsWith, Leads, base_of_prefix, behind_base, TakesExponentMark};
+ghost use Rattle.js_spell.specs.Numeric.{ReadsNumber, SpellsNumber, LeadsWith, Leads, base_of_prefix, behind_base};
+ghost use Rattle.js_spell.specs.Numeric.{TakesExponentMark};
 ghost use Rattle.js_spell.specs.Numeric.{TakesSign};
 
 use crate::digits::{Digits, table_of};

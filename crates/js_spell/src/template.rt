@@ -52,8 +52,8 @@ fn end_part(
 
 /// Reads a part of a template behind the backquote or the `}` that begins it, good or at fault: what is to be reported
 /// is added to the list, and the flags of the token are set. Its start is where that mark stands. The kind is
-/// `substitute` where a `${` ends the part, and `tail` where a backquote does. A part without an escape and without a CR
-/// asks for no memory but for what is reported.
+/// `substitute` where a `${` ends the part, and `tail` where a backquote does. A part without an escape and without a
+/// CR asks for no memory but for what is reported.
 pub fn read_template_part(
     alloc: Global,
     source: &mut Source<'_>,

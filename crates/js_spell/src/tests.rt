@@ -92,12 +92,9 @@ static LITERALS: [(&str, Kind, u32, bool, usize); 20] = [
     ("`\n`", Kind::NoSubstitutionTemplate, 3, false, 0),
 ];
 
-/// The kind of the string or template that the text begins with, its end, its escaped flag and its count of diagnostics.
-fn read_literal(
-    rt: HostRuntime,
-    text: &str,
-) -> Result<(Spelt, u32, bool, usize), AllocError>
-{
+/// What is read of the string or template that the text begins with, its end, its escaped flag, and how much is
+/// reported.
+fn read_literal(rt: HostRuntime, text: &str) -> Result<(Spelt, u32, bool, usize), AllocError> {
     let mut source = Source::new(text);
     let mut errors = DiagnosticList::new_in(rt.alloc());
     let mut token = Token::default();
@@ -125,5 +122,42 @@ fn literals(rt: HostRuntime) -> Result<(), Fail> {
         assert_eq!(rt; read.2, escaped, "{text}");
         assert_eq!(rt; read.3, reported, "{text}");
     }
+    Ok(())
+}
+
+/// Templates of line ends alone, and how many LF their values have.
+static LINE_ENDS: [(&str, usize); 8] = [
+    ("`\r`", 1),
+    ("`\r\n`", 1),
+    ("`\r\r`", 2),
+    ("`\n\r`", 2),
+    ("`\r\r\n`", 2),
+    ("`\r\n\r\n`", 2),
+    ("`\n\r\r`", 3),
+    ("`\r\n\r\r\n`", 3),
+];
+
+#[test]
+fn line_ends_of_templates(rt: HostRuntime) -> Result<(), Fail> {
+    for (text, count) in LINE_ENDS {
+        let read = read_literal(rt, text)?;
+        let SpeltValue::Decoded(value) = read.0.value else {
+            assert!(rt; false, "{text:?}");
+            continue;
+        };
+        assert_eq!(rt; value.units().len(), count, "{text:?}");
+        assert!(rt; value.units().iter().all(|unit| *unit == 0x0A), "{text:?}");
+    }
+    Ok(())
+}
+
+#[test]
+fn units_of_surrogates(rt: HostRuntime) -> Result<(), Fail> {
+    let read = read_literal(rt, "\"\\uD83D\\u{DE00}\\x41\"")?;
+    let SpeltValue::Decoded(value) = read.0.value else {
+        assert!(rt; false);
+        return Ok(());
+    };
+    assert_eq!(rt; value.units(), [0xD83D, 0xDE00, 0x41].as_slice());
     Ok(())
 }

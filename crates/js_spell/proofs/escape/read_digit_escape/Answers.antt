@@ -22,5 +22,6 @@ returns-then-is_digit-clause-read c =
 pub returns-clause-read : goal.returns-clause-read
 unfolding is_digit_of
 returns-clause-read c =
-    other_digit_itself c.args.in_template c.args.first c.single_character.result c.args.source.now c.if-in_template.false
+    other_digit_itself c.args.in_template c.args.first c.single_character.result c.args.source.now
+    c.if-in_template.false
     (sym c.if-is_digit.ensures.value) c.single_character.ensures.meaning c.single_character.ensures.small

@@ -29,7 +29,7 @@ overflow_mul-value c =
     omega (
       arith,
       octal_value_fits c.args.first c.args.source.now c.digits.source c.digits.counter c.digits.value
-      c.digits.invariant.taken (omega (arith, c.digits-test.true, c.further_octal_digits-end.ensures.few)),
+          c.digits.invariant.taken (omega (arith, c.digits-test.true, c.further_octal_digits-end.ensures.few)),
     )
 
 pub overflow_add-value : goal.overflow_add-value
@@ -38,12 +38,13 @@ overflow_add-value c =
       arith,
       c.in-Some.ensures.value,
       octal_value_fits c.args.first c.args.source.now c.digits.source c.digits.counter c.digits.value
-      c.digits.invariant.taken (omega (arith, c.digits-test.true, c.further_octal_digits-end.ensures.few)),
+          c.digits.invariant.taken (omega (arith, c.digits-test.true, c.further_octal_digits-end.ensures.few)),
     )
 
 pub returns-in-None-clause-read : goal.returns-in-None-clause-read
 returns-in-None-clause-read c =
-    let most = c.further_octal_digits-end.ensures.count c.args.first (sym (first_value c.args.first c.requires.digit)) in
+    let most = c.further_octal_digits-end.ensures.count c.args.first (sym (first_value c.args.first c.requires.digit))
+    in
     octal_stopped c.args.first c.args.source.now c.digits.source c.take_digit.new.source c.digits.counter
     c.digits.value c.digits.invariant.taken (omega (arith, most, c.digits-test.true))
     (omega (arith, c.digits-test.true, c.further_octal_digits-end.ensures.few)) c.in-None.ensures.digit
@@ -59,7 +60,8 @@ digits-preserved c = record {
 
 pub returns-clause-read : goal.returns-clause-read
 returns-clause-read c =
-    let most = c.further_octal_digits-end.ensures.count c.args.first (sym (first_value c.args.first c.requires.digit)) in
+    let most = c.further_octal_digits-end.ensures.count c.args.first (sym (first_value c.args.first c.requires.digit))
+    in
     octal_whole c.args.first c.args.source.now c.digits.source c.digits.counter c.digits.value
     c.digits.invariant.taken (omega (arith, most, c.digits-test.false, c.digits.invariant.within))
     (omega (arith, c.digits.invariant.within, c.further_octal_digits-end.ensures.few))

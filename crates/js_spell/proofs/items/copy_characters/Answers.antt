@@ -10,7 +10,7 @@ str_from_pos_to_current-requires-clause-ordered c =
       arith,
       c.position-from.ensures.place,
       passes_onward c.args.literal c.args.source.now c.pass_characters.new.source c.requires
-      c.pass_characters.ensures.placed c.pass_characters.ensures.passes,
+          c.pass_characters.ensures.placed c.pass_characters.ensures.passes,
     )
 
 pub returns-clause-ok : goal.returns-clause-ok
@@ -18,7 +18,7 @@ returns-clause-ok c =
     let new = c.pass_characters.new.source in
     let plain = c.pass_characters.ensures.passes in
     let here = ap (λ t. from_place t c.position-from.result) plain.text
-        ∙ ap (from_place c.args.source.now.text) c.position-from.ensures.place ∙ plain.plain.here in
+    ∙ ap (from_place c.args.source.now.text) c.position-from.ensures.place ∙ plain.plain.here in
     on_ok_map c.push_str.result _ _
     (λ added start errors.
     copied c.args.literal start c.args.source.now new c.args.text.now c.push_str.new.self

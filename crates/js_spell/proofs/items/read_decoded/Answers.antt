@@ -19,7 +19,7 @@ returns-clause-ok c =
     } in
     let spelled = c.str_from_pos_to_current.ensures.characters cs plain.plain.here in
     let chars_are = stretch_chars from cs (rest c.args.source.now) c.str_from_pos_to_current.result.now placed
-        plain.plain.here spelled in
+    plain.plain.here spelled in
     rw c.decoded.ensures
     (decoded_value_read c.args.literal c.args.token.now.start from c.args.source.now c.read_items.new.source
     c.push_str.new.self c.read_items.new.text c.args.errors.now c.read_items.new.errors c.in_ok-has_bad.has_bad

@@ -12,9 +12,9 @@ returns-then-is_good-clause-ok c =
 pub returns-in_ok-report_bad_escape-clause-ok : goal.returns-in_ok-report_bad_escape-clause-ok
 returns-in_ok-report_bad_escape-clause-ok c =
     let reported = reported_in_string c.args.literal c.args.token.now.start c.offset-from.result c.args.source.now.place
-        c.read_escape.new.source.place c.read_escape.new.errors c.report_bad_escape.new.errors
-        (sym c.is_template-2.ensures ∙ c.if-not-is_template.true) c.offset-from.ensures.place
-        c.in_ok-report_bad_escape.ensures.ok in
+    c.read_escape.new.source.place c.read_escape.new.errors c.report_bad_escape.new.errors
+    (sym c.is_template-2.ensures ∙ c.if-not-is_template.true) c.offset-from.ensures.place
+    c.in_ok-report_bad_escape.ensures.ok in
     bad_escape_read c.args.literal c.args.token.now.start c.args.source.now c.next_char.new.self
     c.read_escape.new.source c.args.text.now c.read_escape.new.text c.args.errors.now c.read_escape.new.errors
     c.report_bad_escape.new.errors
@@ -24,8 +24,8 @@ returns-in_ok-report_bad_escape-clause-ok c =
 pub returns-else-not-is_template-clause-ok : goal.returns-else-not-is_template-clause-ok
 returns-else-not-is_template-clause-ok c =
     let reported = silent_in_template c.args.literal c.args.token.now.start c.args.source.now.place
-        c.read_escape.new.source.place c.read_escape.new.errors
-        (sym c.is_template-2.ensures ∙ c.if-not-is_template.false) in
+    c.read_escape.new.source.place c.read_escape.new.errors
+    (sym c.is_template-2.ensures ∙ c.if-not-is_template.false) in
     bad_escape_read c.args.literal c.args.token.now.start c.args.source.now c.next_char.new.self
     c.read_escape.new.source c.args.text.now c.read_escape.new.text c.args.errors.now c.read_escape.new.errors
     c.read_escape.new.errors

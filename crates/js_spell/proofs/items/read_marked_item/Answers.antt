@@ -10,7 +10,7 @@ pub returns-in_ok-read_carriage_return-in-CarriageReturn-clause-ok
     : goal.returns-in_ok-read_carriage_return-in-CarriageReturn-clause-ok
 returns-in_ok-read_carriage_return-in-CarriageReturn-clause-ok c =
     let mark = c.in-CarriageReturn.ensures (rest c.args.source.now)
-        (match_option c.peek_byte.result _ _ c.peek_byte.ensures.none c.peek_byte.ensures.some) in
+    (match_option c.peek_byte.result _ _ c.peek_byte.ensures.none c.peek_byte.ensures.some) in
     subst (λ (literal : Literal). ReadsOneItem literal c.args.token.now.start c.args.source.now
     c.read_carriage_return.new.source c.args.text.now c.read_carriage_return.new.text c.args.errors.now
     c.args.errors.now (not true))
@@ -20,5 +20,5 @@ returns-in_ok-read_carriage_return-in-CarriageReturn-clause-ok c =
 pub returns-in-End-clause-ok : goal.returns-in-End-clause-ok
 returns-in-End-clause-ok c =
     let mark = c.in-End.ensures (rest c.args.source.now)
-        (match_option c.peek_byte.result _ _ c.peek_byte.ensures.none c.peek_byte.ensures.some) in
+    (match_option c.peek_byte.result _ _ c.peek_byte.ensures.none c.peek_byte.ensures.some) in
     (no_item_here c.args.literal (rest c.args.source.now) c.requires.marked mark, refl, refl, refl)

@@ -7,8 +7,8 @@ pub returns-then-is_end-clause-ok : goal.returns-then-is_end-clause-ok
 returns-then-is_end-clause-ok c =
     let new = c.pass_characters-next.new.source in
     let mark = c.find_mark.ensures (rest new)
-        (match_option c.pass_characters-next.result _ _ c.pass_characters-next.ensures.none
-        c.pass_characters-next.ensures.some) in
+    (match_option c.pass_characters-next.result _ _ c.pass_characters-next.ensures.none
+    c.pass_characters-next.ensures.some) in
     plain_value_read c.args.literal c.args.token.now.start c.args.source.now new c.args.errors.now
     c.pass_characters-next.ensures.passes c.pass_characters-next.ensures.all
     (mark_end c.args.literal c.find_mark.result (rest new) mark (sym c.if-is_end.ensures))
@@ -24,15 +24,15 @@ read_decoded-requires-clause-ordered c =
       arith,
       c.position-from.ensures.place,
       passes_onward c.args.literal c.args.source.now c.pass_characters-next.new.source c.requires.placed
-      c.pass_characters-next.ensures.placed c.pass_characters-next.ensures.passes,
+          c.pass_characters-next.ensures.placed c.pass_characters-next.ensures.passes,
     )
 
 pub read_decoded-requires-clause-escaped : goal.read_decoded-requires-clause-escaped
 read_decoded-requires-clause-escaped c =
     let new = c.pass_characters-next.new.source in
     let mark = c.find_mark.ensures (rest new)
-        (match_option c.pass_characters-next.result _ _ c.pass_characters-next.ensures.none
-        c.pass_characters-next.ensures.some) in
+    (match_option c.pass_characters-next.result _ _ c.pass_characters-next.ensures.none
+    c.pass_characters-next.ensures.some) in
     mark_not_end c.args.literal c.find_mark.result (rest new) mark (sym c.if-is_end.ensures)
 
 pub returns-clause-onward : goal.returns-clause-onward
@@ -41,5 +41,5 @@ returns-clause-onward c =
       arith,
       c.read_decoded.ensures.onward,
       passes_onward c.args.literal c.args.source.now c.pass_characters-next.new.source c.requires.placed
-      c.pass_characters-next.ensures.placed c.pass_characters-next.ensures.passes,
+          c.pass_characters-next.ensures.placed c.pass_characters-next.ensures.passes,
     )

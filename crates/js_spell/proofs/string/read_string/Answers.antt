@@ -7,8 +7,9 @@ pub read_value-requires-clause-start : goal.read_value-requires-clause-start
 read_value-requires-clause-start c =
     omega (
       arith,
-      place_of_items c.args.token.now.start c.args.source.now c.take_quote-literal.new.source c.take_quote-literal.result
-      c.requires.placed c.take_quote-literal.ensures.placed c.requires.start c.take_quote-literal.ensures.quote,
+      place_of_items c.args.token.now.start c.args.source.now c.take_quote-literal.new.source
+          c.take_quote-literal.result
+          c.requires.placed c.take_quote-literal.ensures.placed c.requires.start c.take_quote-literal.ensures.quote,
     )
 
 pub end_string-requires-clause-start : goal.end_string-requires-clause-start
@@ -17,8 +18,9 @@ end_string-requires-clause-start c =
       arith,
       c.start.ensures,
       c.read_value.ensures.onward,
-      place_of_items c.args.token.now.start c.args.source.now c.take_quote-literal.new.source c.take_quote-literal.result
-      c.requires.placed c.take_quote-literal.ensures.placed c.requires.start c.take_quote-literal.ensures.quote,
+      place_of_items c.args.token.now.start c.args.source.now c.take_quote-literal.new.source
+          c.take_quote-literal.result
+          c.requires.placed c.take_quote-literal.ensures.placed c.requires.start c.take_quote-literal.ensures.quote,
     )
 
 pub returns-then-is_closed-clause-ok : goal.returns-then-is_closed-clause-ok

@@ -15,7 +15,8 @@ returns-in-Tail-clause-ok c =
     subst (λ (end : PartEnd). EndsPart c.args.token.now.start here new between after end) c.in-Tail.is
     (subst (λ s. EndsPart s here new between after c.in_ok-end_part.field-0) c.start.ensures
     c.in_ok-end_part.ensures.ok) in
-    part_closed c.args.substitute c.args.tail c.args.token.now.start c.args.source.now here new c.args.errors.now between
+    part_closed c.args.substitute c.args.tail c.args.token.now.start c.args.source.now here new c.args.errors.now
+    between
     after c.args.token.now c.spell.new.token c.spell.result c.in_ok-value.value c.requires.start
     c.in_ok-value.ensures.ok ends c.spell.ensures.flags c.spell.ensures.parts
 

@@ -50,4 +50,5 @@ returns-clause-read c =
 pub returns-clause-small : goal.returns-clause-small
 returns-clause-small c =
     subst (λ n. c.digits.value < 16 ^ n) (omega (arith, c.digits-test.false, c.digits.invariant.within))
-    (digits_value_small 16 [] c.args.source.now c.digits.source c.digits.counter c.digits.value c.digits.invariant.taken)
+    (digits_value_small 16 [] c.args.source.now c.digits.source c.digits.counter c.digits.value
+    c.digits.invariant.taken)
