@@ -17,7 +17,8 @@ use Rattle.js_grammar.specs.UnicodeEscape.{digits_of_code_point, is_no_hex_digit
 use Rattle.js_grammar.specs.UnicodeEscape.{right_curly_bracket}
 use Rattle.js_grammar.specs.StringItems.{Fault, StringItem, good_escape, faulty_escape, line_continuation, escape_of}
 use Rattle.js_grammar.specs.StringItems.{digits_escape, octal_digits, octal_escape, digit_in_template, digit_escape}
-use Rattle.js_grammar.specs.StringItems.{character_escape, escape, digit_zero, latin_small_letter_x}
+use Rattle.js_grammar.specs.StringItems.{character_escape, escape, latin_small_letter_x}
+use Rattle.js_grammar.specs.Number.{digit_zero}
 use Rattle.js_grammar.specs.StringItems.{latin_small_letter_u, further_octal_digits, single_character}
 use Rattle.js_grammar.specs.StringItems.Fault.{no_fault, bad_escape, unfinished_escape}
 use Rattle.js_grammar.proofs.NumberItems.{true_or_false}
@@ -162,7 +163,8 @@ digits_and_rest value (c ∷ cs) =
           ]
     ]
 
-first_is : (b : ℕ) (text : List ℕ) → begins (λ c. c == b) text ≡ true → text ≡ b ∷ drop 1 text
+-- a text that begins with a character is it, and what follows it
+pub first_is : (b : ℕ) (text : List ℕ) → begins (λ c. c == b) text ≡ true → text ≡ b ∷ drop 1 text
 first_is b [] e = absurd (cc)
 first_is b (c ∷ cs) e = ap (λ x. x ∷ cs) (eqb-true c b e)
 

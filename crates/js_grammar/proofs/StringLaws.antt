@@ -22,6 +22,7 @@ use Rattle.js_grammar.specs.StringItems.StringValue.{units}
 use Rattle.js_grammar.specs.Template.{template_items, template_item, template_value, template_part_read, IsPart}
 use Rattle.js_grammar.specs.Template.{IsTemplatePart, part_of_items}
 use Rattle.js_grammar.specs.Template.IsTemplatePart.{no_substitution, head}
+use Rattle.js_grammar.proofs.EscapeCases.{first_is}
 use Rattle.js_grammar.proofs.NumberItems.{true_or_false}
 use Rattle.js_grammar.proofs.StringSteps.{FindsHeads, none_or_some, good_ones, string_item_heads, template_item_heads}
 use Rattle.js_grammar.proofs.StringSteps.{string_terminated, string_unterminated, part_with_tail}
@@ -95,10 +96,6 @@ string_here xs ys string =
 pub not_empty : {A : Type 0} (ds : List Diagnostic) (d : Diagnostic) → ds ++ (d ∷ []) ≡ [] → A
 not_empty [] d e = absurd (cc)
 not_empty (x ∷ xs) d e = absurd (cc)
-
-first_is : (b : ℕ) (text : List ℕ) → begins (λ c. c == b) text ≡ true → text ≡ b ∷ drop 1 text
-first_is b [] e = absurd (cc)
-first_is b (c ∷ cs) e = ap (λ x. x ∷ cs) (eqb-true c b e)
 
 -- xs is a string that the text begins with, and ys follow it
 pub record BeginsWithString (text xs ys : List ℕ) : Type 0 where

@@ -23,7 +23,7 @@ use Rattle.js_grammar.specs.Template.{ends_part, line_end_item, carriage_return_
 use Rattle.js_grammar.specs.Template.{terminated_part, part_of_items}
 use Rattle.js_kind.specs.declared.kind.Kind.{Kind}
 use Rattle.js_grammar.specs.Gap.{is_prefix}
-use Rattle.js_grammar.proofs.EscapeCases.{Heads, escape_is_one}
+use Rattle.js_grammar.proofs.EscapeCases.{Heads, escape_is_one, first_is}
 use Rattle.js_grammar.proofs.NumberItems.{true_or_false}
 use Rattle.js_grammar.proofs.Reported.{place_behind-append}
 use Rattle.js_grammar.proofs.Tests.{and_true}
@@ -211,10 +211,6 @@ pub carriage_return_one : (cs : List ℕ) → begins (λ d. d == line_feed) cs �
     → carriage_return_item cs ≡ line_end_item (carriage_return ∷ []) cs
 unfolding carriage_return_item
 carriage_return_one cs e = rw e refl
-
-first_is : (b : ℕ) (text : List ℕ) → begins (λ c. c == b) text ≡ true → text ≡ b ∷ drop 1 text
-first_is b [] e = absurd (cc)
-first_is b (c ∷ cs) e = ap (λ x. x ∷ cs) (eqb-true c b e)
 
 carriage_return_heads : (cs : List ℕ) → Heads (carriage_return ∷ cs) (carriage_return_item cs)
 carriage_return_heads cs =

@@ -16,6 +16,7 @@ use Rattle.js_grammar.specs.StringItems.Fault.{no_fault, bad_escape, unfinished_
 use Rattle.js_grammar.specs.Template.{template_items, template_item, template_value, template_part_read, IsPart}
 use Rattle.js_grammar.specs.Template.{IsTemplatePart, part_of_items}
 use Rattle.js_grammar.specs.Template.IsTemplatePart.{no_substitution, head}
+use Rattle.js_grammar.proofs.EscapeCases.{first_is}
 use Rattle.js_grammar.proofs.NumberItems.{true_or_false}
 use Rattle.js_grammar.proofs.StringLaws.{not_empty, template_cut}
 use Rattle.js_grammar.proofs.StringSteps.{none_or_some, template_item_heads, part_with_tail, part_with_substitution}
@@ -107,10 +108,6 @@ part_here opening closing xs ys part =
 pub record BeginsWithTemplate (text xs ys : List ℕ) (kind : Kind) : Type 0 where
   pub here : text ≡ xs ++ ys
   pub part : IsTemplatePart xs ys kind
-
-first_is : (b : ℕ) (text : List ℕ) → begins (λ c. c == b) text ≡ true → text ≡ b ∷ drop 1 text
-first_is b [] e = absurd (cc)
-first_is b (c ∷ cs) e = ap (λ x. x ∷ cs) (eqb-true c b e)
 
 found_part : (opening : ℕ) (closing text ys : List ℕ) → (template_items text).rest ≡ closing ++ ys
     → (xs : List ℕ) × (opening ∷ text ≡ xs ++ ys) × IsPart opening closing xs ys

@@ -14,6 +14,7 @@ use Rattle.js_text.specs.declared.span.Span.{Span}
 use Rattle.js_kind.specs.Digits.{is_digit_of}
 use Rattle.js_kind.specs.declared.kind.Kind.{Kind}
 use Rattle.js_kind.specs.declared.kind.Kind.TheVariants.{Undetermined, Str}
+use Rattle.js_grammar.specs.Number.{digit_zero, latin_small_letter_n}
 use Rattle.js_grammar.specs.Outcome.{place_behind}
 use Rattle.js_grammar.specs.UnicodeEscape.{UnicodeEscape, hex_digits, unicode_escape}
 
@@ -29,17 +30,11 @@ line_tabulation = 0x0B
 abbrev pub form_feed : ℕ
 form_feed = 0x0C
 
-abbrev pub digit_zero : ℕ
-digit_zero = 0x30
-
 abbrev pub latin_small_letter_b : ℕ
 latin_small_letter_b = 0x62
 
 abbrev pub latin_small_letter_f : ℕ
 latin_small_letter_f = 0x66
-
-abbrev pub latin_small_letter_n : ℕ
-latin_small_letter_n = 0x6E
 
 abbrev pub latin_small_letter_r : ℕ
 latin_small_letter_r = 0x72

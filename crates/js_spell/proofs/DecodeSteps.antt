@@ -20,7 +20,7 @@ use Rattle.js_text.specs.declared.diagnostic.Diagnostic.TheVariants.{Unterminate
 use Rattle.js_kind.specs.Digits.{is_digit_of}
 use Rattle.js_grammar.specs.StringItems.{StringItem, good_escape, faulty_escape, line_continuation, digits_escape}
 use Rattle.js_grammar.specs.StringItems.{octal_escape, digit_in_template, further_octal_digits, octal_digits}
-use Rattle.js_grammar.specs.StringItems.{digit_zero}
+use Rattle.js_grammar.specs.Number.{digit_zero}
 use Rattle.js_grammar.specs.StringItems.{character_escape, single_character, digit_escape, escape, stretch}
 use Rattle.js_grammar.specs.StringItems.{is_bad_escape, fault_reports}
 use Rattle.js_grammar.specs.StringItems.Fault.{no_fault, bad_escape}

@@ -22,7 +22,7 @@ use Rattle.js_grammar.specs.StringItems.{fault_reports, item_reports, stretch, a
 use Rattle.js_grammar.specs.StringItems.Fault.{no_fault, bad_escape, unfinished_escape}
 use Rattle.js_grammar.specs.StringItems.StringValue.{units}
 use Rattle.js_grammar.specs.Template.{template_item, carriage_return_item, line_end_item, template_value}
-use Rattle.js_grammar.proofs.EscapeCases.{escape_is_one}
+use Rattle.js_grammar.proofs.EscapeCases.{escape_is_one, first_is}
 use Rattle.js_grammar.proofs.NumberItems.{true_or_false}
 use Rattle.js_grammar.proofs.StringSteps.{one_item, no_items_here, items_before-append, string_text-append}
 use Rattle.js_grammar.proofs.StringSteps.{string_units-append, item_reports-append, good_ones, good_ones_not_bad}
@@ -169,10 +169,6 @@ one_item_read literal start old new us vs before after bad item h g text found l
     or_false : (b : Bool) → (b || false) ≡ b
     or_false true = refl
     or_false false = refl
-
-first_is : (b : ℕ) (text : List ℕ) → begins (λ c. c == b) text ≡ true → text ≡ b ∷ drop 1 text
-first_is b [] e = absurd (cc)
-first_is b (c ∷ cs) e = ap (λ x. x ∷ cs) (eqb-true c b e)
 
 -- a good escape, or one that the source ends
 pub good_escape_read : (literal : Literal) (start : ℕ) (old mid new : At) (us vs : List ℕ)

@@ -1,7 +1,12 @@
+ghost use Rattle.std.specs.Prelude.{◌≡◌, ◌<◌, ◌^◌, length};
+ghost use Rattle.js_text.specs.Characters.{begins};
+ghost use Rattle.js_grammar.specs.StringItems.{is_quote};
+ghost use Rattle.js_source.specs.Source.{rest};
+
 use super::*;
 use js_kind::{Kind, Token};
 use js_source::Source;
-use js_text::DiagnosticList;
+use js_text::{DiagnosticList, JSStr};
 use std::alloc::AllocError;
 use std::test::Fail;
 
@@ -92,35 +97,92 @@ static LITERALS: [(&str, Kind, u32, bool, usize); 20] = [
     ("`\n`", Kind::NoSubstitutionTemplate, 3, false, 0),
 ];
 
-/// What is read of the string or template that the text begins with, its end, its escaped flag, and how much is
-/// reported.
-fn read_literal(rt: HostRuntime, text: &str) -> Result<(Spelt, u32, bool, usize), AllocError> {
+/// What was read of a string or a template.
+#[derive(Drop)]
+struct Literal {
+    spelt: Spelt,
+    end: u32,
+    escaped: bool,
+    reported: usize,
+}
+
+/// Whether a quote is next.
+fn quote_is_next(source: &Source<'_>) -> bool
+    ensures { result ≡ begins is_quote (rest source.now) }
+{
+    match source.peek_byte() {
+        Some(b) => is_quote_byte(b),
+        None => false,
+    }
+}
+
+/// Whether the byte is a quote.
+fn is_quote_byte(b: u8) -> bool
+    ensures { result ≡ is_quote b }
+{
+    if b == b'"' {
+        return true;
+    }
+    b == b'\''
+}
+
+/// Reads the string that the text begins with, or a template behind the first character. None: the text is empty.
+fn read_literal(rt: HostRuntime, text: &str) -> Result<Option<Literal>, AllocError>
+    requires { length text.now < 2 ^ 32 }
+{
     let mut source = Source::new(text);
     let mut errors = DiagnosticList::new_in(rt.alloc());
     let mut token = Token::default();
-    let spelt = if source.advance_if_ascii_eq(b'`') {
+    let spelt = if quote_is_next(&source) {
+        token.set_start(source.offset());
+        read_string(rt.alloc(), &mut source, &mut errors, &mut token)?
+    } else {
+        source.next_char();
+        let end = source.offset();
+        if end == 0 {
+            return Ok(None);
+        }
+        token.set_start(end - 1);
+        let (head, whole) = (Kind::TemplateHead, Kind::NoSubstitutionTemplate);
         read_template_part(
             rt.alloc(),
             &mut source,
             &mut errors,
             &mut token,
-            Kind::TemplateHead,
-            Kind::NoSubstitutionTemplate,
+            head,
+            whole,
         )?
-    } else {
-        read_string(rt.alloc(), &mut source, &mut errors, &mut token)?
     };
-    Ok((spelt, source.offset(), token.escaped(), errors.len()))
+    Ok(Some(Literal {
+        spelt,
+        end: source.offset(),
+        escaped: token.escaped(),
+        reported: errors.len(),
+    }))
+}
+
+/// The units of the decoded value of the string or template that the text begins with.
+fn read_units(rt: HostRuntime, text: &str) -> Result<Option<JSStr>, AllocError>
+    requires { length text.now < 2 ^ 32 }
+{
+    match read_literal(rt, text)? {
+        Some(literal) => match literal.spelt.value {
+            SpeltValue::Decoded(value) => Ok(Some(value)),
+            SpeltValue::Plain | SpeltValue::Bad => Ok(None),
+        },
+        None => Ok(None),
+    }
 }
 
 #[test]
 fn literals(rt: HostRuntime) -> Result<(), Fail> {
     for (text, kind, end, escaped, reported) in LITERALS {
-        let read = read_literal(rt, text)?;
-        assert!(rt; read.0.kind.is_same(kind), "{text}");
-        assert_eq!(rt; read.1, end, "{text}");
-        assert_eq!(rt; read.2, escaped, "{text}");
-        assert_eq!(rt; read.3, reported, "{text}");
+        if let Some(read) = read_literal(rt, text)? {
+            assert!(rt; read.spelt.kind.is_same(kind), "{text}");
+            assert_eq!(rt; read.end, end, "{text}");
+            assert_eq!(rt; read.escaped, escaped, "{text}");
+            assert_eq!(rt; read.reported, reported, "{text}");
+        }
     }
     Ok(())
 }
@@ -140,24 +202,20 @@ static LINE_ENDS: [(&str, usize); 8] = [
 #[test]
 fn line_ends_of_templates(rt: HostRuntime) -> Result<(), Fail> {
     for (text, count) in LINE_ENDS {
-        let read = read_literal(rt, text)?;
-        let SpeltValue::Decoded(value) = read.0.value else {
-            assert!(rt; false, "{text:?}");
-            continue;
-        };
-        assert_eq!(rt; value.units().len(), count, "{text:?}");
-        assert!(rt; value.units().iter().all(|unit| *unit == 0x0A), "{text:?}");
+        let units = read_units(rt, text)?;
+        assert_eq!(rt;
+            units.map(|value| value.units().len()),
+            Some(count),
+            "{text:?}"
+        );
     }
     Ok(())
 }
 
 #[test]
 fn units_of_surrogates(rt: HostRuntime) -> Result<(), Fail> {
-    let read = read_literal(rt, "\"\\uD83D\\u{DE00}\\x41\"")?;
-    let SpeltValue::Decoded(value) = read.0.value else {
-        assert!(rt; false);
-        return Ok(());
-    };
-    assert_eq!(rt; value.units(), [0xD83D, 0xDE00, 0x41].as_slice());
+    if let Some(value) = read_units(rt, "\"\\uD83D\\u{DE00}\\x41\"")? {
+        assert_eq!(rt; value.units(), [0xD83D, 0xDE00, 0x41].as_slice());
+    }
     Ok(())
 }
