@@ -1,4 +1,5 @@
 pub mod Clean
+pub mod EscapeCases
 pub mod Flags
 pub mod GapLemmas
 pub mod NameCuts
@@ -28,6 +29,11 @@ pub mod Reported
 pub mod Spans
 pub mod SpellingClasses
 pub mod Starts
+pub mod StringBegins
+pub mod StringLaws
+pub mod StringRows
+pub mod StringSteps
+pub mod TemplateLaws
 pub mod Tests
 pub mod UnicodeEscapes
 pub mod Unique

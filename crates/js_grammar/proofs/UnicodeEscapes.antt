@@ -29,18 +29,18 @@ unfolding is_digit_of
 no_digit_above radix c h = grind (arith, nat_tests)
 
 -- digits, and no further one where more may be taken
-pub digits_taken : (most : ℕ) (xs ys : List ℕ) → AllDigits 16 xs → length xs ≤ most
-    → (length xs < most → begins (is_digit_of 16) ys ≡ false)
-    → before_first is_no_hex_digit (take most (xs ++ ys)) ≡ xs
-digits_taken zero [] ys all within end = refl
-digits_taken zero (x ∷ xs) ys all within end = absurd (omega arith)
-digits_taken (suc most) [] [] all within end = refl
-digits_taken (suc most) [] (y ∷ ys) all within end = rw (end (omega arith)) refl
-digits_taken (suc most) (x ∷ xs) ys all within end =
-    rw (digit_below 16 x all.0)
-    (ap (λ t. x ∷ t) (digits_taken most xs ys all.1 (omega arith) (λ h. end (omega arith))))
+pub digits_taken : (radix most : ℕ) (xs ys : List ℕ) → AllDigits radix xs → length xs ≤ most
+    → (length xs < most → begins (is_digit_of radix) ys ≡ false)
+    → before_first (λ c. not (is_digit_of radix c)) (take most (xs ++ ys)) ≡ xs
+digits_taken radix zero [] ys all within end = refl
+digits_taken radix zero (x ∷ xs) ys all within end = absurd (omega arith)
+digits_taken radix (suc most) [] [] all within end = refl
+digits_taken radix (suc most) [] (y ∷ ys) all within end = rw (end (omega arith)) refl
+digits_taken radix (suc most) (x ∷ xs) ys all within end =
+    rw (digit_below radix x all.0)
+    (ap (λ t. x ∷ t) (digits_taken radix most xs ys all.1 (omega arith) (λ h. end (omega arith))))
 
-behind : (xs ys : List ℕ) → drop (length xs) (xs ++ ys) ≡ ys
+pub behind : (xs ys : List ℕ) → drop (length xs) (xs ++ ys) ≡ ys
 behind [] ys = refl
 behind (x ∷ xs) ys = behind xs ys
 
@@ -49,10 +49,10 @@ pub all_hex_digits : (count : ℕ) (xs ys : List ℕ) → AllDigits 16 xs → le
     → hex_digits count (xs ++ ys) ≡ record { text = xs; code_point = Some (digits_value 16 xs); rest = ys }
 all_hex_digits count xs ys all e =
     rw (
-      digits_taken count xs ys all (omega arith) (λ h. absurd (omega arith)),
-      eq-eqb
-          (length xs) count e,
-      behind xs ys,
+      digits_taken 16 count xs ys all (omega arith) (λ h. absurd (omega arith)),
+      eq-eqb (length xs) count e,
+      behind
+          xs ys,
     )
     refl
 
@@ -62,7 +62,7 @@ pub some_hex_digits : (count : ℕ) (xs ys : List ℕ) → AllDigits 16 xs → l
     → hex_digits count (xs ++ ys) ≡ record { text = xs; code_point = None; rest = ys }
 some_hex_digits count xs ys all h end =
     let fewer : (length xs == count) ≡ false = grind (arith, nat_tests) in
-    rw (digits_taken count xs ys all (omega arith) (λ more. end), fewer, behind xs ys) refl
+    rw (digits_taken 16 count xs ys all (omega arith) (λ more. end), fewer, behind xs ys) refl
 
 -- four of them, or braces
 pub without_brace : (text : List ℕ) → begins (λ c. c == left_curly_bracket) text ≡ false

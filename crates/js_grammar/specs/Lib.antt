@@ -10,5 +10,7 @@ pub mod Punctuators
 pub mod Reads
 pub mod Recovery
 pub mod Spelling
+pub mod StringItems
+pub mod Template
 pub mod UnicodeEscape
 pub mod Values

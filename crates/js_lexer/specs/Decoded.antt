@@ -13,7 +13,7 @@ use Rattle.js_kind.specs.TokenParts.{TokenParts}
 use Rattle.js_kind.specs.declared.kind.Kind.{Kind}
 use Rattle.js_source.specs.Source.{At, rest}
 use Rattle.js_spell.specs.declared.spelt.SpeltValue.{SpeltValue}
-use Rattle.js_spell.specs.declared.spelt.SpeltValue.TheVariants.{Plain, Decoded}
+use Rattle.js_spell.specs.declared.spelt.SpeltValue.TheVariants.{Plain, Bad, Decoded}
 
 -- decoded values, in UTF-16 units, with the places where their tokens start
 abbrev pub Values : Type 0
@@ -30,6 +30,7 @@ Holds start value old new = (at : ℕ) → value_of new at ≡ (if nat_eq at sta
 -- the value that was spelt is kept of the token that starts there, where it was decoded
 abbrev pub KeepsSpelt : ℕ → SpeltValue → Values → Values → Type 0
 KeepsSpelt start Plain old new = new ≡ old
+KeepsSpelt start Bad old new = new ≡ old
 KeepsSpelt start (Decoded units) old new = Holds start units old new
 
 -- each value is what the name at the start of its token stands for

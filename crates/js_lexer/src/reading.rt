@@ -56,7 +56,7 @@ fn keep_value(decoded: &mut DecodedValues, start: u32, value: SpeltValue) -> Res
     ensures err { OnErr result (decoded.new ≡ decoded.old) }
 {
     match value {
-        SpeltValue::Plain => Ok(()),
+        SpeltValue::Plain | SpeltValue::Bad => Ok(()),
         SpeltValue::Decoded(units) => decoded.insert(start, units),
     }
 }

@@ -19,7 +19,7 @@ use Rattle.js_grammar.proofs.UnicodeEscapes.{no_more_digits, one_more_digit, las
 use Rattle.js_grammar.proofs.UnicodeEscapes.{braced_without_digit, braced_too_great, without_brace, behind_brace}
 use Rattle.js_source.specs.Source.{At, rest, Reads, BeginsWith}
 use Rattle.js_source.proofs.Places.{begins_with}
-use Rattle.js_spell.specs.Escape.{TakesDigit, TakesHexDigits, TakesCodePoint, ReadsUnicodeEscape}
+use Rattle.js_spell.specs.Escape.{TakesDigit, TakesDigits, TakesCodePoint, ReadsUnicodeEscape}
 
 -- a digit, or none
 pub no_digit_here : (radix c : ℕ) (at : At) → BeginsWith c (rest at) → (digit_value c < radix → ⊥)
@@ -44,44 +44,59 @@ digit_here radix c value old new begun small e past =
     )
 
 -- no digits yet
-pub no_hex_digits : (at : At) → TakesHexDigits at at 0 0
-no_hex_digits at =
-    record { text = refl; digits = []; all = tt; here = refl; count_is = refl; value_is = refl }
+pub no_digits : (radix : ℕ) (before : List ℕ) (at : At) → AllDigits radix (before ++ [])
+    → TakesDigits radix before at at 0 (digits_value radix (before ++ []))
+no_digits radix before at all =
+    record { text = refl; digits = []; all = all; here = refl; count_is = refl; value_is = refl }
 
 -- and one more
-pub more_hex_digits : (old mid new : At) (count value digit : ℕ) → TakesHexDigits old mid count value
-    → TakesDigit 16 mid new (Some digit)
-    → TakesHexDigits old new (count + 1) (value * 16 + digit)
-more_hex_digits old mid new count value digit so_far (c, is, of, read) = record {
-  text = read.text ∙ so_far.text;
-  digits = so_far.digits ++ (c ∷ []);
-  all = digits_push 16 so_far.digits c so_far.all (below_digit 16 c is);
-  here =
-      so_far.here ∙ ap (λ t. so_far.digits ++ t) read.here ∙ sym (append_assoc so_far.digits (c ∷ []) (rest new));
-  count_is = omega (arith, length-append so_far.digits (c ∷ []), so_far.count_is);
-  value_is =
-      digits_value_push 16 so_far.digits c ∙ ap (λ n. n * 16 + digit_value c) so_far.value_is
-      ∙ ap (λ n. value * 16 + n) of;
-}
+pub more_digits : (radix : ℕ) (before : List ℕ) (old mid new : At) (count value digit : ℕ)
+    → TakesDigits radix before old mid count value
+    → TakesDigit radix mid new (Some digit)
+    → TakesDigits radix before old new (count + 1) (value * radix + digit)
+more_digits radix before old mid new count value digit so_far (c, is, of, read) =
+    let together = append_assoc before so_far.digits (c ∷ []) in
+    record {
+      text = read.text ∙ so_far.text;
+      digits = so_far.digits ++ (c ∷ []);
+      all =
+          subst (AllDigits radix) together
+          (digits_push radix (before ++ so_far.digits) c so_far.all (below_digit radix c is));
+      here =
+          so_far.here ∙ ap (λ t. so_far.digits ++ t) read.here
+          ∙ sym (append_assoc so_far.digits (c ∷ []) (rest new));
+      count_is = omega (arith, length-append so_far.digits (c ∷ []), so_far.count_is);
+      value_is =
+          ap (digits_value radix) (sym together)
+          ∙ digits_value_push radix (before ++ so_far.digits) c
+          ∙ ap (λ n. n * radix + digit_value c) so_far.value_is
+          ∙ ap (λ n. value * radix + n) of;
+    }
 
-pub hex_value_small : (old new : At) (count value : ℕ) → TakesHexDigits old new count value → value < 16 ^ count
-hex_value_small old new count value so_far =
-    subst (λ n. value < 16 ^ n) so_far.count_is
-    (subst (λ n. n < 16 ^ length so_far.digits) so_far.value_is (digits_value-lt 16 so_far.digits so_far.all))
+-- the number of digits is small
+pub digits_value_small : (radix : ℕ) (before : List ℕ) (old new : At) (count value : ℕ)
+    → TakesDigits radix before old new count value → value < radix ^ (length before + count)
+digits_value_small radix before old new count value so_far =
+    subst (λ n. value < radix ^ n)
+    (length-append before so_far.digits ∙ ap (λ n. length before + n) so_far.count_is)
+    (subst (λ n. n < radix ^ length (before ++ so_far.digits)) so_far.value_is
+    (digits_value-lt radix (before ++ so_far.digits) so_far.all))
 
 -- below the fourth digit
-pub hex_value_fits : (old new : At) (count value : ℕ) → TakesHexDigits old new count value → count < 4
+pub hex_value_fits : (old new : At) (count value : ℕ) → TakesDigits 16 [] old new count value → count < 4
     → value < 4096
 hex_value_fits old new count value so_far h =
-    let less : 16 ^ count ≤ 16 ^ 3 = pow-le-pow_right {n = 16} (omega arith) {i = count} {j = 3} (omega arith) in
-    omega (arith, hex_value_small old new count value so_far, less)
+    let small : value < 16 ^ (0 + count) = digits_value_small 16 [] old new count value so_far in
+    let less : 16 ^ (0 + count) ≤ 16 ^ 3 =
+    pow-le-pow_right {n = 16} (omega arith) {i = 0 + count} {j = 3} (omega arith) in
+    omega arith
 
 -- all digits are there
-pub hex_digits_read : (old new : At) (count value : ℕ) → TakesHexDigits old new count value
+pub hex_digits_read : (old new : At) (count value : ℕ) → TakesDigits 16 [] old new count value
     → ReadsUnicodeEscape (hex_digits count (rest old)) old new (Some value)
 hex_digits_read old new count value so_far =
-    let read = ap (hex_digits count) so_far.here ∙ all_hex_digits count so_far.digits
-    (rest new) so_far.all so_far.count_is in
+    let read = ap (hex_digits count) so_far.here ∙ all_hex_digits count so_far.digits (rest new) so_far.all
+    so_far.count_is in
     record {
       text = so_far.text;
       left = ap (λ (e : UnicodeEscape). e.rest) read;
@@ -89,7 +104,7 @@ hex_digits_read old new count value so_far =
     }
 
 -- one is missing
-pub hex_digits_broken : (old mid new : At) (most count value : ℕ) → TakesHexDigits old mid count value → count < most
+pub hex_digits_broken : (old mid new : At) (most count value : ℕ) → TakesDigits 16 [] old mid count value → count < most
     → TakesDigit 16 mid new None
     → ReadsUnicodeEscape (hex_digits most (rest old)) old new None
 hex_digits_broken old mid new most count value so_far h (none, same) =

@@ -2,3 +2,4 @@ pub mod Escape
 pub mod Integer
 pub mod Name
 pub mod Numeric
+pub mod Strings

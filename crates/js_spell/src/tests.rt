@@ -1,7 +1,13 @@
+ghost use Rattle.std.specs.Prelude.{◌≡◌, ◌<◌, ◌^◌, length};
+ghost use Rattle.js_text.specs.Characters.{begins};
+ghost use Rattle.js_grammar.specs.StringItems.{is_quote};
+ghost use Rattle.js_source.specs.Source.{rest};
+
 use super::*;
 use js_kind::{Kind, Token};
 use js_source::Source;
-use js_text::DiagnosticList;
+use js_text::{DiagnosticList, JSStr};
+use std::alloc::AllocError;
 use std::test::Fail;
 
 #[test]
@@ -63,6 +69,154 @@ fn numbers(rt: HostRuntime) -> Result<(), Fail> {
         assert_eq!(rt; source.offset(), end, "{text}");
         assert_eq!(rt; token.has_separator(), has_separator, "{text}");
         assert_eq!(rt; errors.len(), reported, "{text}");
+    }
+    Ok(())
+}
+
+/// Texts, and the kind, the end, the escaped flag and the count of diagnostics of the string or template that each
+/// begins with.
+static LITERALS: [(&str, Kind, u32, bool, usize); 20] = [
+    ("\"ab\" c", Kind::Str, 4, false, 0),
+    ("'a\"\u{E9}' c", Kind::Str, 6, false, 0),
+    ("'\\\\'x", Kind::Str, 4, true, 0),
+    ("\"\\", Kind::Undetermined, 2, false, 2),
+    ("\"\\uD83D\"", Kind::Str, 8, true, 0),
+    ("\"\\uD83D\\u{DE00}\"", Kind::Str, 16, true, 0),
+    ("\"\\uD83D\\u\"", Kind::Str, 10, true, 1),
+    ("\"\\u{110000}\"", Kind::Str, 12, true, 1),
+    ("\"ab\n", Kind::Undetermined, 4, false, 1),
+    ("\"a\\\r\nb\"", Kind::Str, 7, true, 0),
+    ("\"\\xg\\400\"", Kind::Str, 9, true, 1),
+    ("`a\r\n\\u`", Kind::NoSubstitutionTemplate, 7, true, 0),
+    ("`a", Kind::Undetermined, 2, false, 1),
+    ("`a$\u{E9}${b}c`", Kind::TemplateHead, 7, false, 0),
+    ("`$$$", Kind::Undetermined, 4, false, 1),
+    ("`\\`\\${`", Kind::NoSubstitutionTemplate, 7, true, 0),
+    ("`\\", Kind::Undetermined, 2, false, 2),
+    ("`\\00`", Kind::NoSubstitutionTemplate, 5, true, 0),
+    ("`\r`", Kind::NoSubstitutionTemplate, 3, true, 0),
+    ("`\n`", Kind::NoSubstitutionTemplate, 3, false, 0),
+];
+
+/// What was read of a string or a template.
+#[derive(Drop)]
+struct Literal {
+    spelt: Spelt,
+    end: u32,
+    escaped: bool,
+    reported: usize,
+}
+
+/// Whether a quote is next.
+fn quote_is_next(source: &Source<'_>) -> bool
+    ensures { result ≡ begins is_quote (rest source.now) }
+{
+    match source.peek_byte() {
+        Some(b) => is_quote_byte(b),
+        None => false,
+    }
+}
+
+/// Whether the byte is a quote.
+fn is_quote_byte(b: u8) -> bool
+    ensures { result ≡ is_quote b }
+{
+    if b == b'"' {
+        return true;
+    }
+    b == b'\''
+}
+
+/// Reads the string that the text begins with, or a template behind the first character. None: the text is empty.
+fn read_literal(rt: HostRuntime, text: &str) -> Result<Option<Literal>, AllocError>
+    requires { length text.now < 2 ^ 32 }
+{
+    let mut source = Source::new(text);
+    let mut errors = DiagnosticList::new_in(rt.alloc());
+    let mut token = Token::default();
+    let spelt = if quote_is_next(&source) {
+        token.set_start(source.offset());
+        read_string(rt.alloc(), &mut source, &mut errors, &mut token)?
+    } else {
+        source.next_char();
+        let end = source.offset();
+        if end == 0 {
+            return Ok(None);
+        }
+        token.set_start(end - 1);
+        let (head, whole) = (Kind::TemplateHead, Kind::NoSubstitutionTemplate);
+        read_template_part(
+            rt.alloc(),
+            &mut source,
+            &mut errors,
+            &mut token,
+            head,
+            whole,
+        )?
+    };
+    Ok(Some(Literal {
+        spelt,
+        end: source.offset(),
+        escaped: token.escaped(),
+        reported: errors.len(),
+    }))
+}
+
+/// The units of the decoded value of the string or template that the text begins with.
+fn read_units(rt: HostRuntime, text: &str) -> Result<Option<JSStr>, AllocError>
+    requires { length text.now < 2 ^ 32 }
+{
+    match read_literal(rt, text)? {
+        Some(literal) => match literal.spelt.value {
+            SpeltValue::Decoded(value) => Ok(Some(value)),
+            SpeltValue::Plain | SpeltValue::Bad => Ok(None),
+        },
+        None => Ok(None),
+    }
+}
+
+#[test]
+fn literals(rt: HostRuntime) -> Result<(), Fail> {
+    for (text, kind, end, escaped, reported) in LITERALS {
+        if let Some(read) = read_literal(rt, text)? {
+            assert!(rt; read.spelt.kind.is_same(kind), "{text}");
+            assert_eq!(rt; read.end, end, "{text}");
+            assert_eq!(rt; read.escaped, escaped, "{text}");
+            assert_eq!(rt; read.reported, reported, "{text}");
+        }
+    }
+    Ok(())
+}
+
+/// Templates of line ends alone, and how many LF their values have.
+static LINE_ENDS: [(&str, usize); 8] = [
+    ("`\r`", 1),
+    ("`\r\n`", 1),
+    ("`\r\r`", 2),
+    ("`\n\r`", 2),
+    ("`\r\r\n`", 2),
+    ("`\r\n\r\n`", 2),
+    ("`\n\r\r`", 3),
+    ("`\r\n\r\r\n`", 3),
+];
+
+#[test]
+fn line_ends_of_templates(rt: HostRuntime) -> Result<(), Fail> {
+    for (text, count) in LINE_ENDS {
+        let units = read_units(rt, text)?;
+        assert_eq!(rt;
+            units.map(|value| value.units().len()),
+            Some(count),
+            "{text:?}"
+        );
+    }
+    Ok(())
+}
+
+#[test]
+fn units_of_surrogates(rt: HostRuntime) -> Result<(), Fail> {
+    if let Some(value) = read_units(rt, "\"\\uD83D\\u{DE00}\\x41\"")? {
+        assert_eq!(rt; value.units(), [0xD83D, 0xDE00, 0x41].as_slice());
     }
     Ok(())
 }

@@ -1,8 +1,8 @@
-use Rattle.std.proofs.Common.{arith, subst, ◌<◌, ◌^◌, Some}
+use Rattle.std.proofs.Common.{arith, subst, ◌<◌, ◌^◌, Some, []}
 use Rattle.js_source.specs.Source.{rest}
 use Rattle.js_grammar.specs.UnicodeEscape.{hex_digits}
 use Rattle.js_spell.specs.Escape.{ReadsUnicodeEscape}
-use Rattle.js_spell.proofs.EscapeSteps.{more_hex_digits, hex_value_small, hex_value_fits, hex_digits_read}
+use Rattle.js_spell.proofs.EscapeSteps.{more_digits, digits_value_small, hex_value_fits, hex_digits_read}
 use Rattle.js_spell.proofs.EscapeSteps.{hex_digits_broken}
 use Rattle.js_spell.proofs.unicode_escape.read_hex_digits.Goals as goal
 
@@ -34,7 +34,7 @@ returns-in_err-value-clause-read c =
 pub digits-preserved : goal.digits-preserved
 digits-preserved c = record {
   taken =
-      more_hex_digits c.args.source.now c.digits.source c.take_digit.new.source c.digits.counter c.digits.value
+      more_digits 16 [] c.args.source.now c.digits.source c.take_digit.new.source c.digits.counter c.digits.value
       c.in_ok-value.field-0 c.digits.invariant.taken c.in_ok-value.ensures.digit;
   within = omega (arith, c.digits-test.true);
   placed = c.take_digit.ensures.placed;
@@ -50,4 +50,5 @@ returns-clause-read c =
 pub returns-clause-small : goal.returns-clause-small
 returns-clause-small c =
     subst (λ n. c.digits.value < 16 ^ n) (omega (arith, c.digits-test.false, c.digits.invariant.within))
-    (hex_value_small c.args.source.now c.digits.source c.digits.counter c.digits.value c.digits.invariant.taken)
+    (digits_value_small 16 [] c.args.source.now c.digits.source c.digits.counter c.digits.value
+    c.digits.invariant.taken)

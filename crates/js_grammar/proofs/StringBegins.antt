@@ -1,0 +1,182 @@
+-- What begins a string or a template begins nothing else, and when one is escaped.
+use Rattle.std.proofs.Common.{◌≡◌, ℕ, zero, suc, ◌<◌, Bool, true, false, not, ◌||◌, ◌&&◌, ◌==◌, List, [], ◌∷◌, ◌++◌}
+use Rattle.std.proofs.Common.{length}
+use Rattle.std.proofs.Common.{refl, sym, ◌∙◌, ap, arith, subst, Option, Some, None, inl, inr}
+use Rattle.std.specs.List.{list_all, list_any}
+use Rattle.std.proofs.lemmas.Bool.{eqb-true}
+use Rattle.std.proofs.lemmas.List.Folds.{list_any-append}
+use Rattle.unicode_ident.proofs.Computing.{unicode_ident}
+use Rattle.js_text.specs.Ascii.{quotation_mark, apostrophe, grave_accent, backslash, carriage_return, line_feed}
+use Rattle.js_text.specs.Characters.{begins, is_identifier_start}
+use Rattle.js_text.specs.declared.source_type.SourceType.{SourceType}
+use Rattle.js_kind.specs.Digits.{is_digit_of}
+use Rattle.js_grammar.specs.Number.{begins_number}
+use Rattle.js_grammar.specs.Punctuators.{punctuators, NoPunctuator}
+use Rattle.js_grammar.specs.StringItems.{StringItem, is_quote, ends_string, plain_item, escape, string_item}
+use Rattle.js_grammar.specs.StringItems.{items_up_to}
+use Rattle.js_grammar.specs.StringItems.{string_items, string_text, contains_escape}
+use Rattle.js_grammar.specs.Template.{template_item, template_items, ends_part, carriage_return_item}
+use Rattle.js_grammar.proofs.EscapeCases.{Heads, IsEscape, escape_is_one}
+use Rattle.js_grammar.proofs.NumberItems.{true_or_false}
+use Rattle.js_grammar.proofs.PunctuatorLeaves.{none}
+use Rattle.js_grammar.proofs.StringSteps.{none_or_some, some_is, string_plain, string_ends, template_plain}
+use Rattle.js_grammar.proofs.StringSteps.{template_ends}
+use Rattle.js_grammar.proofs.StringSteps.{carriage_return_two, carriage_return_one}
+
+-- the marks that begin strings and templates
+abbrev pub begins_literal : ℕ → Bool
+begins_literal c = is_quote c || (c == grave_accent)
+
+-- one of the three
+one_of_three : (P : ℕ → Type 0) → P quotation_mark → P apostrophe → P grave_accent → (c : ℕ)
+    → begins_literal c ≡ true → P c
+one_of_three P double single grave c e =
+    elim (true_or_false (c == quotation_mark)) [
+      | inl is ↦ subst P (sym (eqb-true c quotation_mark is)) double
+      | inr other ↦
+          elim (true_or_false (c == apostrophe)) [
+            | inl is ↦ subst P (sym (eqb-true c apostrophe is)) single
+            | inr third ↦ subst P (sym (eqb-true c grave_accent (rw (other, third) at e))) grave
+          ]
+    ]
+
+pub literal_begins_no_name : (c : ℕ) → begins_literal c ≡ true → is_identifier_start c ≡ false
+unfolding is_identifier_start unicode_ident
+literal_begins_no_name c e = one_of_three (λ d. is_identifier_start d ≡ false) refl refl refl c e
+
+pub literal_begins_no_number : (c : ℕ) (cs : List ℕ) → begins_literal c ≡ true → begins_number (c ∷ cs) ≡ false
+unfolding is_digit_of
+literal_begins_no_number c cs e = one_of_three (λ d. begins_number (d ∷ cs) ≡ false) refl refl refl c e
+
+pub literal_begins_no_punctuator : (t : SourceType) (line_has_ended : Bool) (c : ℕ) (cs : List ℕ)
+    → begins_literal c ≡ true → NoPunctuator t line_has_ended (c ∷ cs)
+literal_begins_no_punctuator t line_has_ended c cs e =
+    one_of_three (λ d. NoPunctuator t line_has_ended (d ∷ cs)) (none t line_has_ended quotation_mark cs refl)
+    (none t line_has_ended apostrophe cs refl) (none t line_has_ended grave_accent cs refl) c e
+
+-- a quote is no backquote
+pub quote_begins_no_template : (c : ℕ) → is_quote c ≡ true → (c == grave_accent) ≡ false
+quote_begins_no_template c e =
+    elim (true_or_false (c == quotation_mark)) [
+      | inl is ↦ ap (λ d. d == grave_accent) (eqb-true c quotation_mark is)
+      | inr other ↦ ap (λ d. d == grave_accent) (eqb-true c apostrophe (rw other at e))
+    ]
+
+-- a text that begins with a character that passes
+passes_first : (p : ℕ → Bool) (b : ℕ) (cs xs ys : List ℕ) → b ∷ cs ≡ xs ++ ys → 0 < length xs → p b ≡ true
+    → list_any p xs ≡ true
+passes_first p b cs [] ys e h is = absurd (omega arith)
+passes_first p b cs (x ∷ xs) ys e h is =
+    ap (λ d. p d || list_any p xs) (sym first) ∙ ap (λ a. a || list_any p xs) is
+  where
+    head_or : ℕ → List ℕ → ℕ
+    head_or d [] = d
+    head_or d (z ∷ zs) = z
+
+    first : b ≡ x
+    first = ap (head_or 0) e
+
+-- the items that a step finds are escaped exactly where a character that passes is in them
+abbrev pub IsEscapedBy : (ℕ → Bool) → (List ℕ → Option StringItem) → Type 0
+IsEscapedBy p step =
+    (text : List ℕ) (item : StringItem) → step text ≡ Some item → item.is_escaped ≡ list_any p item.text
+
+found_as : (P : StringItem → Type 0) (found item : StringItem) (at : Option StringItem) → P found → at ≡ Some found
+    → at ≡ Some item → P item
+found_as P found item at holds e is = subst P (some_is found item (sym e ∙ is)) holds
+
+not_found : {A : Type 0} (at : Option StringItem) (item : StringItem) → at ≡ None → at ≡ Some item → A
+not_found at item e is = absurd (let none : None ≡ Some item = sym e ∙ is in cc)
+
+escape_by : (p : ℕ → Bool) → p backslash ≡ true → (t : Bool) (cs : List ℕ)
+    → (escape t cs).is_escaped ≡ list_any p (escape t cs).text
+escape_by p is t cs =
+    let one = escape_is_one t cs in
+    one.escaped
+    ∙ sym (passes_first p backslash cs (escape t cs).text (escape t cs).rest one.head.here one.head.some is)
+
+-- an escape in a string has a `\`
+abbrev pub is_backslash : ℕ → Bool
+is_backslash c = c == backslash
+
+string_escaped_by : (quote : ℕ) → IsEscapedBy is_backslash (string_item quote)
+string_escaped_by quote [] item e = absurd (cc)
+string_escaped_by quote (c ∷ cs) item e =
+    elim (true_or_false (c == backslash)) [
+      | inl is ↦ (
+          let at : string_item quote (backslash ∷ cs) ≡ Some item =
+          ap (λ d. string_item quote (d ∷ cs)) (sym (eqb-true c backslash is)) ∙ e in
+          found_as (λ i. i.is_escaped ≡ list_any is_backslash i.text) (escape false cs) item _
+          (escape_by is_backslash refl false cs) refl at)
+      | inr other ↦
+          elim (true_or_false (ends_string quote c)) [
+            | inl ends ↦ not_found _ item (string_ends quote c cs other ends) e
+            | inr on ↦
+                found_as (λ i. i.is_escaped ≡ list_any is_backslash i.text) (plain_item c cs) item _
+                (ap (λ b. b || false) (sym other)) (string_plain quote c cs other on) e
+          ]
+    ]
+
+-- what is escaped in a template has a `\` or a CR
+abbrev pub is_backslash_or_return : ℕ → Bool
+is_backslash_or_return c = (c == backslash) || (c == carriage_return)
+
+line_end_by : (cs : List ℕ)
+    → (carriage_return_item cs).is_escaped ≡ list_any is_backslash_or_return (carriage_return_item cs).text
+line_end_by cs =
+    elim (true_or_false (begins (λ d. d == line_feed) cs))
+    [ inl two ↦ rw (carriage_return_two cs two) refl | inr one ↦ rw (carriage_return_one cs one) refl ]
+
+template_escaped_by : IsEscapedBy is_backslash_or_return template_item
+template_escaped_by [] item e = absurd (cc)
+template_escaped_by (c ∷ cs) item e =
+    elim (true_or_false (c == backslash)) [
+      | inl is ↦ (
+          let at : template_item (backslash ∷ cs) ≡ Some item =
+          ap (λ d. template_item (d ∷ cs)) (sym (eqb-true c backslash is)) ∙ e in
+          found_as (λ i. i.is_escaped ≡ list_any is_backslash_or_return i.text) (escape true cs) item _
+          (escape_by is_backslash_or_return refl true cs) refl at)
+      | inr other ↦
+          elim (true_or_false (ends_part (c ∷ cs))) [
+            | inl ends ↦ not_found _ item (template_ends c cs other ends) e
+            | inr on ↦
+                elim (true_or_false (c == carriage_return)) [
+                  | inl is ↦ (
+                      let at : template_item (carriage_return ∷ cs) ≡ Some item =
+                      ap (λ d. template_item (d ∷ cs)) (sym (eqb-true c carriage_return is)) ∙ e in
+                      found_as (λ i. i.is_escaped ≡ list_any is_backslash_or_return i.text)
+                      (carriage_return_item cs) item _ (line_end_by cs) refl at)
+                  | inr cr ↦
+                      found_as (λ i. i.is_escaped ≡ list_any is_backslash_or_return i.text) (plain_item c cs) item _
+                      (sym
+                      (ap (λ b. (b || (c == carriage_return)) || false) other ∙ ap (λ b. b || false) cr))
+                      (template_plain c cs other on cr) e
+                ]
+          ]
+    ]
+
+escaped_by : (p : ℕ → Bool) (step : List ℕ → Option StringItem) → IsEscapedBy p step → (most : ℕ) (text : List ℕ)
+    → contains_escape (items_up_to step most text).items ≡ list_any p (string_text (items_up_to step most text).items)
+escaped_by p step by zero text = refl
+escaped_by p step by (suc most) text =
+    elim (none_or_some (step text)) [
+      | inl e ↦ rw e refl
+      | inr (item, e) ↦ (
+          let more = items_up_to step most item.rest in
+          rw e
+          (ap (λ b. b || contains_escape more.items) (by text item e)
+          ∙ ap (λ b. list_any p item.text || b) (escaped_by p step by most item.rest)
+          ∙ sym (list_any-append p item.text (string_text more.items))))
+    ]
+
+-- A string is escaped exactly where a `\` is in its items.
+pub string_escaped : (quote : ℕ) (text : List ℕ)
+    → contains_escape (string_items quote text).items
+    ≡ list_any is_backslash (string_text (string_items quote text).items)
+string_escaped quote text = escaped_by is_backslash (string_item quote) (string_escaped_by quote) (length text) text
+
+-- A part of a template is escaped exactly where a `\` or a CR is in its items.
+pub template_escaped : (text : List ℕ)
+    → contains_escape (template_items text).items
+    ≡ list_any is_backslash_or_return (string_text (template_items text).items)
+template_escaped text = escaped_by is_backslash_or_return template_item template_escaped_by (length text) text

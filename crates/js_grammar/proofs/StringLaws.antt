@@ -1,0 +1,172 @@
+-- Laws of strings and templates: each is what is read without a fault, and nothing else.
+use Rattle.std.proofs.Common.{◌≡◌, ℕ, zero, suc, ◌+◌, ◌<◌, ◌≤◌, Bool, true, false, not, ◌&&◌, ◌||◌, ◌==◌, List, [], ◌∷◌}
+use Rattle.std.proofs.Common.{◌++◌}
+use Rattle.std.proofs.Common.{length, take, drop, refl, sym, ◌∙◌, ap, arith, Option, Some, None, inl, inr, append_assoc}
+use Rattle.std.proofs.Common.{subst}
+use Rattle.std.specs.Prelude.{codes}
+use Rattle.std.proofs.lemmas.Bool.{eqb-true, eq-eqb}
+use Rattle.js_text.specs.Ascii.{quotation_mark, apostrophe, grave_accent, backslash}
+use Rattle.js_text.specs.Characters.{begins, is_identifier_start}
+use Rattle.js_text.specs.declared.diagnostic.Diagnostic.{Diagnostic}
+use Rattle.js_kind.specs.declared.kind.Kind.{Kind}
+use Rattle.js_kind.specs.declared.kind.Kind.TheVariants.{Str, NoSubstitutionTemplate, TemplateHead}
+use Rattle.js_grammar.specs.Gap.{is_prefix}
+use Rattle.js_grammar.specs.Outcome.{place_behind}
+use Rattle.js_grammar.specs.StringItems.{Fault, StringItem, StringItems, items_up_to, all_items, string_text}
+use Rattle.js_grammar.specs.StringItems.{string_units}
+use Rattle.js_grammar.specs.StringItems.{contains_escape, is_good, are_good, fault_reports, item_reports, StringRead}
+use Rattle.js_grammar.specs.StringItems.{string_items, string_item, string_read, string_of_items, is_quote, IsString}
+use Rattle.js_grammar.specs.StringItems.{terminated_string, unterminated}
+use Rattle.js_grammar.specs.StringItems.Fault.{no_fault, bad_escape, unfinished_escape}
+use Rattle.js_grammar.specs.StringItems.StringValue.{units}
+use Rattle.js_grammar.specs.Template.{template_items, template_item, template_value, template_part_read, IsPart}
+use Rattle.js_grammar.specs.Template.{IsTemplatePart, part_of_items}
+use Rattle.js_grammar.specs.Template.IsTemplatePart.{no_substitution, head}
+use Rattle.js_grammar.proofs.EscapeCases.{first_is}
+use Rattle.js_grammar.proofs.NumberItems.{true_or_false}
+use Rattle.js_grammar.proofs.StringSteps.{FindsHeads, none_or_some, good_ones, string_item_heads, template_item_heads}
+use Rattle.js_grammar.proofs.StringSteps.{string_terminated, string_unterminated, part_with_tail}
+use Rattle.js_grammar.proofs.StringSteps.{part_with_substitution}
+use Rattle.js_grammar.proofs.StringSteps.{part_unterminated}
+use Rattle.js_grammar.proofs.Tests.{and_true}
+
+-- a text is its items and what is left behind them
+items_and_rest : (step : List ℕ → Option StringItem) → FindsHeads step → (most : ℕ) (text : List ℕ)
+    → string_text (items_up_to step most text).items ++ (items_up_to step most text).rest ≡ text
+items_and_rest step heads zero text = refl
+items_and_rest step heads (suc most) text =
+    elim (none_or_some (step text)) [
+      | inl e ↦ rw e refl
+      | inr (item, e) ↦ (
+          let more = items_up_to step most item.rest in
+          rw e
+          (append_assoc item.text (string_text more.items) more.rest
+          ∙ ap (λ cs. item.text ++ cs) (items_and_rest step heads most item.rest)
+          ∙ sym (heads text item e).here))
+    ]
+
+pub string_cut : (quote : ℕ) (text : List ℕ)
+    → string_text (string_items quote text).items ++ (string_items quote text).rest ≡ text
+string_cut quote text = items_and_rest (string_item quote) (string_item_heads quote) (length text) text
+
+pub template_cut : (text : List ℕ)
+    → string_text (template_items text).items ++ (template_items text).rest ≡ text
+template_cut text = items_and_rest template_item template_item_heads (length text) text
+
+-- items of which nothing is reported are good in a string
+pub clean_ones : (start place : ℕ) (items : List StringItem) → item_reports false start place items ≡ []
+    → are_good items ≡ true
+clean_ones start place [] e = refl
+clean_ones start place (x ∷ xs) e =
+    one x.fault (λ n. clean_ones start (place_behind place x.text) xs n) (place_behind place x.text) e
+  where
+    one : (fault : Fault) {ds : List Diagnostic} → (ds ≡ [] → are_good xs ≡ true) → (end : ℕ)
+        → fault_reports false start place end fault ++ ds ≡ []
+        → (is_good fault && are_good xs) ≡ true
+    one no_fault more end e = more e
+    one bad_escape more end e = absurd (cc)
+    one unfinished_escape more end e = absurd (cc)
+
+-- what is read of a good string, with its items and what follows it
+abbrev pub good_string : List StringItem → List ℕ → StringRead
+good_string items ys = record {
+  kind = Str;
+  rest = ys;
+  escaped = contains_escape items;
+  value = units (string_units items);
+  diagnostics = [];
+}
+
+-- A string is read as such.
+pub string_is_read : (start : ℕ) (xs ys : List ℕ) (string : IsString xs ys)
+    → string_read string.quote start (string_text string.items ++ (string.quote ∷ ys)) ≡ good_string string.items ys
+string_is_read start xs ys string =
+    ap (string_of_items string.quote start) string.found
+    ∙ string_terminated string.quote start (record { items = string.items; rest = string.quote ∷ ys })
+    (eq-eqb string.quote string.quote refl)
+    ∙ ap (λ ds. record (good_string string.items ys) { diagnostics = ds })
+    (good_ones false start (start + 1) string.items string.good)
+
+pub string_here : (xs ys : List ℕ) (string : IsString xs ys)
+    → xs ++ ys ≡ string.quote ∷ (string_text string.items ++ (string.quote ∷ ys))
+string_here xs ys string =
+    ap (λ cs. cs ++ ys) string.here
+    ∙ ap (λ cs. string.quote ∷ cs) (append_assoc (string_text string.items) (string.quote ∷ []) ys)
+
+pub not_empty : {A : Type 0} (ds : List Diagnostic) (d : Diagnostic) → ds ++ (d ∷ []) ≡ [] → A
+not_empty [] d e = absurd (cc)
+not_empty (x ∷ xs) d e = absurd (cc)
+
+-- xs is a string that the text begins with, and ys follow it
+pub record BeginsWithString (text xs ys : List ℕ) : Type 0 where
+  pub here : text ≡ xs ++ ys
+  pub string : IsString xs ys
+
+-- What is read without a fault is a string.
+pub clean_is_string : (quote start : ℕ) (text : List ℕ) → is_quote quote ≡ true
+    → (string_read quote start text).diagnostics ≡ []
+    → (xs : List ℕ) × BeginsWithString (quote ∷ text) xs (string_read quote start text).rest
+clean_is_string quote start text is clean =
+    let found = string_items quote text in
+    elim (true_or_false (begins (λ c. c == quote) found.rest)) [
+      | inr none ↦ (
+          let read = string_unterminated quote start found none in
+          not_empty (item_reports false start (start + 1) found.items) _
+          (ap (λ (r : StringRead). r.diagnostics) (sym read) ∙ clean))
+      | inl closed ↦ (
+          let read = string_terminated quote start found closed in
+          let left = first_is quote found.rest closed in
+          let ys = drop 1 found.rest in
+          let xs = quote ∷ (string_text found.items ++ (quote ∷ [])) in
+          let whole : text ≡ string_text found.items ++ (quote ∷ ys) =
+          sym (string_cut quote text) ∙ ap (λ cs. string_text found.items ++ cs) left in
+          let again : string_items quote (string_text found.items ++ (quote ∷ ys))
+          ≡ record { items = found.items; rest = quote ∷ ys } =
+          ap (string_items quote) (sym whole) ∙ ap (λ cs. record { items = found.items; rest = cs }) left in
+          let good = clean_ones start (start + 1) found.items
+          (ap (λ (r : StringRead). r.diagnostics) (sym read) ∙ clean) in
+          let rest_is : (string_read quote start text).rest ≡ ys = ap (λ (r : StringRead). r.rest) read in (
+            xs,
+            subst (λ left. BeginsWithString (quote ∷ text) xs left) (sym rest_is)
+                (record {
+                  here =
+                      ap (λ cs. quote ∷ cs) (whole ∙ sym (append_assoc (string_text found.items) (quote ∷ []) ys));
+                  string =
+                      record {
+                        quote = quote;
+                        is_quote = is;
+                        items = found.items;
+                        here = refl;
+                        found = again;
+                        good = good;
+                      };
+                }),
+          ))
+    ]
+
+-- A text begins with one string at most.
+pub one_string : (text xs ys us vs : List ℕ) → BeginsWithString text xs ys → BeginsWithString text us vs
+    → (xs ≡ us) × (ys ≡ vs)
+one_string text xs ys us vs a b =
+    let same = sym (string_here xs ys a.string) ∙ sym a.here ∙ b.here ∙ string_here us vs b.string in
+    let quotes : a.string.quote ≡ b.string.quote = ap first same in
+    let behind = ap (drop 1) same in
+    let found = sym a.string.found ∙ ap (string_items a.string.quote) behind
+    ∙ ap (λ q. string_items q (string_text b.string.items ++ (b.string.quote ∷ vs))) quotes ∙ b.string.found in
+    let items : a.string.items ≡ b.string.items = ap (λ (i : StringItems). i.items) found in
+    let left : ys ≡ vs = ap (λ (i : StringItems). drop 1 i.rest) found in (
+      a.string.here ∙ ap (λ q. q ∷ (string_text a.string.items ++ (q ∷ []))) quotes
+          ∙ ap (λ its. b.string.quote ∷ (string_text its ++ (b.string.quote ∷ []))) items ∙ sym b.string.here,
+      left,
+    )
+  where
+    first : List ℕ → ℕ
+    first [] = 0
+    first (c ∷ cs) = c
+
+-- a string begins with a quote, and has two characters at least
+pub string_begins : (xs ys : List ℕ) → IsString xs ys → begins is_quote xs ≡ true
+string_begins xs ys string = ap (begins is_quote) string.here ∙ string.is_quote
+
+pub string_has_characters : (xs ys : List ℕ) → IsString xs ys → 0 < length xs
+string_has_characters xs ys string = omega (arith, ap length string.here)

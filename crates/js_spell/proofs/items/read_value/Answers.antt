@@ -1,0 +1,45 @@
+use Rattle.std.proofs.Common.{arith, sym, ◌∙◌}
+use Rattle.js_source.specs.Source.{rest}
+use Rattle.js_spell.proofs.ItemSteps.{plain_value_read, passes_onward, mark_end, mark_not_end, match_option}
+use Rattle.js_spell.proofs.items.read_value.Goals as goal
+
+pub returns-then-is_end-clause-ok : goal.returns-then-is_end-clause-ok
+returns-then-is_end-clause-ok c =
+    let new = c.pass_characters-next.new.source in
+    let mark = c.find_mark.ensures (rest new)
+    (match_option c.pass_characters-next.result _ _ c.pass_characters-next.ensures.none
+    c.pass_characters-next.ensures.some) in
+    plain_value_read c.args.literal c.args.token.now.start c.args.source.now new c.args.errors.now
+    c.pass_characters-next.ensures.passes c.pass_characters-next.ensures.all
+    (mark_end c.args.literal c.find_mark.result (rest new) mark (sym c.if-is_end.ensures))
+
+pub returns-then-is_end-clause-onward : goal.returns-then-is_end-clause-onward
+returns-then-is_end-clause-onward c =
+    passes_onward c.args.literal c.args.source.now c.pass_characters-next.new.source c.requires.placed
+    c.pass_characters-next.ensures.placed c.pass_characters-next.ensures.passes
+
+pub read_decoded-requires-clause-ordered : goal.read_decoded-requires-clause-ordered
+read_decoded-requires-clause-ordered c =
+    omega (
+      arith,
+      c.position-from.ensures.place,
+      passes_onward c.args.literal c.args.source.now c.pass_characters-next.new.source c.requires.placed
+          c.pass_characters-next.ensures.placed c.pass_characters-next.ensures.passes,
+    )
+
+pub read_decoded-requires-clause-escaped : goal.read_decoded-requires-clause-escaped
+read_decoded-requires-clause-escaped c =
+    let new = c.pass_characters-next.new.source in
+    let mark = c.find_mark.ensures (rest new)
+    (match_option c.pass_characters-next.result _ _ c.pass_characters-next.ensures.none
+    c.pass_characters-next.ensures.some) in
+    mark_not_end c.args.literal c.find_mark.result (rest new) mark (sym c.if-is_end.ensures)
+
+pub returns-clause-onward : goal.returns-clause-onward
+returns-clause-onward c =
+    omega (
+      arith,
+      c.read_decoded.ensures.onward,
+      passes_onward c.args.literal c.args.source.now c.pass_characters-next.new.source c.requires.placed
+          c.pass_characters-next.ensures.placed c.pass_characters-next.ensures.passes,
+    )

@@ -1,0 +1,13 @@
+use Rattle.std.proofs.Common.{refl}
+use Rattle.js_spell.specs.declared.plain.Literal.TheVariants.{DoubleQuoted, SingleQuoted, Template}
+use Rattle.js_spell.proofs.PlainSteps.{tells_plain}
+use Rattle.js_spell.proofs.plain.table_of.Goals as goal
+
+pub returns-in-DoubleQuoted : goal.returns-in-DoubleQuoted
+returns-in-DoubleQuoted c = rw c.in-DoubleQuoted.is (tells_plain DoubleQuoted _ refl refl)
+
+pub returns-in-SingleQuoted : goal.returns-in-SingleQuoted
+returns-in-SingleQuoted c = rw c.in-SingleQuoted.is (tells_plain SingleQuoted _ refl refl)
+
+pub returns-in-Template : goal.returns-in-Template
+returns-in-Template c = rw c.in-Template.is (tells_plain Template _ refl refl)

@@ -1,0 +1,56 @@
+use Rattle.std.proofs.Common.{arith, subst, true, false, ℕ}
+use Rattle.js_spell.specs.Strings.{EndsString}
+use Rattle.js_spell.proofs.SpellSteps.{place_of_items, string_closed, string_open}
+use Rattle.js_spell.proofs.string.read_string.Goals as goal
+
+pub read_value-requires-clause-start : goal.read_value-requires-clause-start
+read_value-requires-clause-start c =
+    omega (
+      arith,
+      place_of_items c.args.token.now.start c.args.source.now c.take_quote-literal.new.source
+          c.take_quote-literal.result
+          c.requires.placed c.take_quote-literal.ensures.placed c.requires.start c.take_quote-literal.ensures.quote,
+    )
+
+pub end_string-requires-clause-start : goal.end_string-requires-clause-start
+end_string-requires-clause-start c =
+    omega (
+      arith,
+      c.start.ensures,
+      c.read_value.ensures.onward,
+      place_of_items c.args.token.now.start c.args.source.now c.take_quote-literal.new.source
+          c.take_quote-literal.result
+          c.requires.placed c.take_quote-literal.ensures.placed c.requires.start c.take_quote-literal.ensures.quote,
+    )
+
+pub returns-then-is_closed-clause-ok : goal.returns-then-is_closed-clause-ok
+returns-then-is_closed-clause-ok c =
+    let here = c.read_value.new.source in
+    let new = c.end_string.new.source in
+    let between = c.read_value.new.errors in
+    let after = c.end_string.new.errors in
+    let ends : EndsString c.quote_of.result c.args.token.now.start here new between after true =
+    subst (λ b. EndsString c.quote_of.result c.args.token.now.start here new between after b) c.if-is_closed.true
+    (subst (λ s. EndsString c.quote_of.result s here new between after c.in_ok-is_closed.is_closed) c.start.ensures
+    c.in_ok-is_closed.ensures.ok) in
+    string_closed c.args.token.now.start c.args.source.now c.take_quote-literal.new.source here new c.args.errors.now
+    between after c.args.token.now c.spell.new.token c.spell.result c.take_quote-literal.result c.in_ok-value.value
+    c.quote_of.result c.requires.placed c.take_quote-literal.ensures.placed c.requires.start
+    c.take_quote-literal.ensures.quote c.in_ok-value.ensures.ok c.quote_of.ensures ends c.spell.ensures.flags
+    c.spell.ensures.parts
+
+pub returns-clause-ok : goal.returns-clause-ok
+returns-clause-ok c =
+    let here = c.read_value.new.source in
+    let new = c.end_string.new.source in
+    let between = c.read_value.new.errors in
+    let after = c.end_string.new.errors in
+    let ends : EndsString c.quote_of.result c.args.token.now.start here new between after false =
+    subst (λ b. EndsString c.quote_of.result c.args.token.now.start here new between after b) c.if-is_closed.false
+    (subst (λ s. EndsString c.quote_of.result s here new between after c.in_ok-is_closed.is_closed) c.start.ensures
+    c.in_ok-is_closed.ensures.ok) in
+    string_open c.args.token.now.start c.args.source.now c.take_quote-literal.new.source here new c.args.errors.now
+    between after c.args.token.now c.spell-2.new.token c.spell-2.result c.take_quote-literal.result c.in_ok-value.value
+    c.quote_of.result c.requires.placed c.take_quote-literal.ensures.placed c.end_string.ensures.placed c.requires.start
+    c.take_quote-literal.ensures.quote c.in_ok-value.ensures.ok c.quote_of.ensures ends c.spell-2.ensures.flags
+    c.spell-2.ensures.parts

@@ -1,0 +1,92 @@
+//! Reading strings (ECMA-262 12.9.4).
+
+ghost use Rattle.std.specs.Prelude.{◌≡◌, ◌<◌, ◌≤◌, true, IfOk, OnErr};
+ghost use Rattle.js_text.specs.Ascii.{quotation_mark};
+ghost use Rattle.js_text.specs.Characters.{begins};
+ghost use Rattle.js_grammar.specs.StringItems.{is_quote};
+ghost use Rattle.js_source.specs.Source.{rest, IsPlaced, Reads};
+ghost use Rattle.js_spell.specs.Numeric.{BreaksOff};
+ghost use Rattle.js_spell.specs.Strings.{quote_of, TakesQuote, EndsString, SpellsString};
+
+use crate::escape::report_unterminated;
+use crate::items::read_value;
+use crate::plain::Literal;
+use crate::spelt::{Spelt, SpeltValue, spell};
+use js_kind::{Kind, Token};
+use js_source::Source;
+use js_text::DiagnosticList;
+use std::alloc::{AllocError, Global};
+
+/// Takes the quote that is next.
+fn take_quote(source: &mut Source<'_>) -> Literal
+    requires placed { IsPlaced source.old }
+    requires quote { begins is_quote (rest source.old) ≡ true }
+    ensures quote { TakesQuote source.old source.new result }
+    ensures placed { IsPlaced source.new }
+{
+    if source.advance_if_ascii_eq(b'"') {
+        return Literal::DoubleQuoted;
+    }
+    source.next_char();
+    Literal::SingleQuoted
+}
+
+/// The byte of a quote.
+fn quote_of(literal: Literal) -> u8
+    ensures { result ≡ quote_of literal }
+{
+    match literal {
+        Literal::DoubleQuoted => b'"',
+        Literal::SingleQuoted => b'\'',
+        Literal::Template => b'`',
+    }
+}
+
+/// Takes the quote that ends a string, or reports that it is missing, and takes what stands there; and tells which.
+fn end_string(
+    source: &mut Source<'_>,
+    quote: u8,
+    errors: &mut DiagnosticList,
+    start: u32,
+) -> Result<bool, AllocError>
+    requires ascii { quote < 128 }
+    requires placed { IsPlaced source.old }
+    requires start { start ≤ source.old.place }
+    ensures ok { IfOk result (EndsString quote start source.old source.new errors.old errors.new) }
+    ensures err { OnErr result (BreaksOff source.old source.new errors.old errors.new) }
+    ensures placed { IsPlaced source.new }
+{
+    if source.advance_if_ascii_eq(quote) {
+        return Ok(true);
+    }
+    source.next_char();
+    report_unterminated(source, errors, start)?;
+    Ok(false)
+}
+
+/// Reads the string that is next, good or at fault: what is to be reported is added to the list, and the flags of the
+/// token are set. Its start is where the string begins. A string without an escape asks for no memory but for what is
+/// reported.
+pub fn read_string(
+    alloc: Global,
+    source: &mut Source<'_>,
+    errors: &mut DiagnosticList,
+    token: &mut Token,
+) -> Result<Spelt, AllocError>
+    requires placed { IsPlaced source.old }
+    requires quote { begins is_quote (rest source.old) ≡ true }
+    requires start { token.old.start ≡ source.old.place }
+    ensures ok { IfOk result (SpellsString token.old.start
+        source.old source.new errors.old errors.new token.old token.new) }
+    ensures err { OnErr result (BreaksOff source.old source.new errors.old errors.new) }
+    ensures token { OnErr result (token.new ≡ token.old) }
+    ensures placed { IsPlaced source.new }
+{
+    let literal = take_quote(source);
+    let value = read_value(alloc, source, literal, errors, token)?;
+    let is_closed = end_string(source, quote_of(literal), errors, token.start())?;
+    if is_closed {
+        return Ok(spell(token, Kind::Str, value));
+    }
+    Ok(spell(token, Kind::Undetermined, SpeltValue::Plain))
+}

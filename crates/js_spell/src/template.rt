@@ -1,0 +1,79 @@
+//! Reading the parts of templates (ECMA-262 12.9.6).
+
+ghost use Rattle.std.specs.Prelude.{◌≡◌, ◌+◌, ◌≤◌, ◌==◌, true, false, IfOk, OnErr};
+ghost use Rattle.js_source.specs.Source.{rest, IsPlaced};
+ghost use Rattle.js_grammar.specs.Template.{template_part_read};
+ghost use Rattle.js_spell.specs.Numeric.{BreaksOff};
+ghost use Rattle.js_spell.specs.Strings.{EndsPart, Spells};
+
+use crate::escape::report_unterminated;
+use crate::items::read_value;
+use crate::plain::{Literal, begins_substitution};
+use crate::spelt::{Spelt, SpeltValue, spell};
+use js_kind::{Kind, Token};
+use js_source::Source;
+use js_text::DiagnosticList;
+use std::alloc::{AllocError, Global};
+
+/// What ends a part of a template.
+#[derive(Clone, Copy, Debug)]
+enum PartEnd {
+    /// A backquote.
+    Tail,
+    /// A `${`.
+    Substitution,
+    /// The end of the source.
+    Missing,
+}
+
+/// Takes the mark that ends a part, or reports that it is missing; and tells which.
+fn end_part(
+    source: &mut Source<'_>,
+    errors: &mut DiagnosticList,
+    start: u32,
+) -> Result<PartEnd, AllocError>
+    requires placed { IsPlaced source.old }
+    requires start { start ≤ source.old.place }
+    ensures ok { IfOk result (EndsPart start source.old source.new errors.old errors.new) }
+    ensures err { OnErr result (BreaksOff source.old source.new errors.old errors.new) }
+    ensures placed { IsPlaced source.new }
+{
+    if source.advance_if_ascii_eq(b'`') {
+        return Ok(PartEnd::Tail);
+    }
+    if begins_substitution(source) {
+        source.next_2_chars();
+        return Ok(PartEnd::Substitution);
+    }
+    source.next_char();
+    report_unterminated(source, errors, start)?;
+    Ok(PartEnd::Missing)
+}
+
+/// Reads a part of a template behind the backquote or the `}` that begins it, good or at fault: what is to be reported
+/// is added to the list, and the flags of the token are set. Its start is where that mark stands. The kind is
+/// `substitute` where a `${` ends the part, and `tail` where a backquote does. A part without an escape and without a
+/// CR asks for no memory but for what is reported.
+pub fn read_template_part(
+    alloc: Global,
+    source: &mut Source<'_>,
+    errors: &mut DiagnosticList,
+    token: &mut Token,
+    substitute: Kind,
+    tail: Kind,
+) -> Result<Spelt, AllocError>
+    requires placed { IsPlaced source.old }
+    requires start { token.old.start + 1 ≡ source.old.place }
+    ensures ok { IfOk result (Spells (template_part_read substitute tail token.old.start (rest source.old))
+        source.old source.new errors.old errors.new token.old token.new) }
+    ensures err { OnErr result (BreaksOff source.old source.new errors.old errors.new) }
+    ensures token { OnErr result (token.new ≡ token.old) }
+    ensures placed { IsPlaced source.new }
+{
+    let value = read_value(alloc, source, Literal::Template, errors, token)?;
+    match end_part(source, errors, token.start())? {
+        PartEnd::Tail => Ok(spell(token, tail, value)),
+        PartEnd::Substitution => Ok(spell(token, substitute, value)),
+        PartEnd::Missing => Ok(spell(token, Kind::Undetermined, SpeltValue::Plain)),
+    }
+}
