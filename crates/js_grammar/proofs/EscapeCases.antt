@@ -1,26 +1,25 @@
 -- What an escape is, case by case, and that it is a stretch of its text.
-use Rattle.std.proofs.Common.{◌≡◌, ℕ, zero, suc, ◌+◌, ◌*◌, ◌<◌, ◌≤◌, Bool, true, false, not, ◌&&◌, ◌||◌, ◌==◌, List, []}
+use Rattle.std.proofs.Common.{◌≡◌, ℕ, zero, suc, ◌+◌, ◌*◌, ◌<◌, Bool, true, false, not, ◌&&◌, ◌==◌, List, []}
 use Rattle.std.proofs.Common.{◌∷◌, ◌++◌}
-use Rattle.std.proofs.Common.{length, take, drop, refl, sym, ◌∙◌, ap, arith, Option, Some, None, inl, inr, cond}
+use Rattle.std.proofs.Common.{length, take, drop, refl, sym, ◌∙◌, ap, arith, Option, Some, None, inl, inr}
 use Rattle.std.proofs.Common.{append_assoc}
 use Rattle.std.specs.Prelude.{codes, nat_lt, nat_le}
 use Rattle.std.specs.Char.{digit_value}
 use Rattle.std.specs.Char.Escape.{encode_utf16}
 use Rattle.std.specs.Str.Parse.{digits_value}
 use Rattle.std.proofs.lemmas.Bool.{eqb-true}
-use Rattle.std.proofs.lemmas.Bool.Decides.{nat_tests}
 use Rattle.js_text.specs.Ascii.{line_feed, carriage_return, backslash}
 use Rattle.js_text.specs.Characters.{begins, before_first, is_line_terminator}
 use Rattle.js_kind.specs.Digits.{is_digit_of}
-use Rattle.js_grammar.specs.UnicodeEscape.{UnicodeEscape, hex_digits, four_digits, braced_digits, unicode_escape}
+use Rattle.js_grammar.specs.UnicodeEscape.{UnicodeEscape, hex_digits, braced_digits, unicode_escape}
 use Rattle.js_grammar.specs.UnicodeEscape.{digits_of_code_point, is_no_hex_digit, last_code_point, left_curly_bracket}
 use Rattle.js_grammar.specs.UnicodeEscape.{right_curly_bracket}
-use Rattle.js_grammar.specs.StringItems.{Fault, StringItem, good_escape, faulty_escape, line_continuation, escape_of}
+use Rattle.js_grammar.specs.StringItems.{StringItem, good_escape, faulty_escape, line_continuation, escape_of}
 use Rattle.js_grammar.specs.StringItems.{digits_escape, octal_digits, octal_escape, digit_in_template, digit_escape}
 use Rattle.js_grammar.specs.StringItems.{character_escape, escape, latin_small_letter_x}
 use Rattle.js_grammar.specs.Number.{digit_zero}
 use Rattle.js_grammar.specs.StringItems.{latin_small_letter_u, further_octal_digits, single_character}
-use Rattle.js_grammar.specs.StringItems.Fault.{no_fault, bad_escape, unfinished_escape}
+use Rattle.js_grammar.specs.StringItems.Fault.{bad_escape, unfinished_escape}
 use Rattle.js_grammar.proofs.NumberItems.{true_or_false}
 use Rattle.js_grammar.proofs.Tests.{and_true}
 use Rattle.js_grammar.proofs.UnicodeEscapes.{without_brace, behind_brace}

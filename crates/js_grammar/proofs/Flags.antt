@@ -1,12 +1,11 @@
 -- Tokens that are no names have no value and no escape; punctuators and the end of a source have no flag.
 use Rattle.std.proofs.Common.{◌≡◌, ℕ, Bool, true, false, not, ◌&&◌, ◌||◌, List, refl, ◌∙◌, ap}
 use Rattle.std.specs.List.{list_all}
-use Rattle.js_text.specs.declared.source_type.SourceType.{SourceType}
 use Rattle.js_text.specs.declared.value.RowValue.TheVariants.{Nothing}
 use Rattle.js_kind.specs.Kinds.{is_identifier_name, is_number_kind}
 use Rattle.js_kind.specs.declared.kind.Kind.{Kind}
 use Rattle.js_kind.specs.declared.kind.Kind.TheVariants.{Eof}
-use Rattle.js_grammar.specs.Punctuators.{Punctuator, punctuators, IsIn, LongestPunctuator}
+use Rattle.js_grammar.specs.Punctuators.{Punctuator, punctuators, IsIn}
 use Rattle.js_grammar.specs.Spelling.{is_named, is_private_name, value_of}
 use Rattle.js_grammar.specs.Values.{plain_value}
 use Rattle.js_grammar.proofs.PunctuatorLemmas.{passes_at}

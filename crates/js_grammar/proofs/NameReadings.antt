@@ -1,12 +1,12 @@
 -- What is read where a name or a private name begins: it is the longest spelling, or nothing is spelled.
-use Rattle.std.proofs.Common.{◌≡◌, ◌≢◌, ℕ, ◌+◌, ◌≤◌, Bool, true, false, List, [], ◌∷◌, ◌++◌, ◌==◌, ◌&&◌, drop, length}
+use Rattle.std.proofs.Common.{◌≡◌, ◌≢◌, ℕ, ◌+◌, ◌≤◌, Bool, true, false, List, [], ◌∷◌, ◌++◌, ◌==◌, length}
 use Rattle.std.proofs.Common.{refl, sym, ◌∙◌, ap, subst, arith, inl, inr, Some}
 use Rattle.std.specs.Prelude.{codes}
 use Rattle.std.proofs.lemmas.Bool.{eqb-true}
 use Rattle.unicode_ident.proofs.Computing.{unicode_ident}
 use Rattle.std.specs.Str.{encode_utf8_all}
 use Rattle.js_text.specs.Ascii.{number_sign}
-use Rattle.js_text.specs.Characters.{begins, is_identifier_start}
+use Rattle.js_text.specs.Characters.{is_identifier_start}
 use Rattle.js_text.specs.declared.diagnostic.Diagnostic.{Diagnostic}
 use Rattle.js_text.specs.declared.source_type.SourceType.{SourceType}
 use Rattle.js_kind.specs.Keywords.{name_kind}
@@ -17,10 +17,10 @@ use Rattle.js_kind.proofs.NameKinds.{name_kind-is_identifier_name, identifier_na
 use Rattle.js_grammar.specs.Gap.{is_prefix}
 use Rattle.js_grammar.specs.Goals.{ReadsHere, spelled_reading}
 use Rattle.js_grammar.specs.Goals.ReadsHere.{spelled, recovers}
-use Rattle.js_grammar.specs.Name.{IsName, NameRead, name_read, PrivateRead, private_read, named, begins_name}
-use Rattle.js_grammar.specs.Name.{continues_name, decoded, has_escape}
+use Rattle.js_grammar.specs.Name.{NameRead, name_read, PrivateRead, private_read, named, begins_name}
+use Rattle.js_grammar.specs.Name.{decoded, has_escape}
 use Rattle.js_grammar.specs.Recovery.{Reading, name_reading, private_reading, recovered}
-use Rattle.js_grammar.specs.Spelling.{LongestSpelling, NothingSpelled, Spelling, is_escaped, is_private_name}
+use Rattle.js_grammar.specs.Spelling.{LongestSpelling, NothingSpelled, Spelling, is_private_name}
 use Rattle.js_grammar.specs.Spelling.Spelling.{name, private_name}
 use Rattle.js_grammar.proofs.NameLaws.{BeginsWithName, good_name, name_is_read, clean_is_name, one_name}
 use Rattle.js_grammar.proofs.NumberItems.{true_or_false}

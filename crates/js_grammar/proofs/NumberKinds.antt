@@ -1,5 +1,5 @@
 -- The kinds of numbers.
-use Rattle.std.proofs.Common.{◌≡◌, ℕ, false, true, List, refl, ◌∙◌, ap, inl, inr, ◌==◌, ◌||◌, Option, Some, None}
+use Rattle.std.proofs.Common.{◌≡◌, ℕ, false, true, List, refl, inl, inr, ◌==◌, ◌||◌, Some, None}
 use Rattle.std.proofs.Common.{subst}
 use Rattle.js_kind.specs.Kinds.{is_identifier_name, is_number_kind}
 use Rattle.js_grammar.specs.Spelling.{is_named, is_private_name}

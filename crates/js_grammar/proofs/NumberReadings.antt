@@ -1,5 +1,5 @@
 -- What is read where a number begins: it is the longest spelling, or nothing is spelled.
-use Rattle.std.proofs.Common.{◌≡◌, ◌≢◌, ℕ, ◌≤◌, Bool, true, false, not, List, [], ◌∷◌, ◌++◌, ◌==◌, length, refl, sym}
+use Rattle.std.proofs.Common.{◌≡◌, ◌≢◌, ℕ, ◌≤◌, Bool, true, false, List, [], ◌∷◌, ◌++◌, ◌==◌, length, refl, sym}
 use Rattle.std.proofs.Common.{◌∙◌, ap, subst, inl, inr, arith, Some}
 use Rattle.std.specs.Prelude.{codes}
 use Rattle.std.proofs.lemmas.Bool.{eqb-true}
@@ -9,12 +9,11 @@ use Rattle.js_text.specs.Characters.{begins}
 use Rattle.js_text.specs.declared.diagnostic.Diagnostic.{Diagnostic}
 use Rattle.js_text.specs.declared.source_type.SourceType.{SourceType}
 use Rattle.js_kind.specs.Digits.{is_digit_of}
-use Rattle.js_kind.specs.Kinds.{is_identifier_name, is_number_kind}
 use Rattle.js_kind.specs.declared.kind.Kind.{Kind}
 use Rattle.js_grammar.specs.Gap.{is_prefix}
 use Rattle.js_grammar.specs.Goals.{ReadsHere}
 use Rattle.js_grammar.specs.Goals.ReadsHere.{spelled, recovers}
-use Rattle.js_grammar.specs.Number.{IsNumber, begins_number, excluded_after}
+use Rattle.js_grammar.specs.Number.{begins_number}
 use Rattle.js_grammar.specs.NumberReads.{number_read}
 use Rattle.js_grammar.specs.Recovery.{number_reading, recovered}
 use Rattle.js_grammar.specs.Spelling.{Spelling, LongestSpelling, NothingSpelled}

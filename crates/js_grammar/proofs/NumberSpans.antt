@@ -1,10 +1,9 @@
 -- How far a number reaches, good or at fault, and that it is of no kind of names.
 use Rattle.std.proofs.Common.{◌≡◌, ◌≢◌, ℕ, true, false, List, [], ◌∷◌, ◌++◌, length, drop, refl, sym, ◌∙◌, ap, subst}
 use Rattle.std.proofs.Common.{inl}
-use Rattle.std.proofs.Common.{inr, ◌==◌, ◌||◌, ◌⊎◌, Option, Some, None, append_assoc, arith}
+use Rattle.std.proofs.Common.{inr, ◌==◌, ◌⊎◌, Option, Some, None, append_assoc, arith}
 use Rattle.std.proofs.lemmas.Bool.{eqb-true}
 use Rattle.std.proofs.lemmas.List.{append-nil}
-use Rattle.std.specs.Prelude.{codes}
 use Rattle.js_text.specs.Characters.{begins}
 use Rattle.js_text.specs.Ascii.{full_stop}
 use Rattle.js_grammar.specs.Number.{whole, run, integer, Base, base_of, sign_text, are_digits}

@@ -1,9 +1,8 @@
 -- What a text begins with tells which row of the grammar its spellings are of.
-use Rattle.std.proofs.Common.{◌≡◌, ◌≢◌, ℕ, ◌≤◌, Bool, true, false, List, [], ◌∷◌, ◌++◌, ◌==◌, length, refl, sym, ◌∙◌}
+use Rattle.std.proofs.Common.{◌≡◌, ◌≢◌, ℕ, ◌≤◌, Bool, true, false, List, [], ◌∷◌, ◌++◌, length, refl, sym, ◌∙◌}
 use Rattle.std.proofs.Common.{ap}
 use Rattle.std.proofs.Common.{subst, arith}
 use Rattle.std.specs.Str.{encode_utf8_all}
-use Rattle.std.proofs.lemmas.Bool.{eqb-true}
 use Rattle.js_text.specs.Ascii.{number_sign}
 use Rattle.js_text.specs.Characters.{begins}
 use Rattle.js_text.specs.declared.source_type.SourceType.{SourceType}

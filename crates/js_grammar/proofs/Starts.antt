@@ -1,9 +1,9 @@
 -- What begins a name, a private name, a number or a punctuator begins no other of these.
-use Rattle.std.proofs.Common.{◌≡◌, ◌≢◌, ℕ, ◌<◌, Bool, true, false, not, ◌||◌, ◌&&◌, ◌==◌, nat_lt, List, [], ◌∷◌, ◌++◌}
-use Rattle.std.proofs.Common.{length, refl, sym, ◌∙◌, ap, subst, inl, inr, arith}
+use Rattle.std.proofs.Common.{◌≡◌, ℕ, ◌<◌, Bool, true, false, not, ◌||◌, ◌&&◌, ◌==◌, List, [], ◌∷◌, ◌++◌}
+use Rattle.std.proofs.Common.{refl, sym, ◌∙◌, ap, subst, inl, inr, arith}
 use Rattle.std.specs.Char.{is_ascii_digit}
 use Rattle.std.specs.List.{list_all}
-use Rattle.std.proofs.lemmas.Bool.{eqb-true, or_cases}
+use Rattle.std.proofs.lemmas.Bool.{eqb-true}
 use Rattle.unicode_ident.proofs.Computing.{unicode_ident}
 use Rattle.js_text.specs.Ascii.{backslash, full_stop, number_sign}
 use Rattle.js_text.specs.Characters.{begins, is_identifier_start}

@@ -1,8 +1,8 @@
 -- What begins a string or a template begins nothing else, and when one is escaped.
-use Rattle.std.proofs.Common.{◌≡◌, ℕ, zero, suc, ◌<◌, Bool, true, false, not, ◌||◌, ◌&&◌, ◌==◌, List, [], ◌∷◌, ◌++◌}
+use Rattle.std.proofs.Common.{◌≡◌, ℕ, zero, suc, ◌<◌, Bool, true, false, ◌||◌, ◌==◌, List, [], ◌∷◌, ◌++◌}
 use Rattle.std.proofs.Common.{length}
 use Rattle.std.proofs.Common.{refl, sym, ◌∙◌, ap, arith, subst, Option, Some, None, inl, inr}
-use Rattle.std.specs.List.{list_all, list_any}
+use Rattle.std.specs.List.{list_any}
 use Rattle.std.proofs.lemmas.Bool.{eqb-true}
 use Rattle.std.proofs.lemmas.List.Folds.{list_any-append}
 use Rattle.unicode_ident.proofs.Computing.{unicode_ident}
@@ -11,12 +11,12 @@ use Rattle.js_text.specs.Characters.{begins, is_identifier_start}
 use Rattle.js_text.specs.declared.source_type.SourceType.{SourceType}
 use Rattle.js_kind.specs.Digits.{is_digit_of}
 use Rattle.js_grammar.specs.Number.{begins_number}
-use Rattle.js_grammar.specs.Punctuators.{punctuators, NoPunctuator}
+use Rattle.js_grammar.specs.Punctuators.{NoPunctuator}
 use Rattle.js_grammar.specs.StringItems.{StringItem, is_quote, ends_string, plain_item, escape, string_item}
 use Rattle.js_grammar.specs.StringItems.{items_up_to}
 use Rattle.js_grammar.specs.StringItems.{string_items, string_text, contains_escape}
 use Rattle.js_grammar.specs.Template.{template_item, template_items, ends_part, carriage_return_item}
-use Rattle.js_grammar.proofs.EscapeCases.{Heads, IsEscape, escape_is_one}
+use Rattle.js_grammar.proofs.EscapeCases.{escape_is_one}
 use Rattle.js_grammar.proofs.NumberItems.{true_or_false}
 use Rattle.js_grammar.proofs.PunctuatorLeaves.{none}
 use Rattle.js_grammar.proofs.StringSteps.{none_or_some, some_is, string_plain, string_ends, template_plain}

@@ -1,34 +1,24 @@
 -- Laws of strings and templates: each is what is read without a fault, and nothing else.
-use Rattle.std.proofs.Common.{◌≡◌, ℕ, zero, suc, ◌+◌, ◌<◌, ◌≤◌, Bool, true, false, not, ◌&&◌, ◌||◌, ◌==◌, List, [], ◌∷◌}
+use Rattle.std.proofs.Common.{◌≡◌, ℕ, zero, suc, ◌+◌, ◌<◌, true, false, ◌&&◌, ◌==◌, List, [], ◌∷◌}
 use Rattle.std.proofs.Common.{◌++◌}
-use Rattle.std.proofs.Common.{length, take, drop, refl, sym, ◌∙◌, ap, arith, Option, Some, None, inl, inr, append_assoc}
+use Rattle.std.proofs.Common.{length, drop, refl, sym, ◌∙◌, ap, arith, Option, inl, inr, append_assoc}
 use Rattle.std.proofs.Common.{subst}
-use Rattle.std.specs.Prelude.{codes}
-use Rattle.std.proofs.lemmas.Bool.{eqb-true, eq-eqb}
-use Rattle.js_text.specs.Ascii.{quotation_mark, apostrophe, grave_accent, backslash}
-use Rattle.js_text.specs.Characters.{begins, is_identifier_start}
+use Rattle.std.proofs.lemmas.Bool.{eq-eqb}
+use Rattle.js_text.specs.Characters.{begins}
 use Rattle.js_text.specs.declared.diagnostic.Diagnostic.{Diagnostic}
-use Rattle.js_kind.specs.declared.kind.Kind.{Kind}
-use Rattle.js_kind.specs.declared.kind.Kind.TheVariants.{Str, NoSubstitutionTemplate, TemplateHead}
-use Rattle.js_grammar.specs.Gap.{is_prefix}
+use Rattle.js_kind.specs.declared.kind.Kind.TheVariants.{Str}
 use Rattle.js_grammar.specs.Outcome.{place_behind}
-use Rattle.js_grammar.specs.StringItems.{Fault, StringItem, StringItems, items_up_to, all_items, string_text}
+use Rattle.js_grammar.specs.StringItems.{Fault, StringItem, StringItems, items_up_to, string_text}
 use Rattle.js_grammar.specs.StringItems.{string_units}
 use Rattle.js_grammar.specs.StringItems.{contains_escape, is_good, are_good, fault_reports, item_reports, StringRead}
 use Rattle.js_grammar.specs.StringItems.{string_items, string_item, string_read, string_of_items, is_quote, IsString}
-use Rattle.js_grammar.specs.StringItems.{terminated_string, unterminated}
 use Rattle.js_grammar.specs.StringItems.Fault.{no_fault, bad_escape, unfinished_escape}
 use Rattle.js_grammar.specs.StringItems.StringValue.{units}
-use Rattle.js_grammar.specs.Template.{template_items, template_item, template_value, template_part_read, IsPart}
-use Rattle.js_grammar.specs.Template.{IsTemplatePart, part_of_items}
-use Rattle.js_grammar.specs.Template.IsTemplatePart.{no_substitution, head}
+use Rattle.js_grammar.specs.Template.{template_items, template_item}
 use Rattle.js_grammar.proofs.EscapeCases.{first_is}
 use Rattle.js_grammar.proofs.NumberItems.{true_or_false}
 use Rattle.js_grammar.proofs.StringSteps.{FindsHeads, none_or_some, good_ones, string_item_heads, template_item_heads}
-use Rattle.js_grammar.proofs.StringSteps.{string_terminated, string_unterminated, part_with_tail}
-use Rattle.js_grammar.proofs.StringSteps.{part_with_substitution}
-use Rattle.js_grammar.proofs.StringSteps.{part_unterminated}
-use Rattle.js_grammar.proofs.Tests.{and_true}
+use Rattle.js_grammar.proofs.StringSteps.{string_terminated, string_unterminated}
 
 -- a text is its items and what is left behind them
 items_and_rest : (step : List ℕ → Option StringItem) → FindsHeads step → (most : ℕ) (text : List ℕ)

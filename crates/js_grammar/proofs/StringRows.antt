@@ -2,7 +2,7 @@
 use Rattle.std.proofs.Common.{◌≡◌, ℕ, Bool, true, false, List, [], ◌∷◌, ◌++◌, refl}
 use Rattle.std.specs.Prelude.{codes}
 use Rattle.std.specs.Char.{encode_utf8}
-use Rattle.js_text.specs.Ascii.{line_feed, carriage_return, backslash, quotation_mark, apostrophe, grave_accent}
+use Rattle.js_text.specs.Ascii.{line_feed, carriage_return, backslash, quotation_mark, apostrophe}
 use Rattle.js_text.specs.Characters.{is_line_terminator}
 use Rattle.js_text.specs.declared.diagnostic.Diagnostic.{Diagnostic}
 use Rattle.js_text.specs.declared.diagnostic.Diagnostic.TheVariants.{UnterminatedString, InvalidEscapeSequence}

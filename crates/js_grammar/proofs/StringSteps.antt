@@ -1,20 +1,17 @@
 -- The items of a string or a template, one after the other.
-use Rattle.std.proofs.Common.{◌≡◌, ℕ, zero, suc, ◌+◌, ◌<◌, ◌≤◌, Bool, true, false, not, ◌&&◌, ◌||◌, ◌==◌, List, [], ◌∷◌}
+use Rattle.std.proofs.Common.{◌≡◌, ℕ, zero, suc, ◌+◌, ◌<◌, ◌≤◌, Bool, true, false, ◌==◌, List, [], ◌∷◌}
 use Rattle.std.proofs.Common.{◌++◌}
-use Rattle.std.proofs.Common.{length, take, drop, refl, sym, ◌∙◌, ap, arith, Option, Some, None, inl, inr, ◌⊎◌}
+use Rattle.std.proofs.Common.{length, drop, refl, sym, ◌∙◌, ap, arith, Option, Some, None, inl, inr, ◌⊎◌}
 use Rattle.std.proofs.Common.{append_assoc}
 use Rattle.std.proofs.Common.{length-append, subst, cond}
 use Rattle.std.specs.Prelude.{codes}
-use Rattle.std.specs.Char.Escape.{encode_utf16}
-use Rattle.std.specs.List.{list_any, list_all}
 use Rattle.std.proofs.lemmas.Bool.{eqb-true}
 use Rattle.js_text.specs.Ascii.{line_feed, carriage_return, backslash, grave_accent}
 use Rattle.js_text.specs.Characters.{begins}
-use Rattle.js_text.specs.declared.diagnostic.Diagnostic.{Diagnostic}
 use Rattle.js_grammar.specs.Outcome.{place_behind}
 use Rattle.js_grammar.specs.StringItems.{Fault, StringItem, StringItems, plain_item, escape, ends_string, string_item}
 use Rattle.js_grammar.specs.StringItems.{no_item, items_before, items_up_to, all_items, string_text, string_units}
-use Rattle.js_grammar.specs.StringItems.{contains_escape, are_good, contains_bad_escape, fault_reports, item_reports}
+use Rattle.js_grammar.specs.StringItems.{are_good, contains_bad_escape, fault_reports, item_reports}
 use Rattle.js_grammar.specs.StringItems.{is_good, is_bad_escape, StringRead, string_of_items, terminated_string}
 use Rattle.js_grammar.specs.StringItems.{unterminated}
 use Rattle.js_grammar.specs.StringItems.Fault.{no_fault, bad_escape, unfinished_escape}

@@ -1,19 +1,17 @@
 -- Laws of unicode escapes.
-use Rattle.std.proofs.Common.{◌≡◌, ℕ, zero, suc, ◌+◌, ◌*◌, ◌<◌, ◌≤◌, Bool, true, false, not, ltb, leb, ◌==◌, ◌&&◌, List}
+use Rattle.std.proofs.Common.{◌≡◌, ℕ, zero, suc, ◌+◌, ◌*◌, ◌<◌, ◌≤◌, Bool, true, false, not, ◌==◌, ◌&&◌, List}
 use Rattle.std.proofs.Common.{[]}
-use Rattle.std.proofs.Common.{◌∷◌, ◌++◌, length, take, drop, refl, sym, ◌∙◌, ap, arith, Option, Some, None, inl, inr}
-use Rattle.std.proofs.Common.{cond}
+use Rattle.std.proofs.Common.{◌∷◌, ◌++◌, length, take, drop, refl, ap, arith, Some, None}
 use Rattle.std.specs.Prelude.{codes, nat_lt, nat_le}
 use Rattle.std.specs.Char.{digit_value}
 use Rattle.std.specs.Str.Parse.{AllDigits, digits_value}
-use Rattle.std.proofs.lemmas.Bool.{ltb-true, ltb-false, eq-eqb}
+use Rattle.std.proofs.lemmas.Bool.{ltb-true, eq-eqb}
 use Rattle.std.proofs.lemmas.Bool.Decides.{nat_tests}
 use Rattle.js_text.specs.Characters.{begins, before_first}
 use Rattle.js_kind.specs.Digits.{is_digit_of}
-use Rattle.js_grammar.specs.UnicodeEscape.{UnicodeEscape, hex_digits, four_digits, braced_digits, unicode_escape}
-use Rattle.js_grammar.specs.UnicodeEscape.{digits_of_code_point, is_no_hex_digit, last_code_point, left_curly_bracket}
+use Rattle.js_grammar.specs.UnicodeEscape.{hex_digits, four_digits, braced_digits, unicode_escape}
+use Rattle.js_grammar.specs.UnicodeEscape.{digits_of_code_point, last_code_point, left_curly_bracket}
 use Rattle.js_grammar.specs.UnicodeEscape.{right_curly_bracket}
-use Rattle.js_grammar.proofs.NumberItems.{true_or_false}
 
 -- a digit by its value
 pub digit_below : (radix c : ℕ) → digit_value c < radix → is_digit_of radix c ≡ true

@@ -19,7 +19,7 @@ use Rattle.js_grammar.specs.Goals.ReadsHere.{spelled as spelled_here, recovers}
 use Rattle.js_grammar.specs.Goals.GoalReads.{hashbang as hashbang_read, behind_gap}
 use Rattle.js_grammar.specs.Hashbang.{IsHashbang}
 use Rattle.js_grammar.specs.Name.{begins_name}
-use Rattle.js_grammar.specs.Number.{IsNumber, begins_number}
+use Rattle.js_grammar.specs.Number.{begins_number}
 use Rattle.js_grammar.specs.Outcome.{Outcome}
 use Rattle.js_grammar.specs.declared.goal.Goal.{Goal}
 use Rattle.js_grammar.specs.Punctuators.{Punctuator, punctuators, IsIn}

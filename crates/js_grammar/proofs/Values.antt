@@ -1,7 +1,7 @@
 -- The values of what is read: as the kind and the span of its token say, or as its name stands for.
-use Rattle.std.proofs.Common.{◌≡◌, ◌≢◌, ℕ, ◌+◌, Bool, true, false, not, ◌||◌, ◌==◌, List, [], ◌∷◌, ◌++◌, drop, refl}
+use Rattle.std.proofs.Common.{◌≡◌, ◌≢◌, ℕ, ◌+◌, Bool, true, false, not, ◌==◌, List, [], ◌∷◌, ◌++◌, drop, refl}
 use Rattle.std.proofs.Common.{sym, ◌∙◌}
-use Rattle.std.proofs.Common.{ap, subst, inl, inr, Option, None}
+use Rattle.std.proofs.Common.{ap, subst, Option, None}
 use Rattle.std.specs.Prelude.{codes, if◌then◌else◌, IfSome}
 use Rattle.std.specs.List.{list_all}
 use Rattle.std.specs.Str.{IsCharBoundary, IsUtf8, encode_utf8_all}
@@ -41,7 +41,6 @@ use Rattle.js_grammar.proofs.Flags.{neither_name, unnamed_value, unnamed_plain_v
 use Rattle.js_grammar.proofs.Flags.{end_unflagged}
 use Rattle.js_grammar.proofs.NameReadings.{faulty_name_reports, faulty_private_reports}
 use Rattle.js_grammar.proofs.NameLaws.{name_is_read, name_has_fault_only_escaped}
-use Rattle.js_grammar.proofs.NumberItems.{true_or_false}
 use Rattle.js_grammar.proofs.NumberKinds.{number_kind}
 use Rattle.js_grammar.proofs.NumberSound.{first_is}
 use Rattle.js_grammar.proofs.NumberSpans.{number_characters}

@@ -1,5 +1,5 @@
 -- The texts that can be read today: those without a byte of a form that is not built.
-use Rattle.std.specs.Prelude.{◌≡◌, ℕ, ◌<◌, Bool, false, List, length, slice_index, codes, ◌==◌, ◌&&◌, ◌||◌, not}
+use Rattle.std.specs.Prelude.{◌≡◌, ℕ, ◌<◌, Bool, false, List, length, slice_index, ◌==◌, ◌||◌}
 use Rattle.js_text.specs.Ascii.{quotation_mark, apostrophe, grave_accent}
 
 -- The bytes that no reading knows yet: `"`, `'` and backquote.

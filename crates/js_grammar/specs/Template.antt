@@ -1,12 +1,11 @@
 -- Templates (ECMA-262 12.9.6): their items, and what is read of a part of one, good or at fault.
-use Rattle.std.specs.Prelude.{◌≡◌, ℕ, ◌+◌, Bool, true, false, List, [], ◌∷◌, ◌++◌, drop, ◌==◌, ◌||◌, codes, Option}
+use Rattle.std.specs.Prelude.{◌≡◌, ℕ, ◌+◌, Bool, true, List, [], ◌∷◌, ◌++◌, drop, ◌==◌, ◌||◌, codes, Option}
 use Rattle.std.specs.Prelude.{Some, None}
 use Rattle.std.specs.Prelude.{if◌then◌else◌}
 use Rattle.js_text.specs.Ascii.{line_feed, carriage_return, backslash, grave_accent}
 use Rattle.js_text.specs.Characters.{begins}
 use Rattle.js_kind.specs.declared.kind.Kind.{Kind}
-use Rattle.js_kind.specs.declared.kind.Kind.TheVariants.{NoSubstitutionTemplate, TemplateHead, TemplateMiddle}
-use Rattle.js_kind.specs.declared.kind.Kind.TheVariants.{TemplateTail}
+use Rattle.js_kind.specs.declared.kind.Kind.TheVariants.{NoSubstitutionTemplate, TemplateHead}
 use Rattle.js_grammar.specs.Gap.{is_prefix}
 use Rattle.js_grammar.specs.StringItems.{StringItem, contains_bad_escape, plain_item, escape, StringItems, all_items}
 use Rattle.js_grammar.specs.StringItems.{string_text}

@@ -1,19 +1,19 @@
 -- Where nothing is spelled in a text of forms that are built, something is read to recover.
-use Rattle.std.proofs.Common.{◌≡◌, ℕ, ◌+◌, ◌<◌, ◌≤◌, Bool, true, false, not, ◌&&◌, ◌||◌, ◌==◌, nat_lt, nat_le, ltb}
-use Rattle.std.proofs.Common.{List, [], ◌∷◌, length, get_or, refl, sym, ◌∙◌, ap, subst, arith, ◌⊎◌, inl}
+use Rattle.std.proofs.Common.{◌≡◌, ℕ, ◌<◌, ◌≤◌, Bool, true, false, ◌&&◌, ◌||◌, ◌==◌, nat_lt, nat_le, ltb}
+use Rattle.std.proofs.Common.{List, [], ◌∷◌, length, get_or, refl, sym, ◌∙◌, ap, subst, arith, inl}
 use Rattle.std.proofs.Common.{inr, Option, Some, None}
 use Rattle.std.specs.Prelude.{codes, is_some, IsSome, if◌then◌else◌}
 use Rattle.std.specs.Char.{is_ascii_digit}
 use Rattle.std.specs.List.{list_any}
-use Rattle.std.proofs.lemmas.Bool.{eqb-true, leb-true, leb-false, ltb-false, or_cases}
+use Rattle.std.proofs.lemmas.Bool.{eqb-true, leb-false, ltb-false, or_cases}
 use Rattle.std.proofs.lemmas.Bool.Decides.{nat_tests}
 use Rattle.js_text.specs.Ascii.{number_sign}
-use Rattle.js_text.specs.Characters.{begins, is_identifier_start, is_white_space}
+use Rattle.js_text.specs.Characters.{begins, is_white_space}
 use Rattle.js_text.specs.declared.source_type.SourceType.{SourceType}
 use Rattle.js_kind.specs.Digits.{is_digit_of}
 use Rattle.js_kind.proofs.Digits.{digits_of_ten}
-use Rattle.js_source.specs.Source.{At, rest, IsPlaced, HasFirstByte, HasFirstTwoBytes}
-use Rattle.js_source.proofs.Places.{first_byte_at, none_at_end, first_two_bytes, placed_ascii, reads_ascii}
+use Rattle.js_source.specs.Source.{At, rest, IsPlaced, HasFirstByte}
+use Rattle.js_source.proofs.Places.{first_byte_at, none_at_end}
 use Rattle.js_grammar.specs.Built.{is_unbuilt_byte, IsBuilt}
 use Rattle.js_grammar.specs.Gap.{is_prefix, is_reported, whole_gap_piece}
 use Rattle.js_grammar.specs.Name.{begins_name}
@@ -27,7 +27,6 @@ use Rattle.js_grammar.proofs.PieceLemmas.{piece-white}
 use Rattle.js_grammar.proofs.PunctuatorLeaves.{listed}
 use Rattle.js_grammar.proofs.Printable.{lone_characters, lone_begin, none_of, is_known, printable_known, known_at}
 use Rattle.js_grammar.proofs.Printable.{spelled_there}
-use Rattle.js_grammar.proofs.Tests.{and_true, prefix_is}
 use Rattle.js_kind.specs.declared.kind.Kind.TheVariants.{Dot}
 use Rattle.js_lexer.specs.Reader.{NothingHere}
 

@@ -7,7 +7,7 @@ use Rattle.js_text.specs.declared.diagnostic.Diagnostic.{Diagnostic}
 use Rattle.js_kind.specs.Keywords.{name_kind}
 use Rattle.js_kind.specs.declared.kind.Kind.{Kind}
 use Rattle.js_source.specs.Source.{At, rest, Reads, IsPlaced, BeginsWith, StepsPast}
-use Rattle.js_grammar.specs.Name.{NameRead, name_read, PrivateRead, private_read, begins_name}
+use Rattle.js_grammar.specs.Name.{NameRead, PrivateRead, private_read, begins_name}
 use Rattle.js_grammar.specs.Outcome.{place_behind}
 use Rattle.js_grammar.specs.Values.{decoded_units}
 use Rattle.js_grammar.proofs.NameReadings.{ReadsAs, name_reads_here, private_reads_here}

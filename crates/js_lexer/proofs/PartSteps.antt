@@ -1,16 +1,15 @@
 -- The table of the parts of names in ASCII, and the runs that it passes.
 use Rattle.std.proofs.Common.{◌≡◌, ℕ, ◌+◌, ◌<◌, ◌≤◌, Bool, true, false, not, ◌&&◌, ◌||◌, ◌==◌, ltb, List, [], ◌∷◌, ◌++◌}
 use Rattle.std.proofs.Common.{length, length-append, get_or, zero, suc, refl, sym, ◌∙◌, ap, subst, arith, add-zero}
-use Rattle.std.specs.Char.{is_ascii_alphabetic, is_ascii_alphanumeric}
+use Rattle.std.specs.Char.{is_ascii_alphabetic}
 use Rattle.std.proofs.lemmas.Bool.{ltb-true, ltb-false}
 use Rattle.std.proofs.Math.ListN.{get_or-eq_default}
-use Rattle.js_text.specs.Characters.{is_white_space, is_identifier_part, begins as begins_text, from_first, from_place}
+use Rattle.js_text.specs.Characters.{is_white_space, from_place}
 use Rattle.js_text.specs.declared.source_type.SourceType.{SourceType}
-use Rattle.js_text.proofs.CharacterLemmas.{part_in_ascii, start_in_ascii}
-use Rattle.js_source.specs.Source.{At, rest, BeginsWith}
+use Rattle.js_text.proofs.CharacterLemmas.{start_in_ascii}
+use Rattle.js_source.specs.Source.{At, rest}
 use Rattle.js_source.specs.Search.{matches_at}
 use Rattle.js_source.specs.Runs.{HasAscii, IsRun, PassesRun}
-use Rattle.js_source.proofs.RunSteps.{from_first-run}
 use Rattle.js_grammar.specs.Gap.{LongestGap, one_character}
 use Rattle.js_grammar.specs.Gap.PieceKind.{white_space}
 use Rattle.js_grammar.proofs.GapLemmas.{longest_gap-cons}

@@ -20,7 +20,7 @@ use Rattle.js_grammar.specs.Hashbang.{begins_hashbang}
 use Rattle.js_grammar.specs.Number.{begins_number}
 use Rattle.js_grammar.specs.NumberReads.{NumberRead, number_read}
 use Rattle.js_grammar.specs.Recovery.{faulty, number_reading}
-use Rattle.js_grammar.specs.Spelling.{NothingSpelled, is_escaped, has_separator}
+use Rattle.js_grammar.specs.Spelling.{NothingSpelled, has_separator}
 use Rattle.js_grammar.specs.declared.goal.Goal.{Goal}
 use Rattle.js_grammar.specs.declared.goal.Goal.TheVariants.{First}
 use Rattle.js_grammar.proofs.Flags.{IsUnflagged}

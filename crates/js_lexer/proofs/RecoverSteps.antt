@@ -1,5 +1,5 @@
 -- The steps of reading on where nothing is spelled.
-use Rattle.std.proofs.Common.{◌≡◌, ◌≢◌, ℕ, ◌+◌, ◌≤◌, Bool, true, false, not, ◌||◌, ◌==◌, List, [], ◌∷◌, ◌++◌, length}
+use Rattle.std.proofs.Common.{◌≡◌, ◌≢◌, ℕ, ◌≤◌, Bool, true, false, not, ◌||◌, ◌==◌, List, [], ◌∷◌, ◌++◌, length}
 use Rattle.std.proofs.Common.{refl, sym, ◌∙◌, ap, subst, Option, Some, None, append-nil}
 use Rattle.std.specs.Prelude.{codes, IsTrue, IsSome, is_some, ◌↔◌, if◌then◌else◌}
 use Rattle.std.specs.List.{list_any}
@@ -23,7 +23,6 @@ use Rattle.js_grammar.specs.Recovery.{binary_file, invalid_character}
 use Rattle.js_grammar.proofs.Tests.{prefix_of}
 use Rattle.js_lexer.specs.Gaps.{TakesMark}
 use Rattle.js_lexer.specs.Spellings.{Recovers}
-use lib.Utf8
 
 -- a character that passes stands in the text where something is left from the first one on
 any_from : (p : ℕ → Bool) (cs : List ℕ)

@@ -1,11 +1,11 @@
 -- The steps of reading what an escape stands for.
 use Rattle.std.proofs.Common.{◌≡◌, ◌≢◌, ℕ, ◌+◌, ◌*◌, ◌^◌, ◌<◌, ◌≤◌, Bool, true, false, not, ◌&&◌, ◌==◌, List, [], ◌∷◌}
 use Rattle.std.proofs.Common.{◌++◌}
-use Rattle.std.proofs.Common.{length, take, drop, refl, sym, ◌∙◌, ap, subst, arith, Option, Some, None, inl, inr}
+use Rattle.std.proofs.Common.{length, drop, refl, sym, ◌∙◌, ap, subst, arith, Some, None}
 use Rattle.std.specs.Prelude.{nat_lt, MatchBool}
 use Rattle.std.specs.Char.{digit_value}
 use Rattle.std.specs.Char.Escape.{encode_utf16}
-use Rattle.std.specs.Str.Parse.{AllDigits, digits_value}
+use Rattle.std.specs.Str.Parse.{digits_value}
 use Rattle.std.specs.Int.{IsInRange}
 use Rattle.std.proofs.lemmas.List.{append-nil}
 use Rattle.std.proofs.lemmas.Int.Digits.{digits_value_push}
@@ -18,12 +18,11 @@ use Rattle.js_text.specs.Characters.{begins}
 use Rattle.js_text.specs.declared.diagnostic.Diagnostic.{Diagnostic}
 use Rattle.js_text.specs.declared.diagnostic.Diagnostic.TheVariants.{UnterminatedString}
 use Rattle.js_kind.specs.Digits.{is_digit_of}
-use Rattle.js_grammar.specs.StringItems.{StringItem, good_escape, faulty_escape, line_continuation, digits_escape}
+use Rattle.js_grammar.specs.StringItems.{StringItem, line_continuation, digits_escape}
 use Rattle.js_grammar.specs.StringItems.{octal_escape, digit_in_template, further_octal_digits, octal_digits}
 use Rattle.js_grammar.specs.Number.{digit_zero}
 use Rattle.js_grammar.specs.StringItems.{character_escape, single_character, digit_escape, escape, stretch}
 use Rattle.js_grammar.specs.StringItems.{is_bad_escape, fault_reports}
-use Rattle.js_grammar.specs.StringItems.Fault.{no_fault, bad_escape}
 use Rattle.js_grammar.specs.UnicodeEscape.{UnicodeEscape, last_code_point}
 use Rattle.js_grammar.proofs.EscapeCases.{continuation_of_two, continuation_of_one, nonzero_in_template, zero_and_digit}
 use Rattle.js_grammar.proofs.EscapeCases.{zero_alone, octal_escape_is, digit_escape_in_template, digit_escape_octal}

@@ -1,12 +1,11 @@
 -- The steps of reading the items of strings and templates.
-use Rattle.std.proofs.Common.{◌≡◌, ◌≢◌, ℕ, ◌+◌, ◌<◌, ◌≤◌, Bool, true, false, not, ◌&&◌, ◌||◌, ◌==◌, List, [], ◌∷◌, ◌++◌}
+use Rattle.std.proofs.Common.{◌≡◌, ◌≢◌, ℕ, ◌<◌, ◌≤◌, Bool, true, false, not, ◌&&◌, ◌||◌, ◌==◌, List, [], ◌∷◌, ◌++◌}
 use Rattle.std.proofs.Common.{length, drop, refl, sym, ◌∙◌, ap, subst, arith, Option, Some, None, inl, inr}
 use Rattle.std.proofs.Common.{append_assoc, Result, Ok, Err, length-append}
 use Rattle.std.specs.Prelude.{MatchBool, MatchOption, IfNone, IfSome, OnOk}
 use Rattle.std.specs.Str.{encode_utf8_all, chars}
-use Rattle.std.specs.List.{list_any}
 use Rattle.std.proofs.Math.Utf8.{scalars}
-use Rattle.std.proofs.lemmas.Bool.{eqb-true, ne_eqb, eq-eqb}
+use Rattle.std.proofs.lemmas.Bool.{eqb-true, eq-eqb}
 use Rattle.std.proofs.lemmas.List.{append-nil}
 use Rattle.std.proofs.lemmas.List.Folds.{list_any-append}
 use Rattle.std.proofs.lemmas.Str.{chars-encodes, scalars-chars, IsUtf8-drop}
@@ -16,34 +15,30 @@ use Rattle.js_text.specs.JsStr.{units_of}
 use Rattle.js_text.specs.declared.diagnostic.Diagnostic.{Diagnostic}
 use Rattle.js_text.specs.declared.diagnostic.Diagnostic.TheVariants.{InvalidEscapeSequence}
 use Rattle.js_grammar.specs.Outcome.{place_behind}
-use Rattle.js_grammar.specs.StringItems.{Fault, StringItem, StringItems, escape, no_item, all_items, items_before}
+use Rattle.js_grammar.specs.StringItems.{Fault, StringItem, StringItems, escape, all_items, items_before}
 use Rattle.js_grammar.specs.StringItems.{string_text, string_units, contains_escape, contains_bad_escape, is_bad_escape}
-use Rattle.js_grammar.specs.StringItems.{fault_reports, item_reports, stretch, are_good, StringValue}
+use Rattle.js_grammar.specs.StringItems.{fault_reports, item_reports, stretch}
 use Rattle.js_grammar.specs.StringItems.Fault.{no_fault, bad_escape, unfinished_escape}
-use Rattle.js_grammar.specs.StringItems.StringValue.{units}
-use Rattle.js_grammar.specs.Template.{template_item, carriage_return_item, line_end_item, template_value}
-use Rattle.js_grammar.proofs.EscapeCases.{escape_is_one, first_is}
+use Rattle.js_grammar.specs.Template.{template_item, carriage_return_item, line_end_item}
+use Rattle.js_grammar.proofs.EscapeCases.{first_is}
 use Rattle.js_grammar.proofs.NumberItems.{true_or_false}
 use Rattle.js_grammar.proofs.StringSteps.{one_item, no_items_here, items_before-append, string_text-append}
 use Rattle.js_grammar.proofs.StringSteps.{string_units-append, item_reports-append, good_ones, good_ones_not_bad}
 use Rattle.js_grammar.proofs.StringSteps.{carriage_return_two, carriage_return_one, template_value_good}
 use Rattle.js_grammar.proofs.StringSteps.{template_value_bad}
-use Rattle.js_grammar.proofs.Tests.{and_true}
 use Rattle.js_source.specs.Source.{At, rest, Reads, IsPlaced, HasFirstByte, StepsPast}
-use Rattle.js_source.specs.Runs.{place_of}
 use Rattle.js_spell.specs.Escape.{ReadsEscape}
-use Rattle.js_spell.specs.Strings.{in_template, item_of, plain_here, escape_here, IsPlainBefore, PassesCharacters}
-use Rattle.js_spell.specs.Strings.{ReadsItems, ReadsOneItem, ReadsMarkedItem, ReadsValue, value_of, spelt_value, MarkIs}
+use Rattle.js_spell.specs.Strings.{in_template, item_of, plain_here, escape_here, PassesCharacters}
+use Rattle.js_spell.specs.Strings.{ReadsItems, ReadsOneItem, ReadsValue, value_of, spelt_value, MarkIs}
 use Rattle.js_spell.specs.Strings.{is_end}
 use Rattle.js_spell.specs.Strings.{decoded_value}
 use Rattle.js_spell.specs.declared.items.Mark.{Mark}
 use Rattle.js_spell.specs.declared.items.Mark.TheVariants.{Escape, CarriageReturn, End}
 use Rattle.js_spell.specs.declared.plain.Literal.{Literal}
 use Rattle.js_spell.specs.declared.plain.Literal.TheVariants.{DoubleQuoted, SingleQuoted, Template}
-use Rattle.js_spell.specs.declared.spelt.SpeltValue.{SpeltValue}
-use Rattle.js_spell.specs.declared.spelt.SpeltValue.TheVariants.{Plain, Decoded, Bad}
+use Rattle.js_spell.specs.declared.spelt.SpeltValue.TheVariants.{Plain}
 use Rattle.js_spell.proofs.NumericSteps.{leads_to}
-use Rattle.js_spell.proofs.PlainSteps.{heads_of, escape_item_here, no_item_here, EscapedItem, escaped_item_here}
+use Rattle.js_spell.proofs.PlainSteps.{heads_of, escape_item_here, no_item_here, escaped_item_here}
 
 scalars_front : (xs ys : List ℕ) → scalars (xs ++ ys) ≡ true → scalars xs ≡ true
 scalars_front [] ys e = refl

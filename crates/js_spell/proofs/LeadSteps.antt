@@ -1,12 +1,12 @@
 -- How a number begins.
-use Rattle.std.proofs.Common.{◌≡◌, ◌≢◌, ℕ, ◌<◌, ◌≤◌, Bool, true, false, ◌||◌, ◌==◌, ltb, List, [], ◌∷◌, drop, refl, sym}
-use Rattle.std.proofs.Common.{◌∙◌, ap, arith, ◌⊎◌, inl, inr, Option, Some, None}
+use Rattle.std.proofs.Common.{◌≡◌, ◌≢◌, ℕ, ◌<◌, ◌≤◌, true, false, ◌==◌, ltb, List, [], ◌∷◌, drop, refl, sym}
+use Rattle.std.proofs.Common.{◌∙◌, ap, arith, inl, inr, None}
 use Rattle.std.proofs.lemmas.Bool.{ltb-true, ltb-false, eqb-true, eq-eqb}
 use Rattle.std.proofs.lemmas.Bool.Decides.{nat_tests}
 use Rattle.js_text.specs.Ascii.{full_stop}
 use Rattle.js_text.specs.Characters.{begins}
-use Rattle.js_source.specs.Source.{HasFirstByte, HasFirstTwoBytes, HasAtMostOneByte}
-use Rattle.js_grammar.specs.Number.{Base, base_of, digit_zero}
+use Rattle.js_source.specs.Source.{HasFirstTwoBytes, HasAtMostOneByte}
+use Rattle.js_grammar.specs.Number.{base_of, digit_zero}
 use Rattle.js_kind.specs.Digits.{is_digit_of}
 use Rattle.js_grammar.specs.NumberReads.{base_at, number_items, legacy_items, decimal_items, zero_items}
 use Rattle.js_grammar.proofs.NumberCuts.{digit_names_no_base}
@@ -14,7 +14,7 @@ use Rattle.js_grammar.proofs.NumberItems.{true_or_false}
 use Rattle.js_grammar.proofs.NumberSteps.{number_zero, number_decimal, zero_legacy, zero_decimal}
 use Rattle.js_spell.specs.declared.numeric.Lead.{Lead}
 use Rattle.js_spell.specs.declared.numeric.Lead.TheVariants.{Prefix as LedByPrefix, Legacy, Decimal as DecimalLead}
-use Rattle.js_spell.specs.Numeric.{LeadsWith, Leads, HasPrefix, base_of_prefix}
+use Rattle.js_spell.specs.Numeric.{LeadsWith, Leads}
 use Rattle.js_spell.proofs.NumericSteps.{wide_is_no_digit}
 
 -- what is not `0` begins a decimal number

@@ -1,6 +1,6 @@
 -- The steps of reading digits without separators.
-use Rattle.std.proofs.Common.{◌≡◌, ℕ, ◌≤◌, Bool, true, false, ◌&&◌, ◌||◌, ◌==◌, List, [], ◌∷◌, ◌++◌, refl, sym, ◌∙◌, ap}
-use Rattle.std.proofs.Common.{subst, arith, append_assoc}
+use Rattle.std.proofs.Common.{◌≡◌, ℕ, Bool, true, false, ◌&&◌, ◌||◌, ◌==◌, List, [], ◌∷◌, ◌++◌, refl, sym, ◌∙◌, ap}
+use Rattle.std.proofs.Common.{arith, append_assoc}
 use Rattle.js_text.specs.Ascii.{low_line}
 use Rattle.js_text.specs.Characters.{begins, from_place}
 use Rattle.js_text.specs.declared.diagnostic.Diagnostic.{Diagnostic}
@@ -15,7 +15,7 @@ use Rattle.js_grammar.proofs.NumberCuts.{plain_digits_append, octal_digits}
 use Rattle.js_grammar.proofs.NumberSteps.{legacy_octal_items, legacy_decimal_items}
 use Rattle.js_kind.specs.declared.kind.Kind.{Kind}
 use Rattle.js_kind.specs.declared.kind.Kind.TheVariants.{Octal}
-use Rattle.js_spell.specs.Numeric.{TellsDigits, PassesPlainDigits, ReadsEnd, ReadsItems}
+use Rattle.js_spell.specs.Numeric.{TellsDigits, PassesPlainDigits, ReadsEnd}
 use Rattle.js_spell.proofs.NumericSteps.{any_append, no_separator, stops_digits, items_append, whole_item_read}
 
 -- digits of a table

@@ -1,6 +1,6 @@
 -- The steps of reading a number.
-use Rattle.std.proofs.Common.{◌≡◌, ℕ, ◌+◌, ◌<◌, ◌≤◌, Bool, true, false, not, ◌&&◌, ◌||◌, ◌==◌, ltb, List, [], ◌∷◌, ◌++◌}
-use Rattle.std.proofs.Common.{length, drop, length-append, refl, sym, ◌∙◌, ap, subst, arith, ◌⊎◌, inl, inr}
+use Rattle.std.proofs.Common.{◌≡◌, ℕ, ◌<◌, ◌≤◌, Bool, true, false, not, ◌&&◌, ◌||◌, ◌==◌, ltb, List, [], ◌∷◌, ◌++◌}
+use Rattle.std.proofs.Common.{length, drop, length-append, refl, sym, ◌∙◌, ap, subst, arith, inl, inr}
 use Rattle.std.proofs.Common.{append_assoc, add-zero}
 use Rattle.std.proofs.lemmas.List.{append-nil}
 use Rattle.std.specs.List.{list_any}
@@ -32,7 +32,7 @@ use Rattle.js_grammar.specs.NumberReads.{contains_separator, missing_digit, miss
 use Rattle.js_grammar.specs.NumberReads.{exponent_or, exponent_items, items-cons, last_item, fraction_items}
 use Rattle.js_grammar.specs.NumberReads.{point_items, behind_digits, decimal_items, suffix_or, Items}
 use Rattle.js_grammar.proofs.NumberClasses.{all_below, below, digit_is_ascii, digit_more, is_exponent}
-use Rattle.js_grammar.proofs.NumberItems.{Stops, stopped, true_or_false}
+use Rattle.js_grammar.proofs.NumberItems.{stopped, true_or_false}
 use Rattle.js_spell.specs.Numeric.{TellsDigits, radix_of_digits, prepend, item_behind, passed_separator, PassesDigits}
 use Rattle.js_spell.specs.Numeric.{PassesGroups, ReadsRun, BreaksOff, ReadsItems, ReadsPart, ReadsInteger, ReadsEnd}
 use Rattle.js_spell.specs.Numeric.{TakesExponentMark, TakesSign}

@@ -1,23 +1,22 @@
 -- The characters of strings and templates that stand for themselves.
 use Rattle.std.proofs.Common.{◌≡◌, ℕ, ◌<◌, ◌≤◌, Bool, true, false, not, ◌&&◌, ◌||◌, ◌==◌, List, [], ◌∷◌, ◌++◌, length}
 use Rattle.std.proofs.Common.{refl}
-use Rattle.std.proofs.Common.{sym, ◌∙◌, ap, subst, arith, Option, Some, None, inl, inr, append_assoc, drop, ltb}
+use Rattle.std.proofs.Common.{sym, ◌∙◌, ap, subst, arith, Some, None, inl, inr, append_assoc, ltb}
 use Rattle.std.specs.Prelude.{codes}
 use Rattle.std.specs.Char.Escape.{encode_utf16}
-use Rattle.std.specs.List.{list_any, list_all, flat_map}
-use Rattle.std.proofs.lemmas.Bool.{eqb-true, ne_eqb, eq-eqb, ltb-true, ltb-false}
+use Rattle.std.proofs.lemmas.Bool.{eqb-true, eq-eqb, ltb-true, ltb-false}
 use Rattle.std.proofs.lemmas.Bool.Decides.{nat_tests}
 use Rattle.std.proofs.lemmas.List.Folds.{list_any-append}
 use Rattle.std.proofs.lemmas.List.Concat.{flat_map-append}
-use Rattle.js_text.specs.Ascii.{line_feed, carriage_return, quotation_mark, apostrophe, backslash, grave_accent}
+use Rattle.js_text.specs.Ascii.{carriage_return, quotation_mark, apostrophe, backslash, grave_accent}
 use Rattle.js_text.specs.Ascii.{dollar_sign}
 use Rattle.js_text.specs.Characters.{begins, from_place}
 use Rattle.js_text.specs.JsStr.{units_of}
 use Rattle.js_grammar.specs.Gap.{is_prefix}
-use Rattle.js_grammar.specs.StringItems.{StringItem, StringItems, plain_item, escape, ends_string, string_item}
+use Rattle.js_grammar.specs.StringItems.{StringItem, plain_item, escape, ends_string}
 use Rattle.js_grammar.specs.StringItems.{all_items, items_before, string_text, string_units, contains_escape, are_good}
 use Rattle.js_grammar.specs.StringItems.{is_good}
-use Rattle.js_grammar.specs.Template.{ends_part, template_item, carriage_return_item}
+use Rattle.js_grammar.specs.Template.{template_item, carriage_return_item}
 use Rattle.js_grammar.specs.UnicodeEscape.{left_curly_bracket}
 use Rattle.js_grammar.proofs.EscapeCases.{escape_is_one}
 use Rattle.js_grammar.proofs.NumberItems.{true_or_false}
@@ -25,7 +24,7 @@ use Rattle.js_grammar.proofs.StringSteps.{FindsHeads, one_item, items_before-app
 use Rattle.js_grammar.proofs.StringSteps.{string_units-append, string_plain, string_ends, string_item_heads}
 use Rattle.js_grammar.proofs.StringSteps.{template_plain, template_ends, template_item_heads, carriage_return_escaped}
 use Rattle.js_grammar.proofs.Tests.{and_true}
-use Rattle.js_source.specs.Runs.{HasAscii, IsRun, PassesRun}
+use Rattle.js_source.specs.Runs.{IsRun, PassesRun}
 use Rattle.js_source.specs.Search.{matches_at}
 use Rattle.js_source.specs.Source.{At, rest, Reads, HasFirstByte, HasFirstTwoBytes, HasAtMostOneByte, StepsPast}
 use Rattle.js_source.proofs.Places.{begins_with, ascii_next}

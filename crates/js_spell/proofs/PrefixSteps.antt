@@ -1,20 +1,20 @@
 -- The steps of reading a number with a prefix.
-use Rattle.std.proofs.Common.{◌≡◌, ℕ, ◌≤◌, Bool, true, false, ◌||◌, ◌==◌, List, [], ◌∷◌, ◌++◌, length, refl, sym, ◌∙◌}
-use Rattle.std.proofs.Common.{ap, arith, ◌⊎◌, inl, inr, Option, Some, None}
+use Rattle.std.proofs.Common.{◌≡◌, ℕ, Bool, true, false, ◌==◌, List, [], ◌∷◌, ◌++◌, refl, sym, ◌∙◌}
+use Rattle.std.proofs.Common.{ap, inl, inr, Some, None}
 use Rattle.std.proofs.lemmas.Bool.{eqb-true}
 use Rattle.js_text.specs.Ascii.{full_stop, low_line}
 use Rattle.js_grammar.proofs.NumberItems.{true_or_false}
 use Rattle.js_text.specs.Characters.{begins}
 use Rattle.js_text.specs.declared.diagnostic.Diagnostic.{Diagnostic}
 use Rattle.js_source.specs.Source.{At, rest, IsPlaced, Reads}
-use Rattle.js_grammar.specs.Number.{Item, Base, base_of, digit_zero, whole, run}
+use Rattle.js_grammar.specs.Number.{Base, base_of, digit_zero, whole, run}
 use Rattle.js_grammar.specs.NumberReads.{Items, number_items, zero_items, point_items, fraction_items, missing_digits}
-use Rattle.js_grammar.specs.NumberReads.{items_text, no_items, items-cons, suffix_or, behind_prefix}
+use Rattle.js_grammar.specs.NumberReads.{no_items, items-cons, suffix_or}
 use Rattle.js_grammar.proofs.NumberSteps.{number_zero, number_point, zero_base, behind_prefix_broken}
 use Rattle.js_grammar.proofs.NumberSteps.{behind_prefix_whole}
 use Rattle.js_kind.specs.declared.kind.Kind.{Kind}
 use Rattle.js_kind.specs.declared.kind.Kind.TheVariants.{Eof, Float}
-use Rattle.js_spell.specs.Numeric.{ReadsRun, ReadsItems, ReadsEnd, ReadsCut, ReadsPart, HasPrefix, base_of_prefix}
+use Rattle.js_spell.specs.Numeric.{ReadsRun, ReadsEnd, ReadsCut, ReadsPart, HasPrefix, base_of_prefix}
 use Rattle.js_spell.specs.Numeric.{behind_base}
 use Rattle.js_spell.specs.declared.numeric.Prefix.{Prefix}
 use Rattle.js_spell.proofs.NumericSteps.{leads_to, point_read, items_append, no_items_read, suffix_read, no_suffix_read}

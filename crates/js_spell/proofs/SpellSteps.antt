@@ -1,6 +1,6 @@
 -- The steps of reading a whole string, or a part of a template.
-use Rattle.std.proofs.Common.{◌≡◌, ℕ, ◌+◌, ◌<◌, ◌≤◌, Bool, true, false, not, ◌&&◌, ◌||◌, ◌==◌, List, [], ◌∷◌, ◌++◌}
-use Rattle.std.proofs.Common.{length, take, drop, refl, sym, ◌∙◌, ap, subst, arith, Option, Some, None, inl, inr}
+use Rattle.std.proofs.Common.{◌≡◌, ℕ, ◌+◌, ◌≤◌, Bool, true, false, ◌&&◌, ◌==◌, List, [], ◌∷◌, ◌++◌}
+use Rattle.std.proofs.Common.{length, take, drop, refl, sym, ◌∙◌, ap, arith, Option, Some, None, inl, inr}
 use Rattle.std.proofs.Common.{append_assoc, ltb}
 use Rattle.std.specs.Prelude.{IfNone, IfSome, codes}
 use Rattle.std.specs.Char.{encode_utf8}
@@ -15,11 +15,11 @@ use Rattle.js_kind.specs.declared.kind.Kind.{Kind}
 use Rattle.js_kind.specs.declared.kind.Kind.TheVariants.{Str, Undetermined}
 use Rattle.js_grammar.specs.Gap.{is_prefix}
 use Rattle.js_grammar.specs.Outcome.{place_behind}
-use Rattle.js_grammar.specs.StringItems.{StringItem, StringItems, StringValue, StringRead, string_text, string_units}
+use Rattle.js_grammar.specs.StringItems.{StringItem, StringValue, string_text, string_units}
 use Rattle.js_grammar.specs.StringItems.{contains_escape, contains_bad_escape, item_reports, stretch, is_quote}
-use Rattle.js_grammar.specs.StringItems.{all_items, string_item, string_items, string_read, string_of_items}
+use Rattle.js_grammar.specs.StringItems.{all_items, string_items, string_read, string_of_items}
 use Rattle.js_grammar.specs.StringItems.{terminated_string, unterminated}
-use Rattle.js_grammar.specs.StringItems.StringValue.{no_value, units, bad_value}
+use Rattle.js_grammar.specs.StringItems.StringValue.{units, bad_value}
 use Rattle.js_grammar.specs.Template.{template_items, template_value, template_part_read, part_of_items}
 use Rattle.js_grammar.proofs.NumberItems.{true_or_false}
 use Rattle.js_grammar.proofs.StringSteps.{string_terminated, string_unterminated, part_with_tail}
@@ -33,7 +33,7 @@ use Rattle.js_spell.specs.declared.plain.Literal.{Literal}
 use Rattle.js_spell.specs.declared.plain.Literal.TheVariants.{DoubleQuoted, SingleQuoted, Template}
 use Rattle.js_spell.specs.declared.spelt.Spelt.{Spelt}
 use Rattle.js_spell.specs.declared.spelt.SpeltValue.{SpeltValue}
-use Rattle.js_spell.specs.declared.spelt.SpeltValue.TheVariants.{Plain, Decoded, Bad}
+use Rattle.js_spell.specs.declared.spelt.SpeltValue.TheVariants.{Plain}
 use Rattle.js_spell.specs.declared.template.PartEnd.TheVariants.{Tail, Substitution, Missing}
 use Rattle.js_spell.proofs.NumericSteps.{leads_to}
 

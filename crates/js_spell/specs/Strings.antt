@@ -2,21 +2,20 @@
 use Rattle.std.specs.Prelude.{◌≡◌, ℕ, ◌<◌, Bool, true, false, not, List, [], ◌∷◌, ◌++◌, length, drop, ◌==◌, ◌&&◌, ◌||◌}
 use Rattle.std.specs.Prelude.{Option}
 use Rattle.std.specs.Prelude.{Some, None, codes, if◌then◌else◌}
-use Rattle.js_text.specs.Ascii.{line_feed, carriage_return, quotation_mark, apostrophe, backslash, grave_accent}
+use Rattle.js_text.specs.Ascii.{carriage_return, quotation_mark, apostrophe, backslash, grave_accent}
 use Rattle.js_text.specs.Ascii.{dollar_sign}
 use Rattle.js_text.specs.Characters.{begins}
 use Rattle.js_text.specs.JsStr.{units_of}
 use Rattle.js_text.specs.declared.diagnostic.Diagnostic.{Diagnostic}
 use Rattle.js_text.specs.declared.diagnostic.Diagnostic.TheVariants.{UnterminatedString}
 use Rattle.js_kind.specs.TokenParts.{TokenParts}
-use Rattle.js_kind.specs.declared.kind.Kind.{Kind}
 use Rattle.js_grammar.specs.Gap.{is_prefix}
-use Rattle.js_grammar.specs.StringItems.{StringItem, StringItems, StringValue, StringRead, string_item, ends_string}
+use Rattle.js_grammar.specs.StringItems.{StringItem, StringValue, StringRead, string_item, ends_string}
 use Rattle.js_grammar.specs.StringItems.{all_items, items_before, string_text, string_units, contains_escape}
 use Rattle.js_grammar.specs.StringItems.{contains_bad_escape}
 use Rattle.js_grammar.specs.StringItems.{are_good, item_reports, stretch, string_read}
 use Rattle.js_grammar.specs.StringItems.StringValue.{no_value, units, bad_value}
-use Rattle.js_grammar.specs.Template.{template_item, template_value, template_part_read}
+use Rattle.js_grammar.specs.Template.{template_item, template_value}
 use Rattle.js_source.specs.Runs.{HasAscii}
 use Rattle.js_source.specs.Search.{matches_at}
 use Rattle.js_source.specs.Source.{At, rest, Reads}

@@ -1,7 +1,4 @@
-use Rattle.std.proofs.Common.{◌∙◌, ◌+◌, ◌||◌, ap, subst, refl, true}
-use Rattle.std.specs.Prelude.{codes}
-use Rattle.js_source.specs.Source.{At}
-use Rattle.js_lexer.specs.Gaps.{TakesMark}
+use Rattle.std.proofs.Common.{◌∙◌, ◌||◌, ap}
 use Rattle.js_lexer.proofs.RecoverSteps.{unterminated}
 use Rattle.js_lexer.proofs.recover.recover.Goals as goal
 

@@ -1,4 +1,4 @@
-use Rattle.std.proofs.Common.{sym, ◌∙◌}
+use Rattle.std.proofs.Common.{sym}
 use Rattle.js_kind.specs.Digits.{is_digit_of}
 use Rattle.js_spell.proofs.DecodeSteps.{template_digit_read, octal_digit_read, other_digit_itself}
 use Rattle.js_spell.proofs.escape.read_digit_escape.Goals as goal

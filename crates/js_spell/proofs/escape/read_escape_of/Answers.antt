@@ -1,4 +1,4 @@
-use Rattle.std.proofs.Common.{sym, ◌∙◌, ℕ, ◌≡◌, ◌==◌, true, false}
+use Rattle.std.proofs.Common.{sym}
 use Rattle.std.proofs.lemmas.Bool.{ne_eqb, eq-eqb}
 use Rattle.js_kind.specs.Digits.{is_digit_of}
 use Rattle.js_source.specs.Source.{rest}

@@ -1,4 +1,4 @@
-use Rattle.std.proofs.Common.{arith, sym, ◌∙◌}
+use Rattle.std.proofs.Common.{sym, ◌∙◌}
 use Rattle.js_spell.proofs.ItemSteps.{good_escape_read, bad_escape_read, reported_in_string, silent_in_template}
 use Rattle.js_spell.proofs.items.read_escape_item.Goals as goal
 

@@ -1,4 +1,4 @@
-use Rattle.std.proofs.Common.{arith, sym}
+use Rattle.std.proofs.Common.{arith}
 use Rattle.js_spell.proofs.ItemSteps.{one_more_turn, turn_shortens}
 use Rattle.js_spell.proofs.items.read_items.Goals as goal
 

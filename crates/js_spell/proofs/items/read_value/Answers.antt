@@ -1,4 +1,4 @@
-use Rattle.std.proofs.Common.{arith, sym, ◌∙◌}
+use Rattle.std.proofs.Common.{arith, sym}
 use Rattle.js_source.specs.Source.{rest}
 use Rattle.js_spell.proofs.ItemSteps.{plain_value_read, passes_onward, mark_end, mark_not_end, match_option}
 use Rattle.js_spell.proofs.items.read_value.Goals as goal

@@ -1,4 +1,4 @@
-use Rattle.std.proofs.Common.{sym, ap, ◌∙◌, arith}
+use Rattle.std.proofs.Common.{sym, ap, ◌∙◌}
 use Rattle.js_text.specs.declared.span.Span.{Span}
 use Rattle.js_source.specs.Source.{At}
 use Rattle.js_spell.proofs.EndSteps.{bad_end_read}

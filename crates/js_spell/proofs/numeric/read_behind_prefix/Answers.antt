@@ -1,6 +1,6 @@
-use Rattle.std.proofs.Common.{ap, subst, ◌∙◌, ℕ, Bool}
+use Rattle.std.proofs.Common.{ap, subst, ℕ}
 use Rattle.js_source.specs.Source.{At}
-use Rattle.js_spell.specs.Numeric.{ReadsRun, ReadsCut, base_of_prefix, behind_base}
+use Rattle.js_spell.specs.Numeric.{ReadsRun, base_of_prefix}
 use Rattle.js_spell.proofs.PrefixSteps.{prefix_broken_read, prefix_big_read, prefix_plain_read}
 use Rattle.js_spell.proofs.numeric.read_behind_prefix.Goals as goal
 

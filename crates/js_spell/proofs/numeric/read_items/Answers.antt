@@ -1,7 +1,7 @@
 use Rattle.std.proofs.Common.{subst, ◌∙◌}
 use Rattle.js_source.specs.Source.{At, rest}
 use Rattle.js_grammar.specs.NumberReads.{number_items}
-use Rattle.js_spell.specs.Numeric.{ReadsCut, behind_base, base_of_prefix}
+use Rattle.js_spell.specs.Numeric.{ReadsCut}
 use Rattle.js_spell.proofs.NumericSteps.{if_ok_map}
 use Rattle.js_spell.proofs.PrefixSteps.{prefixed_read, pointed_read}
 use Rattle.js_spell.proofs.numeric.read_items.Goals as goal

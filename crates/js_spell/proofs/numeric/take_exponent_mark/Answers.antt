@@ -1,4 +1,4 @@
-use Rattle.std.proofs.Common.{Bool, true, false, List, ◌≡◌, sym, ap, ◌∙◌, ◌==◌}
+use Rattle.std.proofs.Common.{Bool, true, false, ◌≡◌, sym, ap, ◌∙◌, ◌==◌}
 use Rattle.std.specs.Prelude.{MatchBool}
 use Rattle.js_text.specs.Characters.{begins}
 use Rattle.js_source.specs.Source.{At, rest, Reads}

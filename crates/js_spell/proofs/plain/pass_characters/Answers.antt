@@ -1,4 +1,4 @@
-use Rattle.std.proofs.Common.{sym, ◌∙◌, ◌==◌, ◌≡◌, false}
+use Rattle.std.proofs.Common.{sym}
 use Rattle.std.proofs.lemmas.Bool.{ne_eqb}
 use Rattle.js_source.specs.Source.{rest}
 use Rattle.js_spell.proofs.PlainSteps.{passes_then, passes_past, nothing_plain, stop_not_plain}

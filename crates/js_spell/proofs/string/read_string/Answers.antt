@@ -1,4 +1,4 @@
-use Rattle.std.proofs.Common.{arith, subst, true, false, ℕ}
+use Rattle.std.proofs.Common.{arith, subst, true, false}
 use Rattle.js_spell.specs.Strings.{EndsString}
 use Rattle.js_spell.proofs.SpellSteps.{place_of_items, string_closed, string_open}
 use Rattle.js_spell.proofs.string.read_string.Goals as goal

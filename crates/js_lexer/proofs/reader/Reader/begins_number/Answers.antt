@@ -1,4 +1,4 @@
-use Rattle.std.proofs.Common.{◌∙◌, sym, ap}
+use Rattle.std.proofs.Common.{◌∙◌, sym}
 use Rattle.js_source.specs.Source.{rest}
 use Rattle.js_lexer.proofs.NumberSteps.{point_begins_number, digit_begins}
 use Rattle.js_lexer.proofs.reader.Reader.begins_number.Goals as goal

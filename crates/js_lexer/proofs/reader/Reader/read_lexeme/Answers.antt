@@ -1,4 +1,4 @@
-use Rattle.std.proofs.Common.{refl, ap}
+use Rattle.std.proofs.Common.{refl}
 use Rattle.js_kind.specs.declared.kind.Kind.TheVariants.{Eof}
 use Rattle.js_grammar.proofs.Flags.{end_unflagged}
 use Rattle.js_lexer.proofs.ReadingSteps.{lexeme_spelled}

@@ -1,6 +1,5 @@
-use Rattle.std.proofs.Common.{◌≡◌, ◌∙◌, ap, refl, Bool, subst}
-use Rattle.js_lexer.specs.Decoded.{KeepsValues, HasValueHere}
-use Rattle.js_lexer.proofs.NameSteps.{IsKept, lexeme_of_name, name_units, spelt_kept}
+use Rattle.std.proofs.Common.{refl}
+use Rattle.js_lexer.proofs.NameSteps.{lexeme_of_name, name_units, spelt_kept}
 use Rattle.js_lexer.proofs.reader.Reader.read_name.Goals as goal
 
 pub returns-clause-ok : goal.returns-clause-ok

@@ -1,8 +1,5 @@
 use Rattle.std.proofs.lemmas.Result.{IfOk-weaker}
-use Rattle.js_source.specs.Source.{At, rest}
-use Rattle.js_lexer.specs.Decoded.{HasValueHere}
 use Rattle.js_lexer.proofs.DecodedSteps.{needs_no_value}
-use Rattle.js_grammar.proofs.Starts.{none_named}
 use Rattle.js_lexer.proofs.reader.Reader.read_other.Goals as goal
 
 pub returns-then-begins_number-clause-value : goal.returns-then-begins_number-clause-value

@@ -1,6 +1,4 @@
 use Rattle.std.proofs.Common.{refl}
-use Rattle.js_text.specs.Ascii.{number_sign}
-use Rattle.js_source.specs.Source.{Reads}
 use Rattle.js_lexer.proofs.NameSteps.{lexeme_of_private, private_units, spelt_kept, takes_mark}
 use Rattle.js_lexer.proofs.reader.Reader.read_private_name.Goals as goal
 
