@@ -1,12 +1,8 @@
 -- The tests of a source and of a list of commands.
-use Rattle.std.proofs.Common.{◌≡◌, ℕ, ◌+◌, ◌<◌, ◌≤◌, Bool, true, false, cond, List, [], ◌∷◌, length, take, get_or, refl}
+use Rattle.std.proofs.Common.{◌≡◌, ℕ, ◌+◌, ◌<◌, ◌≤◌, Bool, true, false, cond, List, length, take, get_or, refl}
 use Rattle.std.proofs.Common.{◌∙◌, ap, subst, arith, count_by, inl, inr}
 use Rattle.std.proofs.lemmas.List.Sums.{count_by_more_no, count_by_more_yes}
 use Rattle.std.proofs.lemmas.Bool.{cases_lt}
-use Rattle.std.proofs.lemmas.Bool.Decides.{nat_tests}
-use Rattle.std.specs.List.{starts_with}
-use Rattle.std.specs.Prelude.{codes, nat_eq, ◌==◌}
-use Rattle.js_grammar.specs.Gap.{is_prefix}
 use Rattle.std.proofs.lemmas.Option.{slice_get_within, get_or_from_slice_get}
 use Rattle.js_session.specs.declared.command.Command.{Command}
 use Rattle.js_session.specs.Faults.{ClosesNoMark, HasMarks}
