@@ -32,6 +32,7 @@ pub mod Starts
 pub mod StringBegins
 pub mod StringLaws
 pub mod StringRows
+pub mod StringSpans
 pub mod StringSteps
 pub mod TemplateLaws
 pub mod Tests

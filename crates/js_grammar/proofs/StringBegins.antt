@@ -4,7 +4,13 @@ use Rattle.std.proofs.Common.{length}
 use Rattle.std.proofs.Common.{refl, sym, ◌∙◌, ap, arith, subst, Option, Some, None, inl, inr}
 use Rattle.std.specs.List.{list_any}
 use Rattle.std.proofs.lemmas.Bool.{eqb-true}
+use Rattle.std.proofs.lemmas.List.{append-nil}
+use Rattle.std.proofs.lemmas.List.Concat.{flat_map-append}
 use Rattle.std.proofs.lemmas.List.Folds.{list_any-append}
+use Rattle.std.specs.Char.Escape.{encode_utf16}
+use Rattle.js_text.specs.JsStr.{units_of}
+use Rattle.js_grammar.specs.StringItems.{StringItems, string_units, IsString}
+use Rattle.js_grammar.proofs.StringSteps.{carriage_return_escaped}
 use Rattle.unicode_ident.proofs.Computing.{unicode_ident}
 use Rattle.js_text.specs.Ascii.{quotation_mark, apostrophe, grave_accent, backslash, carriage_return, line_feed}
 use Rattle.js_text.specs.Characters.{begins, is_identifier_start}
@@ -180,3 +186,118 @@ pub template_escaped : (text : List ℕ)
     → contains_escape (template_items text).items
     ≡ list_any is_backslash_or_return (string_text (template_items text).items)
 template_escaped text = escaped_by is_backslash_or_return template_item template_escaped_by (length text) text
+
+-- A string is escaped exactly where a `\` is among its characters.
+pub string_is_escaped : (xs ys : List ℕ) (string : IsString xs ys)
+    → contains_escape string.items ≡ list_any is_backslash xs
+string_is_escaped xs ys string =
+    let text = string_text string.items in
+    let behind = text ++ (string.quote ∷ ys) in
+    let quote : is_backslash string.quote ≡ false = quote_is_no_backslash string.quote string.is_quote in
+    let inner : contains_escape string.items ≡ list_any is_backslash text =
+    ap (λ (found : StringItems). contains_escape found.items) (sym string.found)
+    ∙ string_escaped string.quote behind
+    ∙ ap (λ (found : StringItems). list_any is_backslash (string_text found.items)) string.found in
+    inner
+    ∙ sym
+    (ap (list_any is_backslash) string.here
+    ∙ ap (λ b. b || list_any is_backslash (text ++ (string.quote ∷ []))) quote
+    ∙ list_any-append is_backslash text (string.quote ∷ [])
+    ∙ ap (λ b. list_any is_backslash text || (b || false)) quote ∙ or_false (list_any is_backslash text))
+  where
+    quote_is_no_backslash : (c : ℕ) → is_quote c ≡ true → is_backslash c ≡ false
+    quote_is_no_backslash c e =
+        elim (true_or_false (c == quotation_mark)) [
+          | inl is ↦ ap is_backslash (eqb-true c quotation_mark is)
+          | inr other ↦ ap is_backslash (eqb-true c apostrophe (rw other at e))
+        ]
+
+    or_false : (b : Bool) → (b || false) ≡ b
+    or_false true = refl
+    or_false false = refl
+
+-- items that are not escaped have the units of their characters
+abbrev pub HasOwnUnits : StringItem → Type 0
+HasOwnUnits item = item.is_escaped ≡ false → item.units ≡ units_of item.text
+
+own_units_of_plain : (c : ℕ) (cs : List ℕ) → HasOwnUnits (plain_item c cs)
+own_units_of_plain c cs e = sym (append-nil (encode_utf16 c))
+
+escaped_has_none : (item : StringItem) → item.is_escaped ≡ true → HasOwnUnits item
+escaped_has_none item is e = absurd (let same : true ≡ false = sym is ∙ e in cc)
+
+string_own_units : (quote : ℕ) (text : List ℕ) (item : StringItem) → string_item quote text ≡ Some item
+    → HasOwnUnits item
+string_own_units quote [] item e = absurd (cc)
+string_own_units quote (c ∷ cs) item e =
+    elim (true_or_false (c == backslash)) [
+      | inl is ↦ (
+          let at : string_item quote (backslash ∷ cs) ≡ Some item =
+          ap (λ d. string_item quote (d ∷ cs)) (sym (eqb-true c backslash is)) ∙ e in
+          found_as HasOwnUnits (escape false cs) item _
+          (escaped_has_none (escape false cs) (escape_is_one false cs).escaped) refl at)
+      | inr other ↦
+          elim (true_or_false (ends_string quote c)) [
+            | inl ends ↦ not_found _ item (string_ends quote c cs other ends) e
+            | inr on ↦
+                found_as HasOwnUnits (plain_item c cs) item _ (own_units_of_plain c cs)
+                (string_plain quote c cs other on) e
+          ]
+    ]
+
+template_own_units : (text : List ℕ) (item : StringItem) → template_item text ≡ Some item → HasOwnUnits item
+template_own_units [] item e = absurd (cc)
+template_own_units (c ∷ cs) item e =
+    elim (true_or_false (c == backslash)) [
+      | inl is ↦ (
+          let at : template_item (backslash ∷ cs) ≡ Some item =
+          ap (λ d. template_item (d ∷ cs)) (sym (eqb-true c backslash is)) ∙ e in
+          found_as HasOwnUnits (escape true cs) item _
+          (escaped_has_none (escape true cs) (escape_is_one true cs).escaped) refl at)
+      | inr other ↦
+          elim (true_or_false (ends_part (c ∷ cs))) [
+            | inl ends ↦ not_found _ item (template_ends c cs other ends) e
+            | inr on ↦
+                elim (true_or_false (c == carriage_return)) [
+                  | inl is ↦ (
+                      let at : template_item (carriage_return ∷ cs) ≡ Some item =
+                      ap (λ d. template_item (d ∷ cs)) (sym (eqb-true c carriage_return is)) ∙ e in
+                      found_as HasOwnUnits (carriage_return_item cs) item _
+                      (escaped_has_none (carriage_return_item cs) (carriage_return_escaped cs)) refl at)
+                  | inr cr ↦
+                      found_as HasOwnUnits (plain_item c cs) item _ (own_units_of_plain c cs)
+                      (template_plain c cs other on cr) e
+                ]
+          ]
+    ]
+
+or_false_both : (a b : Bool) → (a || b) ≡ false → (a ≡ false) × (b ≡ false)
+or_false_both true b e = absurd (cc)
+or_false_both false b e = (refl, e)
+
+own_units : (step : List ℕ → Option StringItem)
+    → ((text : List ℕ) (item : StringItem) → step text ≡ Some item → HasOwnUnits item) → (most : ℕ) (text : List ℕ)
+    → contains_escape (items_up_to step most text).items ≡ false
+    → string_units (items_up_to step most text).items ≡ units_of (string_text (items_up_to step most text).items)
+own_units step by zero text e = refl
+own_units step by (suc most) text e =
+    elim (none_or_some (step text)) [
+      | inl is ↦ rw is refl
+      | inr (item, is) ↦ (
+          let more = items_up_to step most item.rest in
+          let both = or_false_both item.is_escaped (contains_escape more.items) (rw is at e) in
+          rw is
+          (ap (λ us. us ++ string_units more.items) (by text item is both.0)
+          ∙ ap (λ us. units_of item.text ++ us) (own_units step by most item.rest both.1)
+          ∙ sym (flat_map-append encode_utf16 item.text (string_text more.items))))
+    ]
+
+-- Where nothing is escaped, the units of a string are those of its characters.
+pub string_has_own_units : (quote : ℕ) (text : List ℕ) → contains_escape (string_items quote text).items ≡ false
+    → string_units (string_items quote text).items ≡ units_of (string_text (string_items quote text).items)
+string_has_own_units quote text e = own_units (string_item quote) (string_own_units quote) (length text) text e
+
+-- And so are those of a part of a template.
+pub template_has_own_units : (text : List ℕ) → contains_escape (template_items text).items ≡ false
+    → string_units (template_items text).items ≡ units_of (string_text (template_items text).items)
+template_has_own_units text e = own_units template_item template_own_units (length text) text e

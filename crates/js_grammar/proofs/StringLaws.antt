@@ -154,6 +154,18 @@ one_string text xs ys us vs a b =
     first [] = 0
     first (c ∷ cs) = c
 
+-- What is read where a string begins is that string, and nothing is reported.
+pub string_read_here : (quote start : ℕ) (text xs ys : List ℕ) (begun : BeginsWithString (quote ∷ text) xs ys)
+    → string_read quote start text ≡ good_string begun.string.items ys
+string_read_here quote start text xs ys begun =
+    let same = begun.here ∙ string_here xs ys begun.string in
+    ap (λ c. string_read c start text) (ap first same)
+    ∙ ap (string_read begun.string.quote start) (ap (drop 1) same) ∙ string_is_read start xs ys begun.string
+  where
+    first : List ℕ → ℕ
+    first [] = 0
+    first (c ∷ cs) = c
+
 -- a string begins with a quote, and has two characters at least
 pub string_begins : (xs ys : List ℕ) → IsString xs ys → begins is_quote xs ≡ true
 string_begins xs ys string = ap (begins is_quote) string.here ∙ string.is_quote

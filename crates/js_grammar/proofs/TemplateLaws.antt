@@ -198,3 +198,28 @@ pub template_begins : (xs ys : List ℕ) (kind : Kind) → IsTemplatePart xs ys 
     → begins (λ c. c == grave_accent) xs ≡ true
 template_begins xs ys kind (no_substitution part e) = ap (begins (λ c. c == grave_accent)) part.here
 template_begins xs ys kind (head part e) = ap (begins (λ c. c == grave_accent)) part.here
+
+-- What is read where a template begins is that template, or its first part, and nothing is reported.
+pub template_read_here : (start : ℕ) (text xs ys : List ℕ) (kind : Kind)
+    → BeginsWithTemplate (grave_accent ∷ text) xs ys kind
+    → (items : List StringItem) × (template_part_read TemplateHead NoSubstitutionTemplate start text
+    ≡ good_part kind items ys)
+template_read_here start text xs ys kind begun = read begun.part
+  where
+    read : IsTemplatePart xs ys kind
+        → (items : List StringItem) × (template_part_read TemplateHead NoSubstitutionTemplate start text
+        ≡ good_part kind items ys)
+    read (no_substitution part e) = (
+      part.items,
+      ap (λ cs. template_part_read TemplateHead NoSubstitutionTemplate start (drop 1 cs))
+          (begun.here ∙ part_here grave_accent (codes "`") xs ys part)
+          ∙ tail_is_read TemplateHead NoSubstitutionTemplate start grave_accent xs ys part
+          ∙ ap (λ k. good_part k part.items ys) (sym e),
+    )
+    read (head part e) = (
+      part.items,
+      ap (λ cs. template_part_read TemplateHead NoSubstitutionTemplate start (drop 1 cs))
+          (begun.here ∙ part_here grave_accent (codes "${") xs ys part)
+          ∙ substitution_is_read TemplateHead NoSubstitutionTemplate start grave_accent xs ys part
+          ∙ ap (λ k. good_part k part.items ys) (sym e),
+    )
