@@ -63,7 +63,7 @@ static FAULTS: [(&[u8], &[Command], LexFault); 4] = [
         LexFault::NoMark(2),
     ),
     (b"a '", &[Command::Commit], LexFault::NotBuilt(2)),
-    (b"#!a\n#", &[], LexFault::NotBuilt(4)),
+    (b"#!a\n`", &[], LexFault::NotBuilt(4)),
     (b"\"a \xFF", &[], LexFault::NotUtf8(3)),
 ];
 
