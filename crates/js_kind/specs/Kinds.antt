@@ -96,6 +96,19 @@ number_kinds =
 unfoldable pub is_number_kind : Kind → Bool
 is_number_kind kind = is_one_of number_kinds kind
 
+-- the kinds of the parts of templates
+abbrev pub template_kinds : List Kind
+template_kinds =
+    variant.NoSubstitutionTemplate ∷ variant.TemplateHead ∷ variant.TemplateMiddle ∷ variant.TemplateTail ∷ []
+
+-- tokens of the kind are parts of templates (ECMA-262 12.9.6)
+unfoldable pub is_template_kind : Kind → Bool
+is_template_kind kind = is_one_of template_kinds kind
+
+-- tokens of the kind are strings (ECMA-262 12.9.4)
+unfoldable pub is_string_kind : Kind → Bool
+is_string_kind kind = number kind == number variant.Str
+
 -- the reserved words (ECMA-262 12.7.2, ReservedWord)
 abbrev pub reserved_words : List Kind
 reserved_words = plain_keywords ++ literal_words ++ variant.Yield ∷ []

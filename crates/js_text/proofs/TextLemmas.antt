@@ -1,8 +1,12 @@
 -- Laws of `from_first` and `before_first`, and of places.
 use Rattle.std.proofs.Common.{◌≡◌, ℕ, ◌+◌, ◌≤◌, Bool, true, false, cond, List, [], ◌∷◌, ◌++◌, length, drop, refl, sym}
-use Rattle.std.proofs.Common.{◌∙◌, ap, arith, length-drop, length-append}
-use Rattle.std.specs.Str.{IsCharBoundary, IsUtf8, encode_utf8_all}
-use Rattle.std.proofs.lemmas.Str.{encodes-chars, IsUtf8-drop, encodes-append}
+use Rattle.std.proofs.Common.{◌∙◌, ap, subst, arith, length-drop, length-append}
+use Rattle.std.specs.Char.{encode_utf8, len_utf8}
+use lib.Utf8.{scalar}
+use Rattle.std.specs.Str.{IsCharBoundary, IsUtf8, encode_utf8_all, chars, all_scalars}
+use Rattle.std.proofs.lemmas.Str.{encodes-chars, IsUtf8-drop, encodes-append, scalars-chars, chars-encodes}
+use Rattle.std.proofs.lemmas.Str.{IsCharBoundary-past_char, drop_past_char, length-encode}
+use Rattle.std.proofs.lemmas.Bool.{and_parts}
 use Rattle.js_text.specs.Characters.{from_first, before_first, from_place, place_before}
 
 -- a text is what stands before the first such character, and the rest
@@ -56,3 +60,29 @@ place_past text p q xs u b d e =
       b.0,
       d.0,
     )
+
+-- behind a character that stands at a place is the next one, and from there on what followed the character
+pub past_character : (text : List ℕ) (p c : ℕ) (cs : List ℕ) → IsUtf8 text → IsCharBoundary text p
+    → from_place text p ≡ c ∷ cs
+    → IsCharBoundary text (p + len_utf8 c) × (from_place text (p + len_utf8 c) ≡ cs)
+past_character text p c cs u b e =
+    let bytes : drop p text ≡ encode_utf8 c ++ encode_utf8_all cs =
+    sym (rest_bytes text p u b) ∙ ap encode_utf8_all e in
+    let scalars =
+    and_parts (scalar c) (all_scalars cs) (sym (ap all_scalars e) ∙ scalars-chars _ (IsUtf8-drop text p u b)) in (
+      IsCharBoundary-past_char text (encode_utf8_all cs) p c b.0 (IsUtf8-drop text p u b) bytes,
+      ap chars (drop_past_char text (encode_utf8_all cs) p c bytes) ∙ chars-encodes cs scalars.1,
+    )
+
+-- and behind characters
+pub past_characters : (text : List ℕ) (p : ℕ) (xs ys : List ℕ) → IsUtf8 text → IsCharBoundary text p
+    → from_place text p ≡ xs ++ ys → IsCharBoundary text (p + length (encode_utf8_all xs))
+past_characters text p [] ys u b e = subst (IsCharBoundary text) (no_more p) b
+  where
+    no_more : (n : ℕ) → n ≡ n + 0
+    no_more n = omega arith
+past_characters text p (x ∷ xs) ys u b e =
+    let next = past_character text p x (xs ++ ys) u b e in
+    subst (IsCharBoundary text)
+    (omega (arith, length-append (encode_utf8 x) (encode_utf8_all xs), length-encode x))
+    (past_characters text (p + len_utf8 x) xs ys u next.0 next.1)

@@ -10,3 +10,12 @@ pub enum JsText<'t> {
     /// A text whose spelling has escapes.
     Decoded(&'t JSStr),
 }
+
+/// The value of a part of a template.
+#[derive(Clone, Copy, Drop)]
+pub enum TemplateValue<'t> {
+    /// What its characters and escapes stand for.
+    Text(JsText<'t>),
+    /// None: it has an escape that stands for nothing.
+    Bad,
+}

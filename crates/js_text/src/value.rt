@@ -13,8 +13,10 @@ pub enum RowValue {
     Nothing,
     /// This stretch of the source, in bytes.
     Slice(Span),
-    /// These UTF-16 units, since the spelling has escapes.
+    /// These UTF-16 units, since the spelling has escapes, or a CR in a template.
     Units(JSStr),
+    /// A part of a template with an escape that stands for nothing.
+    Bad,
 }
 
 impl RowValue {
@@ -26,6 +28,7 @@ impl RowValue {
             RowValue::Nothing => Ok(RowValue::Nothing),
             RowValue::Slice(span) => Ok(RowValue::Slice(*span)),
             RowValue::Units(text) => Ok(RowValue::Units(text.copy(alloc)?)),
+            RowValue::Bad => Ok(RowValue::Bad),
         }
     }
 }
