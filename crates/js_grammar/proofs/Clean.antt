@@ -17,6 +17,7 @@ use Rattle.js_grammar.specs.Goals.GoalReads.{hashbang as hashbang_read, behind_g
 use Rattle.js_grammar.specs.Name.{begins_name, private_read}
 use Rattle.js_grammar.specs.Number.{begins_number}
 use Rattle.js_grammar.specs.Outcome.{Outcome, gap_diagnostics}
+use Rattle.js_grammar.specs.Quoted.{begins_quoted}
 use Rattle.js_grammar.specs.Reads.{PlainReads}
 use Rattle.js_grammar.specs.Reads.PlainReads.{hashbang, spelled}
 use Rattle.js_grammar.specs.Recovery.{Reading, recovered, private_reading, recovered_character, is_control_or_wide}
@@ -27,6 +28,7 @@ use Rattle.js_grammar.proofs.NumberReadings.{faulty_number_reports}
 use Rattle.js_grammar.proofs.Reported.{longest_of_whole, whole_of_longest, gap_reports_nothing, append_nil}
 use Rattle.js_grammar.proofs.PunctuatorLeaves.{none_reported}
 use Rattle.js_grammar.proofs.NameReadings.{faulty_name_reports, faulty_private_reports}
+use Rattle.js_grammar.proofs.QuotedReadings.{faulty_quoted_reports}
 use Rattle.js_grammar.proofs.NumberSound.{first_is}
 use Rattle.js_grammar.proofs.SpellingClasses.{nothing_spelled}
 use Rattle.js_grammar.specs.Spelling.{begins_named}
@@ -44,7 +46,8 @@ reported_spells_nothing t line_has_ended here e =
     let both = and_true (is_prefix (codes "<!--") here) (is_module t && line_has_ended) e in
     let text : here ≡ codes "<!--" ++ drop 4 here = prefix_is (codes "<!--") here both.0 in
     subst (NothingSpelled t line_has_ended) (sym text)
-    (nothing_spelled t line_has_ended (codes "<!--" ++ drop 4 here) (λ e. cc) angle_begins_none.0 angle_begins_none.1
+    (nothing_spelled t line_has_ended (codes "<!--" ++ drop 4 here)
+    (λ e. cc) angle_begins_none.0 angle_begins_none.1 refl
     (none_reported t line_has_ended (drop 4 here) both.1))
 
 -- and so where something is spelled, no reported comment stands
@@ -77,7 +80,9 @@ recovered_reports t line_has_ended place here nothing =
     (λ begun. private_reports (first_is number_sign here begun)) (
     reports_if (begins_number here) _ _
     (λ begun. faulty_number_reports t line_has_ended place here begun nothing) (
-    reports_if (begins (λ c. c == 0xFFFD) here) _ _ (λ _ e. cc) (character here)))))
+    reports_if (begins begins_quoted here) _ _
+    (λ begun. faulty_quoted_reports t line_has_ended place here begun nothing) (
+    reports_if (begins (λ c. c == 0xFFFD) here) _ _ (λ _ e. cc) (character here))))))
   where
     private_reports : here ≡ number_sign ∷ drop 1 here
         → (private_reading line_has_ended (private_read (place + 1) (drop 1 here))).diagnostics ≢ []

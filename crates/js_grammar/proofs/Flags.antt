@@ -1,26 +1,29 @@
 -- Tokens that are no names have no value and no escape; punctuators and the end of a source have no flag.
-use Rattle.std.proofs.Common.{◌≡◌, ℕ, Bool, true, false, not, ◌&&◌, ◌||◌, List, refl, ◌∙◌, ap}
+use Rattle.std.proofs.Common.{◌≡◌, ℕ, Bool, true, false, not, ◌&&◌, ◌||◌, List, ◌∷◌, refl, ◌∙◌, ap}
 use Rattle.std.specs.List.{list_all}
 use Rattle.js_text.specs.declared.value.RowValue.TheVariants.{Nothing}
-use Rattle.js_kind.specs.Kinds.{is_identifier_name, is_number_kind}
+use Rattle.js_kind.specs.Kinds.{is_identifier_name, is_number_kind, is_string_kind, is_template_kind, keywords}
 use Rattle.js_kind.specs.declared.kind.Kind.{Kind}
-use Rattle.js_kind.specs.declared.kind.Kind.TheVariants.{Eof}
+use Rattle.js_kind.specs.declared.kind.Kind.TheVariants.{Eof, Ident, PrivateIdentifier}
+use Rattle.js_kind.proofs.Members.{one_passes, is_later}
+use Rattle.js_grammar.specs.Name.{has_escape}
 use Rattle.js_grammar.specs.Punctuators.{Punctuator, punctuators, IsIn}
-use Rattle.js_grammar.specs.Spelling.{is_named, is_private_name, value_of}
+use Rattle.js_grammar.specs.Spelling.{is_named, is_private_name, is_quoted, is_valued, is_escaped}
+use Rattle.js_grammar.specs.Spelling.{value_of}
 use Rattle.js_grammar.specs.Values.{plain_value}
 use Rattle.js_grammar.proofs.PunctuatorLemmas.{passes_at}
 use Rattle.js_grammar.proofs.Tests.{and_true}
 
--- a kind of neither names nor numbers
+-- a kind whose tokens have no value and are no numbers
 pub record IsUnflagged (kind : Kind) : Type 0 where
-  pub no_name : is_named kind ≡ false
+  pub no_value : is_valued kind ≡ false
   pub no_number : is_number_kind kind ≡ false
 
 abbrev unflagged : Punctuator → Bool
-unflagged p = not (is_named p.kind) && not (is_number_kind p.kind)
+unflagged p = not (is_valued p.kind) && not (is_number_kind p.kind)
 
 punctuators_unflagged : list_all unflagged punctuators ≡ true
-unfolding is_identifier_name is_private_name is_number_kind
+unfolding is_identifier_name is_private_name is_number_kind is_string_kind is_template_kind
 punctuators_unflagged = refl
 
 not_true : (b : Bool) → not b ≡ true → b ≡ false
@@ -30,16 +33,16 @@ not_true false e = refl
 pub punctuator_unflagged : (p : Punctuator) (kind : Kind) → IsIn p punctuators → kind ≡ p.kind → IsUnflagged kind
 punctuator_unflagged p kind i same =
     let both =
-    and_true (not (is_named p.kind)) (not (is_number_kind p.kind))
+    and_true (not (is_valued p.kind)) (not (is_number_kind p.kind))
     (passes_at unflagged p punctuators i punctuators_unflagged) in
     record {
-      no_name = ap is_named same ∙ not_true _ both.0;
+      no_value = ap is_valued same ∙ not_true _ both.0;
       no_number = ap is_number_kind same ∙ not_true _ both.1;
     }
 
 pub end_unflagged : IsUnflagged Eof
-unfolding is_identifier_name is_private_name is_number_kind
-end_unflagged = record { no_name = refl; no_number = refl }
+unfolding is_identifier_name is_private_name is_number_kind is_string_kind is_template_kind
+end_unflagged = record { no_value = refl; no_number = refl }
 
 either_false : (a b : Bool) → (a || b) ≡ false → (a ≡ false) × (b ≡ false)
 either_false true b e = absurd (cc)
@@ -50,10 +53,63 @@ pub neither_name : (kind : Kind) → is_named kind ≡ false
     → (is_identifier_name kind ≡ false) × (is_private_name kind ≡ false)
 neither_name kind e = either_false (is_identifier_name kind) (is_private_name kind) e
 
--- what is no name has no value
-pub unnamed_value : (kind : Kind) (xs : List ℕ) (start end : ℕ) → is_named kind ≡ false
-    → value_of kind xs start end ≡ Nothing
-unnamed_value kind xs start end e = let none = neither_name kind e in rw (none.0, none.1) refl
+-- a kind that is of no strings and no templates is of neither
+pub neither_quoted : (kind : Kind) → is_quoted kind ≡ false
+    → (is_string_kind kind ≡ false) × (is_template_kind kind ≡ false)
+neither_quoted kind e = either_false (is_string_kind kind) (is_template_kind kind) e
 
-pub unnamed_plain_value : (kind : Kind) (start end : ℕ) → is_named kind ≡ false → plain_value kind start end ≡ Nothing
-unnamed_plain_value kind start end e = let none = neither_name kind e in rw (none.0, none.1) refl
+-- what a kind without values is none of
+pub record IsNone (kind : Kind) : Type 0 where
+  pub no_name : is_identifier_name kind ≡ false
+  pub no_private_name : is_private_name kind ≡ false
+  pub no_quoted : is_quoted kind ≡ false
+
+pub none_of_them : (kind : Kind) → is_valued kind ≡ false → IsNone kind
+none_of_them kind e =
+    let both = either_false (is_named kind) (is_quoted kind) e in
+    let names = neither_name kind both.0 in
+    record { no_name = names.0; no_private_name = names.1; no_quoted = both.1 }
+
+-- such a token has no value, and no escape
+pub has_no_value : (kind : Kind) (xs ys : List ℕ) (start end : ℕ) → is_valued kind ≡ false
+    → value_of kind xs ys start end ≡ Nothing
+has_no_value kind xs ys start end e =
+    let none = none_of_them kind e in rw (none.no_name, none.no_private_name, none.no_quoted) refl
+
+pub has_no_plain_value : (kind : Kind) (start end : ℕ) → is_valued kind ≡ false
+    → plain_value kind start end ≡ Nothing
+has_no_plain_value kind start end e = rw e refl
+
+pub has_no_escape : (kind : Kind) (xs : List ℕ) → is_valued kind ≡ false → is_escaped kind xs ≡ false
+has_no_escape kind xs e =
+    let none = none_of_them kind e in
+    let quoted = neither_quoted kind none.no_quoted in
+    rw (quoted.1, none.no_name, none.no_private_name, quoted.0) refl
+
+-- names are neither strings nor templates
+abbrev is_unquoted : Kind → Bool
+is_unquoted kind = not (is_quoted kind)
+
+names_are_unquoted : list_all is_unquoted (PrivateIdentifier ∷ Ident ∷ keywords) ≡ true
+unfolding is_string_kind is_template_kind
+names_are_unquoted = refl
+
+pub name_is_unquoted : (kind : Kind) → is_identifier_name kind ≡ true → is_quoted kind ≡ false
+unfolding is_identifier_name
+name_is_unquoted kind is =
+    not_true (is_quoted kind)
+    (one_passes is_unquoted (PrivateIdentifier ∷ Ident ∷ keywords) kind names_are_unquoted
+    (is_later kind PrivateIdentifier (Ident ∷ keywords) is))
+
+pub private_name_is_unquoted : is_quoted PrivateIdentifier ≡ false
+unfolding is_string_kind is_template_kind
+private_name_is_unquoted = refl
+
+-- names are escaped where an escape is in them
+pub name_escape : (kind : Kind) (xs : List ℕ) → is_identifier_name kind ≡ true → is_escaped kind xs ≡ has_escape xs
+name_escape kind xs is =
+    rw ((neither_quoted kind (name_is_unquoted kind is)).1, is) refl
+
+pub private_escape : (xs : List ℕ) → is_escaped PrivateIdentifier xs ≡ has_escape xs
+unfolding is_identifier_name is_private_name is_template_kind
+private_escape xs = refl

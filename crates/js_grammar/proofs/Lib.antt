@@ -25,6 +25,8 @@ pub mod PieceLemmas
 pub mod Printable
 pub mod PunctuatorLeaves
 pub mod PunctuatorLemmas
+pub mod QuotedReadings
+pub mod QuotedValues
 pub mod Reported
 pub mod Spans
 pub mod SpellingClasses
@@ -36,6 +38,7 @@ pub mod StringSpans
 pub mod StringSteps
 pub mod TemplateLaws
 pub mod Tests
+pub mod Texts
 pub mod UnicodeEscapes
 pub mod Unique
 pub mod Values

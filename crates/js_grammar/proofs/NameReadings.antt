@@ -23,6 +23,7 @@ use Rattle.js_grammar.specs.Recovery.{Reading, name_reading, private_reading, re
 use Rattle.js_grammar.specs.Spelling.{LongestSpelling, NothingSpelled, Spelling, is_private_name}
 use Rattle.js_grammar.specs.Spelling.Spelling.{name, private_name}
 use Rattle.js_grammar.proofs.NameLaws.{BeginsWithName, good_name, name_is_read, clean_is_name, one_name}
+use Rattle.js_grammar.proofs.Flags.{name_escape, private_escape}
 use Rattle.js_grammar.proofs.NumberItems.{true_or_false}
 use Rattle.js_grammar.proofs.SpellingClasses.{only_name, only_private_name}
 use Rattle.js_grammar.proofs.Starts.{name_begins, private_begins_no_name}
@@ -77,7 +78,7 @@ reads_good_name t line_has_ended place here xs ys b =
       kind_is = refl;
       rest_is = refl;
       is_on_new_line = refl;
-      escaped_is = rw flags.0 refl;
+      escaped_is = name_escape (kind_of_name (decoded xs)) xs flags.0;
       has_separator = rw flags.1 refl;
       diagnostics_are = refl;
     }
@@ -181,7 +182,7 @@ good_private_name t line_has_ended place cs xs ys b = record {
   kind_is = refl;
   rest_is = refl;
   is_on_new_line = refl;
-  escaped_is = rw (private_flags.0, private_flags.1) refl;
+  escaped_is = private_escape (number_sign ∷ xs);
   has_separator = rw private_flags.2 refl;
   diagnostics_are = refl;
 }

@@ -23,8 +23,7 @@ use Rattle.js_grammar.proofs.NumberItems.{true_or_false}
 use Rattle.js_grammar.proofs.NumberKinds.{number_kind}
 use Rattle.js_grammar.proofs.NumberLaws.{BeginsWithNumber, good_read, number_is_read, clean_is_number, one_number}
 use Rattle.js_grammar.proofs.SpellingClasses.{only_number}
-use Rattle.js_grammar.proofs.Flags.{unnamed_value}
-use Rattle.js_grammar.specs.Outcome.{place_behind}
+use Rattle.js_grammar.proofs.Flags.{has_no_escape, none_of_them}
 use Rattle.js_grammar.proofs.Starts.{number_begins_no_named, named_false}
 use Rattle.js_grammar.specs.Name.{begins_name}
 
@@ -52,8 +51,10 @@ good_number : (t : SourceType) (line_has_ended : Bool) (place : ℕ) (here xs ys
     → ReadsHere t line_has_ended place here (number_reading line_has_ended (good_read xs kind ys))
 good_number t line_has_ended place here xs ys kind b =
     let kinds = number_kind xs kind b.number in
+    let none = none_of_them kind kinds.no_value in
     spelled xs (longest_of_number t line_has_ended here xs ys kind b)
-    (rw (kinds.is_number, kinds.no_name, unnamed_value kind xs place (place_behind place xs) kinds.no_name) refl)
+    (rw (kinds.is_number, has_no_escape kind xs kinds.no_value, none.no_name, none.no_private_name, none.no_quoted)
+    refl)
 
 digit_is_no_slash : (c : ℕ) → is_digit_of 10 c ≡ true → (c == 47) ≡ false
 unfolding is_digit_of

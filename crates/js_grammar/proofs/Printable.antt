@@ -1,5 +1,5 @@
--- The printable characters of ASCII: each begins a name, a number, a punctuator, a form that is not built, or is white
--- space.
+-- The printable characters of ASCII: each begins a name, a number, a punctuator, a string or a template, or is
+-- white space.
 use Rattle.std.proofs.Common.{◌≡◌, ℕ, ◌+◌, ◌<◌, ◌≤◌, Bool, true, false, not, ◌||◌, ◌==◌, zero, suc, List, [], ◌∷◌, ◌++◌}
 use Rattle.std.proofs.Common.{refl, sym, ◌∙◌, ap, subst, arith, inl, inr}
 use Rattle.std.specs.Prelude.{codes}
@@ -10,7 +10,7 @@ use Rattle.unicode_ident.proofs.Computing.{unicode_ident}
 use Rattle.js_text.specs.Characters.{is_identifier_start, is_white_space, is_irregular_whitespace}
 use Rattle.js_text.specs.declared.source_type.SourceType.{SourceType}
 use Rattle.js_kind.specs.Digits.{is_digit_of}
-use Rattle.js_grammar.specs.Built.{is_unbuilt_byte}
+use Rattle.js_grammar.specs.Quoted.{begins_quoted}
 use Rattle.js_grammar.specs.Punctuators.{Punctuator, punctuators, IsIn, is_spelled, NoPunctuator}
 use Rattle.js_grammar.proofs.PunctuatorLemmas.{passes_at, spelled_at}
 use Rattle.js_grammar.specs.Spelling.{begins_named}
@@ -61,7 +61,7 @@ is_known c =
     begins_named c ||
     (is_white_space c ||
     (is_digit_of 10 c ||
-    (is_unbuilt_byte c || (list_any (λ x. x == c) lone_characters || ((c == 46) || ((c == 47) || (c == 60)))))))
+    (begins_quoted c || (list_any (λ x. x == c) lone_characters || ((c == 46) || ((c == 47) || (c == 60)))))))
 
 pub printable_known : list_all is_known (range_with_len 32 95) ≡ true
 unfolding is_identifier_start is_white_space is_irregular_whitespace is_digit_of unicode_ident

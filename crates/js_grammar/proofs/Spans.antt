@@ -24,7 +24,13 @@ use Rattle.js_grammar.specs.Recovery.{Reading, recovered, recovered_character, i
 use Rattle.js_grammar.specs.Spelling.{Spelling}
 use Rattle.js_grammar.specs.declared.goal.Goal.{Goal}
 use Rattle.js_grammar.specs.declared.goal.Goal.TheVariants.{First, Next}
-use Rattle.js_grammar.specs.Spelling.Spelling.{name, private_name, punctuator, number, end_of_source}
+use Rattle.js_grammar.specs.Spelling.Spelling.{name, private_name, punctuator, number, string, template}
+use Rattle.js_grammar.specs.Spelling.Spelling.{end_of_source}
+use Rattle.js_grammar.specs.Quoted.{begins_quoted}
+use Rattle.js_text.specs.Ascii.{grave_accent}
+use Rattle.js_grammar.proofs.StringLaws.{string_has_characters}
+use Rattle.js_grammar.proofs.TemplateLaws.{template_begins}
+use Rattle.js_grammar.proofs.StringSpans.{quoted_characters}
 use Rattle.js_grammar.proofs.NameLaws.{name_characters}
 use Rattle.js_grammar.proofs.NumberBegins.{number_begins}
 use Rattle.js_grammar.proofs.NumberItems.{true_or_false}
@@ -50,6 +56,11 @@ spelling_has_text t line_has_ended xs ys k (number is follows) some e =
     let begun : begins_number [] ≡ true = subst (λ us. begins_number us ≡ true) (append-nil xs ∙ e)
     (number_begins xs [] k is) in
     cc
+spelling_has_text t line_has_ended xs ys k (string is kind) some e =
+    let longer = string_has_characters xs ys is in omega (arith, ap length e, longer)
+spelling_has_text t line_has_ended xs ys k (template is) some e =
+    let begun = template_begins xs ys k is in
+    let no : true ≡ false = sym begun ∙ ap (begins (λ c. c == grave_accent)) e in cc
 spelling_has_text t line_has_ended xs ys k (end_of_source none end kind) some e = some kind
 
 -- a place from which these characters lead to another is not behind it, and before it where there are any
@@ -74,7 +85,7 @@ abbrev LeavesBehind : List ℕ → Reading → Type 0
 LeavesBehind here r = ((r.kind ≡ Eof) × (r.rest ≡ [])) ⊎ ((xs : List ℕ) × (xs ≢ []) × (here ≡ xs ++ r.rest))
 
 -- what holds of each way to recover
-each_recovery : (P : Reading → Type 0) (b : Bool) (x y : Option Reading) → (b ≡ true → IfSome x P) → IfSome y P
+pub each_recovery : (P : Reading → Type 0) (b : Bool) (x y : Option Reading) → (b ≡ true → IfSome x P) → IfSome y P
     → IfSome (if b then x else y) P
 each_recovery P true x y h k = h refl
 each_recovery P false x y h k = k
@@ -106,7 +117,10 @@ recovered_leaves line_has_ended place here =
     (λ begun. private here (drop 1 here) (first_is number_sign here begun))
     (each_recovery (LeavesBehind here) (begins_number here) _ _
     (λ begun. (number_characters place here begun).leaves)
-    (each_recovery (LeavesBehind here) (begins (λ c. c == 0xFFFD) here) _ _ (λ _. inl (refl, refl)) (character here)))))
+    (each_recovery (LeavesBehind here) (begins begins_quoted here) _ _
+    (λ begun. let taken = quoted_characters place here begun in inr (taken.characters, taken.some, taken.here))
+    (each_recovery (LeavesBehind here) (begins (λ c. c == 0xFFFD) here) _ _ (λ _. inl (refl, refl))
+    (character here))))))
   where
     private : (here cs : List ℕ) → here ≡ number_sign ∷ cs
         → LeavesBehind here (private_reading line_has_ended (private_read (place + 1) cs))

@@ -28,7 +28,7 @@ of_test true b e h = e
 of_test false b e h = absurd (cc)
 
 -- what one class begins, another doesn't
-excluded : (a b : Bool) → (a ≡ true → b ≡ false) → b ≡ true → a ≡ false
+pub excluded : (a b : Bool) → (a ≡ true → b ≡ false) → b ≡ true → a ≡ false
 excluded true b h e = let none = h refl in absurd (cc)
 excluded false b h e = refl
 

@@ -1,6 +1,6 @@
 -- What begins a string or a template begins nothing else, and when one is escaped.
 use Rattle.std.proofs.Common.{◌≡◌, ℕ, zero, suc, ◌<◌, Bool, true, false, ◌||◌, ◌==◌, List, [], ◌∷◌, ◌++◌}
-use Rattle.std.proofs.Common.{length}
+use Rattle.std.proofs.Common.{length, drop}
 use Rattle.std.proofs.Common.{refl, sym, ◌∙◌, ap, arith, subst, Option, Some, None, inl, inr}
 use Rattle.std.specs.List.{list_any}
 use Rattle.std.proofs.lemmas.Bool.{eqb-true}
@@ -19,9 +19,21 @@ use Rattle.js_kind.specs.Digits.{is_digit_of}
 use Rattle.js_grammar.specs.Number.{begins_number}
 use Rattle.js_grammar.specs.Punctuators.{NoPunctuator}
 use Rattle.js_grammar.specs.StringItems.{StringItem, is_quote, ends_string, plain_item, escape, string_item}
-use Rattle.js_grammar.specs.StringItems.{items_up_to}
+use Rattle.js_grammar.specs.StringItems.{items_up_to, is_good, are_good}
 use Rattle.js_grammar.specs.StringItems.{string_items, string_text, contains_escape}
 use Rattle.js_grammar.specs.Template.{template_item, template_items, ends_part, carriage_return_item}
+use Rattle.js_grammar.specs.Gap.{is_prefix}
+use Rattle.js_grammar.specs.Quoted.{begins_quoted, is_backslash, is_backslash_or_return}
+use Rattle.js_grammar.specs.Spelling.{begins_named}
+use Rattle.js_grammar.specs.Template.{IsTemplatePart, IsPart, template_part_read}
+use Rattle.js_grammar.specs.Template.IsTemplatePart.{no_substitution, head}
+use Rattle.js_kind.specs.declared.kind.Kind.{Kind}
+use Rattle.std.specs.Prelude.{codes}
+use Rattle.std.proofs.lemmas.Bool.{or_right}
+use Rattle.js_grammar.proofs.StringLaws.{string_here}
+use Rattle.js_grammar.proofs.TemplateLaws.{part_here, BeginsWithTemplate, good_part, tail_is_read}
+use Rattle.js_grammar.proofs.TemplateLaws.{substitution_is_read}
+use Rattle.js_kind.specs.declared.kind.Kind.TheVariants.{NoSubstitutionTemplate, TemplateHead}
 use Rattle.js_grammar.proofs.EscapeCases.{escape_is_one}
 use Rattle.js_grammar.proofs.NumberItems.{true_or_false}
 use Rattle.js_grammar.proofs.PunctuatorLeaves.{none}
@@ -29,13 +41,9 @@ use Rattle.js_grammar.proofs.StringSteps.{none_or_some, some_is, string_plain, s
 use Rattle.js_grammar.proofs.StringSteps.{template_ends}
 use Rattle.js_grammar.proofs.StringSteps.{carriage_return_two, carriage_return_one}
 
--- the marks that begin strings and templates
-abbrev pub begins_literal : ℕ → Bool
-begins_literal c = is_quote c || (c == grave_accent)
-
 -- one of the three
 one_of_three : (P : ℕ → Type 0) → P quotation_mark → P apostrophe → P grave_accent → (c : ℕ)
-    → begins_literal c ≡ true → P c
+    → begins_quoted c ≡ true → P c
 one_of_three P double single grave c e =
     elim (true_or_false (c == quotation_mark)) [
       | inl is ↦ subst P (sym (eqb-true c quotation_mark is)) double
@@ -46,27 +54,72 @@ one_of_three P double single grave c e =
           ]
     ]
 
-pub literal_begins_no_name : (c : ℕ) → begins_literal c ≡ true → is_identifier_start c ≡ false
+-- where a string or a template begins, no name and no private name does
+pub quoted_begins_no_named : (text : List ℕ) → begins begins_quoted text ≡ true → begins begins_named text ≡ false
 unfolding is_identifier_start unicode_ident
-literal_begins_no_name c e = one_of_three (λ d. is_identifier_start d ≡ false) refl refl refl c e
+quoted_begins_no_named [] e = absurd (cc)
+quoted_begins_no_named (c ∷ cs) e = one_of_three (λ d. begins_named d ≡ false) refl refl refl c e
 
-pub literal_begins_no_number : (c : ℕ) (cs : List ℕ) → begins_literal c ≡ true → begins_number (c ∷ cs) ≡ false
+-- no number
+pub quoted_begins_no_number : (text : List ℕ) → begins begins_quoted text ≡ true → begins_number text ≡ false
 unfolding is_digit_of
-literal_begins_no_number c cs e = one_of_three (λ d. begins_number (d ∷ cs) ≡ false) refl refl refl c e
+quoted_begins_no_number [] e = absurd (cc)
+quoted_begins_no_number (c ∷ cs) e = one_of_three (λ d. begins_number (d ∷ cs) ≡ false) refl refl refl c e
 
-pub literal_begins_no_punctuator : (t : SourceType) (line_has_ended : Bool) (c : ℕ) (cs : List ℕ)
-    → begins_literal c ≡ true → NoPunctuator t line_has_ended (c ∷ cs)
-literal_begins_no_punctuator t line_has_ended c cs e =
+-- no punctuator
+pub quoted_begins_no_punctuator : (t : SourceType) (line_has_ended : Bool) (text : List ℕ)
+    → begins begins_quoted text ≡ true → NoPunctuator t line_has_ended text
+quoted_begins_no_punctuator t line_has_ended [] e = absurd (cc)
+quoted_begins_no_punctuator t line_has_ended (c ∷ cs) e =
     one_of_three (λ d. NoPunctuator t line_has_ended (d ∷ cs)) (none t line_has_ended quotation_mark cs refl)
     (none t line_has_ended apostrophe cs refl) (none t line_has_ended grave_accent cs refl) c e
 
+-- and no comment
+pub quoted_begins_no_comment : (text : List ℕ) → begins begins_quoted text ≡ true
+    → is_prefix (codes "/*") text ≡ false
+quoted_begins_no_comment [] e = absurd (cc)
+quoted_begins_no_comment (c ∷ cs) e =
+    one_of_three (λ d. is_prefix (codes "/*") (d ∷ cs) ≡ false) refl refl refl c e
+
+-- a string begins with a quote, whatever follows
+pub string_is_quoted : (xs ys : List ℕ) → IsString xs ys → begins is_quote (xs ++ ys) ≡ true
+string_is_quoted xs ys string = ap (begins is_quote) (string_here xs ys string) ∙ string.is_quote
+
+pub quote_is_quoted : (text : List ℕ) → begins is_quote text ≡ true → begins begins_quoted text ≡ true
+quote_is_quoted [] e = e
+quote_is_quoted (c ∷ cs) e = ap (λ b. b || (c == grave_accent)) e
+
+grave_is_quoted : (text : List ℕ) → begins (λ c. c == grave_accent) text ≡ true → begins begins_quoted text ≡ true
+grave_is_quoted [] e = e
+grave_is_quoted (c ∷ cs) e = or_right (is_quote c) (c == grave_accent) e
+
+pub string_begins_quoted : (xs ys : List ℕ) → IsString xs ys → begins begins_quoted (xs ++ ys) ≡ true
+string_begins_quoted xs ys string = quote_is_quoted (xs ++ ys) (string_is_quoted xs ys string)
+
+-- a template begins with a backquote, whatever follows
+pub template_is_quoted : (xs ys : List ℕ) (kind : Kind) → IsTemplatePart xs ys kind
+    → begins (λ c. c == grave_accent) (xs ++ ys) ≡ true
+template_is_quoted xs ys kind (no_substitution part e) =
+    ap (begins (λ c. c == grave_accent)) (part_here grave_accent (codes "`") xs ys part)
+template_is_quoted xs ys kind (head part e) =
+    ap (begins (λ c. c == grave_accent)) (part_here grave_accent (codes "${") xs ys part)
+
+pub template_begins_quoted : (xs ys : List ℕ) (kind : Kind) → IsTemplatePart xs ys kind
+    → begins begins_quoted (xs ++ ys) ≡ true
+template_begins_quoted xs ys kind part = grave_is_quoted (xs ++ ys) (template_is_quoted xs ys kind part)
+
 -- a quote is no backquote
-pub quote_begins_no_template : (c : ℕ) → is_quote c ≡ true → (c == grave_accent) ≡ false
-quote_begins_no_template c e =
+quote_is_no_backquote : (c : ℕ) → is_quote c ≡ true → (c == grave_accent) ≡ false
+quote_is_no_backquote c e =
     elim (true_or_false (c == quotation_mark)) [
       | inl is ↦ ap (λ d. d == grave_accent) (eqb-true c quotation_mark is)
       | inr other ↦ ap (λ d. d == grave_accent) (eqb-true c apostrophe (rw other at e))
     ]
+
+pub quote_begins_no_template : (text : List ℕ) → begins is_quote text ≡ true
+    → begins (λ c. c == grave_accent) text ≡ false
+quote_begins_no_template [] e = absurd (cc)
+quote_begins_no_template (c ∷ cs) e = quote_is_no_backquote c e
 
 -- a text that begins with a character that passes
 passes_first : (p : ℕ → Bool) (b : ℕ) (cs xs ys : List ℕ) → b ∷ cs ≡ xs ++ ys → 0 < length xs → p b ≡ true
@@ -101,10 +154,6 @@ escape_by p is t cs =
     one.escaped
     ∙ sym (passes_first p backslash cs (escape t cs).text (escape t cs).rest one.head.here one.head.some is)
 
--- an escape in a string has a `\`
-abbrev pub is_backslash : ℕ → Bool
-is_backslash c = c == backslash
-
 string_escaped_by : (quote : ℕ) → IsEscapedBy is_backslash (string_item quote)
 string_escaped_by quote [] item e = absurd (cc)
 string_escaped_by quote (c ∷ cs) item e =
@@ -122,10 +171,6 @@ string_escaped_by quote (c ∷ cs) item e =
                 (ap (λ b. b || false) (sym other)) (string_plain quote c cs other on) e
           ]
     ]
-
--- what is escaped in a template has a `\` or a CR
-abbrev pub is_backslash_or_return : ℕ → Bool
-is_backslash_or_return c = (c == backslash) || (c == carriage_return)
 
 line_end_by : (cs : List ℕ)
     → (carriage_return_item cs).is_escaped ≡ list_any is_backslash_or_return (carriage_return_item cs).text
@@ -187,6 +232,10 @@ pub template_escaped : (text : List ℕ)
     ≡ list_any is_backslash_or_return (string_text (template_items text).items)
 template_escaped text = escaped_by is_backslash_or_return template_item template_escaped_by (length text) text
 
+or_false : (b : Bool) → (b || false) ≡ b
+or_false true = refl
+or_false false = refl
+
 -- A string is escaped exactly where a `\` is among its characters.
 pub string_is_escaped : (xs ys : List ℕ) (string : IsString xs ys)
     → contains_escape string.items ≡ list_any is_backslash xs
@@ -212,9 +261,50 @@ string_is_escaped xs ys string =
           | inr other ↦ ap is_backslash (eqb-true c apostrophe (rw other at e))
         ]
 
-    or_false : (b : Bool) → (b || false) ≡ b
-    or_false true = refl
-    or_false false = refl
+-- A part of a template is escaped exactly where a `\` or a CR is among its characters.
+part_is_escaped : (closing xs ys : List ℕ) (part : IsPart grave_accent closing xs ys)
+    → list_any is_backslash_or_return closing ≡ false
+    → contains_escape part.items ≡ list_any is_backslash_or_return xs
+part_is_escaped closing xs ys part none =
+    let text = string_text part.items in
+    let inner : contains_escape part.items ≡ list_any is_backslash_or_return text =
+    ap (λ (found : StringItems). contains_escape found.items) (sym part.found)
+    ∙ template_escaped (text ++ (closing ++ ys))
+    ∙ ap (λ (found : StringItems). list_any is_backslash_or_return (string_text found.items)) part.found in
+    inner
+    ∙ sym
+    (ap (list_any is_backslash_or_return) part.here ∙ list_any-append is_backslash_or_return text closing
+    ∙ ap (λ b. list_any is_backslash_or_return text || b) none ∙ or_false (list_any is_backslash_or_return text))
+
+-- What is read where a template begins is that template, or its first part, and nothing is reported.
+pub record ReadsTemplate (start : ℕ) (text xs ys : List ℕ) (kind : Kind) : Type 0 where
+  pub items : List StringItem
+  pub read : template_part_read TemplateHead NoSubstitutionTemplate start text ≡ good_part kind items ys
+  pub escaped : contains_escape items ≡ list_any is_backslash_or_return xs
+
+pub template_read_as : (start : ℕ) (text xs ys : List ℕ) (kind : Kind)
+    → BeginsWithTemplate (grave_accent ∷ text) xs ys kind → ReadsTemplate start text xs ys kind
+template_read_as start text xs ys kind begun = by_part begun.part
+  where
+    by_part : IsTemplatePart xs ys kind → ReadsTemplate start text xs ys kind
+    by_part (no_substitution part e) = record {
+      items = part.items;
+      read =
+          ap (λ cs. template_part_read TemplateHead NoSubstitutionTemplate start (drop 1 cs))
+          (begun.here ∙ part_here grave_accent (codes "`") xs ys part)
+          ∙ tail_is_read TemplateHead NoSubstitutionTemplate start grave_accent xs ys part
+          ∙ ap (λ k. good_part k part.items ys) (sym e);
+      escaped = part_is_escaped (codes "`") xs ys part refl;
+    }
+    by_part (head part e) = record {
+      items = part.items;
+      read =
+          ap (λ cs. template_part_read TemplateHead NoSubstitutionTemplate start (drop 1 cs))
+          (begun.here ∙ part_here grave_accent (codes "${") xs ys part)
+          ∙ substitution_is_read TemplateHead NoSubstitutionTemplate start grave_accent xs ys part
+          ∙ ap (λ k. good_part k part.items ys) (sym e);
+      escaped = part_is_escaped (codes "${") xs ys part refl;
+    }
 
 -- items that are not escaped have the units of their characters
 abbrev pub HasOwnUnits : StringItem → Type 0
@@ -226,24 +316,29 @@ own_units_of_plain c cs e = sym (append-nil (encode_utf16 c))
 escaped_has_none : (item : StringItem) → item.is_escaped ≡ true → HasOwnUnits item
 escaped_has_none item is e = absurd (let same : true ≡ false = sym is ∙ e in cc)
 
-string_own_units : (quote : ℕ) (text : List ℕ) (item : StringItem) → string_item quote text ≡ Some item
-    → HasOwnUnits item
-string_own_units quote [] item e = absurd (cc)
-string_own_units quote (c ∷ cs) item e =
+-- what holds of each escape and each character that stands for itself holds of each item of a string
+string_item_is : (P : StringItem → Type 0) → ((cs : List ℕ) → P (escape false cs))
+    → ((c : ℕ) (cs : List ℕ) → P (plain_item c cs)) → (quote : ℕ) (text : List ℕ) (item : StringItem)
+    → string_item quote text ≡ Some item → P item
+string_item_is P escapes plain quote [] item e = absurd (cc)
+string_item_is P escapes plain quote (c ∷ cs) item e =
     elim (true_or_false (c == backslash)) [
       | inl is ↦ (
           let at : string_item quote (backslash ∷ cs) ≡ Some item =
           ap (λ d. string_item quote (d ∷ cs)) (sym (eqb-true c backslash is)) ∙ e in
-          found_as HasOwnUnits (escape false cs) item _
-          (escaped_has_none (escape false cs) (escape_is_one false cs).escaped) refl at)
+          found_as P (escape false cs) item _ (escapes cs) refl at)
       | inr other ↦
           elim (true_or_false (ends_string quote c)) [
             | inl ends ↦ not_found _ item (string_ends quote c cs other ends) e
-            | inr on ↦
-                found_as HasOwnUnits (plain_item c cs) item _ (own_units_of_plain c cs)
-                (string_plain quote c cs other on) e
+            | inr on ↦ found_as P (plain_item c cs) item _ (plain c cs) (string_plain quote c cs other on) e
           ]
     ]
+
+string_own_units : (quote : ℕ) (text : List ℕ) (item : StringItem) → string_item quote text ≡ Some item
+    → HasOwnUnits item
+string_own_units quote text item e =
+    string_item_is HasOwnUnits (λ cs. escaped_has_none (escape false cs) (escape_is_one false cs).escaped)
+    own_units_of_plain quote text item e
 
 template_own_units : (text : List ℕ) (item : StringItem) → template_item text ≡ Some item → HasOwnUnits item
 template_own_units [] item e = absurd (cc)
@@ -301,3 +396,32 @@ string_has_own_units quote text e = own_units (string_item quote) (string_own_un
 pub template_has_own_units : (text : List ℕ) → contains_escape (template_items text).items ≡ false
     → string_units (template_items text).items ≡ units_of (string_text (template_items text).items)
 template_has_own_units text e = own_units template_item template_own_units (length text) text e
+
+-- items that are not escaped have no fault
+abbrev IsGoodUnescaped : StringItem → Type 0
+IsGoodUnescaped item = item.is_escaped ≡ false → is_good item.fault ≡ true
+
+good_unescaped : (quote : ℕ) (text : List ℕ) (item : StringItem) → string_item quote text ≡ Some item
+    → IsGoodUnescaped item
+good_unescaped quote text item e =
+    string_item_is IsGoodUnescaped
+    (λ cs is. absurd (let no : true ≡ false = sym (escape_is_one false cs).escaped ∙ is in cc)) (λ c cs is. refl) quote
+    text item e
+
+unescaped_up_to : (quote : ℕ) (most : ℕ) (text : List ℕ)
+    → contains_escape (items_up_to (string_item quote) most text).items ≡ false
+    → are_good (items_up_to (string_item quote) most text).items ≡ true
+unescaped_up_to quote zero text e = refl
+unescaped_up_to quote (suc most) text e =
+    elim (none_or_some (string_item quote text)) [
+      | inl is ↦ rw is refl
+      | inr (item, is) ↦ (
+          let more = items_up_to (string_item quote) most item.rest in
+          let both = or_false_both item.is_escaped (contains_escape more.items) (rw is at e) in
+          rw (is, good_unescaped quote text item is both.0) (unescaped_up_to quote most item.rest both.1))
+    ]
+
+-- So a string without an escape has no fault in it.
+pub unescaped_is_good : (quote : ℕ) (text : List ℕ) → contains_escape (string_items quote text).items ≡ false
+    → are_good (string_items quote text).items ≡ true
+unescaped_is_good quote text e = unescaped_up_to quote (length text) text e

@@ -1,6 +1,6 @@
 -- What is read of a string or of a part of a template, good or at fault, is characters that its text begins with, one
 -- at least.
-use Rattle.std.proofs.Common.{◌≡◌, ◌≢◌, ℕ, true, false, ◌==◌, List, [], ◌∷◌, ◌++◌, length, take, drop, sym, ◌∙◌, ap}
+use Rattle.std.proofs.Common.{◌≡◌, ◌≢◌, ℕ, true, ◌==◌, List, [], ◌∷◌, ◌++◌, take, drop, sym, ◌∙◌, ap}
 use Rattle.std.proofs.Common.{inl, inr, append_assoc}
 use Rattle.std.specs.Prelude.{codes}
 use Rattle.std.proofs.lemmas.List.{take-append-drop}
@@ -8,7 +8,10 @@ use Rattle.js_text.specs.Ascii.{grave_accent}
 use Rattle.js_text.specs.Characters.{begins}
 use Rattle.js_kind.specs.declared.kind.Kind.{Kind}
 use Rattle.js_grammar.specs.Gap.{is_prefix}
-use Rattle.js_grammar.specs.StringItems.{StringItem, StringRead, string_text, string_items, string_read}
+use Rattle.js_grammar.specs.StringItems.{StringItem, string_text, string_items, string_read}
+use Rattle.js_grammar.specs.Quoted.{begins_quoted, quoted_read}
+use Rattle.js_grammar.specs.StringItems.{is_quote}
+use Rattle.js_kind.specs.declared.kind.Kind.TheVariants.{NoSubstitutionTemplate, TemplateHead}
 use Rattle.js_grammar.specs.Template.{template_items, template_part_read}
 use Rattle.js_grammar.proofs.NumberItems.{true_or_false}
 use Rattle.js_grammar.proofs.StringLaws.{string_cut, template_cut}
@@ -61,4 +64,14 @@ part_characters substitute tail opening start text =
                 rw (part_unterminated substitute tail start found none other)
                 (taken opening 1 text found.rest found.items cut)
           ]
+    ]
+
+-- of either, from its mark on
+pub quoted_characters : (start : ℕ) (text : List ℕ) → begins begins_quoted text ≡ true
+    → TakesCharacters text (quoted_read start text).rest
+quoted_characters start [] begun = absurd (cc)
+quoted_characters start (c ∷ cs) begun =
+    elim (true_or_false (is_quote c)) [
+      | inl quote ↦ rw quote (string_characters c start cs)
+      | inr other ↦ rw other (part_characters TemplateHead NoSubstitutionTemplate c start cs)
     ]

@@ -53,7 +53,7 @@ finished start place (suc most) text h =
     silent start place end bad_escape h = refl
     silent start place end unfinished_escape h = absurd (h refl)
 
-finished_items : (start : ℕ) (text : List ℕ) → 0 < length (template_items text).rest
+pub finished_items : (start : ℕ) (text : List ℕ) → 0 < length (template_items text).rest
     → item_reports true start (start + 1) (template_items text).items ≡ []
 finished_items start text h = finished start (start + 1) (length text) text h
 
@@ -198,28 +198,3 @@ pub template_begins : (xs ys : List ℕ) (kind : Kind) → IsTemplatePart xs ys 
     → begins (λ c. c == grave_accent) xs ≡ true
 template_begins xs ys kind (no_substitution part e) = ap (begins (λ c. c == grave_accent)) part.here
 template_begins xs ys kind (head part e) = ap (begins (λ c. c == grave_accent)) part.here
-
--- What is read where a template begins is that template, or its first part, and nothing is reported.
-pub template_read_here : (start : ℕ) (text xs ys : List ℕ) (kind : Kind)
-    → BeginsWithTemplate (grave_accent ∷ text) xs ys kind
-    → (items : List StringItem) × (template_part_read TemplateHead NoSubstitutionTemplate start text
-    ≡ good_part kind items ys)
-template_read_here start text xs ys kind begun = read begun.part
-  where
-    read : IsTemplatePart xs ys kind
-        → (items : List StringItem) × (template_part_read TemplateHead NoSubstitutionTemplate start text
-        ≡ good_part kind items ys)
-    read (no_substitution part e) = (
-      part.items,
-      ap (λ cs. template_part_read TemplateHead NoSubstitutionTemplate start (drop 1 cs))
-          (begun.here ∙ part_here grave_accent (codes "`") xs ys part)
-          ∙ tail_is_read TemplateHead NoSubstitutionTemplate start grave_accent xs ys part
-          ∙ ap (λ k. good_part k part.items ys) (sym e),
-    )
-    read (head part e) = (
-      part.items,
-      ap (λ cs. template_part_read TemplateHead NoSubstitutionTemplate start (drop 1 cs))
-          (begun.here ∙ part_here grave_accent (codes "${") xs ys part)
-          ∙ substitution_is_read TemplateHead NoSubstitutionTemplate start grave_accent xs ys part
-          ∙ ap (λ k. good_part k part.items ys) (sym e),
-    )

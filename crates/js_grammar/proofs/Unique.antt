@@ -27,7 +27,13 @@ use Rattle.js_grammar.specs.Reads.{IsSpelled, PlainReads, SameReading}
 use Rattle.js_grammar.specs.Reads.PlainReads.{hashbang, spelled}
 use Rattle.js_grammar.specs.Recovery.{Reading}
 use Rattle.js_grammar.specs.Spelling.{Spelling, LongestSpelling}
-use Rattle.js_grammar.specs.Spelling.Spelling.{name, private_name, punctuator, number as number_spelled, end_of_source}
+use Rattle.js_grammar.specs.Spelling.Spelling.{name, private_name, punctuator, number as number_spelled, string}
+use Rattle.js_grammar.specs.Spelling.Spelling.{template, end_of_source}
+use Rattle.js_grammar.specs.Quoted.{begins_quoted}
+use Rattle.js_grammar.specs.StringItems.{is_quote}
+use Rattle.js_grammar.proofs.StringBegins.{string_begins_quoted, template_begins_quoted}
+use Rattle.js_grammar.proofs.TemplateLaws.{one_template}
+use Rattle.js_grammar.proofs.SpellingClasses.{SpelledQuoted, only_quoted, quoted_string, quoted_template}
 use Rattle.js_grammar.proofs.GapLemmas.{longest_gap_unique, whole_gap_unique}
 use Rattle.js_grammar.proofs.NumberBegins.{number_begins}
 use Rattle.js_grammar.proofs.NumberLaws.{one_kind}
@@ -76,33 +82,55 @@ first_at p i = found_is (kind_of punctuators p.text) p.kind (passes_at is_first 
 -- the kind of what is spelled without a name or a number
 kind_of_other : (t : SourceType) (line_has_ended : Bool) (xs ys : List ℕ) (j k : Kind)
     → Spelling t line_has_ended xs ys j → Spelling t line_has_ended xs ys k
-    → begins begins_named (xs ++ ys) ≡ false → begins_number (xs ++ ys) ≡ false → j ≡ k
-kind_of_other t line_has_ended xs ys j k (name is follows kind) s no_named no_number =
+    → begins begins_named (xs ++ ys) ≡ false → begins_number (xs ++ ys) ≡ false
+    → begins begins_quoted (xs ++ ys) ≡ false → j ≡ k
+kind_of_other t line_has_ended xs ys j k (name is follows kind) s no_named no_number no_quoted =
     let no : true ≡ false = sym (name_is_named (xs ++ ys) (name_begins xs ys is)) ∙ no_named in cc
-kind_of_other t line_has_ended xs ys j k (private_name named is follows same kind) s no_named no_number =
+kind_of_other t line_has_ended xs ys j k (private_name named is follows same kind) s no_named no_number no_quoted =
     let no : true ≡ false =
     sym (private_is_named (named ++ ys)) ∙ ap (λ zs. begins begins_named (zs ++ ys)) (sym same) ∙ no_named in cc
-kind_of_other t line_has_ended xs ys j k (number_spelled is follows) s no_named no_number =
+kind_of_other t line_has_ended xs ys j k (number_spelled is follows) s no_named no_number no_quoted =
     let no : true ≡ false = sym (number_begins xs ys j is) ∙ no_number in cc
-kind_of_other t line_has_ended xs ys j k s (name is follows kind) no_named no_number =
+kind_of_other t line_has_ended xs ys j k (string is kind) s no_named no_number no_quoted =
+    let no : true ≡ false = sym (string_begins_quoted xs ys is) ∙ no_quoted in cc
+kind_of_other t line_has_ended xs ys j k (template is) s no_named no_number no_quoted =
+    let no : true ≡ false = sym (template_begins_quoted xs ys j is) ∙ no_quoted in cc
+kind_of_other t line_has_ended xs ys j k s (string is kind) no_named no_number no_quoted =
+    let no : true ≡ false = sym (string_begins_quoted xs ys is) ∙ no_quoted in cc
+kind_of_other t line_has_ended xs ys j k s (template is) no_named no_number no_quoted =
+    let no : true ≡ false = sym (template_begins_quoted xs ys k is) ∙ no_quoted in cc
+kind_of_other t line_has_ended xs ys j k s (name is follows kind) no_named no_number no_quoted =
     let no : true ≡ false = sym (name_is_named (xs ++ ys) (name_begins xs ys is)) ∙ no_named in cc
-kind_of_other t line_has_ended xs ys j k s (private_name named is follows same kind) no_named no_number =
+kind_of_other t line_has_ended xs ys j k s (private_name named is follows same kind) no_named no_number no_quoted =
     let no : true ≡ false =
     sym (private_is_named (named ++ ys)) ∙ ap (λ zs. begins begins_named (zs ++ ys)) (sym same) ∙ no_named in cc
-kind_of_other t line_has_ended xs ys j k s (number_spelled is follows) no_named no_number =
+kind_of_other t line_has_ended xs ys j k s (number_spelled is follows) no_named no_number no_quoted =
     let no : true ≡ false = sym (number_begins xs ys k is) ∙ no_number in cc
 kind_of_other t line_has_ended xs ys j k (punctuator p i same allowed kind)
-    (punctuator q i' same' allowed' kind') no_named no_number =
+    (punctuator q i' same' allowed' kind') no_named no_number no_quoted =
     let texts : p.text ≡ q.text = sym same ∙ same' in
     let kinds : Some p.kind ≡ Some q.kind =
     sym (first_at p i) ∙ ap (kind_of punctuators) texts ∙ first_at q i' in
     cc
 kind_of_other t line_has_ended xs ys j k (punctuator p i same allowed kind) (end_of_source none end kind')
-    no_named no_number = absurd (some_text p i (sym same ∙ none))
+    no_named no_number no_quoted = absurd (some_text p i (sym same ∙ none))
 kind_of_other t line_has_ended xs ys j k (end_of_source none end kind) (punctuator p i same allowed kind')
-    no_named no_number = absurd (some_text p i (sym same ∙ none))
+    no_named no_number no_quoted = absurd (some_text p i (sym same ∙ none))
 kind_of_other t line_has_ended xs ys j k (end_of_source none end kind) (end_of_source none' end' kind')
-    no_named no_number = kind ∙ sym kind'
+    no_named no_number no_quoted = kind ∙ sym kind'
+
+-- the kind of a string or a template
+one_quoted : (xs ys : List ℕ) (j k : Kind) → SpelledQuoted xs ys j → SpelledQuoted xs ys k → j ≡ k
+one_quoted xs ys j k a b =
+    elim (true_or_false (begins is_quote (xs ++ ys))) [
+      | inl quote ↦
+          (quoted_string (xs ++ ys) xs ys j quote refl a).1 ∙ sym (quoted_string (xs ++ ys) xs ys k quote refl b).1
+      | inr none ↦ (
+          let one = quoted_template (xs ++ ys) xs ys j none refl a in
+          let other = quoted_template (xs ++ ys) xs ys k none refl b in
+          (one_template (xs ++ ys) xs ys xs ys j k (record { here = refl; part = one })
+          (record { here = refl; part = other })).kind_is)
+    ]
 
 -- a text has one kind
 kind_unique : (t : SourceType) (line_has_ended : Bool) (xs ys : List ℕ) (j k : Kind)
@@ -124,8 +152,14 @@ kind_unique t line_has_ended xs ys j k s r =
               let a = only_number t line_has_ended (xs ++ ys) xs ys j number refl s in
               let b = only_number t line_has_ended (xs ++ ys) xs ys k number refl r in
               one_kind xs j k a.number b.number)
-          | inr no_number ↦
-              kind_of_other t line_has_ended xs ys j k s r (none_named (xs ++ ys) no_name no_private) no_number
+          | inr no_number ↦ elim (true_or_false (begins begins_quoted (xs ++ ys))) [
+            | inl quoted ↦
+                one_quoted xs ys j k (only_quoted t line_has_ended (xs ++ ys) xs ys j quoted refl s)
+                (only_quoted t line_has_ended (xs ++ ys) xs ys k quoted refl r)
+            | inr no_quoted ↦
+                kind_of_other t line_has_ended xs ys j k s r (none_named (xs ++ ys) no_name no_private) no_number
+                no_quoted
+          ]
         ]
       ]
     ]

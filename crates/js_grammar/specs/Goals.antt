@@ -22,7 +22,7 @@ spelled_reading line_has_ended place xs rest kind = record {
   is_on_new_line = line_has_ended;
   escaped = is_escaped kind xs;
   has_separator = has_separator kind xs;
-  value = value_of kind xs place (place_behind place xs);
+  value = value_of kind xs rest place (place_behind place xs);
   diagnostics = [];
 }
 

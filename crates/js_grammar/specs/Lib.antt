@@ -1,4 +1,3 @@
-pub mod Built
 pub mod Gap
 pub mod Goals
 pub mod Hashbang
@@ -7,6 +6,7 @@ pub mod Number
 pub mod NumberReads
 pub mod Outcome
 pub mod Punctuators
+pub mod Quoted
 pub mod Reads
 pub mod Recovery
 pub mod Spelling

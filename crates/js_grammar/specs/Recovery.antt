@@ -19,6 +19,8 @@ use Rattle.js_grammar.specs.Spelling.{is_private_name}
 use Rattle.js_grammar.specs.Number.{begins_number}
 use Rattle.js_grammar.specs.NumberReads.{NumberRead, number_read}
 use Rattle.js_grammar.specs.Outcome.{place_behind}
+use Rattle.js_grammar.specs.Quoted.{begins_quoted, quoted_read, row_value}
+use Rattle.js_grammar.specs.StringItems.{StringRead}
 use Rattle.js_kind.specs.declared.kind.Kind.{Kind}
 use Rattle.js_kind.specs.declared.kind.Kind.TheVariants.{Eof, Undetermined}
 
@@ -84,6 +86,18 @@ private_reading line_has_ended read = record {
   diagnostics = read.diagnostics;
 }
 
+-- what is read of a string or a template, from the place on: one at fault, where nothing is spelled
+abbrev pub quoted_reading : Bool → StringRead → Reading
+quoted_reading line_has_ended read = record {
+  kind = read.kind;
+  rest = read.rest;
+  is_on_new_line = line_has_ended;
+  escaped = read.escaped;
+  has_separator = false;
+  value = row_value read.value;
+  diagnostics = read.diagnostics;
+}
+
 -- `/*` that no `*/` ends: the rest of the source. The newline flag counts the line terminators inside it.
 abbrev pub unterminated_comment : Bool → ℕ → List ℕ → Reading
 unterminated_comment line_has_ended place here =
@@ -119,5 +133,6 @@ recovered line_has_ended place here =
     else if begins (λ c. c == number_sign) here
     then Some (private_reading line_has_ended (private_read (place + 1) (drop 1 here)))
     else if begins_number here then Some (number_reading line_has_ended (number_read place here))
+    else if begins begins_quoted here then Some (quoted_reading line_has_ended (quoted_read place here))
     else if begins (λ c. c == 0xFFFD) here then Some (binary_file line_has_ended)
     else recovered_character line_has_ended place here

@@ -1,30 +1,57 @@
 -- The values of tokens, as their kinds, their spans and the text tell them.
-use Rattle.std.specs.Prelude.{◌≡◌, ℕ, ◌+◌, true, false, List, drop, ◌==◌, if◌then◌else◌}
+use Rattle.std.specs.Prelude.{◌≡◌, ℕ, ◌≤◌, true, false, List, [], drop, ◌==◌, Option, Some, None, unwrap_or}
+use Rattle.std.specs.Prelude.{if◌then◌else◌}
+use Rattle.std.specs.Str.{IsCharBoundary}
 use Rattle.js_text.specs.Ascii.{number_sign}
 use Rattle.js_text.specs.Characters.{begins, from_place}
 use Rattle.js_text.specs.JsStr.{units_of}
 use Rattle.js_text.specs.declared.value.RowValue.{RowValue}
-use Rattle.js_text.specs.declared.value.RowValue.TheVariants.{Nothing, Slice, Units}
+use Rattle.js_text.specs.declared.value.RowValue.TheVariants.{Nothing, Units, Bad}
 use Rattle.js_grammar.specs.Name.{name_read, private_read}
-use Rattle.js_grammar.specs.Spelling.{is_private_name}
-use Rattle.js_kind.specs.Kinds.{is_identifier_name}
+use Rattle.js_grammar.specs.Quoted.{quoted_read, units_in}
+use Rattle.js_grammar.specs.Spelling.{is_valued, text_start, text_end, text_slice}
+use Rattle.js_grammar.specs.StringItems.{is_quote}
+use Rattle.js_kind.specs.Kinds.{is_template_kind}
 use Rattle.js_kind.specs.TokenParts.{TokenParts}
 use Rattle.js_kind.specs.declared.kind.Kind.{Kind}
 
--- The value of a token without an escape: of a name its stretch of the source, without a `#`; of another token none.
+-- The value of a token without an escape: of a name, a string or a part of a template its text as it stands in the
+-- source; of another token none.
 abbrev pub plain_value : Kind → ℕ → ℕ → RowValue
-plain_value kind start end =
-    if is_identifier_name kind then Slice (record { start = start; end = end })
-    else if is_private_name kind then Slice (record { start = start + 1; end = end })
-    else Nothing
+plain_value kind start end = if is_valued kind then text_slice kind start end else Nothing
 
 -- the characters that the name which begins the text stands for, as UTF-16 units
-abbrev pub decoded_units : List ℕ → List ℕ
-decoded_units here =
+abbrev pub name_units : List ℕ → List ℕ
+name_units here =
     units_of
     (if begins (λ c. c == number_sign) here then (private_read 0 (drop 1 here)).decoded else (name_read 0 here).decoded)
 
--- This is the value of the token: its stretch of the source exactly where it has no escape.
+-- the units that the name or the string which begins the text stands for
+abbrev pub decoded_units : List ℕ → List ℕ
+decoded_units here =
+    if begins is_quote here then unwrap_or (units_in (quoted_read 0 here).value) [] else name_units here
+
+-- the units that the part of a template which begins the text stands for; none, where it has a bad escape
+abbrev pub template_units : List ℕ → Option (List ℕ)
+template_units here = units_in (quoted_read 0 here).value
+
+-- the value of a part of a template with these units
+abbrev pub template_row_value : Option (List ℕ) → RowValue
+template_row_value None = Bad
+template_row_value (Some us) = Units us
+
+-- the value of a token of this kind with an escape, which begins the text
+abbrev pub decoded_value : Kind → List ℕ → RowValue
+decoded_value kind here =
+    if is_template_kind kind then template_row_value (template_units here) else Units (decoded_units here)
+
+-- This is the value of the token: its text in the source exactly where it has no escape.
 pub record IsValueOf (text : List ℕ) (token : TokenParts) (value : RowValue) : Type 0 where
   pub plain : token.escaped ≡ false → value ≡ plain_value token.kind token.start token.end
-  pub decoded : token.escaped ≡ true → value ≡ Units (decoded_units (from_place text token.start))
+  pub decoded : token.escaped ≡ true → value ≡ decoded_value token.kind (from_place text token.start)
+
+-- The text of the token, without its marks, lies on places of the source, in order.
+pub record HasText (text : List ℕ) (token : TokenParts) : Type 0 where
+  pub start : IsCharBoundary text (text_start token.kind token.start)
+  pub end : IsCharBoundary text (text_end token.kind token.end)
+  pub ordered : text_start token.kind token.start ≤ text_end token.kind token.end
