@@ -15,15 +15,14 @@ use Rattle.js_text.specs.Lists.{with_last}
 use Rattle.js_text.proofs.TextLemmas.{rest_bytes}
 use Rattle.js_kind.specs.declared.kind.Kind.{Kind}
 use Rattle.js_kind.specs.TokenParts.{TokenParts}
-use Rattle.js_grammar.specs.Built.{IsBuilt}
 use Rattle.js_grammar.specs.Goals.{GoalReads, line_has_ended_behind}
 use Rattle.js_grammar.specs.Outcome.{Findings, joined, lengths_of, cut_to}
 use Rattle.js_grammar.specs.declared.goal.Goal.{Goal}
 use Rattle.js_grammar.proofs.Clean.{agrees_with_grammar}
 use Rattle.js_grammar.specs.Spelling.{is_private_name}
 use Rattle.js_grammar.proofs.NumberSound.{first_is}
-use Rattle.js_grammar.proofs.Values.{private_name_begins}
-use Rattle.js_lexer.specs.Decoded.{Values, AreValues, Keeps, HasValue, text_start}
+use Rattle.js_grammar.proofs.Texts.{goal_reads_text}
+use Rattle.js_lexer.specs.Decoded.{Values, AreValues, Keeps, HasValue}
 use Rattle.js_grammar.proofs.Spans.{goal_reads_span, goal_reads_places}
 use Rattle.js_lexer.specs.Lexer.{LexerState, IsOnPlaces, IsSound, IsRestored, collected, ReadsOutcome, ReadsToken}
 use Rattle.js_lexer.specs.Lexer.{HasMovedOn, Checkpoint, checkpoint_of, put_back, rewound, BeginsAlike, GoesOnFrom}
@@ -59,11 +58,10 @@ read_places goal before old new token u r =
 -- and so a lexer behind it is sound
 pub sound_after : (goal : Goal) (before : Option TokenParts) (old new : Reader) (token : TokenParts)
     → IsUtf8 new.source.text
-    → IsBuilt old.source.text → (values : Values) → AreValues old.source.text values
+    → (values : Values) → AreValues old.source.text values
     → ReadsGoal goal before old token new → IsSound new.source.text (Some token) values
-sound_after goal before old new token u built values are r =
+sound_after goal before old new token u values are r =
     let same : IsSound old.source.text (Some token) values = record {
-      built = built;
       last_lies =
           read_places goal before old new token (subst IsUtf8 r.text u) r;
       are_values = are;
@@ -75,7 +73,7 @@ pub sound_still : (old new : List ℕ) (last : Option TokenParts) (values more :
     → IsSound old last values → AreValues old more → IsSound new last more
 sound_still old new last values more same sound are =
     subst (λ text. IsSound text last more) (sym same)
-    (record { built = sound.built; last_lies = sound.last_lies; are_values = are })
+    (record { last_lies = sound.last_lies; are_values = are })
 
 -- a reading of a lexer's reader is one from the lexer's place
 goal_of_lexer : (l : LexerState) (r new : Reader) (goal : Goal) (token : TokenParts) → IsReaderOf l r
@@ -84,27 +82,6 @@ goal_of_lexer : (l : LexerState) (r new : Reader) (goal : Goal) (token : TokenPa
 goal_of_lexer l r new goal token is reads =
     subst (λ (a : At). GoalReads a.text l.source_type goal l.last a.place reads.outcome) is.source
     (subst (λ t. GoalReads r.source.text t goal l.last r.source.place reads.outcome) is.source_type reads.reads)
-
--- behind a `#` stands a place
-past_mark : (text : List ℕ) (start : ℕ) → IsUtf8 text → IsCharBoundary text start
-    → begins (λ c. c == number_sign) (from_place text start) ≡ true → IsCharBoundary text (start + 1)
-past_mark text start u b e =
-    let cs = drop 1 (from_place text start) in
-    let here : from_place text start ≡ number_sign ∷ cs = first_is number_sign (from_place text start) e in
-    let bytes : drop start text ≡ encode number_sign ++ encode_utf8_all cs =
-    sym (rest_bytes text start u b) ∙ ap encode_utf8_all here in
-    subst (λ n. IsCharBoundary text (start + n)) (len_utf8_ascii number_sign (omega arith))
-    (IsCharBoundary-past_char text (encode_utf8_all cs) start number_sign b.0 (IsUtf8-drop text start u b) bytes)
-
-text_lies : (kind : Kind) (text : List ℕ) (start : ℕ) → IsUtf8 text → IsCharBoundary text start
-    → (is_private_name kind ≡ true → begins (λ c. c == number_sign) (from_place text start) ≡ true)
-    → IsCharBoundary text (text_start kind start)
-text_lies kind text start u b private = by_kind (is_private_name kind) private
-  where
-    by_kind : (p : Bool) → (p ≡ true → begins (λ c. c == number_sign) (from_place text start) ≡ true)
-        → IsCharBoundary text (cond p (start + 1) start)
-    by_kind true h = past_mark text start u b (h refl)
-    by_kind false h = b
 
 -- what a reading gives
 pub reads_outcome : (l : LexerState) (r new : Reader) (goal : Goal) (token : TokenParts) → IsUtf8 l.text
@@ -118,9 +95,7 @@ reads_outcome l r new goal token u is reads =
       reads = here;
       places = record { start = places.0; end = places.1; ordered = span.ordered };
       some_text = span.some_text;
-      text_lies =
-          text_lies reads.outcome.token.kind l.text reads.outcome.token.start u places.0
-          (private_name_begins l.text l.source_type goal l.last l.place reads.outcome here);
+      text_lies = goal_reads_text l.text l.source_type goal l.last l.place reads.outcome u here;
     }
 
 -- a reading, as contracts see it

@@ -1,4 +1,3 @@
-pub mod BuiltSteps
 pub mod CommentSteps
 pub mod DecodedSteps
 pub mod FamilyFacts
@@ -8,6 +7,8 @@ pub mod LexerSteps
 pub mod NameSteps
 pub mod NumberSteps
 pub mod PartSteps
+pub mod PrintableSteps
+pub mod QuotedSteps
 pub mod ReadingSteps
 pub mod RecoverSteps
 pub mod SpellingSteps

@@ -1,5 +1,6 @@
 -- What is read of a name and of a private name, and the values that are kept of them.
 use Rattle.std.proofs.Common.{◌≡◌, ℕ, ◌+◌, Bool, true, false, List, [], ◌∷◌, ◌++◌, refl, sym, ◌∙◌, ap, subst}
+use Rattle.std.specs.Prelude.{if◌then◌else◌}
 use Rattle.std.specs.Str.{encode_utf8_all}
 use Rattle.js_text.specs.Ascii.{number_sign}
 use Rattle.js_text.specs.JsStr.{units_of}
@@ -14,14 +15,19 @@ use Rattle.js_grammar.proofs.NameReadings.{ReadsAs, name_reads_here, private_rea
 use Rattle.js_grammar.proofs.Values.{decoded_of_name, decoded_of_private_read}
 use Rattle.js_lexer.specs.Decoded.{Values, KeepsSpelt, KeepsValues, HasValueHere}
 use Rattle.js_lexer.specs.Reader.{ReadsLexeme}
-use Rattle.js_spell.specs.Name.{ReadsName, ReadsPrivateName, HasValue}
+use Rattle.js_spell.specs.Name.{ReadsName, ReadsPrivateName, HasValue as SpeltHasValue}
 use Rattle.js_spell.specs.declared.spelt.SpeltValue.{SpeltValue}
+use Rattle.js_spell.specs.declared.spelt.SpeltValue.TheVariants.{Plain, Decoded}
 use Rattle.js_lexer.specs.declared.reader.Reader.{Reader}
-use Rattle.js_lexer.proofs.DecodedSteps.{keeps_same, keeps_held, has_held, needs_no_value}
+use Rattle.js_kind.specs.Kinds.{is_template_kind}
+use Rattle.js_kind.proofs.NameKinds.{name_kind-is_identifier_name}
+use Rattle.js_grammar.proofs.Flags.{neither_quoted, name_is_unquoted}
+use Rattle.js_grammar.proofs.Texts.{private_read_is_unquoted}
+use Rattle.js_lexer.proofs.DecodedSteps.{keeps_same, keeps_string, has_string, needs_no_value}
 use Rattle.js_lexer.proofs.RecoverSteps.{leads_to}
 
 -- what was read behind a gap, up to its value
-lexeme_as : (old new : Reader) (kind : Kind) (left : List ℕ) (escaped : Bool) (added : List Diagnostic)
+pub lexeme_as : (old new : Reader) (kind : Kind) (left : List ℕ) (escaped : Bool) (added : List Diagnostic)
     → ReadsAs old.source_type old.line_has_ended old.source.place (rest old.source) kind left escaped added
     → new.source.text ≡ old.source.text → left ≡ rest new.source → new.errors ≡ old.errors ++ added
     → new.source_type ≡ old.source_type
@@ -100,25 +106,47 @@ lexeme_of_private old new mid kind escaped decoded h g reads read source_type =
     (sym reads.here) as_read)
     (read.text ∙ reads.text) refl read.reports source_type
 
--- What is kept of a spelling with this value.
-pub record IsKept (here : At) (old new : Values) (escaped : Bool) : Type 0 where
+-- What is kept of a spelling of this kind.
+pub record IsKept (here : At) (old new : Values) (kind : Kind) (escaped : Bool) : Type 0 where
   pub kept : KeepsValues here.text old new
-  pub has_value : HasValueHere here new escaped
+  pub has_value : HasValueHere here new kind escaped
 
-pub spelt_kept : (here : At) (old new : Values) (escaped : Bool) (decoded : List ℕ) (value : SpeltValue) (start : ℕ)
-    → start ≡ here.place → HasValue escaped decoded value → KeepsSpelt start value old new
-    → (escaped ≡ true → units_of decoded ≡ decoded_units (rest here)) → IsKept here old new escaped
-spelt_kept here old new false decoded value start at is keeps units =
+-- of a name or a string, with this value
+pub spelt_kept : (here : At) (old new : Values) (kind : Kind) (escaped : Bool) (units : List ℕ) (value : SpeltValue)
+    (start : ℕ) → start ≡ here.place → (escaped ≡ true → is_template_kind kind ≡ false)
+    → value ≡ (if escaped then Decoded units else Plain) → KeepsSpelt start value old new
+    → (escaped ≡ true → units ≡ decoded_units (rest here)) → IsKept here old new kind escaped
+spelt_kept here old new kind false units value start at none is keeps stands =
     let same = subst (λ v. KeepsSpelt start v old new) is keeps in
-    record { kept = keeps_same here.text old new same; has_value = needs_no_value here new false refl }
-spelt_kept here old new true decoded value start at is keeps units =
-    let held =
-    subst (λ (n : ℕ). KeepsSpelt n value old new) at keeps in
+    record { kept = keeps_same here.text old new same; has_value = needs_no_value here new kind false refl }
+spelt_kept here old new kind true units value start at none is keeps stands =
+    let held = subst (λ (n : ℕ). KeepsSpelt n value old new) at keeps in
     let holds = subst (λ v. KeepsSpelt here.place v old new) is held in
     record {
-      kept = keeps_held here (units_of decoded) old new holds (units refl);
-      has_value = has_held here (units_of decoded) old new true holds (units refl);
+      kept = keeps_string here units old new holds (stands refl);
+      has_value = has_string here units old new kind true (none refl) holds (stands refl);
     }
+
+-- the value of a spelt name, by its escaped flag
+pub spelt_name_value : (escaped : Bool) (cs : List ℕ) (value : SpeltValue) → SpeltHasValue escaped cs value
+    → value ≡ (if escaped then Decoded (units_of cs) else Plain)
+spelt_name_value true cs value is = is
+spelt_name_value false cs value is = is
+
+-- names are no templates
+pub name_is_no_template : (cs : List ℕ) → is_template_kind (name_kind (encode_utf8_all cs)) ≡ false
+name_is_no_template cs =
+    (neither_quoted (name_kind (encode_utf8_all cs))
+    (name_is_unquoted (name_kind (encode_utf8_all cs)) (name_kind-is_identifier_name (encode_utf8_all cs)))).1
+
+pub private_is_no_template : (place : ℕ) (cs : List ℕ) → is_template_kind (private_read place cs).kind ≡ false
+private_is_no_template place cs =
+    (neither_quoted (private_read place cs).kind (private_read_is_unquoted place cs)).1
+
+pub read_private_is_no_template : (mid new : At) (before after : List Diagnostic) (kind : Kind) (escaped : Bool)
+    (decoded : List ℕ) → ReadsPrivateName mid new before after kind escaped decoded → is_template_kind kind ≡ false
+read_private_is_no_template mid new before after kind escaped decoded read =
+    ap (λ (r : PrivateRead). is_template_kind r.kind) (sym read.read) ∙ private_is_no_template mid.place (rest mid)
 
 -- the value of a name that was read is what its name stands for
 pub name_units : (old new : At) (before after : List Diagnostic) (escaped : Bool) (decoded : List ℕ)

@@ -23,7 +23,7 @@ use Rattle.js_grammar.specs.Recovery.{faulty, number_reading}
 use Rattle.js_grammar.specs.Spelling.{NothingSpelled, has_separator}
 use Rattle.js_grammar.specs.declared.goal.Goal.{Goal}
 use Rattle.js_grammar.specs.declared.goal.Goal.TheVariants.{First}
-use Rattle.js_grammar.proofs.Flags.{IsUnflagged}
+use Rattle.js_grammar.proofs.Flags.{IsUnflagged, has_no_escape}
 use Rattle.js_grammar.proofs.PieceLemmas.{from_first-hashbang}
 use Rattle.js_grammar.proofs.NumberReadings.{number_reads_here}
 use Rattle.js_grammar.proofs.SpellingClasses.{nothing_spelled}
@@ -53,15 +53,16 @@ lexeme_spelled old new k l within plain s is = record {
   here = spelled s.spelled s.spelling refl;
   behind = refl;
   lexeme_is =
-      is ∙ ap (plain_lexeme k) within.line_has_ended ∙ rw (plain.no_name, plain.no_number) refl;
+      is ∙ ap (plain_lexeme k) within.line_has_ended ∙ rw
+      (has_no_escape k s.spelled plain.no_value, plain.no_number) refl;
   errors = within.errors ∙ sym (append-nil old.errors);
 }
 
--- where no name, no number and no punctuator begins, nothing is spelled
+-- where nothing that is spelled begins, nothing is spelled
 pub nothing_here : (t : SourceType) (line_has_ended : Bool) (here : List ℕ) → NothingHere t line_has_ended here
     → NothingSpelled t line_has_ended here
 nothing_here t line_has_ended here n = nothing_spelled t line_has_ended here n.some n.no_named n.no_number
-    n.no_punctuator
+    n.no_quoted n.no_punctuator
 
 -- what was read to recover, and reported
 pub lexeme_recovered : (old new : Reader) (r : Recovered) → Recovers old.line_has_ended old.source r new.source

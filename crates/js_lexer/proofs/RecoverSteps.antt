@@ -16,6 +16,7 @@ use Rattle.js_grammar.specs.Gap.{is_prefix}
 use Rattle.js_grammar.specs.Outcome.{place_behind}
 use Rattle.js_grammar.specs.Name.{begins_name}
 use Rattle.js_grammar.specs.Number.{begins_number}
+use Rattle.js_grammar.specs.Quoted.{begins_quoted}
 use Rattle.js_grammar.specs.Spelling.{begins_named}
 use Rattle.js_grammar.proofs.Starts.{named_false}
 use Rattle.js_grammar.specs.Recovery.{Reading, recovered, recovered_character, is_control_or_wide}
@@ -90,28 +91,31 @@ unterminated line_has_ended old mid new b start end h g takes e none line s f =
 -- where no comment, no name and no number begins
 no_mark : (line_has_ended : Bool) (old : At) → is_prefix (codes "/*") (rest old) ≡ false
     → begins begins_named (rest old) ≡ false → begins_number (rest old) ≡ false
+    → begins begins_quoted (rest old) ≡ false
     → recovered line_has_ended old.place (rest old)
     ≡ (if begins (λ c. c == 0xFFFD) (rest old) then Some
     (binary_file line_has_ended) else recovered_character line_has_ended old.place
     (rest old))
-no_mark line_has_ended old e f n =
+no_mark line_has_ended old e f n q =
     let none = named_false (rest old) f in
     if_not (is_prefix (codes "/*") (rest old)) _ _ e ∙ if_not (begins_name (rest old)) _ _ none.0
     ∙ if_not (begins (λ c. c == number_sign) (rest old)) _ _ none.1 ∙ if_not (begins_number (rest old)) _ _ n
+    ∙ if_not (begins begins_quoted (rest old)) _ _ q
 
 pub binary : (line_has_ended : Bool) (old mid new : At) (c : ℕ) → IsPlaced old
     → is_prefix (codes "/*") (rest old) ≡ false
-    → begins begins_named (rest old) ≡ false → begins_number (rest old) ≡ false → Reads old mid c → c ≡ 0xFFFD
+    → begins begins_named (rest old) ≡ false → begins_number (rest old) ≡ false
+    → begins begins_quoted (rest old) ≡ false → Reads old mid c → c ≡ 0xFFFD
     → new ≡ record mid { place = length mid.text } → rest new ≡ []
     → Recovers line_has_ended old
     (record { kind = Eof; is_on_new_line = line_has_ended; diagnostic = FileAppearsToBeBinary }) new
-binary line_has_ended old mid new c h e f n reads same to none =
+binary line_has_ended old mid new c h e f n q reads same to none =
     let begun : begins (λ d. d == 0xFFFD) (rest old) ≡ true =
     ap (begins (λ d. d == 0xFFFD)) (reads.here ∙ ap (λ d. d ∷ rest mid) same) in
     record {
       text = ap (λ a. a.text) to ∙ reads.text;
       recovery =
-          no_mark line_has_ended old e f n ∙ if_true (begins (λ d. d == 0xFFFD) (rest old)) _ _ begun ∙ rw none refl;
+          no_mark line_has_ended old e f n q ∙ if_true (begins (λ d. d == 0xFFFD) (rest old)) _ _ begun ∙ rw none refl;
       onward = subst (λ (n : ℕ). old.place ≤ n) (sym (ap (λ a. a.place) to ∙ ap length reads.text)) (h.boundary.0);
     }
 
@@ -135,7 +139,7 @@ some_text line_has_ended old some none = let no : is_some (recovered line_has_en
 
 pub invalid : (line_has_ended : Bool) (old new : At) (c start end : ℕ) → IsPlaced old → IsPlaced new
     → is_prefix (codes "/*") (rest old) ≡ false → begins begins_named (rest old) ≡ false
-    → begins_number (rest old) ≡ false
+    → begins_number (rest old) ≡ false → begins begins_quoted (rest old) ≡ false
     → IsSome (recovered line_has_ended old.place (rest old)) → Reads old new c → (c ≡ 0xFFFD → ⊥)
     → old.place ≤ new.place
     → start ≡ old.place → end ≡ new.place
@@ -145,11 +149,11 @@ pub invalid : (line_has_ended : Bool) (old new : At) (c start end : ℕ) → IsP
       is_on_new_line = line_has_ended;
       diagnostic = InvalidCharacter c (record { start = start; end = end });
     }) new
-invalid line_has_ended old new c start end h g e f n some reads other onward s t =
+invalid line_has_ended old new c start end h g e f n q some reads other onward s t =
     let begun : begins (λ d. d == 0xFFFD) (rest old) ≡ false =
     ap (begins (λ d. d == 0xFFFD)) reads.here ∙ ne_eqb c 0xFFFD other in
     let same =
-    no_mark line_has_ended old e f n ∙ if_not (begins (λ d. d == 0xFFFD) (rest old)) _ _ begun
+    no_mark line_has_ended old e f n q ∙ if_not (begins (λ d. d == 0xFFFD) (rest old)) _ _ begun
     ∙ ap (recovered_character line_has_ended old.place) reads.here in
     let there : is_some (recovered_character line_has_ended old.place (c ∷ rest new)) ≡ true =
     sym (ap is_some same) ∙ some in

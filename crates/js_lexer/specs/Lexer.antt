@@ -6,13 +6,13 @@ use Rattle.std.specs.Str.{IsCharBoundary}
 use Rattle.js_text.specs.Lists.{with_last}
 use Rattle.js_text.specs.declared.diagnostic.Diagnostic.{Diagnostic}
 use Rattle.js_text.specs.declared.source_type.SourceType.{SourceType}
-use Rattle.js_grammar.specs.Built.{IsBuilt}
 use Rattle.js_grammar.specs.Goals.{GoalReads, AgreesWithGrammar}
 use Rattle.js_grammar.specs.Outcome.{Findings, FindingLengths, no_findings, joined, reports, lengths_of, cut_to}
 use Rattle.js_grammar.specs.Outcome.{AreWithin, Outcome}
+use Rattle.js_grammar.specs.Values.{HasText}
 use Rattle.js_grammar.specs.declared.goal.Goal.{Goal}
 use Rattle.js_grammar.specs.declared.goal.Goal.TheVariants.{Next}
-use Rattle.js_lexer.specs.Decoded.{Values, AreValues, Keeps, HasValue, text_start}
+use Rattle.js_lexer.specs.Decoded.{Values, no_values, AreValues, Keeps, HasValue}
 use Rattle.js_kind.specs.Kinds.{number}
 use Rattle.js_kind.specs.TokenParts.{TokenParts, default_parts}
 use Rattle.js_kind.specs.declared.kind.Kind.{Kind}
@@ -40,7 +40,7 @@ fresh text t collects = record {
   last = None;
   tokens = [];
   findings = no_findings;
-  decoded = [];
+  decoded = no_values;
 }
 
 -- the token, or the default token where none was read yet
@@ -53,9 +53,8 @@ pub record IsOnPlaces (text : List ℕ) (token : TokenParts) : Type 0 where
   pub end : IsCharBoundary text token.end
   pub ordered : token.start ≤ token.end
 
--- The text can be read, the last token lies on its places, and decoded values are those of names of the text.
+-- The last token lies on places of the text, and decoded values are those of tokens of the text.
 pub record IsSound (text : List ℕ) (last : Option TokenParts) (decoded : Values) : Type 0 where
-  pub built : IsBuilt text
   pub last_lies : IfSome last (IsOnPlaces text)
   pub are_values : AreValues text decoded
 
@@ -101,7 +100,7 @@ pub record ReadsOutcome (goal : Goal) (l : LexerState) (outcome : Outcome) : Typ
   pub reads : GoalReads l.text l.source_type goal l.last l.place outcome
   pub places : IsOnPlaces l.text outcome.token
   pub some_text : outcome.token.kind ≢ Eof → outcome.token.start < outcome.token.end
-  pub text_lies : IsCharBoundary l.text (text_start outcome.token.kind outcome.token.start)
+  pub text_lies : HasText l.text outcome.token
 
 -- One reading: the token is that of the goal's reading from the lexer's place, and nothing changed but by that reading.
 pub record ReadsToken (goal : Goal) (old : LexerState) (token : TokenParts) (new : LexerState) : Type 0 where

@@ -9,6 +9,7 @@ use Rattle.js_grammar.specs.Hashbang.{begins_hashbang, IsHashbang}
 use Rattle.js_grammar.specs.Number.{begins_number}
 use Rattle.js_grammar.specs.Outcome.{Outcome, reports, gap_diagnostics}
 use Rattle.js_grammar.specs.Punctuators.{NoPunctuator}
+use Rattle.js_grammar.specs.Quoted.{begins_quoted}
 use Rattle.js_grammar.specs.Recovery.{Reading}
 use Rattle.js_grammar.specs.Spelling.{begins_named}
 use Rattle.js_grammar.specs.declared.goal.Goal.{Goal}
@@ -143,9 +144,11 @@ ReadsHashbang old (Some token) new = IsHashbangRead old token new
 ReadsHashbang old None new =
     (begins_hashbang First old.source.text old.source.place ≡ false) × IsUnmoved old new
 
--- No name, private or not, no number and no punctuator begins the text, which is not at its end.
+-- No name, private or not, no number, no string, no template and no punctuator begins the text, which is not at its
+-- end.
 pub record NothingHere (t : SourceType) (line_has_ended : Bool) (here : List ℕ) : Type 0 where
   pub some : here ≢ []
   pub no_named : begins begins_named here ≡ false
   pub no_number : begins_number here ≡ false
+  pub no_quoted : begins begins_quoted here ≡ false
   pub no_punctuator : NoPunctuator t line_has_ended here

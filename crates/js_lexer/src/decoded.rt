@@ -1,7 +1,7 @@
 //! Decoded values, by the tokens that they are of.
 
-ghost use Rattle.std.specs.Prelude.{◌≡◌, [], Some, None, IfNone, IfSome, OnOk, OnErr};
-ghost use Rattle.js_lexer.specs.Decoded.{value_of, Holds};
+ghost use Rattle.std.specs.Prelude.{◌≡◌, Some, None, IfNone, IfSome, OnOk, OnErr};
+ghost use Rattle.js_lexer.specs.Decoded.{no_values, value_of, HoldsString, HoldsTemplate};
 
 use js_text::JSStr;
 use std::alloc::{AllocError, Global};
@@ -11,7 +11,10 @@ use std::marker::Model;
 /// The values of tokens whose spellings have escapes, by the offsets where the tokens start.
 #[derive(Drop)]
 pub(crate) struct DecodedValues {
-    values: HashMap<u32, JSStr>,
+    /// Of names and strings.
+    strings: HashMap<u32, JSStr>,
+    /// Of parts of templates, without a value where an escape stands for nothing.
+    templates: HashMap<u32, Option<JSStr>>,
 }
 
 impl Model for DecodedValues {
@@ -19,35 +22,55 @@ impl Model for DecodedValues {
 
     ghost Value = { Values };
 
-    ghost view = { λ d. d.values.entries };
+    ghost view = { λ d. record { strings = d.strings.entries; templates = d.templates.entries } };
 }
 
 impl DecodedValues {
     /// No values. It takes no memory yet.
     pub fn new_in(alloc: Global) -> DecodedValues
-        ensures { result ≡ [] }
+        ensures { result ≡ no_values }
     {
         DecodedValues {
-            values: HashMap::new(alloc),
+            strings: HashMap::new(alloc),
+            templates: HashMap::new(alloc),
         }
     }
 
-    /// The value of the token that starts at the offset.
+    /// The value of the name or the string that starts at the offset.
     #[inline(never)]
     pub fn get(&self, start: u32) -> Option<&JSStr>
-        ensures none { IfNone result (value_of self.now start ≡ None) }
-        ensures some { IfSome result (λ value. value_of self.now start ≡ Some value.now) }
+        ensures none { IfNone result (value_of self.now.strings start ≡ None) }
+        ensures some { IfSome result (λ value. value_of self.now.strings start ≡ Some value.now) }
     {
-        self.values.get(&start)
+        self.strings.get(&start)
     }
 
-    /// Keeps the value of the token that starts at the offset.
+    /// The value of the part of a template that starts at the offset.
+    #[inline(never)]
+    pub fn get_template(&self, start: u32) -> Option<&Option<JSStr>>
+        ensures none { IfNone result (value_of self.now.templates start ≡ None) }
+        ensures some { IfSome result (λ value. value_of self.now.templates start ≡ Some value.now) }
+    {
+        self.templates.get(&start)
+    }
+
+    /// Keeps the value of the name or the string that starts at the offset.
     #[inline(never)]
     pub fn insert(&mut self, start: u32, value: JSStr) -> Result<(), AllocError>
-        ensures ok { OnOk result (Holds start value self.old self.new) }
+        ensures ok { OnOk result (HoldsString start value self.old self.new) }
         ensures err { OnErr result (self.new ≡ self.old) }
     {
-        self.values.insert(start, value)?;
+        self.strings.insert(start, value)?;
+        Ok(())
+    }
+
+    /// Keeps the value of the part of a template that starts at the offset.
+    #[inline(never)]
+    pub fn insert_template(&mut self, start: u32, value: Option<JSStr>) -> Result<(), AllocError>
+        ensures ok { OnOk result (HoldsTemplate start value self.old self.new) }
+        ensures err { OnErr result (self.new ≡ self.old) }
+    {
+        self.templates.insert(start, value)?;
         Ok(())
     }
 }

@@ -3,11 +3,11 @@
 ghost use Rattle.std.specs.Prelude.{◌≡◌, ◌≤◌, ◌^◌, ◌↔◌, ◌++◌, [], length, drop, None, IsTrue, IfOk, OnOk, OnErr};
 ghost use Rattle.std.specs.List.{last_or};
 ghost use Rattle.std.specs.Str.{IsCharBoundary, IsUtf8};
-ghost use Rattle.js_grammar.specs.Built.{IsBuilt};
 ghost use Rattle.js_grammar.specs.Outcome.{no_findings, reports};
-ghost use Rattle.js_grammar.specs.Spelling.{is_private_name};
+ghost use Rattle.js_grammar.specs.Spelling.{text_start, text_end};
 ghost use Rattle.js_source.specs.Source.{IsPlaced};
-ghost use Rattle.js_lexer.specs.Decoded.{Keeps, value_of, GivesDecoded, GivesText, GivesStretch, text_start};
+ghost use Rattle.js_lexer.specs.Decoded.{Keeps, value_of, GivesDecoded, GivesPart, GivesText, GivesTemplate};
+ghost use Rattle.js_lexer.specs.Decoded.{GivesStretch};
 ghost use Rattle.js_lexer.specs.Lexer.{LexerState, fresh, token_or_default, ReadsToken, IsRestored, HasMovedOn};
 ghost use Rattle.js_lexer.specs.Lexer.{IsOnPlaces, Peeks, checkpoint_of, CanRewind, rewound, GoesOnFrom, collected};
 ghost use Rattle.js_lexer.specs.Lexer.{is_hashbang};
@@ -16,10 +16,11 @@ use crate::checkpoint::{LexerCheckpoint, is_on_places_if_some, is_place, put_bac
 use crate::decoded::DecodedValues;
 use crate::reader::Reader;
 use crate::tables::ByteTables;
+use crate::token_text::{is_template, text_span};
 use js_grammar::Goal;
 use js_kind::{Kind, LexerConfig, Token, TokenList};
 use js_source::Source;
-use js_text::{Diagnostic, DiagnosticList, JsText, SourceType};
+use js_text::{Diagnostic, DiagnosticList, JsText, SourceType, TemplateValue};
 use std::alloc::{AllocError, Global};
 use std::marker::Model;
 
@@ -28,14 +29,6 @@ fn is_hashbang(kind: Kind) -> bool
     ensures { result ≡ is_hashbang kind }
 {
     kind.number() == Kind::HashbangComment.number()
-}
-
-/// Whether the kind is that of private names.
-#[tactic(auto, unfolding(js_grammar::specs::Spelling::is_private_name))]
-pub fn is_private_name(kind: Kind) -> bool
-    ensures { result ≡ is_private_name kind }
-{
-    kind.number() == Kind::PrivateIdentifier.number()
 }
 
 /// Collects the token, where tokens are collected and it is no hashbang comment.
@@ -68,7 +61,7 @@ pub enum NewFault {
 }
 
 /// A lexer over a source text, with the last token that it gave, the tokens that it collected where its configuration
-/// says so, what its readings reported, and the values of names that have escapes.
+/// says so, what its readings reported, and the values of tokens that have escapes.
 #[derive(Drop)]
 pub struct Lexer<'a, C: LexerConfig + Drop> {
     reader: Reader<'a>,
@@ -106,7 +99,6 @@ impl<'a, C: LexerConfig + Drop> Lexer<'a, C> {
         source_type: SourceType,
         config: C,
     ) -> Result<Lexer<'a, C>, NewFault>
-        requires { IsBuilt source_text.now }
         ensures ok { IfOk result (λ l. l ≡ fresh source_text.now source_type (C.collects config)) }
         ensures overlong { (result ≡ Err NewFault.Overlong) ↔ (2 ^ 32 ≤ length source_text.now) }
     {
@@ -201,10 +193,10 @@ impl<'a, C: LexerConfig + Drop> Lexer<'a, C> {
         self.last.unwrap_or(Token::default())
     }
 
-    /// The text of a token of this source. Of one with an escape it is the value that was decoded where it was read,
-    /// and
-    /// none where no such token was read; of any other its stretch of the source, and none where there is no such
-    /// stretch. A private name's `#` is left out.
+    /// The text of a token of this source. Of one with an escape it is the value of the name or the string that was
+    /// decoded where it was read, and none where no such token was read; of any other its stretch of the source, and
+    /// none where there is no such stretch. A private name's `#` is left out, and so are quotes and the marks of
+    /// templates.
     pub fn get_string(&self, token: Token) -> Option<JsText<'_>>
         ensures { GivesText self.now.text self.now.decoded token result }
     {
@@ -215,6 +207,22 @@ impl<'a, C: LexerConfig + Drop> Lexer<'a, C> {
         }
     }
 
+    /// The value of a part of a template of this source; none for a token of another kind. Of one in which something is
+    /// escaped it is the value that was decoded where it was read, and none where no such part was read; of any other
+    /// its stretch of the source without its marks, and none where there is no such stretch.
+    pub fn get_template_string(&self, token: Token) -> Option<TemplateValue<'_>>
+        ensures { GivesTemplate self.now.text self.now.decoded token result }
+    {
+        if !is_template(token.kind()) {
+            return None;
+        }
+        if token.escaped() {
+            return self.decoded_part(token.start());
+        }
+        let text = self.source_text(&token)?;
+        Some(TemplateValue::Text(text))
+    }
+
     /// The text of a token, as `get_string` gives it.
     pub fn get_js_string(&self, token: Token) -> Option<JsText<'_>>
         ensures { GivesText self.now.text self.now.decoded token result }
@@ -222,9 +230,20 @@ impl<'a, C: LexerConfig + Drop> Lexer<'a, C> {
         self.get_string(token)
     }
 
-    /// The decoded value of the token that starts at the offset.
+    /// The decoded value of the part of a template that starts at the offset.
+    fn decoded_part(&self, start: u32) -> Option<TemplateValue<'_>>
+        ensures { GivesPart (value_of self.now.decoded.templates start) result }
+    {
+        match self.decoded.get_template(start) {
+            Some(Some(text)) => Some(TemplateValue::Text(JsText::Decoded(text))),
+            Some(None) => Some(TemplateValue::Bad),
+            None => None,
+        }
+    }
+
+    /// The decoded value of the name or the string that starts at the offset.
     fn decoded_text(&self, start: u32) -> Option<JsText<'_>>
-        ensures { GivesDecoded (value_of self.now.decoded start) result }
+        ensures { GivesDecoded (value_of self.now.decoded.strings start) result }
     {
         match self.decoded.get(start) {
             Some(text) => Some(JsText::Decoded(text)),
@@ -234,15 +253,11 @@ impl<'a, C: LexerConfig + Drop> Lexer<'a, C> {
 
     /// The stretch of the source that a token's text is.
     fn source_text(&self, token: &Token) -> Option<JsText<'_>>
-        ensures { GivesStretch self.now.text (text_start token.now.kind token.now.start) token.now.end result }
+        ensures { GivesStretch self.now.text (text_start token.now.kind token.now.start)
+            (text_end token.now.kind token.now.end) result }
     {
-        if !is_private_name(token.kind()) {
-            return self.stretch(token.start(), token.end());
-        }
-        if token.start() >= token.end() {
-            return None;
-        }
-        self.stretch(token.start() + 1, token.end())
+        let span = text_span(token)?;
+        self.stretch(span.start, span.end)
     }
 
     /// The stretch of the source from an offset to another.

@@ -15,9 +15,11 @@ mod recover;
 mod recovery;
 mod skipped;
 mod tables;
+mod token_text;
 
 pub use checkpoint::LexerCheckpoint;
-pub use lexer::{Lexer, NewFault, is_private_name};
+pub use lexer::{Lexer, NewFault};
+pub use token_text::{is_template, is_valued, text_span};
 
 #[cfg(test)]
 mod tests;

@@ -3,17 +3,17 @@
 ghost use Rattle.std.specs.Prelude.{◌≡◌, ◌≢◌, ◌<◌, ◌==◌, Bool, true, false, [], Option, None, IsTrue, IfOk, IfSome};
 ghost use Rattle.std.specs.Prelude.{OnOk};
 ghost use Rattle.std.specs.Prelude.{OnErr};
-ghost use Rattle.js_text.specs.Ascii.{number_sign};
+ghost use Rattle.js_text.specs.Ascii.{number_sign, grave_accent};
 ghost use Rattle.js_text.specs.Characters.{begins};
-ghost use Rattle.js_grammar.specs.Built.{IsBuilt};
 ghost use Rattle.js_grammar.specs.Gap.{whole_gap_piece};
 ghost use Rattle.js_grammar.specs.Goals.{line_has_ended_behind};
 ghost use Rattle.js_grammar.specs.Name.{begins_name};
 ghost use Rattle.js_grammar.specs.Number.{begins_number};
 ghost use Rattle.js_grammar.specs.Punctuators.{NoPunctuator};
+ghost use Rattle.js_grammar.specs.StringItems.{is_quote};
 ghost use Rattle.js_kind.specs.TokenParts.{TokenParts};
 ghost use Rattle.js_source.specs.Source.{rest, IsPlaced, BeginsWith};
-ghost use Rattle.js_lexer.specs.Decoded.{HasValue, HasValueHere, KeepsValues, KeepsSpelt};
+ghost use Rattle.js_lexer.specs.Decoded.{HasValue, HasValueHere, KeepsValues, KeepsSpelt, KeepsPart};
 ghost use Rattle.js_lexer.specs.Reader.{ReadsLexeme, ReadsBehind, ReadsGoal, ReadsHashbang, NothingHere, MovesOn};
 ghost use Rattle.js_lexer.specs.Tables.{TellsStarts, is_name_start};
 
@@ -26,7 +26,9 @@ use crate::reader::Reader;
 use crate::recover::recover;
 use js_grammar::Goal;
 use js_kind::{Kind, Token};
-use js_spell::{Spelt, SpeltValue, read_name, read_number, read_private_name};
+use js_spell::{
+    Spelt, SpeltValue, read_name, read_number, read_private_name, read_string, read_template_part,
+};
 use js_text::{Span, is_identifier_start};
 use std::alloc::AllocError;
 
@@ -61,6 +63,18 @@ fn keep_value(decoded: &mut DecodedValues, start: u32, value: SpeltValue) -> Res
     }
 }
 
+/// Keeps the value of the part of a template that starts at the offset, where it is no stretch of the source.
+fn keep_part(decoded: &mut DecodedValues, start: u32, value: SpeltValue) -> Result<(), AllocError>
+    ensures ok { OnOk result (KeepsPart start value decoded.old decoded.new) }
+    ensures err { OnErr result (decoded.new ≡ decoded.old) }
+{
+    match value {
+        SpeltValue::Plain => Ok(()),
+        SpeltValue::Decoded(units) => decoded.insert_template(start, Some(units)),
+        SpeltValue::Bad => decoded.insert_template(start, None),
+    }
+}
+
 impl Reader<'_> {
     /// What was read without a fault and without a flag.
     #[inline(always)]
@@ -84,7 +98,6 @@ impl Reader<'_> {
     #[inline(never)]
     fn recover(&mut self) -> Result<Lexeme, AllocError>
         requires gap { whole_gap_piece self.old.source_type self.old.line_has_ended (rest self.old.source) ≡ None }
-        requires built { IsBuilt self.old.source.text }
         requires nothing { NothingHere self.old.source_type self.old.line_has_ended (rest self.old.source) }
         requires placed { IsPlaced self.old.source }
         ensures ok { IfOk result (λ lexeme. ReadsLexeme self.old lexeme self.new) }
@@ -144,17 +157,95 @@ impl Reader<'_> {
         }
     }
 
-    /// Reads a number or a private name, or reads on where nothing is spelled.
+    /// Whether a quote is next.
+    #[inline(always)]
+    fn begins_string(&self) -> bool
+        ensures { result ≡ begins is_quote (rest self.now.source) }
+    {
+        match self.source.peek_byte() {
+            Some(b) => b == b'"' || b == b'\'',
+            None => false,
+        }
+    }
+
+    /// Reads the string that begins here, good or at fault, and keeps its value where it has an escape.
+    #[inline(always)]
+    fn read_string(&mut self, decoded: &mut DecodedValues) -> Result<Lexeme, AllocError>
+        requires begun { begins is_quote (rest self.old.source) ≡ true }
+        requires placed { IsPlaced self.old.source }
+        ensures ok { IfOk result (λ lexeme. ReadsLexeme self.old lexeme self.new) }
+        ensures value { IfOk result (λ lexeme. HasValueHere self.old.source decoded.new lexeme.kind lexeme.escaped) }
+        ensures kept { KeepsValues self.old.source.text decoded.old decoded.new }
+        ensures err { OnErr result (MovesOn self.old self.new) }
+    {
+        let mut token = Token::default();
+        let start = self.source.offset();
+        token.set_start(start);
+        let spelt = read_string(self.alloc, &mut self.source, &mut self.errors, &mut token)?;
+        let Spelt { kind, value } = spelt;
+        keep_value(decoded, start, value)?;
+        Ok(Lexeme {
+            kind,
+            is_on_new_line: self.line_has_ended,
+            escaped: token.escaped(),
+            has_separator: false,
+        })
+    }
+
+    /// Whether a backquote is next.
+    #[inline(always)]
+    fn begins_template(&self) -> bool
+        ensures { result ≡ begins (λ c. c == grave_accent) (rest self.now.source) }
+    {
+        match self.source.peek_byte() {
+            Some(b) => b == b'`',
+            None => false,
+        }
+    }
+
+    /// Reads the template that begins here, or its first part, good or at fault, and keeps its value where something in
+    /// it is escaped.
+    #[inline(always)]
+    fn read_template(&mut self, decoded: &mut DecodedValues) -> Result<Lexeme, AllocError>
+        requires begun { begins (λ c. c == grave_accent) (rest self.old.source) ≡ true }
+        requires placed { IsPlaced self.old.source }
+        ensures ok { IfOk result (λ lexeme. ReadsLexeme self.old lexeme self.new) }
+        ensures value { IfOk result (λ lexeme. HasValueHere self.old.source decoded.new lexeme.kind lexeme.escaped) }
+        ensures kept { KeepsValues self.old.source.text decoded.old decoded.new }
+        ensures err { OnErr result (MovesOn self.old self.new) }
+    {
+        let mut token = Token::default();
+        let start = self.source.offset();
+        token.set_start(start);
+        self.source.next_char();
+        let spelt = read_template_part(
+            self.alloc,
+            &mut self.source,
+            &mut self.errors,
+            &mut token,
+            Kind::TemplateHead,
+            Kind::NoSubstitutionTemplate,
+        )?;
+        let Spelt { kind, value } = spelt;
+        keep_part(decoded, start, value)?;
+        Ok(Lexeme {
+            kind,
+            is_on_new_line: self.line_has_ended,
+            escaped: token.escaped(),
+            has_separator: false,
+        })
+    }
+
+    /// Reads a number, a private name, a string or a template, or reads on where nothing is spelled.
     #[inline(always)]
     fn read_other(&mut self, decoded: &mut DecodedValues) -> Result<Lexeme, AllocError>
         requires gap { whole_gap_piece self.old.source_type self.old.line_has_ended (rest self.old.source) ≡ None }
         requires placed { IsPlaced self.old.source }
-        requires built { IsBuilt self.old.source.text }
         requires some { rest self.old.source ≢ [] }
         requires no_name { begins_name (rest self.old.source) ≡ false }
         requires no_punctuator { NoPunctuator self.old.source_type self.old.line_has_ended (rest self.old.source) }
         ensures ok { IfOk result (λ lexeme. ReadsLexeme self.old lexeme self.new) }
-        ensures value { IfOk result (λ lexeme. HasValueHere self.old.source decoded.new lexeme.escaped) }
+        ensures value { IfOk result (λ lexeme. HasValueHere self.old.source decoded.new lexeme.kind lexeme.escaped) }
         ensures kept { KeepsValues self.old.source.text decoded.old decoded.new }
         ensures err { OnErr result (MovesOn self.old self.new) }
     {
@@ -164,6 +255,12 @@ impl Reader<'_> {
         if self.begins_private_name() {
             return self.read_private_name(decoded);
         }
+        if self.begins_string() {
+            return self.read_string(decoded);
+        }
+        if self.begins_template() {
+            return self.read_template(decoded);
+        }
         self.recover()
     }
 
@@ -172,11 +269,10 @@ impl Reader<'_> {
     fn read_mark(&mut self, decoded: &mut DecodedValues) -> Result<Lexeme, AllocError>
         requires gap { whole_gap_piece self.old.source_type self.old.line_has_ended (rest self.old.source) ≡ None }
         requires placed { IsPlaced self.old.source }
-        requires built { IsBuilt self.old.source.text }
         requires some { rest self.old.source ≢ [] }
         requires no_name { begins_name (rest self.old.source) ≡ false }
         ensures ok { IfOk result (λ lexeme. ReadsLexeme self.old lexeme self.new) }
-        ensures value { IfOk result (λ lexeme. HasValueHere self.old.source decoded.new lexeme.escaped) }
+        ensures value { IfOk result (λ lexeme. HasValueHere self.old.source decoded.new lexeme.kind lexeme.escaped) }
         ensures kept { KeepsValues self.old.source.text decoded.old decoded.new }
         ensures err { OnErr result (MovesOn self.old self.new) }
     {
@@ -192,7 +288,7 @@ impl Reader<'_> {
         requires begun { begins_name (rest self.old.source) ≡ true }
         requires placed { IsPlaced self.old.source }
         ensures ok { IfOk result (λ lexeme. ReadsLexeme self.old lexeme self.new) }
-        ensures value { IfOk result (λ lexeme. HasValueHere self.old.source decoded.new lexeme.escaped) }
+        ensures value { IfOk result (λ lexeme. HasValueHere self.old.source decoded.new lexeme.kind lexeme.escaped) }
         ensures kept { KeepsValues self.old.source.text decoded.old decoded.new }
         ensures err { OnErr result (MovesOn self.old self.new) }
     {
@@ -216,7 +312,7 @@ impl Reader<'_> {
         requires begun { BeginsWith number_sign (rest self.old.source) }
         requires placed { IsPlaced self.old.source }
         ensures ok { IfOk result (λ lexeme. ReadsLexeme self.old lexeme self.new) }
-        ensures value { IfOk result (λ lexeme. HasValueHere self.old.source decoded.new lexeme.escaped) }
+        ensures value { IfOk result (λ lexeme. HasValueHere self.old.source decoded.new lexeme.kind lexeme.escaped) }
         ensures kept { KeepsValues self.old.source.text decoded.old decoded.new }
         ensures err { OnErr result (MovesOn self.old self.new) }
     {
@@ -240,9 +336,8 @@ impl Reader<'_> {
     fn read_any(&mut self, decoded: &mut DecodedValues) -> Result<Lexeme, AllocError>
         requires gap { whole_gap_piece self.old.source_type self.old.line_has_ended (rest self.old.source) ≡ None }
         requires placed { IsPlaced self.old.source }
-        requires built { IsBuilt self.old.source.text }
         ensures ok { IfOk result (λ lexeme. ReadsLexeme self.old lexeme self.new) }
-        ensures value { IfOk result (λ lexeme. HasValueHere self.old.source decoded.new lexeme.escaped) }
+        ensures value { IfOk result (λ lexeme. HasValueHere self.old.source decoded.new lexeme.kind lexeme.escaped) }
         ensures kept { KeepsValues self.old.source.text decoded.old decoded.new }
         ensures err { OnErr result (MovesOn self.old self.new) }
     {
@@ -258,9 +353,8 @@ impl Reader<'_> {
     fn read_lexeme(&mut self, decoded: &mut DecodedValues) -> Result<Lexeme, AllocError>
         requires gap { whole_gap_piece self.old.source_type self.old.line_has_ended (rest self.old.source) ≡ None }
         requires placed { IsPlaced self.old.source }
-        requires built { IsBuilt self.old.source.text }
         ensures ok { IfOk result (λ lexeme. ReadsLexeme self.old lexeme self.new) }
-        ensures value { IfOk result (λ lexeme. HasValueHere self.old.source decoded.new lexeme.escaped) }
+        ensures value { IfOk result (λ lexeme. HasValueHere self.old.source decoded.new lexeme.kind lexeme.escaped) }
         ensures kept { KeepsValues self.old.source.text decoded.old decoded.new }
         ensures err { OnErr result (MovesOn self.old self.new) }
     {
@@ -280,7 +374,6 @@ impl Reader<'_> {
     /// Reads a token behind a whole gap.
     fn read_behind_gap(&mut self, decoded: &mut DecodedValues) -> Result<Token, AllocError>
         requires placed { IsPlaced self.old.source }
-        requires built { IsBuilt self.old.source.text }
         ensures ok { IfOk result (λ token. ReadsBehind self.old token self.new) }
         ensures placed { OnOk result (IsPlaced self.new.source) }
         ensures value { IfOk result (λ token. HasValue self.old.source.text decoded.new token) }
@@ -317,7 +410,6 @@ impl Reader<'_> {
         decoded: &mut DecodedValues,
     ) -> Result<Token, AllocError>
         requires placed { IsPlaced self.old.source }
-        requires built { IsBuilt self.old.source.text }
         ensures ok { IfOk result (λ token. (before : Option TokenParts)
             → line_has_ended_behind before ≡ self.old.line_has_ended → ReadsGoal goal before self.old token self.new) }
         ensures placed { OnOk result (IsPlaced self.new.source) }

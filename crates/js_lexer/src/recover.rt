@@ -5,6 +5,7 @@ ghost use Rattle.std.specs.List.{list_any};
 ghost use Rattle.js_text.specs.Characters.{begins, is_line_terminator};
 ghost use Rattle.js_grammar.specs.Gap.{is_prefix};
 ghost use Rattle.js_grammar.specs.Number.{begins_number};
+ghost use Rattle.js_grammar.specs.Quoted.{begins_quoted};
 ghost use Rattle.js_grammar.specs.Recovery.{recovered};
 ghost use Rattle.js_grammar.specs.Spelling.{begins_named};
 ghost use Rattle.js_source.specs.Source.{rest};
@@ -36,6 +37,7 @@ fn recover_character(source: &mut Source<'_>, line_has_ended: bool) -> Recovered
     requires comment { is_prefix (codes "/*") (rest source.old) ≡ false }
     requires no_named { begins begins_named (rest source.old) ≡ false }
     requires no_number { begins_number (rest source.old) ≡ false }
+    requires no_quoted { begins begins_quoted (rest source.old) ≡ false }
     ensures { Recovers line_has_ended source.old result source.new }
 {
     let start = source.offset();
@@ -60,7 +62,7 @@ fn recover_character(source: &mut Source<'_>, line_has_ended: bool) -> Recovered
     }
 }
 
-/// Reads on where nothing is spelled and no number begins, and tells what is to be reported.
+/// Reads on where nothing is spelled and no number, no string and no template begins, and tells what is to be reported.
 #[inline(never)]
 pub(crate) fn recover(
     source: &mut Source<'_>,
@@ -70,6 +72,7 @@ pub(crate) fn recover(
     requires some { IsSome (recovered line_has_ended source.old.place (rest source.old)) }
     requires no_named { begins begins_named (rest source.old) ≡ false }
     requires no_number { begins_number (rest source.old) ≡ false }
+    requires no_quoted { begins begins_quoted (rest source.old) ≡ false }
     ensures { Recovers line_has_ended source.old result source.new }
 {
     let start = source.offset();

@@ -1,36 +1,17 @@
 //! Rows from outside, and that each call can succeed.
 
-ghost use Rattle.std.specs.Prelude.{◌≡◌, None, IsTrue, IfOk};
-ghost use Rattle.js_grammar.specs.Built.{IsBuilt, is_unbuilt_byte};
+ghost use Rattle.std.specs.Prelude.{◌≡◌, None, IfOk};
 
 use crate::lexer::Lexer;
 use js_kind::{
     Kind, LexerConfig, NoTokensLexerConfig, RuntimeLexerConfig, Token, TokensLexerConfig,
 };
-use js_text::{Diagnostic, JsText, SourceType};
+use js_text::{Diagnostic, JsText, SourceType, TemplateValue};
 use std::alloc::{AllocError, Global};
 use std::fmt::Write;
 use std::test::Fail;
 
-fn is_unbuilt_byte(byte: u8) -> bool
-    ensures { result ≡ is_unbuilt_byte byte }
-{
-    matches!(byte, b'"' | b'\'' | b'`')
-}
-
-/// Whether every form of the text is built.
-fn is_built(text: &[u8]) -> bool
-    ensures { IsTrue result → IsBuilt text.now }
-{
-    for at in 0..text.len() {
-        if is_unbuilt_byte(text[at]) {
-            return false;
-        }
-    }
-    true
-}
-
-/// A lexer that has read nothing, over a text of which every form is built.
+/// A lexer that has read nothing.
 fn lexer_of<C: LexerConfig + Drop>(
     alloc: Global,
     text: &str,
@@ -39,9 +20,6 @@ fn lexer_of<C: LexerConfig + Drop>(
 ) -> Result<Lexer<'_, C>, Fail>
     ensures { IfOk result (λ lexer. lexer.last ≡ None) }
 {
-    if !is_built(text.as_bytes()) {
-        return Err(Fail::from("a form that is not built"));
-    }
     match Lexer::new(alloc, text, source_type, config) {
         Ok(lexer) => Ok(lexer),
         Err(_) => Err(Fail::from("no lexer")),
@@ -89,9 +67,49 @@ fn lexed(alloc: Global, source: &str, source_type: SourceType) -> Result<String,
 }
 
 /// A source type, a source, its tokens and what is reported.
-static READINGS: [(SourceType, &str, &str); 46] = [
+static READINGS: [(SourceType, &str, &str); 54] = [
     (SourceType::Module, "", "Eof 0..0 n;"),
     (SourceType::Module, "\u{A0}a", "Ident 2..3 n;Eof 3..3;"),
+    (
+        SourceType::Module,
+        "\"\\",
+        "Undetermined 0..2 n;Eof 2..2;UnterminatedString 0..2;UnterminatedString 0..2;",
+    ),
+    (
+        SourceType::Module,
+        "'ab\n",
+        "Undetermined 0..4 n;Eof 4..4;UnterminatedString 0..4;",
+    ),
+    (
+        SourceType::Module,
+        "\"\\uD83D\\u\"",
+        "Str 0..10 n e;Eof 10..10;InvalidEscapeSequence 7..9;",
+    ),
+    (
+        SourceType::Module,
+        "'\\\\'+'a'",
+        "Str 0..4 n e;Plus 4..5;Str 5..8;Eof 8..8;",
+    ),
+    (
+        SourceType::Module,
+        "`a",
+        "Undetermined 0..2 n;Eof 2..2;UnterminatedString 0..2;",
+    ),
+    (
+        SourceType::Module,
+        "`a\r\n\\u`",
+        "NoSubstitutionTemplate 0..7 n e;Eof 7..7;",
+    ),
+    (
+        SourceType::Module,
+        "`a${b}",
+        "TemplateHead 0..4 n;Ident 4..5;RCurly 5..6;Eof 6..6;",
+    ),
+    (
+        SourceType::Module,
+        "\"a\"<!--x\n`\n$`",
+        "Str 0..3 n;LAngle 3..4;Bang 4..5;Minus2 5..7;Ident 7..8;NoSubstitutionTemplate 9..13 n;Eof 13..13;",
+    ),
     (
         SourceType::Module,
         "\u{FEFF}\u{3000}a",
@@ -541,6 +559,56 @@ fn tells_texts<C: LexerConfig + Drop>(
     Ok(())
 }
 
+/// Whether the value of a template is that of these units.
+fn is_decoded_part(value: Option<TemplateValue<'_>>, expected: &[u16]) -> bool {
+    match value {
+        Some(TemplateValue::Text(text)) => is_decoded(Some(text), expected),
+        _ => false,
+    }
+}
+
+/// Whether the value of a template is this stretch of the source.
+fn is_source_part(value: Option<TemplateValue<'_>>, expected: &str) -> bool {
+    match value {
+        Some(TemplateValue::Text(text)) => is_source(Some(text), expected),
+        _ => false,
+    }
+}
+
+/// Whether the value of a template is that of a bad escape.
+fn is_bad(value: Option<TemplateValue<'_>>) -> bool {
+    matches!(value, Some(TemplateValue::Bad))
+}
+
+/// Reads strings and templates, with escapes and without, and asks for their values.
+fn tells_values<C: LexerConfig + Drop>(
+    rt: &impl std::process::Abort,
+    alloc: Global,
+    config: C,
+) -> Result<(), Fail> {
+    let mut lexer = lexer_of(
+        alloc,
+        "'ab' '\\uD83D' `c` `d\r` `\\u` `e${",
+        SourceType::Module,
+        config,
+    )?;
+    let plain = lexer.first_token()?;
+    let escaped = lexer.next_token()?;
+    let template = lexer.next_token()?;
+    let decoded = lexer.next_token()?;
+    let bad = lexer.next_token()?;
+    let head = lexer.next_token()?;
+    assert!(rt; is_source(lexer.get_string(plain), "ab"));
+    assert!(rt; is_decoded(lexer.get_string(escaped), &[0xD83D]));
+    assert!(rt; lexer.get_template_string(escaped).is_none());
+    assert!(rt; is_source_part(lexer.get_template_string(template), "c"));
+    assert!(rt; is_decoded_part(lexer.get_template_string(decoded), &[0x64, 0x0A]));
+    assert!(rt; lexer.get_string(decoded).is_none());
+    assert!(rt; is_bad(lexer.get_template_string(bad)));
+    assert!(rt; is_source_part(lexer.get_template_string(head), "e"));
+    Ok(())
+}
+
 /// All of these at one configuration.
 fn checkpoints<C: LexerConfig + Copy + Drop>(
     rt: &impl std::process::Abort,
@@ -552,6 +620,7 @@ fn checkpoints<C: LexerConfig + Copy + Drop>(
     goes_back_before_a_fault(rt, alloc, config)?;
     hands_out_errors(rt, alloc, config)?;
     tells_texts(rt, alloc, config)?;
+    tells_values(rt, alloc, config)?;
     hands_out_tokens(rt, alloc, config, collected)
 }
 

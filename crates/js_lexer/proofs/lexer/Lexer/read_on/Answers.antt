@@ -25,7 +25,7 @@ returns-in_err-collect-clause-err g c =
 pub invariant_of-self-2 : goal.invariant_of-self-2
 invariant_of-self-2 g c =
     let read = c.in_ok-token.ensures.ok _ (no_token_yet _ c.is_none-self-inside.result c.is_none-self-inside.ensures) in
-    sound_after _ _ _ _ _ c.in_ok-token.ensures.placed.utf8 c.self.invariant.built c.read_goal.new.decoded
+    sound_after _ _ _ _ _ c.in_ok-token.ensures.placed.utf8 c.read_goal.new.decoded
     (c.in_ok-token.ensures.kept.are_values c.self.invariant.are_values) read
 
 pub returns-clause-ok : goal.returns-clause-ok

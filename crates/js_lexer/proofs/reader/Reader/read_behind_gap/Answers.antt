@@ -1,4 +1,6 @@
 use Rattle.std.proofs.Common.{◌∙◌, ap}
+use Rattle.std.proofs.lemmas.Result.{err_from_is_err_and}
+use Rattle.js_lexer.proofs.WholeSteps.{pieces_move_on}
 use Rattle.js_lexer.proofs.ReadingSteps.{lexeme_onward, lexeme_token, token_behind}
 use Rattle.js_lexer.proofs.reader.Reader.read_behind_gap.Goals as goal
 
@@ -23,3 +25,10 @@ returns-clause-ok c =
     (c.token.ensures ∙ ap (λ s. lexeme_token s.start s.end lexeme) c.new-span.ensures
     ∙ ap (λ n. lexeme_token n c.offset.result lexeme) c.offset-start.ensures.place
     ∙ ap (λ n. lexeme_token c.skip_whole_gap.new.self.source.place n lexeme) c.offset.ensures.place)
+
+pub returns-in_err-lexeme-clause-err : goal.returns-in_err-lexeme-clause-err
+returns-in_err-lexeme-clause-err c =
+    let p = err_from_is_err_and c.from_residual-in_err-lexeme.result c.from_residual-in_err-lexeme.ensures.1 in
+    rw p.1
+    (pieces_move_on c.args.self.now c.skip_whole_gap.new.self c.read_lexeme.new.self
+    c.in_ok-skip_whole_gap.ensures.ok.skips c.in_err-lexeme.ensures.err)

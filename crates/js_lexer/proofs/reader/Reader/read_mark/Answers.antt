@@ -1,7 +1,6 @@
 use Rattle.std.proofs.Common.{refl, sym, subst, ◌≡◌, ◌≢◌, [], false}
 use Rattle.js_grammar.specs.Name.{begins_name}
 use Rattle.js_source.specs.Source.{At, rest, IsPlaced}
-use Rattle.js_grammar.specs.Built.{IsBuilt}
 use Rattle.js_grammar.specs.Gap.{whole_gap_piece}
 use Rattle.js_grammar.specs.Punctuators.{NoPunctuator}
 use Rattle.js_grammar.proofs.Flags.{punctuator_unflagged}
@@ -32,7 +31,6 @@ read_other-requires c =
     let none = c.in-None.ensures t line_has_ended quiet in
     record {
       gap = subst (λ (a : At). whole_gap_piece t line_has_ended (rest a) ≡ _) (sym none.0) c.requires.gap;
-      built = subst (λ (a : At). IsBuilt a.text) (sym none.0) c.requires.built;
       some = subst (λ (a : At). rest a ≢ []) (sym none.0) c.requires.some;
       no_name = subst (λ (a : At). begins_name (rest a) ≡ false) (sym none.0) c.requires.no_name;
       no_punctuator = subst (λ (a : At). NoPunctuator t line_has_ended (rest a)) (sym none.0) none.1;
@@ -71,7 +69,7 @@ returns-in-None-clause-value c =
     c.in-None.ensures t line_has_ended
     (none_behind t line_has_ended (rest c.args.self.now.source) c.requires.gap).0 in
     subst (λ (a : At). IfOk c.read_other.result
-    (λ lexeme. HasValueHere a c.read_other.new.decoded lexeme.escaped)) none.0
+    (λ lexeme. HasValueHere a c.read_other.new.decoded lexeme.kind lexeme.escaped)) none.0
     c.read_other.ensures.value
 
 pub returns-in-None-clause-kept : goal.returns-in-None-clause-kept

@@ -1,6 +1,7 @@
 use Rattle.std.proofs.Common.{refl}
 use Rattle.std.proofs.lemmas.Result.{err_from_is_err_and}
-use Rattle.js_lexer.proofs.BuiltSteps.{recovers_some}
+use Rattle.js_source.specs.Source.{rest}
+use Rattle.js_lexer.proofs.PrintableSteps.{recovers_some}
 use Rattle.js_lexer.proofs.ReadingSteps.{lexeme_recovered}
 use Rattle.js_lexer.proofs.WholeSteps.{stays}
 use Rattle.js_lexer.proofs.reader.Reader.recover.Goals as goal
@@ -9,10 +10,11 @@ pub recover-recovered-requires : goal.recover-recovered-requires
 recover-recovered-requires c =
     record {
       some =
-          recovers_some c.args.self.now.source_type c.args.self.now.line_has_ended c.args.self.now.source
-          c.requires.placed c.requires.built c.requires.gap c.requires.nothing;
+          recovers_some c.args.self.now.source_type c.args.self.now.line_has_ended c.args.self.now.source.place
+          (rest c.args.self.now.source) c.requires.gap c.requires.nothing;
       no_named = c.requires.nothing.no_named;
       no_number = c.requires.nothing.no_number;
+      no_quoted = c.requires.nothing.no_quoted;
     }
 
 pub returns-in_err-push-clause-err : goal.returns-in_err-push-clause-err

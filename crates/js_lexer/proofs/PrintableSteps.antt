@@ -1,4 +1,4 @@
--- Where nothing is spelled in a text of forms that are built, something is read to recover.
+-- Where nothing is spelled, something is read to recover.
 use Rattle.std.proofs.Common.{◌≡◌, ℕ, ◌<◌, ◌≤◌, Bool, true, false, ◌&&◌, ◌||◌, ◌==◌, nat_lt, nat_le, ltb}
 use Rattle.std.proofs.Common.{List, [], ◌∷◌, length, get_or, refl, sym, ◌∙◌, ap, subst, arith, inl}
 use Rattle.std.proofs.Common.{inr, Option, Some, None}
@@ -14,7 +14,7 @@ use Rattle.js_kind.specs.Digits.{is_digit_of}
 use Rattle.js_kind.proofs.Digits.{digits_of_ten}
 use Rattle.js_source.specs.Source.{At, rest, IsPlaced, HasFirstByte}
 use Rattle.js_source.proofs.Places.{first_byte_at, none_at_end}
-use Rattle.js_grammar.specs.Built.{is_unbuilt_byte, IsBuilt}
+use Rattle.js_grammar.specs.Quoted.{begins_quoted}
 use Rattle.js_grammar.specs.Gap.{is_prefix, is_reported, whole_gap_piece}
 use Rattle.js_grammar.specs.Name.{begins_name}
 use Rattle.js_grammar.specs.Number.{begins_number}
@@ -29,27 +29,6 @@ use Rattle.js_grammar.proofs.Printable.{lone_characters, lone_begin, none_of, is
 use Rattle.js_grammar.proofs.Printable.{spelled_there}
 use Rattle.js_kind.specs.declared.kind.Kind.TheVariants.{Dot}
 use Rattle.js_lexer.specs.Reader.{NothingHere}
-
--- a character of ASCII is the byte at its place
-byte_here : (s : At) (c : ℕ) (cs : List ℕ) → IsPlaced s → rest s ≡ c ∷ cs → c < 128
-    → (s.place < length s.text) × (c ≡ get_or s.text s.place 0)
-byte_here s c cs h e low =
-    let within : s.place < length s.text = by_length (ltb s.place (length s.text)) refl in
-    let first = subst (λ xs. HasFirstByte (get_or s.text s.place 0) xs) e (first_byte_at s h within) in
-    (within, first.1 low)
-  where
-    by_length : (b : Bool) → ltb s.place (length s.text) ≡ b → s.place < length s.text
-    by_length true t = grind (arith, nat_tests)
-    by_length false t =
-        absurd
-        (let none = none_at_end s (ltb-false s.place (length s.text) t) in let no : c ∷ cs ≡ [] = sym e ∙ none in cc)
-
--- The character at a place of a built text is built.
-pub built_here : (s : At) (c : ℕ) (cs : List ℕ) → IsPlaced s → IsBuilt s.text → rest s ≡ c ∷ cs → c < 128
-    → is_unbuilt_byte c ≡ false
-built_here s c cs h built e low =
-    let here = byte_here s c cs h e low in
-    ap is_unbuilt_byte here.1 ∙ built s.place here.0
 
 digit_of_ten : (cs : List ℕ) → begins is_ascii_digit cs ≡ begins (is_digit_of 10) cs
 digit_of_ten [] = refl
@@ -68,11 +47,12 @@ either_false true b e = absurd (cc)
 either_false false b e = (refl, e)
 
 -- No printable character of ASCII stands where nothing is spelled.
-no_printable : (t : SourceType) (line_has_ended : Bool) (s : At) (c : ℕ) (cs : List ℕ) → IsPlaced s → IsBuilt s.text
-    → rest s ≡ c ∷ cs → whole_gap_piece t line_has_ended (c ∷ cs) ≡ None
-    → begins_named c ≡ false → begins_number (c ∷ cs) ≡ false → NoPunctuator t line_has_ended (c ∷ cs)
+no_printable : (t : SourceType) (line_has_ended : Bool) (c : ℕ) (cs : List ℕ)
+    → whole_gap_piece t line_has_ended (c ∷ cs) ≡ None
+    → begins_named c ≡ false → begins_number (c ∷ cs) ≡ false → begins_quoted c ≡ false
+    → NoPunctuator t line_has_ended (c ∷ cs)
     → is_prefix (codes "/*") (c ∷ cs) ≡ false → is_control_or_wide c ≡ false → ⊥
-no_printable t line_has_ended s c cs h built e gap no_name no_number none no_comment printable =
+no_printable t line_has_ended c cs gap no_name no_number no_quoted none no_comment printable =
     let ends = either_false (nat_lt c 32) (nat_le 127 c) printable in
     let low : 32 ≤ c = ltb-false c 32 ends.0 in
     let high : c < 127 = leb-false 127 c ends.1 in
@@ -84,9 +64,8 @@ no_printable t line_has_ended s c cs h built e gap no_name no_number none no_com
         | inl white ↦ let no = sym behind.1 ∙ piece-white t line_has_ended c cs white in cc
         | inr k0 ↦ elim (or_cases (is_digit_of 10 c) _ k0) [
           | inl digit ↦ let begun = digit_begins_number (c ∷ cs) digit in cc
-          | inr k2 ↦ elim (or_cases (is_unbuilt_byte c) _ k2) [
-            | inl unbuilt ↦
-                let no : true ≡ false = sym unbuilt ∙ built_here s c cs h built e (omega (arith, high)) in cc
+          | inr k2 ↦ elim (or_cases (begins_quoted c) _ k2) [
+            | inl quoted ↦ let no : true ≡ false = sym quoted ∙ no_quoted in cc
             | inr k3 ↦ elim (or_cases (list_any (λ x. x == c) lone_characters) _ k3) [
               | inl lone ↦ none_of (λ x. NoPunctuator t line_has_ended (x ∷ cs) → ⊥) c lone_characters
                   (lone_begin t line_has_ended cs) lone none
@@ -117,22 +96,19 @@ some_of : (b : Bool) (x : Reading) (y : Option Reading) → (b ≡ false → is_
 some_of true x y h = refl
 some_of false x y h = h refl
 
--- Where no name, no number and no punctuator begins behind a whole gap, something is read to recover.
-pub recovers_some : (t : SourceType) (line_has_ended : Bool) (s : At) → IsPlaced s → IsBuilt s.text
-    → whole_gap_piece t line_has_ended (rest s) ≡ None → NothingHere t line_has_ended (rest s)
-    → IsSome (recovered line_has_ended s.place (rest s))
-recovers_some t line_has_ended s h built gap n = at (rest s) refl gap n
-  where
-    at : (xs : List ℕ) → rest s ≡ xs → whole_gap_piece t line_has_ended xs ≡ None → NothingHere t line_has_ended xs
-        → is_some (recovered line_has_ended s.place xs) ≡ true
-    at [] e gap n = absurd (n.some refl)
-    at (c ∷ cs) e gap n =
-        some_of (is_prefix (codes "/*") (c ∷ cs)) _ _ (λ no_comment.
-        some_of (begins_name (c ∷ cs)) _ _ (λ no_name.
-        some_of (c == number_sign) _ _ (λ no_mark.
-        some_of (begins_number (c ∷ cs)) _ _ (λ no_number.
-        some_of (c == 0xFFFD) _ _ (λ no_binary.
-        some_of (is_control_or_wide c) _ None (λ printable.
-        absurd
-        (no_printable t line_has_ended s c cs h built e gap n.no_named no_number n.no_punctuator no_comment
-        printable)))))))
+-- Where nothing that is spelled begins behind a whole gap, something is read to recover.
+pub recovers_some : (t : SourceType) (line_has_ended : Bool) (place : ℕ) (here : List ℕ)
+    → whole_gap_piece t line_has_ended here ≡ None → NothingHere t line_has_ended here
+    → IsSome (recovered line_has_ended place here)
+recovers_some t line_has_ended place [] gap n = absurd (n.some refl)
+recovers_some t line_has_ended place (c ∷ cs) gap n =
+    some_of (is_prefix (codes "/*") (c ∷ cs)) _ _ (λ no_comment.
+    some_of (begins_name (c ∷ cs)) _ _ (λ no_name.
+    some_of (c == number_sign) _ _ (λ no_mark.
+    some_of (begins_number (c ∷ cs)) _ _ (λ no_number.
+    some_of (begins_quoted c) _ _ (λ no_quoted.
+    some_of (c == 0xFFFD) _ _ (λ no_binary.
+    some_of (is_control_or_wide c) _ None (λ printable.
+    absurd
+    (no_printable t line_has_ended c cs gap n.no_named no_number no_quoted n.no_punctuator no_comment
+    printable))))))))
