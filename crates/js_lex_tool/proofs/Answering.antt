@@ -2,17 +2,16 @@
 use Rattle.std.proofs.Common.{◌≡◌, ℕ, ◌≤◌, ◌⊎◌, List, [], ◌∷◌, length, arith, refl, inl, inr, None, Some}
 use Rattle.std.proofs.KnownBytes.{Keeps-refl}
 use Rattle.std.specs.Str.{IsUtf8}
-use Rattle.js_session.specs.Faults.{IsBuilt, IsReadable, HasMarks, Cause, FirstUnbuilt, FirstWithoutMark}
+use Rattle.js_session.specs.Faults.{IsReadable, HasMarks, Cause, FirstWithoutMark}
 use Rattle.js_session.specs.declared.fault.LexFault.{LexFault}
 use Rattle.js_session.specs.declared.fault.LexFault.TheVariants.{Overlong, NotUtf8 as NotUtf8Fault}
-use Rattle.js_session.specs.declared.fault.LexFault.TheVariants.{NotBuilt as NotBuiltFault, NoMark as NoMarkFault}
-use Rattle.js_session.specs.declared.fault.LexFault.TheVariants.{Memory}
+use Rattle.js_session.specs.declared.fault.LexFault.TheVariants.{NoMark as NoMarkFault, Memory}
 use Rattle.js_lex_tool.specs.Outside.{OutputState}
 use Rattle.js_lex_tool.specs.ReportText.{report_text_of}
 use Rattle.js_lex_tool.specs.Run.{most_bytes, status_of, CountsFault, Answers, HasReport, IsRunOver, Writes}
 use Rattle.js_lex_tool.specs.Run.{listed_commands}
 use Rattle.js_lex_tool.specs.Status.{number, IsOneOf, HasPassed, Tests}
-use Rattle.js_lex_tool.specs.Status.Status.{OutOfMemory, WriteFailed, NotUtf8, NotBuilt, NoMark}
+use Rattle.js_lex_tool.specs.Status.Status.{OutOfMemory, WriteFailed, NotUtf8, NoMark}
 use Rattle.js_lex_tool.specs.declared.tool.Ran.{Ran}
 use Rattle.js_lex_tool.specs.declared.tool.ToolOutcome.{ToolOutcome}
 use Rattle.js_lex_tool.specs.declared.words.CommandLine.{CommandLine}
@@ -21,23 +20,18 @@ use Rattle.js_lex_tool.specs.declared.words.CommandLine.{CommandLine}
 abbrev pub without_run : ℕ → ToolOutcome
 without_run n = record { status = n; ran = None }
 
-unbuilt : (bytes : List ℕ) (at : ℕ) → FirstUnbuilt bytes at → ¬ (IsBuilt bytes)
-unbuilt bytes at first built = let here = first.here in let not_here = built at first.within in cc
-
 without_mark : (line : CommandLine) (index : ℕ) → FirstWithoutMark (listed_commands line.commands) index
     → ¬ (HasMarks (listed_commands line.commands))
 without_mark line index first marks = marks index first.here
 
--- A run without a report has written nothing; what is left to show are its three tests.
+-- A run without a report has written nothing; what is left to show are its two tests.
 refusal : (line : CommandLine) (bytes : List ℕ) (output : OutputState) (n : ℕ)
-    → IsOneOf (OutOfMemory ∷ NotUtf8 ∷ NotBuilt ∷ NoMark ∷ []) n → Tests NotUtf8 n (¬ (IsUtf8 bytes)) (IsUtf8 bytes)
-    → Tests NotBuilt n (¬ (IsBuilt bytes)) (IsBuilt bytes)
+    → IsOneOf (OutOfMemory ∷ NotUtf8 ∷ NoMark ∷ []) n → Tests NotUtf8 n (¬ (IsUtf8 bytes)) (IsUtf8 bytes)
     → Tests NoMark n (¬ (HasMarks (listed_commands line.commands))) (HasMarks (listed_commands line.commands))
     → Answers line bytes output output (without_run n)
-refusal line bytes output n is utf8 built marks = record {
+refusal line bytes output n is utf8 marks = record {
   known = grind (arith, is);
   utf8 = utf8;
-  built = built;
   marks = marks;
   has_run = (λ some. absurd cc, λ passed. absurd (omega (arith, is, passed)));
   ran = tt;
@@ -55,15 +49,8 @@ answers_at_fault line bytes output Overlong few cause = absurd (omega (arith, fe
 answers_at_fault line bytes output (NotUtf8Fault at) few cause = refusal line bytes output 6 (inr (inl refl))
     (record { fails = λ _. cause.1; passes = λ h. absurd (omega (arith, h)) })
     (record { fails = λ e. absurd (omega (arith, e)); passes = λ h. absurd (omega (arith, h)) })
-    (record { fails = λ e. absurd (omega (arith, e)); passes = λ h. absurd (omega (arith, h)) })
-answers_at_fault line bytes output (NotBuiltFault at) few cause = refusal line bytes output 8 (inr (inr (inl refl)))
-    (record { fails = λ e. absurd (omega (arith, e)); passes = λ _. cause.1 })
-    (record { fails = λ _. unbuilt bytes at cause.2; passes = λ h. absurd (omega (arith, h)) })
-    (record { fails = λ e. absurd (omega (arith, e)); passes = λ h. absurd (omega (arith, h)) })
-answers_at_fault line bytes output (NoMarkFault index) few cause =
-    refusal line bytes output 7 (inr (inr (inr (inl refl))))
+answers_at_fault line bytes output (NoMarkFault index) few cause = refusal line bytes output 7 (inr (inr (inl refl)))
     (record { fails = λ e. absurd (omega (arith, e)); passes = λ _. cause.0.utf8 })
-    (record { fails = λ e. absurd (omega (arith, e)); passes = λ _. cause.0.built })
     (record { fails = λ _. without_mark line index cause.1; passes = λ h. absurd (omega (arith, h)) })
 answers_at_fault line bytes output Memory few cause = absurd cause
 
@@ -71,7 +58,6 @@ answers_at_fault line bytes output Memory few cause = absurd cause
 pub answers_at_memory : (line : CommandLine) (bytes : List ℕ) (output : OutputState)
     → Answers line bytes output output (without_run 1)
 answers_at_memory line bytes output = refusal line bytes output 1 (inl refl)
-    (record { fails = λ e. absurd (omega (arith, e)); passes = λ h. absurd (omega (arith, h)) })
     (record { fails = λ e. absurd (omega (arith, e)); passes = λ h. absurd (omega (arith, h)) })
     (record { fails = λ e. absurd (omega (arith, e)); passes = λ h. absurd (omega (arith, h)) })
 
@@ -91,7 +77,7 @@ report_over line bytes ran over = (
   rw (over.source, over.source_type, over.tokens) at over.report,
 )
 
--- A run that has its report has passed all three tests, or is out of memory.
+-- A run that has its report has passed both tests, or is out of memory.
 pub answers_at_report : (line : CommandLine) (bytes : List ℕ) (ran : Ran) (old new : OutputState)
     (outcome : ToolOutcome) → IsReadable bytes → HasMarks (listed_commands line.commands) → IsRunOver line bytes ran
     → (outcome ≡ without_run 1) ⊎ (HasPassed NoMark outcome.status × (outcome.ran ≡ Some ran))
@@ -100,7 +86,6 @@ pub answers_at_report : (line : CommandLine) (bytes : List ℕ) (ran : Ran) (old
 answers_at_report line bytes ran old new outcome readable marks over (inl e) writes faults = record {
   known = rw e (inl refl);
   utf8 = rw e (record { fails = λ h. absurd (omega (arith, h)); passes = λ h. absurd (omega (arith, h)) });
-  built = rw e (record { fails = λ h. absurd (omega (arith, h)); passes = λ h. absurd (omega (arith, h)) });
   marks = rw e (record { fails = λ h. absurd (omega (arith, h)); passes = λ h. absurd (omega (arith, h)) });
   has_run = rw e (λ some. absurd cc, λ passed. absurd (omega (arith, passed)));
   ran = rw e tt;
@@ -114,7 +99,6 @@ answers_at_report line bytes ran old new outcome readable marks over (inr has) w
     record {
       known = grind (arith, passed);
       utf8 = record { fails = λ e. absurd (omega (arith, e, passed)); passes = λ _. readable.utf8 };
-      built = record { fails = λ e. absurd (omega (arith, e, passed)); passes = λ _. readable.built };
       marks = record { fails = λ e. absurd (omega (arith, e, passed)); passes = λ _. marks };
       has_run = (λ _. passed, λ _. rw has.1 refl);
       ran = rw has.1 over;

@@ -24,9 +24,9 @@ taken_few : (bytes taken : List ℕ) (new : Option (List ℕ)) → Consumes (Som
 taken_few bytes taken None took = absurd took
 taken_few bytes taken (Some left) took = rw took (omega (arith, length-append taken left))
 
-two_left : (n : ℕ) → IsOneOf (OutOfMemory ∷ later_than TooLong) n → n ≢ 4 → n ≢ 6 → n ≢ 7 → n ≢ 8
+two_left : (n : ℕ) → IsOneOf (OutOfMemory ∷ later_than TooLong) n → n ≢ 4 → n ≢ 6 → n ≢ 7
     → IsOneOf (Done ∷ OutOfMemory ∷ []) n
-two_left n known a b c d = grind (arith, known)
+two_left n known a b c = grind (arith, known)
 
 one_left : (n : ℕ) → IsOneOf (OutOfMemory ∷ ReadFailed ∷ TooLong ∷ []) n → n ≢ 3 → n ≢ 5
     → IsOneOf (Done ∷ OutOfMemory ∷ []) n
@@ -49,7 +49,7 @@ completes line input input_new output output_new outcome runs can no_read_fault 
           let all = all_taken can.bytes runs.bytes input_new.left took answers.0 in
           let a = rw all at answers.1 in
           two_left outcome.status a.known (λ e. no_write_fault (a.faults.rises e)) (λ e. a.utf8.fails e can.utf8)
-          (λ e. a.marks.fails e marks) (λ e. a.built.fails e can.built)
+          (λ e. a.marks.fails e marks)
     ]
 
 -- every status of a run of a command line is one that is known

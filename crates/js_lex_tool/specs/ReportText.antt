@@ -11,7 +11,7 @@ use Rattle.js_session.specs.declared.command.Command.{Command}
 use Rattle.js_session.specs.declared.report.Report.{Report}
 use Rattle.js_session.specs.declared.row.Row.{Row}
 use Rattle.js_text.specs.declared.value.RowValue.{RowValue}
-use Rattle.js_text.specs.declared.value.RowValue.TheVariants.{Nothing, Slice, Units}
+use Rattle.js_text.specs.declared.value.RowValue.TheVariants.{Nothing, Slice, Units, Bad}
 use Rattle.js_lex_tool.specs.Command.{command_word}
 use Rattle.js_lex_tool.specs.Units.{text_in_units, all_units_text, number_text}
 
@@ -51,11 +51,12 @@ row_head i row =
     codes "row " ++ decimal i ++ codes " " ++ step_name row.command ++ codes " " ++ decimal row.place ++ codes " "
     ++ bit_text row.taken ++ codes " "
 
--- the value of a row behind an equals sign, or nothing
+-- the value of a row behind an equals sign, `!` for a bad one, or nothing
 abbrev pub value_text : List ℕ → RowValue → List ℕ
 value_text source Nothing = []
 value_text source (Slice span) = codes " =" ++ text_in_units (slice_range source span.start span.end)
 value_text source (Units units) = codes " =" ++ all_units_text units
+value_text source Bad = codes " !"
 
 -- a row with its number
 abbrev pub row_line : List ℕ → ℕ → Row → List ℕ

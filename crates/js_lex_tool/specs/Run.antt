@@ -3,21 +3,19 @@ use Rattle.std.specs.Prelude.{◌≡◌, ◌≢◌, ℕ, ◌+◌, ◌≤◌, ◌
 use Rattle.std.specs.Prelude.{IsSome, Bool}
 use Rattle.std.specs.Io.KnownBytes.{Consumes, Keeps, IsAtEnd}
 use Rattle.std.specs.Str.{IsUtf8}
-use Rattle.js_session.specs.Faults.{IsBuilt, HasMarks}
+use Rattle.js_session.specs.Faults.{HasMarks}
 use Rattle.js_session.specs.Report.{ReportOf}
 use Rattle.js_session.specs.WholeSource.{nexts, ReportOfWhole}
 use Rattle.js_session.specs.declared.command.Command.{Command}
 use Rattle.js_session.specs.declared.fault.LexFault.{LexFault}
 use Rattle.js_session.specs.declared.fault.LexFault.TheVariants.{Overlong, NotUtf8 as NotUtf8Fault}
-use Rattle.js_session.specs.declared.fault.LexFault.TheVariants.{NotBuilt as NotBuiltFault, NoMark as NoMarkFault}
-use Rattle.js_session.specs.declared.fault.LexFault.TheVariants.{Memory}
+use Rattle.js_session.specs.declared.fault.LexFault.TheVariants.{NoMark as NoMarkFault, Memory}
 use Rattle.js_session.specs.declared.report.Report.{Report}
 use Rattle.js_text.specs.declared.source_type.SourceType.{SourceType}
 use Rattle.js_lex_tool.specs.Outside.{InputState, OutputState, Rises, WritesAll, WritesPrefix}
 use Rattle.js_lex_tool.specs.ReportText.{report_text_of}
 use Rattle.js_lex_tool.specs.Status.{Status, number, order, later_than, IsOneOf, HasPassed, Tests}
 use Rattle.js_lex_tool.specs.Status.Status.{Done, OutOfMemory, Usage, ReadFailed, WriteFailed, TooLong, NotUtf8, NoMark}
-use Rattle.js_lex_tool.specs.Status.Status.{NotBuilt}
 use Rattle.js_lex_tool.specs.declared.tool.Ran.{Ran}
 use Rattle.js_lex_tool.specs.declared.tool.ToolOutcome.{ToolOutcome}
 use Rattle.js_lex_tool.specs.declared.words.CommandLine.{CommandLine}
@@ -32,7 +30,6 @@ most_bytes = 67108864
 abbrev pub status_of : LexFault → Status
 status_of Overlong = TooLong
 status_of (NotUtf8Fault at) = NotUtf8
-status_of (NotBuiltFault at) = NotBuilt
 status_of (NoMarkFault index) = NoMark
 status_of Memory = OutOfMemory
 
@@ -84,7 +81,6 @@ pub record Answers (line : CommandLine) (bytes : List ℕ) (old new : OutputStat
   pub known : IsOneOf (OutOfMemory ∷ later_than TooLong) outcome.status
   -- the tests of the bytes and the commands
   pub utf8 : Tests NotUtf8 outcome.status (¬ (IsUtf8 bytes)) (IsUtf8 bytes)
-  pub built : Tests NotBuilt outcome.status (¬ (IsBuilt bytes)) (IsBuilt bytes)
   pub marks : Tests NoMark outcome.status (¬ (HasMarks (listed_commands line.commands)))
       (HasMarks (listed_commands line.commands))
   -- where all of these were passed, the outcome tells what ran, and its text was written or the output failed
@@ -115,7 +111,7 @@ pub record RunsLine (line : CommandLine) (input input_new : InputState) (output 
   pub ends : GivesUp output output_new outcome ⊎ (IsAtEnd input_new.left × Answers line bytes output output_new outcome)
 
 -- A run that can only be done, or out of memory, if neither the input nor the output fails: the words are a command
--- line, the commands close no mark too many, and the bytes of the input are few enough, UTF-8 and built.
+-- line, the commands close no mark too many, and the bytes of the input are few enough and UTF-8.
 pub record CanRun (words : Option CommandLine) (left : Option (List ℕ)) : Type 0 where
   pub line : CommandLine
   pub words_are : words ≡ Some line
@@ -124,7 +120,6 @@ pub record CanRun (words : Option CommandLine) (left : Option (List ℕ)) : Type
   pub left_is : left ≡ Some bytes
   pub few : length bytes ≤ most_bytes
   pub utf8 : IsUtf8 bytes
-  pub built : IsBuilt bytes
 
 -- What a run of the program comes to, by the command line that its words are, and by what its input and its output tell
 -- before and after it.

@@ -12,7 +12,6 @@ pub data Status : Type 0 where
   TooLong : Status
   NotUtf8 : Status
   NoMark : Status
-  NotBuilt : Status
   NoArguments : Status
 
 -- the exit status that the system is given
@@ -25,7 +24,6 @@ number WriteFailed = 4
 number TooLong = 5
 number NotUtf8 = 6
 number NoMark = 7
-number NotBuilt = 8
 number NoArguments = 10
 
 -- the line that the program prints for a status, without its line end; it prints none where it is done
@@ -38,13 +36,11 @@ line WriteFailed = codes "js_lex: cannot write output"
 line TooLong = codes "js_lex: input is longer than 67108864 bytes"
 line NotUtf8 = codes "js_lex: input is not UTF-8"
 line NoMark = codes "js_lex: rewind or commit without a mark"
-line NotBuilt = codes "js_lex: source has a form that is not built yet"
 line NoArguments = codes "js_lex: cannot read arguments"
 
 -- each status but Done
 abbrev pub failures : List Status
-failures =
-    OutOfMemory ∷ Usage ∷ ReadFailed ∷ WriteFailed ∷ TooLong ∷ NotUtf8 ∷ NoMark ∷ NotBuilt ∷ NoArguments ∷ []
+failures = OutOfMemory ∷ Usage ∷ ReadFailed ∷ WriteFailed ∷ TooLong ∷ NotUtf8 ∷ NoMark ∷ NoArguments ∷ []
 
 -- the line for an exit status
 abbrev pub line_for : ℕ → Option (List ℕ)
@@ -52,7 +48,7 @@ line_for n = option_map line (find (λ s. number s == n) failures)
 
 -- The statuses in the order in which a run tests for them. OutOfMemory is not among them: it may come at any time.
 abbrev pub order : List Status
-order = Usage ∷ ReadFailed ∷ TooLong ∷ NotUtf8 ∷ NotBuilt ∷ NoMark ∷ WriteFailed ∷ Done ∷ []
+order = Usage ∷ ReadFailed ∷ TooLong ∷ NotUtf8 ∷ NoMark ∷ WriteFailed ∷ Done ∷ []
 
 -- the statuses that are tested after one
 abbrev pub later_than : Status → List Status

@@ -85,6 +85,7 @@ fn push_value(text: &mut String, source: &str, value: &RowValue) -> Result<(), A
             text.push_str(" =")?;
             push_units(text, units.units())
         }
+        RowValue::Bad => text.push_str(" !"),
     }
 }
 

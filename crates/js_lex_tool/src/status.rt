@@ -22,8 +22,6 @@ pub const TOO_LONG: u8 = 5;
 pub const NOT_UTF8: u8 = 6;
 /// A command closes a mark where none is open.
 pub const NO_MARK: u8 = 7;
-/// The input has a byte of a form that is not built yet.
-pub const NOT_BUILT: u8 = 8;
 /// The program was not given its arguments. No run comes to this.
 pub const NO_ARGUMENTS: u8 = 10;
 
@@ -54,7 +52,6 @@ pub fn status_line(status: u8) -> Option<StatusLine>
         TOO_LONG => "js_lex: input is longer than 67108864 bytes",
         NOT_UTF8 => "js_lex: input is not UTF-8",
         NO_MARK => "js_lex: rewind or commit without a mark",
-        NOT_BUILT => "js_lex: source has a form that is not built yet",
         NO_ARGUMENTS => "js_lex: cannot read arguments",
         _ => return None,
     };

@@ -18,9 +18,7 @@ use crate::memory_out::SureOut;
 use crate::outside::{ByteIn, ByteOut};
 use crate::read_all::{MOST_BYTES, ReadFault, read_to_end};
 use crate::report::report_text;
-use crate::status::{
-    DONE, MEMORY, NO_MARK, NOT_BUILT, NOT_UTF8, READ_FAILED, TOO_LONG, USAGE, WRITE_FAILED,
-};
+use crate::status::{DONE, MEMORY, NO_MARK, NOT_UTF8, READ_FAILED, TOO_LONG, USAGE, WRITE_FAILED};
 use crate::words::{CommandLine, Commands, push_repeated, read_words};
 use crate::write_all::{WriteFault, write_all};
 use js_session::{Command, CommandList, LexFault, Report, lex_all, lex_session};
@@ -72,7 +70,6 @@ fn status_of(fault: LexFault) -> u8
     match fault {
         LexFault::Overlong => TOO_LONG,
         LexFault::NotUtf8(_) => NOT_UTF8,
-        LexFault::NotBuilt(_) => NOT_BUILT,
         LexFault::NoMark(_) => NO_MARK,
         LexFault::Memory => MEMORY,
     }

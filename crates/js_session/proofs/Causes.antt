@@ -1,24 +1,12 @@
 -- A source and a list of commands have one fault at most.
-use Rattle.std.proofs.Common.{◌≡◌, ◌≢◌, ◌⊎◌, ℕ, true, false, List, [], refl, sym, ◌∙◌, ap, arith, inl, inr}
+use Rattle.std.proofs.Common.{◌≡◌, ◌≢◌, ◌⊎◌, ℕ, List, [], refl, sym, ◌∙◌, ap, arith, inl, inr}
 use Rattle.std.proofs.Common.{Result, Ok, Err, OnOk, IfErr, IsOk, subst}
 use Rattle.std.proofs.lemmas.Bool.{cases_lt}
 use Rattle.std.proofs.lemmas.Result.{on_ok_weaker}
 use Rattle.js_session.specs.declared.command.Command.{Command}
 use Rattle.js_session.specs.declared.fault.LexFault.{LexFault}
-use Rattle.js_session.specs.declared.fault.LexFault.TheVariants.{Overlong, NotUtf8, NotBuilt, NoMark, Memory}
-use Rattle.js_session.specs.Faults.{IsBuilt, FirstUnbuilt, FirstWithoutMark, HasMarks, IsReadable}
-use Rattle.js_session.specs.Faults.{SourceCause, Cause}
-
-unbuilt_unique : (source : List ℕ) (a b : ℕ) → FirstUnbuilt source a → FirstUnbuilt source b → a ≡ b
-unbuilt_unique source a b h g =
-    elim (cases_lt a b) [
-      | inl before ↦ absurd (let no : true ≡ false = sym h.here ∙ g.earlier a before in cc)
-      | inr past ↦
-          elim (cases_lt b a) [
-            | inl before ↦ absurd (let no : true ≡ false = sym g.here ∙ h.earlier b before in cc)
-            | inr same ↦ omega (arith, past, same)
-          ]
-    ]
+use Rattle.js_session.specs.declared.fault.LexFault.TheVariants.{Overlong, NotUtf8, NoMark, Memory}
+use Rattle.js_session.specs.Faults.{FirstWithoutMark, HasMarks, IsReadable, SourceCause, Cause}
 
 mark_unique : (commands : List Command) (a b : ℕ) → FirstWithoutMark commands a → FirstWithoutMark commands b → a ≡ b
 mark_unique commands a b h g =
@@ -31,16 +19,11 @@ mark_unique commands a b h g =
           ]
     ]
 
--- a source that is built has no byte that is not
-built_no_cause : (source : List ℕ) (at : ℕ) → IsBuilt source → ¬ (FirstUnbuilt source at)
-built_no_cause source at built h = let no : true ≡ false = sym h.here ∙ built at h.within in cc
-
 -- a source that can be read, with commands that close no mark too many, has no fault
 pub sound_no_cause : (source : List ℕ) (commands : List Command) (fault : LexFault) → IsReadable source
     → HasMarks commands → ¬ (Cause source commands fault)
 sound_no_cause source commands Overlong h marks c = absurd (omega (arith, h.short, c))
 sound_no_cause source commands (NotUtf8 at) h marks c = c.1 h.utf8
-sound_no_cause source commands (NotBuilt at) h marks c = built_no_cause source at h.built c.2
 sound_no_cause source commands (NoMark i) h marks c = marks i c.1.here
 sound_no_cause source commands Memory h marks c = c
 
@@ -48,22 +31,14 @@ pub cause_unique : (source : List ℕ) (commands : List Command) (a b : LexFault
     → Cause source commands b → a ≡ b
 cause_unique source commands Overlong Overlong c d = refl
 cause_unique source commands Overlong (NotUtf8 j) c d = absurd (omega (arith, c, d.0))
-cause_unique source commands Overlong (NotBuilt j) c d = absurd (omega (arith, c, d.0))
 cause_unique source commands Overlong (NoMark j) c d = absurd (omega (arith, c, d.0.short))
 cause_unique source commands Overlong Memory c d = absurd d
 cause_unique source commands (NotUtf8 i) Overlong c d = absurd (omega (arith, d, c.0))
 cause_unique source commands (NotUtf8 i) (NotUtf8 j) c d = ap NotUtf8 (c.2 ∙ sym d.2)
-cause_unique source commands (NotUtf8 i) (NotBuilt j) c d = absurd (c.1 d.1)
 cause_unique source commands (NotUtf8 i) (NoMark j) c d = absurd (c.1 d.0.utf8)
 cause_unique source commands (NotUtf8 i) Memory c d = absurd d
-cause_unique source commands (NotBuilt i) Overlong c d = absurd (omega (arith, d, c.0))
-cause_unique source commands (NotBuilt i) (NotUtf8 j) c d = absurd (d.1 c.1)
-cause_unique source commands (NotBuilt i) (NotBuilt j) c d = ap NotBuilt (unbuilt_unique source i j c.2 d.2)
-cause_unique source commands (NotBuilt i) (NoMark j) c d = absurd (built_no_cause source i d.0.built c.2)
-cause_unique source commands (NotBuilt i) Memory c d = absurd d
 cause_unique source commands (NoMark i) Overlong c d = absurd (omega (arith, d, c.0.short))
 cause_unique source commands (NoMark i) (NotUtf8 j) c d = absurd (d.1 c.0.utf8)
-cause_unique source commands (NoMark i) (NotBuilt j) c d = absurd (built_no_cause source j c.0.built d.2)
 cause_unique source commands (NoMark i) (NoMark j) c d = ap NoMark (mark_unique commands i j c.1 d.1)
 cause_unique source commands (NoMark i) Memory c d = absurd d
 cause_unique source commands Memory b c d = absurd c
@@ -73,7 +48,6 @@ pub source_cause : (source : List ℕ) (commands : List Command) (fault : LexFau
     → Cause source commands fault
 source_cause source commands Overlong c = c
 source_cause source commands (NotUtf8 at) c = c
-source_cause source commands (NotBuilt at) c = c
 source_cause source commands (NoMark index) c = absurd c
 source_cause source commands Memory c = absurd c
 

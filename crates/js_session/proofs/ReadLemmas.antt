@@ -1,7 +1,7 @@
 -- What a reading makes of a row.
-use Rattle.std.proofs.Common.{◌≡◌, ◌≢◌, ℕ, ◌+◌, ◌<◌, ◌≤◌, Bool, true, false, cond, List, [], ◌∷◌, length, take}
-use Rattle.std.proofs.Common.{drop, refl, sym, ◌∙◌, ap, arith}
+use Rattle.std.proofs.Common.{◌≡◌, ℕ, ◌≤◌, Bool, true, false, List, [], ◌∷◌, length, take, drop, refl, sym, ◌∙◌, ap}
 use Rattle.std.proofs.Common.{subst, Option, None, Some}
+use Rattle.std.specs.Prelude.{is_some, if◌then◌else◌}
 use Rattle.std.proofs.Math.Seq.{drop-append_seam, take-append_seam}
 use Rattle.std.specs.Str.{IsUtf8, IsCharBoundary}
 use Rattle.js_text.specs.declared.diagnostic.Diagnostic.{Diagnostic}
@@ -12,14 +12,13 @@ use Rattle.js_text.specs.declared.value.RowValue.TheVariants.{Nothing, Slice, Un
 use Rattle.js_grammar.specs.Goals.{GoalReads}
 use Rattle.js_grammar.specs.Goals.GoalReads.{hashbang, behind_gap}
 use Rattle.js_grammar.specs.Outcome.{Findings, Outcome, reports, joined}
-use Rattle.js_grammar.specs.Spelling.{is_private_name}
-use Rattle.js_grammar.specs.Values.{IsValueOf, decoded_units}
+use Rattle.js_grammar.specs.Spelling.{is_valued, text_start, text_end}
+use Rattle.js_grammar.specs.Values.{IsValueOf, HasText, decoded_units, template_units, template_row_value}
 use Rattle.js_grammar.specs.declared.goal.Goal.{Goal}
-use Rattle.js_grammar.proofs.Values.{goal_reads_value, private_is_not_end}
-use Rattle.js_kind.specs.Kinds.{is_identifier_name}
+use Rattle.js_grammar.proofs.Values.{goal_reads_value}
+use Rattle.js_kind.specs.Kinds.{is_template_kind}
 use Rattle.js_kind.specs.TokenParts.{TokenParts}
-use Rattle.js_kind.specs.declared.kind.Kind.TheVariants.{Eof}
-use Rattle.js_lexer.specs.Decoded.{Values, value_of, HasValue, text_start}
+use Rattle.js_lexer.specs.Decoded.{Values, value_of, IsKeptAs, HasValue}
 use Rattle.js_lexer.specs.Lexer.{LexerState, IsRestored, IsOnPlaces, ReadsToken, Checkpoint, checkpoint_of}
 use Rattle.js_lexer.proofs.LexerSteps.{reading_goes_on}
 use Rattle.js_session.specs.declared.command.Command.{Command}
@@ -28,7 +27,8 @@ use Rattle.js_session.specs.Effects.{row_effect}
 use Rattle.js_session.specs.Live.{Live, outcome_of}
 use Rattle.js_session.specs.Marks.{lexer_behind}
 use Rattle.js_session.specs.Report.{IsRow, IsRead, IsOfEffect, LiesOnPlaces, IsSliceOnPlaces}
-use Rattle.js_session.specs.RowReader.{RowReaderState, ReadsRow, AddsLive, AddsPeek, GoesBack, HoldsUnits, HoldsValue}
+use Rattle.js_session.specs.RowReader.{RowReaderState, ReadsRow, AddsLive, AddsPeek, GoesBack}
+use Rattle.js_session.specs.RowReader.{IsKept, HoldsUnits, HoldsPart, HoldsKept, HoldsValue}
 
 -- no reading finds a regular expression
 regex_none : (text : List ℕ) (t : SourceType) (goal : Goal) (before : Option TokenParts) (place : ℕ) (o : Outcome)
@@ -61,19 +61,40 @@ one_value text token a b h g = by_flag token.escaped refl
     by_flag true e = h.decoded e ∙ sym (g.decoded e)
     by_flag false e = h.plain e ∙ sym (g.plain e)
 
+-- the value that was held of a name or a string is of its units
+units_are : (here : List ℕ) (value : RowValue) (found : Option (List ℕ)) → found ≡ Some (decoded_units here)
+    → HoldsUnits found value → value ≡ Units (decoded_units here)
+units_are here value None e held = absurd held
+units_are here value (Some units) e held = let same : units ≡ decoded_units here = cc in held ∙ ap Units same
+
+-- and so of a part of a template
+part_is : (here : List ℕ) (value : RowValue) (found : Option (Option (List ℕ))) → found ≡ Some (template_units here)
+    → HoldsPart found value → value ≡ template_row_value (template_units here)
+part_is here value None e held = absurd held
+part_is here value (Some units) e held =
+    let same : units ≡ template_units here = cc in held ∙ ap template_row_value same
+
+kept_is : (template : Bool) (decoded : Values) (start : ℕ) (here : List ℕ) (value : RowValue)
+    → IsKeptAs template decoded start here → HoldsKept template decoded start value
+    → value ≡ (if template then template_row_value (template_units here) else Units (decoded_units here))
+kept_is true decoded start here value kept held = part_is here value (value_of decoded.templates start) kept held
+kept_is false decoded start here value kept held = units_are here value (value_of decoded.strings start) kept held
+
 -- a value that was held is that of the token
 held_value : (text : List ℕ) (decoded : Values) (token : TokenParts) (value : RowValue) → HasValue text decoded token
     → HoldsValue decoded token value → IsValueOf text token value
 held_value text decoded token value has h = record {
   plain = h.plain;
-  decoded = λ e. units_are (value_of decoded token.start) (has e) (h.escaped e);
+  decoded = λ e.
+      kept_is (is_template_kind token.kind) decoded token.start (from_place text token.start) value (has e)
+      (h.escaped e);
 }
-  where
-    units_are : (found : Option (List ℕ)) → found ≡ Some (decoded_units (from_place text token.start))
-        → HoldsUnits found value → value ≡ Units (decoded_units (from_place text token.start))
-    units_are None e held = absurd held
-    units_are (Some units) e held =
-        let same : units ≡ decoded_units (from_place text token.start) = cc in held ∙ ap Units same
+
+-- a value is kept that was found
+pub is_kept : (template : Bool) (decoded : Values) (start : ℕ) (here : List ℕ) → IsKeptAs template decoded start here
+    → IsKept template decoded start
+is_kept true decoded start here kept = ap is_some kept
+is_kept false decoded start here kept = ap is_some kept
 
 -- the outcome of a row that was made of a token, its value, and what was reported since
 pub made_outcome : (goal : Goal) (old new : LexerState) (token : TokenParts) (value : RowValue)
@@ -97,28 +118,33 @@ made_outcome goal old new token value errors errors' row u r held before after m
     made ∙ same_outcome _ r.outcome r.token_is same regex found
 
 -- the value of a token without an escape lies on places, if its text does
-plain_lies : (name private : Bool) (text : List ℕ) (start end : ℕ) → IsCharBoundary text start
-    → IsCharBoundary text (cond private (start + 1) start) → IsCharBoundary text end → start ≤ end
-    → (private ≡ true → start < end)
-    → IsSliceOnPlaces text
-    (cond name (Slice (record { start = start; end = end }))
-    (cond private (Slice (record { start = start + 1; end = end })) Nothing))
-plain_lies true private text start end b d e ordered some = (b, e, ordered)
-plain_lies false true text start end b d e ordered some = let more = some refl in (d, e, omega (arith, more))
-plain_lies false false text start end b d e ordered some = tt
+plain_lies : (valued : Bool) (text : List ℕ) (start end : ℕ) → IsCharBoundary text start → IsCharBoundary text end
+    → start ≤ end
+    → IsSliceOnPlaces text (if valued then Slice (record { start = start; end = end }) else Nothing)
+plain_lies true text start end b e ordered = (b, e, ordered)
+plain_lies false text start end b e ordered = tt
+
+-- a value that was decoded is no stretch of the text
+decoded_lies : (template : Bool) (text us : List ℕ) (part : Option (List ℕ))
+    → IsSliceOnPlaces text (if template then template_row_value part else Units us)
+decoded_lies true text us None = tt
+decoded_lies true text us (Some units) = tt
+decoded_lies false text us part = tt
 
 -- the value of a token lies on places
-value_lies : (text : List ℕ) (token : TokenParts) (value : RowValue) → IsOnPlaces text token
-    → IsCharBoundary text (text_start token.kind token.start) → (token.kind ≢ Eof → token.start < token.end)
-    → IsValueOf text token value → IsSliceOnPlaces text value
-value_lies text token value h lies some is = by_flag token.escaped refl
+value_lies : (text : List ℕ) (token : TokenParts) (value : RowValue) → HasText text token → IsValueOf text token value
+    → IsSliceOnPlaces text value
+value_lies text token value lies is = by_flag token.escaped refl
   where
     by_flag : (escaped : Bool) → token.escaped ≡ escaped → IsSliceOnPlaces text value
-    by_flag true e = subst (IsSliceOnPlaces text) (sym (is.decoded e)) tt
+    by_flag true e =
+        subst (IsSliceOnPlaces text) (sym (is.decoded e))
+        (decoded_lies (is_template_kind token.kind) text (decoded_units (from_place text token.start))
+        (template_units (from_place text token.start)))
     by_flag false e =
         subst (IsSliceOnPlaces text) (sym (is.plain e))
-        (plain_lies (is_identifier_name token.kind) (is_private_name token.kind) text token.start token.end h.start
-        lies h.end h.ordered (λ private. some (private_is_not_end token.kind private)))
+        (plain_lies (is_valued token.kind) text (text_start token.kind token.start) (text_end token.kind token.end)
+        lies.start lies.end lies.ordered)
 
 -- and so a row that was made of a token lies on places
 pub made_lies : (goal : Goal) (old new : LexerState) (row : Row) → IsUtf8 old.text
@@ -132,7 +158,7 @@ made_lies goal old new row u r is =
       token = subst (IsOnPlaces text) (sym token) r.reads.places;
       value =
           subst (IsSliceOnPlaces text) (sym (ap (λ x. x.value) is))
-          (value_lies text r.outcome.token r.outcome.value r.reads.places r.reads.text_lies r.reads.some_text value);
+          (value_lies text r.outcome.token r.outcome.value r.reads.text_lies value);
     }
 
 -- a row that was made of a token

@@ -1,18 +1,11 @@
 -- Why a source or a list of commands gives no report.
-use Rattle.std.specs.Prelude.{◌≡◌, ℕ, ◌<◌, ◌≤◌, ◌^◌, true, false, List, length, take, slice_get, count_by, Some}
+use Rattle.std.specs.Prelude.{◌≡◌, ℕ, ◌<◌, ◌≤◌, ◌^◌, true, List, length, take, slice_get, count_by, Some}
 use Rattle.std.specs.Str.{IsUtf8}
 use Rattle.std.specs.Str.Lossy.{utf8_valid_len}
-pub use Rattle.js_grammar.specs.Built.{is_unbuilt_byte, is_unbuilt_at, IsBuilt}
 use Rattle.js_session.specs.declared.command.Command.{Command}
 use Rattle.js_session.specs.declared.fault.LexFault.{LexFault}
-use Rattle.js_session.specs.declared.fault.LexFault.TheVariants.{Overlong, NotUtf8, NotBuilt, NoMark, Memory}
+use Rattle.js_session.specs.declared.fault.LexFault.TheVariants.{Overlong, NotUtf8, NoMark, Memory}
 use Rattle.js_session.specs.Effects.{opens_one, closes}
-
--- the offset is the first where such a byte stands
-pub record FirstUnbuilt (source : List ℕ) (at : ℕ) : Type 0 where
-  pub within : at < length source
-  pub here : is_unbuilt_at source at ≡ true
-  pub earlier : (i : ℕ) → i < at → is_unbuilt_at source i ≡ false
 
 -- The command at the index closes a mark, and the commands before it have closed as many marks as they have opened.
 pub record ClosesNoMark (commands : List Command) (index : ℕ) : Type 0 where
@@ -30,17 +23,15 @@ pub record FirstWithoutMark (commands : List Command) (index : ℕ) : Type 0 whe
 abbrev pub HasMarks : List Command → Type 0
 HasMarks commands = (i : ℕ) → ¬ (ClosesNoMark commands i)
 
--- the source is short, UTF-8, and of bytes that are known
+-- the source is short and UTF-8
 pub record IsReadable (source : List ℕ) : Type 0 where
   pub short : length source < 2 ^ 32
   pub utf8 : IsUtf8 source
-  pub built : IsBuilt source
 
 -- The cause of a fault of the source: that of one is none of those tested before it. A lack of memory has none here.
 abbrev pub SourceCause : List ℕ → LexFault → Type 0
 SourceCause source Overlong = 2 ^ 32 ≤ length source
 SourceCause source (NotUtf8 at) = (length source < 2 ^ 32) × (¬ (IsUtf8 source)) × (at ≡ utf8_valid_len source)
-SourceCause source (NotBuilt at) = (length source < 2 ^ 32) × IsUtf8 source × FirstUnbuilt source at
 SourceCause source (NoMark index) = ⊥
 SourceCause source Memory = ⊥
 
@@ -48,6 +39,5 @@ SourceCause source Memory = ⊥
 abbrev pub Cause : List ℕ → List Command → LexFault → Type 0
 Cause source commands Overlong = SourceCause source Overlong
 Cause source commands (NotUtf8 at) = SourceCause source (NotUtf8 at)
-Cause source commands (NotBuilt at) = SourceCause source (NotBuilt at)
 Cause source commands (NoMark index) = IsReadable source × FirstWithoutMark commands index
 Cause source commands Memory = SourceCause source Memory

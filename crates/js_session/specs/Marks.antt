@@ -4,6 +4,7 @@ use Rattle.std.specs.List.{AllByRecursion}
 use Rattle.js_text.specs.declared.source_type.SourceType.{SourceType}
 use Rattle.js_grammar.specs.Outcome.{Findings, cut_to}
 use Rattle.js_kind.specs.TokenParts.{TokenParts}
+use Rattle.js_lexer.specs.Decoded.{no_values}
 use Rattle.js_lexer.specs.Lexer.{LexerState, IsRestored, GoesOnFrom, CanRewind, checkpoint_of, put_back, IsOnPlaces}
 use Rattle.js_session.specs.Live.{Live, State, last_live, place_behind_last}
 use Rattle.js_session.specs.Report.{all_collected, LiesOnPlaces}
@@ -44,7 +45,7 @@ lexer_behind text t collects now = record {
   last = last_live now;
   tokens = all_collected collects now.tokens;
   findings = now.findings;
-  decoded = [];
+  decoded = no_values;
 }
 
 -- A mark: its checkpoint is of the lexer behind what was live then. The lexer has gone on from there, and may go back.

@@ -7,7 +7,7 @@ use Rattle.std.specs.Str.{IsUtf8, IsCharBoundary, chars}
 use Rattle.js_text.specs.JsStr.{units_of}
 use Rattle.js_text.specs.declared.source_type.SourceType.{SourceType}
 use Rattle.js_text.specs.declared.value.RowValue.{RowValue}
-use Rattle.js_text.specs.declared.value.RowValue.TheVariants.{Nothing, Slice, Units}
+use Rattle.js_text.specs.declared.value.RowValue.TheVariants.{Nothing, Slice, Units, Bad}
 use Rattle.js_grammar.specs.Goals.{GoalReads, AgreesWithGrammar}
 use Rattle.js_grammar.specs.Outcome.{no_findings}
 use Rattle.js_grammar.specs.Reads.{is_plain}
@@ -30,12 +30,14 @@ IsSliceOnPlaces source Nothing = Unit {0}
 IsSliceOnPlaces source (Slice span) =
     IsCharBoundary source span.start × IsCharBoundary source span.end × (span.start ≤ span.end)
 IsSliceOnPlaces source (Units units) = Unit {0}
+IsSliceOnPlaces source Bad = Unit {0}
 
--- the UTF-16 units of a value, of a stretch of the source those of its characters
+-- the UTF-16 units of a value, of a stretch of the source those of its characters; a bad value has none
 abbrev pub text_of : List ℕ → RowValue → Option (List ℕ)
 text_of source Nothing = None
 text_of source (Slice span) = Some (units_of (chars (slice_range source span.start span.end)))
 text_of source (Units units) = Some units
+text_of source Bad = None
 
 -- The token and the value of a row lie on places of the source.
 pub record LiesOnPlaces (source : List ℕ) (row : Row) : Type 0 where

@@ -1,11 +1,12 @@
 -- How rows are read from a lexer.
-use Rattle.std.specs.Prelude.{◌≡◌, ℕ, true, false, List, [], ◌∷◌, ◌++◌, length, take, Option, Some, None}
+use Rattle.std.specs.Prelude.{◌≡◌, ℕ, Bool, true, false, List, [], ◌∷◌, ◌++◌, length, take, Option, Some, None, is_some}
 use Rattle.js_text.specs.Lists.{with_last}
 use Rattle.js_text.specs.declared.value.RowValue.{RowValue}
 use Rattle.js_text.specs.declared.value.RowValue.TheVariants.{Units}
-use Rattle.js_grammar.specs.Values.{plain_value}
+use Rattle.js_grammar.specs.Values.{plain_value, template_row_value}
 use Rattle.js_grammar.specs.declared.goal.Goal.{Goal}
 use Rattle.js_lexer.specs.Decoded.{Values, value_of}
+use Rattle.js_kind.specs.Kinds.{is_template_kind}
 use Rattle.js_kind.specs.TokenParts.{TokenParts}
 use Rattle.js_lexer.specs.Lexer.{LexerState, ReadsToken, IsRestored, GoesOnFrom, CanRewind, Checkpoint, checkpoint_of}
 use Rattle.js_lexer.specs.Lexer.{token_or_default}
@@ -21,14 +22,29 @@ pub record RowReaderState : Type 0 where
   pub rows : List Row
   pub tokens : List TokenParts
 
+-- a value is kept of the token that starts there: as that of a part of a template, or not
+abbrev pub IsKept : Bool → Values → ℕ → Type 0
+IsKept true decoded start = is_some (value_of decoded.templates start) ≡ true
+IsKept false decoded start = is_some (value_of decoded.strings start) ≡ true
+
 -- the value is that of these units
 abbrev pub HoldsUnits : Option (List ℕ) → RowValue → Type 0
 HoldsUnits None value = ⊥
 HoldsUnits (Some units) value = value ≡ Units units
 
+-- the value is that of a part of a template with these units, or bad where it has none
+abbrev pub HoldsPart : Option (Option (List ℕ)) → RowValue → Type 0
+HoldsPart None value = ⊥
+HoldsPart (Some units) value = value ≡ template_row_value units
+
+-- the value is the one that is kept of the token that starts there: as that of a part of a template, or not
+abbrev pub HoldsKept : Bool → Values → ℕ → RowValue → Type 0
+HoldsKept true decoded start value = HoldsPart (value_of decoded.templates start) value
+HoldsKept false decoded start value = HoldsUnits (value_of decoded.strings start) value
+
 -- The value is that of the token: the decoded one where it has an escape, else the one that kind and span tell.
 pub record HoldsValue (decoded : Values) (token : TokenParts) (value : RowValue) : Type 0 where
-  pub escaped : token.escaped ≡ true → HoldsUnits (value_of decoded token.start) value
+  pub escaped : token.escaped ≡ true → HoldsKept (is_template_kind token.kind) decoded token.start value
   pub plain : token.escaped ≡ false → value ≡ plain_value token.kind token.start token.end
 
 -- A row was read for a goal from where the lexer stands, and the lexer is behind its token, which lies on places.

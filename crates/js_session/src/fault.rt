@@ -3,8 +3,7 @@
 ghost use Rattle.std.specs.Prelude.{◌≡◌, ◌+◌, ◌<◌, length, cond, true, IfOk, IfErr, IfSome, IfNone};
 ghost use Rattle.std.specs.Prelude.{MatchOption};
 ghost use Rattle.js_session.specs.Effects.{opens_one, closes};
-ghost use Rattle.js_session.specs.Faults.{is_unbuilt_byte, FirstUnbuilt, IsBuilt, FirstWithoutMark};
-ghost use Rattle.js_session.specs.Faults.{HasMarks, IsReadable, SourceCause, Cause};
+ghost use Rattle.js_session.specs.Faults.{FirstWithoutMark, HasMarks, IsReadable, SourceCause, Cause};
 
 use crate::command::Command;
 
@@ -15,29 +14,9 @@ pub enum LexFault {
     Overlong,
     /// The source is not UTF-8. Its longest beginning that is has so many bytes.
     NotUtf8(u32),
-    /// At this offset, in bytes, stands the first byte that the lexer does not know yet.
-    NotBuilt(u32),
     /// The command at this index, from 0, closes a mark where none is open.
     NoMark(usize),
     Memory,
-}
-
-fn is_unbuilt_byte(byte: u8) -> bool
-    ensures { result ≡ is_unbuilt_byte byte }
-{
-    matches!(byte, b'"' | b'\'' | b'`')
-}
-
-/// The first offset at which an unknown byte stands.
-fn first_unbuilt(source: &[u8]) -> Option<usize>
-    ensures { MatchOption result (IsBuilt source.now) (FirstUnbuilt source.now) }
-{
-    for at in 0..source.len() {
-        if is_unbuilt_byte(source[at]) {
-            return Some(at);
-        }
-    }
-    None
 }
 
 /// How many marks are open after a command, where so many were before it. None where there is none to close.
@@ -76,13 +55,9 @@ pub(crate) fn text_of(source: &[u8]) -> Result<&str, LexFault>
     if source.len() > u32::MAX as usize {
         return Err(LexFault::Overlong);
     }
-    let text = match str::from_utf8(source) {
-        Ok(text) => text,
-        Err(error) => return Err(LexFault::NotUtf8(error.valid_up_to() as u32)),
-    };
-    match first_unbuilt(source) {
-        Some(at) => Err(LexFault::NotBuilt(at as u32)),
-        None => Ok(text),
+    match str::from_utf8(source) {
+        Ok(text) => Ok(text),
+        Err(error) => Err(LexFault::NotUtf8(error.valid_up_to() as u32)),
     }
 }
 

@@ -2,7 +2,7 @@
 
 ghost use Rattle.std.specs.Prelude.{◌≡◌, ◌<◌, ◌^◌, ◌⊎◌, length, IfOk, OnOk, IfErr, IsOk};
 ghost use Rattle.std.specs.List.{AllByRecursion};
-ghost use Rattle.js_session.specs.Faults.{IsBuilt, IsReadable, HasMarks, Cause};
+ghost use Rattle.js_session.specs.Faults.{IsReadable, HasMarks, Cause};
 ghost use Rattle.js_session.specs.Report.{ReportOf, HasMark, IsSliceOnPlaces};
 ghost use Rattle.js_session.specs.Session.{Follows};
 ghost use Rattle.js_session.specs.declared.fault.LexFault.{LexFault};
@@ -51,7 +51,6 @@ fn lex_text<L: Ledger>(
     steps: &mut Steps<L>,
 ) -> Result<Report, AllocError>
     requires short { length text.now < 2 ^ 32 }
-    requires built { IsBuilt text.now }
     requires marks { HasMarks commands.now }
     ensures { IfOk result (ReportOf text.now source_type tokens commands.now) }
 {

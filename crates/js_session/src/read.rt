@@ -1,13 +1,15 @@
 //! Rows that are read from a lexer.
 
-ghost use Rattle.std.specs.Prelude.{◌≡◌, ◌≤◌, ◌<◌, true, [], length, drop, is_some, None, IfOk, OnOk, OnErr, MatchBool};
+ghost use Rattle.std.specs.Prelude.{◌≡◌, ◌≤◌, true, [], length, drop, is_some, None, IfOk, OnOk, OnErr, MatchBool};
 ghost use Rattle.js_grammar.specs.Outcome.{reports};
-ghost use Rattle.js_grammar.specs.Spelling.{is_private_name};
+ghost use Rattle.js_grammar.specs.Spelling.{text_start, text_end};
 ghost use Rattle.js_grammar.specs.Values.{plain_value};
+ghost use Rattle.js_kind.specs.Kinds.{is_template_kind};
 ghost use Rattle.js_lexer.specs.Decoded.{value_of};
 ghost use Rattle.js_lexer.specs.Lexer.{LexerState, ReadsToken, IsRestored, CanRewind, GoesOnFrom};
 ghost use Rattle.js_session.specs.RowReader.{RowReaderState, ReadsRow, AddsLive, AddsPeek, MayGoOn, IsUndone, GoesBack};
-ghost use Rattle.js_session.specs.RowReader.{IsMarkOf, GoesToMark, HoldsUnits, HoldsValue};
+ghost use Rattle.js_session.specs.RowReader.{IsMarkOf, GoesToMark, IsKept, HoldsUnits, HoldsPart, HoldsKept};
+ghost use Rattle.js_session.specs.RowReader.{HoldsValue};
 
 use crate::command::Command;
 use crate::mark::SessionMark;
@@ -15,39 +17,73 @@ use crate::row::Row;
 use crate::row_list::RowList;
 use js_grammar::Goal;
 use js_kind::{LexerConfig, Token, TokenList};
-use js_lexer::{Lexer, LexerCheckpoint, is_private_name};
-use js_text::{CommentList, DiagnosticList, JsText, RowValue, Span, SpanList};
+use js_lexer::{Lexer, LexerCheckpoint, is_template, is_valued, text_span};
+use js_text::{CommentList, DiagnosticList, JsText, RowValue, SpanList, TemplateValue};
 use std::alloc::{AllocError, Global};
 use std::marker::Model;
 
 /// The value of a token without an escape.
 fn plain_value(token: &Token) -> RowValue
-    requires { is_private_name token.now.kind ≡ true → token.now.start < token.now.end }
+    requires { text_start token.now.kind token.now.start ≤ text_end token.now.kind token.now.end }
     ensures { result ≡ plain_value token.now.kind token.now.start token.now.end }
 {
-    if token.kind().is_identifier_name() {
-        return RowValue::Slice(token.span());
+    if !is_valued(token.kind()) {
+        return RowValue::Nothing;
     }
-    if is_private_name(token.kind()) {
-        let end = token.end();
-        return RowValue::Slice(Span::new(token.start() + 1, end));
+    match text_span(token) {
+        Some(span) => RowValue::Slice(span),
+        None => unreachable!(),
     }
-    RowValue::Nothing
 }
 
-/// The value of a token with an escape, which the lexer has decoded.
+/// The value of a name or a string with an escape, which the lexer has decoded.
 fn decoded_value<C: LexerConfig + Drop>(
     lexer: &Lexer<'_, C>,
     alloc: Global,
     token: &Token,
 ) -> Result<RowValue, AllocError>
     requires escaped { token.now.escaped ≡ true }
-    requires value { is_some (value_of lexer.now.decoded token.now.start) ≡ true }
-    ensures { IfOk result (λ value. HoldsUnits (value_of lexer.now.decoded token.now.start) value) }
+    requires value { is_some (value_of lexer.now.decoded.strings token.now.start) ≡ true }
+    ensures { IfOk result (λ value. HoldsUnits (value_of lexer.now.decoded.strings token.now.start) value) }
 {
     match lexer.get_string(*token) {
         Some(JsText::Decoded(text)) => Ok(RowValue::Units(text.copy(alloc)?)),
         _ => unreachable!(),
+    }
+}
+
+/// The value of a part of a template in which something is escaped, which the lexer has decoded.
+fn part_value<C: LexerConfig + Drop>(
+    lexer: &Lexer<'_, C>,
+    alloc: Global,
+    token: &Token,
+) -> Result<RowValue, AllocError>
+    requires template { is_template_kind token.now.kind ≡ true }
+    requires escaped { token.now.escaped ≡ true }
+    requires value { is_some (value_of lexer.now.decoded.templates token.now.start) ≡ true }
+    ensures { IfOk result (λ value. HoldsPart (value_of lexer.now.decoded.templates token.now.start) value) }
+{
+    match lexer.get_template_string(*token) {
+        Some(TemplateValue::Text(JsText::Decoded(text))) => Ok(RowValue::Units(text.copy(alloc)?)),
+        Some(TemplateValue::Bad) => Ok(RowValue::Bad),
+        _ => unreachable!(),
+    }
+}
+
+/// The value of a token with an escape, which the lexer has decoded.
+fn kept_value<C: LexerConfig + Drop>(
+    lexer: &Lexer<'_, C>,
+    alloc: Global,
+    token: &Token,
+) -> Result<RowValue, AllocError>
+    requires escaped { token.now.escaped ≡ true }
+    requires value { IsKept (is_template_kind token.now.kind) lexer.now.decoded token.now.start }
+    ensures { IfOk result (HoldsKept (is_template_kind token.now.kind) lexer.now.decoded token.now.start) }
+{
+    if is_template(token.kind()) {
+        part_value(lexer, alloc, token)
+    } else {
+        decoded_value(lexer, alloc, token)
     }
 }
 
@@ -57,12 +93,13 @@ fn value_of<C: LexerConfig + Drop>(
     alloc: Global,
     token: &Token,
 ) -> Result<RowValue, AllocError>
-    requires some_text { is_private_name token.now.kind ≡ true → token.now.start < token.now.end }
-    requires value { token.now.escaped ≡ true → is_some (value_of lexer.now.decoded token.now.start) ≡ true }
+    requires ordered { text_start token.now.kind token.now.start ≤ text_end token.now.kind token.now.end }
+    requires value { token.now.escaped ≡ true
+        → IsKept (is_template_kind token.now.kind) lexer.now.decoded token.now.start }
     ensures { IfOk result (λ value. HoldsValue lexer.now.decoded token.now value) }
 {
     if token.escaped() {
-        decoded_value(lexer, alloc, token)
+        kept_value(lexer, alloc, token)
     } else {
         Ok(plain_value(token))
     }

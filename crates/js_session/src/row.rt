@@ -33,13 +33,13 @@ pub struct Row {
 }
 
 impl Row {
-    /// The text of its token, of which this is the source; none for a token without a value.
+    /// The text of its token, of which this is the source; none for a token without a value, or with a bad one.
     pub fn text<'t>(&'t self, source: &'t str) -> Option<JsText<'t>>
         requires { IsSliceOnPlaces source.now self.now.value }
         ensures { option_map js_text_units result ≡ text_of source.now self.now.value }
     {
         match &self.value {
-            RowValue::Nothing => None,
+            RowValue::Nothing | RowValue::Bad => None,
             RowValue::Slice(span) => {
                 let range = span.start as usize..span.end as usize;
                 Some(JsText::Source(&source[range]))

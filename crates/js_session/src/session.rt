@@ -2,7 +2,6 @@
 
 ghost use Rattle.std.specs.Prelude.{◌≡◌, ◌≤◌, ◌<◌, ◌+◌, ◌^◌, ◌↔◌, true, [], ◌∷◌, ◌++◌, length, IfOk, OnOk, OnErr};
 ghost use Rattle.std.specs.List.{AllByRecursion};
-ghost use Rattle.js_grammar.specs.Built.{IsBuilt};
 ghost use Rattle.js_lexer.specs.Lexer.{IsOnPlaces};
 ghost use Rattle.js_session.specs.Effects.{is_step};
 ghost use Rattle.js_session.specs.Report.{LiesOnPlaces};
@@ -56,7 +55,6 @@ impl<'a, C: LexerConfig + Drop> Session<'a, C> {
         config: C,
         steps: &mut Steps<L>,
     ) -> Result<Session<'a, C>, NewFault>
-        requires { IsBuilt text.now }
         ensures ok { IfOk result (Begins text.now source_type (C.collects config)) }
         ensures places { IfOk result LieOnPlaces }
         ensures overlong { (result ≡ Err NewFault.Overlong) ↔ (2 ^ 32 ≤ length text.now) }

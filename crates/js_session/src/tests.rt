@@ -56,15 +56,13 @@ static CASES: [Case; 3] = [
     },
 ];
 
-static FAULTS: [(&[u8], &[Command], LexFault); 4] = [
+static FAULTS: [(&[u8], &[Command], LexFault); 2] = [
     (
         b"a",
         &[Command::Mark, Command::Rewind, Command::Rewind],
         LexFault::NoMark(2),
     ),
-    (b"a '", &[Command::Commit], LexFault::NotBuilt(2)),
-    (b"#!a\n`", &[], LexFault::NotBuilt(4)),
-    (b"\"a \xFF", &[], LexFault::NotUtf8(3)),
+    (b"\"a \xFF", &[Command::Commit], LexFault::NotUtf8(3)),
 ];
 
 fn is_name(token: &Token, place: (u32, u32)) -> bool {
@@ -149,21 +147,18 @@ fn whole_sources(rt: HostRuntime) -> Result<(), Fail> {
 
 #[test]
 fn faults_of_whole_sources(rt: HostRuntime) {
-    for (source, fault) in [
-        (b"a \"".as_slice(), LexFault::NotBuilt(2)),
-        (b"\"a \xFF".as_slice(), LexFault::NotUtf8(3)),
-    ] {
-        let result = lex_all(rt.alloc(), source, SourceType::Module, false);
-        assert_eq!(rt; result.err(), Some(fault));
-    }
+    let result = lex_all(rt.alloc(), b"\"a \xFF", SourceType::Module, false);
+    assert_eq!(rt; result.err(), Some(LexFault::NotUtf8(3)));
 }
 
 /// Sources, the text of their first row, and whether it was decoded.
-static TEXTS: [(&str, &str, bool); 4] = [
+static TEXTS: [(&str, &str, bool); 6] = [
     ("l\\u0065t", "let", true),
     ("#a\\u0062", "ab", true),
     ("#ab", "ab", false),
     ("\\uD800", "", true),
+    ("'ab'", "ab", false),
+    ("`a\\x62${", "ab", true),
 ];
 
 /// Whether the text of a row is this.

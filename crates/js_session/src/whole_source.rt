@@ -3,7 +3,7 @@
 ghost use Rattle.std.specs.Prelude.{◌≡◌, ◌≢◌, ◌<◌, ◌≤◌, ◌^◌, ◌⊎◌, ◌↔◌, ℕ, List, [], ◌∷◌, ◌++◌, length};
 ghost use Rattle.std.specs.Prelude.{IfOk, OnOk, IfErr, IsOk, IsTrue};
 ghost use Rattle.std.specs.List.{AllByRecursion};
-ghost use Rattle.js_session.specs.Faults.{IsBuilt, IsReadable, SourceCause};
+ghost use Rattle.js_session.specs.Faults.{IsReadable, SourceCause};
 ghost use Rattle.js_session.specs.Report.{IsSliceOnPlaces};
 ghost use Rattle.js_session.specs.WholeSource.{IsEof, ReportOfWhole};
 ghost use Rattle.js_session.specs.declared.fault.LexFault.{LexFault};
@@ -40,7 +40,6 @@ fn lex_whole_text<L: Ledger>(
     steps: &mut Steps<L>,
 ) -> Result<(u64, Report), AllocError>
     requires short { length text.now < 2 ^ 32 }
-    requires built { IsBuilt text.now }
     ensures report { IfOk result (λ whole. ReportOfWhole text.now source_type tokens whole.0 whole.1) }
     ensures few { IfOk result (λ whole. whole.0 ≤ length text.now) }
 {
@@ -87,7 +86,7 @@ fn lex_all_uncounted<L: Ledger>(
 /// The least number of `Command::Next` after which the last row is `Kind::Eof`, and the report of so many. Each token
 /// before the end takes a byte at least, so there are no more than the source has bytes.
 ///
-/// Its faults are those of the source, which come as in `lex_session`: `Overlong`, `NotUtf8`, `NotBuilt` and `Memory`.
+/// Its faults are those of the source, which come as in `lex_session`: `Overlong`, `NotUtf8` and `Memory`.
 pub fn lex_all(
     alloc: Global,
     source: &[u8],

@@ -2,7 +2,7 @@
 
 use crate::memory_in::{MemoryIn, SureIn};
 use crate::memory_out::{MemoryOut, SureOut};
-use crate::status::{DONE, NO_MARK, NOT_BUILT, NOT_UTF8, READ_FAILED, USAGE, WRITE_FAILED};
+use crate::status::{DONE, NO_MARK, NOT_UTF8, READ_FAILED, USAGE, WRITE_FAILED};
 use crate::tool::{lex_tool_run, lex_tool_run_sure};
 use std::alloc::{AllocError, Global};
 use std::test::Fail;
@@ -41,7 +41,7 @@ const CALL: &str = concat!(
 );
 
 /// Words, a source, and the text that is written.
-static TEXTS: [(&str, &str, &str); 15] = [
+static TEXTS: [(&str, &str, &str); 17] = [
     ("module no-tokens next*5", "foo(a);", CALL),
     (
         "module no-tokens",
@@ -166,6 +166,19 @@ static TEXTS: [(&str, &str, &str); 15] = [
         "\u{10400}",
         "row 0 first 0 1 Ident 0..4 n =\\ud801\\udc00\ntoken Ident 0..4 n\n",
     ),
+    (
+        "module no-tokens",
+        "\"\\uD83D\"",
+        "row 0 first 0 1 Str 0..8 ne =\\ud83d\ntoken Str 0..8 ne\n",
+    ),
+    (
+        "module no-tokens",
+        "`a\r\n\\u`",
+        concat!(
+            "row 0 first 0 1 NoSubstitutionTemplate 0..7 ne !\n",
+            "token NoSubstitutionTemplate 0..7 ne\n",
+        ),
+    ),
 ];
 
 #[test]
@@ -179,7 +192,7 @@ fn texts(rt: HostRuntime) -> Result<(), Fail> {
 }
 
 /// Words, a source, and the status that comes of them.
-static REFUSALS: [(&str, &[u8], u8); 22] = [
+static REFUSALS: [(&str, &[u8], u8); 19] = [
     ("module", b"a", USAGE),
     ("tokens module", b"a", USAGE),
     ("module no-tokens nxt", b"a", USAGE),
@@ -194,12 +207,9 @@ static REFUSALS: [(&str, &[u8], u8); 22] = [
     ("module no-tokens all next", b"a", USAGE),
     ("module no-tokens next all", b"a", USAGE),
     ("module no-tokens all*2", b"a", USAGE),
-    ("module no-tokens all", b"a\"", NOT_BUILT),
     ("module no-tokens all", b"a\xff", NOT_UTF8),
-    ("module no-tokens", b"a'", NOT_BUILT),
     ("module no-tokens", b"a\xe2\x82", NOT_UTF8),
     ("module no-tokens", b"'\xff", NOT_UTF8),
-    ("module no-tokens rewind", b"'", NOT_BUILT),
     ("module no-tokens mark rewind rewind next", b"a", NO_MARK),
     ("module no-tokens commit", b"", NO_MARK),
 ];

@@ -1,10 +1,10 @@
-use Rattle.std.proofs.Common.{refl, sym, ap, ◌∙◌}
-use Rattle.js_grammar.specs.Spelling.{is_private_name}
-use Rattle.js_grammar.proofs.Values.{private_is_not_end}
+use Rattle.std.proofs.Common.{refl}
+use Rattle.js_kind.specs.Kinds.{is_template_kind}
+use Rattle.js_text.specs.Characters.{from_place}
 use Rattle.std.proofs.lemmas.Result.{err_from_is_err_and}
 use Rattle.js_lexer.proofs.LexerSteps.{reading_goes_on}
 use Rattle.js_session.proofs.LexerLemmas.{goes_on-restored}
-use Rattle.js_session.proofs.ReadLemmas.{made_row}
+use Rattle.js_session.proofs.ReadLemmas.{made_row, is_kept}
 use Rattle.js_session.proofs.read.read_row.Goals as goal
 
 pub returns-in_err-token-clause-err : goal.returns-in_err-token-clause-err
@@ -32,12 +32,15 @@ returns-clause-ok g c =
       c.new_in-3.ensures,
     ) refl)
 
-pub value_of-requires-clause-some_text : goal.value_of-requires-clause-some_text
-value_of-requires-clause-some_text g c =
-    let read = c.in_ok-token.ensures.ok in
-    λ private. rw read.token_is
-    (read.reads.some_text
-    (private_is_not_end read.outcome.token.kind (ap (λ t. is_private_name t.kind) (sym read.token_is) ∙ private)))
+pub value_of-requires-clause-ordered : goal.value_of-requires-clause-ordered
+value_of-requires-clause-ordered g c =
+    let read = c.in_ok-token.ensures.ok in rw read.token_is read.reads.text_lies.ordered
+
+pub value_of-requires-clause-value : goal.value_of-requires-clause-value
+value_of-requires-clause-value g c =
+    λ escaped.
+    is_kept (is_template_kind c.in_ok-token.token.kind) c.read_token.new.lexer.decoded c.in_ok-token.token.start
+    (from_place c.args.lexer.now.text c.in_ok-token.token.start) (c.in_ok-token.ensures.ok.has_value escaped)
 
 pub returns-in_err-value-clause-err : goal.returns-in_err-value-clause-err
 returns-in_err-value-clause-err g c =
