@@ -5,6 +5,8 @@ use Rattle.js_kind.specs.declared.kind.Kind.{Kind}
 use Rattle.js_kind.specs.declared.kind.Kind.TheVariants as variant
 use Rattle.js_kind.specs.Kinds.{number, is_name_kind, is_identifier_name, is_number_kind, is_reserved_keyword}
 use Rattle.js_kind.specs.Kinds.{is_literal}
+use Rattle.js_kind.specs.Predicates.{is_kind, is_contextual_keyword, is_literal_property_name}
+use Rattle.js_kind.specs.Predicates.{is_identifier_or_keyword}
 
 -- The numbers of words stand in a row.
 pub words_are_between : (kind : Kind) → is_in_range (number variant.Await) (number variant.Null) (number kind)
@@ -44,3 +46,26 @@ pub literals_are_between : (kind : Kind)
 unfolding is_literal
 literals_are_between variant.Eof = refl
 literals_are_between _ = refl
+
+-- The words with a meaning of their own stand in a row.
+pub contextual_words_are_between : (kind : Kind)
+    → is_in_range (number variant.Async) (number variant.Override) (number kind) ≡ is_contextual_keyword kind
+unfolding is_contextual_keyword
+contextual_words_are_between variant.Eof = refl
+contextual_words_are_between _ = refl
+
+-- The names of properties stand in two rows.
+pub property_names_are_between : (kind : Kind)
+    → is_in_range (number variant.Ident) (number variant.Null) (number kind)
+    || is_in_range (number variant.Decimal) (number variant.Str) (number kind)
+    ≡ is_literal_property_name kind
+unfolding is_literal_property_name
+property_names_are_between variant.Eof = refl
+property_names_are_between _ = refl
+
+-- Names of members are those, and private names.
+pub member_names_by_parts : (kind : Kind)
+    → is_literal_property_name kind || is_kind variant.PrivateIdentifier kind ≡ is_identifier_or_keyword kind
+unfolding is_literal_property_name is_identifier_or_keyword
+member_names_by_parts variant.Eof = refl
+member_names_by_parts _ = refl

@@ -4,4 +4,4 @@ pub mod KindNumbers
 pub mod Letters
 pub mod Members
 pub mod NameKinds
-pub mod Sameness
+pub mod Packing

@@ -1,7 +1,7 @@
 -- What the keyword table finds.
 use Rattle.std.proofs.Common.{◌≡◌, ◌≢◌, ◌⊎◌, ◌==◌, not, ℕ, Bool, true, false, List, [], ◌∷◌, refl, sym, ◌∙◌, ap}
-use Rattle.std.proofs.Common.{inl, inr, if◌then◌else◌}
-use Rattle.std.proofs.lemmas.Bool.{both_ways, not-true, eqb-true}
+use Rattle.std.proofs.Common.{inl, inr, if◌then◌else◌, ◌↔◌}
+use Rattle.std.proofs.lemmas.Bool.{both_ways, not-true, eqb-true, or_cases}
 use Rattle.std.specs.List.{list_all}
 use Rattle.std.proofs.lemmas.Slice.Eq.{bytes_eq-Decides}
 use Rattle.std.specs.Str.{bytes_eq}
@@ -74,6 +74,24 @@ name_or_ident text kind (inr none) = ap is_identifier_name none
 -- The kind of a name is a kind of identifier names.
 pub name_kind-is_identifier_name : (text : List ℕ) → is_identifier_name (name_kind text) ≡ true
 name_kind-is_identifier_name text = name_or_ident text (name_kind text) (found text)
+
+-- The kinds of identifier names are `Ident` and the kinds of words.
+pub ident_or_keyword : (kind : Kind)
+    → (is_identifier_name kind ≡ true) ↔ ((kind ≡ Ident) ⊎ (is_name_kind kind ≡ true))
+unfolding is_identifier_name is_name_kind
+ident_or_keyword kind = (
+  λ name. by_cases (or_cases (number kind == number Ident) (is_one_of keywords kind) name),
+  λ cases. name_of cases,
+)
+  where
+    by_cases : ((number kind == number Ident) ≡ true) ⊎ (is_one_of keywords kind ≡ true)
+        → (kind ≡ Ident) ⊎ (is_one_of keywords kind ≡ true)
+    by_cases (inl same) = inl (number_injective kind Ident (eqb-true _ _ same))
+    by_cases (inr word) = inr word
+
+    name_of : (kind ≡ Ident) ⊎ (is_one_of keywords kind ≡ true) → is_one_of (Ident ∷ keywords) kind ≡ true
+    name_of (inl ident) = ap (is_one_of (Ident ∷ keywords)) ident
+    name_of (inr word) = is_later kind Ident keywords word
 
 -- the kind is no kind of numbers
 abbrev is_no_number : Kind → Bool

@@ -58,7 +58,7 @@ impl LexerConfig for TokensLexerConfig {
 }
 
 /// The value decides whether tokens are collected.
-#[derive(Clone, Copy, Default)]
+#[derive(Clone, Copy)]
 pub struct RuntimeLexerConfig {
     tokens: bool,
 }
@@ -71,6 +71,16 @@ impl Model for RuntimeLexerConfig {
     ghost view = { λ c. c.tokens };
 
     ghost inverse = { λ b. record { tokens = b } };
+}
+
+impl Default for RuntimeLexerConfig {
+    ghost use Rattle.std.specs.Prelude.{false};
+
+    ghost is_default = { λ config. config ≡ false };
+
+    fn default() -> RuntimeLexerConfig {
+        RuntimeLexerConfig::new(false)
+    }
 }
 
 impl RuntimeLexerConfig {
@@ -93,5 +103,89 @@ impl LexerConfig for RuntimeLexerConfig {
 
     fn tokens(&self) -> bool {
         self.tokens
+    }
+}
+
+/// Which lexer a parser has.
+pub trait ParserConfig: Default {
+    type LexerConfig: LexerConfig;
+
+    ghost collects: { Self → Bool };
+
+    /// The configuration of the lexer, which collects tokens where that of the parser does.
+    fn lexer_config(&self) -> Self::LexerConfig
+        ensures { Self.LexerConfig.collects result ≡ collects self.now };
+}
+
+/// The parser's lexer collects no tokens.
+#[derive(Clone, Copy, Default)]
+pub struct NoTokensParserConfig;
+
+impl ParserConfig for NoTokensParserConfig {
+    type LexerConfig = NoTokensLexerConfig;
+
+    ghost collects = { λ _. false };
+
+    fn lexer_config(&self) -> NoTokensLexerConfig {
+        NoTokensLexerConfig
+    }
+}
+
+/// The parser's lexer collects all tokens.
+#[derive(Clone, Copy, Default)]
+pub struct TokensParserConfig;
+
+impl ParserConfig for TokensParserConfig {
+    type LexerConfig = TokensLexerConfig;
+
+    ghost collects = { λ _. true };
+
+    fn lexer_config(&self) -> TokensLexerConfig {
+        TokensLexerConfig
+    }
+}
+
+/// The value decides whether the parser's lexer collects tokens.
+#[derive(Clone, Copy)]
+pub struct RuntimeParserConfig {
+    tokens: bool,
+}
+
+impl Model for RuntimeParserConfig {
+    ghost use Rattle.std.specs.Prelude.{Bool};
+
+    ghost Value = { Bool };
+
+    ghost view = { λ c. c.tokens };
+
+    ghost inverse = { λ b. record { tokens = b } };
+}
+
+impl Default for RuntimeParserConfig {
+    ghost use Rattle.std.specs.Prelude.{false};
+
+    ghost is_default = { λ config. config ≡ false };
+
+    fn default() -> RuntimeParserConfig {
+        RuntimeParserConfig::new(false)
+    }
+}
+
+impl RuntimeParserConfig {
+    /// A configuration whose lexer collects tokens where `tokens` says so.
+    pub fn new(tokens: bool) -> RuntimeParserConfig
+        ensures { result ≡ tokens }
+    {
+        RuntimeParserConfig { tokens }
+    }
+}
+
+impl ParserConfig for RuntimeParserConfig {
+    type LexerConfig = RuntimeLexerConfig;
+
+    ghost collects = { λ c. c };
+
+    fn lexer_config(&self) -> RuntimeLexerConfig {
+        RuntimeLexerConfig::new(self.tokens)
     }
 }

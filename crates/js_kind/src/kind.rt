@@ -8,9 +8,8 @@ ghost use Rattle.js_kind.specs.Kinds.{is_logical_operator};
 ghost use Rattle.js_kind.specs.Digits.{is_integer_kind, is_digit_of, radix_of};
 
 /// What a token is.
-#[derive(Clone, Copy, PartialEq, Eq, Debug, Default)]
+#[derive(Clone, Copy, PartialEq, Eq, Debug)]
 pub enum Kind {
-    #[default]
     Eof,
     Undetermined,
     Skip,
@@ -190,6 +189,16 @@ pub enum Kind {
     At,
 }
 
+impl Default for Kind {
+    ghost use Rattle.js_kind.specs.declared.kind.Kind.TheVariants.{Eof};
+
+    ghost is_default = { λ kind. kind ≡ Eof };
+
+    fn default() -> Kind {
+        Kind::Eof
+    }
+}
+
 impl Kind {
     /// The number of the kind, from 0 on.
     pub const fn number(self) -> u8
@@ -206,7 +215,7 @@ impl Kind {
     }
 
     /// Whether the number of the kind is one of those from `first` to `last`.
-    const fn is_between(self, first: Kind, last: Kind) -> bool
+    pub(crate) const fn is_between(self, first: Kind, last: Kind) -> bool
         ensures { result ≡ is_in_range (number first) (number last) (number self) }
     {
         first.number() <= self.number() && self.number() <= last.number()
@@ -348,7 +357,7 @@ impl Kind {
 }
 
 /// Whether one of two things holds.
-const fn either(first: bool, second: bool) -> bool
+pub(crate) const fn either(first: bool, second: bool) -> bool
     ensures { result ≡ (first || second) }
 {
     first || second

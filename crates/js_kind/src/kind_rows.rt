@@ -2,6 +2,7 @@
 
 ghost use Rattle.std.specs.Prelude.{◌≡◌};
 ghost use Rattle.js_kind.specs.KindRows.{kind_row};
+ghost use Rattle.js_kind.specs.Packed.{kind_at};
 ghost use Rattle.js_kind.specs.Kinds.{ListsByNumber, HasEachRow, row_of};
 
 use crate::kind::Kind;
@@ -219,7 +220,29 @@ fn rows() -> &'static [Row; 169]
     &ROWS
 }
 
+/// All kinds, in the order of their numbers.
+static KINDS: [Kind; 169] = with_kinds!(kinds);
+
+/// The table of kinds.
+fn kinds() -> &'static [Kind; 169]
+    ensures { result.now ≡ Kind.VARIANTS }
+{
+    &KINDS
+}
+
 impl Kind {
+    /// The kind of a number, and `Eof` where it is that of none.
+    pub(crate) fn from_number(number: u8) -> Kind
+        ensures { result ≡ kind_at number }
+    {
+        let kinds = kinds();
+        if (number as usize) < kinds.len() {
+            kinds[number as usize]
+        } else {
+            Kind::Eof
+        }
+    }
+
     /// All kinds, in the order of their numbers.
     pub const VARIANTS: [Kind; 169] = with_kinds!(kinds);
 

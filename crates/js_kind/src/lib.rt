@@ -6,12 +6,19 @@ mod keyword;
 mod kind;
 mod kind_rows;
 mod kind_text;
+mod packed;
+mod predicates;
 #[cfg(test)]
 mod tests;
 mod token;
 
-pub use config::{LexerConfig, NoTokensLexerConfig, RuntimeLexerConfig, TokensLexerConfig};
-pub use keyword::{keyword_is_kind_of_name, keyword_of_text, match_keyword};
+pub use config::{
+    LexerConfig, NoTokensLexerConfig, NoTokensParserConfig, ParserConfig, RuntimeLexerConfig,
+    RuntimeParserConfig, TokensLexerConfig, TokensParserConfig,
+};
+pub use keyword::{
+    identifier_name_is_ident_or_keyword, keyword_is_kind_of_name, keyword_of_text, match_keyword,
+};
 pub use kind::Kind;
 pub use kind_rows::variants_by_number;
-pub use token::{Token, TokenList};
+pub use token::{Token, TokenList, equal_tokens_have_equal_parts};

@@ -44,6 +44,13 @@ impl<T> ItemList<T> {
         }
     }
 
+    /// The list of the items of a vector.
+    pub fn from_vec(items: Vec<T>) -> ItemList<T>
+        ensures { result ≡ items.items }
+    {
+        ItemList { items }
+    }
+
     /// How many items there are.
     pub fn len(&self) -> usize
         ensures { result ≡ length self.now }

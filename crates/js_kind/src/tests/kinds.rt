@@ -197,6 +197,66 @@ fn classes(rt: HostRuntime) {
     }
 }
 
+#[test]
+fn classes_of_words(rt: HostRuntime) {
+    for (i, kind) in Kind::VARIANTS.iter().enumerate() {
+        assert_eq!(rt; kind.is_contextual_keyword(), 39 <= i && i <= 79);
+        assert_eq!(rt;
+            kind.is_future_reserved_keyword(),
+            i == 80 || i == 81 || (83 <= i && i <= 87)
+        );
+        assert_eq!(rt;
+            kind.is_strict_mode_contextual_keyword(),
+            80 <= i && i <= 87
+        );
+    }
+}
+
+#[test]
+fn names_by_place(rt: HostRuntime) {
+    for (i, kind) in Kind::VARIANTS.iter().enumerate() {
+        let name = i == 4 || (39 <= i && i <= 87);
+        assert_eq!(rt; kind.is_identifier_reference(false, true), name || i == 88);
+        assert_eq!(rt; kind.is_label_identifier(true, false), name || i == 5);
+        assert_eq!(rt; kind.is_binding_identifier(), name || i == 5 || i == 88);
+        assert_eq!(rt;
+            kind.is_ts_identifier(false, false),
+            i == 4 || i == 5 || i == 88
+        );
+    }
+}
+
+#[test]
+fn kinds_that_may_follow(rt: HostRuntime) {
+    for (i, kind) in Kind::VARIANTS.iter().enumerate() {
+        let operand = 4 <= i && i <= 91 && i != 25 && i != 26;
+        assert_eq!(rt; kind.is_after_let(), operand || i == 108 || i == 109);
+        assert_eq!(rt;
+            kind.is_after_await_or_yield(),
+            operand || (149 <= i && i <= 161)
+        );
+    }
+}
+
+#[test]
+fn names_of_members(rt: HostRuntime) {
+    for (i, kind) in Kind::VARIANTS.iter().enumerate() {
+        let property = (4 <= i && i <= 91) || (149 <= i && i <= 160);
+        assert_eq!(rt; kind.is_literal_property_name(), property);
+        assert_eq!(rt; kind.is_identifier_or_keyword(), property || i == 166);
+    }
+}
+
+#[test]
+fn classes_by_list(rt: HostRuntime) {
+    assert!(rt; Kind::Eof.is_eof() && !Kind::Undetermined.is_eof());
+    assert!(rt; Kind::Delete.is_unary_operator() && !Kind::Plus2.is_unary_operator());
+    assert!(rt; Kind::Minus2.is_update_operator() && !Kind::Minus.is_update_operator());
+    assert!(rt; Kind::TemplateHead.is_template_start_of_tagged_template());
+    assert!(rt; Kind::Export.is_modifier_kind() && !Kind::Import.is_modifier_kind());
+    assert!(rt; Kind::Await.is_binding_identifier_or_private_identifier_or_pattern());
+}
+
 /// Texts with the kinds of names that they are.
 static NAMES: [(&'static str, Kind); 13] = [
     ("let", Kind::Let),

@@ -1,9 +1,13 @@
 //! Tokens, their lists and the configurations.
 
-use crate::config::{LexerConfig, NoTokensLexerConfig, RuntimeLexerConfig, TokensLexerConfig};
+use crate::config::{
+    LexerConfig, NoTokensLexerConfig, NoTokensParserConfig, ParserConfig, RuntimeLexerConfig,
+    RuntimeParserConfig, TokensLexerConfig, TokensParserConfig,
+};
 use crate::kind::Kind;
 use crate::token::{Token, TokenList};
 use js_text::Span;
+use std::mem::size_of;
 use std::test::Fail;
 
 /// A token in which every part differs from that of the default token.
@@ -35,6 +39,11 @@ fn made_tokens(rt: HostRuntime) {
     assert_eq!(rt; parts(&first), (0, 0, "Eof", true, false, false));
     let made = Token::new(Kind::Let, Span { start: 2, end: 5 }, true);
     assert_eq!(rt; parts(&made), (2, 5, "Let", true, false, false));
+}
+
+#[test]
+fn token_has_16_bytes(rt: HostRuntime) {
+    assert_eq!(rt; size_of::<Token>(), 16);
 }
 
 #[test]
@@ -109,4 +118,21 @@ fn configurations(rt: HostRuntime) {
     assert_eq!(rt; collects(RuntimeLexerConfig::new(true)), (false, true));
     assert_eq!(rt; collects(RuntimeLexerConfig::new(false)), (false, false));
     assert_eq!(rt; collects(RuntimeLexerConfig::default()), (false, false));
+}
+
+/// What the lexer of a parser that holds the configuration is told.
+fn lexer_collects<P: ParserConfig + Drop>(config: P) -> bool
+where
+    P::LexerConfig: Drop,
+{
+    config.lexer_config().tokens()
+}
+
+#[test]
+fn parser_configurations(rt: HostRuntime) {
+    assert!(rt; !lexer_collects(NoTokensParserConfig));
+    assert!(rt; lexer_collects(TokensParserConfig));
+    assert!(rt; lexer_collects(RuntimeParserConfig::new(true)));
+    assert!(rt; !lexer_collects(RuntimeParserConfig::new(false)));
+    assert!(rt; !lexer_collects(RuntimeParserConfig::default()));
 }
