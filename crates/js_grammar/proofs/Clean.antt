@@ -11,18 +11,22 @@ use Rattle.js_kind.specs.Digits.{is_digit_of}
 use Rattle.js_kind.specs.TokenParts.{TokenParts}
 use Rattle.js_kind.specs.declared.kind.Kind.{Kind}
 use Rattle.js_grammar.specs.Gap.{is_prefix, is_reported, LongestGap}
-use Rattle.js_grammar.specs.Goals.{ReadsHere, GoalReads, AgreesWithGrammar, line_has_ended_behind}
+use Rattle.js_grammar.specs.Goals.{ReadsHere, ReadsPlainly, GoalReads, AgreesWithGrammar, line_has_ended_behind}
 use Rattle.js_grammar.specs.Goals.ReadsHere.{spelled as spelled_here, recovers}
-use Rattle.js_grammar.specs.Goals.GoalReads.{hashbang as hashbang_read, behind_gap}
+use Rattle.js_grammar.specs.Goals.ReadsPlainly.{hashbang as hashbang_read, behind_gap}
 use Rattle.js_grammar.specs.Name.{begins_name, private_read}
 use Rattle.js_grammar.specs.Number.{begins_number}
 use Rattle.js_grammar.specs.Outcome.{Outcome, gap_diagnostics}
 use Rattle.js_grammar.specs.Quoted.{begins_quoted}
-use Rattle.js_grammar.specs.Reads.{PlainReads}
+use Rattle.js_grammar.specs.Reads.{PlainReads, is_plain}
 use Rattle.js_grammar.specs.Reads.PlainReads.{hashbang, spelled}
 use Rattle.js_grammar.specs.Recovery.{Reading, recovered, private_reading, recovered_character, is_control_or_wide}
 use Rattle.js_grammar.specs.Spelling.{LongestSpelling, NothingSpelled}
 use Rattle.js_grammar.specs.declared.goal.Goal.{Goal}
+use Rattle.js_grammar.specs.declared.goal.Goal.TheVariants.{First, Next, TemplateTail as TailGoal}
+use Rattle.js_grammar.specs.declared.goal.Goal.TheVariants.{RegularExpression, RightAngle, TypeScriptLeftAngle}
+use Rattle.js_grammar.specs.declared.goal.Goal.TheVariants.{TypeScriptRightAngle, JsxIdentifier, JsxChild}
+use Rattle.js_grammar.specs.declared.goal.Goal.TheVariants.{JsxAttributeValue}
 use Rattle.js_grammar.proofs.GapLemmas.{whole_gap_unique}
 use Rattle.js_grammar.proofs.NumberReadings.{faulty_number_reports}
 use Rattle.js_grammar.proofs.Reported.{longest_of_whole, whole_of_longest, gap_reports_nothing, append_nil}
@@ -111,7 +115,7 @@ spelled_clean t line_has_ended place here r (recovers nothing e) clean =
 
 -- A reading that reports nothing is the grammar's.
 pub clean_reads : (text : List ℕ) (t : SourceType) (goal : Goal) (before : Option TokenParts) (place : ℕ) (o : Outcome)
-    → GoalReads text t goal before place o
+    → ReadsPlainly text t goal before place o
     → o.findings.diagnostics ≡ [] → PlainReads text t goal (line_has_ended_behind before) place o.token
 clean_reads text t goal before place o (hashbang_read begins read) clean =
     hashbang begins read.is_hashbang read.is_on_new_line
@@ -151,7 +155,7 @@ here_clean t line_has_ended place here r (recovers nothing e) some = absurd (som
 -- Where the grammar reads a token, nothing is reported.
 pub reads_clean : (text : List ℕ) (t : SourceType) (goal : Goal) (before : Option TokenParts) (place : ℕ) (o : Outcome)
     (token : TokenParts)
-    → GoalReads text t goal before place o → PlainReads text t goal (line_has_ended_behind before) place token
+    → ReadsPlainly text t goal before place o → PlainReads text t goal (line_has_ended_behind before) place token
     → o.findings.diagnostics ≡ []
 reads_clean text t goal before place o token (hashbang_read begins read) reads =
     ap (λ x. x.findings.diagnostics) read.alone
@@ -181,14 +185,28 @@ reads_clean text t goal before place o token (behind_gap begins read) (spelled o
     ∙ ap (λ ds. ds ++ read.reading.diagnostics) none
     ∙ here_clean t read.line_has_ended o.token.start (from_place text o.token.start) read.reading read.here some
 
--- The headline of one reading.
-pub agrees_with_grammar : (text : List ℕ) (t : SourceType) (goal : Goal) (before : Option TokenParts) (place : ℕ)
+plainly_agrees : (text : List ℕ) (t : SourceType) (goal : Goal) (before : Option TokenParts) (place : ℕ)
     (o : Outcome)
-    → GoalReads text t goal before place o → AgreesWithGrammar text t goal before place o
-agrees_with_grammar text t goal before place o reads = record {
+    → ReadsPlainly text t goal before place o → AgreesWithGrammar text t goal before place o
+plainly_agrees text t goal before place o reads = record {
   clean = (
     λ clean. (o.token, clean_reads text t goal before place o reads clean),
     λ found. reads_clean text t goal before place o found.0 reads found.1,
   );
   plain = clean_reads text t goal before place o reads;
 }
+
+-- The headline of one reading.
+pub agrees_with_grammar : (text : List ℕ) (t : SourceType) (goal : Goal) (before : Option TokenParts) (place : ℕ)
+    (o : Outcome)
+    → is_plain goal ≡ true → GoalReads text t goal before place o → AgreesWithGrammar text t goal before place o
+agrees_with_grammar text t First before place o plain reads = plainly_agrees text t First before place o reads
+agrees_with_grammar text t Next before place o plain reads = plainly_agrees text t Next before place o reads
+agrees_with_grammar text t TailGoal before place o plain reads = absurd (cc)
+agrees_with_grammar text t RegularExpression before place o plain reads = absurd (cc)
+agrees_with_grammar text t RightAngle before place o plain reads = absurd (cc)
+agrees_with_grammar text t TypeScriptLeftAngle before place o plain reads = absurd (cc)
+agrees_with_grammar text t TypeScriptRightAngle before place o plain reads = absurd (cc)
+agrees_with_grammar text t JsxIdentifier before place o plain reads = absurd (cc)
+agrees_with_grammar text t JsxChild before place o plain reads = absurd (cc)
+agrees_with_grammar text t JsxAttributeValue before place o plain reads = absurd (cc)

@@ -2,6 +2,10 @@ pub mod Clean
 pub mod EscapeCases
 pub mod Flags
 pub mod GapLemmas
+pub mod GoalReadings
+pub mod GoalRows
+pub mod GoalWays
+pub mod KindTexts
 pub mod NameCuts
 pub mod NameItems
 pub mod NameLaws

@@ -20,7 +20,7 @@ use Rattle.js_grammar.specs.Spelling.{Spelling, LongestSpelling, NothingSpelled}
 use Rattle.js_grammar.specs.Spelling.Spelling.{number}
 use Rattle.js_grammar.proofs.NumberBegins.{number_begins}
 use Rattle.js_grammar.proofs.NumberItems.{true_or_false}
-use Rattle.js_grammar.proofs.NumberKinds.{number_kind}
+use Rattle.js_grammar.proofs.NumberKinds.{number_kind, unmarked_parts}
 use Rattle.js_grammar.proofs.NumberLaws.{BeginsWithNumber, good_read, number_is_read, clean_is_number, one_number}
 use Rattle.js_grammar.proofs.SpellingClasses.{only_number}
 use Rattle.js_grammar.proofs.Flags.{has_no_escape, none_of_them}
@@ -51,9 +51,16 @@ good_number : (t : SourceType) (line_has_ended : Bool) (place : ℕ) (here xs ys
     → ReadsHere t line_has_ended place here (number_reading line_has_ended (good_read xs kind ys))
 good_number t line_has_ended place here xs ys kind b =
     let kinds = number_kind xs kind b.number in
-    let none = none_of_them kind kinds.no_value in
+    let none = none_of_them kind (unmarked_parts kind kinds.unmarked).0 in
     spelled xs (longest_of_number t line_has_ended here xs ys kind b)
-    (rw (kinds.is_number, has_no_escape kind xs kinds.no_value, none.no_name, none.no_private_name, none.no_quoted)
+    (rw (
+      kinds.is_number,
+      has_no_escape kind xs
+          (unmarked_parts kind kinds.unmarked).0,
+      none.no_name,
+      none.no_private_name,
+      none.no_quoted,
+    )
     refl)
 
 digit_is_no_slash : (c : ℕ) → is_digit_of 10 c ≡ true → (c == 47) ≡ false

@@ -16,7 +16,7 @@ use Rattle.js_grammar.specs.NumberReads.{items-cons}
 use Rattle.js_grammar.specs.NumberReads.{NumberRead, number_read}
 use Rattle.js_grammar.proofs.NumberClasses.{digit_may_not_follow}
 use Rattle.js_grammar.proofs.NumberItems.{true_or_false, run_text, integer_text}
-use Rattle.js_grammar.proofs.NumberKinds.{base_kinds, sign_is_number}
+use Rattle.js_grammar.proofs.NumberKinds.{is_marked, base_kinds, sign_is_number}
 use Rattle.js_grammar.proofs.NumberSound.{sign_here, first_is}
 use Rattle.js_grammar.proofs.NumberSteps.{exponent_there, exponent_missing, fraction_there, fraction_missing}
 use Rattle.js_grammar.proofs.NumberSteps.{behind_digits_point, behind_digits_other, suffix_there, suffix_missing}
@@ -26,19 +26,20 @@ use Rattle.js_grammar.proofs.NumberSteps.{number_zero, number_decimal, read_well
 use Rattle.js_grammar.proofs.NumberWhole.{plain_text}
 use Rattle.js_kind.specs.Digits.{is_digit_of}
 use Rattle.js_kind.specs.Kinds.{is_identifier_name, is_string_kind, is_template_kind}
-use Rattle.js_grammar.specs.Spelling.{is_valued, is_private_name}
+use Rattle.js_grammar.specs.ReLexed.{is_re_lexed}
+use Rattle.js_grammar.specs.Spelling.{is_private_name}
 use Rattle.js_kind.specs.declared.kind.Kind.{Kind}
 use Rattle.js_kind.specs.declared.kind.Kind.TheVariants.{Eof, Decimal, DecimalBigInt, Float, Octal}
 
 -- The text is the characters of the items and what is left behind them, and their kind is none of names.
 record IsCut (text : List ℕ) (number : Items) : Type 0 where
   pub here : text ≡ items_text number.items ++ number.rest
-  pub no_value : is_valued number.kind ≡ false
+  pub unmarked : is_marked number.kind ≡ false
 
 -- the kinds that are no name
-unnamed : (is_valued Decimal ≡ false) × (is_valued DecimalBigInt ≡ false)
-    × (is_valued Float ≡ false) × (is_valued Octal ≡ false) × (is_valued Eof ≡ false)
-unfolding is_identifier_name is_private_name is_string_kind is_template_kind
+unnamed : (is_marked Decimal ≡ false) × (is_marked DecimalBigInt ≡ false)
+    × (is_marked Float ≡ false) × (is_marked Octal ≡ false) × (is_marked Eof ≡ false)
+unfolding is_identifier_name is_private_name is_string_kind is_template_kind is_re_lexed
 unnamed = (refl, refl, refl, refl, refl)
 
 exponent_cut : (mark : ℕ) (text : List ℕ) → IsCut (mark ∷ text) (exponent_items mark (sign_of text) text)
@@ -50,19 +51,19 @@ exponent_cut mark text =
       here =
           ap (λ t. mark ∷ t)
           (sign_here text ∙ ap (λ t. sign ++ t) (run_text 10 rest) ∙ same sign (run 10 rest).text (run 10 rest).rest);
-      no_value = (sign_is_number (sign_of text)).no_value;
+      unmarked = (sign_is_number (sign_of text)).unmarked;
     }
   where
     same : (xs ys zs : List ℕ) → xs ++ (ys ++ zs) ≡ (xs ++ (ys ++ [])) ++ zs
     same xs ys zs = rw append-nil (sym (append_assoc xs ys zs))
 
-exponent_or_cut : (without : Kind) (text : List ℕ) → is_valued without ≡ false
+exponent_or_cut : (without : Kind) (text : List ℕ) → is_marked without ≡ false
     → IsCut text (exponent_or without text)
-exponent_or_cut without [] e = rw (exponent_missing without [] refl) (record { here = refl; no_value = e })
+exponent_or_cut without [] e = rw (exponent_missing without [] refl) (record { here = refl; unmarked = e })
 exponent_or_cut without (c ∷ cs) e =
     elim (true_or_false (is_exponent_mark c)) [
       | inl is ↦ rw (exponent_there without c cs is) (exponent_cut c cs)
-      | inr none ↦ rw (exponent_missing without (c ∷ cs) none) (record { here = refl; no_value = e })
+      | inr none ↦ rw (exponent_missing without (c ∷ cs) none) (record { here = refl; unmarked = e })
     ]
 
 -- one more item in front
@@ -79,7 +80,7 @@ fraction_cut text =
           let more = exponent_or_cut Float digits.rest unnamed.2 in
           rw (fraction_there text digit) (record {
             here = behind digits.text text digits.rest (exponent_or Float digits.rest) (run_text 10 text) more;
-            no_value = more.no_value;
+            unmarked = more.unmarked;
           }))
       | inr none ↦ rw (fraction_missing text none) (exponent_or_cut Float text unnamed.2)
     ]
@@ -88,7 +89,7 @@ point_cut : (text : List ℕ) → begins (λ c. c == full_stop) text ≡ true �
 unfolding point_items
 point_cut text first = record {
   here = first_is full_stop text first ∙ ap (λ t. full_stop ∷ t) (fraction_cut (drop 1 text)).here;
-  no_value = unnamed.2;
+  unmarked = unnamed.2;
 }
 
 behind_digits_cut : (text : List ℕ) → IsCut text (behind_digits text)
@@ -98,13 +99,13 @@ behind_digits_cut text =
       | inr none ↦ rw (behind_digits_other text none) (exponent_or_cut Decimal text unnamed.0)
     ]
 
-suffix_cut : (big : Kind) (without : Items) (text : List ℕ) → is_valued big ≡ false → IsCut text without
+suffix_cut : (big : Kind) (without : Items) (text : List ℕ) → is_marked big ≡ false → IsCut text without
     → IsCut text (suffix_or big without text)
 suffix_cut big without text e cut =
     elim (true_or_false (begins (λ c. c == latin_small_letter_n) text)) [
       | inl first ↦
           rw (suffix_there big without text first)
-          (record { here = first_is latin_small_letter_n text first; no_value = e })
+          (record { here = first_is latin_small_letter_n text first; unmarked = e })
       | inr none ↦ rw (suffix_missing big without text none) cut
     ]
 
@@ -115,7 +116,7 @@ decimal_cut text =
     let more = suffix_or DecimalBigInt (behind_digits digits.rest) digits.rest in
     let cut =
     suffix_cut DecimalBigInt (behind_digits digits.rest) digits.rest unnamed.1 (behind_digits_cut digits.rest) in
-    record { here = behind digits.text text digits.rest more (integer_text text) cut; no_value = cut.no_value }
+    record { here = behind digits.text text digits.rest more (integer_text text) cut; unmarked = cut.unmarked }
 
 legacy_cut : (text : List ℕ) → IsCut text (legacy_items text)
 unfolding plain_digits
@@ -125,13 +126,13 @@ legacy_cut text =
       | inl octal ↦
           rw (legacy_octal_items text octal) (record {
             here = plain_text text ∙ ap (λ t. t ++ digits.rest) (sym (append-nil digits.text));
-            no_value = unnamed.3;
+            unmarked = unnamed.3;
           })
       | inr some ↦ (
           let cut = behind_digits_cut digits.rest in
           rw (legacy_decimal_items text some) (record {
             here = behind digits.text text digits.rest (behind_digits digits.rest) (plain_text text) cut;
-            no_value = cut.no_value;
+            unmarked = cut.unmarked;
           }))
     ]
 
@@ -151,11 +152,11 @@ prefixed_reaches c cs base letter =
           let without = no_items base.kind digits.rest in
           let more = suffix_or base.big_kind without digits.rest in
           let cut =
-          suffix_cut base.big_kind without digits.rest kinds.1.no_value
-          (record { here = refl; no_value = kinds.0.no_value }) in
+          suffix_cut base.big_kind without digits.rest kinds.1.unmarked
+          (record { here = refl; unmarked = kinds.0.unmarked }) in
           rw (behind_prefix_whole base digits complete) (inr (record {
             here = ap (λ t. digit_zero ∷ c ∷ t) (behind digits.text cs digits.rest more (run_text base.radix cs) cut);
-            no_value = cut.no_value;
+            unmarked = cut.unmarked;
           })))
     ]
 
@@ -211,7 +212,7 @@ some_characters (c ∷ cs) begun follows cut none =
 -- What is read of a number is the rest of the source, or some characters; and it is of no kind of names.
 pub record ReadsCharacters (here : List ℕ) (read : NumberRead) : Type 0 where
   pub leaves : ((read.kind ≡ Eof) × (read.rest ≡ [])) ⊎ ((xs : List ℕ) × (xs ≢ []) × (here ≡ xs ++ read.rest))
-  pub no_value : is_valued read.kind ≡ false
+  pub unmarked : is_marked read.kind ≡ false
 
 pub number_characters : (place : ℕ) (here : List ℕ) → begins_number here ≡ true
     → ReadsCharacters here (number_read place here)
@@ -219,15 +220,15 @@ number_characters place here begun =
     let number = number_items here in
     elim (true_or_false (begins may_not_follow_number number.rest)) [
       | inl bad ↦
-          rw (read_badly place number bad) (record { leaves = inl (refl, refl); no_value = unnamed.4 })
+          rw (read_badly place number bad) (record { leaves = inl (refl, refl); unmarked = unnamed.4 })
       | inr well ↦
           rw (read_well place number well)
           (elim (number_reaches here) [
             | inl broken ↦
-                (record { leaves = inl broken; no_value = ap is_valued broken.0 ∙ unnamed.4 })
+                (record { leaves = inl broken; unmarked = ap is_marked broken.0 ∙ unnamed.4 })
             | inr cut ↦ (record {
               leaves = inr (items_text number.items, some_characters here begun well cut, cut.here);
-              no_value = cut.no_value;
+              unmarked = cut.unmarked;
             })
           ])
     ]

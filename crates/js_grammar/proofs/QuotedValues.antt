@@ -9,6 +9,7 @@ use Rattle.js_text.specs.Characters.{begins}
 use Rattle.js_kind.specs.declared.kind.Kind.{Kind}
 use Rattle.js_kind.specs.declared.kind.Kind.TheVariants.{NoSubstitutionTemplate, Str, TemplateHead, Undetermined}
 use Rattle.js_grammar.specs.Gap.{is_prefix}
+use Rattle.js_grammar.specs.UnicodeEscape.{right_curly_bracket}
 use Rattle.std.specs.Prelude.{unwrap_or}
 use Rattle.js_kind.specs.Kinds.{is_template_kind}
 use Rattle.js_grammar.specs.Quoted.{quoted_read, units_in}
@@ -36,32 +37,26 @@ same_string quote p q text =
       | inr open_end ↦ rw (string_unterminated quote p found open_end, string_unterminated quote q found open_end) refl
     ]
 
--- nor does that of a template
+-- nor does that of a template, nor on the kinds that it may have
+pub same_part_of : (a b c d : Kind) (p q : ℕ) (text : List ℕ)
+    → (template_part_read a b p text).value ≡ (template_part_read c d q text).value
+same_part_of a b c d p q text =
+    let found = template_items text in
+    elim (true_or_false (begins (λ c. c == grave_accent) found.rest)) [
+      | inl is ↦ rw (part_with_tail a b p found is, part_with_tail c d q found is) refl
+      | inr none ↦
+          elim (true_or_false (is_prefix (codes "${") found.rest)) [
+            | inl begun ↦
+                rw (part_with_substitution a b p found none begun, part_with_substitution c d q found none begun) refl
+            | inr other ↦ rw (part_unterminated a b p found none other, part_unterminated c d q found none other) refl
+          ]
+    ]
+
 pub same_part : (p q : ℕ) (text : List ℕ)
     → (template_part_read TemplateHead NoSubstitutionTemplate p text).value
     ≡ (template_part_read TemplateHead NoSubstitutionTemplate q text).value
 same_part p q text =
-    let found = template_items text in
-    elim (true_or_false (begins (λ c. c == grave_accent) found.rest)) [
-      | inl is ↦
-          rw (
-            part_with_tail TemplateHead NoSubstitutionTemplate p found is,
-            part_with_tail TemplateHead NoSubstitutionTemplate q found is,
-          ) refl
-      | inr none ↦
-          elim (true_or_false (is_prefix (codes "${") found.rest)) [
-            | inl begun ↦
-                rw (
-                  part_with_substitution TemplateHead NoSubstitutionTemplate p found none begun,
-                  part_with_substitution TemplateHead NoSubstitutionTemplate q found none begun,
-                ) refl
-            | inr other ↦
-                rw (
-                  part_unterminated TemplateHead NoSubstitutionTemplate p found none other,
-                  part_unterminated TemplateHead NoSubstitutionTemplate q found none other,
-                ) refl
-          ]
-    ]
+    same_part_of TemplateHead NoSubstitutionTemplate TemplateHead NoSubstitutionTemplate p q text
 
 -- a part of a template has a value, good or bad
 pub has_value : (items : List StringItem) → template_value items ≡ no_value → ⊥
@@ -124,13 +119,26 @@ faulty_part substitute tail start text faults =
     some_prefix [] e = absurd (cc)
     some_prefix (c ∷ cs) e = omega arith
 
--- what holds of each kind that is read holds of the kind of what was read
+-- what holds of each kind that may be read holds of the kind of what was read
+pub part_kind_is : (P : Kind → Type 0) (substitute tail : Kind) → P substitute → P tail → P Undetermined → (start : ℕ)
+    (text : List ℕ) → P (template_part_read substitute tail start text).kind
+part_kind_is P substitute tail first last none start text =
+    let found = template_items text in
+    elim (true_or_false (begins (λ d. d == grave_accent) found.rest)) [
+      | inl is ↦ rw (part_with_tail substitute tail start found is) last
+      | inr no_tail ↦
+          elim (true_or_false (is_prefix (codes "${") found.rest)) [
+            | inl begun ↦ rw (part_with_substitution substitute tail start found no_tail begun) first
+            | inr other ↦ rw (part_unterminated substitute tail start found no_tail other) none
+          ]
+    ]
+
 pub quoted_kind_is : (P : Kind → Type 0) → P Str → P Undetermined → P NoSubstitutionTemplate → P TemplateHead
     → (start c : ℕ) (cs : List ℕ) → P (quoted_read start (c ∷ cs)).kind
 quoted_kind_is P string none tail head start c cs =
     elim (true_or_false (is_quote c)) [
       | inl quote ↦ rw quote string_kind_is
-      | inr other ↦ rw other part_kind_is
+      | inr other ↦ rw other (part_kind_is P TemplateHead NoSubstitutionTemplate head tail none start cs)
     ]
   where
     string_kind_is : P (string_read c start cs).kind
@@ -139,19 +147,6 @@ quoted_kind_is P string none tail head start c cs =
         elim (true_or_false (begins (λ d. d == c) found.rest)) [
           | inl closed ↦ rw (string_terminated c start found closed) string
           | inr open_end ↦ rw (string_unterminated c start found open_end) none
-        ]
-
-    part_kind_is : P (template_part_read TemplateHead NoSubstitutionTemplate start cs).kind
-    part_kind_is =
-        let found = template_items cs in
-        elim (true_or_false (begins (λ d. d == grave_accent) found.rest)) [
-          | inl is ↦ rw (part_with_tail TemplateHead NoSubstitutionTemplate start found is) tail
-          | inr no_tail ↦
-              elim (true_or_false (is_prefix (codes "${") found.rest)) [
-                | inl begun ↦
-                    rw (part_with_substitution TemplateHead NoSubstitutionTemplate start found no_tail begun) head
-                | inr other ↦ rw (part_unterminated TemplateHead NoSubstitutionTemplate start found no_tail other) none
-              ]
         ]
 
 -- what is read of a string is of no kind of templates, and has units where it is escaped
@@ -177,22 +172,21 @@ pub record IsPartRead (read : StringRead) : Type 0 where
   pub template : read.escaped ≡ true → is_template_kind read.kind ≡ true
   pub some_value : read.escaped ≡ true → read.value ≡ no_value → ⊥
 
-pub part_read_is : (start : ℕ) (text : List ℕ)
-    → IsPartRead (template_part_read TemplateHead NoSubstitutionTemplate start text)
-unfolding is_template_kind
-part_read_is start text =
+pub part_read_is : (substitute tail : Kind) → is_template_kind substitute ≡ true → is_template_kind tail ≡ true
+    → (start : ℕ) (text : List ℕ) → IsPartRead (template_part_read substitute tail start text)
+part_read_is substitute tail first last start text =
     let found = template_items text in
     elim (true_or_false (begins (λ c. c == grave_accent) found.rest)) [
       | inl is ↦
-          rw (part_with_tail TemplateHead NoSubstitutionTemplate start found is)
-          (record { template = λ _. refl; some_value = λ _. has_value found.items })
+          rw (part_with_tail substitute tail start found is)
+          (record { template = λ _. last; some_value = λ _. has_value found.items })
       | inr none ↦
           elim (true_or_false (is_prefix (codes "${") found.rest)) [
             | inl begun ↦
-                rw (part_with_substitution TemplateHead NoSubstitutionTemplate start found none begun)
-                (record { template = λ _. refl; some_value = λ _. has_value found.items })
+                rw (part_with_substitution substitute tail start found none begun)
+                (record { template = λ _. first; some_value = λ _. has_value found.items })
             | inr other ↦
-                rw (part_unterminated TemplateHead NoSubstitutionTemplate start found none other)
+                rw (part_unterminated substitute tail start found none other)
                 (record { template = λ no. cc; some_value = λ no. cc })
           ]
     ]
@@ -212,3 +206,11 @@ pub part_stands : (start : ℕ) (behind here : List ℕ) → here ≡ grave_acce
     → units_in (template_part_read TemplateHead NoSubstitutionTemplate start behind).value ≡ template_units here
 part_stands start behind here e =
     ap units_in (same_part start 0 behind) ∙ ap template_units (sym e)
+
+-- and of a part of one behind another mark
+pub part_stands_behind_mark : (substitute tail : Kind) (start : ℕ) (behind here : List ℕ)
+    → here ≡ right_curly_bracket ∷ behind
+    → units_in (template_part_read substitute tail start behind).value ≡ template_units here
+part_stands_behind_mark substitute tail start behind here e =
+    ap units_in (same_part_of substitute tail TemplateHead NoSubstitutionTemplate start 0 behind)
+    ∙ ap template_units (sym e)

@@ -1,7 +1,7 @@
 -- The spans of what is read: in order, and not empty but for the end of the source.
 use Rattle.std.proofs.Common.{◌≡◌, ◌≢◌, ℕ, ◌+◌, ◌<◌, ◌≤◌, Bool, true, false, List, [], ◌∷◌, ◌++◌, ◌==◌}
 use Rattle.std.proofs.Common.{length, drop, refl, sym, ◌∙◌, ap, subst, arith, zero, suc, append-nil, append_assoc, ◌⊎◌}
-use Rattle.std.proofs.Common.{inl, inr, Option, None}
+use Rattle.std.proofs.Common.{inl, inr, Option, None, Some}
 use Rattle.std.specs.Prelude.{codes, if◌then◌else◌, IfSome}
 use Rattle.std.proofs.lemmas.Str.{length-le-encodes, IsCharBoundary-start}
 use Rattle.std.specs.Str.{IsCharBoundary, IsUtf8}
@@ -13,9 +13,9 @@ use Rattle.js_kind.specs.TokenParts.{TokenParts}
 use Rattle.js_kind.specs.declared.kind.Kind.{Kind}
 use Rattle.js_kind.specs.declared.kind.Kind.TheVariants.{Eof}
 use Rattle.js_grammar.specs.Gap.{is_prefix}
-use Rattle.js_grammar.specs.Goals.{ReadsHere, GoalReads}
+use Rattle.js_grammar.specs.Goals.{ReadsHere, ReadsPlainly, ReadsPart}
 use Rattle.js_grammar.specs.Goals.ReadsHere.{spelled as spelled_here, recovers}
-use Rattle.js_grammar.specs.Goals.GoalReads.{hashbang as hashbang_read, behind_gap}
+use Rattle.js_grammar.specs.Goals.ReadsPlainly.{hashbang as hashbang_read, behind_gap}
 use Rattle.js_grammar.specs.Hashbang.{begins_hashbang, IsHashbang}
 use Rattle.js_grammar.specs.Number.{begins_number}
 use Rattle.js_grammar.specs.Outcome.{Outcome}
@@ -23,14 +23,19 @@ use Rattle.js_grammar.specs.Name.{begins_name, private_read, no_private_name}
 use Rattle.js_grammar.specs.Recovery.{Reading, recovered, recovered_character, is_control_or_wide, private_reading}
 use Rattle.js_grammar.specs.Spelling.{Spelling}
 use Rattle.js_grammar.specs.declared.goal.Goal.{Goal}
-use Rattle.js_grammar.specs.declared.goal.Goal.TheVariants.{First, Next}
+use Rattle.js_grammar.specs.declared.goal.Goal.TheVariants.{First, Next, TemplateTail as TailGoal}
+use Rattle.js_grammar.specs.declared.goal.Goal.TheVariants.{RegularExpression, RightAngle, TypeScriptLeftAngle}
+use Rattle.js_grammar.specs.declared.goal.Goal.TheVariants.{TypeScriptRightAngle, JsxIdentifier, JsxChild}
+use Rattle.js_grammar.specs.declared.goal.Goal.TheVariants.{JsxAttributeValue}
 use Rattle.js_grammar.specs.Spelling.Spelling.{name, private_name, punctuator, number, string, template}
 use Rattle.js_grammar.specs.Spelling.Spelling.{end_of_source}
 use Rattle.js_grammar.specs.Quoted.{begins_quoted}
 use Rattle.js_text.specs.Ascii.{grave_accent}
 use Rattle.js_grammar.proofs.StringLaws.{string_has_characters}
 use Rattle.js_grammar.proofs.TemplateLaws.{template_begins}
-use Rattle.js_grammar.proofs.StringSpans.{quoted_characters}
+use Rattle.js_grammar.proofs.StringSpans.{quoted_characters, part_characters}
+use Rattle.js_grammar.specs.UnicodeEscape.{right_curly_bracket}
+use Rattle.js_kind.specs.declared.kind.Kind.TheVariants.{TemplateMiddle, TemplateTail}
 use Rattle.js_grammar.proofs.NameLaws.{name_characters}
 use Rattle.js_grammar.proofs.NumberBegins.{number_begins}
 use Rattle.js_grammar.proofs.NumberItems.{true_or_false}
@@ -64,7 +69,7 @@ spelling_has_text t line_has_ended xs ys k (template is) some e =
 spelling_has_text t line_has_ended xs ys k (end_of_source none end kind) some e = some kind
 
 -- a place from which these characters lead to another is not behind it, and before it where there are any
-leads : (text : List ℕ) (p q : ℕ) (xs : List ℕ) → IsUtf8 text → IsCharBoundary text p → IsCharBoundary text q
+pub leads : (text : List ℕ) (p q : ℕ) (xs : List ℕ) → IsUtf8 text → IsCharBoundary text p → IsCharBoundary text q
     → from_place text p ≡ xs ++ from_place text q → (p ≤ q) × (xs ≢ [] → p < q)
 leads text p q xs u b d e =
     let past = place_past text p q xs u b d e in
@@ -155,6 +160,14 @@ hashbang_start : (goal : Goal) (text : List ℕ) (place : ℕ) → begins_hashba
 hashbang_start First text zero e = e
 hashbang_start First text (suc place) e = absurd (cc)
 hashbang_start Next text place e = absurd (cc)
+hashbang_start TailGoal text place e = absurd (cc)
+hashbang_start RegularExpression text place e = absurd (cc)
+hashbang_start RightAngle text place e = absurd (cc)
+hashbang_start TypeScriptLeftAngle text place e = absurd (cc)
+hashbang_start TypeScriptRightAngle text place e = absurd (cc)
+hashbang_start JsxIdentifier text place e = absurd (cc)
+hashbang_start JsxChild text place e = absurd (cc)
+hashbang_start JsxAttributeValue text place e = absurd (cc)
 
 hashbang_span : (text : List ℕ) (token : TokenParts) → IsUtf8 text → is_prefix (codes "#!") (from_place text 0) ≡ true
     → IsHashbang text token → IsSpan token
@@ -176,22 +189,33 @@ hashbang_span text token u e h =
           λ some. subst (λ (n : ℕ). n < token.end) (sym h.start) (way.1 (λ none. cc));
     }
 
--- Each token that is read has a span in order, with a byte at least but for the end of the source.
-pub goal_reads_span : (text : List ℕ) (t : SourceType) (goal : Goal) (before : Option TokenParts) (place : ℕ)
+pub plainly_span : (text : List ℕ) (t : SourceType) (goal : Goal) (before : Option TokenParts) (place : ℕ)
     (o : Outcome) → IsUtf8 text
-    → GoalReads text t goal before place o → IsSpan o.token
-goal_reads_span text t goal before place o u (hashbang_read begins read) =
+    → ReadsPlainly text t goal before place o → IsSpan o.token
+plainly_span text t goal before place o u (hashbang_read begins read) =
     hashbang_span text o.token u (hashbang_start goal text place begins) read.is_hashbang
-goal_reads_span text t goal before place o u (behind_gap begins read) =
+plainly_span text t goal before place o u (behind_gap begins read) =
     let span =
     here_span text t read.line_has_ended o.token.start o.token.end read.reading u read.start read.end read.rest
     read.here in
     record { ordered = span.0; some_text = λ some. span.1 (λ e. some (ap (λ x. x.token.kind) read.outcome_is ∙ e)) }
 
--- and its ends are places
-pub goal_reads_places : (text : List ℕ) (t : SourceType) (goal : Goal) (before : Option TokenParts) (place : ℕ)
+pub plainly_places : (text : List ℕ) (t : SourceType) (goal : Goal) (before : Option TokenParts) (place : ℕ)
     (o : Outcome) → IsUtf8 text
-    → GoalReads text t goal before place o → IsCharBoundary text o.token.start × IsCharBoundary text o.token.end
-goal_reads_places text t goal before place o u (hashbang_read begins read) =
+    → ReadsPlainly text t goal before place o → IsCharBoundary text o.token.start × IsCharBoundary text o.token.end
+plainly_places text t goal before place o u (hashbang_read begins read) =
     (subst (IsCharBoundary text) (sym read.is_hashbang.start) (IsCharBoundary-start text u), read.is_hashbang.end)
-goal_reads_places text t goal before place o u (behind_gap begins read) = (read.start, read.end)
+plainly_places text t goal before place o u (behind_gap begins read) = (read.start, read.end)
+
+-- the next part of a template is characters that are there, one at least
+pub part_span : (text : List ℕ) (start : ℕ) (o : Outcome) → IsUtf8 text → ReadsPart text start o → IsSpan o.token
+part_span text start o u read =
+    let at : o.token.start ≡ start = ap (λ x. x.token.start) read.outcome_is in
+    let taken = part_characters TemplateMiddle TemplateTail right_curly_bracket start read.behind in
+    let way =
+    leads text start o.token.end taken.characters u read.begins read.end
+    (read.here ∙ taken.here ∙ ap (λ ys. taken.characters ++ ys) read.rest) in
+    record {
+      ordered = subst (λ (n : ℕ). n ≤ o.token.end) (sym at) way.0;
+      some_text = λ some. subst (λ (n : ℕ). n < o.token.end) (sym at) (way.1 taken.some);
+    }

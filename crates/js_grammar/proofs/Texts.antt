@@ -2,7 +2,8 @@
 -- `#`.
 use Rattle.std.proofs.Common.{◌≡◌, ℕ, ◌+◌, ◌-◌, ◌<◌, ◌≤◌, Bool, true, false, ◌==◌, List, [], ◌∷◌, ◌++◌}
 use Rattle.std.proofs.Common.{length, drop}
-use Rattle.std.proofs.Common.{refl, sym, ◌∙◌, ap, subst, arith, append_assoc, length-append, Option, None, inl, inr}
+use Rattle.std.proofs.Common.{refl, sym, ◌∙◌, ap, subst, arith, append_assoc, length-append, Option, None, Some, inl}
+use Rattle.std.proofs.Common.{inr}
 use Rattle.std.specs.Prelude.{codes, if◌then◌else◌, IfSome}
 use Rattle.std.specs.Char.{encode_utf8}
 use Rattle.std.specs.Str.{IsUtf8, IsCharBoundary, encode_utf8_all}
@@ -19,10 +20,12 @@ use Rattle.js_kind.specs.declared.kind.Kind.TheVariants.{Eof, NoSubstitutionTemp
 use Rattle.js_kind.specs.declared.kind.Kind.TheVariants.{TemplateHead}
 use Rattle.js_kind.specs.declared.kind.Kind.TheVariants.{HashbangComment, Undetermined}
 use Rattle.js_grammar.specs.Gap.{is_prefix}
-use Rattle.js_grammar.specs.Goals.{ReadsHere, GoalReads}
+use Rattle.js_grammar.specs.Goals.{ReadsHere, ReadsPlainly, ReadsPart, GoalReads, next_part}
 use Rattle.js_grammar.specs.Goals.ReadsHere.{spelled, recovers}
-use Rattle.js_grammar.specs.Goals.GoalReads.{hashbang, behind_gap}
+use Rattle.js_grammar.specs.Goals.ReadsPlainly.{hashbang, behind_gap}
 use Rattle.js_grammar.specs.declared.goal.Goal.{Goal}
+use Rattle.js_kind.specs.declared.kind.Kind.TheVariants.{TemplateMiddle, TemplateTail}
+use Rattle.js_grammar.specs.UnicodeEscape.{right_curly_bracket}
 use Rattle.js_grammar.specs.Outcome.{Outcome}
 use Rattle.js_grammar.specs.Quoted.{begins_quoted, quoted_read}
 use Rattle.js_grammar.specs.Recovery.{Reading, recovered, recovered_character, is_control_or_wide}
@@ -41,10 +44,12 @@ use Rattle.js_kind.proofs.NameKinds.{name_kind-is_identifier_name}
 use Rattle.js_grammar.specs.Name.{name_read, private_read, no_private_name, begins_name}
 use Rattle.js_grammar.specs.Number.{begins_number}
 use Rattle.js_grammar.proofs.NumberItems.{true_or_false}
-use Rattle.js_grammar.proofs.NumberKinds.{number_kind}
+use Rattle.js_grammar.proofs.NumberKinds.{number_kind, unmarked_parts}
 use Rattle.js_grammar.proofs.NumberSound.{first_is}
 use Rattle.js_grammar.proofs.NumberSpans.{number_characters}
-use Rattle.js_grammar.proofs.Spans.{goal_reads_places, goal_reads_span, each_recovery}
+use Rattle.js_grammar.proofs.GoalWays.{Way, goal_reads_places, goal_reads_span, ways}
+use Rattle.js_grammar.proofs.GoalWays.Way.{plainly, part_on, alone}
+use Rattle.js_grammar.proofs.Spans.{each_recovery}
 use Rattle.js_grammar.proofs.StringLaws.{string_here, string_cut, template_cut}
 use Rattle.js_grammar.proofs.StringSteps.{string_terminated, string_unterminated, part_with_tail}
 use Rattle.js_grammar.proofs.StringSteps.{part_with_substitution, part_unterminated}
@@ -62,7 +67,7 @@ pub record Marks (here left : List ℕ) (kind : Kind) : Type 0 where
   pub bytes : length (encode_utf8_all closing) ≡ closing_length kind
 
 -- one ASCII character is one byte
-one_byte : (c : ℕ) → c < 128 → length (encode_utf8_all (c ∷ [])) ≡ 1
+pub one_byte : (c : ℕ) → c < 128 → length (encode_utf8_all (c ∷ [])) ≡ 1
 one_byte c low =
     omega (arith, length-append (encode_utf8 c) [], length-encode c, len_utf8_ascii c low)
 
@@ -89,24 +94,26 @@ string_marks quote inner left is = record {
   bytes = one_byte quote (quote_is_ascii quote is);
 }
 
-tail_marks : (inner left : List ℕ) → Marks (grave_accent ∷ (inner ++ (codes "`" ++ left))) left NoSubstitutionTemplate
-tail_marks inner left = record {
-  opening = grave_accent;
-  ascii = omega arith;
+tail_marks : (opening : ℕ) (kind : Kind) → opening < 128 → closing_length kind ≡ 1 → (inner left : List ℕ)
+    → Marks (opening ∷ (inner ++ (codes "`" ++ left))) left kind
+tail_marks opening kind low one inner left = record {
+  opening = opening;
+  ascii = low;
   inner = inner;
   closing = codes "`";
   here_is = refl;
-  bytes = mark_bytes.0;
+  bytes = mark_bytes.0 ∙ sym one;
 }
 
-head_marks : (inner left : List ℕ) → Marks (grave_accent ∷ (inner ++ (codes "${" ++ left))) left TemplateHead
-head_marks inner left = record {
-  opening = grave_accent;
-  ascii = omega arith;
+head_marks : (opening : ℕ) (kind : Kind) → opening < 128 → closing_length kind ≡ 2 → (inner left : List ℕ)
+    → Marks (opening ∷ (inner ++ (codes "${" ++ left))) left kind
+head_marks opening kind low two inner left = record {
+  opening = opening;
+  ascii = low;
   inner = inner;
   closing = codes "${";
   here_is = refl;
-  bytes = mark_bytes.1;
+  bytes = mark_bytes.1 ∙ sym two;
 }
 
 undetermined_is_unquoted : is_quoted Undetermined ≡ false
@@ -138,32 +145,32 @@ string_read_marks quote start text is quoted =
           (ap (λ r. is_quoted r.kind) (string_unterminated quote start found none) ∙ undetermined_is_unquoted) quoted
     ]
 
-part_read_marks : (start : ℕ) (text : List ℕ)
-    → is_quoted (template_part_read TemplateHead NoSubstitutionTemplate start text).kind ≡ true
-    → Marks (grave_accent ∷ text) (template_part_read TemplateHead NoSubstitutionTemplate start text).rest
-    (template_part_read TemplateHead NoSubstitutionTemplate start text).kind
-part_read_marks start text quoted =
+part_read_marks : (substitute tail : Kind) (opening : ℕ) → opening < 128 → closing_length substitute ≡ 2
+    → closing_length tail ≡ 1 → (start : ℕ) (text : List ℕ)
+    → is_quoted (template_part_read substitute tail start text).kind ≡ true
+    → Marks (opening ∷ text) (template_part_read substitute tail start text).rest
+    (template_part_read substitute tail start text).kind
+part_read_marks substitute tail opening low two one start text quoted =
     let found = template_items text in
     let inner = string_text found.items in
     elim (true_or_false (begins (λ c. c == grave_accent) found.rest)) [
       | inl is ↦ (
           let whole : text ≡ inner ++ (codes "`" ++ drop 1 found.rest) =
           sym (template_cut text) ∙ ap (λ cs. inner ++ cs) (first_is grave_accent found.rest is) in
-          rw (part_with_tail TemplateHead NoSubstitutionTemplate start found is)
-          (subst (λ cs. Marks (grave_accent ∷ cs) (drop 1 found.rest) NoSubstitutionTemplate) (sym whole)
-          (tail_marks inner (drop 1 found.rest))))
+          rw (part_with_tail substitute tail start found is)
+          (subst (λ cs. Marks (opening ∷ cs) (drop 1 found.rest) tail) (sym whole)
+          (tail_marks opening tail low one inner (drop 1 found.rest))))
       | inr none ↦
           elim (true_or_false (is_prefix (codes "${") found.rest)) [
             | inl begun ↦ (
                 let whole : text ≡ inner ++ (codes "${" ++ drop 2 found.rest) =
                 sym (template_cut text) ∙ ap (λ cs. inner ++ cs) (prefix_is (codes "${") found.rest begun) in
-                rw (part_with_substitution TemplateHead NoSubstitutionTemplate start found none begun)
-                (subst (λ cs. Marks (grave_accent ∷ cs) (drop 2 found.rest) TemplateHead) (sym whole)
-                (head_marks inner (drop 2 found.rest))))
+                rw (part_with_substitution substitute tail start found none begun)
+                (subst (λ cs. Marks (opening ∷ cs) (drop 2 found.rest) substitute) (sym whole)
+                (head_marks opening substitute low two inner (drop 2 found.rest))))
             | inr other ↦
-                not_quoted (template_part_read TemplateHead NoSubstitutionTemplate start text).kind
-                (ap (λ r. is_quoted r.kind)
-                (part_unterminated TemplateHead NoSubstitutionTemplate start found none other)
+                not_quoted (template_part_read substitute tail start text).kind
+                (ap (λ r. is_quoted r.kind) (part_unterminated substitute tail start found none other)
                 ∙ undetermined_is_unquoted) quoted
           ]
     ]
@@ -180,7 +187,8 @@ quoted_read_marks start (c ∷ cs) begun quoted =
           let read = template_part_read TemplateHead NoSubstitutionTemplate start cs in
           rw other
           (subst (λ (d : ℕ). Marks (d ∷ cs) read.rest read.kind) (sym grave)
-          (part_read_marks start cs (rw other at quoted))))
+          (part_read_marks TemplateHead NoSubstitutionTemplate grave_accent (omega arith) refl refl start cs
+          (rw other at quoted))))
     ]
 
 -- and so do spellings
@@ -194,13 +202,15 @@ spelled_marks t line_has_ended xs ys kind (private_name named is follows same ki
 spelled_marks t line_has_ended xs ys kind (punctuator p i same allowed kind_is) quoted =
     not_quoted kind (none_of_them kind (punctuator_unflagged p kind i kind_is).no_value).no_quoted quoted
 spelled_marks t line_has_ended xs ys kind (number is follows) quoted =
-    not_quoted kind (none_of_them kind (number_kind xs kind is).no_value).no_quoted quoted
+    not_quoted kind (none_of_them kind (unmarked_parts kind (number_kind xs kind is).unmarked).0).no_quoted quoted
 spelled_marks t line_has_ended xs ys kind (string is kind_is) quoted =
     rw (kind_is, string_here xs ys is) (string_marks is.quote (string_text is.items) ys is.is_quote)
 spelled_marks t line_has_ended xs ys kind (template (no_substitution part kind_is)) quoted =
-    rw (kind_is, part_here grave_accent (codes "`") xs ys part) (tail_marks (string_text part.items) ys)
+    rw (kind_is, part_here grave_accent (codes "`") xs ys part) (tail_marks grave_accent NoSubstitutionTemplate
+    (omega arith) refl (string_text part.items) ys)
 spelled_marks t line_has_ended xs ys kind (template (head part kind_is)) quoted =
-    rw (kind_is, part_here grave_accent (codes "${") xs ys part) (head_marks (string_text part.items) ys)
+    rw (kind_is, part_here grave_accent (codes "${") xs ys part) (head_marks grave_accent TemplateHead
+    (omega arith) refl (string_text part.items) ys)
 spelled_marks t line_has_ended xs ys kind (end_of_source none at_end kind_is) quoted =
     not_quoted kind (ap is_quoted kind_is ∙ (none_of_them Eof end_unflagged.no_value).no_quoted) quoted
 
@@ -228,7 +238,8 @@ recovered_marks line_has_ended place here =
     (λ _. not_quoted (private_read (place + 1) (drop 1 here)).kind
     (private_read_is_unquoted (place + 1) (drop 1 here)))
     (each_recovery (HasMarks here) (begins_number here) _ _
-    (λ begun. not_quoted _ (none_of_them _ (number_characters place here begun).no_value).no_quoted)
+    (λ begun. not_quoted _ (none_of_them _ (unmarked_parts _
+    (number_characters place here begun).unmarked).0).no_quoted)
     (each_recovery (HasMarks here) (begins begins_quoted here) _ _
     (λ begun quoted. quoted_read_marks place here begun quoted)
     (each_recovery (HasMarks here) (begins (λ c. c == 0xFFFD) here) _ _ (λ _. not_quoted Eof end_is_unquoted)
@@ -293,6 +304,49 @@ past_mark text start u b e =
     subst (λ n. IsCharBoundary text (start + n)) (one_byte number_sign (omega arith))
     (past_characters text start (number_sign ∷ []) cs u b (first_is number_sign (from_place text start) e))
 
+-- what a plain reading gives of a string or a template stands between marks
+plainly_marks : (text : List ℕ) (t : SourceType) (goal : Goal) (before : Option TokenParts) (place : ℕ) (o : Outcome)
+    → ReadsPlainly text t goal before place o → is_quoted o.token.kind ≡ true
+    → Marks (from_place text o.token.start) (from_place text o.token.end) o.token.kind
+plainly_marks text t goal before place o (hashbang begun read) quoted =
+    not_quoted o.token.kind
+    (ap is_quoted read.is_hashbang.kind ∙ (none_of_them HashbangComment hashbang_is_valueless).no_quoted) quoted
+plainly_marks text t goal before place o (behind_gap begun read) quoted =
+    let kind : o.token.kind ≡ read.reading.kind = ap (λ x. x.token.kind) read.outcome_is in
+    let there =
+    here_marks t read.line_has_ended o.token.start (from_place text o.token.start) read.reading read.here
+    (ap is_quoted (sym kind) ∙ quoted) in
+    subst (λ k. Marks (from_place text o.token.start) (from_place text o.token.end) k) (sym kind)
+    (subst (λ left. Marks (from_place text o.token.start) left read.reading.kind) read.rest there)
+
+-- and so does the next part of a template
+part_marks : (text : List ℕ) (start : ℕ) (o : Outcome) → ReadsPart text start o → is_quoted o.token.kind ≡ true
+    → Marks (from_place text o.token.start) (from_place text o.token.end) o.token.kind
+part_marks text start o reads quoted =
+    let kind : o.token.kind ≡ (next_part start reads.behind).kind = ap (λ x. x.token.kind) reads.outcome_is in
+    let at : o.token.start ≡ start = ap (λ x. x.token.start) reads.outcome_is in
+    let there =
+    part_read_marks TemplateMiddle TemplateTail right_curly_bracket (omega arith) refl refl start reads.behind
+    (ap is_quoted (sym kind) ∙ quoted) in
+    subst (λ (n : ℕ). Marks (from_place text n) (from_place text o.token.end) o.token.kind) (sym at)
+    (subst (λ k. Marks (from_place text start) (from_place text o.token.end) k) (sym kind)
+    (subst (λ left. Marks (from_place text start) left (next_part start reads.behind).kind) reads.rest
+    (subst (λ cs. Marks cs (next_part start reads.behind).rest (next_part start reads.behind).kind) (sym reads.here)
+    there)))
+
+goal_reads_marks : (text : List ℕ) (t : SourceType) (goal : Goal) (before : Option TokenParts) (place : ℕ)
+    (o : Outcome) → GoalReads text t goal before place o → is_quoted o.token.kind ≡ true
+    → Marks (from_place text o.token.start) (from_place text o.token.end) o.token.kind
+goal_reads_marks text t goal before place o reads quoted = by_way (ways text t goal before place o reads)
+  where
+    by_way : Way text t before place o → Marks (from_place text o.token.start) (from_place text o.token.end) o.token.kind
+    by_way (plainly goal reads) = plainly_marks text t goal before place o reads quoted
+    by_way (part_on start reads) = part_marks text start o reads quoted
+    by_way (alone took) =
+        let between = took.quotes quoted in
+        rw (between.kind_is, between.here)
+        (string_marks between.quote between.inner (from_place text o.token.end) between.is_quote)
+
 -- The text of a token that is read lies on places.
 pub goal_reads_text : (text : List ℕ) (t : SourceType) (goal : Goal) (before : Option TokenParts) (place : ℕ)
     (o : Outcome) → IsUtf8 text → GoalReads text t goal before place o → HasText text o.token
@@ -302,24 +356,12 @@ goal_reads_text text t goal before place o u reads = by_kind (is_quoted o.token.
     places : IsCharBoundary text o.token.start × IsCharBoundary text o.token.end
     places = goal_reads_places text t goal before place o u reads
 
-    marks : GoalReads text t goal before place o → is_quoted o.token.kind ≡ true
-        → Marks (from_place text o.token.start) (from_place text o.token.end) o.token.kind
-    marks (hashbang begun read) quoted =
-        not_quoted o.token.kind
-        (ap is_quoted read.is_hashbang.kind ∙ (none_of_them HashbangComment hashbang_is_valueless).no_quoted) quoted
-    marks (behind_gap begun read) quoted =
-        let kind : o.token.kind ≡ read.reading.kind = ap (λ x. x.token.kind) read.outcome_is in
-        let there =
-        here_marks t read.line_has_ended o.token.start (from_place text o.token.start) read.reading read.here
-        (ap is_quoted (sym kind) ∙ quoted) in
-        subst (λ k. Marks (from_place text o.token.start) (from_place text o.token.end) k) (sym kind)
-        (subst (λ left. Marks (from_place text o.token.start) left read.reading.kind) read.rest there)
-
     by_kind : (quoted private : Bool) → is_quoted o.token.kind ≡ quoted → is_private_name o.token.kind ≡ private
         → HasText text o.token
     by_kind true private e f =
         let lies =
-        between_marks_lies text o.token.start o.token.end o.token.kind u places.0 places.1 (marks reads e) in
+        between_marks_lies text o.token.start o.token.end o.token.kind u places.0 places.1
+        (goal_reads_marks text t goal before place o reads e) in
         let starts : text_start o.token.kind o.token.start ≡ o.token.start + 1 =
         ap (λ b. if b then o.token.start + 1 else o.token.start)
         (or_right (is_private_name o.token.kind) (is_quoted o.token.kind) e) in

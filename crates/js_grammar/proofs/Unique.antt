@@ -6,22 +6,36 @@ use Rattle.std.specs.List.{list_all}
 use Rattle.std.specs.Str.{IsCharBoundary, IsUtf8, bytes_eq}
 use Rattle.std.proofs.lemmas.Bool.{eqb-true}
 use Rattle.js_text.specs.Ascii.{number_sign}
-use Rattle.js_text.specs.Characters.{from_place, begins}
+use Rattle.js_text.specs.Characters.{from_place, from_first, begins}
 use Rattle.js_text.specs.declared.source_type.SourceType.{SourceType}
 use Rattle.js_text.proofs.TextLemmas.{place_unique}
 use Rattle.js_kind.specs.Kinds.{number}
 use Rattle.js_kind.specs.TokenParts.{TokenParts}
 use Rattle.js_kind.proofs.KindNumbers.{number_injective}
 use Rattle.js_kind.specs.declared.kind.Kind.{Kind}
-use Rattle.js_grammar.specs.Goals.{ReadsHere, ReadsBehindGap, ReadsHashbang, GoalReads, spelled_reading, outcome_behind}
+use Rattle.js_grammar.specs.Goals.{ReadsHere, ReadsBehindGap, ReadsHashbang, ReadsPlainly, ReadsPart, GoalReads}
+use Rattle.js_grammar.specs.Goals.{spelled_reading, outcome_behind}
 use Rattle.js_grammar.specs.Goals.{token_alone, line_has_ended_behind}
 use Rattle.js_grammar.specs.Goals.ReadsHere.{spelled as spelled_here, recovers}
-use Rattle.js_grammar.specs.Goals.GoalReads.{hashbang as hashbang_read, behind_gap}
+use Rattle.js_grammar.specs.Goals.ReadsPlainly.{hashbang as hashbang_read, behind_gap}
 use Rattle.js_grammar.specs.Hashbang.{IsHashbang}
 use Rattle.js_grammar.specs.Name.{begins_name}
 use Rattle.js_grammar.specs.Number.{begins_number}
-use Rattle.js_grammar.specs.Outcome.{Outcome}
+use Rattle.js_grammar.specs.Outcome.{Outcome, gap_findings, joined}
 use Rattle.js_grammar.specs.declared.goal.Goal.{Goal}
+use Rattle.js_grammar.specs.declared.goal.Goal.TheVariants.{First, Next, TemplateTail as TailGoal}
+use Rattle.js_grammar.specs.declared.goal.Goal.TheVariants.{RegularExpression, RightAngle, TypeScriptLeftAngle}
+use Rattle.js_grammar.specs.declared.goal.Goal.TheVariants.{TypeScriptRightAngle, JsxIdentifier, JsxChild}
+use Rattle.js_grammar.specs.declared.goal.Goal.TheVariants.{JsxAttributeValue}
+use Rattle.js_grammar.specs.Angle.{angle_read, right_angles, first_left_angle, first_right_angle}
+use Rattle.js_grammar.specs.Gap.{Piece}
+use Rattle.js_grammar.specs.GoalRead.{GoalRead}
+use Rattle.js_grammar.specs.Goals.{ReadsAgain, ReadsAngle, ReadsAttributeString, ReadsAttributeValue, ReadsExpression}
+use Rattle.js_grammar.specs.Goals.{ReadsFrom, ReadsJsxName, ReadsOn, read_outcome}
+use Rattle.js_grammar.specs.Goals.ReadsAttributeValue.{string as attribute_string, plain}
+use Rattle.js_grammar.specs.Jsx.{jsx_child_read, jsx_name_read, jsx_string_before, jsx_string_read}
+use Rattle.js_grammar.specs.RegularExpression.{regular_expression_read}
+use Rattle.js_grammar.specs.Goals.{next_part, part_outcome}
 use Rattle.js_grammar.specs.Punctuators.{Punctuator, punctuators, IsIn}
 use Rattle.js_grammar.specs.Reads.{IsSpelled, PlainReads, SameReading}
 use Rattle.js_grammar.specs.Reads.PlainReads.{hashbang, spelled}
@@ -237,11 +251,13 @@ reading_unique t line_has_ended place here r s (recovers nothing e) (spelled_her
 reading_unique t line_has_ended place here r s (recovers nothing e) (recovers nothing' f) =
     let same : Some r ≡ Some s = sym e ∙ f in cc
 
-behind_gap_unique : (text : List ℕ) (t : SourceType) (line_has_ended : Bool) (place : ℕ) (a b : Outcome) → IsUtf8 text
-    → ReadsBehindGap text t line_has_ended place a → ReadsBehindGap text t line_has_ended place b → a ≡ b
-behind_gap_unique text t line_has_ended place a b utf8 h g =
+behind_gap_unique : (text : List ℕ) (t : SourceType) (before : Option TokenParts) (place : ℕ) (a b : Outcome)
+    → IsUtf8 text
+    → ReadsBehindGap text t before place a → ReadsBehindGap text t before place b → a ≡ b
+behind_gap_unique text t before place a b utf8 h g =
     let gaps =
-    whole_gap_unique t line_has_ended (from_place text place) h.pieces g.pieces h.line_has_ended g.line_has_ended
+    whole_gap_unique t (line_has_ended_behind before) (from_place text place) h.pieces g.pieces h.line_has_ended
+    g.line_has_ended
     (from_place text a.token.start) (from_place text b.token.start) h.gap g.gap in
     let start : a.token.start ≡ b.token.start = place_unique text _ _ utf8 h.start g.start gaps.2 in
     let there : ReadsHere t h.line_has_ended a.token.start (from_place text a.token.start) g.reading =
@@ -252,10 +268,10 @@ behind_gap_unique text t line_has_ended place a b utf8 h g =
     (from_place text a.token.start) h.reading g.reading h.here there in
     let end : a.token.end ≡ b.token.end =
     place_unique text _ _ utf8 h.end g.end (sym h.rest ∙ ap (λ r. r.rest) reading ∙ g.rest) in
-    h.outcome_is ∙ ap (λ ps. outcome_behind place ps a.token.start a.token.end h.reading) gaps.0
-    ∙ ap (λ p. outcome_behind place g.pieces p a.token.end h.reading) start
-    ∙ ap (λ p. outcome_behind place g.pieces b.token.start p h.reading) end
-    ∙ ap (outcome_behind place g.pieces b.token.start b.token.end) reading ∙ sym g.outcome_is
+    h.outcome_is ∙ ap (λ ps. outcome_behind t before place ps a.token.start a.token.end h.reading) gaps.0
+    ∙ ap (λ p. outcome_behind t before place g.pieces p a.token.end h.reading) start
+    ∙ ap (λ p. outcome_behind t before place g.pieces b.token.start p h.reading) end
+    ∙ ap (outcome_behind t before place g.pieces b.token.start b.token.end) reading ∙ sym g.outcome_is
 
 hashbang_outcome_unique : (text : List ℕ) (line_has_ended : Bool) (a b : Outcome) → IsUtf8 text
     → ReadsHashbang text line_has_ended a → ReadsHashbang text line_has_ended b → a ≡ b
@@ -275,13 +291,139 @@ hashbang_outcome_unique text line_has_ended a b utf8 h g =
     ) refl in
     h.alone ∙ ap token_alone tokens ∙ sym g.alone
 
+plainly_unique : (text : List ℕ) (t : SourceType) (goal : Goal) (before : Option TokenParts) (place : ℕ)
+    (a b : Outcome) → IsUtf8 text
+    → ReadsPlainly text t goal before place a → ReadsPlainly text t goal before place b → a ≡ b
+plainly_unique text t goal before place a b utf8 (hashbang_read x h) (hashbang_read y g) =
+    hashbang_outcome_unique text (line_has_ended_behind before) a b utf8 h g
+plainly_unique text t goal before place a b utf8 (hashbang_read x h) (behind_gap y g) = absurd (cc)
+plainly_unique text t goal before place a b utf8 (behind_gap x h) (hashbang_read y g) = absurd (cc)
+plainly_unique text t goal before place a b utf8 (behind_gap x h) (behind_gap y g) =
+    behind_gap_unique text t before place a b utf8 h g
+
+-- the next part of a template is one
+part_unique : (text : List ℕ) (start : ℕ) (a b : Outcome) → IsUtf8 text → ReadsPart text start a
+    → ReadsPart text start b → a ≡ b
+part_unique text start a b utf8 h g =
+    let behind : h.behind ≡ g.behind = ap (drop 1) (sym h.here ∙ g.here) in
+    let read = ap (next_part start) behind in
+    let end : a.token.end ≡ b.token.end =
+    place_unique text a.token.end b.token.end utf8 h.end g.end (sym h.rest ∙ ap (λ r. r.rest) read ∙ g.rest) in
+    h.outcome_is ∙ ap (λ p. part_outcome start p (next_part start h.behind)) end
+    ∙ ap (part_outcome start b.token.end) read ∙ sym g.outcome_is
+
+-- a token without an escape is one
+from_unique : (text : List ℕ) (line_has_ended : Bool) (start : ℕ) (read : Option GoalRead) (a b : Outcome) → IsUtf8 text
+    → ReadsFrom text line_has_ended start read a → ReadsFrom text line_has_ended start read b → a ≡ b
+from_unique text line_has_ended start read a b utf8 h g =
+    let both : Some h.found ≡ Some g.found = sym h.read_is ∙ g.read_is in
+    let found : h.found ≡ g.found = cc in
+    let end : a.token.end ≡ b.token.end =
+    place_unique text a.token.end b.token.end utf8 h.end g.end (sym h.rest ∙ ap (λ r. r.rest) found ∙ g.rest) in
+    h.outcome_is ∙ ap (λ p. read_outcome line_has_ended start p h.found) end
+    ∙ ap (read_outcome line_has_ended start b.token.end) found ∙ sym g.outcome_is
+
+again_unique : (reads : ℕ → Outcome → Type 0) → ((start : ℕ) (a b : Outcome) → reads start a → reads start b → a ≡ b)
+    → (before : Option TokenParts) (a b : Outcome) → ReadsAgain reads before a → ReadsAgain reads before b → a ≡ b
+again_unique reads one None a b h g = absurd h
+again_unique reads one (Some token) a b h g = one token.start a b h g
+
+angle_unique : (text : List ℕ) (kinds : List Kind) (before : Option TokenParts) (a b : Outcome) → IsUtf8 text
+    → ReadsAgain (ReadsAngle text kinds) before a → ReadsAgain (ReadsAngle text kinds) before b → a ≡ b
+angle_unique text kinds before a b utf8 h g =
+    again_unique (ReadsAngle text kinds)
+    (λ start c d. from_unique text false start (angle_read kinds (from_place text start)) c d utf8) before a b h g
+
+jsx_name_unique : (text : List ℕ) (before : Option TokenParts) (a b : Outcome) → IsUtf8 text
+    → ReadsOn (ReadsJsxName text) before a → ReadsOn (ReadsJsxName text) before b → a ≡ b
+jsx_name_unique text None a b utf8 h g = absurd h
+jsx_name_unique text (Some token) a b utf8 h g =
+    from_unique text false token.start (jsx_name_read (from_place text token.end)) a b utf8 h.reads g.reads
+
+-- the value of an attribute begins at one place
+attribute_string_unique : (text : List ℕ) (t : SourceType) (before : Option TokenParts) (place : ℕ) (a b : Outcome)
+    → IsUtf8 text → ReadsAttributeString text t before place a
+    → ReadsAttributeString text t before place b → a ≡ b
+attribute_string_unique text t before place a b utf8 h g =
+    let gaps =
+    whole_gap_unique t (line_has_ended_behind before) (from_place text place) h.pieces g.pieces h.line_has_ended
+    g.line_has_ended
+    (from_place text a.token.start) (from_place text b.token.start) h.gap g.gap in
+    let start : a.token.start ≡ b.token.start =
+    place_unique text _ _ utf8 h.reads.begins g.reads.begins gaps.2 in
+    let there : ReadsFrom text h.line_has_ended a.token.start
+    (jsx_string_read a.token.start (from_place text a.token.start)) g.string =
+    subst (λ e. ReadsFrom text e a.token.start (jsx_string_read a.token.start (from_place text a.token.start)) g.string)
+    (sym gaps.1)
+    (subst (λ p. ReadsFrom text g.line_has_ended p (jsx_string_read p (from_place text p)) g.string) (sym start)
+    g.reads) in
+    let string : h.string ≡ g.string =
+    from_unique text h.line_has_ended a.token.start (jsx_string_read a.token.start (from_place text a.token.start))
+    h.string g.string utf8 h.reads there in
+    h.outcome_is
+    ∙ ap
+    (λ (ps : List Piece). record h.string {
+      findings = joined (gap_findings t before place ps h.string.token) h.string.findings;
+    }) gaps.0
+    ∙ ap
+    (λ (o : Outcome). record o { findings = joined (gap_findings t before place g.pieces o.token) o.findings }) string
+    ∙ sym g.outcome_is
+
+-- a string of an attribute begins with a quote
+string_begins : (start : ℕ) (here : List ℕ) (found : GoalRead) → jsx_string_read start here ≡ Some found
+    → begins is_quote here ≡ true
+string_begins start [] found e = absurd (cc)
+string_begins start (c ∷ cs) found e =
+    elim (true_or_false (is_quote c)) [
+      | inl is ↦ is
+      | inr none ↦ absurd (let no : None ≡ Some found = sym (ap (pick c cs) none) ∙ e in cc)
+    ]
+  where
+    pick : ℕ → List ℕ → Bool → Option GoalRead
+    pick c cs b = if b then Some (jsx_string_before start (c ∷ cs) (from_first (λ d. d == c) cs)) else None
+
+no_string_there : (text : List ℕ) (t : SourceType) (before : Option TokenParts) (place : ℕ) (a b : Outcome)
+    → IsUtf8 text → ReadsAttributeString text t before place a
+    → begins is_quote (from_place text b.token.start) ≡ false → ReadsBehindGap text t before place b → a ≡ b
+no_string_there text t before place a b utf8 h none g =
+    let gaps =
+    whole_gap_unique t (line_has_ended_behind before) (from_place text place) h.pieces g.pieces h.line_has_ended
+    g.line_has_ended
+    (from_place text a.token.start) (from_place text b.token.start) h.gap g.gap in
+    let begun = string_begins a.token.start (from_place text a.token.start) h.reads.found h.reads.read_is in
+    absurd (let no : true ≡ false = sym begun ∙ ap (begins is_quote) gaps.2 ∙ none in cc)
+
+attribute_unique : (text : List ℕ) (t : SourceType) (before : Option TokenParts) (place : ℕ) (a b : Outcome) → IsUtf8 text
+    → ReadsAttributeValue text t before place a → ReadsAttributeValue text t before place b → a ≡ b
+attribute_unique text t before place a b utf8 (attribute_string h) (attribute_string g) =
+    attribute_string_unique text t before place a b utf8 h g
+attribute_unique text t before place a b utf8 (attribute_string h) (plain none g) =
+    no_string_there text t before place a b utf8 h none g
+attribute_unique text t before place a b utf8 (plain none h) (attribute_string g) =
+    sym (no_string_there text t before place b a utf8 g none h)
+attribute_unique text t before place a b utf8 (plain x h) (plain y g) =
+    behind_gap_unique text t before place a b utf8 h g
+
 -- A reading is one.
 pub goal_reads_unique : (text : List ℕ) (t : SourceType) (goal : Goal) (before : Option TokenParts) (place : ℕ)
     (a b : Outcome) → IsUtf8 text
     → GoalReads text t goal before place a → GoalReads text t goal before place b → a ≡ b
-goal_reads_unique text t goal before place a b utf8 (hashbang_read x h) (hashbang_read y g) =
-    hashbang_outcome_unique text (line_has_ended_behind before) a b utf8 h g
-goal_reads_unique text t goal before place a b utf8 (hashbang_read x h) (behind_gap y g) = absurd (cc)
-goal_reads_unique text t goal before place a b utf8 (behind_gap x h) (hashbang_read y g) = absurd (cc)
-goal_reads_unique text t goal before place a b utf8 (behind_gap x h) (behind_gap y g) =
-    behind_gap_unique text t (line_has_ended_behind before) place a b utf8 h g
+goal_reads_unique text t First before place a b utf8 h g = plainly_unique text t First before place a b utf8 h g
+goal_reads_unique text t Next before place a b utf8 h g = plainly_unique text t Next before place a b utf8 h g
+goal_reads_unique text t TailGoal before place a b utf8 h g =
+    again_unique (ReadsPart text) (λ start c d. part_unique text start c d utf8) before a b h g
+goal_reads_unique text t RegularExpression before place a b utf8 h g =
+    again_unique (ReadsExpression text)
+    (λ start c d. from_unique text false start (regular_expression_read start (from_place text start)) c d utf8)
+    before a b h g
+goal_reads_unique text t RightAngle before place a b utf8 h g = angle_unique text right_angles before a b utf8 h g
+goal_reads_unique text t TypeScriptLeftAngle before place a b utf8 h g =
+    angle_unique text first_left_angle before a b utf8 h g
+goal_reads_unique text t TypeScriptRightAngle before place a b utf8 h g =
+    angle_unique text first_right_angle before a b utf8 h g
+goal_reads_unique text t JsxIdentifier before place a b utf8 h g = jsx_name_unique text before a b utf8 h g
+goal_reads_unique text t JsxChild before place a b utf8 h g =
+    from_unique text (line_has_ended_behind before) place (Some (jsx_child_read place (from_place text place))) a b utf8
+    h g
+goal_reads_unique text t JsxAttributeValue before place a b utf8 h g =
+    attribute_unique text t before place a b utf8 h g

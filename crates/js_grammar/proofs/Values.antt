@@ -1,7 +1,7 @@
 -- The values of what is read: as the kind and the span of its token say, or as its name stands for.
 use Rattle.std.proofs.Common.{◌≡◌, ◌≢◌, ℕ, ◌+◌, Bool, true, false, not, ◌==◌, List, [], ◌∷◌, ◌++◌, drop, refl}
 use Rattle.std.proofs.Common.{sym, ◌∙◌}
-use Rattle.std.proofs.Common.{ap, subst, Option, None, inl, inr}
+use Rattle.std.proofs.Common.{ap, subst, Option, None, Some, inl, inr}
 use Rattle.std.specs.Prelude.{codes, if◌then◌else◌, IfSome, unwrap_or}
 use Rattle.std.specs.List.{list_all}
 use Rattle.std.specs.Str.{IsCharBoundary, IsUtf8, encode_utf8_all}
@@ -22,9 +22,9 @@ use Rattle.js_kind.specs.declared.kind.Kind.TheVariants.{Eof, HashbangComment, I
 use Rattle.js_kind.specs.declared.kind.Kind.TheVariants.{NoSubstitutionTemplate, Str, TemplateHead, Undetermined}
 use Rattle.js_kind.proofs.NameKinds.{name_kind-is_identifier_name}
 use Rattle.js_grammar.specs.Gap.{is_prefix}
-use Rattle.js_grammar.specs.Goals.{ReadsHere, GoalReads}
+use Rattle.js_grammar.specs.Goals.{ReadsHere, ReadsPlainly, ReadsPart, GoalReads, next_part}
 use Rattle.js_grammar.specs.Goals.ReadsHere.{spelled, recovers}
-use Rattle.js_grammar.specs.Goals.GoalReads.{hashbang, behind_gap}
+use Rattle.js_grammar.specs.Goals.ReadsPlainly.{hashbang, behind_gap}
 use Rattle.js_grammar.specs.Name.{IsName, NameRead, PrivateRead, name_read, items_read, private_read, no_private_name}
 use Rattle.js_grammar.specs.Name.{begins_name, named, continues_name, decoded, has_escape}
 use Rattle.js_grammar.specs.Number.{begins_number}
@@ -46,6 +46,11 @@ use Rattle.js_grammar.specs.Template.{IsTemplatePart, template_part_read, templa
 use Rattle.js_grammar.specs.Template.IsTemplatePart.{no_substitution, head}
 use Rattle.js_grammar.specs.Values.{plain_value, decoded_units, decoded_value, template_row_value, IsValueOf}
 use Rattle.js_grammar.specs.declared.goal.Goal.{Goal}
+use Rattle.js_kind.specs.declared.kind.Kind.TheVariants.{TemplateMiddle, TemplateTail}
+use Rattle.js_grammar.specs.Values.{template_units}
+use Rattle.js_grammar.proofs.QuotedValues.{part_read_is, part_stands_behind_mark, part_kind_is}
+use Rattle.js_grammar.proofs.GoalWays.{Way, ways}
+use Rattle.js_grammar.proofs.GoalWays.Way.{plainly, part_on, alone}
 use Rattle.js_grammar.proofs.Flags.{has_no_plain_value, has_no_escape, none_of_them, neither_quoted}
 use Rattle.js_grammar.proofs.Flags.{name_is_unquoted, private_name_is_unquoted, name_escape, private_escape}
 use Rattle.js_grammar.proofs.Flags.{punctuator_unflagged, end_unflagged}
@@ -56,7 +61,7 @@ use Rattle.js_grammar.proofs.StringBegins.{quoted_begins_no_named, quote_is_quot
 use Rattle.js_grammar.proofs.StringSteps.{string_terminated, string_unterminated, good_ones}
 use Rattle.js_grammar.proofs.NameReadings.{faulty_name_reports, faulty_private_reports}
 use Rattle.js_grammar.proofs.NameLaws.{name_is_read, name_has_fault_only_escaped}
-use Rattle.js_grammar.proofs.NumberKinds.{number_kind}
+use Rattle.js_grammar.proofs.NumberKinds.{number_kind, unmarked_parts}
 use Rattle.js_grammar.proofs.NumberItems.{true_or_false}
 use Rattle.js_grammar.proofs.NumberSound.{first_is}
 use Rattle.js_grammar.proofs.NumberSpans.{number_characters}
@@ -313,7 +318,7 @@ spelling_value t line_has_ended xs ys kind start end (private_name named is foll
 spelling_value t line_has_ended xs ys kind start end (punctuator p i same allowed kind_is) =
     unvalued_spelling kind xs ys (xs ++ ys) start end (punctuator_unflagged p kind i kind_is).no_value
 spelling_value t line_has_ended xs ys kind start end (number is follows) =
-    unvalued_spelling kind xs ys (xs ++ ys) start end (number_kind xs kind is).no_value
+    unvalued_spelling kind xs ys (xs ++ ys) start end (unmarked_parts kind (number_kind xs kind is).unmarked).0
 spelling_value t line_has_ended xs ys kind start end (string is kind_is) =
     rw kind_is (value_of_string xs ys start end is)
 spelling_value t line_has_ended xs ys kind start end (template is) = value_of_template xs ys kind start end is
@@ -438,7 +443,8 @@ recovered_value t end line_has_ended place here nothing =
     (each_recovery (HasValueAt place end here) (begins (λ c. c == number_sign) here) _ _
     (λ begun. private (drop 1 here) (first_is number_sign here begun))
     (each_recovery (HasValueAt place end here) (begins_number here) _ _
-    (λ begun. no_value (number_read place here).kind place end here (number_characters place here begun).no_value)
+    (λ begun. no_value (number_read place here).kind place end here (unmarked_parts _
+    (number_characters place here begun).unmarked).0)
     (each_recovery (HasValueAt place end here) (begins begins_quoted here) _ _
     (λ begun. quoted_at place end line_has_ended here begun
     (faulty_quoted_reports t line_has_ended place here begun nothing))
@@ -481,18 +487,17 @@ here_value text t line_has_ended start end r u b d rest (recovers nothing e) =
     subst (λ found. IfSome found (HasValueAt start end (from_place text start))) e
     (recovered_value t end line_has_ended start (from_place text start) nothing)
 
--- The value of a reading is that of its token.
-pub goal_reads_value : (text : List ℕ) (t : SourceType) (goal : Goal) (before : Option TokenParts) (place : ℕ)
+plainly_value : (text : List ℕ) (t : SourceType) (goal : Goal) (before : Option TokenParts) (place : ℕ)
     (o : Outcome) → IsUtf8 text
-    → GoalReads text t goal before place o → IsValueOf text o.token o.value
-goal_reads_value text t goal before place o u (hashbang begun read) =
+    → ReadsPlainly text t goal before place o → IsValueOf text o.token o.value
+plainly_value text t goal before place o u (hashbang begun read) =
     let nothing : o.value ≡ Nothing = ap (λ x. x.value) read.alone in
     let none : is_valued o.token.kind ≡ false = ap is_valued read.is_hashbang.kind ∙ faulty_kinds.2 in
     record {
       plain = λ _. nothing ∙ sym (has_no_plain_value o.token.kind o.token.start o.token.end none);
       decoded = λ e. (let no : true ≡ false = sym e ∙ read.escaped in cc);
     }
-goal_reads_value text t goal before place o u (behind_gap begun read) =
+plainly_value text t goal before place o u (behind_gap begun read) =
     let value =
     here_value text t read.line_has_ended o.token.start o.token.end read.reading u read.start read.end read.rest
     read.here in
@@ -505,6 +510,63 @@ goal_reads_value text t goal before place o u (behind_gap begun read) =
           ∙ ap (λ k. plain_value k o.token.start o.token.end) (sym kind);
       decoded = λ e. is ∙ value.1 (sym escaped ∙ e)
           ∙ ap (λ k. decoded_value k (from_place text o.token.start)) (sym kind);
+    }
+
+next_part_kinds : (is_template_kind TemplateMiddle ≡ true) × (is_template_kind TemplateTail ≡ true)
+unfolding is_template_kind
+next_part_kinds = (refl, refl)
+
+-- the value of the next part of a template
+part_value : (text : List ℕ) (start : ℕ) (o : Outcome) → ReadsPart text start o → IsValueOf text o.token o.value
+part_value text start o reads =
+    let read = next_part start reads.behind in
+    let is = part_read_is TemplateMiddle TemplateTail next_part_kinds.0 next_part_kinds.1 start reads.behind in
+    let same = reads.outcome_is in
+    let at : o.token.start ≡ start = ap (λ x. x.token.start) same in
+    let kind : o.token.kind ≡ read.kind = ap (λ x. x.token.kind) same in
+    let escaped : o.token.escaped ≡ read.escaped = ap (λ x. x.token.escaped) same in
+    let value : o.value ≡ (if read.escaped then row_value read.value else plain_value read.kind start o.token.end) =
+    ap (λ x. x.value) same in
+    record {
+      plain = λ e. value
+          ∙ ap (λ b. if b then row_value read.value else plain_value read.kind start o.token.end) (sym escaped ∙ e)
+          ∙ ap (λ k. plain_value k start o.token.end) (sym kind)
+          ∙ ap (λ n. plain_value o.token.kind n o.token.end) (sym at);
+      decoded = λ e.
+          let set = sym escaped ∙ e in
+          let stands : template_units (from_place text start) ≡ units_in read.value =
+          sym (part_stands_behind_mark TemplateMiddle TemplateTail start reads.behind (from_place text start)
+          reads.here) in
+          value
+          ∙ ap (λ b. if b then row_value read.value else plain_value read.kind start o.token.end) set
+          ∙ row_of_value read.value (is.some_value set)
+          ∙ ap template_row_value (sym stands)
+          ∙ ap (λ n. template_row_value (template_units (from_place text n))) (sym at)
+          ∙ sym (decoded_part o.token.kind (from_place text o.token.start)
+          (ap is_template_kind kind ∙ is.template set));
+    }
+  where
+    row_of_value : (v : StringValue) → (v ≡ nothing_read → ⊥) → row_value v ≡ template_row_value (units_in v)
+    row_of_value nothing_read some = absurd (some refl)
+    row_of_value (units us) some = refl
+    row_of_value bad_value some = refl
+
+    decoded_part : (kind : Kind) (here : List ℕ) → is_template_kind kind ≡ true
+        → decoded_value kind here ≡ template_row_value (template_units here)
+    decoded_part kind here is = rw is refl
+
+-- The value of a reading is that of its token.
+pub goal_reads_value : (text : List ℕ) (t : SourceType) (goal : Goal) (before : Option TokenParts) (place : ℕ)
+    (o : Outcome) → IsUtf8 text
+    → GoalReads text t goal before place o → IsValueOf text o.token o.value
+goal_reads_value text t goal before place o u reads = by_way (ways text t goal before place o reads)
+  where
+    by_way : Way text t before place o → IsValueOf text o.token o.value
+    by_way (plainly goal reads) = plainly_value text t goal before place o u reads
+    by_way (part_on start reads) = part_value text start o reads
+    by_way (alone took) = record {
+      plain = λ _. took.value;
+      decoded = λ escaped. absurd (let no : true ≡ false = sym escaped ∙ took.escaped in cc);
     }
 
 pub private_is_not_end : (kind : Kind) → is_private_name kind ≡ true → kind ≢ Eof
@@ -536,7 +598,7 @@ spelled_private t line_has_ended xs ys kind (private_name named is follows same 
 spelled_private t line_has_ended xs ys kind (punctuator p i same allowed kind_is) private =
     no_named_private kind (xs ++ ys) (punctuator_unflagged p kind i kind_is).no_value private
 spelled_private t line_has_ended xs ys kind (number is follows) private =
-    no_named_private kind (xs ++ ys) (number_kind xs kind is).no_value private
+    no_named_private kind (xs ++ ys) (unmarked_parts kind (number_kind xs kind is).unmarked).0 private
 spelled_private t line_has_ended xs ys kind (string is kind_is) private =
     no_private kind (xs ++ ys) (ap is_private_name kind_is ∙ string_kind.1) private
 spelled_private t line_has_ended xs ys kind (template is) private =
@@ -564,7 +626,8 @@ recovered_private_name line_has_ended place here =
     (λ _. name_of_name (name_read place here).decoded here)
     (each_recovery (BeginsPrivate here) (begins (λ c. c == number_sign) here) _ _ (λ begun _. begun)
     (each_recovery (BeginsPrivate here) (begins_number here) _ _
-    (λ begun. no_named_private (number_read place here).kind here (number_characters place here begun).no_value)
+    (λ begun. no_named_private (number_read place here).kind here (unmarked_parts _
+    (number_characters place here begun).unmarked).0)
     (each_recovery (BeginsPrivate here) (begins begins_quoted here) _ _
     (λ begun. no_private (quoted_read place here).kind here (quoted_is_no_private_name place here begun))
     (each_recovery (BeginsPrivate here) (begins (λ c. c == 0xFFFD) here) _ _
@@ -576,15 +639,14 @@ recovered_private_name line_has_ended place here =
         each_recovery (BeginsPrivate here) (is_control_or_wide c) _ None
         (λ _. no_named_private Undetermined here faulty_kinds.1) tt
 
--- A private name begins with a `#`.
-pub private_name_begins : (text : List ℕ) (t : SourceType) (goal : Goal) (before : Option TokenParts) (place : ℕ)
+plainly_private : (text : List ℕ) (t : SourceType) (goal : Goal) (before : Option TokenParts) (place : ℕ)
     (o : Outcome)
-    → GoalReads text t goal before place o → is_private_name o.token.kind ≡ true
+    → ReadsPlainly text t goal before place o → is_private_name o.token.kind ≡ true
     → begins (λ c. c == number_sign) (from_place text o.token.start) ≡ true
-private_name_begins text t goal before place o (hashbang begun read) private =
+plainly_private text t goal before place o (hashbang begun read) private =
     no_named_private o.token.kind (from_place text o.token.start)
     (ap is_valued read.is_hashbang.kind ∙ faulty_kinds.2) private
-private_name_begins text t goal before place o (behind_gap begun read) private =
+plainly_private text t goal before place o (behind_gap begun read) private =
     here read.reading read.here (ap is_private_name (ap (λ x. x.token.kind) (sym read.outcome_is)) ∙ private)
   where
     here : (r : Reading) → ReadsHere t read.line_has_ended o.token.start (from_place text o.token.start) r
@@ -595,3 +657,24 @@ private_name_begins text t goal before place o (behind_gap begun read) private =
     here r (recovers nothing e) private =
         subst (λ found. IfSome found (BeginsPrivate (from_place text o.token.start))) e
         (recovered_private_name read.line_has_ended o.token.start (from_place text o.token.start)) private
+
+-- the next part of a template is no private name
+next_part_is_no_private_name : (start : ℕ) (behind : List ℕ) → is_private_name (next_part start behind).kind ≡ false
+unfolding is_private_name
+next_part_is_no_private_name start behind =
+    part_kind_is (λ kind. is_private_name kind ≡ false) TemplateMiddle TemplateTail refl refl refl start behind
+
+-- A private name begins with a `#`.
+pub private_name_begins : (text : List ℕ) (t : SourceType) (goal : Goal) (before : Option TokenParts) (place : ℕ)
+    (o : Outcome)
+    → GoalReads text t goal before place o → is_private_name o.token.kind ≡ true
+    → begins (λ c. c == number_sign) (from_place text o.token.start) ≡ true
+private_name_begins text t goal before place o reads private = by_way (ways text t goal before place o reads)
+  where
+    by_way : Way text t before place o → begins (λ c. c == number_sign) (from_place text o.token.start) ≡ true
+    by_way (plainly goal reads) = plainly_private text t goal before place o reads private
+    by_way (part_on start reads) =
+        no_private o.token.kind (from_place text o.token.start)
+        (ap is_private_name (ap (λ x. x.token.kind) reads.outcome_is)
+        ∙ next_part_is_no_private_name start reads.behind) private
+    by_way (alone took) = no_private o.token.kind (from_place text o.token.start) took.no_private private

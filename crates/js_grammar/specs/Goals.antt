@@ -1,18 +1,33 @@
 -- What a reading of each goal gives.
-use Rattle.std.specs.Prelude.{◌≡◌, ℕ, Bool, true, false, List, [], Option, Some, None, is_none, ◌↔◌}
+use Rattle.std.specs.Prelude.{◌≡◌, ℕ, ◌≤◌, Bool, true, false, List, [], ◌∷◌, Option, Some, None, is_none, ◌↔◌}
+use Rattle.std.specs.Prelude.{if◌then◌else◌}
 use Rattle.std.specs.Str.{IsCharBoundary}
-use Rattle.js_text.specs.Characters.{from_place}
+use Rattle.js_text.specs.Characters.{begins, from_place}
 use Rattle.js_text.specs.declared.source_type.SourceType.{SourceType}
 use Rattle.js_text.specs.declared.value.RowValue.TheVariants.{Nothing}
+use Rattle.js_grammar.specs.Angle.{angle_read, right_angles, first_left_angle, first_right_angle}
 use Rattle.js_grammar.specs.Gap.{Piece, WholeGap}
+use Rattle.js_grammar.specs.GoalRead.{GoalRead}
+use Rattle.js_grammar.specs.Jsx.{jsx_name_read, jsx_child_read, jsx_string_read}
+use Rattle.js_grammar.specs.RegularExpression.{regular_expression_read}
 use Rattle.js_grammar.specs.Hashbang.{begins_hashbang, IsHashbang}
 use Rattle.js_grammar.specs.Outcome.{Outcome, place_behind, joined, reports, no_findings, gap_findings}
 use Rattle.js_grammar.specs.Reads.{PlainReads}
 use Rattle.js_grammar.specs.Recovery.{Reading, recovered}
 use Rattle.js_grammar.specs.Spelling.{LongestSpelling, NothingSpelled, is_escaped, has_separator, value_of}
 use Rattle.js_grammar.specs.declared.goal.Goal.{Goal}
+use Rattle.js_grammar.specs.declared.goal.Goal.TheVariants.{First, Next, TemplateTail as TailGoal}
+use Rattle.js_grammar.specs.declared.goal.Goal.TheVariants.{RegularExpression, RightAngle, TypeScriptLeftAngle}
+use Rattle.js_grammar.specs.declared.goal.Goal.TheVariants.{TypeScriptRightAngle, JsxIdentifier, JsxChild}
+use Rattle.js_grammar.specs.declared.goal.Goal.TheVariants.{JsxAttributeValue}
+use Rattle.js_grammar.specs.Quoted.{row_value}
+use Rattle.js_grammar.specs.StringItems.{StringRead, is_quote}
+use Rattle.js_grammar.specs.Template.{template_part_read}
+use Rattle.js_grammar.specs.UnicodeEscape.{right_curly_bracket}
+use Rattle.js_grammar.specs.Values.{plain_value}
 use Rattle.js_kind.specs.TokenParts.{TokenParts}
 use Rattle.js_kind.specs.declared.kind.Kind.{Kind}
+use Rattle.js_kind.specs.declared.kind.Kind.TheVariants.{TemplateMiddle, TemplateTail}
 
 -- what is read where these characters are spelled at the place, with this kind, and this is left behind them
 abbrev pub spelled_reading : Bool → ℕ → List ℕ → List ℕ → Kind → Reading
@@ -47,27 +62,31 @@ token_of start end reading = record {
 }
 
 -- a whole gap of these pieces at the place, and what was read behind it, from start to end
-abbrev pub outcome_behind : ℕ → List Piece → ℕ → ℕ → Reading → Outcome
-outcome_behind place pieces start end reading = record {
+abbrev pub outcome_behind : SourceType → Option TokenParts → ℕ → List Piece → ℕ → ℕ → Reading → Outcome
+outcome_behind t before place pieces start end reading = record {
   token = token_of start end reading;
   value = reading.value;
   regex = None;
-  findings = joined (gap_findings place pieces) (reports reading.diagnostics);
+  findings = joined (gap_findings t before place pieces (token_of start end reading)) (reports reading.diagnostics);
 }
 
--- A token behind a whole gap.
-pub record ReadsBehindGap (text : List ℕ) (t : SourceType) (line_had_ended : Bool) (place : ℕ) (outcome : Outcome)
+-- A line has ended before the first token of a lexer, and before no other.
+abbrev pub line_has_ended_behind : Option TokenParts → Bool
+line_has_ended_behind before = is_none before
+
+-- A token behind a whole gap; `before` is the token before the gap, if there is one.
+pub record ReadsBehindGap (text : List ℕ) (t : SourceType) (before : Option TokenParts) (place : ℕ) (outcome : Outcome)
     : Type 0 where
   pub pieces : List Piece
   pub line_has_ended : Bool
-  pub gap : WholeGap t line_had_ended (from_place text place) pieces line_has_ended
+  pub gap : WholeGap t (line_has_ended_behind before) (from_place text place) pieces line_has_ended
       (from_place text outcome.token.start)
   pub start : IsCharBoundary text outcome.token.start
   pub end : IsCharBoundary text outcome.token.end
   pub reading : Reading
   pub here : ReadsHere t line_has_ended outcome.token.start (from_place text outcome.token.start) reading
   pub rest : reading.rest ≡ from_place text outcome.token.end
-  pub outcome_is : outcome ≡ outcome_behind place pieces outcome.token.start outcome.token.end reading
+  pub outcome_is : outcome ≡ outcome_behind t before place pieces outcome.token.start outcome.token.end reading
 
 -- a token that is read with nothing beside it
 abbrev pub token_alone : TokenParts → Outcome
@@ -81,17 +100,135 @@ pub record ReadsHashbang (text : List ℕ) (line_has_ended : Bool) (outcome : Ou
   pub has_separator : outcome.token.has_separator ≡ false
   pub alone : outcome ≡ token_alone outcome.token
 
--- A line has ended before the first token of a lexer, and before no other.
-abbrev pub line_has_ended_behind : Option TokenParts → Bool
-line_has_ended_behind before = is_none before
-
--- The reading of a goal from a place on; `before` is the token before its gap, if there is one.
-pub data GoalReads (text : List ℕ) (t : SourceType) (goal : Goal) (before : Option TokenParts) (place : ℕ)
+-- The reading of the first or the plain goal from a place on; `before` is the token before its gap, if there is one.
+pub data ReadsPlainly (text : List ℕ) (t : SourceType) (goal : Goal) (before : Option TokenParts) (place : ℕ)
     (outcome : Outcome) : Type 0 where
   hashbang : begins_hashbang goal text place ≡ true → ReadsHashbang text (line_has_ended_behind before) outcome
-      → GoalReads text t goal before place outcome
+      → ReadsPlainly text t goal before place outcome
   behind_gap : begins_hashbang goal text place ≡ false
-      → ReadsBehindGap text t (line_has_ended_behind before) place outcome → GoalReads text t goal before place outcome
+      → ReadsBehindGap text t before place outcome
+      → ReadsPlainly text t goal before place outcome
+
+-- what is read of a part of a template behind the `}` that begins it, at the start
+abbrev pub next_part : ℕ → List ℕ → StringRead
+next_part start behind = template_part_read TemplateMiddle TemplateTail start behind
+
+-- the outcome of a part of a template from start to end, of which this was read
+abbrev pub part_outcome : ℕ → ℕ → StringRead → Outcome
+part_outcome start end read = record {
+  token = record {
+    start = start;
+    end = end;
+    kind = read.kind;
+    is_on_new_line = false;
+    escaped = read.escaped;
+    has_separator = false;
+  };
+  value = if read.escaped then row_value read.value else plain_value read.kind start end;
+  regex = None;
+  findings = reports read.diagnostics;
+}
+
+-- The next part of a template, from the `}` on that stands at the start: no gap is before it.
+pub record ReadsPart (text : List ℕ) (start : ℕ) (outcome : Outcome) : Type 0 where
+  pub begins : IsCharBoundary text start
+  pub behind : List ℕ
+  pub here : from_place text start ≡ right_curly_bracket ∷ behind
+  pub end : IsCharBoundary text outcome.token.end
+  pub rest : (next_part start behind).rest ≡ from_place text outcome.token.end
+  pub outcome_is : outcome ≡ part_outcome start outcome.token.end (next_part start behind)
+
+-- A token is read again, from its start.
+abbrev pub ReadsAgain : (ℕ → Outcome → Type 0) → Option TokenParts → Outcome → Type 0
+ReadsAgain reads None outcome = ⊥
+ReadsAgain reads (Some token) outcome = reads token.start outcome
+
+-- the token from start to end of which this was read
+abbrev pub read_token : Bool → ℕ → ℕ → Kind → TokenParts
+read_token line_has_ended start end kind = record {
+  start = start;
+  end = end;
+  kind = kind;
+  is_on_new_line = line_has_ended;
+  escaped = false;
+  has_separator = false;
+}
+
+-- its outcome
+abbrev pub read_outcome : Bool → ℕ → ℕ → GoalRead → Outcome
+read_outcome line_has_ended start end read = record {
+  token = read_token line_has_ended start end read.kind;
+  value = plain_value read.kind start end;
+  regex = read.regex;
+  findings = reports read.diagnostics;
+}
+
+-- A token from the start on, of which this was read, if there is one.
+pub record ReadsFrom (text : List ℕ) (line_has_ended : Bool) (start : ℕ) (read : Option GoalRead) (outcome : Outcome)
+    : Type 0 where
+  pub begins : IsCharBoundary text start
+  pub found : GoalRead
+  pub read_is : read ≡ Some found
+  pub end : IsCharBoundary text outcome.token.end
+  pub rest : found.rest ≡ from_place text outcome.token.end
+  pub outcome_is : outcome ≡ read_outcome line_has_ended start outcome.token.end found
+
+-- The regular expression that begins at the start.
+abbrev pub ReadsExpression : List ℕ → ℕ → Outcome → Type 0
+ReadsExpression text start outcome =
+    ReadsFrom text false start (regular_expression_read start (from_place text start)) outcome
+
+-- The first of these punctuators that the start begins with.
+abbrev pub ReadsAngle : List ℕ → List Kind → ℕ → Outcome → Type 0
+ReadsAngle text kinds start outcome = ReadsFrom text false start (angle_read kinds (from_place text start)) outcome
+
+-- The name of JSX that goes on behind a name.
+pub record ReadsJsxName (text : List ℕ) (name : TokenParts) (outcome : Outcome) : Type 0 where
+  pub ordered : name.start ≤ name.end
+  pub name_end : IsCharBoundary text name.end
+  pub reads : ReadsFrom text false name.start (jsx_name_read (from_place text name.end)) outcome
+
+-- The string of an attribute, behind a whole gap; `before` is the token before the gap, if there is one.
+pub record ReadsAttributeString (text : List ℕ) (t : SourceType) (before : Option TokenParts) (place : ℕ)
+    (outcome : Outcome) : Type 0 where
+  pub pieces : List Piece
+  pub line_has_ended : Bool
+  pub gap : WholeGap t (line_has_ended_behind before) (from_place text place) pieces line_has_ended
+      (from_place text outcome.token.start)
+  pub string : Outcome
+  pub reads : ReadsFrom text line_has_ended outcome.token.start
+      (jsx_string_read outcome.token.start (from_place text outcome.token.start)) string
+  pub outcome_is : outcome
+      ≡ record string { findings = joined (gap_findings t before place pieces string.token) string.findings }
+
+-- The value of an attribute: a string, where a quote stands behind the whole gap, or a token of the plain goal.
+pub data ReadsAttributeValue (text : List ℕ) (t : SourceType) (before : Option TokenParts) (place : ℕ)
+    (outcome : Outcome) : Type 0 where
+  string : ReadsAttributeString text t before place outcome → ReadsAttributeValue text t before place outcome
+  plain : begins is_quote (from_place text outcome.token.start) ≡ false
+      → ReadsBehindGap text t before place outcome → ReadsAttributeValue text t before place outcome
+
+-- A name is read on, from its end.
+abbrev pub ReadsOn : (TokenParts → Outcome → Type 0) → Option TokenParts → Outcome → Type 0
+ReadsOn reads None outcome = ⊥
+ReadsOn reads (Some token) outcome = reads token outcome
+
+-- The reading of a goal. Where a gap may come first, or what JSX has between tags, it begins at the place, and `before`
+-- is the token before, if there is one; that of another goal reads `before` again, from its start.
+abbrev pub GoalReads : List ℕ → SourceType → Goal → Option TokenParts → ℕ → Outcome → Type 0
+GoalReads text t First before place outcome = ReadsPlainly text t First before place outcome
+GoalReads text t Next before place outcome = ReadsPlainly text t Next before place outcome
+GoalReads text t TailGoal before place outcome = ReadsAgain (ReadsPart text) before outcome
+GoalReads text t RegularExpression before place outcome = ReadsAgain (ReadsExpression text) before outcome
+GoalReads text t RightAngle before place outcome = ReadsAgain (ReadsAngle text right_angles) before outcome
+GoalReads text t TypeScriptLeftAngle before place outcome =
+    ReadsAgain (ReadsAngle text first_left_angle) before outcome
+GoalReads text t TypeScriptRightAngle before place outcome =
+    ReadsAgain (ReadsAngle text first_right_angle) before outcome
+GoalReads text t JsxIdentifier before place outcome = ReadsOn (ReadsJsxName text) before outcome
+GoalReads text t JsxChild before place outcome =
+    ReadsFrom text (line_has_ended_behind before) place (Some (jsx_child_read place (from_place text place))) outcome
+GoalReads text t JsxAttributeValue before place outcome = ReadsAttributeValue text t before place outcome
 
 -- What the grammar says of a reading of the first or the plain goal: it has no diagnostic exactly where the grammar
 -- reads a token, and then it is this one.

@@ -1,15 +1,21 @@
 -- What a reading gives: a token with its value, and what it adds to the lists of a lexer.
-use Rattle.std.specs.Prelude.{ℕ, ◌+◌, ◌≤◌, List, [], ◌∷◌, ◌++◌, length, take, drop, Option}
+use Rattle.std.specs.Prelude.{ℕ, ◌+◌, ◌≤◌, List, [], ◌∷◌, ◌++◌, length, take, drop, Option, is_none}
+use Rattle.std.specs.Prelude.{if◌then◌else◌}
 use Rattle.std.specs.Str.{encode_utf8_all}
 use Rattle.js_text.specs.declared.comment.Comment.{Comment}
 use Rattle.js_text.specs.declared.diagnostic.Diagnostic.{Diagnostic}
 use Rattle.js_text.specs.declared.diagnostic.Diagnostic.TheVariants.{HtmlCommentInModule}
 use Rattle.js_text.specs.declared.reg_exp_flags.RegexInfo.{RegexInfo}
+use Rattle.js_text.specs.SourceType.{is_unambiguous}
+use Rattle.js_text.specs.declared.source_type.SourceType.{SourceType}
 use Rattle.js_text.specs.declared.span.Span.{Span}
 use Rattle.js_text.specs.declared.value.RowValue.{RowValue}
+use Rattle.js_grammar.specs.Attach.{attach}
 use Rattle.js_grammar.specs.Gap.{Piece, PieceKind}
 use Rattle.js_grammar.specs.Gap.PieceKind.{white_space, line_terminator, single_line_comment, multi_line_comment}
 use Rattle.js_grammar.specs.Gap.PieceKind.{html_open_comment, html_close_comment, reported_comment}
+use Rattle.js_grammar.specs.GapItems.{token_before, irregular_of}
+use Rattle.js_grammar.specs.PieceItems.{gap_of, items_of}
 use Rattle.js_kind.specs.TokenParts.{TokenParts}
 
 -- What readings find beside their tokens: what they report, what they report for the case that the source is a module,
@@ -102,6 +108,32 @@ abbrev pub gap_diagnostics : ℕ → List Piece → List Diagnostic
 gap_diagnostics place [] = []
 gap_diagnostics place (x ∷ xs) = piece_diagnostics place x.kind ++ gap_diagnostics (place_behind place x.text) xs
 
--- What is found in a whole gap of these pieces that begins at the place.
-abbrev pub gap_findings : ℕ → List Piece → Findings
-gap_findings place pieces = reports (gap_diagnostics place pieces)
+-- an HTML-like comment with its mark over this span
+abbrev pub html_deferred : SourceType → Span → List Diagnostic
+html_deferred t span = if is_unambiguous t then HtmlCommentInModule span ∷ [] else []
+
+-- What is reported of a piece that begins at the place, for the case that the source is a module: an HTML-like comment
+-- of a source of which this is not settled, over its mark.
+abbrev pub piece_deferred : SourceType → ℕ → PieceKind → List Diagnostic
+piece_deferred t place white_space = []
+piece_deferred t place line_terminator = []
+piece_deferred t place single_line_comment = []
+piece_deferred t place multi_line_comment = []
+piece_deferred t place html_open_comment = html_deferred t (record { start = place; end = place + 4 })
+piece_deferred t place html_close_comment = html_deferred t (record { start = place; end = place + 3 })
+piece_deferred t place reported_comment = []
+
+-- what is reported for that case of the pieces of a gap that begins at the place
+abbrev pub gap_deferred : SourceType → ℕ → List Piece → List Diagnostic
+gap_deferred t place [] = []
+gap_deferred t place (x ∷ xs) = piece_deferred t place x.kind ++ gap_deferred t (place_behind place x.text) xs
+
+-- What is found in a whole gap of these pieces that begins at the place, before this token; `before` is the token before
+-- the gap, if there is one.
+abbrev pub gap_findings : SourceType → Option TokenParts → ℕ → List Piece → TokenParts → Findings
+gap_findings t before place pieces token = record {
+  diagnostics = gap_diagnostics place pieces;
+  deferred = gap_deferred t place pieces;
+  comments = attach (gap_of (is_none before) (token_before before) place pieces token);
+  irregular = irregular_of (items_of place pieces);
+}

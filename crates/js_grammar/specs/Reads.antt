@@ -7,13 +7,37 @@ use Rattle.js_grammar.specs.Gap.{LongestGap}
 use Rattle.js_grammar.specs.Hashbang.{begins_hashbang, IsHashbang}
 use Rattle.js_grammar.specs.Spelling.{LongestSpelling}
 use Rattle.js_grammar.specs.declared.goal.Goal.{Goal}
-use Rattle.js_grammar.specs.declared.goal.Goal.TheVariants.{First, Next}
+use Rattle.js_grammar.specs.declared.goal.Goal.TheVariants.{First, Next, TemplateTail}
+use Rattle.js_grammar.specs.declared.goal.Goal.TheVariants.{RegularExpression, RightAngle, TypeScriptLeftAngle}
+use Rattle.js_grammar.specs.declared.goal.Goal.TheVariants.{TypeScriptRightAngle, JsxIdentifier, JsxChild}
+use Rattle.js_grammar.specs.declared.goal.Goal.TheVariants.{JsxAttributeValue}
 use Rattle.js_kind.specs.TokenParts.{TokenParts}
 
 -- the goals whose readings the grammar's plain readings decide
 abbrev pub is_plain : Goal → Bool
 is_plain First = true
 is_plain Next = true
+is_plain TemplateTail = false
+is_plain RegularExpression = false
+is_plain RightAngle = false
+is_plain TypeScriptLeftAngle = false
+is_plain TypeScriptRightAngle = false
+is_plain JsxIdentifier = false
+is_plain JsxChild = false
+is_plain JsxAttributeValue = false
+
+-- the goals that read on from a place, and not the last token again
+abbrev pub is_onward : Goal → Bool
+is_onward First = true
+is_onward Next = true
+is_onward TemplateTail = false
+is_onward RegularExpression = false
+is_onward RightAngle = false
+is_onward TypeScriptLeftAngle = false
+is_onward TypeScriptRightAngle = false
+is_onward JsxIdentifier = false
+is_onward JsxChild = true
+is_onward JsxAttributeValue = true
 
 -- The token stands behind the longest gap from the place on, and is the longest spelling there.
 pub record IsSpelled (text : List ℕ) (t : SourceType) (line_has_ended : Bool) (place : ℕ)

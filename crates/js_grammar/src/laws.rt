@@ -1,6 +1,6 @@
 //! Laws of the definitions alone: each function carries one for all arguments, and does nothing.
 
-ghost use Rattle.std.specs.Prelude.{◌≡◌, ◌<◌, ℕ, Bool, List, ◌++◌, length, Option, Some};
+ghost use Rattle.std.specs.Prelude.{◌≡◌, ◌<◌, ℕ, Bool, true, List, ◌++◌, length, Option, Some};
 ghost use Rattle.std.specs.Str.{IsUtf8};
 ghost use Rattle.js_text.specs.declared.source_type.SourceType.{SourceType};
 ghost use Rattle.js_kind.specs.TokenParts.{TokenParts};
@@ -8,7 +8,7 @@ ghost use Rattle.js_grammar.specs.Gap.{Piece, piece};
 ghost use Rattle.js_grammar.specs.Goals.{GoalReads, AgreesWithGrammar};
 ghost use Rattle.js_grammar.specs.Outcome.{Outcome};
 ghost use Rattle.js_grammar.specs.declared.goal.Goal.{Goal};
-ghost use Rattle.js_grammar.specs.Reads.{PlainReads, SameReading};
+ghost use Rattle.js_grammar.specs.Reads.{PlainReads, SameReading, is_plain};
 
 /// At most one piece of a gap starts at a place, and it is a character long at least.
 pub fn one_piece_starts_at_a_place()
@@ -36,5 +36,5 @@ pub fn one_outcome_is_given()
 /// this one.
 pub fn a_clean_reading_is_the_grammars()
     ensures { (text : List ℕ) (t : SourceType) (goal : Goal) (before : Option TokenParts) (place : ℕ) (o : Outcome)
-        → GoalReads text t goal before place o → AgreesWithGrammar text t goal before place o }
+        → is_plain goal ≡ true → GoalReads text t goal before place o → AgreesWithGrammar text t goal before place o }
 {}

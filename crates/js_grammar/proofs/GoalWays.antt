@@ -1,0 +1,209 @@
+-- The ways in which goals read: plainly, a part of a template, or a token without an escape.
+use Rattle.std.proofs.Common.{◌≡◌, ℕ, ◌<◌, ◌≤◌, Bool, true, false, List, [], ◌∷◌, ◌++◌, refl, sym, ◌∙◌, ap, subst, arith}
+use Rattle.std.proofs.Common.{Option, None, Some, append_assoc}
+use Rattle.std.specs.Prelude.{IfSome}
+use Rattle.std.specs.List.{list_all}
+use Rattle.std.specs.Str.{IsCharBoundary, IsUtf8}
+use Rattle.js_text.specs.Characters.{from_place}
+use Rattle.js_text.specs.declared.source_type.SourceType.{SourceType}
+use Rattle.js_kind.specs.Kinds.{kind_text}
+use Rattle.js_kind.specs.TokenParts.{TokenParts}
+use Rattle.js_kind.specs.declared.kind.Kind.{Kind}
+use Rattle.js_grammar.specs.Angle.{angle_read, right_angles, first_left_angle, first_right_angle}
+use Rattle.js_grammar.specs.GoalRead.{GoalRead}
+use Rattle.js_grammar.specs.Goals.{GoalReads, ReadsAgain, ReadsAngle, ReadsAttributeString, ReadsAttributeValue, ReadsExpression}
+use Rattle.js_grammar.specs.Goals.{ReadsFrom, ReadsJsxName, ReadsOn, ReadsPart, ReadsPlainly, line_has_ended_behind}
+use Rattle.js_grammar.specs.Goals.ReadsAttributeValue.{string, plain}
+use Rattle.js_grammar.specs.Goals.ReadsPlainly.{behind_gap}
+use Rattle.js_grammar.specs.Jsx.{jsx_child_read, jsx_name_read, jsx_string_read}
+use Rattle.js_grammar.specs.Outcome.{Outcome}
+use Rattle.js_grammar.specs.RegularExpression.{regular_expression_read}
+use Rattle.js_grammar.specs.ReLexed.{HasSpelling, is_re_lexed}
+use Rattle.js_grammar.specs.Spelling.{is_private_name, is_quoted}
+use Rattle.js_grammar.specs.Values.{plain_value}
+use Rattle.js_grammar.specs.declared.goal.Goal.{Goal}
+use Rattle.js_grammar.specs.declared.goal.Goal.TheVariants.{First, Next, TemplateTail as TailGoal}
+use Rattle.js_grammar.specs.declared.goal.Goal.TheVariants.{RegularExpression, RightAngle, TypeScriptLeftAngle}
+use Rattle.js_grammar.specs.declared.goal.Goal.TheVariants.{TypeScriptRightAngle, JsxIdentifier, JsxChild}
+use Rattle.js_grammar.specs.declared.goal.Goal.TheVariants.{JsxAttributeValue}
+use Rattle.js_grammar.proofs.GoalReadings.{IsBetweenQuotes, IsRead, angle_is_read, angles, attribute_is_read, bare}
+use Rattle.js_grammar.proofs.GoalReadings.{child_is_read, expression_read, is_angle, jsx_name_is_read, jsx_name_kind}
+use Rattle.js_grammar.proofs.GoalReadings.{never}
+use Rattle.js_grammar.proofs.Spans.{IsSpan, leads, part_span, plainly_places, plainly_span}
+
+-- A token without an escape was read from its start on: what is known of it.
+pub record Takes (text : List ℕ) (o : Outcome) : Type 0 where
+  pub begins : IsCharBoundary text o.token.start
+  pub end : IsCharBoundary text o.token.end
+  pub span : IsUtf8 text → IsSpan o.token
+  pub escaped : o.token.escaped ≡ false
+  pub value : o.value ≡ plain_value o.token.kind o.token.start o.token.end
+  pub no_private : is_private_name o.token.kind ≡ false
+  pub spelling : HasSpelling text o.token
+  pub quotes : is_quoted o.token.kind ≡ true
+      → IsBetweenQuotes (from_place text o.token.start) (from_place text o.token.end) o.token.kind
+
+found_is_read : (text : List ℕ) (read : Option GoalRead) (found : GoalRead) → read ≡ Some found
+    → IfSome read (IsRead text) → IsRead text found
+found_is_read text read found e is = subst (λ r. IfSome r (IsRead text)) e is
+
+pub from_takes : (text : List ℕ) (line_has_ended : Bool) (start : ℕ) (read : Option GoalRead) (o : Outcome)
+    → IfSome read (IsRead (from_place text start)) → ReadsFrom text line_has_ended start read o → Takes text o
+from_takes text line_has_ended start read o is reads =
+    let found = found_is_read (from_place text start) read reads.found reads.read_is is in
+    let at : o.token.start ≡ start = ap (λ x. x.token.start) reads.outcome_is in
+    let kind : o.token.kind ≡ reads.found.kind = ap (λ x. x.token.kind) reads.outcome_is in
+    let here : from_place text start ≡ found.characters ++ from_place text o.token.end =
+    found.here ∙ ap (λ r. found.characters ++ r) reads.rest in
+    record {
+      begins = subst (IsCharBoundary text) (sym at) reads.begins;
+      end = reads.end;
+      span = λ u.
+          let way = leads text start o.token.end found.characters u reads.begins reads.end here in
+          record {
+            ordered = subst (λ (n : ℕ). n ≤ o.token.end) (sym at) way.0;
+            some_text =
+                λ some. subst (λ (n : ℕ). n < o.token.end) (sym at) (way.1 (found.some (λ e. some (kind ∙ e))));
+          };
+      escaped = ap (λ x. x.token.escaped) reads.outcome_is;
+      value = ap (λ x. x.value) reads.outcome_is ∙ ap (λ k. plain_value k start o.token.end) (sym kind)
+          ∙ ap (λ n. plain_value o.token.kind n o.token.end) (sym at);
+      no_private = ap is_private_name kind ∙ found.no_private;
+      spelling = λ again.
+          ap (from_place text) at ∙ here
+          ∙ ap (λ xs. xs ++ from_place text o.token.end)
+          (found.spelling (ap is_re_lexed (sym kind) ∙ again) ∙ ap kind_text (sym kind));
+      quotes = λ quoted.
+          let between = found.quotes (ap is_quoted (sym kind) ∙ quoted) in
+          record {
+            quote = between.quote;
+            is_quote = between.is_quote;
+            inner = between.inner;
+            here = ap (from_place text) at ∙ between.here
+                ∙ ap (λ r. between.quote ∷ (between.inner ++ (between.quote ∷ r))) reads.rest;
+            kind_is = kind ∙ between.kind_is;
+          };
+    }
+
+jsx_name_takes : (text : List ℕ) (name : TokenParts) (o : Outcome) → ReadsJsxName text name o → Takes text o
+jsx_name_takes text name o reads =
+    let from = reads.reads in
+    let found =
+    found_is_read (from_place text name.end) (jsx_name_read (from_place text name.end)) from.found from.read_is
+    (jsx_name_is_read (from_place text name.end)) in
+    let at : o.token.start ≡ name.start = ap (λ x. x.token.start) from.outcome_is in
+    let kind : o.token.kind ≡ from.found.kind = ap (λ x. x.token.kind) from.outcome_is in
+    let is_name = jsx_name_kind (from_place text name.end) from.found from.read_is in
+    record {
+      begins = subst (IsCharBoundary text) (sym at) from.begins;
+      end = from.end;
+      span = λ u.
+          let way =
+          leads text name.end o.token.end found.characters u reads.name_end from.end
+          (found.here ∙ ap (λ r. found.characters ++ r) from.rest) in
+          record {
+            ordered = omega (arith, at, reads.ordered, way.0);
+            some_text = λ some. omega (arith, at, reads.ordered, way.1 (found.some (λ e. some (kind ∙ e))));
+          };
+      escaped = ap (λ x. x.token.escaped) from.outcome_is;
+      value = ap (λ x. x.value) from.outcome_is ∙ ap (λ k. plain_value k name.start o.token.end) (sym kind)
+          ∙ ap (λ n. plain_value o.token.kind n o.token.end) (sym at);
+      no_private = ap is_private_name kind ∙ found.no_private;
+      spelling = λ again. never (is_re_lexed o.token.kind) (ap is_re_lexed (kind ∙ is_name) ∙ bare.name.read_once) again;
+      quotes = λ quoted. never (is_quoted o.token.kind) (ap is_quoted (kind ∙ is_name) ∙ bare.name.no_quotes) quoted;
+    }
+
+string_takes : (text : List ℕ) (t : SourceType) (before : Option TokenParts) (place : ℕ) (o : Outcome)
+    → ReadsAttributeString text t before place o → Takes text o
+string_takes text t before place o reads =
+    let start = o.token.start in
+    let took =
+    from_takes text reads.line_has_ended start (jsx_string_read start (from_place text start)) reads.string
+    (attribute_is_read start (from_place text start)) reads.reads in
+    rw (reads.outcome_is) (record {
+      begins = took.begins;
+      end = took.end;
+      span = took.span;
+      escaped = took.escaped;
+      value = took.value;
+      no_private = took.no_private;
+      spelling = took.spelling;
+      quotes = took.quotes;
+    })
+
+-- How a reading was made.
+pub data Way (text : List ℕ) (t : SourceType) (before : Option TokenParts) (place : ℕ) (o : Outcome) : Type 0 where
+  plainly : (goal : Goal) → ReadsPlainly text t goal before place o → Way text t before place o
+  part_on : (start : ℕ) → ReadsPart text start o → Way text t before place o
+  alone : Takes text o → Way text t before place o
+
+-- the ways of readings of a token that is read again
+again : (text : List ℕ) (t : SourceType) (place : ℕ) (reads : ℕ → Outcome → Type 0) (before : Option TokenParts)
+    (o : Outcome) → ((start : ℕ) → reads start o → Way text t before place o) → ReadsAgain reads before o
+    → Way text t before place o
+again text t place reads None o way r = absurd r
+again text t place reads (Some token) o way r = way token.start r
+
+on : (text : List ℕ) (t : SourceType) (place : ℕ) (reads : TokenParts → Outcome → Type 0) (before : Option TokenParts)
+    (o : Outcome) → ((name : TokenParts) → reads name o → Way text t before place o) → ReadsOn reads before o
+    → Way text t before place o
+on text t place reads None o way r = absurd r
+on text t place reads (Some token) o way r = way token r
+
+angle_way : (text : List ℕ) (t : SourceType) (place : ℕ) (before : Option TokenParts) (kinds : List Kind) (o : Outcome)
+    → list_all is_angle kinds ≡ true → ReadsAgain (ReadsAngle text kinds) before o
+    → Way text t before place o
+angle_way text t place before kinds o all reads =
+    again text t place (ReadsAngle text kinds) before o
+    (λ start r. alone (from_takes text false start (angle_read kinds (from_place text start)) o
+    (angle_is_read kinds (from_place text start) all) r)) reads
+
+attribute_way : (text : List ℕ) (t : SourceType) (before : Option TokenParts) (place : ℕ) (o : Outcome)
+    → ReadsAttributeValue text t before place o → Way text t before place o
+attribute_way text t before place o (string reads) = alone (string_takes text t before place o reads)
+attribute_way text t before place o (plain no_quote reads) = plainly Next (behind_gap refl reads)
+
+pub ways : (text : List ℕ) (t : SourceType) (goal : Goal) (before : Option TokenParts) (place : ℕ) (o : Outcome)
+    → GoalReads text t goal before place o → Way text t before place o
+ways text t First before place o reads = plainly First reads
+ways text t Next before place o reads = plainly Next reads
+ways text t TailGoal before place o reads = again text t place (ReadsPart text) before o part_on reads
+ways text t RegularExpression before place o reads =
+    again text t place (ReadsExpression text) before o
+    (λ start r. alone (from_takes text false start (regular_expression_read start (from_place text start)) o
+    (expression_read start (from_place text start)) r)) reads
+ways text t RightAngle before place o reads = angle_way text t place before right_angles o angles.longest reads
+ways text t TypeScriptLeftAngle before place o reads =
+    angle_way text t place before first_left_angle o angles.left reads
+ways text t TypeScriptRightAngle before place o reads =
+    angle_way text t place before first_right_angle o angles.right reads
+ways text t JsxIdentifier before place o reads =
+    on text t place (ReadsJsxName text) before o (λ name r. alone (jsx_name_takes text name o r)) reads
+ways text t JsxChild before place o reads =
+    alone (from_takes text (line_has_ended_behind before) place (Some (jsx_child_read place (from_place text place))) o
+    (child_is_read place (from_place text place)) reads)
+ways text t JsxAttributeValue before place o reads = attribute_way text t before place o reads
+
+-- Each token that is read has a span in order, with a byte at least but for the end of the source.
+pub goal_reads_span : (text : List ℕ) (t : SourceType) (goal : Goal) (before : Option TokenParts) (place : ℕ)
+    (o : Outcome) → IsUtf8 text
+    → GoalReads text t goal before place o → IsSpan o.token
+goal_reads_span text t goal before place o u reads = by_way (ways text t goal before place o reads)
+  where
+    by_way : Way text t before place o → IsSpan o.token
+    by_way (plainly goal reads) = plainly_span text t goal before place o u reads
+    by_way (part_on start reads) = part_span text start o u reads
+    by_way (alone took) = took.span u
+
+-- and its ends are places
+pub goal_reads_places : (text : List ℕ) (t : SourceType) (goal : Goal) (before : Option TokenParts) (place : ℕ)
+    (o : Outcome) → IsUtf8 text
+    → GoalReads text t goal before place o → IsCharBoundary text o.token.start × IsCharBoundary text o.token.end
+goal_reads_places text t goal before place o u reads = by_way (ways text t goal before place o reads)
+  where
+    by_way : Way text t before place o → IsCharBoundary text o.token.start × IsCharBoundary text o.token.end
+    by_way (plainly goal reads) = plainly_places text t goal before place o u reads
+    by_way (part_on start reads) =
+        let at : o.token.start ≡ start = ap (λ x. x.token.start) reads.outcome_is in
+        (subst (IsCharBoundary text) (sym at) reads.begins, reads.end)
+    by_way (alone took) = (took.begins, took.end)
