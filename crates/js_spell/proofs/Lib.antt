@@ -1,9 +1,12 @@
 pub mod DecodeSteps
 pub mod EndSteps
 pub mod EscapeSteps
+pub mod ExpressionSteps
+pub mod FlagSteps
 pub mod IntegerRows
 pub mod IntegerSteps
 pub mod ItemSteps
+pub mod JsxSteps
 pub mod LeadSteps
 pub mod LegacySteps
 pub mod NameReadings

@@ -189,7 +189,7 @@ wide_goes_on DoubleQuoted c h = grind (arith, nat_tests)
 wide_goes_on SingleQuoted c h = grind (arith, nat_tests)
 wide_goes_on Template c h = grind (arith, nat_tests)
 
-wide_first : (b c : ℕ) (cs : List ℕ) → 128 ≤ b → HasFirstByte b (c ∷ cs) → 128 ≤ c
+pub wide_first : (b c : ℕ) (cs : List ℕ) → 128 ≤ b → HasFirstByte b (c ∷ cs) → 128 ≤ c
 wide_first b c cs h first =
     elim (true_or_false (ltb c 128)) [
       | inl low ↦ (let is : c ≡ b = first.1 (ltb-true c 128 low) in omega (arith, is))

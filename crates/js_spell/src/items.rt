@@ -177,7 +177,7 @@ fn read_marked_item(
 }
 
 /// Whether one of the two holds.
-fn either(first: bool, second: bool) -> bool
+pub(crate) fn either(first: bool, second: bool) -> bool
     ensures { result ≡ (first || second) }
 {
     first || second

@@ -1,9 +1,13 @@
 //! Readers of one spelling each, and the values of integers.
 #![tactic(auto)]
 
+mod angle;
 mod digits;
 mod escape;
+#[cfg(test)]
+mod goal_tests;
 mod items;
+mod jsx;
 mod name;
 #[cfg(test)]
 mod name_tests;
@@ -11,6 +15,7 @@ mod number;
 mod numeric;
 mod parts;
 mod plain;
+mod regular_expression;
 mod spelt;
 mod string;
 mod template;
@@ -18,10 +23,13 @@ mod template;
 mod tests;
 mod unicode_escape;
 
+pub use angle::read_right_angle;
 pub use escape::read_escape;
+pub use jsx::{read_jsx_child, read_jsx_identifier, read_jsx_string};
 pub use name::{read_name, read_private_name};
 pub use number::{parse_big_int, parse_int};
 pub use numeric::read_number;
+pub use regular_expression::read_regular_expression;
 pub use spelt::{Spelt, SpeltValue};
 pub use string::read_string;
 pub use template::read_template_part;

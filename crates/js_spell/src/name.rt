@@ -109,7 +109,7 @@ fn pass_parts(source: &mut Source<'_>) -> Option<char>
 
 /// Goes to the first character that is no part of a name.
 #[inline(always)]
-fn skip_parts(source: &mut Source<'_>)
+pub(crate) fn skip_parts(source: &mut Source<'_>)
     requires { IsPlaced source.old }
     ensures text { source.new.text ≡ source.old.text }
     ensures rest { rest source.new ≡ from_first is_no_part (rest source.old) }

@@ -108,7 +108,7 @@ struct Literal {
 }
 
 /// Whether a quote is next.
-fn quote_is_next(source: &Source<'_>) -> bool
+pub(crate) fn quote_is_next(source: &Source<'_>) -> bool
     ensures { result ≡ begins is_quote (rest source.now) }
 {
     match source.peek_byte() {
@@ -188,27 +188,67 @@ fn literals(rt: HostRuntime) -> Result<(), Fail> {
     Ok(())
 }
 
-/// Templates of line ends alone, and how many LF their values have.
-static LINE_ENDS: [(&str, usize); 8] = [
-    ("`\r`", 1),
-    ("`\r\n`", 1),
-    ("`\r\r`", 2),
-    ("`\n\r`", 2),
-    ("`\r\r\n`", 2),
-    ("`\r\n\r\n`", 2),
-    ("`\n\r\r`", 3),
-    ("`\r\n\r\r\n`", 3),
+/// Line ends, and what they are in the value of a template.
+static LINE_ENDS: [(&str, &str); 18] = [
+    ("\r", "\n"),
+    ("\r\n", "\n"),
+    ("\r\r", "\n\n"),
+    ("\r\r\n", "\n\n"),
+    ("\r\n\r", "\n\n"),
+    ("\r\n\n", "\n\n"),
+    ("\n\r", "\n\n"),
+    ("\n\r\n", "\n\n"),
+    ("\r\n\r\n", "\n\n"),
+    ("\r\r\r", "\n\n\n"),
+    ("\n\r\r", "\n\n\n"),
+    ("\n\n\r", "\n\n\n"),
+    ("\r\n\r\r", "\n\n\n"),
+    ("\r\r\n\r", "\n\n\n"),
+    ("\r\r\r\n", "\n\n\n"),
+    ("\r\n\r\n\r", "\n\n\n"),
+    ("\r\r\n\r\n", "\n\n\n"),
+    ("\r\n\r\n\r\n", "\n\n\n"),
 ];
+
+/// Templates and first parts of templates, in which `|` stands for line ends.
+static PARTS: [(&str, &str); 10] = [
+    ("`|`", "|"),
+    ("`|${x}", "|"),
+    ("`|abc`", "|abc"),
+    ("`|abc${x}", "|abc"),
+    ("`abc|`", "abc|"),
+    ("`abc|${x}", "abc|"),
+    ("`abc|def|ghi`", "abc|def|ghi"),
+    ("`abc|def|ghi${x}", "abc|def|ghi"),
+    ("`|abc|def|`", "|abc|def|"),
+    ("`|abc|def|${x}", "|abc|def|"),
+];
+
+/// Whether the value of the template is decoded to the text.
+fn is_decoded_to(rt: HostRuntime, template: &str, text: &str) -> Result<bool, AllocError> {
+    if template.len() > u32::MAX as usize {
+        return Ok(false);
+    }
+    match read_units(rt, template)? {
+        Some(value) => match value.to_text(rt.alloc())? {
+            Some(decoded) => Ok(decoded.as_str() == text),
+            None => Ok(false),
+        },
+        None => Ok(false),
+    }
+}
 
 #[test]
 fn line_ends_of_templates(rt: HostRuntime) -> Result<(), Fail> {
-    for (text, count) in LINE_ENDS {
-        let units = read_units(rt, text)?;
-        assert_eq!(rt;
-            units.map(|value| value.units().len()),
-            Some(count),
-            "{text:?}"
-        );
+    for (ends, value) in LINE_ENDS {
+        for (part, body) in PARTS {
+            let template = part.replace(rt.alloc(), '|', ends)?;
+            let text = body.replace(rt.alloc(), '|', value)?;
+            assert!(rt;
+                is_decoded_to(rt, template.as_str(), text.as_str())?,
+                "{template:?}"
+            );
+        }
     }
     Ok(())
 }

@@ -1,0 +1,253 @@
+-- The flags of regular expressions, as they are read.
+use Rattle.std.proofs.Common.{◌≡◌, ℕ, ◌+◌, ◌<◌, Bool, true, false, not, ◌||◌, ◌==◌, List, [], ◌∷◌, ◌++◌, drop}
+use Rattle.std.proofs.Common.{refl, sym, ◌∙◌, ap, arith, Some, inl, inr, ltb, append_assoc, append-nil}
+use Rattle.std.specs.Prelude.{◌^◌, OnErr, Result, Ok, Err}
+use Rattle.std.proofs.lemmas.Bool.{lt-ltb, ltb-true, ltb-false}
+use Rattle.js_text.specs.Ascii.{slash}
+use Rattle.js_text.specs.Characters.{before_first, begins, from_first, is_identifier_part, is_line_terminator}
+use Rattle.js_text.specs.declared.diagnostic.Diagnostic.{Diagnostic}
+use Rattle.js_text.specs.declared.diagnostic.Diagnostic.TheVariants.{UnterminatedRegExp}
+use Rattle.js_text.specs.declared.reg_exp_flags.RegExpFlags.{RegExpFlags}
+use Rattle.js_text.specs.declared.reg_exp_flags.RegexInfo.{RegexInfo}
+use Rattle.js_grammar.specs.GoalRead.{place_left}
+use Rattle.js_grammar.specs.RegularExpression.{behind_body, ends_flags, flag_reports, is_any, is_flag_character}
+use Rattle.js_grammar.specs.RegularExpression.{letter_reports, no_flags, regular_expression, unterminated_expression}
+use Rattle.js_grammar.specs.RegularExpression.{with_flags_behind, with_letters}
+use Rattle.js_grammar.proofs.GoalReadings.{expression_terminated, expression_unterminated}
+use Rattle.js_grammar.proofs.NumberSound.{first_is}
+use Rattle.js_grammar.specs.Outcome.{place_behind}
+use Rattle.js_grammar.specs.StringItems.{stretch}
+use Rattle.js_grammar.proofs.Texts.{one_byte}
+use Rattle.js_source.specs.Source.{At, rest, HasFirstByte, IsPlaced, StepsPast}
+use Rattle.js_source.proofs.Places.{ascii_next, begins_with}
+use Rattle.js_grammar.proofs.NumberItems.{true_or_false}
+use Rattle.js_source.specs.Search.{matches_at}
+use Rattle.js_text.specs.RegExpFlags.{flag_bits, flags_of_bits}
+use Rattle.js_spell.specs.Name.{TellsParts}
+use Rattle.js_spell.specs.Numeric.{BreaksOff}
+use Rattle.js_spell.specs.RegularExpression.{AddsLetter, BreaksLine, PassesBody, SpellsExpression, TakesLetter}
+use Rattle.js_spell.proofs.ExpressionSteps.{place_left_is}
+use Rattle.js_spell.proofs.NumericSteps.{leads_to}
+
+-- the letters that are left
+abbrev pub letters_left : At → List ℕ
+letters_left s = before_first ends_flags (rest s)
+
+-- Letters were read from a place to another: with those that are left, they come to what all of them come to.
+pub record ReadsLetters (old now : At) (before after : List Diagnostic) (flags : RegExpFlags) (flags_error : Bool)
+    : Type 0 where
+  pub text : now.text ≡ old.text
+  pub left : from_first ends_flags (rest old) ≡ from_first ends_flags (rest now)
+  pub flags_are : with_letters no_flags (letters_left old) ≡ with_letters flags (letters_left now)
+  pub reports : before ++ flag_reports no_flags old.place (letters_left old)
+      ≡ after ++ flag_reports flags now.place (letters_left now)
+  pub faulty : is_any (flag_reports no_flags old.place (letters_left old))
+      ≡ (flags_error || is_any (flag_reports flags now.place (letters_left now)))
+  pub more : List Diagnostic
+  pub reported : after ≡ before ++ more
+
+pub no_letters : (s : At) (before : List Diagnostic) (flags : RegExpFlags) → flags ≡ no_flags
+    → ReadsLetters s s before before flags false
+no_letters s before flags none = record {
+  text = refl;
+  left = refl;
+  flags_are = ap (λ f. with_letters f (letters_left s)) (sym none);
+  reports = ap (λ f. before ++ flag_reports f s.place (letters_left s)) (sym none);
+  faulty = ap (λ f. is_any (flag_reports f s.place (letters_left s))) (sym none);
+  more = [];
+  reported = sym (append-nil before);
+}
+
+any_of_two : (ds es : List Diagnostic) → is_any (ds ++ es) ≡ (is_any ds || is_any es)
+any_of_two [] es = refl
+any_of_two (d ∷ ds) es = refl
+
+or_assoc : (a b c : Bool) → (a || (b || c)) ≡ ((a || b) || c)
+or_assoc true b c = refl
+or_assoc false b c = refl
+
+pub one_letter : (old now next : At) (before between after : List Diagnostic) (flags more_flags : RegExpFlags)
+    (flags_error is_faulty : Bool) (b : ℕ) → ReadsLetters old now before between flags flags_error
+    → TakesLetter now next b → AddsLetter flags more_flags now.place b between after is_faulty
+    → ReadsLetters old next before after more_flags (flags_error || is_faulty)
+one_letter old now next before between after flags more_flags flags_error is_faulty b h taken adds =
+    let here = taken.read.here in
+    let goes_on : ends_flags b ≡ false = ap not taken.is_letter in
+    let letters : letters_left now ≡ b ∷ letters_left next =
+    ap (before_first ends_flags) here ∙ first goes_on in
+    let reports : flag_reports flags now.place (letters_left now)
+    ≡ letter_reports flags now.place b ++ flag_reports more_flags next.place (letters_left next) =
+    ap (flag_reports flags now.place) letters
+    ∙ ap (λ f. letter_reports flags now.place b ++ flag_reports f (now.place + 1) (letters_left next))
+    (sym adds.flags)
+    ∙ ap (λ p. letter_reports flags now.place b ++ flag_reports more_flags p (letters_left next)) (sym taken.place) in
+    record {
+      text = taken.read.text ∙ h.text;
+      left = h.left ∙ ap (from_first ends_flags) here ∙ past goes_on;
+      flags_are = h.flags_are ∙ ap (with_letters flags) letters
+          ∙ ap (λ f. with_letters f (letters_left next)) (sym adds.flags);
+      reports = h.reports ∙ ap (λ ds. between ++ ds) reports
+          ∙ sym (append_assoc between (letter_reports flags now.place b)
+          (flag_reports more_flags next.place (letters_left next)))
+          ∙ ap (λ ds. ds ++ flag_reports more_flags next.place (letters_left next)) (sym adds.reports);
+      faulty = h.faulty ∙ ap (λ ds. flags_error || is_any ds) reports
+          ∙ ap (λ c. flags_error || c)
+          (any_of_two (letter_reports flags now.place b) (flag_reports more_flags next.place (letters_left next))
+          ∙ ap (λ c. c || is_any (flag_reports more_flags next.place (letters_left next))) (sym adds.faulty))
+          ∙ or_assoc flags_error is_faulty (is_any (flag_reports more_flags next.place (letters_left next)));
+      more = h.more ++ letter_reports flags now.place b;
+      reported = adds.reports ∙ ap (λ ds. ds ++ letter_reports flags now.place b) h.reported
+          ∙ append_assoc before h.more (letter_reports flags now.place b);
+    }
+  where
+    first : ends_flags b ≡ false → before_first ends_flags (b ∷ rest next) ≡ b ∷ letters_left next
+    first e = rw e refl
+
+    past : ends_flags b ≡ false → from_first ends_flags (b ∷ rest next) ≡ from_first ends_flags (rest next)
+    past e = rw e refl
+
+none_left : (text : List ℕ) → begins is_flag_character text ≡ false
+    → (before_first ends_flags text ≡ []) × (from_first ends_flags text ≡ text)
+none_left [] e = (refl, refl)
+none_left (c ∷ cs) e = rw e (refl, refl)
+
+or_nothing : (b : Bool) → (b || false) ≡ b
+or_nothing true = refl
+or_nothing false = refl
+
+-- all letters were read
+pub flags_read : (pattern_end : ℕ) (old new : At) (before after : List Diagnostic) (flags : RegExpFlags)
+    (flags_error : Bool) (info : RegexInfo) → pattern_end + 1 ≡ old.place
+    → ReadsLetters old new before after flags flags_error → begins is_flag_character (rest new) ≡ false
+    → info ≡ record { pattern_end = pattern_end; flags = flags; flags_error = flags_error }
+    → SpellsExpression (with_flags_behind pattern_end (rest old)) old new before after info
+flags_read pattern_end old new before after flags flags_error info behind h ends info_is =
+    let none = none_left (rest new) ends in
+    let no_more : flag_reports flags new.place (letters_left new) ≡ [] = ap (flag_reports flags new.place) none.0 in
+    let all = flag_reports no_flags old.place (letters_left old) in
+    let at : flag_reports no_flags (pattern_end + 1) (letters_left old) ≡ all =
+    ap (λ p. flag_reports no_flags p (letters_left old)) behind in
+    let faulty : is_any (flag_reports no_flags (pattern_end + 1) (letters_left old)) ≡ flags_error =
+    ap is_any at ∙ h.faulty ∙ ap (λ ds. flags_error || is_any ds) no_more ∙ or_nothing flags_error in
+    let are : with_letters no_flags (letters_left old) ≡ flags =
+    h.flags_are ∙ ap (with_letters flags) none.0 in
+    record {
+      text = h.text;
+      left = h.left ∙ none.1;
+      reports = sym (append-nil after) ∙ ap (λ ds. after ++ ds) (sym no_more) ∙ sym h.reports
+          ∙ ap (λ ds. before ++ ds) (sym at);
+      info_is =
+          ap (λ e. Some (info_of (with_letters no_flags (letters_left old)) e)) faulty
+          ∙ ap (λ f. Some (info_of f flags_error)) are ∙ ap Some (sym info_is);
+    }
+  where
+    info_of : RegExpFlags → Bool → RegexInfo
+    info_of f e = record { pattern_end = pattern_end; flags = f; flags_error = e }
+
+-- a letter is a part of names in ASCII
+pub letter_taken : (old new : At) (b : ℕ) → IsPlaced old → IsPlaced new → b < 128 → is_identifier_part b ≡ true
+    → HasFirstByte b (rest old) → StepsPast old new → TakesLetter old new b
+letter_taken old new b h g low part first past =
+    let next = begins_with b (rest old) (ascii_next b (rest old) low first) in
+    let step = past b next.0 next.1 in
+    let here : rest old ≡ b ∷ rest new = next.1 ∙ ap (λ t. b ∷ t) (sym step.1) in
+    record {
+      read = record { text = step.0; here = here };
+      is_letter = rw (part, lt-ltb b 128 low) refl;
+      place = leads_to old new (b ∷ []) h g step.0 here ∙ ap (λ n. old.place + n) (one_byte b low);
+    }
+
+-- the place of a letter has one behind it
+pub letter_place : (old new : At) (b at : ℕ) → at ≡ old.place → IsPlaced new → TakesLetter old new b → at + 1 < 2 ^ 32
+letter_place old new b at is placed taken = omega (arith, is, taken.place, placed.boundary.0, placed.short)
+
+-- the table of parts has ASCII characters alone
+pub low_letter : (table : List Bool) (b : ℕ) → TellsParts table → matches_at table b ≡ true → b < 128
+low_letter table b tells is =
+    elim (true_or_false (ltb b 128)) [
+      | inl low ↦ ltb-true b 128 low
+      | inr wide ↦ absurd (let no : true ≡ false = sym is ∙ tells.ascii b (ltb-false b 128 wide) in cc)
+    ]
+
+pub bits_are_none : (flags : RegExpFlags) → flag_bits flags ≡ 0 → flags ≡ no_flags
+bits_are_none flags e = ap flags_of_bits e
+
+-- a reading of letters that breaks off
+pub letters_broken : {T E : Type 0} (r : Result T E) (old now new : At) (before between after : List Diagnostic)
+    (flags : RegExpFlags) (flags_error : Bool) (b : ℕ) → ReadsLetters old now before between flags flags_error
+    → TakesLetter now new b → after ≡ between → OnErr r (BreaksOff old new before after)
+letters_broken r old now new before between after flags flags_error b h taken same =
+    on_err r (record { text = taken.read.text ∙ h.text; more = h.more; reports = same ∙ h.reported })
+  where
+    on_err : {T E : Type 0} (r : Result T E) → {P : Type 0} → P → OnErr r P
+    on_err (Ok x) p = tt
+    on_err (Err e) p = p
+
+-- the `/` that ends a pattern
+pub slash_passed : (old mid new : At) (pattern_end : ℕ) → pattern_end ≡ mid.place → IsPlaced mid → IsPlaced new
+    → PassesBody old mid true → StepsPast mid new → pattern_end + 1 ≡ new.place
+slash_passed old mid new pattern_end is h g passed past =
+    let here = first_is slash (rest mid) passed.1 in
+    let step = past slash (drop 1 (rest mid)) here in
+    let way =
+    leads_to mid new (slash ∷ []) h g step.0 (here ∙ ap (λ t. slash ∷ t) (sym step.1)) in
+    omega (arith, is, way, one_byte slash (omega arith))
+
+-- A body that a `/` ends, and the flags behind it.
+pub expression_closed : (start : ℕ) (old mid behind new : At) (before after : List Diagnostic) (info : RegexInfo)
+    (pattern_end : ℕ) → IsPlaced old → IsPlaced mid → start + 1 ≡ old.place → pattern_end ≡ mid.place
+    → PassesBody old mid true → StepsPast mid behind
+    → SpellsExpression (with_flags_behind pattern_end (rest behind)) behind new before after info
+    → SpellsExpression (regular_expression start (rest old)) old new before after info
+expression_closed start old mid behind new before after info pattern_end h g begun ends passed past flags =
+    let here = first_is slash (rest mid) passed.1 in
+    let step = past slash (drop 1 (rest mid)) here in
+    let closed : begins (λ c. c == slash) (behind_body (rest old)) ≡ true =
+    ap (begins (λ c. c == slash)) passed.0 ∙ passed.1 in
+    let end : place_left (start + 1) (rest old) (behind_body (rest old)) ≡ pattern_end =
+    ap (place_left (start + 1) (rest old)) passed.0 ∙ ap (λ n. place_left n (rest old) (rest mid)) begun
+    ∙ place_left_is old mid h g passed.2.text passed.2.onward ∙ sym ends in
+    let read : regular_expression start (rest old) ≡ with_flags_behind pattern_end (rest behind) =
+    expression_terminated start (rest old) (behind_body (rest old)) closed
+    ∙ ap (λ n. with_flags_behind n (drop 1 (behind_body (rest old)))) end
+    ∙ ap (λ t. with_flags_behind pattern_end (drop 1 t)) passed.0
+    ∙ ap (with_flags_behind pattern_end) (sym step.1) in
+    record {
+      text = flags.text ∙ step.0 ∙ passed.2.text;
+      left = ap (λ r. r.rest) read ∙ flags.left;
+      reports = flags.reports ∙ ap (λ r. before ++ r.diagnostics) (sym read);
+      info_is = ap (λ r. r.regex) read ∙ flags.info_is;
+    }
+
+-- A body that has no end.
+pub expression_broken : (start : ℕ) (old mid new : At) (before after : List Diagnostic) (info : RegexInfo)
+    → IsPlaced old → IsPlaced new → start + 1 ≡ old.place → PassesBody old mid false
+    → BreaksLine start mid new before after info
+    → SpellsExpression (regular_expression start (rest old)) old new before after info
+expression_broken start old mid new before after info h g begun passed breaks =
+    let text : breaks.behind.text ≡ old.text = breaks.same ∙ passed.1.text in
+    let read : regular_expression start (rest old) ≡ unterminated_expression start (rest old) =
+    expression_unterminated start (rest old) (behind_body (rest old)) passed.0 in
+    let line : rest breaks.behind ≡ drop 1 (from_first is_line_terminator (rest old)) =
+    breaks.stepped ∙ ap (drop 1) (sym passed.1.line) in
+    let reported : breaks.behind.place
+    ≡ place_left (start + 1) (rest old) (drop 1 (from_first is_line_terminator (rest old))) =
+    sym
+    (place_left_is old breaks.behind h breaks.placed text (omega (arith, passed.1.onward, breaks.onward)))
+    ∙ ap (place_left old.place (rest old)) line
+    ∙ ap (λ n. place_left n (rest old) (drop 1 (from_first is_line_terminator (rest old)))) (sym begun) in
+    let end : new.place ≡ place_behind (start + 1) (rest old) =
+    leads_to old new (rest old) h g (breaks.text ∙ passed.1.text)
+    (sym (append-nil (rest old)) ∙ ap (λ t. rest old ++ t) (sym breaks.nothing))
+    ∙ ap (λ n. place_behind n (rest old)) (sym begun) in
+    record {
+      text = breaks.text ∙ passed.1.text;
+      left = ap (λ r. r.rest) read ∙ sym breaks.nothing;
+      reports = breaks.reports ∙ ap (λ n. before ++ UnterminatedRegExp (stretch start n) ∷ []) reported
+          ∙ ap (λ r. before ++ r.diagnostics) (sym read);
+      info_is = ap (λ r. r.regex) read
+          ∙ ap (λ n. Some (info_of n)) (sym end) ∙ ap Some (sym breaks.info_is);
+    }
+  where
+    info_of : ℕ → RegexInfo
+    info_of n = record { pattern_end = n; flags = no_flags; flags_error = false }

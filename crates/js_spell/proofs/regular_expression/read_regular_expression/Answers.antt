@@ -1,0 +1,25 @@
+use Rattle.std.proofs.lemmas.Result.{IfOk-weaker}
+use Rattle.js_spell.proofs.FlagSteps.{expression_broken, expression_closed, slash_passed}
+use Rattle.js_spell.proofs.regular_expression.read_regular_expression.Goals as goal
+
+pub returns-then-not-pass_body-clause-ok : goal.returns-then-not-pass_body-clause-ok
+returns-then-not-pass_body-clause-ok c =
+    IfOk-weaker c.report_unterminated.result _ _
+    (λ info breaks. expression_broken c.args.start c.args.source.now c.pass_body.new.source
+    c.report_unterminated.new.source c.args.errors.now c.report_unterminated.new.errors info c.requires.placed
+    c.report_unterminated.ensures.placed c.requires.start c.if-not-pass_body.ensures.passes breaks)
+    c.report_unterminated.ensures.ok
+
+pub read_flags-requires-clause-behind : goal.read_flags-requires-clause-behind
+read_flags-requires-clause-behind c =
+    slash_passed c.args.source.now c.pass_body.new.source c.next_char.new.self c.offset-pattern_end.result
+    c.offset-pattern_end.ensures.place c.offset-pattern_end.ensures.placed c.next_char.ensures.placed
+    c.if-not-pass_body.ensures.passes c.next_char.ensures.past
+
+pub returns-clause-ok : goal.returns-clause-ok
+returns-clause-ok c =
+    IfOk-weaker c.read_flags.result _ _
+    (λ info flags. expression_closed c.args.start c.args.source.now c.pass_body.new.source c.next_char.new.self
+    c.read_flags.new.source c.args.errors.now c.read_flags.new.errors info c.offset-pattern_end.result
+    c.requires.placed c.offset-pattern_end.ensures.placed c.requires.start c.offset-pattern_end.ensures.place
+    c.if-not-pass_body.ensures.passes c.next_char.ensures.past flags) c.read_flags.ensures.ok

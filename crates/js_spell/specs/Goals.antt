@@ -1,0 +1,72 @@
+-- What readers of angles and of parts of JSX give, and their steps.
+use Rattle.std.specs.Prelude.{◌≡◌, ℕ, ◌<◌, Bool, true, false, not, List, [], ◌∷◌, ◌++◌, ◌==◌, Some, None}
+use Rattle.std.specs.Prelude.{if◌then◌else◌, drop}
+use Rattle.js_text.specs.Ascii.{apostrophe, equals_sign, greater_than_sign, quotation_mark}
+use Rattle.js_text.specs.Characters.{begins}
+use Rattle.js_text.specs.declared.diagnostic.Diagnostic.{Diagnostic}
+use Rattle.js_kind.specs.declared.kind.Kind.{Kind}
+use Rattle.js_kind.specs.declared.kind.Kind.TheVariants.{Ident}
+use Rattle.js_grammar.specs.Angle.{angle_read, right_angles}
+use Rattle.js_grammar.specs.GoalRead.{GoalRead}
+use Rattle.js_grammar.specs.Jsx.{ends_jsx_text, jsx_name_read, jsx_read, jsx_string_read}
+use Rattle.js_source.specs.Runs.{HasAscii}
+use Rattle.js_source.specs.Search.{matches_at}
+use Rattle.js_source.specs.Source.{At, rest, BeginsWith, Reads}
+use Rattle.js_spell.specs.declared.jsx.Text.{Text}
+use Rattle.js_spell.specs.declared.jsx.Text.TheVariants.{Child, DoubleQuoted, SingleQuoted}
+
+-- A token of this kind was read.
+pub record SpellsGoal (read : GoalRead) (old new : At) (before after : List Diagnostic) (kind : Kind) : Type 0 where
+  pub text : new.text ≡ old.text
+  pub kind_is : read.kind ≡ kind
+  pub left : read.rest ≡ rest new
+  pub reports : after ≡ before ++ read.diagnostics
+
+-- a `=` was taken, if it is next, and this decides between the kinds
+abbrev pub equals_kind : Bool → Kind → Kind → Kind
+equals_kind is_there alone assigned = if is_there then assigned else alone
+
+pub record TakesEquals (old new : At) (alone assigned kind : Kind) : Type 0 where
+  pub text : new.text ≡ old.text
+  pub kind_is : kind ≡ equals_kind (begins (λ c. c == equals_sign) (rest old)) alone assigned
+  pub left : rest new ≡ (if begins (λ c. c == equals_sign) (rest old) then drop 1 (rest old) else rest old)
+
+-- The longest punctuator was read that begins with a `>`, behind this.
+pub record SpellsAngle (old new : At) (kind : Kind) : Type 0 where
+  pub text : new.text ≡ old.text
+  pub read : angle_read right_angles (greater_than_sign ∷ rest old)
+      ≡ Some (record { kind = kind; rest = rest new; regex = None; diagnostics = [] })
+
+-- A name of JSX was read on; or it does not go on here.
+abbrev pub SpellsJsxName : At → At → Bool → Type 0
+SpellsJsxName old new true =
+    (new.text ≡ old.text) × (jsx_name_read (rest old) ≡ Some (jsx_read Ident (rest new) []))
+SpellsJsxName old new false = (new ≡ old) × (jsx_name_read (rest old) ≡ None)
+
+-- the characters that end a text
+abbrev pub ends_of : Text → ℕ → Bool
+ends_of Child c = ends_jsx_text c
+ends_of DoubleQuoted c = c == quotation_mark
+ends_of SingleQuoted c = c == apostrophe
+
+-- the table has the ASCII characters that stand for themselves
+pub record TellsText (within : Text) (table : List Bool) : Type 0 where
+  pub ascii : HasAscii table
+  pub tells : (b : ℕ) → b < 128 → matches_at table b ≡ not (ends_of within b)
+
+-- a character that ends the text is next
+pub record StopsAt (within : Text) (b : ℕ) (text : List ℕ) : Type 0 where
+  pub next : BeginsWith b text
+  pub ends : ends_of within b ≡ true
+
+-- the quote of a string was taken
+pub record TakesJsxQuote (old new : At) (within : Text) : Type 0 where
+  pub quote : ℕ
+  pub read : Reads old new quote
+  pub ends : (c : ℕ) → ends_of within c ≡ (c == quote)
+
+-- The string of an attribute was read.
+pub record SpellsJsxString (old new : At) (before after : List Diagnostic) (kind : Kind) : Type 0 where
+  pub found : GoalRead
+  pub read : jsx_string_read old.place (rest old) ≡ Some found
+  pub spells : SpellsGoal found old new before after kind

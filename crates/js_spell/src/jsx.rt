@@ -1,0 +1,244 @@
+//! Reading parts of JSX.
+
+ghost use Rattle.std.specs.Prelude.{◌≡◌, ◌==◌, ◌≤◌, true, length, IfOk, IfNone, IfSome, OnErr, []};
+ghost use Rattle.js_text.specs.Characters.{begins, from_first};
+ghost use Rattle.js_grammar.specs.Jsx.{begins_child, ends_jsx_name, jsx_child_read, jsx_text_read};
+ghost use Rattle.js_grammar.specs.StringItems.{is_quote};
+ghost use Rattle.js_source.specs.Source.{rest, IsPlaced};
+ghost use Rattle.js_spell.specs.Goals.{SpellsGoal, SpellsJsxName, SpellsJsxString, StopsAt, TakesJsxQuote, TellsText};
+ghost use Rattle.js_spell.specs.Goals.{ends_of};
+ghost use Rattle.js_spell.specs.Numeric.{BreaksOff};
+
+use crate::escape::report_unterminated;
+use crate::name::skip_parts;
+use js_kind::Kind;
+use js_source::Source;
+use js_text::{Diagnostic, DiagnosticList, Span};
+use std::alloc::AllocError;
+
+/// Goes to the first character that is no part of a name of JSX.
+fn skip_jsx_parts(source: &mut Source<'_>)
+    requires { IsPlaced source.old }
+    ensures text { source.new.text ≡ source.old.text }
+    ensures rest { rest source.new ≡ from_first ends_jsx_name (rest source.old) }
+    ensures onward { source.old.place ≤ source.new.place }
+    ensures placed { IsPlaced source.new }
+{
+    skip_parts(source);
+    'parts: while source.advance_if_ascii_eq(b'-') {
+        skip_parts(source);
+    }
+}
+
+/// Reads a name of JSX on, behind its part up to the first `-`: all parts of names and all `-` that follow. False: no
+/// `-` is next, and nothing was read.
+pub fn read_jsx_identifier(source: &mut Source<'_>) -> bool
+    ensures reads { SpellsJsxName source.old source.new result }
+    ensures placed { IsPlaced source.new }
+{
+    if !source.advance_if_ascii_eq(b'-') {
+        return false;
+    }
+    skip_jsx_parts(source);
+    true
+}
+
+/// What the text of JSX stands in.
+#[derive(Clone, Copy, Debug)]
+enum Text {
+    /// A child of a tag.
+    Child,
+    /// A string between double quotes.
+    DoubleQuoted,
+    /// A string between single quotes.
+    SingleQuoted,
+}
+
+/// The ASCII characters that stand for themselves in the text of a child.
+static CHILD: [bool; 256] = [
+    true, true, true, true, true, true, true, true, true, true, true, true, true, true, true, true,
+    true, true, true, true, true, true, true, true, true, true, true, true, true, true, true, true,
+    true, true, true, true, true, true, true, true, true, true, true, true, true, true, true, true,
+    true, true, true, true, true, true, true, true, true, true, true, true, false, true, false,
+    true, true, true, true, true, true, true, true, true, true, true, true, true, true, true, true,
+    true, true, true, true, true, true, true, true, true, true, true, true, true, true, true, true,
+    true, true, true, true, true, true, true, true, true, true, true, true, true, true, true, true,
+    true, true, true, true, true, true, true, true, true, true, true, true, false, true, false,
+    true, true, false, false, false, false, false, false, false, false, false, false, false, false,
+    false, false, false, false, false, false, false, false, false, false, false, false, false,
+    false, false, false, false, false, false, false, false, false, false, false, false, false,
+    false, false, false, false, false, false, false, false, false, false, false, false, false,
+    false, false, false, false, false, false, false, false, false, false, false, false, false,
+    false, false, false, false, false, false, false, false, false, false, false, false, false,
+    false, false, false, false, false, false, false, false, false, false, false, false, false,
+    false, false, false, false, false, false, false, false, false, false, false, false, false,
+    false, false, false, false, false, false, false, false, false, false, false, false, false,
+    false, false, false, false, false, false, false, false, false, false, false, false,
+];
+
+/// The ASCII characters that stand for themselves between double quotes.
+static DOUBLE_QUOTED: [bool; 256] = [
+    true, true, true, true, true, true, true, true, true, true, true, true, true, true, true, true,
+    true, true, true, true, true, true, true, true, true, true, true, true, true, true, true, true,
+    true, true, false, true, true, true, true, true, true, true, true, true, true, true, true,
+    true, true, true, true, true, true, true, true, true, true, true, true, true, true, true, true,
+    true, true, true, true, true, true, true, true, true, true, true, true, true, true, true, true,
+    true, true, true, true, true, true, true, true, true, true, true, true, true, true, true, true,
+    true, true, true, true, true, true, true, true, true, true, true, true, true, true, true, true,
+    true, true, true, true, true, true, true, true, true, true, true, true, true, true, true, true,
+    true, false, false, false, false, false, false, false, false, false, false, false, false,
+    false, false, false, false, false, false, false, false, false, false, false, false, false,
+    false, false, false, false, false, false, false, false, false, false, false, false, false,
+    false, false, false, false, false, false, false, false, false, false, false, false, false,
+    false, false, false, false, false, false, false, false, false, false, false, false, false,
+    false, false, false, false, false, false, false, false, false, false, false, false, false,
+    false, false, false, false, false, false, false, false, false, false, false, false, false,
+    false, false, false, false, false, false, false, false, false, false, false, false, false,
+    false, false, false, false, false, false, false, false, false, false, false, false, false,
+    false, false, false, false, false, false, false, false, false, false, false, false,
+];
+
+/// The ASCII characters that stand for themselves between single quotes.
+static SINGLE_QUOTED: [bool; 256] = [
+    true, true, true, true, true, true, true, true, true, true, true, true, true, true, true, true,
+    true, true, true, true, true, true, true, true, true, true, true, true, true, true, true, true,
+    true, true, true, true, true, true, true, false, true, true, true, true, true, true, true,
+    true, true, true, true, true, true, true, true, true, true, true, true, true, true, true, true,
+    true, true, true, true, true, true, true, true, true, true, true, true, true, true, true, true,
+    true, true, true, true, true, true, true, true, true, true, true, true, true, true, true, true,
+    true, true, true, true, true, true, true, true, true, true, true, true, true, true, true, true,
+    true, true, true, true, true, true, true, true, true, true, true, true, true, true, true, true,
+    true, false, false, false, false, false, false, false, false, false, false, false, false,
+    false, false, false, false, false, false, false, false, false, false, false, false, false,
+    false, false, false, false, false, false, false, false, false, false, false, false, false,
+    false, false, false, false, false, false, false, false, false, false, false, false, false,
+    false, false, false, false, false, false, false, false, false, false, false, false, false,
+    false, false, false, false, false, false, false, false, false, false, false, false, false,
+    false, false, false, false, false, false, false, false, false, false, false, false, false,
+    false, false, false, false, false, false, false, false, false, false, false, false, false,
+    false, false, false, false, false, false, false, false, false, false, false, false, false,
+    false, false, false, false, false, false, false, false, false, false, false, false,
+];
+
+/// The table of the ASCII characters that stand for themselves.
+#[inline(always)]
+fn table_of(within: Text) -> &'static [bool; 256]
+    ensures { TellsText within result.now }
+{
+    match within {
+        Text::Child => &CHILD,
+        Text::DoubleQuoted => &DOUBLE_QUOTED,
+        Text::SingleQuoted => &SINGLE_QUOTED,
+    }
+}
+
+/// Goes to the character that ends the text, and gives it. None: the source ends before one.
+fn pass_text(source: &mut Source<'_>, within: Text) -> Option<u8>
+    requires { IsPlaced source.old }
+    ensures text { source.new.text ≡ source.old.text }
+    ensures rest { rest source.new ≡ from_first (ends_of within) (rest source.old) }
+    ensures onward { source.old.place ≤ source.new.place }
+    ensures none { IfNone result (rest source.new ≡ []) }
+    ensures some { IfSome result (λ b. StopsAt within b (rest source.new)) }
+    ensures placed { IsPlaced source.new }
+{
+    let table = table_of(within);
+    'characters: loop {
+        let b = source.pass_ascii(table)?;
+        if b < 128 {
+            return Some(b);
+        }
+        source.next_char();
+    }
+}
+
+/// Whether the byte is a mark that a child goes on with.
+fn begins_child(b: u8) -> bool
+    ensures { result ≡ begins_child b }
+{
+    b == b'<' || b == b'{'
+}
+
+/// Reads the text of a child.
+fn read_jsx_text(source: &mut Source<'_>, errors: &mut DiagnosticList) -> Result<Kind, AllocError>
+    requires { IsPlaced source.old }
+    ensures ok { IfOk result (SpellsGoal (jsx_text_read source.old.place (rest source.old)) source.old source.new
+        errors.old errors.new) }
+    ensures err { OnErr result (BreaksOff source.old source.new errors.old errors.new) }
+    ensures placed { IsPlaced source.new }
+{
+    let b = match pass_text(source, Text::Child) {
+        Some(b) => b,
+        None => return Ok(Kind::Eof),
+    };
+    if begins_child(b) {
+        return Ok(Kind::JSXText);
+    }
+    let span = Span::empty(source.offset());
+    let c = b as char;
+    errors.push(Diagnostic::UnexpectedJsxEnd { c, span })?;
+    Ok(Kind::Eof)
+}
+
+/// Reads what stands between two tags of JSX, and gives its kind: a `<`, a `{`, or text up to one of them. Text that the
+/// source ends is of kind `Eof`, and so is text before a `>` or a `}`, which is reported. It asks for no memory but for
+/// that.
+pub fn read_jsx_child(
+    source: &mut Source<'_>,
+    errors: &mut DiagnosticList,
+) -> Result<Kind, AllocError>
+    requires { IsPlaced source.old }
+    ensures ok { IfOk result (SpellsGoal (jsx_child_read source.old.place (rest source.old)) source.old source.new
+        errors.old errors.new) }
+    ensures err { OnErr result (BreaksOff source.old source.new errors.old errors.new) }
+    ensures placed { IsPlaced source.new }
+{
+    if source.advance_if_ascii_eq(b'<') {
+        return Ok(Kind::LAngle);
+    }
+    if source.advance_if_ascii_eq(b'{') {
+        return Ok(Kind::LCurly);
+    }
+    read_jsx_text(source, errors)
+}
+
+/// Takes the quote that is next.
+fn take_quote(source: &mut Source<'_>) -> Text
+    requires placed { IsPlaced source.old }
+    requires quote { begins is_quote (rest source.old) ≡ true }
+    ensures quote { TakesJsxQuote source.old source.new result }
+    ensures onward { source.old.place ≤ source.new.place }
+    ensures placed { IsPlaced source.new }
+{
+    if source.advance_if_ascii_eq(b'"') {
+        return Text::DoubleQuoted;
+    }
+    source.next_char();
+    Text::SingleQuoted
+}
+
+/// Reads the string of an attribute that is next, and gives its kind: up to the next quote like its first, since it has
+/// no escapes. One that has no end is reported, from the offset where it begins. It asks for no memory but for that.
+pub fn read_jsx_string(
+    source: &mut Source<'_>,
+    errors: &mut DiagnosticList,
+) -> Result<Kind, AllocError>
+    requires placed { IsPlaced source.old }
+    requires quote { begins is_quote (rest source.old) ≡ true }
+    ensures ok { IfOk result (SpellsJsxString source.old source.new errors.old errors.new) }
+    ensures err { OnErr result (BreaksOff source.old source.new errors.old errors.new) }
+    ensures placed { IsPlaced source.new }
+{
+    let start = source.offset();
+    let within = take_quote(source);
+    match pass_text(source, within) {
+        Some(_quote) => {
+            source.next_char();
+            Ok(Kind::Str)
+        }
+        None => {
+            report_unterminated(source, errors, start)?;
+            Ok(Kind::Eof)
+        }
+    }
+}
