@@ -3,9 +3,9 @@ use Rattle.std.proofs.Common.{◌≡◌, ℕ, List, [], ◌++◌, length, take, 
 use Rattle.std.proofs.lemmas.List.{take-append-le, take_all}
 use Rattle.js_text.specs.declared.comment.Comment.{Comment}
 use Rattle.js_text.specs.declared.span.Span.{Span}
-use Rattle.js_trivia.specs.Items.{Gap}
-use Rattle.js_trivia.specs.Attach.{attach}
-use Rattle.js_trivia.specs.Trivia.{Trivia, held, lengths_of, cut_to, irregular_of, BeforeGap, after_gap, GrewFrom}
+use Rattle.js_grammar.specs.GapItems.{Gap, irregular_of}
+use Rattle.js_grammar.specs.Attach.{attach}
+use Rattle.js_trivia.specs.Trivia.{Trivia, held, lengths_of, cut_to, BeforeGap, after_gap, GrewFrom}
 
 take_front : {X : Type 0} (xs ys : List X) → take (length xs) (xs ++ ys) ≡ xs
 take_front xs ys = take-append-le (length xs) xs ys (omega arith) ∙ take_all (length xs) xs (omega arith)
@@ -54,3 +54,18 @@ grew_on s then now first second = record {
   irregular_now = second.irregular_now ∙ ap (λ xs. xs ++ second.spans) first.irregular_now
       ∙ append_assoc s.irregular_whitespaces first.spans second.spans;
 }
+
+-- Where the comments that were held have other classes by now, they keep them.
+pub cut_back_keeps_marks : (s now : Trivia) (older more : List Comment) (spans : List Span)
+    → held now.attachment ≡ older ++ more → length older ≡ length s.attachment.attached
+    → now.irregular_whitespaces ≡ s.irregular_whitespaces ++ spans
+    → cut_to (lengths_of s) now ≡ record s { attachment = record s.attachment { attached = older; pending = [] } }
+cut_back_keeps_marks s now older more spans held_now count irregular_now =
+    let front : take (length s.attachment.attached) (held now.attachment) ≡ older =
+    ap (take (length s.attachment.attached)) held_now
+    ∙ ap (λ n. take n (older ++ more)) (sym count)
+    ∙ take_front older more in
+    let irregular : take (length s.irregular_whitespaces) now.irregular_whitespaces ≡ s.irregular_whitespaces =
+    ap (take (length s.irregular_whitespaces)) irregular_now ∙ take_front s.irregular_whitespaces spans in
+    ap (λ cs. parts s cs [] (take (length s.irregular_whitespaces) now.irregular_whitespaces)) front
+    ∙ ap (parts s older []) irregular

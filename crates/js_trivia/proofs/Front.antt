@@ -3,12 +3,12 @@ use Rattle.std.proofs.Common.{◌≡◌, Bool, true, false, List, [], ◌∷◌,
 use Rattle.std.proofs.Common.{inr}
 use Rattle.std.specs.Prelude.{not, ◌&&◌, ◌||◌, unwrap_or, if◌then◌else◌}
 use Rattle.js_kind.specs.declared.kind.Kind.{Kind}
-use Rattle.js_trivia.specs.Kinds.{keeps_line_comment_leading}
-use Rattle.js_trivia.specs.Items.{Found, Item, irregular, line_end, comment, Gap, has_newline_event}
-use Rattle.js_trivia.specs.Items.{up_to_newline_event, last_comment, begins_with_line_end, from_newline_event}
-use Rattle.js_trivia.specs.Classes.{stays_leading}
+use Rattle.js_grammar.specs.TokensAround.{keeps_line_comment_leading}
+use Rattle.js_grammar.specs.GapItems.{Found, Item, irregular, line_end, comment, Gap, has_newline_event}
+use Rattle.js_grammar.specs.GapItems.{up_to_newline_event, last_comment, begins_with_line_end, from_newline_event}
+use Rattle.js_grammar.specs.CommentClasses.{stays_leading}
 use Rattle.js_text.specs.Comment.{is_line_kind}
-use Rattle.js_trivia.specs.Attach.{may_trail, front_trails}
+use Rattle.js_grammar.specs.Attach.{may_trail, front_trails}
 
 -- Where ready tells whether the last comment before may be trailing.
 abbrev pub trails_from : Bool → Kind → List Item → Bool

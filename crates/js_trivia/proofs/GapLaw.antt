@@ -3,11 +3,11 @@ use Rattle.std.proofs.Common.{◌≡◌, ℕ, ◌+◌, ◌≤◌, List, [], ◌�
 use Rattle.std.proofs.Common.{append-nil, append_assoc}
 use Rattle.js_kind.specs.TokenParts.{TokenParts}
 use Rattle.js_text.specs.declared.span.Span.{Span}
-use Rattle.js_trivia.specs.Items.{Found, Item, irregular, line_end, comment, Gap}
+use Rattle.js_grammar.specs.GapItems.{Found, Item, irregular, line_end, comment, Gap, irregular_of}
 use Rattle.js_trivia.specs.Attachment.{after_token, after_items, between_gaps}
 use Rattle.js_trivia.specs.Trivia.{Trivia, held, comment_starts, span_starts, is_past, is_pure_not_applied}
 use Rattle.js_trivia.specs.Trivia.{is_no_side_effects_not_applied, add_comment, add_new_comment, add_irregular}
-use Rattle.js_trivia.specs.Trivia.{handle_newline, handle_token, calls, Ascends, HeldBefore, BeforeGap, irregular_of}
+use Rattle.js_trivia.specs.Trivia.{handle_newline, handle_token, calls, Ascends, HeldBefore, BeforeGap}
 use Rattle.js_trivia.specs.Trivia.{range_after, after_gap}
 use Rattle.js_trivia.proofs.Starts.{starts_after_comment, starts_after_newline, starts_after_token}
 use Rattle.js_trivia.proofs.Starts.{length_after_comment, length_after_newline, is_past_more, is_past_push}

@@ -4,7 +4,7 @@ use Rattle.std.proofs.Math.ListN.{set}
 use Rattle.std.specs.Prelude.{not, nat_lt, map}
 use Rattle.js_trivia.specs.Trivia.{is_past}
 use Rattle.js_text.specs.declared.comment.Comment.{Comment}
-use Rattle.js_trivia.specs.Classes.{stays_leading}
+use Rattle.js_grammar.specs.CommentClasses.{stays_leading}
 use Rattle.js_trivia.specs.Attachment.{mark_followed, mark_last_followed, last_may_trail}
 
 pub mark_last_at : (cs : List Comment) (d : Comment) → 1 ≤ length cs

@@ -4,11 +4,11 @@ use Rattle.std.proofs.Common.{append-nil, append_assoc}
 use Rattle.std.specs.Prelude.{not, ◌&&◌}
 use Rattle.std.proofs.lemmas.List.{map-append}
 use Rattle.js_text.specs.declared.comment.Comment.{Comment}
-use Rattle.js_trivia.specs.Kinds.{keeps_line_comment_leading}
-use Rattle.js_trivia.specs.Items.{Found, Item, irregular, line_end, comment, Gap}
-use Rattle.js_trivia.specs.Classes.{stays_leading}
+use Rattle.js_grammar.specs.TokensAround.{keeps_line_comment_leading}
+use Rattle.js_grammar.specs.GapItems.{Found, Item, irregular, line_end, comment, Gap}
+use Rattle.js_grammar.specs.CommentClasses.{stays_leading}
 use Rattle.js_text.specs.Comment.{is_line_kind}
-use Rattle.js_trivia.specs.Attach.{front_trails, attach}
+use Rattle.js_grammar.specs.Attach.{front_trails, attach}
 use Rattle.js_trivia.specs.Attachment.{mark_last_followed, last_may_trail, waiting, trail_pending_if, after_token}
 use Rattle.js_trivia.specs.Attachment.{after_items, between_gaps}
 use Rattle.js_trivia.proofs.Walk.{walked, walk, front_at, attach_walks}

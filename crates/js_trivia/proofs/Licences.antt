@@ -5,7 +5,7 @@ use Rattle.std.specs.Prelude.{◌==◌, ◌&&◌, ◌||◌, codes}
 use Rattle.std.proofs.lemmas.Bool.{eqb-true, eq-eqb}
 use lib.Pointwise.{pointwise}
 use Rattle.memchr.specs.Find.{IsFirstByte, is_byte}
-use Rattle.js_trivia.specs.Classes.{is_licensed}
+use Rattle.js_grammar.specs.CommentClasses.{is_licensed}
 
 not_true : (x : Bool) → (x ≡ true → ⊥) → x ≡ false
 not_true true h = absurd (h refl)

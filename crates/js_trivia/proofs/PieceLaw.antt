@@ -5,10 +5,11 @@ use Rattle.js_grammar.specs.Gap.{PieceKind, white_space, line_terminator, single
 use Rattle.js_grammar.specs.Gap.{html_open_comment, html_close_comment, reported_comment, Piece}
 use Rattle.js_text.specs.Characters.{begins, is_irregular_whitespace}
 use Rattle.std.specs.Prelude.{not, ◌&&◌}
-use Rattle.js_trivia.specs.Items.{Item, irregular, line_end, comment}
+use Rattle.js_grammar.specs.GapItems.{Item, irregular, line_end, comment}
 use Rattle.js_trivia.specs.Trivia.{Trivia, Ascends, BeforeGap, HeldBefore, calls, handle_token, after_gap}
-use Rattle.js_trivia.specs.Pieces.{piece_length, piece_span, is_line_comment, is_separator, listed_if, items_of_kind}
-use Rattle.js_trivia.specs.Pieces.{items_from, items_of, gap_of, HaveBytes, end_of, MayRead}
+use Rattle.js_grammar.specs.PieceItems.{piece_length, piece_span, is_line_comment, is_separator, listed_if}
+use Rattle.js_grammar.specs.PieceItems.{items_of_kind, items_from, items_of, gap_of}
+use Rattle.js_trivia.specs.Pieces.{HaveBytes, end_of, MayRead}
 use Rattle.js_trivia.proofs.GapLaw.{calls_for_gap, held_after_gap}
 
 -- what starts at a place or later starts at any lower place or later

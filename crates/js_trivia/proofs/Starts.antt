@@ -12,9 +12,9 @@ use Rattle.js_text.specs.declared.comment.CommentPosition.TheVariants.{Trailing}
 use Rattle.js_text.specs.declared.comment.Comment.{Comment}
 use Rattle.js_kind.specs.TokenParts.{TokenParts}
 use Rattle.js_text.specs.declared.span.Span.{Span}
-use Rattle.js_trivia.specs.Items.{Found}
-use Rattle.js_trivia.specs.Classes.{stays_leading}
-use Rattle.js_trivia.specs.Attach.{trails_alone}
+use Rattle.js_grammar.specs.GapItems.{Found}
+use Rattle.js_grammar.specs.CommentClasses.{stays_leading}
+use Rattle.js_grammar.specs.Attach.{trails_alone}
 use Rattle.js_trivia.specs.Attachment.{Attachment, attach_to, attach_by, attach_alone, after_token, mark_last_followed}
 use Rattle.js_trivia.specs.Attachment.{waiting, push_waiting, last_may_trail, line_comment_trails, trail_pending_if}
 use Rattle.js_trivia.specs.Attachment.{after_comment, after_newline}

@@ -4,11 +4,11 @@ use Rattle.std.specs.Prelude.{not, ◌&&◌, ◌||◌, if◌then◌else◌}
 use Rattle.js_kind.specs.TokenParts.{TokenParts}
 use Rattle.js_text.specs.declared.comment.CommentPosition.TheVariants.{Leading, Trailing}
 use Rattle.js_text.specs.declared.comment.Comment.{Comment}
-use Rattle.js_trivia.specs.Kinds.{keeps_line_comment_leading}
-use Rattle.js_trivia.specs.Items.{Found, Item, Gap, begins_with_line_end, skip_irregular}
-use Rattle.js_trivia.specs.Classes.{stays_leading}
+use Rattle.js_grammar.specs.TokensAround.{keeps_line_comment_leading}
+use Rattle.js_grammar.specs.GapItems.{Found, Item, Gap, begins_with_line_end, skip_irregular}
+use Rattle.js_grammar.specs.CommentClasses.{stays_leading}
 use Rattle.js_text.specs.Comment.{is_line_kind}
-use Rattle.js_trivia.specs.Attach.{is_followed, trails_alone}
+use Rattle.js_grammar.specs.Attach.{is_followed, trails_alone}
 use Rattle.js_trivia.specs.Attachment.{Attachment, attach_to, mark_followed, mark_last_followed, last_may_trail}
 use Rattle.js_trivia.specs.Attachment.{waiting, trail_pending_if, attach_alone, after_comment}
 use Rattle.js_trivia.proofs.Walk.{walked}

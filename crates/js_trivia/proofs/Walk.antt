@@ -3,10 +3,10 @@ use Rattle.std.proofs.Common.{◌≡◌, Bool, true, false, List, [], ◌∷◌,
 use Rattle.std.specs.Prelude.{not, ◌&&◌, ◌||◌, if◌then◌else◌}
 use Rattle.js_text.specs.declared.comment.CommentPosition.TheVariants.{Leading, Trailing}
 use Rattle.js_text.specs.declared.comment.Comment.{Comment}
-use Rattle.js_trivia.specs.Items.{Found, Item, irregular, line_end, comment, Gap, has_newline_event}
-use Rattle.js_trivia.specs.Classes.{stays_leading}
+use Rattle.js_grammar.specs.GapItems.{Found, Item, irregular, line_end, comment, Gap, has_newline_event}
+use Rattle.js_grammar.specs.CommentClasses.{stays_leading}
 use Rattle.js_text.specs.Comment.{is_line_kind}
-use Rattle.js_trivia.specs.Attach.{is_preceded, is_followed, front_trails, trails_alone, attached, attach_from}
+use Rattle.js_grammar.specs.Attach.{is_preceded, is_followed, front_trails, trails_alone, attached, attach_from}
 
 -- A comment, where front tells whether it is trailing with others, and preceded whether it is preceded.
 abbrev pub walked : Gap → Bool → Bool → Found → List Item → Comment

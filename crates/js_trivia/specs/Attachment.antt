@@ -5,11 +5,11 @@ use Rattle.js_kind.specs.TokenParts.{TokenParts}
 use Rattle.js_text.specs.declared.comment.CommentPosition.{CommentPosition}
 use Rattle.js_text.specs.declared.comment.CommentPosition.TheVariants.{Leading, Trailing}
 use Rattle.js_text.specs.declared.comment.Comment.{Comment}
-use Rattle.js_trivia.specs.Kinds.{keeps_line_comment_leading}
-use Rattle.js_trivia.specs.Items.{Found, Item, irregular, line_end, comment}
-use Rattle.js_trivia.specs.Classes.{stays_leading}
+use Rattle.js_grammar.specs.TokensAround.{keeps_line_comment_leading}
+use Rattle.js_grammar.specs.GapItems.{Found, Item, irregular, line_end, comment}
+use Rattle.js_grammar.specs.CommentClasses.{stays_leading}
 use Rattle.js_text.specs.Comment.{is_line_kind}
-use Rattle.js_trivia.specs.Attach.{trails_alone}
+use Rattle.js_grammar.specs.Attach.{trails_alone}
 
 -- The comments are first those that are attached, then those that wait for the next token.
 pub record Attachment : Type 0 where

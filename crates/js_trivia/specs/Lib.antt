@@ -1,8 +1,5 @@
-pub mod Attach
 pub mod Attachment
 pub mod Builder
-pub mod Classes
-pub mod Items
-pub mod Kinds
+pub mod Marks
 pub mod Pieces
 pub mod Trivia

@@ -9,14 +9,13 @@ use Rattle.js_text.specs.declared.comment.CommentRange.{CommentRange}
 use Rattle.js_text.specs.declared.comment.Comment.{Comment}
 use Rattle.js_text.specs.declared.span.Span.{Span}
 use Rattle.js_trivia.specs.declared.lengths.TriviaLengths.{TriviaLengths}
-use Rattle.js_trivia.specs.Items.{found_at, Found, Item, irregular, line_end, comment, Gap}
+use Rattle.js_grammar.specs.GapItems.{found_at, Found, Item, irregular, line_end, comment, Gap, irregular_of}
+use Rattle.js_grammar.specs.GapItems.{no_token}
 use Rattle.std.specs.Str.{IsCharBoundary}
 use Rattle.js_text.specs.Comment.{is_line_kind, HoldsMarks, content_span}
 use Rattle.js_text.specs.declared.comment.CommentKind.{CommentKind}
-use Rattle.js_kind.specs.TokenParts.{default_parts}
-use Rattle.js_kind.specs.declared.kind.Kind.TheVariants.{Undetermined}
-use Rattle.js_trivia.specs.Classes.{class_of}
-use Rattle.js_trivia.specs.Attach.{attach}
+use Rattle.js_grammar.specs.CommentClasses.{class_of}
+use Rattle.js_grammar.specs.Attach.{attach}
 use Rattle.js_trivia.specs.Attachment.{Attachment, after_comment, after_newline, after_token, between_gaps}
 
 pub record Trivia : Type 0 where
@@ -28,7 +27,7 @@ pub record Trivia : Type 0 where
 -- the builder that holds nothing, before the first gap
 abbrev pub no_trivia : Trivia
 no_trivia = record {
-  attachment = between_gaps [] true (record default_parts { kind = Undetermined });
+  attachment = between_gaps [] true no_token;
   irregular_whitespaces = [];
   pure_comments = None;
   no_side_effects_comments = None;
@@ -161,12 +160,6 @@ pub record HeldBefore (low : ℕ) (s : Trivia) : Type 0 where
   pub comments : is_past low (comment_starts (held s.attachment)) ≡ true
   pub irregular : is_past low (span_starts s.irregular_whitespaces) ≡ true
 
-abbrev pub irregular_of : List Item → List Span
-irregular_of [] = []
-irregular_of (irregular span ∷ xs) = span ∷ irregular_of xs
-irregular_of (line_end ∷ xs) = irregular_of xs
-irregular_of (comment found ∷ xs) = irregular_of xs
-
 -- a range after the comments of a gap, the first of them at this index
 abbrev pub range_after : (CommentContent → Bool) → ℕ → Option CommentRange → List Item → Option CommentRange
 range_after is_noted index range [] = range
@@ -218,6 +211,13 @@ cut_to to s = record {
   pure_comments = to.pure_range;
   no_side_effects_comments = to.no_side_effects;
 }
+
+-- No list is shorter than this, and what stays starts before the place.
+pub record CanCutBack (to : TriviaLengths) (place : ℕ) (s : Trivia) : Type 0 where
+  pub comments : to.comments ≤ length (held s.attachment)
+  pub irregular : to.irregular ≤ length s.irregular_whitespaces
+  pub comments_before : is_past place (comment_starts (take to.comments (held s.attachment))) ≡ true
+  pub irregular_before : is_past place (span_starts (take to.irregular s.irregular_whitespaces)) ≡ true
 
 -- Since s, the lists were only appended to, and no comment of s was changed.
 pub record GrewFrom (s now : Trivia) : Type 0 where

@@ -2,11 +2,11 @@
 
 ghost use Rattle.std.specs.Prelude.{◌≡◌, ◌<◌, ◌≤◌, ◌==◌, ◌||◌, false, codes, drop, length, IfNone, IfSome};
 ghost use Rattle.js_text.specs.Characters.{begins};
-ghost use Rattle.js_trivia.specs.Classes.{stays_leading, begins_with, is_licensed, is_blank, without_blanks};
-ghost use Rattle.js_trivia.specs.Classes.{is_capital, is_beyond_ascii, is_empty, begins_with_either, is_hint_for};
-ghost use Rattle.js_trivia.specs.Classes.{is_key_mark, may_mark_key, is_alone_with, ends_or_is_blank, is_word};
-ghost use Rattle.js_trivia.specs.Classes.{is_for_coverage, is_for_whole_file, has_stars_alone, documentation_class};
-ghost use Rattle.js_trivia.specs.Classes.{annotation_class, tool_class, worded_class, class_of};
+ghost use Rattle.js_grammar.specs.CommentClasses.{stays_leading, begins_with, is_licensed, is_blank, without_blanks};
+ghost use Rattle.js_grammar.specs.CommentClasses.{is_capital, is_beyond_ascii, is_empty, begins_with_either, is_hint_for};
+ghost use Rattle.js_grammar.specs.CommentClasses.{is_key_mark, may_mark_key, is_alone_with, ends_or_is_blank, is_word};
+ghost use Rattle.js_grammar.specs.CommentClasses.{is_for_coverage, is_for_whole_file, has_stars_alone, documentation_class};
+ghost use Rattle.js_grammar.specs.CommentClasses.{annotation_class, tool_class, worded_class, class_of};
 
 use js_text::CommentContent;
 use memchr::memchr;
@@ -78,7 +78,7 @@ fn is_licensed(content: &[u8]) -> bool
 }
 
 /// Whether the byte is SP, TAB, LF, FF or CR.
-#[tactic(auto, unfolding(crate::specs::Classes::is_blank))]
+#[tactic(auto, unfolding(js_grammar::specs::CommentClasses::is_blank))]
 fn is_blank(b: u8) -> bool
     ensures { result ≡ is_blank b }
 {
@@ -99,7 +99,7 @@ fn without_blanks(text: &[u8]) -> &[u8]
     rest
 }
 
-#[tactic(auto, unfolding(crate::specs::Classes::is_capital))]
+#[tactic(auto, unfolding(js_grammar::specs::CommentClasses::is_capital))]
 fn begins_with_capital(text: &[u8]) -> bool
     ensures { result ≡ begins is_capital text.now }
 {
@@ -109,7 +109,7 @@ fn begins_with_capital(text: &[u8]) -> bool
     }
 }
 
-#[tactic(auto, unfolding(crate::specs::Classes::is_beyond_ascii))]
+#[tactic(auto, unfolding(js_grammar::specs::CommentClasses::is_beyond_ascii))]
 fn begins_beyond_ascii(text: &[u8]) -> bool
     ensures { result ≡ begins is_beyond_ascii text.now }
 {

@@ -1,14 +1,14 @@
 //! What the kinds of the tokens around a gap say of its comments.
 
 ghost use Rattle.std.specs.Prelude.{◌≡◌};
-ghost use Rattle.js_trivia.specs.Attach.{takes_comments};
-ghost use Rattle.js_trivia.specs.Kinds.{is_eof, is_undetermined, is_end_of_expression, can_end_expression};
-ghost use Rattle.js_trivia.specs.Kinds.{continues_expression, keeps_line_comment_leading};
+ghost use Rattle.js_grammar.specs.Attach.{takes_comments};
+ghost use Rattle.js_grammar.specs.TokensAround.{is_eof, is_undetermined, is_end_of_expression, can_end_expression};
+ghost use Rattle.js_grammar.specs.TokensAround.{continues_expression, keeps_line_comment_leading};
 
 use js_kind::Kind;
 
 /// Whether the kind is that of the end of the source.
-#[tactic(auto, unfolding(crate::specs::Kinds::is_eof))]
+#[tactic(auto, unfolding(js_grammar::specs::TokensAround::is_eof))]
 fn is_eof(kind: Kind) -> bool
     ensures { result ≡ is_eof kind }
 {
@@ -16,7 +16,7 @@ fn is_eof(kind: Kind) -> bool
 }
 
 /// Whether the kind is that of no token.
-#[tactic(auto, unfolding(crate::specs::Kinds::is_undetermined))]
+#[tactic(auto, unfolding(js_grammar::specs::TokensAround::is_undetermined))]
 fn is_undetermined(kind: Kind) -> bool
     ensures { result ≡ is_undetermined kind }
 {
@@ -24,7 +24,7 @@ fn is_undetermined(kind: Kind) -> bool
 }
 
 /// Whether an expression may end with the token, which is no identifier and no literal.
-#[tactic(auto, unfolding(crate::specs::Kinds::is_end_of_expression))]
+#[tactic(auto, unfolding(js_grammar::specs::TokensAround::is_end_of_expression))]
 fn is_end_of_expression(kind: Kind) -> bool
     ensures { result ≡ is_end_of_expression kind }
 {
@@ -60,7 +60,7 @@ fn continues_expression(kind: Kind) -> bool
 }
 
 /// Whether a line comment after the token belongs to what follows.
-#[tactic(auto, unfolding(crate::specs::Kinds::keeps_line_comment_leading))]
+#[tactic(auto, unfolding(js_grammar::specs::TokensAround::keeps_line_comment_leading))]
 pub(crate) fn keeps_line_comment_leading(kind: Kind) -> bool
     ensures { result ≡ keeps_line_comment_leading kind }
 {

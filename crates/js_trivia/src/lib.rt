@@ -6,6 +6,7 @@ mod classes;
 mod kinds;
 pub mod laws;
 mod lengths;
+mod marks;
 mod order;
 #[cfg(test)]
 mod tests;

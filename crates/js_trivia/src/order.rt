@@ -8,7 +8,7 @@ ghost use Rattle.js_trivia.specs.Trivia.{extend, extend_if};
 use js_text::{Comment, CommentRange, Span};
 
 /// Whether a comment that starts here is new.
-fn is_past_comments(comments: &[Comment], start: u32) -> bool
+pub(crate) fn is_past_comments(comments: &[Comment], start: u32) -> bool
     ensures { result ≡ is_past start (comment_starts comments.now) }
 {
     match comments {

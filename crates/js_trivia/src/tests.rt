@@ -5,7 +5,7 @@ ghost use Rattle.js_trivia.specs.Trivia.{IsPlacedIn};
 
 use crate::{TriviaBuilder, classify};
 use js_kind::{Kind, Token};
-use js_text::{CommentContent, CommentKind, CommentPosition, Span};
+use js_text::{CommentContent, CommentKind, CommentPosition, CommentRange, Span};
 use std::test::Fail;
 
 /// What is between the marks of a comment, whether it is a block comment, and its class.
@@ -318,4 +318,100 @@ fn irregular_white_space(rt: HostRuntime) -> Result<(), Fail> {
     let spans = builder.irregular_whitespaces();
     assert_eq!(rt; spans, [Span { start: 1, end: 2 }].as_slice());
     Ok(())
+}
+
+/// Three annotations, with their spans.
+static ANNOTATED: &'static str = "/*@__PURE__*/ /*#__PURE__*/ //#__NO_SIDE_EFFECTS__";
+
+static FIRST: Told = Comment(Block, 0, 13);
+
+static SECOND: Told = Comment(Block, 14, 27);
+
+static THIRD: Told = Comment(Line, 28, 50);
+
+/// Marks the comments of a range, if there are so many.
+fn mark_pure(builder: &mut TriviaBuilder, start: u32, end: u32) {
+    if start < end && end as usize <= builder.comments().len() {
+        builder.mark_pure_comments_applied(CommentRange { start, end });
+    }
+}
+
+fn mark_no_side_effects(builder: &mut TriviaBuilder, start: u32, end: u32) {
+    if start < end && end as usize <= builder.comments().len() {
+        builder.mark_no_side_effects_comments_applied(CommentRange { start, end });
+    }
+}
+
+/// Whether the comments have these classes.
+fn are_of(builder: &TriviaBuilder, classes: &[CommentContent]) -> bool {
+    for (comment, class) in builder.comments().iter().zip(classes.iter()) {
+        if comment.content != *class {
+            return false;
+        }
+    }
+    builder.comments().len() == classes.len()
+}
+
+#[test]
+fn marks(rt: HostRuntime) -> Result<(), Fail> {
+    let mut builder = TriviaBuilder::new_in(rt.alloc());
+    for told in [FIRST, SECOND, THIRD] {
+        tell(&mut builder, ANNOTATED, told)?;
+    }
+    let pure = CommentContent::PureNotApplied;
+    let taken_up = CommentContent::Pure;
+    let effects = CommentContent::NoSideEffectsNotApplied;
+    assert!(rt; are_of(&builder, &[pure, pure, effects]));
+    mark_pure(&mut builder, 1, 3);
+    assert!(rt; are_of(&builder, &[pure, taken_up, effects]));
+    mark_no_side_effects(&mut builder, 0, 3);
+    assert!(rt; are_of(&builder, &[pure, taken_up, CommentContent::NoSideEffects]));
+    Ok(())
+}
+
+/// Sets both ranges to those comments, if there are so many.
+fn set_both(builder: &mut TriviaBuilder, start: u32, end: u32) {
+    if start < end && end as usize <= builder.comments().len() {
+        builder.set_pure_comments(Some(CommentRange { start, end }));
+        builder.set_no_side_effects_comments(Some(CommentRange { start, end }));
+    }
+}
+
+#[test]
+fn comments_that_are_held(rt: HostRuntime) -> Result<(), Fail> {
+    let mut builder = TriviaBuilder::new_in(rt.alloc());
+    for told in [FIRST, SECOND, THIRD] {
+        tell(&mut builder, ANNOTATED, told)?;
+    }
+    builder.set_pure_comments(None);
+    set_both(&mut builder, 2, 3);
+    // A comment that starts before the last one and is not held.
+    tell(&mut builder, ANNOTATED, Comment(Block, 0, 27))?;
+    assert_eq!(rt; ranges(&builder), (Some((2, 3)), Some((2, 3))));
+    tell(&mut builder, ANNOTATED, SECOND)?;
+    assert_eq!(rt; ranges(&builder), (Some((1, 2)), Some((2, 3))));
+    tell(&mut builder, ANNOTATED, FIRST)?;
+    tell(&mut builder, ANNOTATED, SECOND)?;
+    assert_eq!(rt; ranges(&builder), (Some((0, 2)), Some((2, 3))));
+    builder.set_no_side_effects_comments(None);
+    // The last one again.
+    tell(&mut builder, ANNOTATED, THIRD)?;
+    assert_eq!(rt; ranges(&builder), (Some((0, 2)), Some((2, 3))));
+    assert_eq!(rt; builder.comments().len(), 3);
+    Ok(())
+}
+
+/// Where both ranges start and end.
+fn ranges(builder: &TriviaBuilder) -> (Option<(u32, u32)>, Option<(u32, u32)>) {
+    (
+        ends(builder.previous_token_pure_comments()),
+        ends(builder.previous_token_no_side_effects_comments()),
+    )
+}
+
+fn ends(range: Option<CommentRange>) -> Option<(u32, u32)> {
+    match range {
+        Some(range) => Some((range.start, range.end)),
+        None => None,
+    }
 }

@@ -1,20 +1,26 @@
 //! The trivia builder: it collects comments and irregular white space, and attaches each comment to a token.
 
-ghost use Rattle.std.specs.Prelude.{◌≡◌, ◌-◌, ◌^◌, ◌<◌, ◌≤◌, [], length, true, false, OnOk, OnErr, None};
+ghost use Rattle.std.specs.Prelude.{◌≡◌, ◌-◌, ◌^◌, ◌<◌, ◌≤◌, ◌↔◌, [], length, true, false, OnOk, OnErr, None};
+ghost use Rattle.std.specs.Prelude.{IsTrue, IfSome};
 ghost use Rattle.js_text.specs.Comment.{is_line_kind, HoldsMarks, content_span};
 ghost use Rattle.js_trivia.specs.Attachment.{trail_pending, after_comment};
-ghost use Rattle.js_trivia.specs.Items.{found_at};
+ghost use Rattle.js_grammar.specs.GapItems.{found_at};
+ghost use Rattle.js_trivia.specs.Marks.{IsRangeOf, mark_range, pure_applied, no_side_effects_applied};
 ghost use Rattle.js_trivia.specs.Trivia.{Trivia, no_trivia, held, IsNew, push_comment, note_class, add_comment};
 ghost use Rattle.js_trivia.specs.Trivia.{add_irregular, handle_newline, handle_token, lengths_of, cut_to, IsPlacedIn};
-ghost use Rattle.js_trivia.specs.Trivia.{class_in_text, found_in};
+ghost use Rattle.js_trivia.specs.Trivia.{class_in_text, found_in, CanCutBack};
 
 use crate::attaching::{attach_each_pending, attach_pending, mark_last_pending};
 use crate::classes::{classify, stays_leading};
 use crate::kinds::keeps_line_comment_leading;
 use crate::lengths::TriviaLengths;
-use crate::order::{extend_if, find_comment, is_past_spans, new_index};
+use crate::marks::{mark_no_side_effects_within, mark_pure_within};
+use crate::order::{extend_if, find_comment, is_past_comments, is_past_spans, new_index};
 use js_kind::{Kind, Token};
-use js_text::{Comment, CommentContent, CommentKind, CommentPosition, CommentRange, Span};
+use js_text::{
+    Comment, CommentContent, CommentKind, CommentList, CommentPosition, CommentRange, Span,
+    SpanList,
+};
 use std::alloc::{AllocError, Global};
 use std::marker::Model;
 
@@ -93,6 +99,24 @@ impl TriviaBuilder {
         self.comments.as_slice()
     }
 
+    /// Hands out the comments, and leaves none, between two gaps.
+    pub fn take_comments(&mut self, alloc: Global) -> CommentList
+        requires { self.old.attachment.pending ≡ [] }
+        ensures comments { result ≡ self.old.attachment.attached }
+        ensures after { self.new ≡ record self.old { attachment = record self.old.attachment { attached = [] } } }
+    {
+        self.processed = 0;
+        CommentList::from_vec(std::mem::replace(&mut self.comments, Vec::new(alloc)))
+    }
+
+    /// Hands out the irregular white space that is listed, and leaves none.
+    pub fn take_irregular_whitespaces(&mut self, alloc: Global) -> SpanList
+        ensures spans { result ≡ self.old.irregular_whitespaces }
+        ensures after { self.new ≡ record self.old { irregular_whitespaces = [] } }
+    {
+        SpanList::from_vec(std::mem::replace(&mut self.irregular_whitespaces, Vec::new(alloc)))
+    }
+
     /// The irregular white space that is listed, in the order of the text.
     pub fn irregular_whitespaces(&self) -> &[Span]
         ensures { result.now ≡ self.now.irregular_whitespaces }
@@ -133,6 +157,38 @@ impl TriviaBuilder {
         ensures { self.new ≡ record self.old { no_side_effects_comments = None } }
     {
         self.no_side_effects_comments = None;
+    }
+
+    /// Sets the range of comments of class `PureNotApplied` before the last token.
+    pub fn set_pure_comments(&mut self, range: Option<CommentRange>)
+        requires { IfSome range (IsRangeOf (held self.old.attachment)) }
+        ensures { self.new ≡ record self.old { pure_comments = range } }
+    {
+        self.pure_comments = range;
+    }
+
+    /// Sets the range of comments of class `NoSideEffectsNotApplied` before the last token.
+    pub fn set_no_side_effects_comments(&mut self, range: Option<CommentRange>)
+        requires { IfSome range (IsRangeOf (held self.old.attachment)) }
+        ensures { self.new ≡ record self.old { no_side_effects_comments = range } }
+    {
+        self.no_side_effects_comments = range;
+    }
+
+    /// Turns `PureNotApplied` into `Pure` in a range of the comments: a parser has taken them up.
+    pub fn mark_pure_comments_applied(&mut self, range: CommentRange)
+        requires { IsRangeOf (held self.old.attachment) range }
+        ensures { self.new ≡ mark_range pure_applied range self.old }
+    {
+        mark_pure_within(&mut self.comments, range);
+    }
+
+    /// Turns `NoSideEffectsNotApplied` into `NoSideEffects` in a range of the comments: a parser has taken them up.
+    pub fn mark_no_side_effects_comments_applied(&mut self, range: CommentRange)
+        requires { IsRangeOf (held self.old.attachment) range }
+        ensures { self.new ≡ mark_range no_side_effects_applied range self.old }
+    {
+        mark_no_side_effects_within(&mut self.comments, range);
     }
 
     /// Attaches the comments that wait to the last token.
@@ -316,6 +372,24 @@ impl TriviaBuilder {
             pure_range: self.pure_comments,
             no_side_effects: self.no_side_effects_comments,
         }
+    }
+
+    /// Whether it may go back there: no list is shorter than it was, and what stays starts before the place.
+    pub fn can_cut_back(&self, to: &TriviaLengths, place: u32) -> bool
+        ensures { IsTrue result ↔ CanCutBack to.now place self.now }
+    {
+        let comments = to.comments as usize;
+        let irregular = to.irregular as usize;
+        if comments > self.comments.len() {
+            return false;
+        }
+        if irregular > self.irregular_whitespaces.len() {
+            return false;
+        }
+        if !is_past_comments(&self.comments[..comments], place) {
+            return false;
+        }
+        is_past_spans(&self.irregular_whitespaces[..irregular], place)
     }
 
     /// Goes back to where it was, if since then the lists only grew.

@@ -1,6 +1,6 @@
 use Rattle.std.proofs.Common.{◌-◌, ◌∙◌, ap, arith, length, drop, length-drop}
 use Rattle.std.proofs.lemmas.List.{take_all}
-use Rattle.js_trivia.specs.Classes.{is_licensed}
+use Rattle.js_grammar.specs.CommentClasses.{is_licensed}
 use Rattle.js_trivia.proofs.Licences.{at_first, at_none}
 use Rattle.js_trivia.proofs.classes.from_next_at.Goals as goal
 

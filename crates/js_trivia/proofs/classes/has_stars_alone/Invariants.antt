@@ -1,5 +1,5 @@
 use Rattle.std.proofs.Common.{◌≡◌, length}
-use Rattle.js_trivia.specs.Classes.{has_stars_alone}
+use Rattle.js_grammar.specs.CommentClasses.{has_stars_alone}
 use Rattle.js_trivia.proofs.classes.has_stars_alone.Given as goal
 
 abbrev pub invariant-loop-rest : goal.invariant-loop-rest

@@ -1,5 +1,5 @@
 use Rattle.std.proofs.Common.{◌≡◌, length}
-use Rattle.js_trivia.specs.Classes.{is_licensed}
+use Rattle.js_grammar.specs.CommentClasses.{is_licensed}
 use Rattle.js_trivia.proofs.classes.is_licensed.Given as goal
 
 abbrev pub invariant-loop-found : goal.invariant-loop-found

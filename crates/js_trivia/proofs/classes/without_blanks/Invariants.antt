@@ -1,5 +1,5 @@
 use Rattle.std.proofs.Common.{◌≡◌, length}
-use Rattle.js_trivia.specs.Classes.{without_blanks}
+use Rattle.js_grammar.specs.CommentClasses.{without_blanks}
 use Rattle.js_trivia.proofs.classes.without_blanks.Given as goal
 
 abbrev pub invariant-loop-rest : goal.invariant-loop-rest
