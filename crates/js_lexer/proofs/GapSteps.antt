@@ -1,225 +1,403 @@
--- The steps of reading a gap.
-use Rattle.std.proofs.Common.{◌≡◌, ℕ, ◌+◌, ◌<◌, Bool, true, false, not, ◌&&◌, ◌==◌, List, ◌∷◌, ◌++◌, length, refl}
-use Rattle.std.proofs.Common.{sym, ◌∙◌, ap, subst, Option, None}
-use lib.Utf8
-use Rattle.std.specs.Str.{IsCharBoundary}
-use Rattle.js_text.specs.Characters.{from_place}
-use Rattle.js_text.proofs.TextLemmas.{place_past}
-use Rattle.js_grammar.proofs.GapLemmas.{piece_takes, longest_gap-cons, longest_gap-nil}
-use Rattle.js_grammar.proofs.Tests.{and_true}
-use Rattle.std.specs.Prelude.{codes}
-use Rattle.js_text.specs.Characters.{is_line_terminator, from_first}
+-- The steps of reading a gap, piece by piece.
+use Rattle.std.proofs.Common.{◌≡◌, ℕ, ◌+◌, ◌<◌, Bool, true, false, not, ◌&&◌, ◌==◌, List, [], ◌∷◌, ◌++◌, length}
+use Rattle.std.proofs.Common.{refl, sym, ◌∙◌, ap, subst, arith, append-nil, Some, None}
+use Rattle.std.specs.Char.{len_utf8, encode_utf8}
+use Rattle.std.proofs.lemmas.Str.{length-encode, len_utf8_bounds}
+use Rattle.std.specs.Str.{IsCharBoundary, encode_utf8_all}
+use Rattle.std.proofs.lemmas.Bool.{eqb-true}
+use Rattle.js_text.specs.Characters.{from_place, begins, is_white_space, is_irregular_whitespace, is_line_terminator}
 use Rattle.js_text.specs.declared.source_type.SourceType.{SourceType}
-use Rattle.js_text.specs.Characters.{is_white_space, begins}
-use Rattle.js_text.specs.SourceType.{is_module}
-use Rattle.js_source.specs.Source.{At, rest, IsPlaced, Reads, BeginsWith}
-use Rattle.js_source.proofs.Places.{begins_with}
-use Rattle.std.specs.Option.{option_map}
-use Rattle.std.specs.Prelude.{if◌then◌else◌}
-use Rattle.js_grammar.proofs.PieceLemmas.{piece-white, piece-line_terminator, piece-other, piece-line_comment}
-use Rattle.js_grammar.proofs.PieceLemmas.{piece-block_comment, piece-slash, piece-angle, piece-minus, from_first-slash}
-use Rattle.js_grammar.proofs.PieceLemmas.{from_first-html_open, from_first-html_close}
-use Rattle.js_grammar.specs.Gap.{is_prefix, Piece as GapPiece, cut_behind, one_character, line_comment, block_comment}
-use Rattle.js_grammar.specs.Gap.{piece, LongestGap, is_reported}
-use Rattle.js_grammar.specs.Gap.PieceKind.{white_space, line_terminator, single_line_comment, html_open_comment}
-use Rattle.js_grammar.specs.Gap.PieceKind.{html_close_comment}
-use Rattle.js_lexer.specs.Comments.{ReadsCut}
-use Rattle.js_lexer.specs.Gaps.{EndsPiece}
-use Rattle.js_lexer.specs.Reader.{IsBehindPiece, SkipsPiece}
+use Rattle.js_text.specs.declared.span.Span.{Span}
+use Rattle.js_text.proofs.TextLemmas.{place_past, place_unique, past_character}
+use Rattle.js_grammar.specs.Gap.{Piece, one_character, piece, Pieces, AllPieces}
+use Rattle.js_grammar.specs.Gap.PieceKind.{white_space, line_terminator}
+use Rattle.js_grammar.specs.GapItems.{line_end}
+use Rattle.js_grammar.specs.PieceItems.{piece_length, piece_span, is_line_comment, is_separator, listed_if}
+use Rattle.js_grammar.proofs.GapLemmas.{piece_takes, all_pieces-cons, all_pieces-nil}
+use Rattle.js_grammar.proofs.PieceLemmas.{piece-white, piece-line_terminator}
+use Rattle.js_source.specs.Source.{At, rest, IsPlaced, Reads}
+use Rattle.js_source.specs.Runs.{IsRun, PassesRun}
+use Rattle.js_trivia.specs.Trivia.{calls, handle_newline}
+use Rattle.js_lexer.specs.Gaps.{AddsPieces, IsAtLineEnd}
+use Rattle.js_lexer.specs.Reader.{SkipsWithin, SkipsGap, Leads, SkipsSome, SkipsPiece}
+use Rattle.js_lexer.specs.Reader.{SkipsEndOfLine, IsUnmoved}
+use Rattle.js_lexer.specs.Tables.{TellsBlanks}
+use Rattle.js_lexer.specs.declared.found.GapFindings.{GapFindings}
 use Rattle.js_lexer.specs.declared.reader.Reader.{Reader}
-use Rattle.js_lexer.specs.declared.skipped.Skipped.{Skipped}
-use Rattle.js_lexer.specs.declared.skipped.Skipped.TheVariants.{Piece, Nothing}
+use Rattle.js_lexer.proofs.TriviaSteps.{adds_none, adds_items, adds_behind, calls-append}
 
--- a comment up to the end of its line
-pub line_comment_ends : (t : SourceType) (line_has_ended : Bool) (a b new : At) → Reads a b 47
-    → rest new ≡ from_first is_line_terminator (rest b)
-    → EndsPiece (piece t line_has_ended (47 ∷ rest a)) new (Piece line_has_ended)
-line_comment_ends t line_has_ended a b new reads e = (
-  line_comment single_line_comment line_has_ended (47 ∷ 47 ∷ rest b),
-  ap (λ xs. piece t line_has_ended (47 ∷ xs)) reads.here ∙ piece-line_comment t line_has_ended (rest b),
-  refl,
-  from_first-slash (47 ∷ rest b) ∙ from_first-slash (rest b) ∙ sym e,
-)
-
-block_piece : (t : SourceType) (line_has_ended : Bool) (a b : At) → Reads a b 42
-    → piece t line_has_ended (47 ∷ rest a) ≡ block_comment line_has_ended (47 ∷ 42 ∷ rest b)
-block_piece t line_has_ended a b reads =
-    ap (λ xs. piece t line_has_ended (47 ∷ xs)) reads.here ∙ piece-block_comment t line_has_ended (rest b)
-
--- a block comment
-pub block_comment_ends : (t : SourceType) (line_had_ended : Bool) (a b new : At) (answer : Skipped) → Reads a b 42
-    → ReadsCut line_had_ended (cut_behind (codes "*/") (rest b)) new answer
-    → EndsPiece (piece t line_had_ended (47 ∷ rest a)) new answer
-block_comment_ends t line_had_ended a b new Nothing reads h =
-    block_piece t line_had_ended a b reads ∙ ap (option_map _) h
-block_comment_ends t line_had_ended a b new (Piece line_has_ended) reads h =
-    (_, block_piece t line_had_ended a b reads ∙ ap (option_map _) h.1, h.2, h.3)
-
-pub no_comment : (t : SourceType) (line_has_ended : Bool) (a b c : At)
-    → (begins (λ x. x == 47) (rest a) ≡ false) × (b ≡ a)
-    → (begins (λ x. x == 42) (rest b) ≡ false) × (c ≡ b)
-    → piece t line_has_ended (47 ∷ rest a) ≡ None
-no_comment t line_has_ended a b c line block =
-    piece-slash t line_has_ended (rest a) line.0
-    (subst (λ (s : At). begins (λ x. x == 42) (rest s) ≡ false) line.1 block.0)
-
--- a piece seen from the `/` that begins it
-pub from_slash : (t : SourceType) (line_has_ended : Bool) (old a new : At) (answer : Skipped) → new.text ≡ a.text
-    → (a.text ≡ old.text) × (rest old ≡ 47 ∷ rest a)
-    → EndsPiece (piece t line_has_ended (47 ∷ rest a)) new answer
-    → EndsPiece (piece t line_has_ended (rest old)) new answer
-from_slash t line_has_ended old a new answer text behind h =
-    subst (λ (xs : List ℕ). EndsPiece (piece t line_has_ended xs) new answer) (sym behind.1) h
-
-if_false : (a b : Bool) (x y : Option GapPiece) → b ≡ false → (if a && b then x else y) ≡ y
-if_false true b x y e = rw e refl
-if_false false b x y e = refl
-
-if_first : (a b : Bool) (x y : Option GapPiece) → a ≡ false → (if a && b then x else y) ≡ y
-if_first a b x y e = rw e refl
-
-not_false : (b : Bool) → b ≡ true → not b ≡ false
-not_false b e = rw e refl
-
-and_false : (a b : Bool) → b ≡ false → (a && b) ≡ false
-and_false true b e = e
-and_false false b e = refl
-
--- the rest of a text that begins with a character
-split : (c : ℕ) (old : At) → BeginsWith c (rest old) → (cs : List ℕ) × (rest old ≡ c ∷ cs)
-split c old begins = begins_with c (rest old) begins
-
-pub no_html_open_in_module : (t : SourceType) (line_has_ended : Bool) (old : At) → BeginsWith 60 (rest old)
-    → is_module t ≡ true
-    → piece t line_has_ended (rest old) ≡ None
-no_html_open_in_module t line_has_ended old begins m =
-    let found = split 60 old begins in
-    ap (piece t line_has_ended) found.1 ∙ piece-angle t line_has_ended found.0
-    ∙ if_false (is_prefix (codes "!--") found.0) (not (is_module t)) _ None (not_false (is_module t) m)
-
-pub no_html_open_mark : (t : SourceType) (line_has_ended : Bool) (old : At) → BeginsWith 60 (rest old)
-    → is_prefix (codes "<!--") (rest old) ≡ false → piece t line_has_ended (rest old) ≡ None
-no_html_open_mark t line_has_ended old begins e =
-    let found = split 60 old begins in
-    let none : is_prefix (codes "!--") found.0 ≡ false = sym (ap (is_prefix (codes "<!--")) found.1) ∙ e in
-    ap (piece t line_has_ended) found.1 ∙ piece-angle t line_has_ended found.0
-    ∙ if_first (is_prefix (codes "!--") found.0) (not (is_module t)) _ None none
-
-pub html_open_ends : (t : SourceType) (line_has_ended : Bool) (old b new : At) → is_module t ≡ false
-    → rest old ≡ codes "<!--" ++ rest b → rest new ≡ from_first is_line_terminator (rest b)
-    → EndsPiece (piece t line_has_ended (rest old)) new (Piece line_has_ended)
-html_open_ends t line_has_ended old b new m e f = (
-  line_comment html_open_comment line_has_ended (codes "<!--" ++ rest b),
-  ap (piece t line_has_ended) e ∙ piece-angle t line_has_ended (codes "!--" ++ rest b) ∙ rw m refl,
-  refl,
-  from_first-html_open (rest b) ∙ sym f,
-)
-
-pub no_html_close_in_module : (t : SourceType) (line_has_ended : Bool) (old : At) → BeginsWith 45 (rest old)
-    → is_module t ≡ true
-    → piece t line_has_ended (rest old) ≡ None
-no_html_close_in_module t line_has_ended old begins m =
-    let found = split 45 old begins in
-    ap (piece t line_has_ended) found.1 ∙ piece-minus t line_has_ended found.0
-    ∙ if_false (is_prefix (codes "->") found.0) (not (is_module t) && line_has_ended) _ None (rw m refl)
-
-pub no_html_close_in_line : (t : SourceType) (line_has_ended : Bool) (old : At) → BeginsWith 45 (rest old)
-    → line_has_ended ≡ false
-    → piece t line_has_ended (rest old) ≡ None
-no_html_close_in_line t line_has_ended old begins e =
-    let found = split 45 old begins in
-    ap (piece t line_has_ended) found.1 ∙ piece-minus t line_has_ended found.0
-    ∙ if_false (is_prefix (codes "->") found.0) (not (is_module t) && line_has_ended) _ None
-    (and_false (not (is_module t)) line_has_ended e)
-
-pub no_html_close_mark : (t : SourceType) (line_has_ended : Bool) (old : At) → BeginsWith 45 (rest old)
-    → is_prefix (codes "-->") (rest old) ≡ false → piece t line_has_ended (rest old) ≡ None
-no_html_close_mark t line_has_ended old begins e =
-    let found = split 45 old begins in
-    let none : is_prefix (codes "->") found.0 ≡ false = sym (ap (is_prefix (codes "-->")) found.1) ∙ e in
-    ap (piece t line_has_ended) found.1 ∙ piece-minus t line_has_ended found.0
-    ∙ if_first (is_prefix (codes "->") found.0) (not (is_module t) && line_has_ended) _ None none
-
-pub html_close_ends : (t : SourceType) (line_has_ended : Bool) (old b new : At) → is_module t ≡ false
-    → line_has_ended ≡ true
-    → rest old ≡ codes "-->" ++ rest b → rest new ≡ from_first is_line_terminator (rest b)
-    → EndsPiece (piece t line_has_ended (rest old)) new (Piece line_has_ended)
-html_close_ends t line_has_ended old b new m n e f = (
-  line_comment html_close_comment line_has_ended (codes "-->" ++ rest b),
-  ap (piece t line_has_ended) e ∙ piece-minus t line_has_ended (codes "->" ++ rest b) ∙ rw (m, n) refl,
-  refl,
-  from_first-html_close (rest b) ∙ sym f,
-)
-
--- a white character, a line terminator, or neither
-pub white_ends : (t : SourceType) (line_has_ended : Bool) (c : ℕ) (old new : At) → rest old ≡ c ∷ rest new
-    → is_white_space c ≡ true → EndsPiece (piece t line_has_ended (rest old)) new (Piece line_has_ended)
-white_ends t line_has_ended c old new e white = (
-  one_character white_space line_has_ended c (rest new),
-  ap (piece t line_has_ended) e
-      ∙ piece-white t line_has_ended c (rest new) white,
-  refl,
-  refl,
-)
-
-pub line_terminator_ends : (t : SourceType) (line_has_ended : Bool) (c : ℕ) (old new : At) → rest old ≡ c ∷ rest new
-    → is_white_space c ≡ false → is_line_terminator c ≡ true
-    → EndsPiece (piece t line_has_ended (rest old)) new (Piece true)
-line_terminator_ends t line_has_ended c old new e white line = (
-  one_character line_terminator true c (rest new),
-  ap (piece t line_has_ended) e
-      ∙ piece-line_terminator t line_has_ended c (rest new) white line,
-  refl,
-  refl,
-)
-
-pub no_piece : (t : SourceType) (line_has_ended : Bool) (c : ℕ) (old : At) → BeginsWith c (rest old)
-    → is_white_space c ≡ false
-    → is_line_terminator c ≡ false
-    → (c ≡ 47 → ⊥) → (c ≡ 60 → ⊥) → (c ≡ 45 → ⊥) → piece t line_has_ended (rest old) ≡ None
-no_piece t line_has_ended c old begins white line slash angle minus =
-    let found = split c old begins in
-    ap (piece t line_has_ended) found.1 ∙ piece-other t line_has_ended c found.0 white line slash angle minus
-
--- a reported comment stands where a line has ended
-pub line_ended_before_reported : (t : SourceType) (line_has_ended : Bool) (here : List ℕ)
-    → is_reported t line_has_ended here ≡ true
-    → line_has_ended ≡ true
-line_ended_before_reported t line_has_ended here e =
-    let all = and_true (is_prefix (codes "<!--") here) (is_module t && line_has_ended) e in
-    (and_true (is_module t) line_has_ended all.1).1
-
--- the place behind the mark of a reported comment
-pub behind_mark : (old adv : At) → IsPlaced old → IsPlaced adv → adv.text ≡ old.text
-    → rest old ≡ codes "<!--" ++ rest adv → adv.place ≡ old.place + 4
-unfolding lib.Utf8.encode
-behind_mark old adv h g text e =
-    place_past old.text old.place adv.place (codes "<!--") h.utf8 h.boundary
-    (subst (λ (u : List ℕ). IsCharBoundary u adv.place) text g.boundary)
-    (e ∙ ap (λ u. codes "<!--" ++ from_place u adv.place) text)
+-- one piece of a gap, behind which the reader stands, and what was told of it
+pub record IsBehindPiece (behind : Bool) (old : Reader) (before : GapFindings) (ends : Bool) (new : Reader)
+    (after : GapFindings) : Type 0 where
+  pub within : SkipsWithin old new
+  pub text : new.source.text ≡ old.source.text
+  pub x : Piece
+  pub is_next : piece old.source_type old.line_has_ended (rest old.source) ≡ Some x
+  pub line_has_ended : x.line_has_ended ≡ new.line_has_ended
+  pub left : x.rest ≡ rest new.source
+  pub place : new.source.place ≡ old.source.place + piece_length x
+  pub adds : AddsPieces behind old.source_type old.source.place (x ∷ []) before after
+  -- whether it is a line comment
+  pub ends_line : is_line_comment x.kind ≡ ends
 
 -- a piece that was skipped, before a longest gap
-pub piece_before : (t : SourceType) (old new : Reader) → old.source_type ≡ t → IsBehindPiece old new
-    → (e : Bool) (r : List ℕ) → LongestGap t new.line_has_ended (rest new.source) e r
-    → LongestGap t old.line_has_ended (rest old.source) e r
-piece_before t old new same p e r g =
-    longest_gap-cons t old.line_has_ended (rest old.source) p.x e r
-    (ap (λ u. piece u old.line_has_ended (rest old.source)) (sym same) ∙ p.is_next)
-    (subst (λ (b : Bool). LongestGap t b p.x.rest e r) (sym p.line_has_ended)
-    (subst (λ (xs : List ℕ). LongestGap t new.line_has_ended xs e r) (sym p.behind) g))
+pub piece_leads : (behind : Bool) (old : Reader) (before : GapFindings) (ends : Bool) (new : Reader)
+    (after : GapFindings) → IsBehindPiece behind old before ends new after → Leads behind old before ends new after
+piece_leads behind old before ends new after p later found s =
+    let t = old.source_type in
+    let pieces = s.gap.pieces in
+    let all : AllPieces (piece t) p.x.line_has_ended p.x.rest pieces later.line_has_ended (rest later.source) =
+    subst (λ b. AllPieces (piece t) b p.x.rest pieces later.line_has_ended (rest later.source)) (sym p.line_has_ended)
+    (subst (λ cs. AllPieces (piece t) new.line_has_ended cs pieces later.line_has_ended (rest later.source)) (sym p.left)
+    (subst (λ u. AllPieces (piece u) new.line_has_ended (rest new.source) pieces later.line_has_ended
+    (rest later.source)) p.within.source_type s.gap.all)) in
+    let adds : AddsPieces (is_line_comment p.x.kind) t (old.source.place + piece_length p.x) pieces after found =
+    subst (λ b. AddsPieces b t (old.source.place + piece_length p.x) pieces after found) (sym p.ends_line)
+    (subst (λ n. AddsPieces ends t n pieces after found) p.place
+    (subst (λ u. AddsPieces ends u new.source.place pieces after found) p.within.source_type s.adds)) in
+    record {
+      within = record {
+        source_type = s.within.source_type ∙ p.within.source_type;
+        errors = s.within.errors ∙ p.within.errors;
+      };
+      text = s.text ∙ p.text;
+      gap = record {
+        pieces = p.x ∷ pieces;
+        all =
+            all_pieces-cons (piece t) old.line_has_ended (rest old.source) p.x pieces later.line_has_ended
+            (rest later.source) p.is_next all;
+      };
+      adds = adds_behind behind t old.source.place p.x pieces before after found p.adds adds;
+    }
 
-pub piece_shorter : (old new : Reader) → IsBehindPiece old new → length (rest new.source) < length (rest old.source)
-piece_shorter old new p =
-    subst (λ (xs : List ℕ). length xs < length (rest old.source)) p.behind
+pub piece_shorter : (behind : Bool) (old : Reader) (before : GapFindings) (ends : Bool) (new : Reader)
+    (after : GapFindings) → IsBehindPiece behind old before ends new after
+    → length (rest new.source) < length (rest old.source)
+piece_shorter behind old before ends new after p =
+    subst (λ (xs : List ℕ). length xs < length (rest old.source)) p.left
     (piece_takes old.source_type old.line_has_ended (rest old.source) p.x p.is_next)
 
+pub some_skipped : (old : Reader) (before : GapFindings) (new : Reader) (after : GapFindings)
+    → IsBehindPiece false old before false new after → IsPlaced new.source → SkipsSome old before new after
+some_skipped old before new after p g = record {
+  within = p.within;
+  text = p.text;
+  leads = piece_leads false old before false new after p;
+  fewer = piece_shorter false old before false new after p;
+  placed = g;
+}
+
+-- the way from a place to a later one
+pub on_to : (old new : At) (xs : List ℕ) → IsPlaced old → IsPlaced new → new.text ≡ old.text
+    → rest old ≡ xs ++ rest new → new.place ≡ old.place + length (encode_utf8_all xs)
+on_to old new xs h g text here =
+    place_past old.text old.place new.place xs h.utf8 h.boundary
+    (subst (λ (u : List ℕ). IsCharBoundary u new.place) text g.boundary)
+    (here ∙ ap (λ u. xs ++ from_place u new.place) text)
+
+-- and that over a character
+pub character_on : (old new : At) (c : ℕ) → IsPlaced old → IsPlaced new → new.text ≡ old.text
+    → rest old ≡ c ∷ rest new → old.place < new.place
+character_on old new c h g text here =
+    omega (
+      arith,
+      on_to old new (c ∷ []) h g text here,
+      ap length (append-nil (encode_utf8 c)),
+      length-encode c,
+      (len_utf8_bounds c).0,
+    )
+
 -- where no piece begins, the longest gap is empty
-pub no_piece_left : (t : SourceType) (old new : Reader) → old.source_type ≡ t → SkipsPiece old false new
-    → LongestGap t old.line_has_ended (rest old.source) new.line_has_ended (rest new.source)
-no_piece_left t old new same p =
-    let none : piece t old.line_has_ended (rest old.source) ≡ None =
-    ap (λ u. piece u old.line_has_ended (rest old.source)) (sym same) ∙ p.1 in
-    subst (λ (b : Bool). LongestGap t old.line_has_ended (rest old.source) b (rest new.source))
-    (sym p.0.stays.line_has_ended)
-    (subst (λ (a : At). LongestGap t old.line_has_ended (rest old.source) old.line_has_ended (rest a)) (sym p.0.source)
-    (longest_gap-nil t old.line_has_ended (rest old.source) none))
+pub no_gap_left : (behind : Bool) (old new : Reader) (before after : GapFindings) → IsUnmoved old new → after ≡ before
+    → piece old.source_type old.line_has_ended (rest old.source) ≡ None → SkipsGap behind old before new after
+no_gap_left behind old new before after same e none =
+    subst (λ f. SkipsGap behind old before new f) (sym e) record {
+      within = record { source_type = same.stays.source_type; errors = same.stays.errors };
+      text = ap (λ (a : At). a.text) same.source;
+      gap = record {
+        pieces = [];
+        all =
+            subst (λ b. AllPieces (piece old.source_type) old.line_has_ended (rest old.source) [] b (rest new.source))
+            (sym same.stays.line_has_ended)
+            (subst (λ (a : At). AllPieces (piece old.source_type) old.line_has_ended (rest old.source) []
+            old.line_has_ended (rest a)) (sym same.source)
+            (all_pieces-nil (piece old.source_type) old.line_has_ended (rest old.source) none));
+      };
+      adds = adds_none behind old.source_type old.source.place before;
+    }
+
+-- a longest gap from a reader that has not moved
+pub gap_from : (behind : Bool) (old mid later : Reader) (before found : GapFindings) → IsUnmoved old mid
+    → SkipsGap behind mid before later found → SkipsGap behind old before later found
+gap_from behind old mid later before found same s =
+    let moved : SkipsGap behind
+    (record mid {
+      source = old.source;
+      source_type = old.source_type;
+      line_has_ended = old.line_has_ended;
+      errors = old.errors;
+    }) before later found =
+    subst (λ (a : At). SkipsGap behind
+    (record mid {
+      source = a;
+      source_type = old.source_type;
+      line_has_ended = old.line_has_ended;
+      errors = old.errors;
+    }) before later found) same.source
+    (subst (λ t. SkipsGap behind
+    (record mid { source_type = t; line_has_ended = old.line_has_ended; errors = old.errors }) before later found)
+    same.stays.source_type
+    (subst (λ b. SkipsGap behind (record mid { line_has_ended = b; errors = old.errors }) before later found)
+    same.stays.line_has_ended
+    (subst (λ es. SkipsGap behind (record mid { errors = es }) before later found) same.stays.errors s))) in
+    same_fields behind mid old later before found moved
+  where
+    same_fields : (behind : Bool) (mid old later : Reader) (before found : GapFindings)
+        → SkipsGap behind
+        (record mid {
+          source = old.source;
+          source_type = old.source_type;
+          line_has_ended = old.line_has_ended;
+          errors = old.errors;
+        }) before later found
+        → SkipsGap behind old before later found
+    same_fields behind mid old later before found s = record {
+      within = record { source_type = s.within.source_type; errors = s.within.errors };
+      text = s.text;
+      gap = s.gap;
+      adds = s.adds;
+    }
+
+-- and a piece
+pub piece_from : (old mid new : Reader) (before told after : GapFindings) (skipped : Bool) → IsUnmoved old mid
+    → told ≡ before → SkipsPiece mid told skipped new after → SkipsPiece old before skipped new after
+piece_from old mid new before told after true same e s =
+    let there : SkipsSome mid before new after = subst (λ f. SkipsSome mid f new after) e s in
+    record {
+      within = record {
+        source_type = there.within.source_type ∙ same.stays.source_type;
+        errors = there.within.errors ∙ same.stays.errors;
+      };
+      text = there.text ∙ ap (λ (a : At). a.text) same.source;
+      leads = λ later found g. gap_from false old mid later before found same (there.leads later found g);
+      fewer = subst (λ (a : At). length (rest new.source) < length (rest a)) same.source there.fewer;
+      placed = there.placed;
+    }
+piece_from old mid new before told after false same e s = (
+  record {
+    source = s.0.source ∙ same.source;
+    stays = record {
+      source_type = s.0.stays.source_type ∙ same.stays.source_type;
+      line_has_ended = s.0.stays.line_has_ended ∙ same.stays.line_has_ended;
+      errors = s.0.stays.errors ∙ same.stays.errors;
+    };
+  },
+  s.1 ∙ e,
+  ap (λ t. piece t old.line_has_ended (rest old.source)) (sym same.stays.source_type)
+      ∙ ap (λ b. piece mid.source_type b (rest old.source)) (sym same.stays.line_has_ended)
+      ∙ ap (λ (a : At). piece mid.source_type mid.line_has_ended (rest a)) (sym same.source) ∙ s.2,
+)
+
+module _ (old : Reader) (before : GapFindings) (source : At) (c : ℕ) (h : IsPlaced old.source) (g : IsPlaced source)
+    (text : source.text ≡ old.source.text) (here : rest old.source ≡ c ∷ rest source) where
+  -- a character of white space
+  pub white_skipped : (after : GapFindings) → is_white_space c ≡ true → after.deferred ≡ before.deferred
+      → after.trivia
+      ≡ calls (listed_if (is_irregular_whitespace c) (record { start = old.source.place; end = source.place })) before.trivia
+      → IsBehindPiece false old before false (record old { source = source }) after
+  white_skipped after white deferred trivia =
+      let x = one_character white_space old.line_has_ended c (rest source) in
+      let place : source.place ≡ old.source.place + piece_length x = on_to old.source source (c ∷ []) h g text here in
+      record {
+        within = record { source_type = refl; errors = refl };
+        text = text;
+        x = x;
+        is_next =
+            ap (piece old.source_type old.line_has_ended) here
+            ∙ piece-white old.source_type old.line_has_ended c (rest source) white;
+        line_has_ended = refl;
+        left = refl;
+        place = place;
+        adds =
+            adds_items false old.source_type old.source.place x before after
+            (listed_if (is_irregular_whitespace c) (piece_span old.source.place x)) refl refl deferred
+            (trivia
+            ∙ ap (λ n. calls (listed_if (is_irregular_whitespace c) (record { start = old.source.place; end = n }))
+            before.trivia) place);
+        ends_line = refl;
+      }
+
+  -- a line terminator, which is listed where it is one of two and stands behind no line comment
+  pub line_end_skipped : (behind : Bool) (after : GapFindings) → is_white_space c ≡ false → is_line_terminator c ≡ true
+      → after.deferred ≡ before.deferred
+      → after.trivia
+      ≡ handle_newline
+      (calls (listed_if (is_separator c && not behind) (record { start = old.source.place; end = source.place }))
+      before.trivia)
+      → IsBehindPiece behind old before false (record old { source = source; line_has_ended = true }) after
+  line_end_skipped behind after dark ends deferred trivia =
+      let x = one_character line_terminator true c (rest source) in
+      let place : source.place ≡ old.source.place + piece_length x = on_to old.source source (c ∷ []) h g text here in
+      let listed = listed_if (is_separator c && not behind) (piece_span old.source.place x) in
+      record {
+        within = record { source_type = refl; errors = refl };
+        text = text;
+        x = x;
+        is_next =
+            ap (piece old.source_type old.line_has_ended) here
+            ∙ piece-line_terminator old.source_type old.line_has_ended c (rest source) dark ends;
+        line_has_ended = refl;
+        left = refl;
+        place = place;
+        adds =
+            adds_items behind old.source_type old.source.place x before after (listed ++ line_end ∷ []) refl refl
+            deferred
+            (trivia
+            ∙ ap (λ n. handle_newline (calls (listed_if (is_separator c && not behind)
+            (record { start = old.source.place; end = n })) before.trivia)) place
+            ∙ sym (calls-append listed (line_end ∷ []) before.trivia));
+        ends_line = refl;
+      }
+
+dark_by : (c d : ℕ) → is_white_space d ≡ false → (c == d) ≡ true → is_white_space c ≡ false
+dark_by c d dark e = ap is_white_space (eqb-true c d e) ∙ dark
+
+-- a line terminator is no white space
+pub line_end_is_dark : (c : ℕ) → is_line_terminator c ≡ true → is_white_space c ≡ false
+unfolding is_white_space is_irregular_whitespace is_line_terminator
+line_end_is_dark c e = first (c == 10) refl
+  where
+    fourth : (b : Bool) → (c == 10) ≡ false → (c == 13) ≡ false → (c == 0x2028) ≡ false → (c == 0x2029) ≡ b
+        → is_white_space c ≡ false
+    fourth true f g h t = dark_by c 0x2029 refl t
+    fourth false f g h t = absurd (let none : is_line_terminator c ≡ false = rw (f, g, h, t) refl in cc)
+
+    third : (b : Bool) → (c == 10) ≡ false → (c == 13) ≡ false → (c == 0x2028) ≡ b → is_white_space c ≡ false
+    third true f g t = dark_by c 0x2028 refl t
+    third false f g t = fourth (c == 0x2029) f g t refl
+
+    second : (b : Bool) → (c == 10) ≡ false → (c == 13) ≡ b → is_white_space c ≡ false
+    second true f t = dark_by c 13 refl t
+    second false f t = third (c == 0x2028) f t refl
+
+    first : (b : Bool) → (c == 10) ≡ b → is_white_space c ≡ false
+    first true t = dark_by c 10 refl t
+    first false t = second (c == 13) t refl
+
+and_false : (b : Bool) → (b && false) ≡ false
+and_false true = refl
+and_false false = refl
+
+pub and_true : (b : Bool) → (b && true) ≡ b
+and_true true = refl
+and_true false = refl
+
+not_false : (b : Bool) → not b ≡ false → b ≡ true
+not_false true e = refl
+not_false false e = absurd (cc)
+
+-- the line end behind a line comment
+pub end_of_line : (old : Reader) (before : GapFindings) (source : At) (c : ℕ) (after : GapFindings) → IsPlaced old.source
+    → IsPlaced source → Reads old.source source c → IsAtLineEnd (rest old.source)
+    → after.deferred ≡ before.deferred → after.trivia ≡ handle_newline before.trivia
+    → SkipsEndOfLine old before (record old { source = source; line_has_ended = true }) after
+end_of_line old before source c after h g reads end deferred trivia =
+    let ends : is_line_terminator c ≡ true =
+    not_false (is_line_terminator c) (sym (ap (begins (λ d. not (is_line_terminator d))) reads.here) ∙ end) in
+    let span : Span = record { start = old.source.place; end = source.place } in
+    let p : IsBehindPiece true old before false (record old { source = source; line_has_ended = true }) after =
+    line_end_skipped old before source c h g reads.text reads.here true after (line_end_is_dark c ends) ends deferred
+    (trivia
+    ∙ ap (λ b. handle_newline (calls (listed_if b span) before.trivia)) (sym (and_false (is_separator c)))) in
+    record {
+      within = p.within;
+      text = p.text;
+      leads = piece_leads true old before false (record old { source = source; line_has_ended = true }) after p;
+      fewer = omega (arith, ap length reads.here);
+    }
+
+no_pieces : (t : SourceType) (line_has_ended : Bool) (xs : List Piece) (e : Bool) (r : List ℕ)
+    → Pieces (piece t) line_has_ended [] xs e r → xs ≡ []
+no_pieces t line_has_ended [] e r h = refl
+no_pieces t line_has_ended (x ∷ xs) e r h = absurd (let none = h.0 in cc)
+
+-- and at the end of the text nothing follows a line comment
+pub end_of_text : (old : Reader) (before : GapFindings) (source : At) → source ≡ old.source → rest old.source ≡ []
+    → SkipsEndOfLine old before (record old { source = source }) before
+end_of_text old before source same none =
+    subst (λ (a : At). SkipsEndOfLine old before (record old { source = a }) before) (sym same) record {
+      within = record { source_type = refl; errors = refl };
+      text = refl;
+      leads = λ later found s.
+          let t = old.source_type in
+          let empty : s.gap.pieces ≡ [] =
+          no_pieces t old.line_has_ended s.gap.pieces later.line_has_ended (rest later.source)
+          (subst (λ cs. Pieces (piece t) old.line_has_ended cs s.gap.pieces later.line_has_ended (rest later.source))
+          none s.gap.all.pieces_are) in
+          let all = subst (λ xs. AllPieces (piece t) old.line_has_ended (rest old.source) xs later.line_has_ended
+          (rest later.source)) empty s.gap.all in
+          let adds : AddsPieces false t old.source.place [] before found =
+          subst (λ xs. AddsPieces false t old.source.place xs before found) empty s.adds in
+          record {
+            within = s.within;
+            text = s.text;
+            gap = record { pieces = []; all = all };
+            adds = record { deferred = adds.deferred; trivia = adds.trivia };
+          };
+      fewer = omega arith;
+    }
+
+-- LF
+pub line_feed_skipped : (old : Reader) (before : GapFindings) (source : At) (after : GapFindings) → IsPlaced old.source
+    → IsPlaced source → source.text ≡ old.source.text → rest old.source ≡ 10 ∷ rest source
+    → after.deferred ≡ before.deferred → after.trivia ≡ handle_newline before.trivia
+    → SkipsSome old before (record old { source = source; line_has_ended = true }) after
+unfolding is_white_space is_irregular_whitespace is_line_terminator is_separator
+line_feed_skipped old before source after h g text here deferred trivia =
+    some_skipped old before (record old { source = source; line_has_ended = true }) after
+    (line_end_skipped old before source 10 h g text here false after refl refl deferred trivia) g
+
+-- TABs and SPs
+blank_run : (table : List Bool) → TellsBlanks table → (run : List ℕ) (old : Reader) (source : At) (found : GapFindings)
+    → IsRun table run → IsPlaced old.source → IsPlaced source → source.text ≡ old.source.text
+    → rest old.source ≡ run ++ rest source → Leads false old found false (record old { source = source }) found
+blank_run table tells [] old source found all h g text here later after s =
+    let place : old.source.place ≡ source.place =
+    place_unique old.source.text old.source.place source.place h.utf8 h.boundary
+    (subst (λ (u : List ℕ). IsCharBoundary u source.place) text g.boundary)
+    (here ∙ ap (λ u. from_place u source.place) text) in
+    let same : source ≡ old.source = rw (text, ← place) refl in
+    subst (λ (a : At). SkipsGap false (record old { source = a }) found later after) same s
+blank_run table tells (b ∷ bs) old source found all h g text here later after s =
+    let past = past_character old.source.text old.source.place b (bs ++ rest source) h.utf8 h.boundary here in
+    let mid : At = record { text = old.source.text; place = old.source.place + len_utf8 b } in
+    let placed : IsPlaced mid = record { utf8 = h.utf8; short = h.short; boundary = past.0 } in
+    let p : IsBehindPiece false old found false (record old { source = mid }) found =
+    white_skipped old found mid b h placed refl (here ∙ ap (λ cs. b ∷ cs) (sym past.1)) found
+    (tells.tells b all.0 all.1) refl (rw (tells.plain b all.0 all.1) refl) in
+    piece_leads false old found false (record old { source = mid }) found p later after
+    (blank_run table tells bs (record old { source = mid }) source found all.2 placed g text past.1 later after s)
+
+pub blanks_lead : (table : List Bool) → TellsBlanks table → (old : Reader) (source : At) (found : GapFindings)
+    → IsPlaced old.source → IsPlaced source → source.text ≡ old.source.text
+    → PassesRun table old.source.text old.source.place source.place
+    → Leads false old found false (record old { source = source }) found
+blanks_lead table tells old source found h g text run =
+    blank_run table tells run.run old source found run.all h g text
+    (run.here ∙ ap (λ u. run.run ++ from_place u source.place) (sym text))
+
+-- a reader that is as another but for its tables has the same longest gaps
+pub leads_to : (old mid new : Reader) (before after : GapFindings) → Leads false old before false mid after
+    → IsUnmoved new mid → Leads false old before false new after
+leads_to old mid new before after leads same later found s =
+    leads later found (gap_from false mid new later after found (turned new mid same) s)
+  where
+    turned : (new mid : Reader) → IsUnmoved new mid → IsUnmoved mid new
+    turned new mid same = record {
+      source = sym same.source;
+      stays = record {
+        source_type = sym same.stays.source_type;
+        line_has_ended = sym same.stays.line_has_ended;
+        errors = sym same.stays.errors;
+      };
+    }

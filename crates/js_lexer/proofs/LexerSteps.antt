@@ -1,41 +1,48 @@
 -- The steps of a lexer.
-use Rattle.std.proofs.Common.{◌≡◌, ◌==◌, ◌+◌, ◌-◌, Bool, true, false, not, List, [], ◌∷◌, ◌++◌, length, take, drop}
-use Rattle.std.proofs.Common.{cond, refl, sym, ◌∙◌, ap}
+use Rattle.std.proofs.Common.{◌≡◌, ◌≤◌, ◌-◌, Bool, true, false, not, List, [], ◌∷◌, ◌++◌, length, take}
+use Rattle.std.proofs.Common.{refl, sym, ◌∙◌, ap}
 use Rattle.std.proofs.Common.{subst, arith, append-nil, Option, Some, None}
-use Rattle.std.specs.Prelude.{slice_get, ℕ, IfSome}
+use Rattle.std.specs.Prelude.{slice_get, ℕ, IfSome, if◌then◌else◌}
 use Rattle.std.specs.Option.{is_some}
 use Rattle.std.specs.List.{last_or}
-use Rattle.std.specs.Char.{encode_utf8 as encode}
-use Rattle.std.specs.Str.{IsUtf8, IsCharBoundary, encode_utf8_all}
-use Rattle.std.proofs.lemmas.Str.{IsCharBoundary-start, IsCharBoundary-past_char, IsUtf8-drop, len_utf8_ascii}
+use Rattle.std.specs.Str.{IsUtf8}
+use Rattle.std.proofs.lemmas.Str.{IsCharBoundary-start}
 use Rattle.std.proofs.Math.Seq.{take-append_seam}
-use Rattle.js_text.specs.Ascii.{number_sign}
-use Rattle.js_text.specs.Characters.{begins, from_place}
+use Rattle.js_text.specs.Characters.{from_place}
 use Rattle.js_text.specs.Lists.{with_last}
-use Rattle.js_text.proofs.TextLemmas.{rest_bytes}
-use Rattle.js_kind.specs.declared.kind.Kind.{Kind}
-use Rattle.js_kind.specs.TokenParts.{TokenParts}
+use Rattle.js_kind.specs.TokenParts.{TokenParts, default_parts}
+use Rattle.js_grammar.specs.GapItems.{token_before}
 use Rattle.js_grammar.specs.Goals.{GoalReads, line_has_ended_behind}
-use Rattle.js_grammar.specs.Outcome.{Findings, joined, lengths_of, cut_to}
+use Rattle.js_grammar.specs.Outcome.{Outcome, Findings, joined, lengths_of, cut_to}
 use Rattle.js_grammar.specs.declared.goal.Goal.{Goal}
 use Rattle.js_grammar.proofs.Clean.{agrees_with_grammar}
-use Rattle.js_grammar.specs.Spelling.{is_private_name}
-use Rattle.js_grammar.proofs.NumberSound.{first_is}
+use Rattle.js_grammar.specs.ReLexed.{is_re_lexed, HasSpelling}
+use Rattle.js_grammar.specs.UnicodeEscape.{right_curly_bracket}
+use Rattle.js_kind.specs.Kinds.{kind_text}
+use Rattle.js_kind.specs.declared.kind.Kind.TheVariants.{RCurly}
+use Rattle.js_text.specs.declared.comment.Comment.{Comment}
+use Rattle.js_grammar.proofs.KindTexts.{goal_reads_spelling}
 use Rattle.js_grammar.proofs.Texts.{goal_reads_text}
 use Rattle.js_lexer.specs.Decoded.{Values, AreValues, Keeps, HasValue}
-use Rattle.js_grammar.proofs.Spans.{goal_reads_span, goal_reads_places}
+use Rattle.js_grammar.proofs.GoalWays.{goal_reads_span, goal_reads_places}
 use Rattle.js_lexer.specs.Lexer.{LexerState, IsOnPlaces, IsSound, IsRestored, collected, ReadsOutcome, ReadsToken}
-use Rattle.js_lexer.specs.Lexer.{HasMovedOn, Checkpoint, checkpoint_of, put_back, rewound, BeginsAlike, GoesOnFrom}
-use Rattle.js_lexer.specs.Lexer.{token_or_default}
-use Rattle.js_lexer.specs.Reader.{ReadsGoal, MovesOn}
+use Rattle.js_lexer.specs.Lexer.{Checkpoint, checkpoint_of, put_back, rewound, BeginsAlike, GoesOnFrom}
+use Rattle.js_lexer.specs.Lexer.{ReadsAgain, after_re_lex, token_or_default}
+use Rattle.js_lexer.specs.Reader.{ReadsGoal, ReadsWithGap, ReadsWithoutGap, AddsGap, MovesOn}
+use Rattle.js_lexer.specs.declared.found.GapFindings.{GapFindings}
 use Rattle.js_lexer.specs.declared.reader.Reader.{Reader}
+use Rattle.js_lexer.proofs.TriviaLaws.{IsBetweenGaps, behind_token, told, held_before_token, held_later}
+use Rattle.js_trivia.specs.Attachment.{Attachment, between_gaps, after_token}
+use Rattle.js_trivia.specs.Trivia.{Trivia, HeldBefore, handle_token, held, is_past, comment_starts}
 use Rattle.js_source.specs.Source.{At}
 
--- the reader of a lexer, before a reading
-pub record IsReaderOf (l : LexerState) (r : Reader) : Type 0 where
+-- the reader of a lexer, and what it has found, before a reading
+pub record IsReaderOf (l : LexerState) (r : Reader) (found : GapFindings) : Type 0 where
   pub source : r.source ≡ record { text = l.text; place = l.place }
   pub source_type : r.source_type ≡ l.source_type
   pub errors : r.errors ≡ l.findings.diagnostics
+  pub deferred : found.deferred ≡ l.findings.deferred
+  pub between : IsBetweenGaps l.last l.place l.findings.comments l.findings.irregular found.trivia
 
 -- a line has ended where no token was read yet
 pub no_token_yet : (last : Option TokenParts) (line_has_ended : Bool) → is_some last ≡ not line_has_ended
@@ -45,50 +52,166 @@ no_token_yet None false e = cc
 no_token_yet (Some token) true e = cc
 no_token_yet (Some token) false e = refl
 
+starts_before_end : (text : List ℕ) (last : Option TokenParts) → IfSome last (IsOnPlaces text)
+    → (token_before last).start ≤ (token_before last).end
+starts_before_end text None h = omega arith
+starts_before_end text (Some token) h = h.ordered
+
+-- the builder of a lexer, before a reading
+pub between_is : (here : At) (last : Option TokenParts) (s cleared : Trivia) (values : Values)
+    → IsSound here last s values → cleared ≡ record s { pure_comments = None; no_side_effects_comments = None }
+    → IsBetweenGaps last here.place s.attachment.attached s.irregular_whitespaces cleared
+between_is here last s cleared values sound e = record {
+  attachment = ap (λ (u : Trivia). u.attachment) e ∙ sound.attachment;
+  irregular = ap (λ (u : Trivia). u.irregular_whitespaces) e;
+  no_pure = ap (λ (u : Trivia). u.pure_comments) e;
+  no_side_effects = ap (λ (u : Trivia). u.no_side_effects_comments) e;
+  held =
+      subst (λ u. HeldBefore here.place u) (sym e)
+      (let h = held_later (token_before last).start here.place s sound.held
+      (omega (arith, starts_before_end here.text last sound.last_lies, sound.behind)) in
+      record { comments = h.comments; irregular = h.irregular });
+}
+
+-- a lexer of these parts
+abbrev pub state_of : Reader → GapFindings → Option TokenParts → Values → LexerState
+state_of r found last values = record {
+  text = r.source.text;
+  source_type = r.source_type;
+  collects = false;
+  place = r.source.place;
+  last = last;
+  tokens = [];
+  findings = record {
+    diagnostics = r.errors;
+    deferred = found.deferred;
+    comments = found.trivia.attachment.attached;
+    irregular = found.trivia.irregular_whitespaces;
+  };
+  pure_comments = None;
+  no_side_effects_comments = None;
+  decoded = values;
+}
+
+pub reader_is : (r : Reader) (found : GapFindings) (last : Option TokenParts) (values : Values) (line_has_ended : Bool)
+    (cleared : Trivia) → IsSound r.source last found.trivia values
+    → cleared ≡ record found.trivia { pure_comments = None; no_side_effects_comments = None }
+    → IsReaderOf (state_of r found last values) (record r { line_has_ended = line_has_ended })
+    (record found { trivia = cleared })
+reader_is r found last values line_has_ended cleared sound e = record {
+  source = refl;
+  source_type = refl;
+  errors = refl;
+  deferred = refl;
+  between = between_is r.source last found.trivia cleared values sound e;
+}
+
+-- a lexer that went back is sound, with more values
+pub sound_back : (old new : At) (last : Option TokenParts) (trivia now : Trivia) (values more : Values) → new ≡ old
+    → now ≡ trivia → IsSound old last trivia values → AreValues old.text more → IsSound new last now more
+sound_back old new last trivia now values more same e sound are =
+    subst (λ a. IsSound a last now more) (sym same)
+    (subst (λ s. IsSound old last s more) (sym e)
+    (record {
+      last_lies = sound.last_lies;
+      last_spelled = sound.last_spelled;
+      behind = sound.behind;
+      attachment = sound.attachment;
+      held = sound.held;
+      are_values = are;
+    }))
+
+-- a token before a place where a line has ended or not
+pub some_token_before : (line_has_ended : Bool)
+    → (previous : Option TokenParts) × (line_has_ended_behind previous ≡ line_has_ended)
+some_token_before true = (None, refl)
+some_token_before false = (Some default_parts, refl)
+
 -- the ends of a token that was read
-pub read_places : (goal : Goal) (before : Option TokenParts) (old new : Reader) (token : TokenParts)
-    → IsUtf8 old.source.text
-    → ReadsGoal goal before old token new → IsOnPlaces old.source.text token
-read_places goal before old new token u r =
-    let places = goal_reads_places old.source.text old.source_type goal before old.source.place r.outcome u r.reads in
-    let span = goal_reads_span old.source.text old.source_type goal before old.source.place r.outcome u r.reads in
+pub read_places : (goal : Goal) (previous : Option TokenParts) (old : Reader) (token : TokenParts) (new : Reader)
+    → IsUtf8 old.source.text → ReadsGoal goal previous old token new → IsOnPlaces old.source.text token
+read_places goal previous old token new u r =
+    let places = goal_reads_places old.source.text old.source_type goal previous old.source.place r.outcome u r.reads in
+    let span = goal_reads_span old.source.text old.source_type goal previous old.source.place r.outcome u r.reads in
     subst (IsOnPlaces old.source.text) (sym r.token_is)
     (record { start = places.0; end = places.1; ordered = span.ordered })
 
--- and so a lexer behind it is sound
-pub sound_after : (goal : Goal) (before : Option TokenParts) (old new : Reader) (token : TokenParts)
-    → IsUtf8 new.source.text
-    → (values : Values) → AreValues old.source.text values
-    → ReadsGoal goal before old token new → IsSound new.source.text (Some token) values
-sound_after goal before old new token u values are r =
-    let same : IsSound old.source.text (Some token) values = record {
-      last_lies =
-          read_places goal before old new token (subst IsUtf8 r.text u) r;
-      are_values = are;
-    } in
-    subst (λ text. IsSound text (Some token) values) (sym r.text) same
+-- and its spelling
+read_spelling : (goal : Goal) (previous : Option TokenParts) (old : Reader) (token : TokenParts) (new : Reader)
+    → ReadsGoal goal previous old token new → HasSpelling old.source.text token
+read_spelling goal previous old token new r =
+    subst (HasSpelling old.source.text) (sym r.token_is)
+    (goal_reads_spelling old.source.text old.source_type goal previous old.source.place r.outcome r.reads)
 
--- and so is one whose values alone have changed
-pub sound_still : (old new : List ℕ) (last : Option TokenParts) (values more : Values) → new ≡ old
-    → IsSound old last values → AreValues old more → IsSound new last more
-sound_still old new last values more same sound are =
-    subst (λ text. IsSound text last more) (sym same)
-    (record { last_lies = sound.last_lies; are_values = are })
+-- what was told of the gap before it
+pub told_of : (goal : Goal) (l : LexerState) (old : Reader) (before : GapFindings) (token : TokenParts) (new : Reader)
+    (after : GapFindings) → IsReaderOf l old before → (r : ReadsWithGap goal l.last old before token new after)
+    → AddsGap l.last l.source_type l.place r.read.outcome before after
+told_of goal l old before token new after is r =
+    subst (λ (a : At). AddsGap l.last l.source_type a.place r.read.outcome before after) is.source
+    (subst (λ t. AddsGap l.last t old.source.place r.read.outcome before after) is.source_type r.gap)
+
+pub held_now : (goal : Goal) (l : LexerState) (old : Reader) (before : GapFindings) (token : TokenParts) (new : Reader)
+    (after : GapFindings) → IsReaderOf l old before → (r : ReadsWithGap goal l.last old before token new after)
+    → handle_token token after.trivia ≡ behind_token l.findings.comments l.findings.irregular r.read.outcome
+held_now goal l old before token new after is r =
+    ap (λ x. handle_token x after.trivia) r.read.token_is
+    ∙ told l.last l.source_type l.place l.findings.comments l.findings.irregular r.read.outcome before after is.between
+    (told_of goal l old before token new after is r)
+
+-- a lexer behind a token is sound
+sound_behind : (goal : Goal) (previous : Option TokenParts) (old : Reader) (token : TokenParts) (new : Reader)
+    (trivia : Trivia) (values : Values) → IsUtf8 new.source.text
+    → AreValues old.source.text values → ReadsGoal goal previous old token new
+    → trivia.attachment ≡ between_gaps trivia.attachment.attached false token → HeldBefore token.start trivia
+    → IsSound new.source (Some token) trivia values
+sound_behind goal previous old token new trivia values u are r attachment held =
+    let utf8 : IsUtf8 old.source.text = subst IsUtf8 r.text u in
+    record {
+      last_lies =
+          subst (λ (text : List ℕ). IsOnPlaces text token) (sym r.text)
+          (read_places goal previous old token new utf8 r);
+      last_spelled =
+          subst (λ (text : List ℕ). HasSpelling text token) (sym r.text)
+          (read_spelling goal previous old token new r);
+      behind = omega (arith, r.end);
+      attachment = attachment;
+      held = held;
+      are_values = subst (λ text. AreValues text values) (sym r.text) are;
+    }
+
+-- and so after a reading with a gap
+pub sound_after : (goal : Goal) (l : LexerState) (old : Reader) (before : GapFindings) (token : TokenParts)
+    (new : Reader) (after : GapFindings) (trivia : Trivia) (values : Values) → IsUtf8 new.source.text
+    → AreValues old.source.text values → IsReaderOf l old before
+    → ReadsWithGap goal l.last old before token new after → trivia ≡ handle_token token after.trivia
+    → IsSound new.source (Some token) trivia values
+sound_after goal l old before token new after trivia values u are is r e =
+    let holds = behind_token l.findings.comments l.findings.irregular r.read.outcome in
+    let now : trivia ≡ holds = e ∙ held_now goal l old before token new after is r in
+    let held =
+    held_before_token l.last l.source_type l.place l.findings.comments l.findings.irregular r.read.outcome before after
+    is.between (told_of goal l old before token new after is r) in
+    sound_behind goal l.last old token new trivia values u are r.read
+    (subst (λ s. s.attachment ≡ between_gaps s.attachment.attached false token) (sym now)
+    (ap (between_gaps holds.attachment.attached false) (sym r.read.token_is)))
+    (subst (λ s. HeldBefore token.start s) (sym now)
+    (subst (λ (x : TokenParts). HeldBefore x.start holds) (sym r.read.token_is) held))
 
 -- a reading of a lexer's reader is one from the lexer's place
-goal_of_lexer : (l : LexerState) (r new : Reader) (goal : Goal) (token : TokenParts) → IsReaderOf l r
-    → (reads : ReadsGoal goal l.last r token new)
+goal_of_lexer : (l : LexerState) (r : Reader) (before : GapFindings) (new : Reader) (goal : Goal)
+    (token : TokenParts) → IsReaderOf l r before → (reads : ReadsGoal goal l.last r token new)
     → GoalReads l.text l.source_type goal l.last l.place reads.outcome
-goal_of_lexer l r new goal token is reads =
+goal_of_lexer l r before new goal token is reads =
     subst (λ (a : At). GoalReads a.text l.source_type goal l.last a.place reads.outcome) is.source
     (subst (λ t. GoalReads r.source.text t goal l.last r.source.place reads.outcome) is.source_type reads.reads)
 
 -- what a reading gives
-pub reads_outcome : (l : LexerState) (r new : Reader) (goal : Goal) (token : TokenParts) → IsUtf8 l.text
-    → IsReaderOf l r → (reads : ReadsGoal goal l.last r token new)
+pub reads_outcome : (l : LexerState) (r : Reader) (before : GapFindings) (new : Reader) (goal : Goal)
+    (token : TokenParts) → IsUtf8 l.text → IsReaderOf l r before → (reads : ReadsGoal goal l.last r token new)
     → ReadsOutcome goal l reads.outcome
-reads_outcome l r new goal token u is reads =
-    let here = goal_of_lexer l r new goal token is reads in
+reads_outcome l r before new goal token u is reads =
+    let here = goal_of_lexer l r before new goal token is reads in
     let places = goal_reads_places l.text l.source_type goal l.last l.place reads.outcome u here in
     let span = goal_reads_span l.text l.source_type goal l.last l.place reads.outcome u here in
     record {
@@ -96,11 +219,14 @@ reads_outcome l r new goal token u is reads =
       places = record { start = places.0; end = places.1; ordered = span.ordered };
       some_text = span.some_text;
       text_lies = goal_reads_text l.text l.source_type goal l.last l.place reads.outcome u here;
+      spelling = goal_reads_spelling l.text l.source_type goal l.last l.place reads.outcome here;
     }
 
 -- a reading, as contracts see it
-pub reads_token : (old new : LexerState) (r reader : Reader) (goal : Goal) (token : TokenParts) (values : Values)
-    → IsUtf8 old.text → IsReaderOf old r → ReadsGoal goal old.last r token reader
+pub reads_token : (old new : LexerState) (r : Reader) (before : GapFindings) (reader : Reader) (after : GapFindings)
+    (trivia : Trivia) (goal : Goal) (token : TokenParts) (values : Values)
+    → IsUtf8 old.text → IsReaderOf old r before
+    → ReadsWithGap goal old.last r before token reader after → trivia ≡ handle_token token after.trivia
     → Keeps old.decoded values → HasValue old.text values token
     → new ≡ record old {
       text = reader.source.text;
@@ -108,78 +234,157 @@ pub reads_token : (old new : LexerState) (r reader : Reader) (goal : Goal) (toke
       place = reader.source.place;
       last = Some token;
       tokens = old.tokens ++ collected old.collects token;
-      findings = record old.findings { diagnostics = reader.errors };
+      findings = record {
+        diagnostics = reader.errors;
+        deferred = after.deferred;
+        comments = trivia.attachment.attached;
+        irregular = trivia.irregular_whitespaces;
+      };
+      pure_comments = trivia.pure_comments;
+      no_side_effects_comments = trivia.no_side_effects_comments;
       decoded = values;
     }
     → ReadsToken goal old token new
-reads_token old new r reader goal token values u is reads kept has e = record {
-  outcome = reads.outcome;
-  token_is = reads.token_is;
-  reads = reads_outcome old r reader goal token u is reads;
-  agrees =
-      agrees_with_grammar old.text old.source_type goal old.last old.place reads.outcome
-      (goal_of_lexer old r reader goal token is reads);
-  after = record {
-    text = ap (λ x. x.text) e ∙ reads.text ∙ ap (λ a. a.text) is.source;
-    source_type = ap (λ x. x.source_type) e ∙ reads.source_type ∙ is.source_type;
-    collects = ap (λ x. x.collects) e;
-    place = ap (λ x. x.place) e ∙ reads.end ∙ ap (λ x. x.end) reads.token_is;
-    last = ap (λ x. x.last) e ∙ ap Some reads.token_is;
-    tokens = ap (λ x. x.tokens) e ∙ ap (λ x. old.tokens ++ collected old.collects x) reads.token_is;
-    findings = ap (λ x. x.findings) e ∙ found;
-  };
-  kept = subst (Keeps old.decoded) (sym (ap (λ x. x.decoded) e)) kept;
-  has_value = subst (λ (v : Values). HasValue old.text v token) (sym (ap (λ x. x.decoded) e)) has;
-}
-  where
-    errors : reader.errors ≡ old.findings.diagnostics ++ reads.outcome.findings.diagnostics
-    errors = reads.errors ∙ ap (λ es. es ++ reads.outcome.findings.diagnostics) is.errors
+reads_token old new r before reader after trivia goal token values u is with_gap told kept has e =
+    let reads = with_gap.read in
+    let holds = behind_token old.findings.comments old.findings.irregular reads.outcome in
+    let now : trivia ≡ holds = told ∙ held_now goal old r before token reader after is with_gap in
+    let errors : reader.errors ≡ old.findings.diagnostics ++ reads.outcome.findings.diagnostics =
+    reads.errors ∙ ap (λ es. es ++ reads.outcome.findings.diagnostics) is.errors in
+    let deferred : after.deferred ≡ old.findings.deferred ++ reads.outcome.findings.deferred =
+    with_gap.gap.deferred ∙ ap (λ es. es ++ reads.outcome.findings.deferred) is.deferred in
+    record {
+      outcome = reads.outcome;
+      token_is = reads.token_is;
+      reads = reads_outcome old r before reader goal token u is reads;
+      agrees = λ plain.
+          agrees_with_grammar old.text old.source_type goal old.last old.place reads.outcome plain
+          (goal_of_lexer old r before reader goal token is reads);
+      after = record {
+        text = ap (λ x. x.text) e ∙ reads.text ∙ ap (λ a. a.text) is.source;
+        source_type = ap (λ x. x.source_type) e ∙ reads.source_type ∙ is.source_type;
+        collects = ap (λ x. x.collects) e;
+        place = ap (λ x. x.place) e ∙ reads.end ∙ ap (λ x. x.end) reads.token_is;
+        last = ap (λ x. x.last) e ∙ ap Some reads.token_is;
+        tokens = ap (λ x. x.tokens) e ∙ ap (λ x. old.tokens ++ collected old.collects x) reads.token_is;
+        findings = ap (λ x. x.findings) e ∙ rw (errors, deferred, now) refl;
+        pure_comments = ap (λ x. x.pure_comments) e ∙ ap (λ (s : Trivia). s.pure_comments) now;
+        no_side_effects_comments =
+            ap (λ x. x.no_side_effects_comments) e ∙ ap (λ (s : Trivia). s.no_side_effects_comments) now;
+      };
+      kept = subst (Keeps old.decoded) (sym (ap (λ x. x.decoded) e)) kept;
+      has_value = subst (λ (v : Values). HasValue old.text v token) (sym (ap (λ x. x.decoded) e)) has;
+    }
 
-    found : record old.findings { diagnostics = reader.errors } ≡ joined old.findings reads.outcome.findings
-    found =
-        rw (
-          reads.findings,
-          errors,
-          append-nil old.findings.deferred,
-          append-nil old.findings.comments,
-          append-nil old.findings.irregular,
-        ) refl
+-- a lexer whose builder was told of a token that was read again
+pub sound_again : (goal : Goal) (previous token : TokenParts) (old new : Reader) (trivia now : Trivia)
+    (values more : Values) → IsUtf8 new.source.text → AreValues old.source.text more
+    → ReadsGoal goal (Some previous) old token new → IsSound old.source (Some previous) trivia values
+    → token.start ≡ previous.start → now ≡ handle_token token trivia → IsSound new.source (Some token) now more
+sound_again goal previous token old new trivia now values more u are r sound start e =
+    let told : Trivia = record trivia { attachment = between_gaps trivia.attachment.attached false token } in
+    let same : now ≡ told =
+    e ∙ ap (λ a. record trivia { attachment = after_token token a }) sound.attachment
+    ∙ ap (λ cs. record trivia { attachment = between_gaps cs false token }) (append-nil trivia.attachment.attached) in
+    let comments =
+    ap (λ (a : Attachment). is_past previous.start (comment_starts (held a))) (sym sound.attachment)
+    ∙ sound.held.comments in
+    sound_behind goal (Some previous) old token new now more u are r
+    (subst (λ s. s.attachment ≡ between_gaps s.attachment.attached false token) (sym same) refl)
+    (subst (λ s. HeldBefore token.start s) (sym same)
+    (subst (λ (n : ℕ). HeldBefore n told) (sym start)
+    (record { comments = comments; irregular = sound.held.irregular })))
 
--- a reading that could not allocate
-pub moves_on : (old new : LexerState) (r reader : Reader) (values : Values) → IsReaderOf old r → MovesOn r reader
-    → Keeps old.decoded values
+-- what a builder between two gaps holds after it was told of a token again
+pub told_again : (previous : Option TokenParts) (token : TokenParts) (trivia now : Trivia) (here : At) (values : Values)
+    → IsSound here previous trivia values → now ≡ handle_token token trivia
+    → (now.attachment.attached ≡ trivia.attachment.attached)
+    × (now.irregular_whitespaces ≡ trivia.irregular_whitespaces) × (now.pure_comments ≡ trivia.pure_comments)
+    × (now.no_side_effects_comments ≡ trivia.no_side_effects_comments)
+told_again previous token trivia now here values sound e = (
+  ap (λ (u : Trivia). u.attachment.attached) e
+      ∙ ap (λ a. (after_token token a).attached) sound.attachment ∙ append-nil trivia.attachment.attached,
+  ap (λ (u : Trivia). u.irregular_whitespaces) e,
+  ap (λ (u : Trivia). u.pure_comments) e,
+  ap (λ (u : Trivia). u.no_side_effects_comments) e,
+)
+
+-- a token that was read again, as contracts see it
+abbrev pub reads_again : (old new : LexerState) (r : Reader) (goal : Goal) (token : TokenParts) (reader : Reader)
+    (comments : List Comment) (values : Values)
+    → IsUtf8 old.text → r.source ≡ record { text = old.text; place = old.place } → r.source_type ≡ old.source_type
+    → r.errors ≡ old.findings.diagnostics
+    → ReadsWithoutGap goal old.last r token reader → Keeps old.decoded values → HasValue old.text values token
+    → comments ≡ old.findings.comments
     → new ≡ record old {
       text = reader.source.text;
       source_type = reader.source_type;
       place = reader.source.place;
-      findings = record old.findings { diagnostics = reader.errors };
+      last = Some token;
+      tokens = if old.collects then with_last old.tokens token else old.tokens;
+      findings = record old.findings { diagnostics = reader.errors; comments = comments };
       decoded = values;
     }
-    → HasMovedOn old new
-moves_on old new r reader values is m kept e =
-    let text : reader.source.text ≡ old.text = m.text ∙ ap (λ a. a.text) is.source in
-    let source_type : reader.source_type ≡ old.source_type = m.source_type ∙ is.source_type in
-    let errors : reader.errors ≡ old.findings.diagnostics ++ m.more = m.errors ∙ ap (λ es. es ++ m.more) is.errors in
+    → ReadsAgain goal old token new
+reads_again old new r goal token reader comments values u source source_type errors alone kept has same e =
+    let reads = alone.read in
+    let here : GoalReads old.text old.source_type goal old.last old.place reads.outcome =
+    subst (λ (a : At). GoalReads a.text old.source_type goal old.last a.place reads.outcome) source
+    (subst (λ t. GoalReads r.source.text t goal old.last r.source.place reads.outcome) source_type reads.reads) in
+    let places = goal_reads_places old.text old.source_type goal old.last old.place reads.outcome u here in
+    let span = goal_reads_span old.text old.source_type goal old.last old.place reads.outcome u here in
+    let reported : reader.errors ≡ old.findings.diagnostics ++ reads.outcome.findings.diagnostics =
+    reads.errors ∙ ap (λ es. es ++ reads.outcome.findings.diagnostics) errors in
     record {
-      place = reader.source.place;
-      more = m.more;
-      decoded = values;
-      kept = kept;
-      after =
-          e ∙ rw (
-            text,
-            source_type,
-            errors,
-            append-nil old.findings.deferred,
-            append-nil old.findings.comments,
-            append-nil old.findings.irregular,
-          ) refl;
+      outcome = reads.outcome;
+      token_is = reads.token_is;
+      reads = record {
+        reads = here;
+        places = record { start = places.0; end = places.1; ordered = span.ordered };
+        some_text = span.some_text;
+        text_lies = goal_reads_text old.text old.source_type goal old.last old.place reads.outcome u here;
+        spelling = goal_reads_spelling old.text old.source_type goal old.last old.place reads.outcome here;
+      };
+      after = record {
+        text = ap (λ x. x.text) e ∙ reads.text ∙ ap (λ a. a.text) source;
+        source_type = ap (λ x. x.source_type) e ∙ reads.source_type ∙ source_type;
+        collects = ap (λ x. x.collects) e;
+        place = ap (λ x. x.place) e ∙ reads.end ∙ ap (λ x. x.end) reads.token_is;
+        last = ap (λ x. x.last) e ∙ ap Some reads.token_is;
+        tokens =
+            ap (λ x. x.tokens) e
+            ∙ ap (λ x. if old.collects then with_last old.tokens x else old.tokens) reads.token_is;
+        findings =
+            ap (λ x. x.findings) e
+            ∙ rw (
+              alone.findings,
+              reported,
+              same,
+              append-nil old.findings.deferred,
+              append-nil old.findings.comments,
+              append-nil old.findings.irregular,
+            ) refl;
+        pure_comments = ap (λ x. x.pure_comments) e;
+        no_side_effects_comments = ap (λ x. x.no_side_effects_comments) e;
+      };
+      kept = subst (Keeps old.decoded) (sym (ap (λ x. x.decoded) e)) kept;
+      has_value = subst (λ (v : Values). HasValue old.text v token) (sym (ap (λ x. x.decoded) e)) has;
     }
 
+-- the `}` that a lexer stands behind, and what follows it
+pub curly_here : (text : List ℕ) (last : Option TokenParts) (token : TokenParts) (place : ℕ) → last ≡ Some token
+    → token.kind ≡ RCurly → place ≡ token.end → IfSome last (HasSpelling text)
+    → from_place text token.start ≡ right_curly_bracket ∷ from_place text place
+unfolding is_re_lexed
+curly_here text last token place is kind at spelled =
+    subst (λ o. IfSome o (HasSpelling text)) is spelled (ap is_re_lexed kind)
+    ∙ ap (λ k. kind_text k ++ from_place text token.end) kind
+    ∙ ap (λ n. right_curly_bracket ∷ from_place text n) (sym at)
+
 -- a reading has moved its reader on
-pub reads_moves_on : (goal : Goal) (before : Option TokenParts) (old new : Reader) (token : TokenParts)
-    → ReadsGoal goal before old token new → MovesOn old new
-reads_moves_on goal before old new token r = record {
+pub reads_moves_on : (goal : Goal) (previous : Option TokenParts) (old : Reader) (token : TokenParts) (new : Reader)
+    → ReadsGoal goal previous old token new → MovesOn old new
+reads_moves_on goal previous old token new r = record {
   text = r.text;
   source_type = r.source_type;
   more = r.outcome.findings.diagnostics;
@@ -243,6 +448,8 @@ rewound_is old now new c e g r = record {
   findings =
       ap (λ x. x.findings) r ∙ ap (λ x. cut_to x.lengths now.findings) e
       ∙ ap (cut_to (lengths_of old.findings)) g.goes_on ∙ cut_to-joined old.findings g.findings;
+  pure_comments = ap (λ x. x.pure_comments) r ∙ ap (λ x. x.pure_comments) e;
+  no_side_effects_comments = ap (λ x. x.no_side_effects_comments) r ∙ ap (λ x. x.no_side_effects_comments) e;
 }
 
 pub begins_alike-append : (old more : List TokenParts) → BeginsAlike old (old ++ more)
@@ -260,6 +467,41 @@ reading_goes_on goal old new token r = record {
   tokens =
       subst (BeginsAlike old.tokens) (sym r.after.tokens)
       (begins_alike-append old.tokens (collected old.collects r.outcome.token));
+  findings = r.outcome.findings;
+  goes_on = r.after.findings;
+}
+
+begins_alike-with_last : (ts : List TokenParts) (t : TokenParts) → BeginsAlike ts (with_last ts t)
+begins_alike-with_last [] t = tt
+begins_alike-with_last (a ∷ []) t = tt
+begins_alike-with_last (a ∷ b ∷ ts) t = (refl, begins_alike-with_last (b ∷ ts) t)
+
+pub begins_alike-replaced : (collects : Bool) (ts : List TokenParts) (t : TokenParts)
+    → BeginsAlike ts (if collects then with_last ts t else ts)
+begins_alike-replaced true ts t = begins_alike-with_last ts t
+begins_alike-replaced false ts t = subst (BeginsAlike ts) (append-nil ts) (begins_alike-append ts [])
+
+-- a re-lex leads on
+pub goes_on-re_lexed : (l : LexerState) (o : Outcome) → GoesOnFrom l (after_re_lex l o)
+goes_on-re_lexed l o = record {
+  text = refl;
+  source_type = refl;
+  collects = refl;
+  tokens = begins_alike-replaced l.collects l.tokens o.token;
+  findings = o.findings;
+  goes_on = refl;
+}
+
+-- and so does a lexer that read a token again
+pub re_lexing_goes_on : (goal : Goal) (old new : LexerState) (token : TokenParts) → ReadsAgain goal old token new
+    → GoesOnFrom old new
+re_lexing_goes_on goal old new token r = record {
+  text = r.after.text;
+  source_type = r.after.source_type;
+  collects = r.after.collects;
+  tokens =
+      subst (BeginsAlike old.tokens) (sym r.after.tokens)
+      (begins_alike-replaced old.collects old.tokens r.outcome.token);
   findings = r.outcome.findings;
   goes_on = r.after.findings;
 }

@@ -1,19 +1,14 @@
 -- The table of the parts of names in ASCII, and the runs that it passes.
-use Rattle.std.proofs.Common.{◌≡◌, ℕ, ◌+◌, ◌<◌, ◌≤◌, Bool, true, false, not, ◌&&◌, ◌||◌, ◌==◌, ltb, List, [], ◌∷◌, ◌++◌}
-use Rattle.std.proofs.Common.{length, length-append, get_or, zero, suc, refl, sym, ◌∙◌, ap, subst, arith, add-zero}
+use Rattle.std.proofs.Common.{◌≡◌, ℕ, ◌+◌, ◌<◌, ◌≤◌, Bool, true, false, not, ◌&&◌, ◌||◌, ◌==◌, ltb, List, [], ◌∷◌}
+use Rattle.std.proofs.Common.{length, length-append, get_or, zero, suc, refl, sym, ◌∙◌, ap, arith, add-zero}
 use Rattle.std.specs.Char.{is_ascii_alphabetic}
-use Rattle.std.proofs.lemmas.Bool.{ltb-true, ltb-false}
+use Rattle.std.proofs.lemmas.Bool.{ltb-true, ltb-false, eqb-true}
 use Rattle.std.proofs.Math.ListN.{get_or-eq_default}
-use Rattle.js_text.specs.Characters.{is_white_space, from_place}
-use Rattle.js_text.specs.declared.source_type.SourceType.{SourceType}
+use Rattle.js_text.specs.Characters.{is_white_space, is_irregular_whitespace, from_place}
 use Rattle.js_text.proofs.CharacterLemmas.{start_in_ascii}
 use Rattle.js_source.specs.Source.{At, rest}
 use Rattle.js_source.specs.Search.{matches_at}
-use Rattle.js_source.specs.Runs.{HasAscii, IsRun, PassesRun}
-use Rattle.js_grammar.specs.Gap.{LongestGap, one_character}
-use Rattle.js_grammar.specs.Gap.PieceKind.{white_space}
-use Rattle.js_grammar.proofs.GapLemmas.{longest_gap-cons}
-use Rattle.js_grammar.proofs.PieceLemmas.{piece-white}
+use Rattle.js_source.specs.Runs.{HasAscii, PassesRun}
 use Rattle.js_lexer.specs.Tables.{TellsStarts, TellsBlanks}
 
 abbrev same : Bool → Bool → Bool
@@ -91,9 +86,25 @@ white : (b : ℕ) → is_blank b ≡ true → is_white_space b ≡ true
 unfolding is_white_space
 white b e = rw e refl
 
+plain : (b : ℕ) → is_blank b ≡ true → is_irregular_whitespace b ≡ false
+unfolding is_irregular_whitespace
+plain b e = by_test (b == 9) refl
+  where
+    second : (x : Bool) → (b == 9) ≡ false → (b == 32) ≡ x → is_irregular_whitespace b ≡ false
+    second true f t = ap is_irregular_whitespace (eqb-true b 32 t)
+    second false f t = absurd (let both : is_blank b ≡ false = rw (f, t) refl in cc)
+
+    by_test : (x : Bool) → (b == 9) ≡ x → is_irregular_whitespace b ≡ false
+    by_test true t = ap is_irregular_whitespace (eqb-true b 9 t)
+    by_test false t = second (b == 32) t refl
+
 pub tells_blanks : (xs : List Bool) → tells is_blank 0 xs ≡ true → length xs ≡ 256 → TellsBlanks xs
 tells_blanks xs e n =
-    record { ascii = ascii_alone is_blank xs e n; tells = λ b lt m. white b (sym (entry_low is_blank xs e n b lt) ∙ m) }
+    record {
+      ascii = ascii_alone is_blank xs e n;
+      tells = λ b lt m. white b (sym (entry_low is_blank xs e n b lt) ∙ m);
+      plain = λ b lt m. plain b (sym (entry_low is_blank xs e n b lt) ∙ m);
+    }
 
 pub run_fewer : (table : List Bool) (old new : At) → new.text ≡ old.text → PassesRun table old.text old.place new.place
     → length (rest new) ≤ length (rest old)
@@ -104,23 +115,3 @@ run_fewer table old new text run =
       length-append run.run (from_place old.text new.place),
       ap (λ u. length (from_place u new.place)) text,
     )
-
-blanks_before : (table : List Bool) → TellsBlanks table
-    → (t : SourceType) (line_had_ended : Bool) (xs cs : List ℕ) (line_has_ended : Bool) (left : List ℕ) → IsRun table xs
-    → LongestGap t line_had_ended cs line_has_ended left → LongestGap t line_had_ended (xs ++ cs) line_has_ended left
-blanks_before table tells t line_had_ended [] cs line_has_ended left h g = g
-blanks_before table tells t line_had_ended (b ∷ bs) cs line_has_ended left h g =
-    longest_gap-cons t line_had_ended (b ∷ (bs ++ cs))
-    (one_character white_space line_had_ended b (bs ++ cs)) line_has_ended left
-    (piece-white t line_had_ended b (bs ++ cs) (tells.tells b h.0 h.1))
-    (blanks_before table tells t line_had_ended bs cs line_has_ended left h.2 g)
-
-pub blanks_passed : (table : List Bool) (old new : At) → TellsBlanks table → new.text ≡ old.text
-    → PassesRun table old.text old.place new.place
-    → (t : SourceType) (line_had_ended line_has_ended : Bool) (left : List ℕ)
-    → LongestGap t line_had_ended (rest new) line_has_ended left
-    → LongestGap t line_had_ended (rest old) line_has_ended left
-blanks_passed table old new tells text run t line_had_ended line_has_ended left g =
-    let here : rest old ≡ run.run ++ rest new = run.here ∙ ap (λ u. run.run ++ from_place u new.place) (sym text) in
-    subst (λ (xs : List ℕ). LongestGap t line_had_ended xs line_has_ended left) (sym here)
-    (blanks_before table tells t line_had_ended run.run (rest new) line_has_ended left run.all g)

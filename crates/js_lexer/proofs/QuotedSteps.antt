@@ -1,24 +1,29 @@
 -- What is read of a string and of a template, and the values that are kept of them.
 use Rattle.std.proofs.Common.{◌≡◌, ℕ, ◌+◌, Bool, true, false, ◌==◌, List, [], ◌∷◌, ◌++◌, drop, refl, sym, ◌∙◌}
 use Rattle.std.proofs.Common.{ap, subst}
+use Rattle.std.specs.Str.{IsUtf8, IsCharBoundary}
+use Rattle.js_text.proofs.TextLemmas.{place_past}
 use Rattle.js_text.specs.Ascii.{grave_accent}
-use Rattle.js_text.specs.Characters.{begins}
+use Rattle.js_text.specs.Characters.{begins, from_place}
 use Rattle.js_text.specs.declared.diagnostic.Diagnostic.{Diagnostic}
 use Rattle.js_kind.specs.Kinds.{is_template_kind}
 use Rattle.js_kind.specs.TokenParts.{TokenParts}
 use Rattle.js_kind.specs.declared.kind.Kind.{Kind}
-use Rattle.js_kind.specs.declared.kind.Kind.TheVariants.{NoSubstitutionTemplate, Str, TemplateHead, Undetermined}
-use Rattle.js_source.specs.Source.{At, rest, Reads, IsPlaced, BeginsWith, StepsPast}
+use Rattle.js_kind.specs.declared.kind.Kind.TheVariants.{NoSubstitutionTemplate, TemplateHead, TemplateMiddle}
+use Rattle.js_kind.specs.declared.kind.Kind.TheVariants.{TemplateTail}
+use Rattle.js_source.specs.Source.{At, rest, Reads, IsPlaced, StepsPast}
 use Rattle.js_grammar.specs.Outcome.{place_behind}
 use Rattle.js_grammar.specs.Quoted.{begins_quoted, quoted_read, units_in}
 use Rattle.js_grammar.specs.StringItems.{StringRead, StringValue, is_quote, string_read}
 use Rattle.js_grammar.specs.StringItems.StringValue.{no_value, units, bad_value}
 use Rattle.js_grammar.specs.Template.{template_part_read}
+use Rattle.js_grammar.specs.UnicodeEscape.{right_curly_bracket}
+use Rattle.js_grammar.specs.Values.{template_units}
 use Rattle.js_grammar.proofs.NameReadings.{ReadsAs}
 use Rattle.js_grammar.proofs.NumberSound.{first_is}
 use Rattle.js_grammar.proofs.QuotedReadings.{quoted_reads_here}
 use Rattle.js_grammar.proofs.QuotedValues.{IsStringRead, string_read_is, IsPartRead, part_read_is}
-use Rattle.js_grammar.proofs.QuotedValues.{string_stands, part_stands}
+use Rattle.js_grammar.proofs.QuotedValues.{string_stands, part_stands, part_stands_behind_mark}
 use Rattle.js_grammar.proofs.StringBegins.{quote_is_quoted}
 use Rattle.js_spell.specs.Strings.{Spells, SpellsString, spelt_value}
 use Rattle.js_spell.specs.declared.spelt.Spelt.{Spelt}
@@ -125,6 +130,10 @@ mark_place : (place : ℕ) → place_behind place (grave_accent ∷ []) ≡ plac
 unfolding lib.Utf8.encode
 mark_place place = refl
 
+curly_place : (place : ℕ) → place_behind place (right_curly_bracket ∷ []) ≡ place + 1
+unfolding lib.Utf8.encode
+curly_place place = refl
+
 pub behind_backquote : (old mid : At) → IsPlaced old → IsPlaced mid → Reads old mid grave_accent
     → old.place + 1 ≡ mid.place
 behind_backquote old mid h g reads =
@@ -153,22 +162,24 @@ lexeme_of_template old new mid start was now spelt reads at spells source_type =
     ∙ ap (λ p. template_part_read TemplateHead NoSubstitutionTemplate p (rest mid)) (sym at))
     spells reads.text refl refl source_type
 
--- and its value is kept
-pub template_kept : (here mid new : At) (values kept : Values) (start place : ℕ) (before after : List Diagnostic)
-    (was now : TokenParts) (spelt : Spelt) → Reads here mid grave_accent → place ≡ here.place
-    → Spells (template_part_read TemplateHead NoSubstitutionTemplate start (rest mid)) mid new before after was now
-    spelt
+-- A part of a template was read behind a mark, with these kinds, and its value is kept.
+part_kept : (substitute tail : Kind) → is_template_kind substitute ≡ true → is_template_kind tail ≡ true
+    → (here mid new : At) (values kept : Values) (start place : ℕ) (before after : List Diagnostic) (was now : TokenParts)
+    (spelt : Spelt) → place ≡ here.place
+    → units_in (template_part_read substitute tail start (rest mid)).value ≡ template_units (rest here)
+    → Spells (template_part_read substitute tail start (rest mid)) mid new before after was now spelt
     → KeepsPart place spelt.value values kept → IsKept here values kept spelt.kind now.escaped
-template_kept here mid new values kept start place before after was now spelt reads at spells keeps =
+part_kept substitute tail first last here mid new values kept start place before after was now spelt at stands spells
+    keeps =
     by_flag now.escaped (spells.value ∙ ap (λ b. spelt_value b read.value) spells.escaped)
     (λ e. ap is_template_kind (sym spells.kind) ∙ is.template (spells.escaped ∙ e))
     (λ e. is.some_value (spells.escaped ∙ e))
   where
     read : StringRead
-    read = template_part_read TemplateHead NoSubstitutionTemplate start (rest mid)
+    read = template_part_read substitute tail start (rest mid)
 
     is : IsPartRead read
-    is = part_read_is start (rest mid)
+    is = part_read_is substitute tail first last start (rest mid)
 
     kept_there : KeepsPart here.place spelt.value values kept
     kept_there = subst (λ (n : ℕ). KeepsPart n spelt.value values kept) at keeps
@@ -188,8 +199,46 @@ template_kept here mid new values kept start place before after was now spelt re
     }
     by_flag true value one some =
         let holds = held read.value (some refl) value in
-        let stands = part_stands start (rest mid) (rest here) reads.here in
         record {
           kept = keeps_template here (units_in read.value) values kept holds stands;
           has_value = has_template here (units_in read.value) values kept spelt.kind true (one refl) holds stands;
         }
+
+-- the kinds of parts of templates
+record ArePartKinds : Type 0 where
+  pub head : is_template_kind TemplateHead ≡ true
+  pub middle : is_template_kind TemplateMiddle ≡ true
+  pub tail : is_template_kind TemplateTail ≡ true
+  pub no_substitution : is_template_kind NoSubstitutionTemplate ≡ true
+
+part_kinds : ArePartKinds
+unfolding is_template_kind
+part_kinds = record { head = refl; middle = refl; tail = refl; no_substitution = refl }
+
+-- and the value of a template, or of its first part
+pub template_kept : (here mid new : At) (values kept : Values) (start place : ℕ) (before after : List Diagnostic)
+    (was now : TokenParts) (spelt : Spelt) → Reads here mid grave_accent → place ≡ here.place
+    → Spells (template_part_read TemplateHead NoSubstitutionTemplate start (rest mid)) mid new before after was now
+    spelt
+    → KeepsPart place spelt.value values kept → IsKept here values kept spelt.kind now.escaped
+template_kept here mid new values kept start place before after was now spelt reads at spells keeps =
+    part_kept TemplateHead NoSubstitutionTemplate part_kinds.head part_kinds.no_substitution here mid new values kept
+    start place before after was now spelt at (part_stands start (rest mid) (rest here) reads.here) spells keeps
+
+-- and that of a further part, behind a `}`
+pub next_part_kept : (here mid new : At) (values kept : Values) (start : ℕ) (before after : List Diagnostic)
+    (was now : TokenParts) (spelt : Spelt) → rest here ≡ right_curly_bracket ∷ rest mid
+    → Spells (template_part_read TemplateMiddle TemplateTail start (rest mid)) mid new before after was now spelt
+    → KeepsPart here.place spelt.value values kept → IsKept here values kept spelt.kind now.escaped
+next_part_kept here mid new values kept start before after was now spelt e spells keeps =
+    part_kept TemplateMiddle TemplateTail part_kinds.middle part_kinds.tail here mid new values kept start here.place
+    before after was now spelt refl (part_stands_behind_mark TemplateMiddle TemplateTail start (rest mid) (rest here) e)
+    spells keeps
+
+-- the place behind the `}`
+pub behind_curly : (text : List ℕ) (start : ℕ) (mid : At) → mid.text ≡ text → IsPlaced mid → IsCharBoundary text start
+    → from_place text start ≡ right_curly_bracket ∷ rest mid → start + 1 ≡ mid.place
+behind_curly text start mid same h there e =
+    sym (place_past text start mid.place (right_curly_bracket ∷ []) (subst IsUtf8 same h.utf8) there
+    (subst (λ (u : List ℕ). IsCharBoundary u mid.place) same h.boundary)
+    (e ∙ ap (λ u. right_curly_bracket ∷ from_place u mid.place) same) ∙ curly_place start)

@@ -1,42 +1,59 @@
 -- The steps of a reading.
 use Rattle.std.proofs.Common.{◌≡◌, ℕ, ◌≤◌, Bool, true, false, List, [], ◌∷◌, ◌++◌, zero, suc, refl, sym, ◌∙◌, ap}
-use Rattle.std.proofs.Common.{subst, append_assoc, append-nil, Option, None}
+use Rattle.std.proofs.Common.{◌+◌, ◌<◌, ◌&&◌, length, length-append, drop, arith, add-zero}
+use Rattle.std.proofs.Common.{subst, append_assoc, append-nil, Option, Some, None}
 use Rattle.std.specs.Prelude.{codes, IfOk, OnErr, Result}
+use Rattle.std.specs.Char.{encode_utf8}
+use Rattle.std.proofs.lemmas.Str.{length-encode, len_utf8_bounds}
 use Rattle.std.specs.declared.alloc.AllocError.{AllocError}
 use Rattle.std.proofs.lemmas.Result.{IfOk-weaker, on_err_weaker}
-use Rattle.std.specs.Str.{IsCharBoundary}
+use Rattle.std.specs.Str.{IsCharBoundary, encode_utf8_all}
 use Rattle.js_text.specs.Characters.{from_place, from_first, is_line_terminator}
+use Rattle.js_text.specs.SourceType.{is_module}
 use Rattle.js_text.specs.declared.source_type.SourceType.{SourceType}
 use Rattle.js_kind.specs.TokenParts.{TokenParts, default_parts}
 use Rattle.js_kind.specs.declared.kind.Kind.{Kind}
 use Rattle.js_kind.specs.declared.kind.Kind.TheVariants.{HashbangComment}
 use Rattle.js_source.specs.Source.{At, rest, IsPlaced}
-use Rattle.js_grammar.specs.Gap.{is_prefix, whole_gap_piece, Pieces}
+use Rattle.js_text.specs.declared.diagnostic.Diagnostic.{Diagnostic}
+use Rattle.js_grammar.specs.Gap.{Piece, WholeGap, is_prefix, is_reported, line_comment, whole_gap_piece, Pieces}
+use Rattle.js_grammar.specs.Gap.PieceKind.{reported_comment}
+use Rattle.js_grammar.specs.PieceItems.{piece_length}
 use Rattle.js_grammar.specs.Goals.{ReadsHere, spelled_reading, outcome_behind, token_alone}
-use Rattle.js_grammar.specs.Goals.{line_has_ended_behind, ReadsBehindGap}
+use Rattle.js_grammar.specs.Goals.{line_has_ended_behind, ReadsBehindGap, ReadsPlainly, GoalReads}
 use Rattle.js_grammar.specs.Goals.ReadsHere.{spelled, recovers}
-use Rattle.js_grammar.specs.Goals.GoalReads.{hashbang, behind_gap}
+use Rattle.js_grammar.specs.Goals.ReadsPlainly.{hashbang, behind_gap}
 use Rattle.js_grammar.specs.Hashbang.{begins_hashbang}
 use Rattle.js_grammar.specs.Number.{begins_number}
 use Rattle.js_grammar.specs.NumberReads.{NumberRead, number_read}
 use Rattle.js_grammar.specs.Recovery.{faulty, number_reading}
 use Rattle.js_grammar.specs.Spelling.{NothingSpelled, has_separator}
 use Rattle.js_grammar.specs.declared.goal.Goal.{Goal}
-use Rattle.js_grammar.specs.declared.goal.Goal.TheVariants.{First}
+use Rattle.js_grammar.specs.declared.goal.Goal.TheVariants.{First, Next, TemplateTail}
+use Rattle.js_grammar.specs.declared.goal.Goal.TheVariants.{RegularExpression, RightAngle, TypeScriptLeftAngle}
+use Rattle.js_grammar.specs.declared.goal.Goal.TheVariants.{TypeScriptRightAngle, JsxIdentifier, JsxChild}
+use Rattle.js_grammar.specs.declared.goal.Goal.TheVariants.{JsxAttributeValue}
+use Rattle.js_grammar.specs.Outcome.{Outcome, Findings, gap_findings, gap_deferred, joined, reports, place_behind}
+use Rattle.js_grammar.specs.Reads.{is_plain}
 use Rattle.js_grammar.proofs.Flags.{IsUnflagged, has_no_escape}
 use Rattle.js_grammar.proofs.PieceLemmas.{from_first-hashbang}
 use Rattle.js_grammar.proofs.NumberReadings.{number_reads_here}
 use Rattle.js_grammar.proofs.SpellingClasses.{nothing_spelled}
 use Rattle.js_spell.specs.Numeric.{ReadsNumber}
 use Rattle.js_grammar.proofs.Spans.{here_span}
-use Rattle.js_grammar.proofs.Tests.{prefix_of}
+use Rattle.js_grammar.proofs.Tests.{prefix_of, prefix_is, and_true}
+use Rattle.js_grammar.proofs.GapLemmas.{reported, unreported, piece_takes}
+use Rattle.js_grammar.proofs.Reported.{piece_texts, whole_gap_piece_text, place_behind-append}
+use Rattle.js_trivia.specs.Pieces.{HaveBytes, end_of}
 use Rattle.js_lexer.specs.Gaps.{TakesMark}
 use Rattle.js_lexer.specs.Reader.{StaysWithin, SkipsWholeGap, ReadsLexeme, ReadsBehind, IsHashbangRead}
-use Rattle.js_lexer.specs.Reader.{ReadsGoal, NothingHere, MovesOn, IsUnmoved}
+use Rattle.js_lexer.specs.Reader.{ReadsTokenHere, lexeme_token, ReadsWithGap, ReadsWithoutGap, AddsGap, NothingHere, MovesOn, IsUnmoved}
 use Rattle.js_lexer.specs.Spellings.{Spells, Recovers}
+use Rattle.js_lexer.specs.declared.found.GapFindings.{GapFindings}
 use Rattle.js_lexer.specs.declared.lexeme.Lexeme.{Lexeme}
 use Rattle.js_lexer.specs.declared.reader.Reader.{Reader}
 use Rattle.js_lexer.specs.declared.recovery.Recovered.{Recovered}
+use Rattle.js_lexer.proofs.WholeSteps.{pieces_lead, line_shorter}
 
 abbrev pub plain_lexeme : Kind → Bool → Lexeme
 plain_lexeme kind line_has_ended =
@@ -101,17 +118,6 @@ lexeme_of_number old new kind has_separator begun read source_type = record {
   errors = read.reports ∙ ap (λ (r : NumberRead). old.errors ++ r.diagnostics) (sym read.read);
 }
 
-abbrev pub lexeme_token : ℕ → ℕ → Lexeme → TokenParts
-lexeme_token start end l =
-    record {
-      start = start;
-      end = end;
-      kind = l.kind;
-      is_on_new_line = l.is_on_new_line;
-      escaped = l.escaped;
-      has_separator = l.has_separator;
-    }
-
 -- what was read leads on
 pub lexeme_onward : (old new : Reader) (l : Lexeme) → IsPlaced old.source → IsPlaced new.source → ReadsLexeme old l new
     → old.source.place ≤ new.source.place
@@ -122,39 +128,121 @@ lexeme_onward old new l h g r =
     h.boundary there
     (r.behind ∙ ap (λ u. from_place u new.source.place) r.text) r.here).0
 
--- the token of a lexeme behind a whole gap
-pub token_behind : (old mid new : Reader) (l : Lexeme) (token : TokenParts) → IsPlaced mid.source → IsPlaced new.source
-    → SkipsWholeGap old mid → ReadsLexeme mid l new
-    → token ≡ lexeme_token mid.source.place new.source.place l → ReadsBehind old token new
-token_behind old mid new l token h g gap read is =
+-- the pieces of a gap have bytes
+some_bytes : (xs : List ℕ) → 1 ≤ length xs → 1 ≤ length (encode_utf8_all xs)
+some_bytes [] h = h
+some_bytes (c ∷ cs) h =
+    omega (arith, length-append (encode_utf8 c) (encode_utf8_all cs), length-encode c, (len_utf8_bounds c).0)
+
+shorter_has : (cs : List ℕ) (x : Piece) → cs ≡ x.text ++ x.rest → length x.rest < length cs → 1 ≤ piece_length x
+shorter_has cs x e h = some_bytes x.text (omega (arith, h, ap length e, length-append x.text x.rest))
+
+piece_has_bytes : (t : SourceType) (line_has_ended : Bool) (cs : List ℕ) (x : Piece)
+    → whole_gap_piece t line_has_ended cs ≡ Some x → 1 ≤ piece_length x
+piece_has_bytes t line_has_ended cs x e = by_test (is_reported t line_has_ended cs) refl
+  where
+    by_test : (b : Bool) → is_reported t line_has_ended cs ≡ b → 1 ≤ piece_length x
+    by_test true r =
+        let both = and_true (is_prefix (codes "<!--") cs) (is_module t && line_has_ended) r in
+        let found : Some (line_comment reported_comment line_has_ended cs) ≡ Some x =
+        sym (reported t line_has_ended cs r) ∙ e in
+        let same : line_comment reported_comment line_has_ended cs ≡ x = cc in
+        shorter_has cs x (whole_gap_piece_text t line_has_ended cs x e)
+        (line_shorter cs x.rest (drop 4 cs) (prefix_is (codes "<!--") cs both.0) (ap (λ z. z.rest) (sym same)))
+    by_test false r =
+        shorter_has cs x (whole_gap_piece_text t line_has_ended cs x e)
+        (piece_takes t line_has_ended cs x (sym (unreported t line_has_ended cs r) ∙ e))
+
+pieces_have_bytes : (t : SourceType) (line_had_ended : Bool) (cs : List ℕ) (xs : List Piece) (line_has_ended : Bool)
+    (left : List ℕ) → Pieces (whole_gap_piece t) line_had_ended cs xs line_has_ended left → HaveBytes xs
+pieces_have_bytes t line_had_ended cs [] line_has_ended left h = tt
+pieces_have_bytes t line_had_ended cs (x ∷ xs) line_has_ended left h = (
+  piece_has_bytes t line_had_ended cs x h.0,
+  pieces_have_bytes t x.line_has_ended x.rest xs line_has_ended left h.1,
+)
+
+ends_behind : (place : ℕ) (xs : List Piece) → end_of place xs ≡ place_behind place (piece_texts xs)
+ends_behind place [] = sym (add-zero place)
+ends_behind place (x ∷ xs) =
+    ends_behind (place + piece_length x) xs ∙ place_behind-append place x.text (piece_texts xs)
+
+-- the whole gap that was skipped, in the text before it
+pub gap_to : (previous : Option TokenParts) (old : Reader) (before : GapFindings) (mid : Reader) (after : GapFindings)
+    → line_has_ended_behind previous ≡ old.line_has_ended → (gap : SkipsWholeGap old before mid after)
+    → WholeGap old.source_type (line_has_ended_behind previous) (from_place old.source.text old.source.place)
+    gap.skips.pieces mid.line_has_ended (from_place old.source.text mid.source.place)
+gap_to previous old before mid after first gap =
+    let t = old.source_type in
+    let start = mid.source.place in
+    let pieces = gap.skips.pieces in
+    record {
+      pieces_are =
+          subst (λ b. Pieces (whole_gap_piece t) b (rest old.source) pieces mid.line_has_ended
+          (from_place old.source.text start)) (sym first)
+          (subst
+          (λ (u : List ℕ). Pieces (whole_gap_piece t) old.line_has_ended
+          (rest old.source) pieces mid.line_has_ended (from_place u start)) gap.skips.text gap.skips.pieces_are);
+      longest =
+          subst (λ (u : List ℕ). whole_gap_piece t mid.line_has_ended (from_place u start) ≡ None) gap.skips.text
+          (subst
+          (λ s. whole_gap_piece s mid.line_has_ended (rest mid.source) ≡ None) gap.skips.source_type
+          gap.longest);
+    }
+
+-- and what was told of it, where a token behind it starts there, and nothing else was found but what is reported
+pub gap_told : (previous : Option TokenParts) (old : Reader) (before : GapFindings) (mid : Reader) (after : GapFindings)
+    (outcome : Outcome) (ds : List Diagnostic) → IsPlaced old.source → IsPlaced mid.source
+    → (gap : SkipsWholeGap old before mid after) → outcome.token.start ≡ mid.source.place
+    → outcome.findings
+    ≡ joined (gap_findings old.source_type previous old.source.place gap.skips.pieces outcome.token) (reports ds)
+    → AddsGap previous old.source_type old.source.place outcome before after
+gap_told previous old before mid after outcome ds f h gap start found =
+    let t = old.source_type in
+    let pieces = gap.skips.pieces in
+    let findings = gap_findings t previous old.source.place pieces outcome.token in
+    record {
+      pieces = pieces;
+      have_bytes =
+          pieces_have_bytes t old.line_has_ended (rest old.source) pieces mid.line_has_ended (rest mid.source)
+          gap.skips.pieces_are;
+      up_to =
+          omega
+          (arith, start, ends_behind old.source.place pieces, pieces_lead false old before mid after f h gap.skips);
+      comments = ap (λ (x : Findings). x.comments) found ∙ append-nil findings.comments;
+      irregular = ap (λ (x : Findings). x.irregular) found ∙ append-nil findings.irregular;
+      deferred =
+          gap.skips.adds.deferred
+          ∙ ap (λ es. before.deferred ++ es)
+          (sym (ap (λ (x : Findings). x.deferred) found ∙ append-nil (gap_deferred t old.source.place pieces)));
+      trivia = gap.skips.adds.trivia;
+    }
+
+-- the token that stands behind a whole gap
+abbrev pub token_behind : (previous : Option TokenParts) (old : Reader) (before : GapFindings) (mid : Reader)
+    (after : GapFindings) (new : Reader) (token : TokenParts) → IsPlaced old.source → IsPlaced mid.source
+    → line_has_ended_behind previous ≡ old.line_has_ended
+    → SkipsWholeGap old before mid after → ReadsTokenHere mid token new
+    → ReadsBehind previous old before token new after
+token_behind previous old before mid after new token f h first gap there =
+    let read = there.reads in
     let text : new.source.text ≡ old.source.text = read.text ∙ gap.skips.text in
     let start = mid.source.place in
     let end = new.source.place in
     let pieces = gap.skips.pieces in
-    let outcome = outcome_behind old.source.place pieces start end read.reading in
     let t = old.source_type in
+    let outcome = outcome_behind t previous old.source.place pieces start end read.reading in
     record {
       text = text;
       source_type = read.source_type ∙ gap.skips.source_type;
-      end = ap (λ x. x.end) (sym is);
+      end = ap (λ x. x.end) (sym there.token_is);
       outcome = outcome;
-      token_is = is ∙ ap (lexeme_token start end) read.lexeme_is;
+      token_is = there.token_is ∙ ap (lexeme_token start end) read.lexeme_is;
       reads = record {
         pieces = pieces;
         line_has_ended = mid.line_has_ended;
-        gap = record {
-          pieces_are =
-              subst
-              (λ (u : List ℕ). Pieces (whole_gap_piece t) old.line_has_ended
-              (rest old.source) pieces mid.line_has_ended (from_place u start)) gap.skips.text gap.skips.pieces_are;
-          longest =
-              subst (λ (u : List ℕ). whole_gap_piece t mid.line_has_ended (from_place u start) ≡ None) gap.skips.text
-              (subst
-              (λ s. whole_gap_piece s mid.line_has_ended (rest mid.source) ≡ None) gap.skips.source_type
-              gap.longest);
-        };
+        gap = gap_to previous old before mid after first gap;
         start = subst (λ (u : List ℕ). IsCharBoundary u start) gap.skips.text h.boundary;
-        end = subst (λ (u : List ℕ). IsCharBoundary u end) text g.boundary;
+        end = subst (λ (u : List ℕ). IsCharBoundary u end) text there.placed.boundary;
         reading = read.reading;
         here =
             subst
@@ -166,7 +254,7 @@ token_behind old mid new l token h g gap read is =
         rest = read.behind ∙ ap (λ u. from_place u end) text;
         outcome_is = refl;
       };
-      findings = refl;
+      gap = gap_told previous old before mid after outcome read.reading.diagnostics f h gap refl refl;
       errors =
           read.errors ∙ ap (λ ds. ds ++ read.reading.diagnostics) gap.skips.errors
           ∙ append_assoc old.errors _ read.reading.diagnostics;
@@ -210,6 +298,7 @@ hashbang_read old new mid token end start g within takes same to f e =
       text = text;
       within = within;
       end = sym f;
+      at_start = start;
       begins =
           begins_at_start old.source.text old.source.place start ∙ ap (is_prefix (codes "#!")) here
           ∙ prefix_of (codes "#!") (rest mid);
@@ -221,43 +310,86 @@ hashbang_read old new mid token end start g within takes same to f e =
     subst (λ (u : TokenParts). IsHashbangRead old u new) (sym e) whole
 
 -- the two ways to read a goal
-pub goal_hashbang : (before : Option TokenParts) (old new : Reader) (token : TokenParts)
-    → line_has_ended_behind before ≡ old.line_has_ended → IsHashbangRead old token new
-    → ReadsGoal First before old token new
-goal_hashbang before old new token line_has_ended h = record {
-  text = h.text;
-  source_type = h.within.source_type;
-  end = h.end;
-  outcome = token_alone token;
-  token_is = refl;
-  reads =
-      hashbang h.begins record {
-        is_hashbang = h.is_hashbang;
-        is_on_new_line = h.is_on_new_line ∙ sym line_has_ended;
-        escaped = h.escaped;
-        has_separator = h.has_separator;
-        alone = refl;
-      };
-  findings = refl;
-  errors = h.within.errors ∙ sym (append-nil old.errors);
+pub goal_hashbang : (previous : Option TokenParts) (old new : Reader) (found : GapFindings) (token : TokenParts)
+    → line_has_ended_behind previous ≡ old.line_has_ended → IsHashbangRead old token new
+    → ReadsWithGap First previous old found token new found
+goal_hashbang previous old new found token line_has_ended h = record {
+  read = record {
+    text = h.text;
+    source_type = h.within.source_type;
+    end = h.end;
+    outcome = token_alone token;
+    token_is = refl;
+    reads =
+        hashbang h.begins record {
+          is_hashbang = h.is_hashbang;
+          is_on_new_line = h.is_on_new_line ∙ sym line_has_ended;
+          escaped = h.escaped;
+          has_separator = h.has_separator;
+          alone = refl;
+        };
+    errors = h.within.errors ∙ sym (append-nil old.errors);
+  };
+  gap = record {
+    pieces = [];
+    have_bytes = tt;
+    up_to = omega (arith, h.at_start);
+    comments = refl;
+    irregular = refl;
+    deferred = sym (append-nil found.deferred);
+    trivia = refl;
+  };
 }
 
-pub goal_behind : (goal : Goal) (before : Option TokenParts) (old new : Reader) (token : TokenParts)
-    → line_has_ended_behind before ≡ old.line_has_ended
-    → begins_hashbang goal old.source.text old.source.place ≡ false → ReadsBehind old token new
-    → ReadsGoal goal before old token new
-goal_behind goal before old new token line_has_ended none b = record {
-  text = b.text;
-  source_type = b.source_type;
-  end = b.end;
-  outcome = b.outcome;
-  token_is = b.token_is;
-  reads =
-      behind_gap none
-      (subst (λ e. ReadsBehindGap old.source.text old.source_type e old.source.place b.outcome)
-      (sym line_has_ended) b.reads);
-  findings = b.findings;
-  errors = b.errors;
+-- a reading without a gap from the place on, as one with a gap that has nothing
+pub with_no_gap : (goal : Goal) (previous : Option TokenParts) (old new : Reader) (found : GapFindings)
+    (token : TokenParts) → (r : ReadsWithoutGap goal previous old token new)
+    → old.source.place ≤ r.read.outcome.token.start → ReadsWithGap goal previous old found token new found
+with_no_gap goal previous old new found token r onward = record {
+  read = r.read;
+  gap = record {
+    pieces = [];
+    have_bytes = tt;
+    up_to = onward;
+    comments = ap (λ (x : Findings). x.comments) r.findings;
+    irregular = ap (λ (x : Findings). x.irregular) r.findings;
+    deferred =
+        sym (append-nil found.deferred)
+        ∙ ap (λ ds. found.deferred ++ ds) (sym (ap (λ (x : Findings). x.deferred) r.findings));
+    trivia = refl;
+  };
+}
+
+plainly : (text : List ℕ) (t : SourceType) (goal : Goal) (before : Option TokenParts) (place : ℕ) (o : Outcome)
+    → is_plain goal ≡ true → ReadsPlainly text t goal before place o → GoalReads text t goal before place o
+plainly text t First before place o plain reads = reads
+plainly text t Next before place o plain reads = reads
+plainly text t TemplateTail before place o plain reads = absurd (cc)
+plainly text t RegularExpression before place o plain reads = absurd (cc)
+plainly text t RightAngle before place o plain reads = absurd (cc)
+plainly text t TypeScriptLeftAngle before place o plain reads = absurd (cc)
+plainly text t TypeScriptRightAngle before place o plain reads = absurd (cc)
+plainly text t JsxIdentifier before place o plain reads = absurd (cc)
+plainly text t JsxChild before place o plain reads = absurd (cc)
+plainly text t JsxAttributeValue before place o plain reads = absurd (cc)
+
+pub goal_behind : (goal : Goal) (previous : Option TokenParts) (old : Reader) (before : GapFindings)
+    (token : TokenParts) (new : Reader) (after : GapFindings) → is_plain goal ≡ true
+    → begins_hashbang goal old.source.text old.source.place ≡ false
+    → ReadsBehind previous old before token new after → ReadsWithGap goal previous old before token new after
+goal_behind goal previous old before token new after plain none b = record {
+  read = record {
+    text = b.text;
+    source_type = b.source_type;
+    end = b.end;
+    outcome = b.outcome;
+    token_is = b.token_is;
+    reads =
+        plainly old.source.text old.source_type goal previous old.source.place b.outcome plain
+        (behind_gap none b.reads);
+    errors = b.errors;
+  };
+  gap = b.gap;
 }
 
 -- a reading from a reader that has not moved is one from the reader before
@@ -300,40 +432,43 @@ pub fails_from : (old mid new : Reader) (r : Result Lexeme AllocError) → IsUnm
 fails_from old mid new r same h = on_err_weaker r (moves_on_from old mid new same) h
 
 -- a token behind a whole gap, from a reader that has not moved
-behind_from : (old mid new : Reader) (token : TokenParts) → IsUnmoved old mid → ReadsBehind mid token new
-    → ReadsBehind old token new
-behind_from old mid new token same b = record {
+behind_from : (previous : Option TokenParts) (old mid : Reader) (before : GapFindings) (token : TokenParts)
+    (new : Reader) (after : GapFindings) → IsUnmoved old mid → ReadsBehind previous mid before token new after
+    → ReadsBehind previous old before token new after
+behind_from previous old mid before token new after same b = record {
   text = b.text ∙ ap (λ s. s.text) same.source;
   source_type = b.source_type ∙ same.stays.source_type;
   end = b.end;
   outcome = b.outcome;
   token_is = b.token_is;
-  reads = moved same.stays.source_type same.stays.line_has_ended same.source b.reads;
-  findings = b.findings;
+  reads =
+      subst (λ t. ReadsBehindGap old.source.text t previous old.source.place b.outcome) same.stays.source_type
+      (subst (λ (a : At). ReadsBehindGap a.text mid.source_type previous a.place b.outcome) same.source b.reads);
+  gap =
+      subst (λ t. AddsGap previous t old.source.place b.outcome before after) same.stays.source_type
+      (subst (λ (a : At). AddsGap previous mid.source_type a.place b.outcome before after) same.source b.gap);
   errors = b.errors ∙ ap (λ es. es ++ b.outcome.findings.diagnostics) same.stays.errors;
 }
-  where
-    moved : mid.source_type ≡ old.source_type → mid.line_has_ended ≡ old.line_has_ended → mid.source ≡ old.source
-        → ReadsBehindGap mid.source.text mid.source_type mid.line_has_ended mid.source.place b.outcome
-        → ReadsBehindGap old.source.text old.source_type old.line_has_ended old.source.place b.outcome
-    moved e f g h =
-        subst (λ t. ReadsBehindGap old.source.text t old.line_has_ended old.source.place b.outcome) e
-        (subst (λ x. ReadsBehindGap old.source.text mid.source_type x old.source.place b.outcome) f
-        (subst (λ (a : At). ReadsBehindGap a.text mid.source_type mid.line_has_ended a.place b.outcome) g h))
 
 -- what a goal answers where no hashbang stands
-pub goal_answers : (goal : Goal) (old mid new : Reader) (r : Result TokenParts AllocError) → IsUnmoved old mid
-    → begins_hashbang goal old.source.text old.source.place ≡ false
-    → IfOk r (λ token. ReadsBehind mid token new)
+pub goal_answers : (goal : Goal) (old mid : Reader) (before : GapFindings) (new : Reader) (after : GapFindings)
+    (r : Result TokenParts AllocError) → IsUnmoved old mid
+    → is_plain goal ≡ true → begins_hashbang goal old.source.text old.source.place ≡ false
     → IfOk r
-    (λ token. (before : Option TokenParts) → line_has_ended_behind before ≡ old.line_has_ended
-    → ReadsGoal goal before old token new)
-goal_answers goal old mid new r same none h =
-    IfOk-weaker r (λ token. ReadsBehind mid token new)
-    (λ token. (before : Option TokenParts) → line_has_ended_behind before ≡ old.line_has_ended
-    → ReadsGoal goal before old token new)
-    (λ token b before line_has_ended. goal_behind goal before old new token line_has_ended none
-    (behind_from old mid new token same b)) h
+    (λ token. (previous : Option TokenParts) → line_has_ended_behind previous ≡ mid.line_has_ended
+    → ReadsBehind previous mid before token new after)
+    → IfOk r
+    (λ token. (previous : Option TokenParts) → line_has_ended_behind previous ≡ old.line_has_ended
+    → ReadsWithGap goal previous old before token new after)
+goal_answers goal old mid before new after r same plain none h =
+    IfOk-weaker r
+    (λ token. (previous : Option TokenParts) → line_has_ended_behind previous ≡ mid.line_has_ended
+    → ReadsBehind previous mid before token new after)
+    (λ token. (previous : Option TokenParts) → line_has_ended_behind previous ≡ old.line_has_ended
+    → ReadsWithGap goal previous old before token new after)
+    (λ token b previous line_has_ended. goal_behind goal previous old before token new after plain none
+    (behind_from previous old mid before token new after same
+    (b previous (line_has_ended ∙ sym same.stays.line_has_ended)))) h
 
 pub goal_fails : (old mid new : Reader) (r : Result TokenParts AllocError) → IsUnmoved old mid
     → OnErr r (MovesOn mid new) → OnErr r (MovesOn old new)

@@ -1,27 +1,36 @@
 -- The steps of a whole gap.
-use Rattle.std.proofs.Common.{◌≡◌, ℕ, ◌+◌, true, false, List, [], ◌∷◌, ◌++◌, length, refl, sym, ◌∙◌, ap}
-use Rattle.std.proofs.Common.{subst, arith, None, append_assoc, append-nil}
+use Rattle.std.proofs.Common.{◌≡◌, ℕ, ◌+◌, ◌<◌, Bool, true, false, List, [], ◌∷◌, ◌++◌, length, refl, sym, ◌∙◌, ap}
+use Rattle.std.proofs.Common.{subst, arith, Some, None, append_assoc, append-nil}
+use Rattle.std.specs.Prelude.{codes}
 use Rattle.std.specs.Str.{IsCharBoundary}
 use Rattle.js_text.specs.Characters.{from_place, from_first, is_line_terminator}
+use Rattle.js_text.specs.SourceType.{is_module}
+use Rattle.js_text.specs.declared.comment.CommentKind.TheVariants.{HtmlOpen}
 use Rattle.js_text.specs.declared.diagnostic.Diagnostic.TheVariants.{HtmlCommentInModule}
-use Rattle.js_text.proofs.TextLemmas.{place_past, length-from_first}
+use Rattle.js_text.specs.declared.source_type.SourceType.{SourceType}
+use Rattle.js_text.proofs.TextLemmas.{place_past, length-from_first, before_from}
 use Rattle.js_source.specs.Source.{At, rest, IsPlaced}
-use Rattle.js_grammar.specs.Gap.{piece, line_comment, is_reported, whole_gap_piece, Pieces}
+use Rattle.js_grammar.specs.Gap.{Piece, piece, is_prefix, line_comment, is_reported, whole_gap_piece, Pieces}
 use Rattle.js_grammar.specs.Gap.PieceKind.{reported_comment}
 use Rattle.js_grammar.specs.Outcome.{gap_diagnostics, place_behind}
+use Rattle.js_grammar.specs.PieceItems.{piece_length}
 use Rattle.js_grammar.proofs.GapLemmas.{reported, unreported}
 use Rattle.js_grammar.proofs.PieceLemmas.{from_first-html_open, longest_gap_leaves}
 use Rattle.js_grammar.proofs.Reported.{piece_texts, pieces_text, pieces-append, gap_diagnostics-append, whole_pieces_of}
 use Rattle.js_grammar.proofs.Reported.{gap_reports_nothing}
-use Rattle.js_lexer.specs.Gaps.{TakesReported}
-use Rattle.js_lexer.specs.Reader.{SkipsGap, SkipsPieces, SkipsReported, SkipsWholeGap, MovesOn}
+use Rattle.js_grammar.proofs.Tests.{prefix_of}
+use Rattle.js_lexer.specs.Gaps.{AddsPieces, Grows}
+use Rattle.js_lexer.specs.Reader.{SkipsGap, SkipsPieces, IsBehindLine, SkipsReported, SkipsWholeGap, MovesOn}
+use Rattle.js_lexer.specs.declared.found.GapFindings.{GapFindings}
 use Rattle.js_lexer.specs.declared.reader.Reader.{Reader}
-use Rattle.js_lexer.proofs.GapSteps.{behind_mark}
+use Rattle.js_lexer.proofs.GapSteps.{on_to}
+use Rattle.js_lexer.proofs.TriviaSteps.{ends_line, adds_none, adds_behind, adds_further, grows_none, grows_on}
 
 -- the place behind the pieces that were skipped
-pieces_lead : (old new : Reader) → IsPlaced old.source → IsPlaced new.source → (s : SkipsPieces old new)
+pub pieces_lead : (behind : Bool) (old : Reader) (before : GapFindings) (new : Reader) (after : GapFindings)
+    → IsPlaced old.source → IsPlaced new.source → (s : SkipsPieces behind old before new after)
     → new.source.place ≡ place_behind old.source.place (piece_texts s.pieces)
-pieces_lead old new h g s =
+pieces_lead behind old before new after h g s =
     let there : IsCharBoundary old.source.text new.source.place =
     subst (λ (u : List ℕ). IsCharBoundary u new.source.place) s.text g.boundary in
     let way : rest old.source ≡ piece_texts s.pieces ++ from_place old.source.text new.source.place =
@@ -31,14 +40,23 @@ pieces_lead old new h g s =
     place_past old.source.text old.source.place new.source.place (piece_texts s.pieces) h.utf8 h.boundary there way
 
 -- pieces, and then more pieces
-pub skips_further : (old mid new : Reader) → IsPlaced old.source → IsPlaced mid.source → SkipsPieces old mid
-    → SkipsPieces mid new → SkipsPieces old new
-skips_further old mid new h g a b =
+pub skips_further : (behind : Bool) (old : Reader) (before : GapFindings) (mid : Reader) (told : GapFindings)
+    (new : Reader) (after : GapFindings) → IsPlaced old.source → IsPlaced mid.source
+    → SkipsPieces behind old before mid told → ((ends : Bool) → SkipsPieces ends mid told new after)
+    → SkipsPieces behind old before new after
+skips_further behind old before mid told new after h g a all =
+    let b = all (ends_line behind a.pieces) in
     let later : Pieces (whole_gap_piece old.source_type) mid.line_has_ended
     (rest mid.source) b.pieces new.line_has_ended (rest new.source) =
     subst
     (λ t. Pieces (whole_gap_piece t) mid.line_has_ended (rest mid.source) b.pieces new.line_has_ended
     (rest new.source)) a.source_type b.pieces_are in
+    let there = pieces_lead behind old before mid told h g a in
+    let adds : AddsPieces (ends_line behind a.pieces) old.source_type
+    (place_behind old.source.place (piece_texts a.pieces)) b.pieces told after =
+    subst (λ t. AddsPieces (ends_line behind a.pieces) t (place_behind old.source.place (piece_texts a.pieces)) b.pieces
+    told after) a.source_type
+    (subst (λ n. AddsPieces (ends_line behind a.pieces) mid.source_type n b.pieces told after) there b.adds) in
     record {
       text = b.text ∙ a.text;
       source_type = b.source_type ∙ a.source_type;
@@ -51,14 +69,15 @@ skips_further old mid new h g a b =
           b.errors ∙ ap (λ ds. ds ++ gap_diagnostics mid.source.place b.pieces) a.errors
           ∙ append_assoc old.errors (gap_diagnostics old.source.place a.pieces)
           (gap_diagnostics mid.source.place b.pieces)
-          ∙ ap (λ p. old.errors ++ (gap_diagnostics old.source.place a.pieces ++ gap_diagnostics p b.pieces))
-          (pieces_lead old mid h g a)
+          ∙ ap (λ p. old.errors ++ (gap_diagnostics old.source.place a.pieces ++ gap_diagnostics p b.pieces)) there
           ∙ ap (λ ds. old.errors ++ ds) (sym (gap_diagnostics-append old.source.place a.pieces b.pieces));
+      adds = adds_further behind old.source_type old.source.place a.pieces b.pieces before told after a.adds adds;
     }
 
 -- a longest gap is pieces of a whole gap, of which nothing is reported
-pub gap_pieces : (old new : Reader) → SkipsGap old new → SkipsPieces old new
-gap_pieces old new s =
+pub gap_pieces : (old new : Reader) (before after : GapFindings) → SkipsGap false old before new after
+    → SkipsPieces false old before new after
+gap_pieces old new before after s =
     let quiet =
     gap_reports_nothing old.source_type old.line_has_ended (rest old.source) s.gap.pieces new.line_has_ended
     (rest new.source) old.source.place s.gap.all.pieces_are in
@@ -70,71 +89,92 @@ gap_pieces old new s =
           whole_pieces_of old.source_type old.line_has_ended (rest old.source) s.gap.pieces new.line_has_ended
           (rest new.source) s.gap.all.pieces_are;
       errors = s.within.errors ∙ sym (append-nil old.errors) ∙ ap (λ ds. old.errors ++ ds) (sym quiet);
+      adds = s.adds;
     }
 
-pub ends_in_gap : (old new : Reader) → SkipsGap old new
+pub ends_in_gap : (behind : Bool) (old new : Reader) (before after : GapFindings) → SkipsGap behind old before new after
     → piece new.source_type new.line_has_ended (rest new.source) ≡ None
-ends_in_gap old new s = ap (λ t. piece t new.line_has_ended (rest new.source)) s.within.source_type ∙ s.gap.all.longest
+ends_in_gap behind old new before after s =
+    ap (λ t. piece t new.line_has_ended (rest new.source)) s.within.source_type ∙ s.gap.all.longest
+
+pub line_shorter : (here left : List ℕ) (behind : List ℕ) → here ≡ codes "<!--" ++ behind
+    → left ≡ from_first is_line_terminator here → length left < length here
+line_shorter here left behind e f =
+    omega (
+      arith,
+      ap length (f ∙ ap (from_first is_line_terminator) e ∙ from_first-html_open behind),
+      length-from_first is_line_terminator behind,
+      ap length e,
+    )
 
 -- a reported comment, and the longest gap behind it
-pub reported_skips : (old mid new : Reader) (adv : At) (start end : ℕ) → IsPlaced old.source → IsPlaced adv
-    → TakesReported old.source_type old.line_has_ended old.source true adv
-    → mid.source.text ≡ adv.text → rest mid.source ≡ from_first is_line_terminator (rest adv)
-    → start ≡ old.source.place → end ≡ adv.place
-    → mid.source_type ≡ old.source_type → mid.line_has_ended ≡ old.line_has_ended
-    → mid.errors ≡ old.errors ++ HtmlCommentInModule (record { start = start; end = end }) ∷ [] → SkipsGap mid new
-    → SkipsReported old true new
-reported_skips old mid new adv start end h g takes text from s e source_type line errors gap =
+pub reported_skips : (old : Reader) (before : GapFindings) (line told : Reader) (found : GapFindings) (new : Reader)
+    (after : GapFindings) → IsPlaced old.source → IsPlaced line.source
+    → is_module old.source_type ≡ true → old.line_has_ended ≡ true
+    → IsBehindLine HtmlOpen old before line found
+    → told.source ≡ line.source → told.source_type ≡ line.source_type → told.line_has_ended ≡ line.line_has_ended
+    → told.errors
+    ≡ line.errors ++ HtmlCommentInModule (record { start = old.source.place; end = old.source.place + 4 }) ∷ []
+    → SkipsGap true told found new after → SkipsReported old before true new after
+reported_skips old before line told found new after h g module_is line_ended is source source_type line_has_ended errors
+    gap =
     let t = old.source_type in
     let comment = line_comment reported_comment old.line_has_ended (rest old.source) in
-    let here : rest mid.source ≡ comment.rest =
-    from ∙ sym (ap (from_first is_line_terminator) takes.1 ∙ from_first-html_open (rest adv)) in
-    let to_end : end ≡ old.source.place + 4 = e ∙ behind_mark old.source adv h g takes.0 takes.1 in
-    let behind = place_behind old.source.place comment.text in
-    let gap_are : Pieces (piece mid.source_type) mid.line_has_ended (rest mid.source) gap.gap.pieces new.line_has_ended
-    (rest new.source) = gap.gap.all.pieces_are in
+    let pieces = gap.gap.pieces in
+    let begins : is_prefix (codes "<!--") (rest old.source) ≡ true =
+    ap (is_prefix (codes "<!--")) is.here ∙ prefix_of (codes "<!--") is.behind in
+    let stands : is_reported t old.line_has_ended (rest old.source) ≡ true =
+    rw (begins, module_is, line_ended) refl in
+    let left : rest told.source ≡ comment.rest = ap (λ (a : At). rest a) source ∙ is.left in
+    let same_type : told.source_type ≡ t = source_type ∙ is.stays.source_type in
+    let same_line : told.line_has_ended ≡ old.line_has_ended = line_has_ended ∙ is.stays.line_has_ended in
+    let place : told.source.place ≡ old.source.place + piece_length comment =
+    ap (λ (a : At). a.place) source
+    ∙ on_to old.source line.source comment.text h g is.text
+    (sym (before_from is_line_terminator (rest old.source)) ∙ ap (λ cs. comment.text ++ cs) (sym is.left)) in
     let whole =
-    whole_pieces_of mid.source_type mid.line_has_ended (rest mid.source) gap.gap.pieces new.line_has_ended
-    (rest new.source) gap_are in
+    whole_pieces_of told.source_type told.line_has_ended (rest told.source) pieces new.line_has_ended
+    (rest new.source) gap.gap.all.pieces_are in
     let quiet =
-    gap_reports_nothing mid.source_type mid.line_has_ended (rest mid.source) gap.gap.pieces new.line_has_ended
-    (rest new.source) behind gap_are in
-    let moved : Pieces (whole_gap_piece t) old.line_has_ended comment.rest gap.gap.pieces new.line_has_ended
-    (rest new.source) =
-    subst
-    (λ cs. Pieces (whole_gap_piece t) old.line_has_ended cs gap.gap.pieces new.line_has_ended (rest new.source))
-    here
-    (subst
-    (λ b. Pieces (whole_gap_piece t) b (rest mid.source) gap.gap.pieces new.line_has_ended (rest new.source)) line
-    (subst
-    (λ u. Pieces (whole_gap_piece u) mid.line_has_ended (rest mid.source) gap.gap.pieces new.line_has_ended
-    (rest new.source)) source_type whole)) in (
-      record {
-        text = gap.text ∙ text ∙ takes.0;
-        source_type = gap.within.source_type ∙ source_type;
-        pieces = comment ∷ gap.gap.pieces;
-        pieces_are = (reported t old.line_has_ended (rest old.source) takes.2, moved);
+    gap_reports_nothing told.source_type told.line_has_ended (rest told.source) pieces new.line_has_ended
+    (rest new.source) (place_behind old.source.place comment.text) gap.gap.all.pieces_are in
+    let moved : Pieces (whole_gap_piece t) old.line_has_ended comment.rest pieces new.line_has_ended (rest new.source) =
+    subst (λ cs. Pieces (whole_gap_piece t) old.line_has_ended cs pieces new.line_has_ended (rest new.source)) left
+    (subst (λ b. Pieces (whole_gap_piece t) b (rest told.source) pieces new.line_has_ended (rest new.source)) same_line
+    (subst (λ u. Pieces (whole_gap_piece u) told.line_has_ended (rest told.source) pieces new.line_has_ended
+    (rest new.source)) same_type whole)) in
+    let later : AddsPieces true t (old.source.place + piece_length comment) pieces found after =
+    subst (λ n. AddsPieces true t n pieces found after) place
+    (subst (λ u. AddsPieces true u told.source.place pieces found after) same_type gap.adds) in (
+      λ behind. record {
+        text = gap.text ∙ ap (λ (a : At). a.text) source ∙ is.text;
+        source_type = gap.within.source_type ∙ same_type;
+        pieces = comment ∷ pieces;
+        pieces_are = (reported t old.line_has_ended (rest old.source) stands, moved);
         errors =
             gap.within.errors ∙ errors
-            ∙ ap (λ ds. old.errors ++ ds)
-            (rw (s, to_end)
-            (ap (λ ds. HtmlCommentInModule (record { start = old.source.place; end = old.source.place + 4 }) ∷ ds)
-            (sym quiet)));
+            ∙ ap (λ es. es ++ HtmlCommentInModule (record { start = old.source.place; end = old.source.place + 4 }) ∷ [])
+            is.stays.errors
+            ∙ ap (λ ds. old.errors
+            ++ (HtmlCommentInModule (record { start = old.source.place; end = old.source.place + 4 }) ∷ ds)) (sym quiet);
+        adds =
+            adds_behind behind t old.source.place comment pieces before found after
+            (record { deferred = is.deferred ∙ sym (append-nil before.deferred); trivia = is.trivia }) later;
       },
-      ends_in_gap mid new gap,
+      ends_in_gap true told new found after gap,
       omega (
         arith,
-        longest_gap_leaves mid.source_type mid.line_has_ended (rest mid.source) new.line_has_ended
+        longest_gap_leaves told.source_type told.line_has_ended (rest told.source) new.line_has_ended
             (rest new.source) gap.gap,
-        ap length from,
-        length-from_first is_line_terminator (rest adv),
-        ap length takes.1,
+        ap (λ (a : At). length (rest a)) source,
+        line_shorter (rest old.source) (rest line.source) is.behind is.here is.left,
       ),
     )
 
 -- a reader that has skipped pieces has moved on
-pub pieces_move_on : (old mid new : Reader) → SkipsPieces old mid → MovesOn mid new → MovesOn old new
-pieces_move_on old mid new s m = record {
+pub pieces_move_on : (behind : Bool) (old mid new : Reader) (before after : GapFindings)
+    → SkipsPieces behind old before mid after → MovesOn mid new → MovesOn old new
+pieces_move_on behind old mid new before after s m = record {
   text = m.text ∙ s.text;
   source_type = m.source_type ∙ s.source_type;
   more = gap_diagnostics old.source.place s.pieces ++ m.more;
@@ -149,39 +189,65 @@ pub stays : (old new : Reader) → new.source.text ≡ old.source.text → new.s
 stays old new text source_type errors =
     record { text = text; source_type = source_type; more = []; errors = errors ∙ sym (append-nil old.errors) }
 
+-- so has one that has gone further
+pub moves_further : (old mid new : Reader) → mid.source.text ≡ old.source.text → mid.source_type ≡ old.source_type
+    → mid.errors ≡ old.errors → MovesOn mid new → MovesOn old new
+moves_further old mid new text source_type errors m = record {
+  text = m.text ∙ text;
+  source_type = m.source_type ∙ source_type;
+  more = m.more;
+  errors = m.errors ∙ ap (λ es. es ++ m.more) errors;
+}
+
 -- a longest gap behind which no reported comment stands is the whole gap
-pub whole_at_once : (old new : Reader) → SkipsGap old new
-    → is_reported new.source_type new.line_has_ended (rest new.source) ≡ false → SkipsWholeGap old new
-whole_at_once old new gap none = record {
-  skips = gap_pieces old new gap;
-  longest = unreported new.source_type new.line_has_ended (rest new.source) none ∙ ends_in_gap old new gap;
+pub whole_at_once : (old new : Reader) (before after : GapFindings) → SkipsGap false old before new after
+    → is_reported new.source_type new.line_has_ended (rest new.source) ≡ false
+    → SkipsWholeGap old before new after
+whole_at_once old new before after gap none = record {
+  skips = gap_pieces old new before after gap;
+  longest = unreported new.source_type new.line_has_ended (rest new.source) none
+      ∙ ends_in_gap false old new before after gap;
 }
 
 -- no pieces yet
-pub skips_none : (old : Reader) → SkipsPieces old old
-skips_none old =
+skips_none : (old : Reader) (before : GapFindings) → SkipsPieces false old before old before
+skips_none old before =
     record {
       text = refl;
       source_type = refl;
       pieces = [];
       pieces_are = (refl, refl);
       errors = sym (append-nil old.errors);
+      adds = adds_none false old.source_type old.source.place before;
     }
 
 -- pieces as far as a longest gap has ended
-pub record SkipsSoFar (old now : Reader) : Type 0 where
-  pub skips : SkipsPieces old now
+pub record SkipsSoFar (old : Reader) (before : GapFindings) (now : Reader) (found : GapFindings) : Type 0 where
+  pub skips : SkipsPieces false old before now found
   pub no_piece : piece now.source_type now.line_has_ended (rest now.source) ≡ None
   pub placed : IsPlaced now.source
+  pub grown : Grows before found
 
-pub so_far : (old mid new : Reader) → IsPlaced old.source → SkipsSoFar old mid → SkipsReported mid true new
-    → IsPlaced new.source → SkipsSoFar old new
-so_far old mid new h s r g =
-    record { skips = skips_further old mid new h s.placed s.skips r.0; no_piece = r.1; placed = g }
+pub none_so_far : (old : Reader) (before : GapFindings) → IsPlaced old.source
+    → piece old.source_type old.line_has_ended (rest old.source) ≡ None → SkipsSoFar old before old before
+none_so_far old before h none =
+    record { skips = skips_none old before; no_piece = none; placed = h; grown = grows_none before }
+
+pub so_far : (old mid new : Reader) (before found after : GapFindings) → IsPlaced old.source
+    → SkipsSoFar old before mid found → SkipsReported mid found true new after → IsPlaced new.source
+    → Grows found after → SkipsSoFar old before new after
+so_far old mid new before found after h s r g grown =
+    record {
+      skips = skips_further false old before mid found new after h s.placed s.skips r.0;
+      no_piece = r.1;
+      placed = g;
+      grown = grows_on before found after s.grown grown;
+    }
 
 -- and there no reported comment stands
-pub whole_here : (old mid new : Reader) → SkipsSoFar old mid → SkipsReported mid false new → SkipsWholeGap old new
-whole_here old mid new s r =
+pub whole_here : (old mid new : Reader) (before found after : GapFindings) → SkipsSoFar old before mid found
+    → SkipsReported mid found false new after → SkipsWholeGap old before new after
+whole_here old mid new before found after s r =
     let same = r.0 in
     let pieces_are =
     subst
@@ -197,15 +263,56 @@ whole_here old mid new s r =
         pieces = s.skips.pieces;
         pieces_are = pieces_are;
         errors = same.stays.errors ∙ s.skips.errors;
+        adds =
+            subst (λ f. AddsPieces false old.source_type old.source.place s.skips.pieces before f) (sym r.1)
+            s.skips.adds;
       };
       longest =
           ap (λ t. whole_gap_piece t new.line_has_ended (rest new.source)) same.stays.source_type
           ∙ ap (λ b. whole_gap_piece mid.source_type b (rest new.source)) same.stays.line_has_ended
           ∙ ap (λ a. whole_gap_piece mid.source_type mid.line_has_ended (rest a)) same.source
-          ∙ unreported mid.source_type mid.line_has_ended (rest mid.source) r.1 ∙ s.no_piece;
+          ∙ unreported mid.source_type mid.line_has_ended (rest mid.source) r.2 ∙ s.no_piece;
     }
 
-pub whole_behind : (old mid new : Reader) → IsPlaced old.source → IsPlaced mid.source → SkipsGap old mid
-    → SkipsWholeGap mid new → SkipsWholeGap old new
-whole_behind old mid new h g gap whole =
-    record { skips = skips_further old mid new h g (gap_pieces old mid gap) whole.skips; longest = whole.longest }
+-- where no piece of any gap begins, it matters not what stands right before
+any_flag : (ends : Bool) (t : SourceType) (line_had_ended : Bool) (cs : List ℕ) (place : ℕ) (pieces : List Piece)
+    (line_has_ended : Bool) (left : List ℕ) (before after : GapFindings)
+    → Pieces (whole_gap_piece t) line_had_ended cs pieces line_has_ended left → piece t line_had_ended cs ≡ None
+    → AddsPieces false t place pieces before after → AddsPieces ends t place pieces before after
+any_flag ends t line_had_ended cs place [] line_has_ended left before after h none a =
+    record { deferred = a.deferred; trivia = a.trivia }
+any_flag ends t line_had_ended cs place (x ∷ xs) line_has_ended left before after h none a =
+    by_test (is_reported t line_had_ended cs) refl
+  where
+    by_test : (b : Bool) → is_reported t line_had_ended cs ≡ b → AddsPieces ends t place (x ∷ xs) before after
+    by_test true e =
+        let found : Some (line_comment reported_comment line_had_ended cs) ≡ Some x =
+        sym (reported t line_had_ended cs e) ∙ h.0 in
+        let same : line_comment reported_comment line_had_ended cs ≡ x = cc in
+        let there : AddsPieces false t place (line_comment reported_comment line_had_ended cs ∷ xs) before after =
+        subst (λ z. AddsPieces false t place (z ∷ xs) before after) (sym same) a in
+        subst (λ z. AddsPieces ends t place (z ∷ xs) before after) same
+        (record { deferred = there.deferred; trivia = there.trivia })
+    by_test false e = absurd (let both : None ≡ Some x = sym none ∙ sym (unreported t line_had_ended cs e) ∙ h.0 in cc)
+
+-- a longest gap, and then the rest of the whole gap
+pub whole_behind : (old mid new : Reader) (before found after : GapFindings) → IsPlaced old.source
+    → IsPlaced mid.source → SkipsGap false old before mid found → SkipsWholeGap mid found new after
+    → SkipsWholeGap old before new after
+whole_behind old mid new before found after h g gap whole =
+    let rest_of = whole.skips in
+    record {
+      skips =
+          skips_further false old before mid found new after h g (gap_pieces old mid before found gap) (λ ends. record {
+            text = rest_of.text;
+            source_type = rest_of.source_type;
+            pieces = rest_of.pieces;
+            pieces_are = rest_of.pieces_are;
+            errors = rest_of.errors;
+            adds =
+                any_flag ends mid.source_type mid.line_has_ended (rest mid.source) mid.source.place rest_of.pieces
+                new.line_has_ended (rest new.source) found after rest_of.pieces_are
+                (ends_in_gap false old mid before found gap) rest_of.adds;
+          });
+      longest = whole.longest;
+    }

@@ -1,24 +1,21 @@
--- What the steps of a gap do to the source.
-use Rattle.std.specs.Prelude.{◌≡◌, ℕ, ◌<◌, ◌≤◌, Bool, true, false, List, [], ◌++◌, codes, Option, Some, None, IfNone}
+-- What the steps of a gap do to the source, and to what is found in it.
+use Rattle.std.specs.Prelude.{◌≡◌, ℕ, ◌<◌, ◌≤◌, Bool, true, false, not, List, [], ◌++◌, codes, Option, IfNone}
 use Rattle.std.specs.Prelude.{IfSome}
 use Rattle.js_text.specs.Ascii.{slash, less_than_sign, hyphen_minus}
-use Rattle.js_text.specs.Characters.{is_white_space, is_line_terminator}
+use Rattle.js_text.specs.Characters.{begins, is_white_space, is_line_terminator}
+use Rattle.js_text.specs.declared.comment.CommentKind.{CommentKind}
+use Rattle.js_text.specs.declared.comment.CommentKind.TheVariants.{Line, SingleLineBlock, MultiLineBlock, HtmlOpen}
+use Rattle.js_text.specs.declared.comment.CommentKind.TheVariants.{HtmlClose}
+use Rattle.js_text.specs.declared.diagnostic.Diagnostic.{Diagnostic}
 use Rattle.js_text.specs.declared.source_type.SourceType.{SourceType}
-use Rattle.js_grammar.specs.Gap.{is_prefix, Piece as GapPiece, is_reported}
-use Rattle.js_lexer.specs.declared.skipped.Skipped.{Skipped}
-use Rattle.js_lexer.specs.declared.skipped.Skipped.TheVariants.{Piece, Nothing}
+use Rattle.js_grammar.specs.Gap.{is_prefix, Piece, PieceKind, single_line_comment, multi_line_comment}
+use Rattle.js_grammar.specs.Gap.{html_open_comment, html_close_comment}
+use Rattle.js_grammar.specs.GapItems.{Item}
+use Rattle.js_grammar.specs.Outcome.{gap_deferred}
+use Rattle.js_grammar.specs.PieceItems.{items_from}
+use Rattle.js_trivia.specs.Trivia.{calls}
+use Rattle.js_lexer.specs.declared.found.GapFindings.{GapFindings}
 use Rattle.js_source.specs.Source.{At, rest, HasFirstByte}
-
--- The piece ends at the new place, and whether a line has ended by then is said; or there is none.
-abbrev pub EndsPiece : Option GapPiece → At → Skipped → Type 0
-EndsPiece found new (Piece line_has_ended) =
-    (x : GapPiece) × (found ≡ Some x) × (x.line_has_ended ≡ line_has_ended) × (x.rest ≡ rest new)
-EndsPiece found new Nothing = found ≡ None
-
--- The same, where nothing was read if there is none.
-abbrev pub ReadsPiece : Option GapPiece → At → At → Skipped → Type 0
-ReadsPiece found old new (Piece line_has_ended) = (new.text ≡ old.text) × EndsPiece found new (Piece line_has_ended)
-ReadsPiece found old new Nothing = (new ≡ old) × (found ≡ None)
 
 -- the byte is an ASCII character that begins no piece of a gap
 pub record BeginsNoPiece (b : ℕ) : Type 0 where
@@ -39,9 +36,43 @@ abbrev pub TakesMark : List ℕ → At → Bool → At → Type 0
 TakesMark mark old true new = (new.text ≡ old.text) × (rest old ≡ mark ++ rest new) × (old.place ≤ new.place)
 TakesMark mark old false new = (is_prefix mark (rest old) ≡ false) × (new ≡ old)
 
--- The mark of a reported comment was next, and it was taken; or none was, and nothing was read.
-abbrev pub TakesReported : SourceType → Bool → At → Bool → At → Type 0
-TakesReported t line_has_ended old true new =
-    (new.text ≡ old.text) × (rest old ≡ codes "<!--" ++ rest new) × (is_reported t line_has_ended (rest old) ≡ true)
-    × (old.place ≤ new.place)
-TakesReported t line_has_ended old false new = (is_reported t line_has_ended (rest old) ≡ false) × (new ≡ old)
+-- the mark that a comment of the kind begins with
+abbrev pub opening_mark : CommentKind → List ℕ
+opening_mark Line = codes "//"
+opening_mark SingleLineBlock = codes "/*"
+opening_mark MultiLineBlock = codes "/*"
+opening_mark HtmlOpen = codes "<!--"
+opening_mark HtmlClose = codes "-->"
+
+-- what a comment of the kind is as a piece of any gap
+abbrev pub piece_kind : CommentKind → PieceKind
+piece_kind Line = single_line_comment
+piece_kind SingleLineBlock = multi_line_comment
+piece_kind MultiLineBlock = multi_line_comment
+piece_kind HtmlOpen = html_open_comment
+piece_kind HtmlClose = html_close_comment
+
+-- the comment is an HTML-like one
+abbrev pub is_html : CommentKind → Bool
+is_html Line = false
+is_html SingleLineBlock = false
+is_html MultiLineBlock = false
+is_html HtmlOpen = true
+is_html HtmlClose = true
+
+-- a line terminator is next, or nothing is left
+abbrev pub IsAtLineEnd : List ℕ → Type 0
+IsAtLineEnd here = begins (λ c. not (is_line_terminator c)) here ≡ false
+
+-- what pieces at the place, of which the first stands right behind a line comment or not, add to what was found
+pub record AddsPieces (behind : Bool) (t : SourceType) (place : ℕ) (pieces : List Piece) (old new : GapFindings)
+    : Type 0 where
+  pub deferred : new.deferred ≡ old.deferred ++ gap_deferred t place pieces
+  pub trivia : new.trivia ≡ calls (items_from place behind pieces) old.trivia
+
+-- Some items may have been told of.
+pub record Grows (old new : GapFindings) : Type 0 where
+  pub more : List Diagnostic
+  pub deferred : new.deferred ≡ old.deferred ++ more
+  pub items : List Item
+  pub trivia : new.trivia ≡ calls items old.trivia

@@ -1,17 +1,27 @@
 -- How contracts see a lexer, its checkpoints and its readings.
-use Rattle.std.specs.Prelude.{◌≡◌, ◌≢◌, ℕ, ◌<◌, ◌≤◌, Bool, List, [], ◌∷◌, ◌++◌, ◌&&◌, ◌==◌, not, length, take, Option}
-use Rattle.std.specs.Prelude.{Some, None, IfSome, unwrap_or, if◌then◌else◌}
+use Rattle.std.specs.Prelude.{◌≡◌, ◌≢◌, ℕ, ◌+◌, ◌<◌, ◌≤◌, Bool, true, List, [], ◌∷◌, ◌++◌, ◌&&◌, ◌==◌, not, length}
+use Rattle.std.specs.Prelude.{take, Option, Some, None, IfSome, is_none, unwrap_or, if◌then◌else◌}
 use Rattle.std.specs.List.{last_or}
 use Rattle.std.specs.Str.{IsCharBoundary}
 use Rattle.js_text.specs.Lists.{with_last}
-use Rattle.js_text.specs.declared.diagnostic.Diagnostic.{Diagnostic}
+use Rattle.js_text.specs.declared.comment.Comment.{Comment}
+use Rattle.js_text.specs.declared.comment.CommentContent.{CommentContent}
+use Rattle.js_text.specs.declared.comment.CommentRange.{CommentRange}
 use Rattle.js_text.specs.declared.source_type.SourceType.{SourceType}
+use Rattle.js_grammar.specs.GapItems.{token_before}
 use Rattle.js_grammar.specs.Goals.{GoalReads, AgreesWithGrammar}
-use Rattle.js_grammar.specs.Outcome.{Findings, FindingLengths, no_findings, joined, reports, lengths_of, cut_to}
+use Rattle.js_grammar.specs.Outcome.{Findings, FindingLengths, no_findings, joined, lengths_of, cut_to}
 use Rattle.js_grammar.specs.Outcome.{AreWithin, Outcome}
+use Rattle.js_grammar.specs.Reads.{is_plain}
+use Rattle.js_grammar.specs.ReLexed.{HasSpelling}
 use Rattle.js_grammar.specs.Values.{HasText}
 use Rattle.js_grammar.specs.declared.goal.Goal.{Goal}
 use Rattle.js_grammar.specs.declared.goal.Goal.TheVariants.{Next}
+use Rattle.js_source.specs.Source.{At}
+use Rattle.js_trivia.specs.Attachment.{between_gaps}
+use Rattle.js_trivia.specs.Trivia.{Trivia, HeldBefore, extend_if, is_past, is_pure_not_applied}
+use Rattle.js_trivia.specs.Trivia.{is_no_side_effects_not_applied, comment_starts, span_starts}
+use Rattle.js_trivia.specs.declared.lengths.TriviaLengths.{TriviaLengths}
 use Rattle.js_lexer.specs.Decoded.{Values, no_values, AreValues, Keeps, HasValue}
 use Rattle.js_kind.specs.Kinds.{number}
 use Rattle.js_kind.specs.TokenParts.{TokenParts, default_parts}
@@ -19,7 +29,8 @@ use Rattle.js_kind.specs.declared.kind.Kind.{Kind}
 use Rattle.js_kind.specs.declared.kind.Kind.TheVariants.{Eof, HashbangComment}
 
 -- A lexer: its text and the type of that, whether it collects tokens, its place, the last token if one was read, the
--- collected tokens, what its readings have found, and the decoded values of tokens that were read.
+-- collected tokens, what its readings have found, where the annotations before the last token are among the comments,
+-- and the decoded values of tokens that were read.
 pub record LexerState : Type 0 where
   pub text : List ℕ
   pub source_type : SourceType
@@ -28,6 +39,8 @@ pub record LexerState : Type 0 where
   pub last : Option TokenParts
   pub tokens : List TokenParts
   pub findings : Findings
+  pub pure_comments : Option CommentRange
+  pub no_side_effects_comments : Option CommentRange
   pub decoded : Values
 
 -- a lexer that has read nothing
@@ -40,6 +53,8 @@ fresh text t collects = record {
   last = None;
   tokens = [];
   findings = no_findings;
+  pure_comments = None;
+  no_side_effects_comments = None;
   decoded = no_values;
 }
 
@@ -53,10 +68,16 @@ pub record IsOnPlaces (text : List ℕ) (token : TokenParts) : Type 0 where
   pub end : IsCharBoundary text token.end
   pub ordered : token.start ≤ token.end
 
--- The last token lies on places of the text, and decoded values are those of tokens of the text.
-pub record IsSound (text : List ℕ) (last : Option TokenParts) (decoded : Values) : Type 0 where
-  pub last_lies : IfSome last (IsOnPlaces text)
-  pub are_values : AreValues text decoded
+-- The last token lies on places of the text, up to the lexer's place, with the spelling of its kind if it may be read
+-- again; no comment waits for a token; comments and irregular white space start before the last token; and decoded
+-- values are those of tokens of the text.
+pub record IsSound (here : At) (last : Option TokenParts) (trivia : Trivia) (decoded : Values) : Type 0 where
+  pub last_lies : IfSome last (IsOnPlaces here.text)
+  pub last_spelled : IfSome last (HasSpelling here.text)
+  pub behind : (token_before last).end ≤ here.place
+  pub attachment : trivia.attachment ≡ between_gaps trivia.attachment.attached (is_none last) (token_before last)
+  pub held : HeldBefore (token_before last).start trivia
+  pub are_values : AreValues here.text decoded
 
 -- The parts of a lexer that a rewind, a peek and a call that cannot allocate restore: all but decoded values, which
 -- stay.
@@ -68,6 +89,8 @@ pub record IsRestored (old new : LexerState) : Type 0 where
   pub last : new.last ≡ old.last
   pub tokens : new.tokens ≡ old.tokens
   pub findings : new.findings ≡ old.findings
+  pub pure_comments : new.pure_comments ≡ old.pure_comments
+  pub no_side_effects_comments : new.no_side_effects_comments ≡ old.no_side_effects_comments
 
 -- hashbang comments alone
 abbrev pub is_hashbang : Kind → Bool
@@ -77,6 +100,12 @@ is_hashbang kind = number kind == number HashbangComment
 abbrev pub collected : Bool → TokenParts → List TokenParts
 collected collects token = if collects && not (is_hashbang token.kind) then token ∷ [] else []
 
+-- Where comments of the class are, from the first of them to the last; the first comment has this index.
+abbrev pub range_of : (CommentContent → Bool) → ℕ → Option CommentRange → List Comment → Option CommentRange
+range_of is_noted index range [] = range
+range_of is_noted index range (c ∷ cs) =
+    range_of is_noted (index + 1) (extend_if (is_noted c.content) index range) cs
+
 -- the lexer behind a token that was read, with what was found on the way
 abbrev pub after_outcome : LexerState → Outcome → LexerState
 after_outcome l outcome = record l {
@@ -84,6 +113,10 @@ after_outcome l outcome = record l {
   last = Some outcome.token;
   tokens = l.tokens ++ collected l.collects outcome.token;
   findings = joined l.findings outcome.findings;
+  pure_comments =
+      range_of is_pure_not_applied (length l.findings.comments) None outcome.findings.comments;
+  no_side_effects_comments =
+      range_of is_no_side_effects_not_applied (length l.findings.comments) None outcome.findings.comments;
 }
 
 -- The lexer after a re-lex: its token stands in the place of the last one, and of the last collected one.
@@ -101,33 +134,52 @@ pub record ReadsOutcome (goal : Goal) (l : LexerState) (outcome : Outcome) : Typ
   pub places : IsOnPlaces l.text outcome.token
   pub some_text : outcome.token.kind ≢ Eof → outcome.token.start < outcome.token.end
   pub text_lies : HasText l.text outcome.token
+  pub spelling : HasSpelling l.text outcome.token
 
--- One reading: the token is that of the goal's reading from the lexer's place, and nothing changed but by that reading.
+-- A token that was read again, in the place of the last one.
+pub record ReadsAgain (goal : Goal) (old : LexerState) (token : TokenParts) (new : LexerState) : Type 0 where
+  pub outcome : Outcome
+  pub token_is : token ≡ outcome.token
+  pub reads : ReadsOutcome goal old outcome
+  pub after : IsRestored (after_re_lex old outcome) new
+  pub kept : Keeps old.decoded new.decoded
+  pub has_value : HasValue old.text new.decoded token
+
+-- One reading: the token is that of the goal's reading from the lexer's place, and nothing changed but by that reading. A
+-- reading of a plain goal agrees with the grammar.
 pub record ReadsToken (goal : Goal) (old : LexerState) (token : TokenParts) (new : LexerState) : Type 0 where
   pub outcome : Outcome
   pub token_is : token ≡ outcome.token
   pub reads : ReadsOutcome goal old outcome
-  pub agrees : AgreesWithGrammar old.text old.source_type goal old.last old.place outcome
+  pub agrees : is_plain goal ≡ true → AgreesWithGrammar old.text old.source_type goal old.last old.place outcome
   pub after : IsRestored (after_outcome old outcome) new
   pub kept : Keeps old.decoded new.decoded
   pub has_value : HasValue old.text new.decoded token
 
--- A reading that could not allocate: the lexer may have moved on, reported and added values, and nothing else has
--- changed.
-pub record HasMovedOn (old new : LexerState) : Type 0 where
-  pub place : ℕ
-  pub more : List Diagnostic
-  pub decoded : Values
-  pub kept : Keeps old.decoded decoded
-  pub after : new ≡ record old { place = place; findings = joined old.findings (reports more); decoded = decoded }
+-- The lexer stands behind its last token, which is of this kind.
+pub record IsBehind (kind : Kind) (l : LexerState) : Type 0 where
+  pub token : TokenParts
+  pub last : l.last ≡ Some token
+  pub kind_is : token.kind ≡ kind
+  pub place : l.place ≡ token.end
 
--- A checkpoint: the place, the last token, the last collected one, and how long the lists were.
+-- A checkpoint: the place, the last token, the last collected one, how long the lists were, and where the annotations
+-- before the last token were.
 pub record Checkpoint : Type 0 where
   pub place : ℕ
   pub last : Option TokenParts
   pub last_collected : Option TokenParts
   pub tokens : ℕ
   pub lengths : FindingLengths
+  pub pure_comments : Option CommentRange
+  pub no_side_effects_comments : Option CommentRange
+
+-- What a checkpoint keeps for the trivia builder tells the last token, which ends up to the place.
+pub record IsBehindToken (place : ℕ) (last : Option TokenParts) (lengths : TriviaLengths) : Type 0 where
+  pub behind : (token_before last).end ≤ place
+  pub saw_newline : lengths.saw_newline ≡ is_none last
+  pub saw_newline_for_comment : lengths.saw_newline_for_comment ≡ is_none last
+  pub previous : lengths.previous ≡ token_before last
 
 abbrev pub checkpoint_of : LexerState → Checkpoint
 checkpoint_of l = record {
@@ -136,14 +188,23 @@ checkpoint_of l = record {
   last_collected = last_or None l.tokens;
   tokens = length l.tokens;
   lengths = lengths_of l.findings;
+  pure_comments = l.pure_comments;
+  no_side_effects_comments = l.no_side_effects_comments;
 }
 
--- The lexer may go back to the checkpoint: its places are places of the text, and the lists are long enough.
+-- The lexer may go back to the checkpoint: its places are places of the text, its last token has the spelling of its
+-- kind if it may be read again, the lists are long enough, and the comments and the irregular white space that stay
+-- start before that token.
 pub record CanRewind (l : LexerState) (c : Checkpoint) : Type 0 where
   pub place : IsCharBoundary l.text c.place
   pub last : IfSome c.last (IsOnPlaces l.text)
+  pub spelling : IfSome c.last (HasSpelling l.text)
   pub tokens : c.tokens ≤ length l.tokens
   pub findings : AreWithin c.lengths l.findings
+  pub comments : is_past (token_before c.last).start (comment_starts (take c.lengths.comments l.findings.comments))
+      ≡ true
+  pub irregular : is_past (token_before c.last).start (span_starts (take c.lengths.irregular l.findings.irregular))
+      ≡ true
 
 -- the list with another last element, where one is given
 abbrev pub put_back : List TokenParts → Option TokenParts → List TokenParts
@@ -157,6 +218,8 @@ rewound l c = record l {
   last = c.last;
   tokens = put_back (take c.tokens l.tokens) c.last_collected;
   findings = cut_to c.lengths l.findings;
+  pure_comments = c.pure_comments;
+  no_side_effects_comments = c.no_side_effects_comments;
 }
 
 -- the list now begins with the earlier one, whose last element alone may be another by now

@@ -1,11 +1,15 @@
 //! Checkpoints: what a lexer goes back to.
 
-ghost use Rattle.std.specs.Prelude.{◌≡◌, ◌≤◌, ◌↔◌, IsTrue, IfSome, length};
+ghost use Rattle.std.specs.Prelude.{◌≡◌, ◌≤◌, ◌↔◌, ◌++◌, true, IsTrue, IfSome, length};
 ghost use Rattle.std.specs.Str.{IsCharBoundary};
+ghost use Rattle.js_text.specs.Characters.{from_place};
+ghost use Rattle.js_kind.specs.Kinds.{kind_text};
+ghost use Rattle.js_grammar.specs.ReLexed.{is_re_lexed, HasSpelling};
 ghost use Rattle.js_lexer.specs.Lexer.{IsOnPlaces, put_back};
 
-use js_kind::{Token, TokenList};
+use js_kind::{Kind, Token, TokenList};
 use js_source::{Source, SourcePosition};
+use js_trivia::TriviaLengths;
 use std::marker::Model;
 
 /// Where a lexer stood, its last token, and how long its lists were. It copies no list.
@@ -16,10 +20,12 @@ pub struct LexerCheckpoint {
     pub(crate) last_collected: Option<Token>,
     pub(crate) tokens: usize,
     pub(crate) errors: usize,
+    pub(crate) deferred: usize,
+    pub(crate) trivia: TriviaLengths,
 }
 
 impl Model for LexerCheckpoint {
-    ghost use Rattle.js_lexer.specs.Lexer.{Checkpoint};
+    ghost use Rattle.js_lexer.specs.Lexer.{Checkpoint, IsBehindToken};
 
     ghost Value = { Checkpoint };
 
@@ -28,8 +34,17 @@ impl Model for LexerCheckpoint {
       last = c.last;
       last_collected = c.last_collected;
       tokens = c.tokens;
-      lengths = record { diagnostics = c.errors; deferred = 0; comments = 0; irregular = 0 };
+      lengths = record {
+        diagnostics = c.errors;
+        deferred = c.deferred;
+        comments = c.trivia.comments;
+        irregular = c.trivia.irregular;
+      };
+      pure_comments = c.trivia.pure_range;
+      no_side_effects_comments = c.trivia.no_side_effects;
     } };
+
+    ghost invariant = { λ c. IsBehindToken c.position c.last c.trivia };
 }
 
 /// Whether the offset is a place of the text.
@@ -58,6 +73,62 @@ pub(crate) fn is_on_places_if_some(source: &Source<'_>, token: &Option<Token>) -
 {
     match token {
         Some(token) => is_on_places(source, token),
+        None => true,
+    }
+}
+
+/// Whether tokens of the kind may be read again.
+#[tactic(auto, unfolding(js_grammar::specs::ReLexed::is_re_lexed))]
+fn is_re_lexed(kind: Kind) -> bool
+    ensures { result ≡ is_re_lexed kind }
+{
+    matches!(
+        kind,
+        Kind::RCurly
+            | Kind::Slash
+            | Kind::SlashEq
+            | Kind::RAngle
+            | Kind::ShiftLeft
+            | Kind::LtEq
+            | Kind::ShiftLeftEq
+            | Kind::ShiftRight
+            | Kind::ShiftRight3
+    )
+}
+
+/// Whether the spelling of the kind stands from the offset to the other, both places of the text, in order.
+fn is_spelled_between(source: &Source<'_>, start: u32, end: u32, kind: Kind) -> bool
+    requires ordered { start ≤ end }
+    requires from { IsCharBoundary source.now.text start }
+    requires to { IsCharBoundary source.now.text end }
+    requires kind { is_re_lexed kind ≡ true }
+    ensures { IsTrue result ↔ from_place source.now.text start ≡ kind_text kind ++ from_place source.now.text end }
+{
+    match (source.position_at(start), source.position_at(end)) {
+        (Some(from), Some(to)) => source.str_between(from, to) == kind.to_str(),
+        _ => unreachable!(),
+    }
+}
+
+/// Whether the token, which lies on the text, has the spelling of its kind, if it may be read again.
+fn has_spelling(source: &Source<'_>, token: &Token) -> bool
+    requires { IsOnPlaces source.now.text token.now }
+    ensures { IsTrue result ↔ HasSpelling source.now.text token.now }
+{
+    if !is_re_lexed(token.kind()) {
+        return true;
+    }
+    is_spelled_between(source, token.start(), token.end(), token.kind())
+}
+
+/// Whether the token, if there is one, which then lies on the text, has the spelling of its kind, if it may be read
+/// again.
+pub(crate) fn has_spelling_if_some(source: &Source<'_>, token: &Option<Token>) -> bool
+    requires { IfSome token.now (IsOnPlaces source.now.text) }
+    ensures { IsTrue result ↔ IfSome token.now (HasSpelling source.now.text) }
+{
+    match token {
+        Some(token) => has_spelling(source, token),
         None => true,
     }
 }

@@ -5,134 +5,18 @@ ghost use Rattle.std.specs.Prelude.{OnErr, MatchBool};
 ghost use Rattle.js_text.specs.Ascii.{slash, less_than_sign, hyphen_minus};
 ghost use Rattle.js_text.specs.Characters.{is_white_space, is_line_terminator};
 ghost use Rattle.js_text.specs.declared.source_type.SourceType.{SourceType};
-ghost use Rattle.js_grammar.specs.Gap.{piece, is_reported, LongestGap};
+ghost use Rattle.js_grammar.specs.Gap.{piece, is_reported};
 ghost use Rattle.js_source.specs.Source.{rest, BeginsWith, IsPlaced};
-ghost use Rattle.js_lexer.specs.Gaps.{BeginsNoPiece, IsNext, EndsPiece, ReadsPiece, TakesReported};
-ghost use Rattle.js_lexer.specs.Reader.{StaysWithin, SkipsPiece, SkipsGap, SkipsWholeGap, SkipsReported, MovesOn};
+ghost use Rattle.js_source.specs.Runs.{PassesRun};
+ghost use Rattle.js_lexer.specs.Gaps.{BeginsNoPiece, IsNext, Grows};
+ghost use Rattle.js_lexer.specs.Reader.{SkipsPiece, SkipsGap, SkipsWholeGap, SkipsReported, MovesOn};
 ghost use Rattle.js_lexer.specs.Tables.{TellsBlanks};
 
-use crate::comment::{skip_block, skip_line};
-use crate::mark::advance_if_mark;
+use crate::found::GapFindings;
 use crate::reader::Reader;
-use crate::skipped::Skipped;
-use crate::tables::ByteTables;
 use js_source::Source;
-use js_text::{Diagnostic, SourceType, Span, is_line_terminator, is_white_space};
+use js_text::{CommentKind, Diagnostic, Span, is_line_terminator, is_white_space};
 use std::alloc::AllocError;
-
-/// Reads the rest of a comment behind its `/`.
-fn skip_comment_rest(source: &mut Source<'_>, tables: &ByteTables, line_has_ended: bool) -> Skipped
-    ensures text { source.new.text ≡ source.old.text }
-    ensures piece { (t : SourceType) → EndsPiece (piece t line_has_ended (slash ∷ rest source.old)) source.new result }
-{
-    if source.advance_if_ascii_eq(b'/') {
-        skip_line(source, &tables.line);
-        Skipped::Piece { line_has_ended }
-    } else if source.advance_if_ascii_eq(b'*') {
-        skip_block(source, &tables.block, line_has_ended)
-    } else {
-        Skipped::Nothing
-    }
-}
-
-/// Reads a comment, where one begins with the `/` that is next.
-fn skip_comment(source: &mut Source<'_>, tables: &ByteTables, line_has_ended: bool) -> Skipped
-    requires { BeginsWith slash (rest source.old) }
-    ensures { (t : SourceType) → ReadsPiece (piece t line_has_ended (rest source.old)) source.old source.new result }
-{
-    let start = source.position();
-    source.next_char();
-    match skip_comment_rest(source, tables, line_has_ended) {
-        Skipped::Piece { line_has_ended } => Skipped::Piece { line_has_ended },
-        Skipped::Nothing => {
-            source.set_position(start);
-            Skipped::Nothing
-        }
-    }
-}
-
-/// Reads a comment that begins with `<!--`, in a source that may have it.
-fn skip_html_open(
-    source: &mut Source<'_>,
-    tables: &ByteTables,
-    source_type: SourceType,
-    line_has_ended: bool,
-) -> Skipped
-    requires { BeginsWith less_than_sign (rest source.old) }
-    ensures { ReadsPiece (piece source_type line_has_ended (rest source.old)) source.old source.new result }
-{
-    if source_type.is_module() {
-        return Skipped::Nothing;
-    }
-    if !advance_if_mark(source, b"<!--") {
-        return Skipped::Nothing;
-    }
-    skip_line(source, &tables.line);
-    Skipped::Piece { line_has_ended }
-}
-
-/// Reads a comment that begins with `-->`, where a line has ended in a source that may have it.
-fn skip_html_close(
-    source: &mut Source<'_>,
-    tables: &ByteTables,
-    source_type: SourceType,
-    line_has_ended: bool,
-) -> Skipped
-    requires { BeginsWith hyphen_minus (rest source.old) }
-    ensures { ReadsPiece (piece source_type line_has_ended (rest source.old)) source.old source.new result }
-{
-    if source_type.is_module() {
-        return Skipped::Nothing;
-    }
-    if !line_has_ended {
-        return Skipped::Nothing;
-    }
-    if !advance_if_mark(source, b"-->") {
-        return Skipped::Nothing;
-    }
-    skip_line(source, &tables.line);
-    Skipped::Piece { line_has_ended }
-}
-
-/// Reads a character of white space or a line terminator.
-fn skip_character(source: &mut Source<'_>, c: char, line_has_ended: bool) -> Skipped
-    requires next { BeginsWith c (rest source.old) }
-    requires slash { c ≡ slash → ⊥ }
-    requires angle { c ≡ less_than_sign → ⊥ }
-    requires minus { c ≡ hyphen_minus → ⊥ }
-    ensures { (t : SourceType) → ReadsPiece (piece t line_has_ended (rest source.old)) source.old source.new result }
-{
-    if is_white_space(c) {
-        source.next_char();
-        Skipped::Piece { line_has_ended }
-    } else if is_line_terminator(c) {
-        source.next_char();
-        Skipped::Piece {
-            line_has_ended: true,
-        }
-    } else {
-        Skipped::Nothing
-    }
-}
-
-/// Reads a piece of any form; `skip_begun_piece` has the common forms first.
-#[inline(never)]
-fn skip_any_piece(
-    source: &mut Source<'_>,
-    tables: &ByteTables,
-    source_type: SourceType,
-    line_has_ended: bool,
-) -> Skipped
-    ensures { ReadsPiece (piece source_type line_has_ended (rest source.old)) source.old source.new result }
-{
-    match source.peek_char() {
-        None => Skipped::Nothing,
-        Some('/') => skip_comment(source, tables, line_has_ended),
-        Some('<') => skip_html_open(source, tables, source_type, line_has_ended),
-        Some('-') => skip_html_close(source, tables, source_type, line_has_ended),
-        Some(c) => skip_character(source, c, line_has_ended),
-    }
-}
 
 /// Whether the byte is a character that begins no piece; false where one may begin.
 #[inline(always)]
@@ -154,62 +38,17 @@ fn begins_no_piece(b: u8) -> bool
     b != b'-'
 }
 
-/// Reads the character of white space that is next.
-#[inline(always)]
-fn skip_blank(source: &mut Source<'_>, b: u8, line_has_ended: bool) -> Skipped
-    requires ascii { b < 128 }
-    requires next { BeginsWith b (rest source.old) }
-    requires white { is_white_space b ≡ true }
-    ensures { (t : SourceType) → ReadsPiece (piece t line_has_ended (rest source.old)) source.old source.new result }
-{
-    source.next_char();
-    Skipped::Piece { line_has_ended }
-}
-
-/// Reads the line terminator that is next.
-#[inline(always)]
-fn skip_line_end(source: &mut Source<'_>, b: u8, line_has_ended: bool) -> Skipped
-    requires ascii { b < 128 }
-    requires next { BeginsWith b (rest source.old) }
-    requires dark { is_white_space b ≡ false }
-    requires ends { is_line_terminator b ≡ true }
-    ensures { (t : SourceType) → ReadsPiece (piece t line_has_ended (rest source.old)) source.old source.new result }
-{
-    source.next_char();
-    Skipped::Piece {
-        line_has_ended: true,
-    }
-}
-
 /// Skips TABs and SPs, and tells the byte behind them.
 #[inline(always)]
 fn skip_blanks(source: &mut Source<'_>, table: &[bool; 256]) -> Option<u8>
     requires { TellsBlanks table.now }
     ensures next { IsNext result (rest source.new) }
     ensures text { source.new.text ≡ source.old.text }
-    ensures gap { (t : SourceType) (before after : Bool) (left : List ℕ)
-        → LongestGap t before (rest source.new) after left → LongestGap t before (rest source.old) after left }
+    ensures run { PassesRun table.now source.old.text source.old.place source.new.place }
     ensures fewer { length (rest source.new) ≤ length (rest source.old) }
     ensures placed { IsPlaced source.new }
 {
     source.pass_ascii(table)
-}
-
-/// Takes the `<!--` of a comment that a module may not have, where one stands here.
-fn advance_if_reported(
-    source: &mut Source<'_>,
-    source_type: SourceType,
-    line_has_ended: bool,
-) -> bool
-    ensures { TakesReported source_type line_has_ended source.old result source.new }
-{
-    if !source_type.is_module() {
-        return false;
-    }
-    if !line_has_ended {
-        return false;
-    }
-    advance_if_mark(source, b"<!--")
 }
 
 /// Whether the next byte alone shows that no reported comment stands here.
@@ -227,102 +66,131 @@ fn is_none_reported(source: &Source<'_>, line_has_ended: bool) -> bool
 }
 
 impl Reader<'_> {
-    /// Reads the piece that the byte, which is next, may begin.
-    #[inline(always)]
-    fn skip_begun_piece(&mut self, b: u8) -> Skipped
-        requires { IsNext (Some b) (rest self.old.source) }
-        ensures stays { StaysWithin self.old self.new }
-        ensures piece { ReadsPiece (piece self.old.source_type self.old.line_has_ended (rest self.old.source))
-            self.old.source self.new.source result }
+    /// Reads a character of white space or a line terminator.
+    fn skip_character(&mut self, found: &mut GapFindings, c: char) -> Result<bool, AllocError>
+        requires placed { IsPlaced self.old.source }
+        requires next { BeginsWith c (rest self.old.source) }
+        requires slash { c ≡ slash → ⊥ }
+        requires angle { c ≡ less_than_sign → ⊥ }
+        requires minus { c ≡ hyphen_minus → ⊥ }
+        ensures ok { IfOk result (λ skipped. SkipsPiece self.old found.old skipped self.new found.new) }
+        ensures grown { Grows found.old found.new }
+        ensures err { OnErr result (MovesOn self.old self.new) }
     {
-        match b {
-            b' ' => skip_blank(&mut self.source, b' ', self.line_has_ended),
-            b'\n' => skip_line_end(&mut self.source, b'\n', self.line_has_ended),
-            _ => skip_any_piece(
-                &mut self.source,
-                &self.tables,
-                self.source_type,
-                self.line_has_ended,
-            ),
+        if is_white_space(c) {
+            return self.skip_white_space(found, c);
+        }
+        if is_line_terminator(c) {
+            return self.skip_line_terminator(found, c);
+        }
+        Ok(false)
+    }
+
+    /// Reads a piece of any form; `skip_piece` has the common forms first.
+    #[inline(never)]
+    fn skip_any_piece(&mut self, found: &mut GapFindings) -> Result<bool, AllocError>
+        requires placed { IsPlaced self.old.source }
+        ensures ok { IfOk result (λ skipped. SkipsPiece self.old found.old skipped self.new found.new) }
+        ensures grown { Grows found.old found.new }
+        ensures err { OnErr result (MovesOn self.old self.new) }
+    {
+        match self.source.peek_char() {
+            None => Ok(false),
+            Some('/') => self.skip_comment(found),
+            Some('<') => self.skip_html_open(found),
+            Some('-') => self.skip_html_close(found),
+            Some(c) => self.skip_character(found, c),
         }
     }
 
     /// Skips the piece of a gap that begins here, and tells whether one does; `next` is the next byte.
     #[inline(always)]
-    fn skip_piece(&mut self, next: Option<u8>) -> bool
-        requires { IsNext next (rest self.old.source) }
-        ensures { SkipsPiece self.old result self.new }
+    fn skip_piece(&mut self, found: &mut GapFindings, next: Option<u8>) -> Result<bool, AllocError>
+        requires placed { IsPlaced self.old.source }
+        requires next { IsNext next (rest self.old.source) }
+        ensures ok { IfOk result (λ skipped. SkipsPiece self.old found.old skipped self.new found.new) }
+        ensures grown { Grows found.old found.new }
+        ensures err { OnErr result (MovesOn self.old self.new) }
     {
-        let b = match next {
-            Some(b) => b,
-            None => return false,
-        };
-        if begins_no_piece(b) {
-            return false;
-        }
-        match self.skip_begun_piece(b) {
-            Skipped::Piece { line_has_ended } => {
-                self.line_has_ended = line_has_ended;
-                true
+        match next {
+            None => Ok(false),
+            Some(b) if begins_no_piece(b) => Ok(false),
+            Some(b'\n') => {
+                self.skip_line_feed(found);
+                Ok(true)
             }
-            Skipped::Nothing => false,
+            Some(_) => self.skip_any_piece(found),
         }
     }
 
     /// Skips the longest gap.
     #[inline(always)]
-    fn skip_gap(&mut self)
-        ensures skips { SkipsGap self.old self.new }
-        ensures placed { IsPlaced self.new.source }
+    fn skip_gap(&mut self, found: &mut GapFindings) -> Result<(), AllocError>
+        requires { IsPlaced self.old.source }
+        ensures ok { OnOk result (SkipsGap false self.old found.old self.new found.new) }
+        ensures placed { OnOk result (IsPlaced self.new.source) }
+        ensures grown { Grows found.old found.new }
+        ensures err { OnErr result (MovesOn self.old self.new) }
     {
         let mut next = skip_blanks(&mut self.source, &self.tables.blanks);
-        while self.skip_piece(next) {
+        while self.skip_piece(found, next)? {
             next = skip_blanks(&mut self.source, &self.tables.blanks);
         }
+        Ok(())
     }
 
     /// Reads and reports a comment that a module may not have, with the gap behind it, and tells whether there is one.
     #[inline(never)]
-    fn skip_reported(&mut self) -> Result<bool, AllocError>
-        ensures ok { IfOk result (λ found. SkipsReported self.old found self.new) }
+    fn skip_reported(&mut self, found: &mut GapFindings) -> Result<bool, AllocError>
+        requires { IsPlaced self.old.source }
+        ensures ok { IfOk result (λ skipped. SkipsReported self.old found.old skipped self.new found.new) }
         ensures placed { OnOk result (IsPlaced self.new.source) }
+        ensures grown { Grows found.old found.new }
         ensures err { OnErr result (MovesOn self.old self.new) }
     {
-        let start = self.source.offset();
-        if !advance_if_reported(&mut self.source, self.source_type, self.line_has_ended) {
+        if !self.source_type.is_module() {
             return Ok(false);
         }
-        let span = Span::new(start, self.source.offset());
+        if !self.line_has_ended {
+            return Ok(false);
+        }
+        let start = self.source.offset();
+        if !self.skip_marked_line(found, CommentKind::HtmlOpen)? {
+            return Ok(false);
+        }
+        let span = Span::sized(start, CommentKind::HtmlOpen.opening_length());
         self.errors.push(Diagnostic::HtmlCommentInModule { span })?;
-        skip_line(&mut self.source, &self.tables.line);
-        self.skip_gap();
+        self.skip_end_of_line(found);
+        self.skip_gap(found)?;
         Ok(true)
     }
 
     /// Goes on with a whole gap, where a longest gap without reported comments has ended.
     #[inline(never)]
-    fn skip_all_reported(&mut self) -> Result<(), AllocError>
+    fn skip_all_reported(&mut self, found: &mut GapFindings) -> Result<(), AllocError>
         requires placed { IsPlaced self.old.source }
         requires gap { piece self.old.source_type self.old.line_has_ended (rest self.old.source) ≡ None }
-        ensures ok { OnOk result (SkipsWholeGap self.old self.new) }
+        ensures ok { OnOk result (SkipsWholeGap self.old found.old self.new found.new) }
+        ensures grown { Grows found.old found.new }
         ensures err { OnErr result (MovesOn self.old self.new) }
     {
-        while self.skip_reported()? {}
+        while self.skip_reported(found)? {}
         Ok(())
     }
 
     /// Skips a whole gap, and reports the comments in it that a module may not have. Most gaps have none.
     #[inline(always)]
-    pub fn skip_whole_gap(&mut self) -> Result<(), AllocError>
+    pub fn skip_whole_gap(&mut self, found: &mut GapFindings) -> Result<(), AllocError>
         requires { IsPlaced self.old.source }
-        ensures ok { OnOk result (SkipsWholeGap self.old self.new) }
+        ensures ok { OnOk result (SkipsWholeGap self.old found.old self.new found.new) }
+        ensures grown { Grows found.old found.new }
         ensures err { OnErr result (MovesOn self.old self.new) }
     {
-        self.skip_gap();
+        self.skip_gap(found)?;
         if is_none_reported(&self.source, self.line_has_ended) {
             return Ok(());
         }
-        match self.skip_all_reported() {
+        match self.skip_all_reported(found) {
             Ok(()) => Ok(()),
             Err(error) => Err(error),
         }

@@ -1,26 +1,41 @@
 //! The lexer: a source, the last token, and the lists that its readings fill.
 
-ghost use Rattle.std.specs.Prelude.{◌≡◌, ◌≤◌, ◌^◌, ◌↔◌, ◌++◌, [], length, drop, None, IsTrue, IfOk, OnOk, OnErr};
+ghost use Rattle.std.specs.Prelude.{◌≡◌, ◌≤◌, ◌^◌, ◌↔◌, ◌++◌, true, [], length, drop, Option, None, IsTrue, IfOk};
+ghost use Rattle.std.specs.Prelude.{OnOk, OnErr, if◌then◌else◌};
 ghost use Rattle.std.specs.List.{last_or};
 ghost use Rattle.std.specs.Str.{IsCharBoundary, IsUtf8};
-ghost use Rattle.js_grammar.specs.Outcome.{no_findings, reports};
+ghost use Rattle.js_text.specs.Lists.{with_last};
+ghost use Rattle.js_grammar.specs.Goals.{line_has_ended_behind};
 ghost use Rattle.js_grammar.specs.Spelling.{text_start, text_end};
+ghost use Rattle.js_grammar.specs.Reads.{is_onward};
+ghost use Rattle.js_kind.specs.TokenParts.{TokenParts};
 ghost use Rattle.js_source.specs.Source.{IsPlaced};
-ghost use Rattle.js_lexer.specs.Decoded.{Keeps, value_of, GivesDecoded, GivesPart, GivesText, GivesTemplate};
-ghost use Rattle.js_lexer.specs.Decoded.{GivesStretch};
-ghost use Rattle.js_lexer.specs.Lexer.{LexerState, fresh, token_or_default, ReadsToken, IsRestored, HasMovedOn};
+ghost use Rattle.js_lexer.specs.Decoded.{Keeps, KeepsValues, HasValue, value_of, GivesDecoded, GivesPart, GivesText};
+ghost use Rattle.js_lexer.specs.Decoded.{GivesTemplate, GivesStretch};
+ghost use Rattle.js_lexer.specs.Gaps.{Grows};
+ghost use Rattle.js_lexer.specs.Reader.{ReadsWithGap, MovesOn};
+ghost use Rattle.js_lexer.specs.Lexer.{LexerState, fresh, token_or_default, ReadsToken, IsRestored};
 ghost use Rattle.js_lexer.specs.Lexer.{IsOnPlaces, Peeks, checkpoint_of, CanRewind, rewound, GoesOnFrom, collected};
-ghost use Rattle.js_lexer.specs.Lexer.{is_hashbang};
+ghost use Rattle.js_lexer.specs.Lexer.{is_hashbang, IsBehind, ReadsAgain};
 
-use crate::checkpoint::{LexerCheckpoint, is_on_places_if_some, is_place, put_back};
+mod goals;
+
+use crate::checkpoint::{
+    LexerCheckpoint, has_spelling_if_some, is_on_places_if_some, is_place, put_back,
+};
 use crate::decoded::DecodedValues;
+use crate::found::GapFindings;
 use crate::reader::Reader;
 use crate::tables::ByteTables;
 use crate::token_text::{is_template, text_span};
 use js_grammar::Goal;
 use js_kind::{Kind, LexerConfig, Token, TokenList};
 use js_source::Source;
-use js_text::{Diagnostic, DiagnosticList, JsText, SourceType, TemplateValue};
+use js_text::{
+    Comment, CommentList, Diagnostic, DiagnosticList, JsText, SourceType, Span, SpanList,
+    TemplateValue,
+};
+use js_trivia::TriviaBuilder;
 use std::alloc::{AllocError, Global};
 use std::marker::Model;
 
@@ -45,6 +60,43 @@ fn collect(tokens: &mut TokenList, collects: bool, token: &Token) -> Result<(), 
     tokens.push(*token)
 }
 
+/// Puts the token in the place of the last collected one, where tokens are collected.
+fn replace_collected(tokens: &mut TokenList, collects: bool, token: Token)
+    ensures { tokens.new ≡ (if collects then with_last tokens.old token else tokens.old) }
+{
+    if collects {
+        tokens.replace_last(token);
+    }
+}
+
+/// Reads a token of the first or the plain goal, and collects it. Where it cannot allocate, the reader may have moved
+/// on and reported, and more may have been found.
+fn read_and_collect(
+    reader: &mut Reader<'_>,
+    goal: Goal,
+    found: &mut GapFindings,
+    decoded: &mut DecodedValues,
+    tokens: &mut TokenList,
+    collects: bool,
+) -> Result<Token, AllocError>
+    requires placed { IsPlaced reader.old.source }
+    requires onward { is_onward goal ≡ true }
+    ensures ok { IfOk result (λ token. (previous : Option TokenParts)
+        → line_has_ended_behind previous ≡ reader.old.line_has_ended
+        → ReadsWithGap goal previous reader.old found.old token reader.new found.new) }
+    ensures tokens { IfOk result (λ token. tokens.new ≡ tokens.old ++ collected collects token) }
+    ensures placed { OnOk result (IsPlaced reader.new.source) }
+    ensures value { IfOk result (λ token. HasValue reader.old.source.text decoded.new token) }
+    ensures kept { KeepsValues reader.old.source.text decoded.old decoded.new }
+    ensures grown { Grows found.old found.new }
+    ensures err { OnErr result (MovesOn reader.old reader.new) }
+    ensures same { OnErr result (tokens.new ≡ tokens.old) }
+{
+    let token = reader.read_goal(goal, found, decoded)?;
+    collect(tokens, collects, &token)?;
+    Ok(token)
+}
+
 /// The last token of a list.
 fn last_of(tokens: &[Token]) -> Option<Token>
     ensures { result ≡ last_or None tokens.now }
@@ -65,6 +117,7 @@ pub enum NewFault {
 #[derive(Drop)]
 pub struct Lexer<'a, C: LexerConfig + Drop> {
     reader: Reader<'a>,
+    found: GapFindings,
     config: C,
     last: Option<Token>,
     tokens: TokenList,
@@ -72,7 +125,6 @@ pub struct Lexer<'a, C: LexerConfig + Drop> {
 }
 
 impl<'a, C: LexerConfig + Drop> Model for Lexer<'a, C> {
-    ghost use Rattle.js_grammar.specs.Outcome.{reports};
     ghost use Rattle.js_lexer.specs.Lexer.{LexerState, IsSound};
 
     ghost Value = { LexerState };
@@ -84,11 +136,18 @@ impl<'a, C: LexerConfig + Drop> Model for Lexer<'a, C> {
       place = l.reader.source.place;
       last = l.last;
       tokens = l.tokens;
-      findings = reports l.reader.errors;
+      findings = record {
+        diagnostics = l.reader.errors;
+        deferred = l.found.deferred;
+        comments = l.found.trivia.attachment.attached;
+        irregular = l.found.trivia.irregular_whitespaces;
+      };
+      pure_comments = l.found.trivia.pure_comments;
+      no_side_effects_comments = l.found.trivia.no_side_effects_comments;
       decoded = l.decoded;
     } };
 
-    ghost invariant = { λ l. IsSound l.reader.source.text l.last l.decoded };
+    ghost invariant = { λ l. IsSound l.reader.source l.last l.found.trivia l.decoded };
 }
 
 impl<'a, C: LexerConfig + Drop> Lexer<'a, C> {
@@ -113,6 +172,10 @@ impl<'a, C: LexerConfig + Drop> Lexer<'a, C> {
                 line_has_ended: true,
                 errors: DiagnosticList::new_in(alloc),
                 alloc,
+            },
+            found: GapFindings {
+                trivia: TriviaBuilder::new_in(alloc),
+                deferred: DiagnosticList::new_in(alloc),
             },
             config,
             last: None,
@@ -140,32 +203,63 @@ impl<'a, C: LexerConfig + Drop> Lexer<'a, C> {
         self.read(Goal::Next)
     }
 
-    /// Reads a token. Where it cannot allocate, the lexer may have moved on and reported.
-    fn read_on(&mut self, goal: Goal) -> Result<Token, AllocError>
-        requires { IsPlaced (record { text = self.old.text; place = self.old.place }) }
-        ensures ok { IfOk result (λ token. ReadsToken goal self.old token self.new) }
-        ensures err { OnErr result (HasMovedOn self.old self.new) }
-    {
-        self.reader.line_has_ended = self.last.is_none();
-        let token = self.reader.read_goal(goal, &mut self.decoded)?;
-        collect(&mut self.tokens, self.config.tokens(), &token)?;
-        self.last = Some(token);
-        Ok(token)
-    }
-
-    /// Reads a token, or leaves the lexer as it was.
+    /// Reads a token of a goal that goes on, or leaves the lexer as it was.
     fn read(&mut self, goal: Goal) -> Result<Token, AllocError>
+        requires { is_onward goal ≡ true }
         ensures ok { IfOk result (λ token. ReadsToken goal self.old token self.new) }
         ensures err { OnErr result (IsRestored self.old self.new) }
         ensures kept { Keeps self.old.decoded self.new.decoded }
     {
-        let start = self.reader.source.position();
+        let place = self.reader.source.position();
         let reported = self.reader.errors.len();
-        match self.read_on(goal) {
-            Ok(token) => Ok(token),
+        let deferred_before = self.found.deferred.len();
+        let trivia_before = self.found.trivia.lengths();
+        self.found.trivia.clear_pure_comments();
+        self.found.trivia.clear_no_side_effects_comments();
+        self.reader.line_has_ended = self.last.is_none();
+        let read = read_and_collect(
+            &mut self.reader,
+            goal,
+            &mut self.found,
+            &mut self.decoded,
+            &mut self.tokens,
+            self.config.tokens(),
+        );
+        match read {
+            Ok(token) => {
+                self.found.trivia.handle_token(token);
+                self.last = Some(token);
+                Ok(token)
+            }
             Err(error) => {
-                self.reader.source.set_position(start);
-                self.reader.errors.truncate(reported);
+                self.reader.go_back(place, reported);
+                self.found.deferred.truncate(deferred_before);
+                self.found.trivia.cut_back(&trivia_before);
+                Err(error)
+            }
+        }
+    }
+
+    /// Reads on a template behind the `}` that was the last token and that ends a substitution (ECMA-262 12.9.6). The
+    /// token that is read begins with this `}`, and stands in its place.
+    pub fn next_template_substitution_tail(&mut self) -> Result<Token, AllocError>
+        requires { IsBehind Kind.RCurly self.old }
+        ensures ok { IfOk result (λ token. ReadsAgain Goal.TemplateTail self.old token self.new) }
+        ensures err { OnErr result (IsRestored self.old self.new) }
+        ensures kept { Keeps self.old.decoded self.new.decoded }
+    {
+        let start = self.last_token().start();
+        let place = self.reader.source.position();
+        let reported = self.reader.errors.len();
+        match self.reader.read_next_part(start, &mut self.decoded) {
+            Ok(token) => {
+                replace_collected(&mut self.tokens, self.config.tokens(), token);
+                self.found.trivia.handle_token(token);
+                self.last = Some(token);
+                Ok(token)
+            }
+            Err(error) => {
+                self.reader.go_back(place, reported);
                 Err(error)
             }
         }
@@ -296,20 +390,70 @@ impl<'a, C: LexerConfig + Drop> Lexer<'a, C> {
         self.reader.source.advance_to_end();
     }
 
-    /// What was reported, in the order in which it was met. Readings find nothing else yet.
+    /// What was reported, in the order in which it was met.
     pub fn errors(&self) -> &[Diagnostic]
-        ensures { self.now.findings ≡ reports result.now }
+        ensures { result.now ≡ self.now.findings.diagnostics }
     {
         self.reader.errors.as_slice()
     }
 
+    /// What was reported for the case that the source is a module, where this is not settled: HTML-like comments
+    /// (ECMA-262 B.1.1).
+    pub fn deferred_module_errors(&self) -> &[Diagnostic]
+        ensures { result.now ≡ self.now.findings.deferred }
+    {
+        self.found.deferred.as_slice()
+    }
+
+    /// The comments that were read, in the order of the text, each with the token that it belongs to.
+    pub fn comments(&self) -> &[Comment]
+        ensures { result.now ≡ self.now.findings.comments }
+    {
+        self.found.trivia.comments()
+    }
+
+    /// The irregular white space that was read, in the order of the text. U+2028 and U+2029 count as such, but not
+    /// where they end a line comment.
+    pub fn irregular_whitespaces(&self) -> &[Span]
+        ensures { result.now ≡ self.now.findings.irregular }
+    {
+        self.found.trivia.irregular_whitespaces()
+    }
+
     /// Hands out what was reported, and leaves nothing.
     pub fn take_errors(&mut self) -> DiagnosticList
-        ensures errors { self.old.findings ≡ reports result }
-        ensures after { self.new ≡ record self.old { findings = no_findings } }
+        ensures errors { result ≡ self.old.findings.diagnostics }
+        ensures after { self.new ≡ record self.old { findings = record self.old.findings { diagnostics = [] } } }
     {
         let alloc = self.reader.alloc;
         std::mem::replace(&mut self.reader.errors, DiagnosticList::new_in(alloc))
+    }
+
+    /// Hands out what was reported for the case that the source is a module, and leaves nothing.
+    pub fn take_deferred_module_errors(&mut self) -> DiagnosticList
+        ensures errors { result ≡ self.old.findings.deferred }
+        ensures after { self.new ≡ record self.old { findings = record self.old.findings { deferred = [] } } }
+    {
+        let alloc = self.reader.alloc;
+        std::mem::replace(&mut self.found.deferred, DiagnosticList::new_in(alloc))
+    }
+
+    /// Hands out the comments that were read, and leaves none.
+    pub fn take_comments(&mut self) -> CommentList
+        ensures comments { result ≡ self.old.findings.comments }
+        ensures after { self.new ≡ record self.old { findings = record self.old.findings { comments = [] } } }
+    {
+        self.found.trivia.take_comments(self.reader.alloc)
+    }
+
+    /// Hands out the irregular white space that was read, and leaves none.
+    pub fn take_irregular_whitespaces(&mut self) -> SpanList
+        ensures spans { result ≡ self.old.findings.irregular }
+        ensures after { self.new ≡ record self.old { findings = record self.old.findings { irregular = [] } } }
+    {
+        self.found
+            .trivia
+            .take_irregular_whitespaces(self.reader.alloc)
     }
 
     /// The tokens that were collected.
@@ -338,11 +482,14 @@ impl<'a, C: LexerConfig + Drop> Lexer<'a, C> {
             last_collected: last_of(self.tokens.as_slice()),
             tokens: self.tokens.len(),
             errors: self.reader.errors.len(),
+            deferred: self.found.deferred.len(),
+            trivia: self.found.trivia.lengths(),
         }
     }
 
-    /// Whether the lexer may go back to the checkpoint: its places are places of this text, in order, and no list is
-    /// shorter than it was.
+    /// Whether the lexer may go back to the checkpoint: its places are places of this text, in order, its last token
+    /// has the spelling of its kind if it may be read again, no list is shorter than it was, and the comments and the
+    /// irregular white space that stay start before that token.
     pub fn can_rewind(&self, checkpoint: &LexerCheckpoint) -> bool
         ensures { IsTrue result ↔ CanRewind self.now checkpoint.now }
     {
@@ -352,11 +499,25 @@ impl<'a, C: LexerConfig + Drop> Lexer<'a, C> {
         if checkpoint.errors > self.reader.errors.len() {
             return false;
         }
+        if checkpoint.deferred > self.found.deferred.len() {
+            return false;
+        }
+        let trivia = &checkpoint.trivia;
+        if !self
+            .found
+            .trivia
+            .can_cut_back(trivia, trivia.previous.start())
+        {
+            return false;
+        }
         let source = &self.reader.source;
         if !is_place(source, source.offset_of(checkpoint.position)) {
             return false;
         }
-        is_on_places_if_some(source, &checkpoint.last)
+        if !is_on_places_if_some(source, &checkpoint.last) {
+            return false;
+        }
+        has_spelling_if_some(source, &checkpoint.last)
     }
 
     /// Goes back to the checkpoint: the lists are cut back to the lengths that they had, and the last collected token
@@ -373,11 +534,15 @@ impl<'a, C: LexerConfig + Drop> Lexer<'a, C> {
             last_collected,
             tokens,
             errors,
+            deferred,
+            trivia,
         } = checkpoint;
         self.reader.source.set_position(position);
         self.last = last;
         self.tokens.truncate(tokens);
         put_back(&mut self.tokens, last_collected);
         self.reader.errors.truncate(errors);
+        self.found.deferred.truncate(deferred);
+        self.found.trivia.cut_back(&trivia);
     }
 }

@@ -1,25 +1,37 @@
 //! The lexer: readings of the plain goal, peeks and checkpoints (ECMA-262 12).
 #![tactic(auto)]
 
+mod angle;
 mod checkpoint;
 mod comment;
 mod decoded;
+mod found;
 mod gap;
+#[cfg(test)]
+mod goal_tests;
+mod jsx;
 mod lexeme;
 mod lexer;
 mod mark;
+mod pieces;
 mod punctuator;
+mod re_lex;
 mod reader;
 mod reading;
 mod recover;
 mod recovery;
+mod regex;
+mod restart;
 mod skipped;
 mod tables;
 mod token_text;
 
 pub use checkpoint::LexerCheckpoint;
 pub use lexer::{Lexer, NewFault};
+pub use regex::RegexToken;
 pub use token_text::{is_template, is_valued, text_span};
 
+#[cfg(test)]
+mod gap_tests;
 #[cfg(test)]
 mod tests;

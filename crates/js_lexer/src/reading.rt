@@ -10,15 +10,18 @@ ghost use Rattle.js_grammar.specs.Goals.{line_has_ended_behind};
 ghost use Rattle.js_grammar.specs.Name.{begins_name};
 ghost use Rattle.js_grammar.specs.Number.{begins_number};
 ghost use Rattle.js_grammar.specs.Punctuators.{NoPunctuator};
+ghost use Rattle.js_grammar.specs.Reads.{is_onward};
 ghost use Rattle.js_grammar.specs.StringItems.{is_quote};
 ghost use Rattle.js_kind.specs.TokenParts.{TokenParts};
 ghost use Rattle.js_source.specs.Source.{rest, IsPlaced, BeginsWith};
 ghost use Rattle.js_lexer.specs.Decoded.{HasValue, HasValueHere, KeepsValues, KeepsSpelt, KeepsPart};
-ghost use Rattle.js_lexer.specs.Reader.{ReadsLexeme, ReadsBehind, ReadsGoal, ReadsHashbang, NothingHere, MovesOn};
+ghost use Rattle.js_lexer.specs.Gaps.{Grows};
+ghost use Rattle.js_lexer.specs.Reader.{ReadsTokenHere, ReadsLexeme, ReadsBehind, ReadsWithGap, ReadsHashbang, NothingHere, MovesOn};
 ghost use Rattle.js_lexer.specs.Tables.{TellsStarts, is_name_start};
 
 use crate::comment::skip_line;
 use crate::decoded::DecodedValues;
+use crate::found::GapFindings;
 use crate::lexeme::Lexeme;
 use crate::mark::advance_if_mark;
 use crate::punctuator::read_punctuator;
@@ -64,7 +67,11 @@ fn keep_value(decoded: &mut DecodedValues, start: u32, value: SpeltValue) -> Res
 }
 
 /// Keeps the value of the part of a template that starts at the offset, where it is no stretch of the source.
-fn keep_part(decoded: &mut DecodedValues, start: u32, value: SpeltValue) -> Result<(), AllocError>
+pub(crate) fn keep_part(
+    decoded: &mut DecodedValues,
+    start: u32,
+    value: SpeltValue,
+) -> Result<(), AllocError>
     ensures ok { OnOk result (KeepsPart start value decoded.old decoded.new) }
     ensures err { OnErr result (decoded.new ≡ decoded.old) }
 {
@@ -371,20 +378,43 @@ impl Reader<'_> {
         self.read_mark(decoded)
     }
 
-    /// Reads a token behind a whole gap.
-    fn read_behind_gap(&mut self, decoded: &mut DecodedValues) -> Result<Token, AllocError>
+    /// Reads the token that stands here, where no gap does.
+    #[inline(always)]
+    pub fn read_here(&mut self, decoded: &mut DecodedValues) -> Result<Token, AllocError>
+        requires gap { whole_gap_piece self.old.source_type self.old.line_has_ended (rest self.old.source) ≡ None }
         requires placed { IsPlaced self.old.source }
-        ensures ok { IfOk result (λ token. ReadsBehind self.old token self.new) }
+        ensures ok { IfOk result (λ token. ReadsTokenHere self.old token self.new) }
         ensures placed { OnOk result (IsPlaced self.new.source) }
         ensures value { IfOk result (λ token. HasValue self.old.source.text decoded.new token) }
         ensures kept { KeepsValues self.old.source.text decoded.old decoded.new }
         ensures err { OnErr result (MovesOn self.old self.new) }
     {
-        self.skip_whole_gap()?;
         let start = self.source.offset();
         let lexeme = self.read_lexeme(decoded)?;
         let span = Span::new(start, self.source.offset());
         Ok(lexeme.token(span))
+    }
+
+    /// Reads a token behind a whole gap.
+    fn read_behind_gap(
+        &mut self,
+        found: &mut GapFindings,
+        decoded: &mut DecodedValues,
+    ) -> Result<Token, AllocError>
+        requires placed { IsPlaced self.old.source }
+        ensures ok { IfOk result (λ token. (previous : Option TokenParts)
+            → line_has_ended_behind previous ≡ self.old.line_has_ended
+            → ReadsBehind previous self.old found.old token self.new found.new) }
+        ensures grown { Grows found.old found.new }
+        ensures placed { OnOk result (IsPlaced self.new.source) }
+        ensures value { IfOk result (λ token. HasValue self.old.source.text decoded.new token) }
+        ensures kept { KeepsValues self.old.source.text decoded.old decoded.new }
+        ensures err { OnErr result (MovesOn self.old self.new) }
+    {
+        self.skip_whole_gap(found)?;
+        // The source is between characters, as everywhere.
+        let _place = self.source.position();
+        self.read_here(decoded)
     }
 
     /// Reads a hashbang comment, where one stands at the start of the text (ECMA-262 12.5).
@@ -403,15 +433,19 @@ impl Reader<'_> {
         Some(Token::new(Kind::HashbangComment, span, self.line_has_ended))
     }
 
-    /// Reads a token of a goal, and keeps its value where it has an escape.
+    /// Reads a token of a goal that goes on from here, and keeps its value where it has an escape.
     pub fn read_goal(
         &mut self,
         goal: Goal,
+        found: &mut GapFindings,
         decoded: &mut DecodedValues,
     ) -> Result<Token, AllocError>
         requires placed { IsPlaced self.old.source }
-        ensures ok { IfOk result (λ token. (before : Option TokenParts)
-            → line_has_ended_behind before ≡ self.old.line_has_ended → ReadsGoal goal before self.old token self.new) }
+        requires onward { is_onward goal ≡ true }
+        ensures ok { IfOk result (λ token. (previous : Option TokenParts)
+            → line_has_ended_behind previous ≡ self.old.line_has_ended
+            → ReadsWithGap goal previous self.old found.old token self.new found.new) }
+        ensures grown { Grows found.old found.new }
         ensures placed { OnOk result (IsPlaced self.new.source) }
         ensures value { IfOk result (λ token. HasValue self.old.source.text decoded.new token) }
         ensures kept { KeepsValues self.old.source.text decoded.old decoded.new }
@@ -420,9 +454,12 @@ impl Reader<'_> {
         match goal {
             Goal::First => match self.read_hashbang() {
                 Some(token) => Ok(token),
-                None => self.read_behind_gap(decoded),
+                None => self.read_behind_gap(found, decoded),
             },
-            Goal::Next => self.read_behind_gap(decoded),
+            Goal::Next => self.read_behind_gap(found, decoded),
+            Goal::JsxChild => self.read_child(),
+            Goal::JsxAttributeValue => self.read_attribute_value(found, decoded),
+            _ => unreachable!(),
         }
     }
 }

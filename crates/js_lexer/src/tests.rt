@@ -12,7 +12,7 @@ use std::fmt::Write;
 use std::test::Fail;
 
 /// A lexer that has read nothing.
-fn lexer_of<C: LexerConfig + Drop>(
+pub(crate) fn lexer_of<C: LexerConfig + Drop>(
     alloc: Global,
     text: &str,
     source_type: SourceType,
@@ -26,7 +26,7 @@ fn lexer_of<C: LexerConfig + Drop>(
     }
 }
 
-fn push_token(text: &mut String, token: &Token) -> Result<(), AllocError> {
+pub(crate) fn push_token(text: &mut String, token: &Token) -> Result<(), AllocError> {
     let name = token.kind().name();
     let start = token.start();
     let end = token.end();

@@ -1,6 +1,14 @@
+use Rattle.std.proofs.Common.{refl}
 use Rattle.js_grammar.specs.declared.goal.Goal.TheVariants.{Next}
+use Rattle.js_lexer.proofs.GoesOn.{can_rewind-on}
 use Rattle.js_lexer.proofs.LexerSteps.{reading_goes_on}
 use Rattle.js_lexer.proofs.lexer.Lexer.peek_token.Goals as goal
+
+pub rewind-requires : goal.rewind-requires
+rewind-requires g c =
+    can_rewind-on c.args.self.now c.next_token.new.self c.checkpoint-checkpoint.result
+    c.checkpoint-checkpoint.ensures.open
+    (reading_goes_on Next c.args.self.now c.next_token.new.self c.in_ok-token.token c.in_ok-token.ensures.ok)
 
 pub returns-clause-ok : goal.returns-clause-ok
 returns-clause-ok g c =
@@ -13,5 +21,5 @@ returns-clause-ok g c =
       outcome = read.outcome;
       token_is = read.token_is;
       reads = read.reads;
-      agrees = read.agrees;
+      agrees = read.agrees refl;
     }

@@ -1,53 +1,61 @@
-use Rattle.std.proofs.Common.{◌∙◌, ap, arith, sym, subst}
-use Rattle.js_source.specs.Source.{At, IsPlaced}
-use Rattle.js_lexer.proofs.GapSteps.{piece_before, piece_shorter, no_piece_left}
+use Rattle.std.proofs.Common.{Bool, false, refl, subst, ◌∙◌}
+use Rattle.js_lexer.specs.Reader.{SkipsPiece}
+use Rattle.js_lexer.proofs.GapSteps.{blanks_lead, leads_to, no_gap_left}
+use Rattle.js_lexer.proofs.TriviaSteps.{grows_none, grows_on}
 use Rattle.js_lexer.proofs.reader.Reader.skip_gap.Goals as goal
 
-pub loop-self-smaller : goal.loop-self-smaller
-loop-self-smaller c =
-    omega (
-      arith,
-      piece_shorter c.loop-self.self c.skip_piece.new.self c.loop-self-test.ensures,
-      c.skip_blanks-next-in-loop-self.ensures.fewer,
-    )
+pub loop-self-init : goal.loop-self-init
+loop-self-init c =
+    let blanks = c.skip_blanks-next.ensures in
+    record {
+      is_next = blanks.next;
+      placed = blanks.placed;
+      within = record { source_type = refl; errors = refl };
+      text = blanks.text;
+      leads =
+          leads_to c.args.self.now (record c.args.self.now { source = c.skip_blanks-next.new.source }) _
+          c.args.found.now c.args.found.now
+          (blanks_lead c.args.self.now.tables.blanks c.args.self.now.tables.gap_blanks c.args.self.now
+          c.skip_blanks-next.new.source c.args.found.now c.requires blanks.placed blanks.text blanks.run)
+          (record { source = refl; stays = record { source_type = refl; line_has_ended = refl; errors = refl } });
+      grown = grows_none c.args.found.now;
+    }
+
+pub returns-in_err-skip_piece-clause-grown : goal.returns-in_err-skip_piece-clause-grown
+returns-in_err-skip_piece-clause-grown c =
+    grows_on c.args.found.now c.loop-self.found c.skip_piece.new.found c.loop-self.invariant.grown
+    c.skip_piece.ensures.grown
 
 pub loop-self-preserved : goal.loop-self-preserved
 loop-self-preserved c =
     let inv = c.loop-self.invariant in
-    let skips = c.loop-self-test.ensures in
-    let t = c.args.self.now.source_type in
+    let some =
+    subst (λ (b : Bool). SkipsPiece c.loop-self.self c.loop-self.found b c.skip_piece.new.self c.skip_piece.new.found)
+    c.if-branch.true c.in_ok-skip_piece.ensures.ok in
     let blanks = c.skip_blanks-next-in-loop-self.ensures in
+    let passes =
+    leads_to c.skip_piece.new.self (record c.skip_piece.new.self { source = c.skip_blanks-next-in-loop-self.new.source }) _
+    c.skip_piece.new.found c.skip_piece.new.found
+    (blanks_lead c.skip_piece.new.self.tables.blanks c.skip_piece.new.self.tables.gap_blanks c.skip_piece.new.self
+    c.skip_blanks-next-in-loop-self.new.source c.skip_piece.new.found some.placed blanks.placed blanks.text blanks.run)
+    (record { source = refl; stays = record { source_type = refl; line_has_ended = refl; errors = refl } }) in
     record {
       is_next = blanks.next;
       placed = blanks.placed;
-      within =
-          record {
-            source_type = skips.within.source_type ∙ inv.within.source_type;
-            errors = skips.within.errors ∙ inv.within.errors;
-          };
-      text = blanks.text ∙ skips.text ∙ inv.text;
-      completes = λ line_has_ended left gap. inv.completes line_has_ended left
-          (piece_before t c.loop-self.self c.skip_piece.new.self inv.within.source_type skips line_has_ended left
-          (blanks.gap t c.skip_piece.new.self.line_has_ended line_has_ended left gap));
+      within = record {
+        source_type = some.within.source_type ∙ inv.within.source_type;
+        errors = some.within.errors ∙ inv.within.errors;
+      };
+      text = blanks.text ∙ some.text ∙ inv.text;
+      leads = λ later found s. inv.leads later found (some.leads later found (passes later found s));
+      grown = grows_on c.args.found.now c.loop-self.found c.skip_piece.new.found inv.grown c.skip_piece.ensures.grown;
     }
 
-pub returns-clause-placed : goal.returns-clause-placed
-returns-clause-placed c =
-    subst (λ (a : At). IsPlaced a) (sym c.loop-self-test.ensures.0.source) c.loop-self.invariant.placed
-
-pub returns-clause-skips : goal.returns-clause-skips
-returns-clause-skips c =
-    let inv = c.loop-self.invariant in
-    let same = c.loop-self-test.ensures in
-    record {
-      within =
-          record {
-            source_type = same.0.stays.source_type ∙ inv.within.source_type;
-            errors = same.0.stays.errors ∙ inv.within.errors;
-          };
-      text = ap (λ (a : At). a.text) same.0.source ∙ inv.text;
-      gap =
-          inv.completes _ _
-          (no_piece_left c.args.self.now.source_type c.loop-self.self c.skip_piece.new.self inv.within.source_type
-          same);
-    }
+pub returns-clause-ok : goal.returns-clause-ok
+returns-clause-ok c =
+    let none =
+    subst (λ (b : Bool). SkipsPiece c.loop-self.self c.loop-self.found b c.skip_piece.new.self c.skip_piece.new.found)
+    c.if-branch.false c.in_ok-skip_piece.ensures.ok in
+    c.loop-self.invariant.leads c.skip_piece.new.self c.skip_piece.new.found
+    (no_gap_left false c.loop-self.self c.skip_piece.new.self c.loop-self.found c.skip_piece.new.found none.0 none.1
+    none.2)

@@ -1,8 +1,7 @@
-use Rattle.std.proofs.Common.{◌≡◌, Bool, List, ℕ, length}
-use Rattle.js_grammar.specs.Gap.{LongestGap}
+use Rattle.std.proofs.Common.{◌≡◌, false, length}
 use Rattle.js_source.specs.Source.{rest, IsPlaced}
-use Rattle.js_lexer.specs.Gaps.{IsNext}
-use Rattle.js_lexer.specs.Reader.{SkipsWithin}
+use Rattle.js_lexer.specs.Gaps.{IsNext, Grows}
+use Rattle.js_lexer.specs.Reader.{SkipsWithin, Leads}
 use Rattle.js_lexer.proofs.reader.Reader.skip_gap.Given as goal
 
 abbrev pub invariant-loop-self : goal.invariant-loop-self
@@ -11,9 +10,8 @@ invariant-loop-self l = record {
   placed : IsPlaced l.self.source;
   within : SkipsWithin l.fn.self l.self;
   text : l.self.source.text ≡ l.fn.self.source.text;
-  completes : (line_has_ended : Bool) (left : List ℕ)
-      → LongestGap l.fn.self.source_type l.self.line_has_ended (rest l.self.source) line_has_ended left
-      → LongestGap l.fn.self.source_type l.fn.self.line_has_ended (rest l.fn.self.source) line_has_ended left;
+  leads : Leads false l.fn.self l.fn.found false l.self l.found;
+  grown : Grows l.fn.found l.found;
 }
 
 abbrev pub decreases-loop-self : goal.decreases-loop-self

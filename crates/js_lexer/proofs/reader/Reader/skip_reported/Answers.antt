@@ -1,14 +1,56 @@
-use Rattle.std.proofs.Common.{[], ◌∷◌, ◌++◌, ◌∙◌, ap, refl}
+use Rattle.std.proofs.Common.{Bool, refl, subst, ◌∙◌, ap, sym, [], ◌∷◌, ◌++◌}
+use Rattle.std.proofs.lemmas.Result.{err_from_is_err_and}
+use Rattle.js_text.specs.declared.comment.CommentKind.TheVariants.{HtmlOpen}
 use Rattle.js_text.specs.declared.diagnostic.Diagnostic.TheVariants.{HtmlCommentInModule}
-use Rattle.js_lexer.proofs.WholeSteps.{reported_skips}
+use Rattle.js_lexer.specs.Reader.{SkipsMarkedLine}
+use Rattle.js_lexer.proofs.LineSteps.{at_line_end}
+use Rattle.js_lexer.proofs.TriviaSteps.{grows_none, grows_on}
+use Rattle.js_lexer.proofs.WholeSteps.{reported_skips, stays}
 use Rattle.js_lexer.proofs.reader.Reader.skip_reported.Goals as goal
+
+pub returns-then-not-is_module-clause-grown : goal.returns-then-not-is_module-clause-grown
+returns-then-not-is_module-clause-grown c = grows_none c.args.found.now
+
+pub returns-then-not-self-clause-grown : goal.returns-then-not-self-clause-grown
+returns-then-not-self-clause-grown c = grows_none c.args.found.now
+
+pub returns-in_err-push-clause-err : goal.returns-in_err-push-clause-err
+returns-in_err-push-clause-err c =
+    let p = err_from_is_err_and c.from_residual-in_err-push.result c.from_residual-in_err-push.ensures.1 in
+    let line =
+    subst (λ (b : Bool). SkipsMarkedLine HtmlOpen c.args.self.now c.args.found.now b c.skip_marked_line.new.self
+    c.skip_marked_line.new.found) c.if-not-branch.false c.in_ok-skip_marked_line.ensures.ok in
+    rw p.1
+    (stays c.args.self.now _ line.text line.stays.source_type (c.in_err-push.ensures.err ∙ line.stays.errors))
+
+pub skip_end_of_line-requires-clause-end : goal.skip_end_of_line-requires-clause-end
+skip_end_of_line-requires-clause-end c =
+    at_line_end HtmlOpen c.args.self.now c.args.found.now c.skip_marked_line.new.self c.skip_marked_line.new.found
+    (subst (λ (b : Bool). SkipsMarkedLine HtmlOpen c.args.self.now c.args.found.now b c.skip_marked_line.new.self
+    c.skip_marked_line.new.found) c.if-not-branch.false c.in_ok-skip_marked_line.ensures.ok)
+
+pub returns-in_err-skip_gap-clause-grown : goal.returns-in_err-skip_gap-clause-grown
+returns-in_err-skip_gap-clause-grown c =
+    grows_on c.args.found.now c.skip_end_of_line.new.found c.skip_gap.new.found
+    (grows_on c.args.found.now c.skip_marked_line.new.found c.skip_end_of_line.new.found
+    c.skip_marked_line.ensures.grown c.skip_end_of_line.ensures.grown) c.skip_gap.ensures.grown
 
 pub returns-clause-ok : goal.returns-clause-ok
 returns-clause-ok c =
-    reported_skips c.args.self.now _ c.skip_gap.new.self c.advance_if_reported.new.source c.offset-start.result
-    c.offset.result c.offset-start.ensures.placed c.offset.ensures.placed
-    c.if-not-advance_if_reported.ensures c.skip_line.ensures.text c.skip_line.ensures.rest c.offset-start.ensures.place
-    c.offset.ensures.place refl refl
+    let line =
+    subst (λ (b : Bool). SkipsMarkedLine HtmlOpen c.args.self.now c.args.found.now b c.skip_marked_line.new.self
+    c.skip_marked_line.new.found) c.if-not-branch.false c.in_ok-skip_marked_line.ensures.ok in
+    reported_skips c.args.self.now c.args.found.now c.skip_marked_line.new.self _ c.skip_marked_line.new.found
+    c.skip_gap.new.self c.skip_gap.new.found c.requires c.in_ok-skip_marked_line.ensures.placed
+    (sym c.is_module.ensures ∙ c.if-not-is_module.false) c.if-not-self.false line refl refl refl
     (c.in_ok-push.ensures.ok
-    ∙ ap (λ span. c.args.self.now.errors ++ HtmlCommentInModule span ∷ []) c.new-span.ensures)
-    c.skip_gap.ensures.skips
+    ∙ ap (λ span. c.skip_marked_line.new.self.errors ++ HtmlCommentInModule span ∷ [])
+    (c.sized-span.ensures
+    ∙ rw (c.offset-start.ensures.place, c.opening_length.ensures) refl))
+    (c.skip_end_of_line.ensures.ends.leads c.skip_gap.new.self c.skip_gap.new.found c.in_ok-skip_gap.ensures.ok)
+
+pub returns-clause-grown : goal.returns-clause-grown
+returns-clause-grown c =
+    grows_on c.args.found.now c.skip_end_of_line.new.found c.skip_gap.new.found
+    (grows_on c.args.found.now c.skip_marked_line.new.found c.skip_end_of_line.new.found
+    c.skip_marked_line.ensures.grown c.skip_end_of_line.ensures.grown) c.skip_gap.ensures.grown

@@ -1,0 +1,125 @@
+-- What pieces of gaps add to what was found.
+use Rattle.std.proofs.Common.{◌≡◌, ℕ, ◌+◌, Bool, List, [], ◌∷◌, ◌++◌, refl, sym, ◌∙◌, ap}
+use Rattle.std.proofs.Common.{append_assoc, append-nil, add-zero}
+use Rattle.js_text.specs.declared.diagnostic.Diagnostic.{Diagnostic}
+use Rattle.js_text.specs.declared.source_type.SourceType.{SourceType}
+use Rattle.js_grammar.specs.Gap.{Piece}
+use Rattle.js_grammar.specs.GapItems.{Item}
+use Rattle.js_grammar.specs.Outcome.{piece_deferred, gap_deferred, place_behind}
+use Rattle.js_grammar.specs.PieceItems.{piece_length, is_line_comment, items_of_kind, items_from}
+use Rattle.js_grammar.proofs.Reported.{piece_texts, place_behind-append}
+use Rattle.js_trivia.specs.Trivia.{Trivia, call, calls}
+use Rattle.js_lexer.specs.Gaps.{AddsPieces, Grows}
+use Rattle.js_lexer.specs.declared.found.GapFindings.{GapFindings}
+
+pub calls-append : (xs ys : List Item) (s : Trivia) → calls (xs ++ ys) s ≡ calls ys (calls xs s)
+calls-append [] ys s = refl
+calls-append (x ∷ xs) ys s = calls-append xs ys (call x s)
+
+pub grows_none : (found : GapFindings) → Grows found found
+grows_none found = record { more = []; deferred = sym (append-nil found.deferred); items = []; trivia = refl }
+
+pub grows_on : (a b c : GapFindings) → Grows a b → Grows b c → Grows a c
+grows_on a b c f g = record {
+  more = f.more ++ g.more;
+  deferred = g.deferred ∙ ap (λ ds. ds ++ g.more) f.deferred ∙ append_assoc a.deferred f.more g.more;
+  items = f.items ++ g.items;
+  trivia = g.trivia ∙ ap (calls g.items) f.trivia ∙ sym (calls-append f.items g.items a.trivia);
+}
+
+-- items alone
+pub grows_by : (a b : GapFindings) (items : List Item) → b.deferred ≡ a.deferred → b.trivia ≡ calls items a.trivia
+    → Grows a b
+grows_by a b items deferred trivia =
+    record { more = []; deferred = deferred ∙ sym (append-nil a.deferred); items = items; trivia = trivia }
+
+-- what is reported alone
+pub grows_reports : (a b : GapFindings) (more : List Diagnostic) → b.deferred ≡ a.deferred ++ more
+    → b.trivia ≡ a.trivia → Grows a b
+grows_reports a b more deferred trivia = record { more = more; deferred = deferred; items = []; trivia = trivia }
+
+pub adds_none : (behind : Bool) (t : SourceType) (place : ℕ) (found : GapFindings) → AddsPieces behind t place [] found
+    found
+adds_none behind t place found = record { deferred = sym (append-nil found.deferred); trivia = refl }
+
+-- a piece that adds these items, and reports nothing for the case of a module
+pub adds_items : (behind : Bool) (t : SourceType) (place : ℕ) (x : Piece) (a b : GapFindings) (items : List Item)
+    → items_of_kind x.kind place behind x ≡ items → piece_deferred t place x.kind ≡ []
+    → b.deferred ≡ a.deferred → b.trivia ≡ calls items a.trivia → AddsPieces behind t place (x ∷ []) a b
+adds_items behind t place x a b items same none deferred trivia = record {
+  deferred =
+      deferred ∙ sym (append-nil a.deferred)
+      ∙ ap (λ ds. a.deferred ++ ds) (sym (append-nil (piece_deferred t place x.kind) ∙ none));
+  trivia = trivia ∙ ap (λ is. calls is a.trivia) (sym (append-nil (items_of_kind x.kind place behind x) ∙ same));
+}
+
+-- a piece, and then more pieces
+pub adds_behind : (behind : Bool) (t : SourceType) (place : ℕ) (x : Piece) (xs : List Piece) (a b c : GapFindings)
+    → AddsPieces behind t place (x ∷ []) a b
+    → AddsPieces (is_line_comment x.kind) t (place + piece_length x) xs b c
+    → AddsPieces behind t place (x ∷ xs) a c
+adds_behind behind t place x xs a b c f g =
+    let items = items_of_kind x.kind place behind x in
+    let later = items_from (place + piece_length x) (is_line_comment x.kind) xs in
+    let reported = piece_deferred t place x.kind in
+    let later_reported = gap_deferred t (place_behind place x.text) xs in
+    record {
+      deferred =
+          g.deferred ∙ ap (λ ds. ds ++ later_reported) (f.deferred ∙ ap (λ ds. a.deferred ++ ds) (append-nil reported))
+          ∙ append_assoc a.deferred reported later_reported;
+      trivia =
+          g.trivia ∙ ap (calls later) (f.trivia ∙ ap (λ is. calls is a.trivia) (append-nil items))
+          ∙ sym (calls-append items later a.trivia);
+    }
+
+-- whether the last of the pieces is a line comment
+abbrev pub ends_line : Bool → List Piece → Bool
+ends_line behind [] = behind
+ends_line behind (x ∷ xs) = ends_line (is_line_comment x.kind) xs
+
+items_from-append : (place : ℕ) (behind : Bool) (xs ys : List Piece)
+    → items_from place behind (xs ++ ys)
+    ≡ items_from place behind xs ++ items_from (place_behind place (piece_texts xs)) (ends_line behind xs) ys
+items_from-append place behind [] ys = ap (λ p. items_from p behind ys) (sym (add-zero place))
+items_from-append place behind (x ∷ xs) ys =
+    let items = items_of_kind x.kind place behind x in
+    ap (λ is. items ++ is) (items_from-append (place_behind place x.text) (is_line_comment x.kind) xs ys)
+    ∙ ap (λ p. items
+    ++ (items_from (place_behind place x.text) (is_line_comment x.kind) xs
+    ++ items_from p (ends_line (is_line_comment x.kind) xs) ys))
+    (place_behind-append place x.text (piece_texts xs))
+    ∙ sym
+    (append_assoc items (items_from (place_behind place x.text) (is_line_comment x.kind) xs)
+    (items_from (place_behind place (x.text ++ piece_texts xs)) (ends_line (is_line_comment x.kind) xs) ys))
+
+gap_deferred-append : (t : SourceType) (place : ℕ) (xs ys : List Piece)
+    → gap_deferred t place (xs ++ ys)
+    ≡ gap_deferred t place xs ++ gap_deferred t (place_behind place (piece_texts xs)) ys
+gap_deferred-append t place [] ys = ap (λ p. gap_deferred t p ys) (sym (add-zero place))
+gap_deferred-append t place (x ∷ xs) ys =
+    ap (λ ds. piece_deferred t place x.kind ++ ds) (gap_deferred-append t (place_behind place x.text) xs ys)
+    ∙ ap (λ p. piece_deferred t place x.kind
+    ++ (gap_deferred t (place_behind place x.text) xs ++ gap_deferred t p ys))
+    (place_behind-append place x.text (piece_texts xs))
+    ∙ sym
+    (append_assoc (piece_deferred t place x.kind) (gap_deferred t (place_behind place x.text) xs)
+    (gap_deferred t (place_behind place (x.text ++ piece_texts xs)) ys))
+
+-- pieces, and then more pieces
+pub adds_further : (behind : Bool) (t : SourceType) (place : ℕ) (xs ys : List Piece) (a b c : GapFindings)
+    → AddsPieces behind t place xs a b
+    → AddsPieces (ends_line behind xs) t (place_behind place (piece_texts xs)) ys b c
+    → AddsPieces behind t place (xs ++ ys) a c
+adds_further behind t place xs ys a b c f g =
+    let behind_there = ends_line behind xs in
+    let there = place_behind place (piece_texts xs) in
+    record {
+      deferred =
+          g.deferred ∙ ap (λ ds. ds ++ gap_deferred t there ys) f.deferred
+          ∙ append_assoc a.deferred (gap_deferred t place xs) (gap_deferred t there ys)
+          ∙ ap (λ ds. a.deferred ++ ds) (sym (gap_deferred-append t place xs ys));
+      trivia =
+          g.trivia ∙ ap (calls (items_from there behind_there ys)) f.trivia
+          ∙ sym (calls-append (items_from place behind xs) (items_from there behind_there ys) a.trivia)
+          ∙ ap (λ is. calls is a.trivia) (sym (items_from-append place behind xs ys));
+    }

@@ -1,0 +1,15 @@
+use Rattle.std.proofs.Common.{refl}
+use Rattle.js_lexer.proofs.GoalSteps.{name_goal, name_ordered}
+use Rattle.js_lexer.proofs.reader.Reader.read_jsx_name.Goals as goal
+
+pub token_from-requires : goal.token_from-requires
+token_from-requires c =
+    name_ordered c.args.start c.args.self.now c.read_jsx_identifier.new.source c.requires.placed
+    c.read_jsx_identifier.ensures.placed c.requires.boundary c.requires.ordered
+    c.if-not-read_jsx_identifier.ensures.reads
+
+pub returns-clause-reads : goal.returns-clause-reads
+returns-clause-reads c =
+    name_goal c.args.start c.args.self.now (record c.args.self.now { source = c.read_jsx_identifier.new.source })
+    c.token_from.result c.requires.placed c.read_jsx_identifier.ensures.placed c.requires.boundary c.requires.ordered
+    c.if-not-read_jsx_identifier.ensures.reads refl refl c.token_from.ensures
