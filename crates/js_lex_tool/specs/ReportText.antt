@@ -2,7 +2,9 @@
 use Rattle.std.specs.Prelude.{ℕ, ◌+◌, Bool, true, false, List, [], ◌∷◌, ◌++◌, codes, Option, Some, None, slice_range}
 use Rattle.std.specs.Fmt.{decimal}
 use Rattle.std.specs.List.{flat_map}
+use Rattle.js_text.specs.Comment.{comment_kind_name, comment_position_name, comment_content_name}
 use Rattle.js_text.specs.Diagnostic.{diagnostic_name, diagnostic_span, diagnostic_character}
+use Rattle.js_text.specs.declared.comment.Comment.{Comment}
 use Rattle.js_text.specs.declared.diagnostic.Diagnostic.{Diagnostic}
 use Rattle.js_text.specs.declared.span.Span.{Span}
 use Rattle.js_kind.specs.Kinds.{kind_name}
@@ -90,7 +92,26 @@ diagnostic_text d =
 abbrev pub diagnostic_line : List ℕ → Diagnostic → List ℕ
 diagnostic_line label d = label ++ codes " " ++ diagnostic_text d ++ 10 ∷ []
 
--- The text of a report: its rows, then what is live. No session reports comments or irregular white space yet.
+-- a comment: its span, its kind and its position
+unfoldable pub comment_head : Comment → List ℕ
+comment_head c =
+    codes "comment " ++ decimal c.span.start ++ codes ".." ++ decimal c.span.end ++ codes " "
+    ++ comment_kind_name c.kind ++ codes " " ++ comment_position_name c.position
+
+-- and then the place of its token, whether lines end before and behind it, and its class
+unfoldable pub comment_rest : Comment → List ℕ
+comment_rest c =
+    codes " " ++ decimal c.attached_to ++ codes " " ++ bit_text c.preceded ++ codes " " ++ bit_text c.followed
+    ++ codes " " ++ comment_content_name c.content
+
+abbrev pub comment_line : Comment → List ℕ
+comment_line c = comment_head c ++ comment_rest c ++ 10 ∷ []
+
+-- irregular white space
+abbrev pub irregular_line : Span → List ℕ
+irregular_line span = codes "irregular " ++ span_text span.start span.end ++ 10 ∷ []
+
+-- The text of a report: its rows, then what is live.
 abbrev pub report_text_of : List ℕ → Report → List ℕ
 report_text_of source report =
     row_lines source 0 report.rows
@@ -98,3 +119,5 @@ report_text_of source report =
     ++ flat_map (token_line (codes "collected")) report.collected
     ++ flat_map (diagnostic_line (codes "diagnostic")) report.diagnostics
     ++ flat_map (diagnostic_line (codes "deferred")) report.deferred
+    ++ flat_map comment_line report.comments
+    ++ flat_map irregular_line report.irregular

@@ -6,12 +6,13 @@ ghost use Rattle.js_lex_tool.specs.Command.{command_word};
 use js_session::Command;
 
 /// Each command once.
-pub const COMMANDS: [Command; 5] = [
+pub const COMMANDS: [Command; 6] = [
     Command::Next,
     Command::Peek,
     Command::Mark,
     Command::Rewind,
     Command::Commit,
+    Command::TemplateTail,
 ];
 
 /// The word for a command, in the program's words and in its reports.
@@ -24,5 +25,6 @@ pub fn command_word(command: Command) -> &'static str
         Command::Mark => "mark",
         Command::Rewind => "rewind",
         Command::Commit => "commit",
+        Command::TemplateTail => "template",
     }
 }

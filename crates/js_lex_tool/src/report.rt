@@ -6,12 +6,13 @@ ghost use Rattle.js_session.specs.Report.{IsSliceOnPlaces};
 ghost use Rattle.js_lex_tool.specs.ReportText.{flags_text, token_text, step_name, bit_text, row_head, value_text};
 ghost use Rattle.js_lex_tool.specs.ReportText.{row_line, row_lines, token_line, span_or_dash, named_character};
 ghost use Rattle.js_lex_tool.specs.ReportText.{diagnostic_text, diagnostic_line, report_text_of};
+ghost use Rattle.js_lex_tool.specs.ReportText.{comment_head, comment_rest, comment_line, irregular_line};
 
 use crate::command::command_word;
 use crate::units::{push_number, push_text_in_units, push_units};
 use js_kind::Token;
 use js_session::{Command, Report, Row, RowValue};
-use js_text::{Diagnostic, Span};
+use js_text::{Comment, Diagnostic, Span};
 use std::alloc::{AllocError, Global};
 use std::fmt::Write;
 
@@ -186,8 +187,65 @@ fn push_diagnostics(
     Ok(())
 }
 
-/// The text of a report: a line for each row, each live token, each collected one and each live diagnostic.
-/// No session reports comments, irregular white space or regular expressions yet, so there are no lines for them.
+#[tactic(auto, unfolding(crate::specs::ReportText::comment_head))]
+fn push_comment_head(text: &mut String, comment: &Comment) -> Result<(), AllocError>
+    ensures { OnOk result (string_bytes text.new ≡ string_bytes text.old ++ comment_head comment.now) }
+{
+    let start = comment.span.start;
+    let end = comment.span.end;
+    let kind = comment.kind.name();
+    let position = comment.position.name();
+    write!(text, "comment {start}..{end} {kind} {position}")
+}
+
+#[tactic(auto, unfolding(crate::specs::ReportText::comment_rest))]
+fn push_comment_rest(text: &mut String, comment: &Comment) -> Result<(), AllocError>
+    ensures { OnOk result (string_bytes text.new ≡ string_bytes text.old ++ comment_rest comment.now) }
+{
+    let attached_to = comment.attached_to;
+    let preceded = bit(comment.preceded);
+    let followed = bit(comment.followed);
+    let content = comment.content.name();
+    write!(text, " {attached_to} {preceded} {followed} {content}")
+}
+
+fn push_comment(text: &mut String, comment: &Comment) -> Result<(), AllocError>
+    ensures { OnOk result (string_bytes text.new ≡ string_bytes text.old ++ comment_line comment.now) }
+{
+    push_comment_head(text, comment)?;
+    push_comment_rest(text, comment)?;
+    text.push_str("\n")
+}
+
+fn push_comments(text: &mut String, comments: &[Comment]) -> Result<(), AllocError>
+    ensures { OnOk result (string_bytes text.new ≡ string_bytes text.old ++ flat_map comment_line comments.now) }
+{
+    for comment in comments {
+        push_comment(text, comment)?;
+    }
+    Ok(())
+}
+
+fn push_irregular(text: &mut String, span: &Span) -> Result<(), AllocError>
+    ensures { OnOk result (string_bytes text.new ≡ string_bytes text.old ++ irregular_line span.now) }
+{
+    text.push_str("irregular ")?;
+    push_span(text, Some(*span))?;
+    text.push_str("\n")
+}
+
+fn push_all_irregular(text: &mut String, spans: &[Span]) -> Result<(), AllocError>
+    ensures { OnOk result (string_bytes text.new ≡ string_bytes text.old ++ flat_map irregular_line spans.now) }
+{
+    for span in spans {
+        push_irregular(text, span)?;
+    }
+    Ok(())
+}
+
+/// The text of a report: a line for each row, each live token, each collected one, each live diagnostic, each deferred
+/// one, each live comment, and each live stretch of irregular white space. No session reads regular expressions yet, so
+/// there is nothing of them.
 pub fn report_text(alloc: Global, source: &str, report: &Report) -> Result<String, AllocError>
     requires { AllByRecursion (λ row. IsSliceOnPlaces source.now row.value) report.now.rows }
     ensures { IfOk result (λ text. string_bytes text ≡ report_text_of source.now report.now) }
@@ -198,5 +256,7 @@ pub fn report_text(alloc: Global, source: &str, report: &Report) -> Result<Strin
     push_tokens(&mut text, "collected", report.collected.as_slice())?;
     push_diagnostics(&mut text, "diagnostic", report.diagnostics.as_slice())?;
     push_diagnostics(&mut text, "deferred", report.deferred.as_slice())?;
+    push_comments(&mut text, report.comments.as_slice())?;
+    push_all_irregular(&mut text, report.irregular.as_slice())?;
     Ok(text)
 }

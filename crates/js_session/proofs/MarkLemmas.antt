@@ -8,13 +8,13 @@ use Rattle.js_text.specs.Lists.{with_last}
 use Rattle.js_text.specs.declared.source_type.SourceType.{SourceType}
 use Rattle.js_grammar.specs.Outcome.{Findings, FindingLengths, Outcome, joined, cut_to, lengths_of, AreWithin}
 use Rattle.js_kind.specs.TokenParts.{TokenParts}
-use Rattle.js_lexer.specs.Lexer.{LexerState, IsRestored, GoesOnFrom, checkpoint_of, put_back}
+use Rattle.js_lexer.specs.Lexer.{LexerState, GoesOnFrom, checkpoint_of, put_back}
 use Rattle.js_lexer.proofs.LexerSteps.{put_back_last}
-use Rattle.js_session.specs.Live.{Live, with_outcome}
-use Rattle.js_session.specs.Marks.{front, fronts, lexer_behind, IsMark, AreMarks}
+use Rattle.js_session.specs.Live.{Live, with_outcome, with_re_lexed}
+use Rattle.js_session.specs.Marks.{front, fronts, lexer_behind, lexer_at, IsAlike, IsMark, AreMarks}
 use Rattle.js_session.specs.declared.mark.SessionMark.{SessionMark}
 use Rattle.js_session.proofs.LexerLemmas.{goes_on-trans, can_rewind-on, begins_alike-refl}
-use Rattle.js_session.proofs.LiveLemmas.{same_live, last_none, goes_on-behind}
+use Rattle.js_session.proofs.LiveLemmas.{same_live, last_none, goes_on-behind, goes_on-behind_re_lexed, IsReplaced}
 
 -- findings that have grown, cut back
 cut_to-joined-le : (l : FindingLengths) (f g : Findings) → AreWithin l f → cut_to l (joined f g) ≡ cut_to l f
@@ -115,11 +115,23 @@ front_front text t c now m x is other =
     other.can_rewind.findings)
 
 -- the front of what is live with one more outcome
-front-outcome : (text : List ℕ) (t : SourceType) (c : Bool) (now : Live) (m : SessionMark) (o : Outcome)
+front-outcome : (text : List ℕ) (t : SourceType) (c : Bool) (now : Live) (o : Outcome) (m : SessionMark)
     → IsMark text t c now m → front (with_outcome now o) m ≡ front now m
-front-outcome text t c now m o is =
+front-outcome text t c now o m is =
     same_live (front (with_outcome now o) m) (front now m)
     (ap (λ l. put_back l m.checkpoint.last) (take-append-le m.tokens now.tokens (o.token ∷ []) is.tokens))
+    (cut_to-joined-le m.checkpoint.lengths now.findings o.findings is.can_rewind.findings)
+
+-- and of what is live with its last token read again
+front-re_lexed : (text : List ℕ) (t : SourceType) (c : Bool) (now : Live) (o : Outcome) (m : SessionMark)
+    → IsMark text t c now m → front (with_re_lexed now o) m ≡ front now m
+front-re_lexed text t c now o m is =
+    let whole : take (length now.tokens) now.tokens ≡ now.tokens =
+    take_all (length now.tokens) now.tokens (omega arith) in
+    same_live (front (with_re_lexed now o) m) (front now m)
+    (ap (λ l. put_back (take m.tokens (with_last l o.token)) m.checkpoint.last) (sym whole)
+    ∙ put_back-take m.tokens (length now.tokens) now.tokens (Some o.token) m.checkpoint.last is.tokens
+    (none_at text t c now m is))
     (cut_to-joined-le m.checkpoint.lengths now.findings o.findings is.can_rewind.findings)
 
 -- a mark stays one where the lexer has gone on and its front is the same
@@ -128,30 +140,66 @@ mark-on : (text : List ℕ) (t : SourceType) (c : Bool) (a b : Live) (m : Sessio
     → front b m ≡ front a m → m.tokens ≤ length b.tokens → IsMark text t c b m
 mark-on text t c a b m is on same within = record {
   tokens = within;
-  checkpoint = is.checkpoint ∙ ap (λ l. checkpoint_of (lexer_behind text t c l)) (sym same);
+  checkpoint = is.checkpoint ∙ ap (λ l. checkpoint_of (lexer_at text t c m l)) (sym same);
   goes_on =
       subst (λ l. GoesOnFrom (lexer_behind text t c l) (lexer_behind text t c b)) (sym same)
       (goes_on-trans _ _ _ is.goes_on on);
   can_rewind = can_rewind-on _ _ m.checkpoint is.can_rewind on;
 }
 
-pub marks-outcome : (text : List ℕ) (t : SourceType) (c : Bool) (now : Live) (o : Outcome) (ms : List SessionMark)
-    → AreMarks text t c now ms
-    → AreMarks text t c (with_outcome now o) ms
-marks-outcome text t c now o [] h = tt
-marks-outcome text t c now o (m ∷ ms) h =
-    let same = front-outcome text t c now m o h.0 in
-    let within : m.tokens ≤ length (now.tokens ++ o.token ∷ []) =
-    omega (arith, h.0.tokens, length-append now.tokens (o.token ∷ [])) in (
-      mark-on text t c now (with_outcome now o) m h.0 (goes_on-behind text t c now o) same within,
+-- marks stay marks of what was live, where the lexer has gone on and the front of each is the same
+record StayMarks (text : List ℕ) (t : SourceType) (c : Bool) (a b : Live) : Type 0 where
+  pub goes_on : GoesOnFrom (lexer_behind text t c a) (lexer_behind text t c b)
+  pub fronts_stay : (m : SessionMark) → IsMark text t c a m → front b m ≡ front a m
+  pub longer : length a.tokens ≤ length b.tokens
+
+marks-on : (text : List ℕ) (t : SourceType) (c : Bool) (a b : Live) (ms : List SessionMark) → StayMarks text t c a b
+    → AreMarks text t c a ms → AreMarks text t c b ms
+marks-on text t c a b [] s h = tt
+marks-on text t c a b (m ∷ ms) s h =
+    let same = s.fronts_stay m h.0 in (
+      mark-on text t c a b m h.0 s.goes_on same (omega (arith, h.0.tokens, s.longer)),
       subst (λ l. AreMarks text t c l ms) (sym same) h.1,
     )
 
+fronts-on : (text : List ℕ) (t : SourceType) (c : Bool) (a b : Live) (ms : List SessionMark) → StayMarks text t c a b
+    → AreMarks text t c a ms → fronts b ms ≡ fronts a ms
+fronts-on text t c a b [] s h = refl
+fronts-on text t c a b (m ∷ ms) s h = ap (λ l. l ∷ fronts l ms) (s.fronts_stay m h.0)
+
+stay-outcome : (text : List ℕ) (t : SourceType) (c : Bool) (now : Live) (o : Outcome)
+    → StayMarks text t c now (with_outcome now o)
+stay-outcome text t c now o = record {
+  goes_on = goes_on-behind text t c now o;
+  fronts_stay = front-outcome text t c now o;
+  longer = omega (arith, length-append now.tokens (o.token ∷ []));
+}
+
+stay-re_lexed : (text : List ℕ) (t : SourceType) (c : Bool) (now : Live) (o : Outcome) → IsReplaced now o
+    → StayMarks text t c now (with_re_lexed now o)
+stay-re_lexed text t c now o r = record {
+  goes_on = goes_on-behind_re_lexed text t c now o r;
+  fronts_stay = front-re_lexed text t c now o;
+  longer = omega (arith, length-with_last now.tokens o.token);
+}
+
+pub marks-outcome : (text : List ℕ) (t : SourceType) (c : Bool) (now : Live) (o : Outcome) (ms : List SessionMark)
+    → AreMarks text t c now ms → AreMarks text t c (with_outcome now o) ms
+marks-outcome text t c now o ms h = marks-on text t c now (with_outcome now o) ms (stay-outcome text t c now o) h
+
 pub fronts-outcome : (text : List ℕ) (t : SourceType) (c : Bool) (now : Live) (o : Outcome) (ms : List SessionMark)
-    → AreMarks text t c now ms
-    → fronts (with_outcome now o) ms ≡ fronts now ms
-fronts-outcome text t c now o [] h = refl
-fronts-outcome text t c now o (m ∷ ms) h = ap (λ l. l ∷ fronts l ms) (front-outcome text t c now m o h.0)
+    → AreMarks text t c now ms → fronts (with_outcome now o) ms ≡ fronts now ms
+fronts-outcome text t c now o ms h = fronts-on text t c now (with_outcome now o) ms (stay-outcome text t c now o) h
+
+pub marks-re_lexed : (text : List ℕ) (t : SourceType) (c : Bool) (now : Live) (o : Outcome) (ms : List SessionMark)
+    → IsReplaced now o → AreMarks text t c now ms → AreMarks text t c (with_re_lexed now o) ms
+marks-re_lexed text t c now o ms r h =
+    marks-on text t c now (with_re_lexed now o) ms (stay-re_lexed text t c now o r) h
+
+pub fronts-re_lexed : (text : List ℕ) (t : SourceType) (c : Bool) (now : Live) (o : Outcome) (ms : List SessionMark)
+    → IsReplaced now o → AreMarks text t c now ms → fronts (with_re_lexed now o) ms ≡ fronts now ms
+fronts-re_lexed text t c now o ms r h =
+    fronts-on text t c now (with_re_lexed now o) ms (stay-re_lexed text t c now o r) h
 
 -- The marks before a mark are marks of what is live now.
 pub marks-commit : (text : List ℕ) (t : SourceType) (c : Bool) (now : Live) (m : SessionMark) (ms : List SessionMark)
@@ -176,7 +224,7 @@ length-fronts now (m ∷ ms) = ap (λ n. suc n) (length-fronts (front now m) ms)
 -- all that is live, with its last token in its place
 pub front_all : (now : Live) (m : SessionMark) (lexer : LexerState) (text : List ℕ) (t : SourceType) (c : Bool)
     → m.tokens ≡ length now.tokens → m.checkpoint ≡ checkpoint_of lexer
-    → IsRestored (lexer_behind text t c now) lexer → front now m ≡ now
+    → IsAlike (lexer_behind text t c now) lexer → front now m ≡ now
 front_all now m lexer text t c tokens point behind =
     let last = ap (λ x. x.last) point ∙ behind.last in
     let lengths = ap (λ x. x.lengths) point ∙ ap lengths_of behind.findings in
@@ -192,7 +240,7 @@ all-take P zero xs h = tt
 all-take P (suc k) [] h = tt
 all-take P (suc k) (x ∷ xs) h = (h.0, all-take P k xs h.1)
 
-all-with_last : {X : Type 0} (P : X → Type 0) (xs : List X) (y : X) → AllByRecursion P xs → P y
+pub all-with_last : {X : Type 0} (P : X → Type 0) (xs : List X) (y : X) → AllByRecursion P xs → P y
     → AllByRecursion P (with_last xs y)
 all-with_last P [] y h p = tt
 all-with_last P (x ∷ []) y h p = (p, tt)

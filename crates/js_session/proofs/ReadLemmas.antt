@@ -9,48 +9,111 @@ use Rattle.js_text.specs.declared.source_type.SourceType.{SourceType}
 use Rattle.js_text.specs.Characters.{from_place}
 use Rattle.js_text.specs.declared.value.RowValue.{RowValue}
 use Rattle.js_text.specs.declared.value.RowValue.TheVariants.{Nothing, Slice, Units}
-use Rattle.js_grammar.specs.Goals.{GoalReads}
-use Rattle.js_grammar.specs.Goals.GoalReads.{hashbang, behind_gap}
-use Rattle.js_grammar.specs.Outcome.{Findings, Outcome, reports, joined}
+use Rattle.js_grammar.specs.Goals.{GoalReads, ReadsPlainly}
+use Rattle.js_grammar.specs.Goals.ReadsPlainly.{hashbang, behind_gap}
+use Rattle.js_grammar.specs.Outcome.{Findings, FindingLengths, Outcome, joined, lengths_of, found_since}
 use Rattle.js_grammar.specs.Spelling.{is_valued, text_start, text_end}
 use Rattle.js_grammar.specs.Values.{IsValueOf, HasText, decoded_units, template_units, template_row_value}
 use Rattle.js_grammar.specs.declared.goal.Goal.{Goal}
+use Rattle.js_grammar.specs.declared.goal.Goal.TheVariants.{First, Next as NextGoal, TemplateTail as TailGoal}
+use Rattle.js_grammar.specs.declared.goal.Goal.TheVariants.{RegularExpression, RightAngle, TypeScriptLeftAngle}
+use Rattle.js_grammar.specs.declared.goal.Goal.TheVariants.{TypeScriptRightAngle, JsxIdentifier, JsxChild}
+use Rattle.js_grammar.specs.declared.goal.Goal.TheVariants.{JsxAttributeValue}
 use Rattle.js_grammar.proofs.Values.{goal_reads_value}
 use Rattle.js_kind.specs.Kinds.{is_template_kind}
 use Rattle.js_kind.specs.TokenParts.{TokenParts}
 use Rattle.js_lexer.specs.Decoded.{Values, value_of, IsKeptAs, HasValue}
-use Rattle.js_lexer.specs.Lexer.{LexerState, IsRestored, IsOnPlaces, ReadsToken, Checkpoint, checkpoint_of}
+use Rattle.js_lexer.specs.Lexer.{LexerState, IsRestored, IsOnPlaces, ReadsToken, ReadsAgain, ReadsOutcome}
+use Rattle.js_lexer.specs.Lexer.{Checkpoint, checkpoint_of}
 use Rattle.js_lexer.proofs.LexerSteps.{reading_goes_on}
 use Rattle.js_session.specs.declared.command.Command.{Command}
 use Rattle.js_session.specs.declared.row.Row.{Row}
 use Rattle.js_session.specs.Effects.{row_effect}
 use Rattle.js_session.specs.Live.{Live, outcome_of}
-use Rattle.js_session.specs.Marks.{lexer_behind}
-use Rattle.js_session.specs.Report.{IsRow, IsRead, IsOfEffect, LiesOnPlaces, IsSliceOnPlaces}
+use Rattle.js_session.specs.Marks.{lexer_behind, IsAlike}
+use Rattle.js_session.specs.Report.{IsRow, IsRead, IsOfEffect, LiesOnPlaces, IsSliceOnPlaces, fits}
+use Rattle.js_grammar.specs.Reads.{is_plain}
+use Rattle.js_lexer.specs.Lexer.{token_or_default}
 use Rattle.js_session.specs.RowReader.{RowReaderState, ReadsRow, AddsLive, AddsPeek, GoesBack}
-use Rattle.js_session.specs.RowReader.{IsKept, HoldsUnits, HoldsPart, HoldsKept, HoldsValue}
+use Rattle.js_session.specs.RowReader.{IsMadeOf, ReadsRowAgain, IsKept, HoldsUnits, HoldsPart, HoldsKept, HoldsValue}
 
--- no reading finds a regular expression
-regex_none : (text : List ℕ) (t : SourceType) (goal : Goal) (before : Option TokenParts) (place : ℕ) (o : Outcome)
-    → GoalReads text t goal before place o → o.regex ≡ None
-regex_none text t goal before place o (hashbang begins read) = ap (λ x. x.regex) read.alone
-regex_none text t goal before place o (behind_gap begins read) = ap (λ x. x.regex) read.outcome_is
+-- no plain reading finds a regular expression
+plain_regex : (text : List ℕ) (t : SourceType) (goal : Goal) (before : Option TokenParts) (place : ℕ) (o : Outcome)
+    → ReadsPlainly text t goal before place o → o.regex ≡ None
+plain_regex text t goal before place o (hashbang begins read) = ap (λ x. x.regex) read.alone
+plain_regex text t goal before place o (behind_gap begins read) = ap (λ x. x.regex) read.outcome_is
+
+plain_goal_regex : (text : List ℕ) (t : SourceType) (goal : Goal) (before : Option TokenParts) (place : ℕ) (o : Outcome)
+    → is_plain goal ≡ true → GoalReads text t goal before place o → o.regex ≡ None
+plain_goal_regex text t First before place o plain reads = plain_regex text t First before place o reads
+plain_goal_regex text t NextGoal before place o plain reads = plain_regex text t NextGoal before place o reads
+plain_goal_regex text t TailGoal before place o plain reads = absurd (cc)
+plain_goal_regex text t RegularExpression before place o plain reads = absurd (cc)
+plain_goal_regex text t RightAngle before place o plain reads = absurd (cc)
+plain_goal_regex text t TypeScriptLeftAngle before place o plain reads = absurd (cc)
+plain_goal_regex text t TypeScriptRightAngle before place o plain reads = absurd (cc)
+plain_goal_regex text t JsxIdentifier before place o plain reads = absurd (cc)
+plain_goal_regex text t JsxChild before place o plain reads = absurd (cc)
+plain_goal_regex text t JsxAttributeValue before place o plain reads = absurd (cc)
+
+-- nor does a part of a template
+part_regex : (text : List ℕ) (t : SourceType) (goal : Goal) (before : Option TokenParts) (place : ℕ) (o : Outcome)
+    → fits goal (token_or_default before) ≡ true → GoalReads text t goal before place o → o.regex ≡ None
+part_regex text t First before place o fit reads = absurd (cc)
+part_regex text t NextGoal before place o fit reads = absurd (cc)
+part_regex text t TailGoal None place o fit reads = absurd reads
+part_regex text t TailGoal (Some token) place o fit reads = ap (λ x. x.regex) reads.outcome_is
+part_regex text t RegularExpression before place o fit reads = absurd (cc)
+part_regex text t RightAngle before place o fit reads = absurd (cc)
+part_regex text t TypeScriptLeftAngle before place o fit reads = absurd (cc)
+part_regex text t TypeScriptRightAngle before place o fit reads = absurd (cc)
+part_regex text t JsxIdentifier before place o fit reads = absurd (cc)
+part_regex text t JsxChild before place o fit reads = absurd (cc)
+part_regex text t JsxAttributeValue before place o fit reads = absurd (cc)
+
+-- what a lexer made of an outcome, whether it read on or read its last token again
+pub record IsReadingOf (goal : Goal) (old : LexerState) (token : TokenParts) (new : LexerState) (o : Outcome)
+    : Type 0 where
+  pub token_is : token ≡ o.token
+  pub reads : ReadsOutcome goal old o
+  pub findings : new.findings ≡ joined old.findings o.findings
+  pub has_value : HasValue old.text new.decoded token
+  pub no_regex : o.regex ≡ None
+
+pub on : (goal : Goal) (old new : LexerState) (token : TokenParts) → is_plain goal ≡ true
+    → (r : ReadsToken goal old token new) → IsReadingOf goal old token new r.outcome
+on goal old new token plain r = record {
+  token_is = r.token_is;
+  reads = r.reads;
+  findings = r.after.findings;
+  has_value = r.has_value;
+  no_regex = plain_goal_regex old.text old.source_type goal old.last old.place r.outcome plain r.reads.reads;
+}
+
+pub again : (goal : Goal) (old new : LexerState) (token : TokenParts) → fits goal (token_or_default old.last) ≡ true
+    → (r : ReadsAgain goal old token new) → IsReadingOf goal old token new r.outcome
+again goal old new token fit r = record {
+  token_is = r.token_is;
+  reads = r.reads;
+  findings = r.after.findings;
+  has_value = r.has_value;
+  no_regex = part_regex old.text old.source_type goal old.last old.place r.outcome fit r.reads.reads;
+}
 
 same_outcome : (a b : Outcome) → a.token ≡ b.token → a.value ≡ b.value → a.regex ≡ b.regex → a.findings ≡ b.findings
     → a ≡ b
 same_outcome a b e1 e2 e3 e4 = rw (e1, e2, e3, e4) refl
 
--- what was found is what was reported since
-found_since_is : (before found : Findings) (old new : List Diagnostic) → before ≡ reports old
-    → joined before found ≡ reports new → reports (drop (length old) new) ≡ found
-found_since_is before found old new is now =
-    let whole : joined (reports old) found ≡ reports new = ap (λ f. joined f found) (sym is) ∙ now in
-    let diagnostics : drop (length old) new ≡ found.diagnostics =
-    ap (drop (length old)) (sym (ap (λ f. f.diagnostics) whole)) ∙ drop-append_seam old found.diagnostics in
-    let deferred : found.deferred ≡ [] = ap (λ f. f.deferred) whole in
-    let comments : found.comments ≡ [] = ap (λ f. f.comments) whole in
-    let irregular : found.irregular ≡ [] = ap (λ f. f.irregular) whole in
-    rw (diagnostics, ← deferred, ← comments, ← irregular) refl
+-- what was found is what was found since
+found_since_is : (before found after : Findings) → after ≡ joined before found
+    → found_since (lengths_of before) after ≡ found
+found_since_is before found after e =
+    ap (found_since (lengths_of before)) e ∙ rw (
+      drop-append_seam before.diagnostics found.diagnostics,
+      drop-append_seam before.deferred found.deferred,
+      drop-append_seam before.comments found.comments,
+      drop-append_seam before.irregular found.irregular,
+    ) refl
 
 -- a token has one value
 one_value : (text : List ℕ) (token : TokenParts) (a b : RowValue) → IsValueOf text token a → IsValueOf text token b
@@ -96,26 +159,29 @@ pub is_kept : (template : Bool) (decoded : Values) (start : ℕ) (here : List �
 is_kept true decoded start here kept = ap is_some kept
 is_kept false decoded start here kept = ap is_some kept
 
--- the outcome of a row that was made of a token, its value, and what was reported since
-pub made_outcome : (goal : Goal) (old new : LexerState) (token : TokenParts) (value : RowValue)
-    (errors errors' : List Diagnostic) (row : Outcome)
-    → IsUtf8 old.text → (r : ReadsToken goal old token new) → HoldsValue new.decoded token value
-    → old.findings ≡ reports errors → new.findings ≡ reports errors'
+-- the outcome that a row of a token holds: its value, and what was reported since
+made_outcome : (goal : Goal) (old new : LexerState) (token : TokenParts) (value : RowValue)
+    (row o : Outcome)
+    → IsUtf8 old.text → IsReadingOf goal old token new o → HoldsValue new.decoded token value
     → row
-    ≡ record { token = token; value = value; regex = None; findings = reports (drop (length errors) errors') }
-    → row ≡ r.outcome
-made_outcome goal old new token value errors errors' row u r held before after made =
+    ≡ record {
+      token = token;
+      value = value;
+      regex = None;
+      findings = found_since (lengths_of old.findings) new.findings;
+    }
+    → row ≡ o
+made_outcome goal old new token value row o u r held made =
     let reads = r.reads.reads in
     let here : IsValueOf old.text token value = held_value old.text new.decoded token value r.has_value held in
-    let there : IsValueOf old.text r.outcome.token r.outcome.value =
-    goal_reads_value old.text old.source_type goal old.last old.place r.outcome u reads in
-    let same : value ≡ r.outcome.value =
-    one_value old.text token value r.outcome.value here
-    (subst (λ t. IsValueOf old.text t r.outcome.value) (sym r.token_is) there) in
-    let regex : None ≡ r.outcome.regex =
-    sym (regex_none old.text old.source_type goal old.last old.place r.outcome reads) in
-    let found = found_since_is old.findings r.outcome.findings errors errors' before (sym r.after.findings ∙ after) in
-    made ∙ same_outcome _ r.outcome r.token_is same regex found
+    let there : IsValueOf old.text o.token o.value =
+    goal_reads_value old.text old.source_type goal old.last old.place o u reads in
+    let same : value ≡ o.value =
+    one_value old.text token value o.value here
+    (subst (λ t. IsValueOf old.text t o.value) (sym r.token_is) there) in
+    let regex : None ≡ o.regex = sym r.no_regex in
+    let found = found_since_is old.findings o.findings new.findings r.findings in
+    made ∙ same_outcome _ o r.token_is same regex found
 
 -- the value of a token without an escape lies on places, if its text does
 plain_lies : (valued : Bool) (text : List ℕ) (start end : ℕ) → IsCharBoundary text start → IsCharBoundary text end
@@ -146,44 +212,96 @@ value_lies text token value lies is = by_flag token.escaped refl
         (plain_lies (is_valued token.kind) text (text_start token.kind token.start) (text_end token.kind token.end)
         lies.start lies.end lies.ordered)
 
--- and so a row that was made of a token lies on places
-pub made_lies : (goal : Goal) (old new : LexerState) (row : Row) → IsUtf8 old.text
-    → (r : ReadsToken goal old row.token new) → outcome_of row ≡ r.outcome → LiesOnPlaces old.text row
-made_lies goal old new row u r is =
+-- and so does a row of an outcome
+row_lies : (goal : Goal) (old : LexerState) (row : Row) (o : Outcome) → IsUtf8 old.text → ReadsOutcome goal old o
+    → outcome_of row ≡ o → LiesOnPlaces old.text row
+row_lies goal old row o u reads is =
     let text = old.text in
-    let token : row.token ≡ r.outcome.token = r.token_is in
-    let value : IsValueOf text r.outcome.token r.outcome.value =
-    goal_reads_value text old.source_type goal old.last old.place r.outcome u r.reads.reads in
+    let value : IsValueOf text o.token o.value =
+    goal_reads_value text old.source_type goal old.last old.place o u reads.reads in
     record {
-      token = subst (IsOnPlaces text) (sym token) r.reads.places;
+      token = subst (IsOnPlaces text) (sym (ap (λ x. x.token) is)) reads.places;
       value =
           subst (IsSliceOnPlaces text) (sym (ap (λ x. x.value) is))
-          (value_lies text r.outcome.token r.outcome.value r.reads.text_lies value);
+          (value_lies text o.token o.value reads.text_lies value);
     }
 
--- a row that was made of a token
-pub made_row : (goal : Goal) (command : Option Command) (old new : LexerState) (errors errors' : List Diagnostic)
-    (row : Row) → IsUtf8 old.text → ReadsToken goal old row.token new → HoldsValue new.decoded row.token row.value
-    → old.findings ≡ reports errors → new.findings ≡ reports errors' → row.command ≡ command → row.place ≡ old.place
-    → row.taken ≡ true
-    → outcome_of row
-    ≡ record {
-      token = row.token;
-      value = row.value;
-      regex = None;
-      findings = reports (drop (length errors) errors');
-    }
-    → ReadsRow goal command old row new
-made_row goal command old new errors errors' row u r held before after command_is place taken made =
-    let is = made_outcome goal old new row.token row.value errors errors' (outcome_of row) u r held before after made in
+-- A row was made of a token that was read from the place.
+pub record MadeRow (command : Option Command) (place : ℕ) (old : LexerState) (row : Row) (token : TokenParts)
+    (o : Outcome) : Type 0 where
+  pub token_is : token ≡ row.token
+  pub outcome_is : outcome_of row ≡ o
+  pub command_is : row.command ≡ command
+  pub place_is : row.place ≡ place
+  pub taken : row.taken ≡ true
+  pub places : LiesOnPlaces old.text row
+
+made : (goal : Goal) (command : Option Command) (old new : LexerState) (place : ℕ)
+    (token : TokenParts) (row : Row) (o : Outcome)
+    → IsUtf8 old.text → IsReadingOf goal old token new o
+    → IsMadeOf command place (lengths_of old.findings) token new row → MadeRow command place old row token o
+made goal command old new place token row o u r is =
+    let outcome =
+    made_outcome goal old new token row.value (outcome_of row) o u r is.value (ap outcome_of is.row_is) in
     record {
-      reads = r;
-      outcome_is = is;
-      command_is = command_is;
-      place = place;
-      taken = taken;
-      places =
-          made_lies goal old new row u r is;
+      token_is = sym (ap (λ x. x.token) is.row_is);
+      outcome_is = outcome;
+      command_is = ap (λ x. x.command) is.row_is;
+      place_is = ap (λ x. x.place) is.row_is;
+      taken = ap (λ x. x.taken) is.row_is;
+      places = row_lies goal old row o u r.reads outcome;
+    }
+
+-- a row that was made of a token that was read
+pub made_row : (goal : Goal) (command : Option Command) (old new : LexerState) (lengths : FindingLengths) (place : ℕ)
+    (token : TokenParts) → is_plain goal ≡ true → IsUtf8 old.text → ReadsToken goal old token new → lengths ≡ lengths_of old.findings
+    → place ≡ old.place → (row : Row) → IsMadeOf command place lengths token new row
+    → ReadsRow goal command old row new
+made_row goal command old new lengths place token plain u r before at row is =
+    let m =
+    made goal command old new place token row r.outcome u (on goal old new token plain r)
+    (subst (λ l. IsMadeOf command place l token new row) before is) in
+    record {
+      reads = record {
+        outcome = r.outcome;
+        token_is = sym m.token_is ∙ r.token_is;
+        reads = r.reads;
+        agrees = r.agrees;
+        after = r.after;
+        kept = r.kept;
+        has_value = subst (HasValue old.text new.decoded) m.token_is r.has_value;
+      };
+      outcome_is = m.outcome_is;
+      command_is = m.command_is;
+      place = m.place_is ∙ at;
+      taken = m.taken;
+      places = m.places;
+    }
+
+-- and one of a token that was read again
+pub made_row_again : (goal : Goal) (command : Option Command) (old new : LexerState) (lengths : FindingLengths)
+    (place : ℕ) (token : TokenParts) → fits goal (token_or_default old.last) ≡ true → IsUtf8 old.text → ReadsAgain goal old token new
+    → lengths ≡ lengths_of old.findings
+    → place ≡ old.place → (row : Row) → IsMadeOf command place lengths token new row
+    → ReadsRowAgain goal command old row new
+made_row_again goal command old new lengths place token fit u r before at row is =
+    let m =
+    made goal command old new place token row r.outcome u (again goal old new token fit r)
+    (subst (λ l. IsMadeOf command place l token new row) before is) in
+    record {
+      reads = record {
+        outcome = r.outcome;
+        token_is = sym m.token_is ∙ r.token_is;
+        reads = r.reads;
+        after = r.after;
+        kept = r.kept;
+        has_value = subst (HasValue old.text new.decoded) m.token_is r.has_value;
+      };
+      outcome_is = m.outcome_is;
+      command_is = m.command_is;
+      place = m.place_is ∙ at;
+      taken = m.taken;
+      places = m.places;
     }
 
 -- a row that was added, and the reader gone back
@@ -204,7 +322,7 @@ goes_back_peeks goal command old between new c live added back point tokens = re
 
 -- A row that was read behind what is live is the row of its command.
 pub read_is_row : (goal : Goal) (command : Option Command) (lexer new : LexerState) (now : Live) (row : Row)
-    → IsRestored (lexer_behind lexer.text lexer.source_type lexer.collects now) lexer
+    → IsAlike (lexer_behind lexer.text lexer.source_type lexer.collects now) lexer
     → ReadsRow goal command lexer row new
     → (IsRead lexer.text lexer.source_type now goal row
     → IsOfEffect lexer.text lexer.source_type now (row_effect command) row)
@@ -217,7 +335,7 @@ read_is_row goal command lexer new now row behind r give =
       gives = give (record {
         taken = r.taken;
         reads = rw (r.place, ← behind.last, r.outcome_is) r.reads.reads.reads;
-        agrees = λ plain. rw (r.place, ← behind.last, r.outcome_is) r.reads.agrees;
+        agrees = λ plain. rw (r.place, ← behind.last, r.outcome_is) (r.reads.agrees plain);
         some_text = rw token r.reads.reads.some_text;
       });
       places = r.places;

@@ -1,29 +1,43 @@
 -- What the calls of a session make of its state.
 use Rattle.std.proofs.Common.{◌≡◌, ℕ, ◌<◌, Bool, true, false, List, [], ◌∷◌, ◌++◌, length, take, refl, sym, ◌∙◌, ap}
 use Rattle.std.proofs.Common.{subst, arith, Option, Some, None, Result, Ok, Err}
+use Rattle.std.proofs.lemmas.Bool.{eqb-true}
 use Rattle.std.proofs.lemmas.List.{reverse-append, length-reverse}
 use Rattle.std.specs.List.{AllByRecursion}
-use Rattle.std.specs.Prelude.{reverse, OnOk, OnErr, IsSome, ◌↔◌, option_to_list}
+use Rattle.std.specs.Prelude.{reverse, OnOk, OnErr, IsSome, ◌↔◌, option_to_list, MatchBool}
 use Rattle.js_text.specs.declared.source_type.SourceType.{SourceType}
 use Rattle.js_text.specs.Lists.{with_last}
 use Rattle.js_grammar.specs.declared.goal.Goal.{Goal}
-use Rattle.js_grammar.specs.declared.goal.Goal.TheVariants.{Next as NextGoal}
+use Rattle.js_grammar.specs.Goals.{GoalReads}
+use Rattle.js_grammar.specs.Outcome.{Outcome}
+use Rattle.js_grammar.specs.declared.goal.Goal.TheVariants.{First, Next as NextGoal, TemplateTail as TailGoal}
+use Rattle.js_grammar.specs.declared.goal.Goal.TheVariants.{RegularExpression, RightAngle, TypeScriptLeftAngle}
+use Rattle.js_grammar.specs.declared.goal.Goal.TheVariants.{TypeScriptRightAngle, JsxIdentifier, JsxChild}
+use Rattle.js_grammar.specs.declared.goal.Goal.TheVariants.{JsxAttributeValue}
+use Rattle.js_grammar.proofs.QuotedValues.{part_kind_is}
+use Rattle.js_kind.specs.TokenParts.{TokenParts}
+use Rattle.js_kind.specs.declared.kind.Kind.TheVariants.{RCurly, TemplateMiddle, TemplateTail}
+use Rattle.js_kind.proofs.KindNumbers.{number_injective}
 use Rattle.js_lexer.specs.Lexer.{LexerState, IsRestored, CanRewind, GoesOnFrom, IsOnPlaces, after_outcome}
-use Rattle.js_lexer.specs.Lexer.{checkpoint_of, token_or_default, put_back}
+use Rattle.js_lexer.specs.Lexer.{checkpoint_of, token_or_default, put_back, after_re_lex, is_hashbang}
 use Rattle.js_session.specs.declared.command.Command.{Command}
 use Rattle.js_session.specs.declared.command.Command.TheVariants.{Next, Peek, Mark, Rewind, Commit}
 use Rattle.js_session.specs.declared.mark.SessionMark.{SessionMark}
-use Rattle.js_session.specs.Live.{with_outcome, outcome_of, after_mark}
+use Rattle.js_session.specs.declared.row.Row.{Row}
+use Rattle.js_session.specs.Live.{Live, with_outcome, with_re_lexed, outcome_of, last_live, after_mark}
 use Rattle.js_session.specs.Effects.{effect_of}
-use Rattle.js_session.specs.Marks.{live_now, front, fronts, state_of, lexer_behind, AreMarks, IsInOrder}
-use Rattle.js_session.specs.Report.{LiesOnPlaces}
+use Rattle.js_session.specs.Effects.Effect.{re_lexes}
+use Rattle.js_session.specs.Marks.{live_now, front, fronts, state_of, lexer_behind, lexer_at, IsAlike}
+use Rattle.js_session.specs.Marks.{AreMarks, IsInOrder}
+use Rattle.js_session.specs.Report.{LiesOnPlaces, IsRow, IsOfEffect, fits}
 use Rattle.js_session.specs.RowReader.{RowReaderState, AddsLive, AddsPeek, IsUndone, IsMarkOf, GoesToMark}
+use Rattle.js_session.specs.RowReader.{ReadsRowAgain, AddsAgain, AddsNotTaken, not_taken}
 use Rattle.js_session.specs.Session.{SessionState, AddsRow, LieOnPlaces, after_command}
-use Rattle.js_session.proofs.LexerLemmas.{goes_on-restored, goes_on-trans, restored-trans, restored-sym, restored-refl}
-use Rattle.js_session.proofs.LexerLemmas.{can_rewind-on}
-use Rattle.js_session.proofs.LiveLemmas.{same_live, replaced, read_behind, all-push}
+use Rattle.js_session.proofs.LexerLemmas.{goes_on-restored, goes_on-alike, goes_on-trans, alike-restored, alike-sym}
+use Rattle.js_session.proofs.LexerLemmas.{can_rewind-on, restored-refl}
+use Rattle.js_session.proofs.LiveLemmas.{same_live, replaced, read_behind, read_again_behind, all-push, IsReplaced}
 use Rattle.js_session.proofs.MarkLemmas.{marks-outcome, fronts-outcome, marks-commit, length-fronts, front_all, none_at}
-use Rattle.js_session.proofs.MarkLemmas.{all-put_back}
+use Rattle.js_session.proofs.MarkLemmas.{all-put_back, all-with_last, marks-re_lexed, fronts-re_lexed}
 use Rattle.js_session.proofs.ReadLemmas.{read_is_row}
 
 -- how contracts see a session of these parts
@@ -46,12 +60,12 @@ at_lexer P text t c r texts types collects p =
 -- a session is in order over the text of an earlier lexer
 order : (text : List ℕ) (t : SourceType) (c : Bool) (r : RowReaderState) (marks : List SessionMark)
     → r.lexer.text ≡ text → r.lexer.source_type ≡ t → r.lexer.collects ≡ c
-    → IsRestored (lexer_behind text t c (live_now r)) r.lexer → AreMarks text t c (live_now r) marks
+    → IsAlike (lexer_behind text t c (live_now r)) r.lexer → AreMarks text t c (live_now r) marks
     → AllByRecursion (LiesOnPlaces text) r.rows
     → AllByRecursion (IsOnPlaces text) r.tokens → IsInOrder r marks
 order text t c r marks texts types collects behind are rows tokens = record {
   behind =
-      at_lexer (λ x y z. IsRestored (lexer_behind x y z (live_now r)) r.lexer) text t c r texts types collects behind;
+      at_lexer (λ x y z. IsAlike (lexer_behind x y z (live_now r)) r.lexer) text t c r texts types collects behind;
   are_marks = at_lexer (λ x y z. AreMarks x y z (live_now r) marks) text t c r texts types collects are;
   rows_lie = subst (λ x. AllByRecursion (LiesOnPlaces x) r.rows) (sym texts) rows;
   tokens_lie = subst (λ x. AllByRecursion (IsOnPlaces x) r.tokens) (sym texts) tokens;
@@ -84,7 +98,7 @@ order_added goal command old new marks h a =
     let after = added_restored goal command old new a in
     let live = live_added goal command old new a in
     order text t c new marks after.text after.source_type after.collects
-    (subst (λ l. IsRestored (lexer_behind text t c l) new.lexer) (sym live)
+    (subst (λ l. IsAlike (lexer_behind text t c l) new.lexer) (sym live)
     (read_behind text t c (live_now old) old.lexer new.lexer (outcome_of a.row) h.behind after))
     (subst (λ l. AreMarks text t c l marks) (sym live)
     (marks-outcome text t c (live_now old) (outcome_of a.row) marks h.are_marks))
@@ -107,6 +121,155 @@ next_adds_row old new ms h a =
       after = rw (after.text, after.source_type, after.collects, a.rows, live, marks) refl;
     }
 
+-- the last live token was read again
+pub record IsReLexedFrom (goal : Goal) (old : RowReaderState) (o : Outcome) : Type 0 where
+  pub fits : fits goal (token_or_default old.lexer.last) ≡ true
+  pub reads : GoalReads old.lexer.text old.lexer.source_type goal old.lexer.last old.lexer.place o
+
+-- a token that may be read again is collected where tokens are
+fits_some : (goal : Goal) (last : Option TokenParts) → fits goal (token_or_default last) ≡ true
+    → (t : TokenParts) × (last ≡ Some t) × (is_hashbang t.kind ≡ false)
+fits_some First last e = absurd (cc)
+fits_some NextGoal last e = absurd (cc)
+fits_some RegularExpression last e = absurd (cc)
+fits_some RightAngle last e = absurd (cc)
+fits_some TypeScriptLeftAngle last e = absurd (cc)
+fits_some TypeScriptRightAngle last e = absurd (cc)
+fits_some JsxIdentifier last e = absurd (cc)
+fits_some JsxChild last e = absurd (cc)
+fits_some JsxAttributeValue last e = absurd (cc)
+fits_some TailGoal None e = absurd (cc)
+fits_some TailGoal (Some t) e =
+    let curly : t.kind ≡ RCurly = number_injective t.kind RCurly (eqb-true _ _ e) in
+    (t, refl, ap is_hashbang curly)
+
+-- and so is what is read of it
+re_lexed_collected : (text : List ℕ) (t : SourceType) (goal : Goal) (before : Option TokenParts) (place : ℕ)
+    (o : Outcome) → fits goal (token_or_default before) ≡ true → GoalReads text t goal before place o
+    → is_hashbang o.token.kind ≡ false
+re_lexed_collected text t First before place o e reads = absurd (cc)
+re_lexed_collected text t NextGoal before place o e reads = absurd (cc)
+re_lexed_collected text t RegularExpression before place o e reads = absurd (cc)
+re_lexed_collected text t RightAngle before place o e reads = absurd (cc)
+re_lexed_collected text t TypeScriptLeftAngle before place o e reads = absurd (cc)
+re_lexed_collected text t TypeScriptRightAngle before place o e reads = absurd (cc)
+re_lexed_collected text t JsxIdentifier before place o e reads = absurd (cc)
+re_lexed_collected text t JsxChild before place o e reads = absurd (cc)
+re_lexed_collected text t JsxAttributeValue before place o e reads = absurd (cc)
+re_lexed_collected text t TailGoal None place o e reads = absurd reads
+re_lexed_collected text t TailGoal (Some token) place o e reads =
+    ap (λ x. is_hashbang x.token.kind) reads.outcome_is
+    ∙ part_kind_is (λ kind. is_hashbang kind ≡ false) TemplateMiddle TemplateTail refl refl refl token.start reads.behind
+
+is_replaced : (goal : Goal) (old : RowReaderState) (marks : List SessionMark) (o : Outcome) → IsInOrder old marks
+    → IsReLexedFrom goal old o → IsReplaced (live_now old) o
+is_replaced goal old marks o h r =
+    let found = fits_some goal old.lexer.last r.fits in
+    record {
+      last = found.0;
+      is_last = sym h.behind.last ∙ found.1;
+      was_collected = found.2;
+      is_collected =
+          re_lexed_collected old.lexer.text old.lexer.source_type goal old.lexer.last old.lexer.place o r.fits r.reads;
+    }
+
+again_from : (goal : Goal) (command : Option Command) (old new : RowReaderState)
+    → fits goal (token_or_default old.lexer.last) ≡ true → (a : AddsAgain goal command old new)
+    → IsReLexedFrom goal old (outcome_of a.row)
+again_from goal command old new fit a = record { fits = fit; reads = rw a.reads.outcome_is a.reads.reads.reads.reads }
+
+-- what is live once a row was read again
+again_restored : (goal : Goal) (command : Option Command) (old new : RowReaderState)
+    → (a : AddsAgain goal command old new) → IsRestored (after_re_lex old.lexer (outcome_of a.row)) new.lexer
+again_restored goal command old new a =
+    subst (λ o. IsRestored (after_re_lex old.lexer o) new.lexer) (sym a.reads.outcome_is) a.reads.reads.after
+
+live_again : (goal : Goal) (command : Option Command) (old new : RowReaderState)
+    → (a : AddsAgain goal command old new) → live_now new ≡ with_re_lexed (live_now old) (outcome_of a.row)
+live_again goal command old new a =
+    same_live (live_now new) (with_re_lexed (live_now old) (outcome_of a.row)) a.tokens
+    (again_restored goal command old new a).findings
+
+-- a row was read again, and its token is live in the place of the last one
+order_again : (goal : Goal) (command : Option Command) (old new : RowReaderState) (marks : List SessionMark)
+    → fits goal (token_or_default old.lexer.last) ≡ true → IsInOrder old marks → AddsAgain goal command old new
+    → IsInOrder new marks
+order_again goal command old new marks fit h a =
+    let text = old.lexer.text in
+    let t = old.lexer.source_type in
+    let c = old.lexer.collects in
+    let o = outcome_of a.row in
+    let after = again_restored goal command old new a in
+    let live = live_again goal command old new a in
+    let replaced = is_replaced goal old marks o h (again_from goal command old new fit a) in
+    order text t c new marks after.text after.source_type after.collects
+    (subst (λ l. IsAlike (lexer_behind text t c l) new.lexer) (sym live)
+    (read_again_behind text t c (live_now old) old.lexer new.lexer o replaced h.behind after))
+    (subst (λ l. AreMarks text t c l marks) (sym live)
+    (marks-re_lexed text t c (live_now old) o marks replaced h.are_marks))
+    (subst (AllByRecursion (LiesOnPlaces text)) (sym a.rows)
+    (all-push (LiesOnPlaces text) old.rows a.row h.rows_lie a.reads.places))
+    (subst (AllByRecursion (IsOnPlaces text)) (sym a.tokens)
+    (all-with_last (IsOnPlaces text) old.tokens a.row.token h.tokens_lie a.reads.places.token))
+
+-- What is read again does not depend on the place behind the token.
+from_any_place : (text : List ℕ) (t : SourceType) (goal : Goal) (before : Option TokenParts) (p q : ℕ) (o : Outcome)
+    → fits goal (token_or_default before) ≡ true → GoalReads text t goal before p o
+    → GoalReads text t goal before q o
+from_any_place text t First before p q o e reads = absurd (cc)
+from_any_place text t NextGoal before p q o e reads = absurd (cc)
+from_any_place text t RegularExpression before p q o e reads = absurd (cc)
+from_any_place text t RightAngle before p q o e reads = absurd (cc)
+from_any_place text t TypeScriptLeftAngle before p q o e reads = absurd (cc)
+from_any_place text t TypeScriptRightAngle before p q o e reads = absurd (cc)
+from_any_place text t JsxIdentifier before p q o e reads = absurd (cc)
+from_any_place text t JsxChild before p q o e reads = absurd (cc)
+from_any_place text t JsxAttributeValue before p q o e reads = absurd (cc)
+from_any_place text t TailGoal before p q o e reads = reads
+
+-- The row of a re-lex that was taken.
+again_is_row : (goal : Goal) (command : Command) (old new : RowReaderState) (row : Row) (now : Live)
+    → IsAlike (lexer_behind old.lexer.text old.lexer.source_type old.lexer.collects now) old.lexer
+    → fits goal (token_or_default old.lexer.last) ≡ true → effect_of command ≡ re_lexes goal
+    → ReadsRowAgain goal (Some command) old.lexer row new.lexer
+    → IsRow old.lexer.text old.lexer.source_type now (Some command) row
+again_is_row goal command old new row now behind fit effect r =
+    let last : fits goal (token_or_default (last_live now)) ≡ true =
+    ap (λ x. fits goal (token_or_default x)) (sym behind.last) ∙ fit in
+    record {
+      command_is = r.command_is;
+      place = r.place ∙ behind.place;
+      gives =
+          subst (λ e. IsOfEffect old.lexer.text old.lexer.source_type now e row) (sym effect)
+          (rw last (record {
+            taken = r.taken;
+            reads =
+                rw (← behind.last, r.outcome_is)
+                (from_any_place old.lexer.text old.lexer.source_type goal old.lexer.last old.lexer.place
+                (token_or_default old.lexer.last).start r.reads.outcome fit r.reads.reads.reads);
+          }));
+      places = r.places;
+    }
+
+again_adds_row : (goal : Goal) (command : Command) (old new : RowReaderState) (ms : List SessionMark)
+    → effect_of command ≡ re_lexes goal → fits goal (token_or_default old.lexer.last) ≡ true
+    → IsInOrder old (reverse ms) → AddsAgain goal (Some command) old new
+    → AddsRow command (seen old ms) (seen new ms)
+again_adds_row goal command old new ms effect fit h a =
+    let o = outcome_of a.row in
+    let after = again_restored goal (Some command) old new a in
+    let live = live_again goal (Some command) old new a in
+    let replaced = is_replaced goal old (reverse ms) o h (again_from goal (Some command) old new fit a) in
+    let marks =
+    fronts-re_lexed old.lexer.text old.lexer.source_type old.lexer.collects (live_now old) o (reverse ms) replaced
+    h.are_marks in
+    record {
+      row = a.row;
+      is_row = again_is_row goal command old new a.row (live_now old) h.behind fit effect a.reads;
+      after =
+          rw (after.text, after.source_type, after.collects, a.rows, live, marks, effect, a.reads.taken) refl;
+    }
+
 -- all but the rows is as before
 order_restored : (old new : RowReaderState) (marks : List SessionMark) → IsInOrder old marks
     → IsRestored old.lexer new.lexer → new.tokens ≡ old.tokens
@@ -117,8 +280,8 @@ order_restored old new marks h back tokens rows =
     let c = old.lexer.collects in
     let live : live_now new ≡ live_now old = same_live (live_now new) (live_now old) tokens back.findings in
     order text t c new marks back.text back.source_type back.collects
-    (subst (λ l. IsRestored (lexer_behind text t c l) new.lexer) (sym live)
-    (restored-trans _ old.lexer new.lexer h.behind back))
+    (subst (λ l. IsAlike (lexer_behind text t c l) new.lexer) (sym live)
+    (alike-restored _ old.lexer new.lexer h.behind back))
     (subst (λ l. AreMarks text t c l marks) (sym live) h.are_marks) rows
     (subst (AllByRecursion (IsOnPlaces text)) (sym tokens) h.tokens_lie)
 
@@ -145,6 +308,78 @@ peek_adds_row old new ms h a =
       is_row = read_is_row NextGoal (Some Peek) old.lexer a.behind (live_now old) a.row h.behind a.reads (λ is. is);
       after = rw (back.text, back.source_type, back.collects, a.rows, live) refl;
     }
+
+-- a re-lex that was not taken
+order_not_taken : (command : Option Command) (old new : RowReaderState) (marks : List SessionMark)
+    → IsInOrder old marks → AddsNotTaken command old new → IsInOrder new marks
+order_not_taken command old new marks h a =
+    order_restored old new marks h (subst (λ r. IsRestored old.lexer r.lexer) (sym a.after) (restored-refl old.lexer))
+    (ap (λ r. r.tokens) a.after)
+    (subst (AllByRecursion (LiesOnPlaces old.lexer.text)) (sym (ap (λ r. r.rows) a.after))
+    (all-push (LiesOnPlaces old.lexer.text) old.rows (not_taken command old.lexer) h.rows_lie
+    (record { token = a.places; value = tt })))
+
+not_taken_is_row : (goal : Goal) (command : Command) (old : RowReaderState) (now : Live)
+    → IsAlike (lexer_behind old.lexer.text old.lexer.source_type old.lexer.collects now) old.lexer
+    → fits goal (token_or_default old.lexer.last) ≡ false → effect_of command ≡ re_lexes goal
+    → IsOnPlaces old.lexer.text (token_or_default old.lexer.last)
+    → IsRow old.lexer.text old.lexer.source_type now (Some command) (not_taken (Some command) old.lexer)
+not_taken_is_row goal command old now behind fit effect lies =
+    let row = not_taken (Some command) old.lexer in
+    let last : fits goal (token_or_default (last_live now)) ≡ false =
+    ap (λ x. fits goal (token_or_default x)) (sym behind.last) ∙ fit in
+    record {
+      command_is = refl;
+      place = behind.place;
+      gives =
+          subst (λ e. IsOfEffect old.lexer.text old.lexer.source_type now e row) (sym effect)
+          (rw last (record {
+            taken = refl;
+            token = ap token_or_default behind.last;
+            value = refl;
+            regex = refl;
+            findings = refl;
+          }));
+      places = record { token = lies; value = tt };
+    }
+
+not_taken_adds_row : (goal : Goal) (command : Command) (old new : RowReaderState) (ms : List SessionMark)
+    → effect_of command ≡ re_lexes goal → fits goal (token_or_default old.lexer.last) ≡ false
+    → IsInOrder old (reverse ms) → AddsNotTaken (Some command) old new
+    → AddsRow command (seen old ms) (seen new ms)
+not_taken_adds_row goal command old new ms effect fit h a = record {
+  row = not_taken (Some command) old.lexer;
+  is_row = not_taken_is_row goal command old (live_now old) h.behind fit effect a.places;
+  after = rw (a.after, effect) refl;
+}
+
+-- a re-lex, taken or not
+pub order_re_lexed : (goal : Goal) (command : Option Command) (old new : RowReaderState) (marks : List SessionMark)
+    → IsInOrder old marks
+    → MatchBool (fits goal (token_or_default old.lexer.last)) (AddsAgain goal command old new)
+    (AddsNotTaken command old new)
+    → IsInOrder new marks
+order_re_lexed goal command old new marks h adds =
+    by_fit (fits goal (token_or_default old.lexer.last)) refl adds
+  where
+    by_fit : (b : Bool) → fits goal (token_or_default old.lexer.last) ≡ b
+        → MatchBool b (AddsAgain goal command old new) (AddsNotTaken command old new) → IsInOrder new marks
+    by_fit true fit adds = order_again goal command old new marks fit h adds
+    by_fit false fit adds = order_not_taken command old new marks h adds
+
+pub re_lex_adds_row : (goal : Goal) (command : Command) (old new : RowReaderState) (ms : List SessionMark)
+    → effect_of command ≡ re_lexes goal → IsInOrder old (reverse ms)
+    → MatchBool (fits goal (token_or_default old.lexer.last)) (AddsAgain goal (Some command) old new)
+    (AddsNotTaken (Some command) old new)
+    → AddsRow command (seen old ms) (seen new ms)
+re_lex_adds_row goal command old new ms effect h adds =
+    by_fit (fits goal (token_or_default old.lexer.last)) refl adds
+  where
+    by_fit : (b : Bool) → fits goal (token_or_default old.lexer.last) ≡ b
+        → MatchBool b (AddsAgain goal (Some command) old new) (AddsNotTaken (Some command) old new)
+        → AddsRow command (seen old ms) (seen new ms)
+    by_fit true fit adds = again_adds_row goal command old new ms effect fit h adds
+    by_fit false fit adds = not_taken_adds_row goal command old new ms effect fit h adds
 
 -- the marks without the last one
 commit_popped : (r : RowReaderState) (ms ms' : List SessionMark) (popped : Option SessionMark)
@@ -187,8 +422,17 @@ mark_front : (r : RowReaderState) (ms : List SessionMark) (m : SessionMark) → 
 mark_front r ms m is h =
     front_all (live_now r) m r.lexer r.lexer.text r.lexer.source_type r.lexer.collects is.tokens is.checkpoint h.behind
 
-checkpoint_restored : (a b : LexerState) → IsRestored a b → checkpoint_of b ≡ checkpoint_of a
-checkpoint_restored a b h = rw (h.place, h.last, h.tokens, h.findings) refl
+checkpoint_alike : (a b : LexerState) (m : SessionMark) → IsAlike a b → m.checkpoint ≡ checkpoint_of b
+    → m.checkpoint
+    ≡ checkpoint_of
+    (record a {
+      pure_comments = m.checkpoint.pure_comments;
+      no_side_effects_comments = m.checkpoint.no_side_effects_comments;
+    })
+checkpoint_alike a b m h is =
+    let pure = ap (λ x. x.pure_comments) is in
+    let no_side_effects = ap (λ x. x.no_side_effects_comments) is in
+    is ∙ rw (h.place, h.last, h.tokens, h.findings, pure, no_side_effects) refl
 
 pub order_mark : (r : RowReaderState) (ms ms' : List SessionMark) (m : SessionMark) → ms' ≡ ms ++ m ∷ [] → IsMarkOf r m
     → IsInOrder r (reverse ms) → IsInOrder r (reverse ms')
@@ -206,14 +450,14 @@ order_mark r ms ms' m e is h =
         record {
           tokens = omega (arith, is.tokens);
           checkpoint =
-              is.checkpoint ∙ checkpoint_restored behind r.lexer h.behind
-              ∙ ap (λ l. checkpoint_of (lexer_behind text t c l)) (sym whole);
+              checkpoint_alike behind r.lexer m h.behind is.checkpoint
+              ∙ ap (λ l. checkpoint_of (lexer_at text t c m l)) (sym whole);
           goes_on =
               subst (λ l. GoesOnFrom (lexer_behind text t c l) behind) (sym whole)
               (goes_on-restored behind behind (restored-refl behind));
           can_rewind =
               can_rewind-on r.lexer behind m.checkpoint is.can_rewind
-              (goes_on-restored r.lexer behind (restored-sym behind r.lexer h.behind));
+              (goes_on-alike r.lexer behind (alike-sym behind r.lexer h.behind));
         },
         subst (λ l. AreMarks text t c l (reverse ms)) (sym whole) h.are_marks,
       );
@@ -240,7 +484,7 @@ last_mark r ms ms' m e h =
 pub may_rewind : (r : RowReaderState) (ms ms' : List SessionMark) (m : SessionMark) → ms ≡ ms' ++ m ∷ []
     → IsInOrder r (reverse ms) → CanRewind r.lexer m.checkpoint
 may_rewind r ms ms' m e h =
-    can_rewind-on _ r.lexer m.checkpoint (last_mark r ms ms' m e h).0.can_rewind (goes_on-restored _ r.lexer h.behind)
+    can_rewind-on _ r.lexer m.checkpoint (last_mark r ms ms' m e h).0.can_rewind (goes_on-alike _ r.lexer h.behind)
 
 -- back at the last mark
 pub record IsBack (r new : RowReaderState) (ms ms' : List SessionMark) (m : SessionMark) : Type 0 where
@@ -249,10 +493,21 @@ pub record IsBack (r new : RowReaderState) (ms ms' : List SessionMark) (m : Sess
   pub back : GoesToMark m r new
 
 pub record LivesAgain (r new : RowReaderState) (m : SessionMark) : Type 0 where
-  pub lexer : IsRestored
+  pub lexer : IsAlike
       (lexer_behind r.lexer.text r.lexer.source_type r.lexer.collects (front (live_now r) m)) new.lexer
   pub rows : new.rows ≡ r.rows
   pub live : live_now new ≡ front (live_now r) m
+
+goes_on_at : (text : List ℕ) (t : SourceType) (c : Bool) (m : SessionMark) (now : Live) (lexer : LexerState)
+    → GoesOnFrom (lexer_behind text t c now) lexer → GoesOnFrom (lexer_at text t c m now) lexer
+goes_on_at text t c m now lexer g = record {
+  text = g.text;
+  source_type = g.source_type;
+  collects = g.collects;
+  tokens = g.tokens;
+  findings = g.findings;
+  goes_on = g.goes_on;
+}
 
 lives_again : (r new : RowReaderState) (ms ms' : List SessionMark) (m : SessionMark) → IsBack r new ms ms' m
     → LivesAgain r new m
@@ -263,8 +518,9 @@ lives_again r new ms ms' m h =
     let now = live_now r in
     let is = (last_mark r ms ms' m h.ends h.in_order).0 in
     let restored =
-    h.back.lexer (lexer_behind text t c (front now m)) is.checkpoint
-    (goes_on-trans _ _ _ is.goes_on (goes_on-restored _ r.lexer h.in_order.behind)) in
+    h.back.lexer (lexer_at text t c m (front now m)) is.checkpoint
+    (goes_on_at text t c m (front now m) r.lexer
+    (goes_on-trans _ _ _ is.goes_on (goes_on-alike _ r.lexer h.in_order.behind))) in
     let last : new.lexer.last ≡ m.checkpoint.last = restored.last ∙ sym (ap (λ x. x.last) is.checkpoint) in
     let none : m.checkpoint.last ≡ None → take m.tokens r.tokens ≡ [] =
     λ none. ap (λ n. take n r.tokens) (none_at text t c now m is none) in
@@ -272,8 +528,19 @@ lives_again r new ms ms' m h =
     h.back.tokens ∙ ap (λ x. with_last (take m.tokens r.tokens) (token_or_default x)) last
     ∙ replaced (take m.tokens r.tokens) m.checkpoint.last none
     in
-    record
-    { lexer = restored; rows = h.back.rows; live = same_live (live_now new) (front now m) tokens restored.findings }
+    record {
+      lexer = record {
+        text = restored.text;
+        source_type = restored.source_type;
+        collects = restored.collects;
+        place = restored.place;
+        last = restored.last;
+        tokens = restored.tokens;
+        findings = restored.findings;
+      };
+      rows = h.back.rows;
+      live = same_live (live_now new) (front now m) tokens restored.findings;
+    }
 
 pub order_rewind : (r new : RowReaderState) (ms ms' : List SessionMark) (m : SessionMark) → IsBack r new ms ms' m
     → IsInOrder new (reverse ms')
@@ -284,7 +551,7 @@ order_rewind r new ms ms' m h =
     let l = lives_again r new ms ms' m h in
     let marks = last_mark r ms ms' m h.ends h.in_order in
     order text t c new (reverse ms') l.lexer.text l.lexer.source_type l.lexer.collects
-    (subst (λ x. IsRestored (lexer_behind text t c x) new.lexer) (sym l.live) l.lexer)
+    (subst (λ x. IsAlike (lexer_behind text t c x) new.lexer) (sym l.live) l.lexer)
     (subst (λ x. AreMarks text t c x (reverse ms')) (sym l.live) marks.1)
     (subst (AllByRecursion (LiesOnPlaces text)) (sym l.rows) h.in_order.rows_lie)
     (subst (AllByRecursion (IsOnPlaces text)) (sym (ap (λ x. x.tokens) l.live))

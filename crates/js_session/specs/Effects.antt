@@ -1,9 +1,9 @@
 -- What each command does: one function of the command, on which everything else about commands rests.
 use Rattle.std.specs.Prelude.{Bool, true, false, Option, Some, None}
 use Rattle.js_grammar.specs.declared.goal.Goal.{Goal}
-use Rattle.js_grammar.specs.declared.goal.Goal.TheVariants.{First, Next as NextGoal}
+use Rattle.js_grammar.specs.declared.goal.Goal.TheVariants.{First, Next as NextGoal, TemplateTail as TailGoal}
 use Rattle.js_session.specs.declared.command.Command.{Command}
-use Rattle.js_session.specs.declared.command.Command.TheVariants.{Next, Peek, Mark, Rewind, Commit}
+use Rattle.js_session.specs.declared.command.Command.TheVariants.{Next, Peek, Mark, Rewind, Commit, TemplateTail}
 
 -- Reading a goal from behind the last live token, with the token live from then on, or only to look; reading the last
 -- live token again; opening a mark; going back to the last open mark; or closing it.
@@ -22,6 +22,7 @@ effect_of Peek = peeks NextGoal
 effect_of Mark = opens
 effect_of Rewind = rewinds
 effect_of Commit = commits
+effect_of TemplateTail = re_lexes TailGoal
 
 -- the effect of the command of a row; the first row, which has none, reads the first goal
 abbrev pub row_effect : Option Command → Effect

@@ -1,5 +1,6 @@
 -- What a session reports: which rows answer its commands, and what is live after them.
-use Rattle.std.specs.Prelude.{◌≡◌, ◌≢◌, ℕ, ◌<◌, ◌≤◌, ◌^◌, Bool, true, false, List, [], ◌∷◌, length, Option, Some, None}
+use Rattle.std.specs.Prelude.{◌≡◌, ◌≢◌, ℕ, ◌<◌, ◌≤◌, ◌^◌, Bool, true, false, ◌==◌, List, [], ◌∷◌, length}
+use Rattle.std.specs.Prelude.{Option, Some, None}
 use Rattle.std.specs.Prelude.{slice_range}
 use Rattle.std.specs.Prelude.{MatchBool}
 use Rattle.std.specs.List.{flat_map}
@@ -12,9 +13,13 @@ use Rattle.js_grammar.specs.Goals.{GoalReads, AgreesWithGrammar}
 use Rattle.js_grammar.specs.Outcome.{no_findings}
 use Rattle.js_grammar.specs.Reads.{is_plain}
 use Rattle.js_grammar.specs.declared.goal.Goal.{Goal}
-use Rattle.js_grammar.specs.declared.goal.Goal.TheVariants.{First, Next as NextGoal}
+use Rattle.js_grammar.specs.declared.goal.Goal.TheVariants.{First, Next as NextGoal, TemplateTail as TailGoal}
+use Rattle.js_grammar.specs.declared.goal.Goal.TheVariants.{RegularExpression, RightAngle, TypeScriptLeftAngle}
+use Rattle.js_grammar.specs.declared.goal.Goal.TheVariants.{TypeScriptRightAngle, JsxIdentifier, JsxChild}
+use Rattle.js_grammar.specs.declared.goal.Goal.TheVariants.{JsxAttributeValue}
 use Rattle.js_kind.specs.TokenParts.{TokenParts}
-use Rattle.js_kind.specs.declared.kind.Kind.TheVariants.{Eof}
+use Rattle.js_kind.specs.Kinds.{number}
+use Rattle.js_kind.specs.declared.kind.Kind.TheVariants.{Eof, RCurly}
 use Rattle.js_lexer.specs.Lexer.{IsOnPlaces, collected, token_or_default}
 use Rattle.js_session.specs.Effects.{Effect, effect_of, row_effect, is_step, closes}
 use Rattle.js_session.specs.Effects.Effect.{reads, peeks, re_lexes, opens, rewinds, commits}
@@ -65,10 +70,19 @@ pub record IsNotTaken (now : Live) (row : Row) : Type 0 where
   pub regex : row.regex ≡ None
   pub findings : row_findings row ≡ no_findings
 
--- the tokens that a goal may read again: none, of the goals that there are
+-- The tokens that a goal may read again: the tail of a template a `}`, and the plain goals none. No command has another
+-- goal yet.
 abbrev pub fits : Goal → TokenParts → Bool
 fits First token = false
 fits NextGoal token = false
+fits TailGoal token = number token.kind == number RCurly
+fits RegularExpression token = false
+fits RightAngle token = false
+fits TypeScriptLeftAngle token = false
+fits TypeScriptRightAngle token = false
+fits JsxIdentifier token = false
+fits JsxChild token = false
+fits JsxAttributeValue token = false
 
 -- The row is one of three: a reading, a re-lex that was taken, or one that was not.
 abbrev pub IsOfEffect : List ℕ → SourceType → Live → Effect → Row → Type 0

@@ -1,17 +1,18 @@
 -- How rows are read from a lexer.
-use Rattle.std.specs.Prelude.{◌≡◌, ℕ, Bool, true, false, List, [], ◌∷◌, ◌++◌, length, take, Option, Some, None, is_some}
+use Rattle.std.specs.Prelude.{◌≡◌, ℕ, Bool, true, false, List, [], ◌∷◌, ◌++◌, length, take, drop, Option, Some, None, is_some}
 use Rattle.js_text.specs.Lists.{with_last}
 use Rattle.js_text.specs.declared.value.RowValue.{RowValue}
-use Rattle.js_text.specs.declared.value.RowValue.TheVariants.{Units}
+use Rattle.js_text.specs.declared.value.RowValue.TheVariants.{Nothing, Units}
+use Rattle.js_grammar.specs.Outcome.{FindingLengths, found_since}
 use Rattle.js_grammar.specs.Values.{plain_value, template_row_value}
 use Rattle.js_grammar.specs.declared.goal.Goal.{Goal}
 use Rattle.js_lexer.specs.Decoded.{Values, value_of}
 use Rattle.js_kind.specs.Kinds.{is_template_kind}
 use Rattle.js_kind.specs.TokenParts.{TokenParts}
 use Rattle.js_lexer.specs.Lexer.{LexerState, ReadsToken, IsRestored, GoesOnFrom, CanRewind, Checkpoint, checkpoint_of}
-use Rattle.js_lexer.specs.Lexer.{token_or_default}
+use Rattle.js_lexer.specs.Lexer.{token_or_default, ReadsAgain, IsOnPlaces}
 use Rattle.js_session.specs.Live.{outcome_of}
-use Rattle.js_session.specs.Report.{LiesOnPlaces}
+use Rattle.js_session.specs.Report.{LiesOnPlaces, fits}
 use Rattle.js_session.specs.declared.command.Command.{Command}
 use Rattle.js_session.specs.declared.mark.SessionMark.{SessionMark}
 use Rattle.js_session.specs.declared.row.Row.{Row}
@@ -57,6 +58,38 @@ pub record ReadsRow (goal : Goal) (command : Option Command) (old : LexerState) 
   pub taken : row.taken ≡ true
   pub places : LiesOnPlaces old.text row
 
+-- A row is made of a token, in front of which the lexer stood at the place and had found so much.
+pub record IsMadeOf (command : Option Command) (place : ℕ) (lengths : FindingLengths) (token : TokenParts)
+    (lexer : LexerState) (row : Row) : Type 0 where
+  pub value : HoldsValue lexer.decoded token row.value
+  pub row_is : row ≡ record {
+    command = command;
+    place = place;
+    taken = true;
+    token = token;
+    value = row.value;
+    regex = None;
+    diagnostics = (found_since lengths lexer.findings).diagnostics;
+    deferred = (found_since lengths lexer.findings).deferred;
+    comments = (found_since lengths lexer.findings).comments;
+    irregular = (found_since lengths lexer.findings).irregular;
+  }
+
+-- The lexer may read its last token again for the goal: this is of a kind that fits, and the lexer is behind it.
+pub record MayReadAgain (goal : Goal) (l : LexerState) : Type 0 where
+  pub fits : fits goal (token_or_default l.last) ≡ true
+  pub place : l.place ≡ (token_or_default l.last).end
+
+-- A row was read for a goal from the start of the last token, in whose place the token of the row stands now.
+pub record ReadsRowAgain (goal : Goal) (command : Option Command) (old : LexerState) (row : Row) (new : LexerState)
+    : Type 0 where
+  pub reads : ReadsAgain goal old row.token new
+  pub outcome_is : outcome_of row ≡ reads.outcome
+  pub command_is : row.command ≡ command
+  pub place : row.place ≡ old.place
+  pub taken : row.taken ≡ true
+  pub places : LiesOnPlaces old.text row
+
 -- a row was read and added, and its token is live
 pub record AddsLive (goal : Goal) (command : Option Command) (old new : RowReaderState) : Type 0 where
   pub row : Row
@@ -72,6 +105,33 @@ pub record AddsPeek (goal : Goal) (command : Option Command) (old new : RowReade
   pub rows : new.rows ≡ old.rows ++ row ∷ []
   pub lexer : IsRestored old.lexer new.lexer
   pub tokens : new.tokens ≡ old.tokens
+
+-- a row was read again and added, and its token is live in the place of the last one
+pub record AddsAgain (goal : Goal) (command : Option Command) (old new : RowReaderState) : Type 0 where
+  pub row : Row
+  pub reads : ReadsRowAgain goal command old.lexer row new.lexer
+  pub rows : new.rows ≡ old.rows ++ row ∷ []
+  pub tokens : new.tokens ≡ with_last old.tokens row.token
+
+-- the row of a re-lex that is not taken: it holds the last token, and nothing else
+abbrev pub not_taken : Option Command → LexerState → Row
+not_taken command l = record {
+  command = command;
+  place = l.place;
+  taken = false;
+  token = token_or_default l.last;
+  value = Nothing;
+  regex = None;
+  diagnostics = [];
+  deferred = [];
+  comments = [];
+  irregular = [];
+}
+
+-- such a row was added, whose token lies on places, and nothing else has changed
+pub record AddsNotTaken (command : Option Command) (old new : RowReaderState) : Type 0 where
+  pub places : IsOnPlaces old.lexer.text (token_or_default old.lexer.last)
+  pub after : new ≡ record old { rows = old.rows ++ not_taken command old.lexer ∷ [] }
 
 -- a reading that could not allocate: the lexer may have gone on, and one token more may be live
 pub record MayGoOn (old new : RowReaderState) : Type 0 where

@@ -18,6 +18,8 @@ pub enum Command {
     Rewind,
     /// Closes the last mark that is open.
     Commit,
+    /// Reads on a template behind the `}` that is the last live token, with what is read live in its place.
+    TemplateTail,
 }
 
 /// A growing list of commands.
@@ -28,6 +30,6 @@ impl Command {
     pub fn is_step(self) -> bool
         ensures { result ≡ is_step self }
     {
-        matches!(self, Command::Next | Command::Peek)
+        matches!(self, Command::Next | Command::Peek | Command::TemplateTail)
     }
 }

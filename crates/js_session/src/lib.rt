@@ -3,6 +3,7 @@
 
 mod command;
 mod fault;
+mod found;
 pub mod laws;
 mod lex;
 mod mark;

@@ -1,22 +1,26 @@
 //! Rows that are read from a lexer.
 
 ghost use Rattle.std.specs.Prelude.{◌≡◌, ◌≤◌, true, [], length, drop, is_some, None, IfOk, OnOk, OnErr, MatchBool};
-ghost use Rattle.js_grammar.specs.Outcome.{reports};
+ghost use Rattle.js_grammar.specs.Outcome.{AreWithin};
+ghost use Rattle.js_grammar.specs.Reads.{is_plain};
 ghost use Rattle.js_grammar.specs.Spelling.{text_start, text_end};
 ghost use Rattle.js_grammar.specs.Values.{plain_value};
 ghost use Rattle.js_kind.specs.Kinds.{is_template_kind};
 ghost use Rattle.js_lexer.specs.Decoded.{value_of};
 ghost use Rattle.js_lexer.specs.Lexer.{LexerState, ReadsToken, IsRestored, CanRewind, GoesOnFrom};
+ghost use Rattle.js_lexer.specs.Lexer.{ReadsAgain, token_or_default};
+ghost use Rattle.js_session.specs.Report.{fits};
 ghost use Rattle.js_session.specs.RowReader.{RowReaderState, ReadsRow, AddsLive, AddsPeek, MayGoOn, IsUndone, GoesBack};
 ghost use Rattle.js_session.specs.RowReader.{IsMarkOf, GoesToMark, IsKept, HoldsUnits, HoldsPart, HoldsKept};
-ghost use Rattle.js_session.specs.RowReader.{HoldsValue};
+ghost use Rattle.js_session.specs.RowReader.{HoldsValue, IsMadeOf, MayReadAgain, ReadsRowAgain, AddsAgain, AddsNotTaken};
 
 use crate::command::Command;
+use crate::found::{FoundLengths, FoundLists, found_since, lengths_of};
 use crate::mark::SessionMark;
 use crate::row::Row;
 use crate::row_list::RowList;
 use js_grammar::Goal;
-use js_kind::{LexerConfig, Token, TokenList};
+use js_kind::{Kind, LexerConfig, Token, TokenList};
 use js_lexer::{Lexer, LexerCheckpoint, is_template, is_valued, text_span};
 use js_text::{CommentList, DiagnosticList, JsText, RowValue, SpanList, TemplateValue};
 use std::alloc::{AllocError, Global};
@@ -105,52 +109,69 @@ fn value_of<C: LexerConfig + Drop>(
     }
 }
 
-/// Reads a token of the goal.
+/// Reads a token of the first or the plain goal.
 fn read_token<C: LexerConfig + Drop>(
     lexer: &mut Lexer<'_, C>,
     goal: Goal,
 ) -> Result<Token, AllocError>
-    requires { goal ≡ Goal.First → lexer.old.last ≡ None }
+    requires plain { is_plain goal ≡ true }
+    requires first { goal ≡ Goal.First → lexer.old.last ≡ None }
     ensures ok { IfOk result (λ token. ReadsToken goal lexer.old token lexer.new) }
     ensures err { OnErr result (IsRestored lexer.old lexer.new) }
 {
     match goal {
         Goal::First => lexer.first_token(),
         Goal::Next => lexer.next_token(),
+        _ => unreachable!(),
     }
 }
 
-/// What the lexer has reported beyond so many diagnostics.
-fn errors_since<C: LexerConfig + Drop>(
-    lexer: &Lexer<'_, C>,
-    alloc: Global,
-    reported: usize,
-) -> Result<DiagnosticList, AllocError>
-    requires { reported ≤ length lexer.now.findings.diagnostics }
-    ensures errors { IfOk result (λ errors. errors ≡ drop reported lexer.now.findings.diagnostics) }
-    ensures nothing_else { lexer.now.findings ≡ reports lexer.now.findings.diagnostics }
+/// Whether the goal may read the token again.
+fn fits(goal: Goal, token: &Token) -> bool
+    ensures { result ≡ fits goal token.now }
 {
-    let mut errors = DiagnosticList::new_in(alloc);
-    errors.extend_from_slice(&lexer.errors()[reported..])?;
-    Ok(errors)
+    match goal {
+        Goal::TemplateTail => token.kind().number() == Kind::RCurly.number(),
+        _ => false,
+    }
 }
 
-/// Reads a row. Where it cannot allocate, the lexer may have gone on.
-fn read_row<C: LexerConfig + Drop>(
+/// Reads the last token again for the goal.
+fn read_again<C: LexerConfig + Drop>(
     lexer: &mut Lexer<'_, C>,
+    goal: Goal,
+) -> Result<Token, AllocError>
+    requires { MayReadAgain goal lexer.old }
+    ensures ok { IfOk result (λ token. ReadsAgain goal lexer.old token lexer.new) }
+    ensures err { OnErr result (IsRestored lexer.old lexer.new) }
+{
+    match goal {
+        Goal::TemplateTail => lexer.next_template_substitution_tail(),
+        _ => unreachable!(),
+    }
+}
+
+/// The row of a token that was just read, in front of which the lexer stood at the place and had found so much.
+fn row_of<C: LexerConfig + Drop>(
+    lexer: &Lexer<'_, C>,
     alloc: Global,
     command: Option<Command>,
-    goal: Goal,
+    place: u32,
+    lengths: &FoundLengths,
+    token: Token,
 ) -> Result<Row, AllocError>
-    requires { goal ≡ Goal.First → lexer.old.last ≡ None }
-    ensures ok { IfOk result (λ row. ReadsRow goal command lexer.old row lexer.new) }
-    ensures err { OnErr result (GoesOnFrom lexer.old lexer.new) }
+    requires ordered { text_start token.kind token.start ≤ text_end token.kind token.end }
+    requires value { token.escaped ≡ true → IsKept (is_template_kind token.kind) lexer.now.decoded token.start }
+    requires found { AreWithin lengths.now lexer.now.findings }
+    ensures { IfOk result (IsMadeOf command place lengths.now token lexer.now) }
 {
-    let place = lexer.offset();
-    let reported = lexer.errors().len();
-    let token = read_token(lexer, goal)?;
     let value = value_of(lexer, alloc, &token)?;
-    let diagnostics = errors_since(lexer, alloc, reported)?;
+    let FoundLists {
+        diagnostics,
+        deferred,
+        comments,
+        irregular,
+    } = found_since(lexer, alloc, lengths)?;
     Ok(Row {
         command,
         place,
@@ -159,10 +180,45 @@ fn read_row<C: LexerConfig + Drop>(
         value,
         regex: None,
         diagnostics,
-        deferred: DiagnosticList::new_in(alloc),
-        comments: CommentList::new_in(alloc),
-        irregular: SpanList::new_in(alloc),
+        deferred,
+        comments,
+        irregular,
     })
+}
+
+/// Reads a row of the first or the plain goal. Where it cannot allocate, the lexer may have gone on.
+fn read_row<C: LexerConfig + Drop>(
+    lexer: &mut Lexer<'_, C>,
+    alloc: Global,
+    command: Option<Command>,
+    goal: Goal,
+) -> Result<Row, AllocError>
+    requires plain { is_plain goal ≡ true }
+    requires first { goal ≡ Goal.First → lexer.old.last ≡ None }
+    ensures ok { IfOk result (λ row. ReadsRow goal command lexer.old row lexer.new) }
+    ensures err { OnErr result (GoesOnFrom lexer.old lexer.new) }
+{
+    let place = lexer.offset();
+    let found = lengths_of(lexer);
+    let token = read_token(lexer, goal)?;
+    row_of(lexer, alloc, command, place, &found, token)
+}
+
+/// Reads a row from the start of the last token. Where it cannot allocate, the lexer may have gone on.
+fn read_row_again<C: LexerConfig + Drop>(
+    lexer: &mut Lexer<'_, C>,
+    alloc: Global,
+    command: Option<Command>,
+    goal: Goal,
+) -> Result<Row, AllocError>
+    requires { MayReadAgain goal lexer.old }
+    ensures ok { IfOk result (λ row. ReadsRowAgain goal command lexer.old row lexer.new) }
+    ensures err { OnErr result (GoesOnFrom lexer.old lexer.new) }
+{
+    let place = lexer.offset();
+    let found = lengths_of(lexer);
+    let token = read_again(lexer, goal)?;
+    row_of(lexer, alloc, command, place, &found, token)
 }
 
 /// A lexer, the rows that were read from it, and the tokens that are live.
@@ -197,7 +253,8 @@ impl<'a, C: LexerConfig + Drop> RowReader<'a, C> {
 
     /// Reads a row and adds it, with its token live. Where it cannot allocate, lexer and live tokens may have gone on.
     fn read_on(&mut self, command: Option<Command>, goal: Goal) -> Result<(), AllocError>
-        requires { goal ≡ Goal.First → self.old.lexer.last ≡ None }
+        requires plain { is_plain goal ≡ true }
+        requires first { goal ≡ Goal.First → self.old.lexer.last ≡ None }
         ensures ok { OnOk result (AddsLive goal command self.old self.new) }
         ensures err { OnErr result (MayGoOn self.old self.new) }
     {
@@ -223,7 +280,8 @@ impl<'a, C: LexerConfig + Drop> RowReader<'a, C> {
         goal: Goal,
         is_peek: bool,
     ) -> Result<(), AllocError>
-        requires { goal ≡ Goal.First → self.old.lexer.last ≡ None }
+        requires plain { is_plain goal ≡ true }
+        requires first { goal ≡ Goal.First → self.old.lexer.last ≡ None }
         ensures ok { OnOk result
             (MatchBool is_peek (AddsPeek goal command self.old self.new) (AddsLive goal command self.old self.new)) }
         ensures err { OnErr result (IsUndone self.old self.new) }
@@ -241,6 +299,72 @@ impl<'a, C: LexerConfig + Drop> RowReader<'a, C> {
                 self.go_back(checkpoint, live);
                 Err(error)
             }
+        }
+    }
+
+    /// Reads the last token again and adds the row. Where it cannot allocate, the lexer may have gone on.
+    fn read_on_again(&mut self, command: Option<Command>, goal: Goal) -> Result<(), AllocError>
+        requires { MayReadAgain goal self.old.lexer }
+        ensures ok { OnOk result (AddsAgain goal command self.old self.new) }
+        ensures err { OnErr result (MayGoOn self.old self.new) }
+    {
+        let row = read_row_again(&mut self.lexer, self.alloc, command, goal)?;
+        let token = row.token;
+        self.rows.push(row)?;
+        self.tokens.replace_last(token);
+        Ok(())
+    }
+
+    /// Adds the row of a re-lex, with its token live in the place of the last one. Where it cannot allocate, all is as
+    /// before.
+    fn add_again(&mut self, command: Option<Command>, goal: Goal) -> Result<(), AllocError>
+        requires { MayReadAgain goal self.old.lexer }
+        ensures ok { OnOk result (AddsAgain goal command self.old self.new) }
+        ensures err { OnErr result (IsUndone self.old self.new) }
+    {
+        let checkpoint = self.lexer.checkpoint();
+        let tokens = self.tokens.len();
+        match self.read_on_again(command, goal) {
+            Ok(()) => Ok(()),
+            Err(error) => {
+                self.go_back(checkpoint, tokens);
+                Err(error)
+            }
+        }
+    }
+
+    /// Adds the row of a re-lex that is not taken: it holds the last token, and nothing else.
+    fn add_not_taken(&mut self, command: Option<Command>) -> Result<(), AllocError>
+        ensures ok { OnOk result (AddsNotTaken command self.old self.new) }
+        ensures err { OnErr result (IsUndone self.old self.new) }
+    {
+        let row = Row {
+            command,
+            place: self.lexer.offset(),
+            taken: false,
+            token: self.lexer.last_token(),
+            value: RowValue::Nothing,
+            regex: None,
+            diagnostics: DiagnosticList::new_in(self.alloc),
+            deferred: DiagnosticList::new_in(self.alloc),
+            comments: CommentList::new_in(self.alloc),
+            irregular: SpanList::new_in(self.alloc),
+        };
+        self.rows.push(row)
+    }
+
+    /// Adds the row of a re-lex, which is taken where the goal may read the last token again. Where it cannot allocate,
+    /// all is as before.
+    pub fn re_lex(&mut self, command: Option<Command>, goal: Goal) -> Result<(), AllocError>
+        requires { self.old.lexer.place ≡ (token_or_default self.old.lexer.last).end }
+        ensures ok { OnOk result (MatchBool (fits goal (token_or_default self.old.lexer.last))
+            (AddsAgain goal command self.old self.new) (AddsNotTaken command self.old self.new)) }
+        ensures err { OnErr result (IsUndone self.old self.new) }
+    {
+        if fits(goal, &self.lexer.last_token()) {
+            self.add_again(command, goal)
+        } else {
+            self.add_not_taken(command)
         }
     }
 

@@ -3,7 +3,8 @@
 ghost use Rattle.std.specs.Prelude.{◌≡◌, ◌≤◌, ◌<◌, ◌+◌, ◌^◌, ◌↔◌, true, [], ◌∷◌, ◌++◌, length, IfOk, OnOk, OnErr};
 ghost use Rattle.std.specs.List.{AllByRecursion};
 ghost use Rattle.js_lexer.specs.Lexer.{IsOnPlaces};
-ghost use Rattle.js_session.specs.Effects.{is_step};
+ghost use Rattle.js_session.specs.Effects.{effect_of, is_step};
+ghost use Rattle.js_session.specs.Effects.Effect.{re_lexes};
 ghost use Rattle.js_session.specs.Report.{LiesOnPlaces};
 ghost use Rattle.js_session.specs.Session.{Begins, AddsRow, LieOnPlaces, after_command, report_of};
 
@@ -16,7 +17,7 @@ use crate::steps::Steps;
 use js_grammar::Goal;
 use js_kind::LexerConfig;
 use js_lexer::{Lexer, NewFault};
-use js_text::{CommentList, DiagnosticList, ItemList, SourceType, SpanList};
+use js_text::{ItemList, SourceType};
 use std::alloc::{AllocError, Global};
 use std::marker::Model;
 use std::sync::ledger::Ledger;
@@ -95,6 +96,16 @@ impl<'a, C: LexerConfig + Drop> Session<'a, C> {
         self.reader.add_row(Some(Command::Peek), Goal::Next, true)
     }
 
+    /// Adds the row of a re-lex, with its token live in the place of the last one, if it is taken.
+    fn step_again(&mut self, command: Command, goal: Goal) -> Result<(), AllocError>
+        requires { effect_of command ≡ re_lexes goal }
+        ensures ok { OnOk result (AddsRow command self.old self.new) }
+        ensures err { OnErr result (self.new ≡ self.old) }
+        ensures places { LieOnPlaces self.new }
+    {
+        self.reader.re_lex(Some(command), goal)
+    }
+
     /// One step: adds one row.
     pub fn step<L: Ledger>(
         &mut self,
@@ -113,6 +124,7 @@ impl<'a, C: LexerConfig + Drop> Session<'a, C> {
         match command {
             Command::Next => self.step_next(),
             Command::Peek => self.step_peek(),
+            Command::TemplateTail => self.step_again(command, Goal::TemplateTail),
             Command::Mark | Command::Rewind | Command::Commit => unreachable!(),
         }
     }
@@ -162,14 +174,13 @@ impl<'a, C: LexerConfig + Drop> Session<'a, C> {
     /// The report of the calls so far. A mark may still be open.
     pub fn finish(self) -> Report
         ensures report { result ≡ report_of self.entry }
-        ensures unfilled { (result.deferred ≡ []) × (result.comments ≡ []) × (result.irregular ≡ []) }
         ensures rows_lie { AllByRecursion (LiesOnPlaces self.entry.text) result.rows }
         ensures tokens_lie { AllByRecursion (IsOnPlaces self.entry.text) result.tokens }
     {
         let Session { reader, marks: _ } = self;
         let RowReader {
             lexer,
-            alloc,
+            alloc: _,
             rows,
             tokens,
         } = reader;
@@ -179,9 +190,9 @@ impl<'a, C: LexerConfig + Drop> Session<'a, C> {
             tokens,
             collected: lexer.take_tokens(),
             diagnostics: lexer.take_errors(),
-            deferred: DiagnosticList::new_in(alloc),
-            comments: CommentList::new_in(alloc),
-            irregular: SpanList::new_in(alloc),
+            deferred: lexer.take_deferred_module_errors(),
+            comments: lexer.take_comments(),
+            irregular: lexer.take_irregular_whitespaces(),
         }
     }
 }

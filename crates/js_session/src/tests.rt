@@ -7,7 +7,7 @@ use crate::{Command, LexFault, Report, Row, RowList, Session, Steps, lex_all, le
 use js_kind::{
     Kind, LexerConfig, NoTokensLexerConfig, RuntimeLexerConfig, Token, TokensLexerConfig,
 };
-use js_text::{JsText, SourceType};
+use js_text::{Comment, JsText, SourceType};
 use std::alloc::{AllocError, Global};
 use std::marker::Brand;
 use std::sync::ledger::{Blank, Ledger};
@@ -99,6 +99,54 @@ fn rows_and_live_tokens(rt: HostRuntime) -> Result<(), Fail> {
             .ok()
             .ok_or("no report")?;
         assert!(rt; gives(case, &report));
+    }
+    Ok(())
+}
+
+/// A source, commands, and the one comment that is live: its span, and the start of the token that it belongs to.
+static COMMENTS: [(&str, &[Command], (u32, u32, u32)); 2] = [
+    (
+        "a /*c*/ b",
+        &[
+            Command::Mark,
+            Command::Next,
+            Command::Rewind,
+            Command::Peek,
+            Command::Next,
+        ],
+        (2, 7, 8),
+    ),
+    (
+        "`a${b}c${/*x*/+d",
+        &[
+            Command::Next,
+            Command::Next,
+            Command::TemplateTail,
+            Command::Next,
+        ],
+        (9, 14, 14),
+    ),
+];
+
+fn is_one_comment(comments: &[Comment], place: (u32, u32, u32)) -> bool {
+    match comments {
+        [comment] => {
+            comment.span.start == place.0
+                && comment.span.end == place.1
+                && comment.attached_to == place.2
+        }
+        _ => false,
+    }
+}
+
+#[test]
+fn live_comments(rt: HostRuntime) -> Result<(), Fail> {
+    for (source, commands, place) in &COMMENTS {
+        let bytes = source.as_bytes();
+        let report = lex_session(rt.alloc(), bytes, SourceType::Module, false, commands)
+            .ok()
+            .ok_or("no report")?;
+        assert!(rt; is_one_comment(report.comments.as_slice(), *place));
     }
     Ok(())
 }

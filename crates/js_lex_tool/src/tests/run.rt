@@ -25,24 +25,24 @@ fn run_sure(alloc: Global, words: &str, source: &[u8]) -> Result<(u8, SureOut), 
     Ok((outcome.status, output))
 }
 
-const CALL: &str = concat!(
-    "row 0 first 0 1 Ident 0..3 n =foo\n",
-    "row 1 next 3 1 LParen 3..4 -\n",
-    "row 2 next 4 1 Ident 4..5 - =a\n",
-    "row 3 next 5 1 RParen 5..6 -\n",
-    "row 4 next 6 1 Semicolon 6..7 -\n",
-    "row 5 next 7 1 Eof 7..7 -\n",
-    "token Ident 0..3 n\n",
-    "token LParen 3..4 -\n",
-    "token Ident 4..5 -\n",
-    "token RParen 5..6 -\n",
-    "token Semicolon 6..7 -\n",
-    "token Eof 7..7 -\n",
+const CHOICE: &str = concat!(
+    "row 0 first 0 1 Ident 0..1 n =a\n",
+    "row 1 next 1 1 Question 1..2 -\n",
+    "row 2 next 2 1 Float 2..4 -\n",
+    "row 3 next 4 1 Colon 4..5 -\n",
+    "row 4 next 5 1 Ident 5..6 - =b\n",
+    "row 5 next 6 1 Eof 6..6 -\n",
+    "token Ident 0..1 n\n",
+    "token Question 1..2 -\n",
+    "token Float 2..4 -\n",
+    "token Colon 4..5 -\n",
+    "token Ident 5..6 -\n",
+    "token Eof 6..6 -\n",
 );
 
 /// Words, a source, and the text that is written.
-static TEXTS: [(&str, &str, &str); 17] = [
-    ("module no-tokens next*5", "foo(a);", CALL),
+static TEXTS: [(&str, &str, &str); 22] = [
+    ("module no-tokens next*5", "a?.1:b", CHOICE),
     (
         "module no-tokens",
         "",
@@ -92,6 +92,7 @@ static TEXTS: [(&str, &str, &str); 17] = [
             "row 3 next 1 1 Ident 8..9 - =b\n",
             "token Ident 0..1 n\n",
             "token Ident 8..9 -\n",
+            "comment 2..7 SingleLineBlock Leading 8 0 0 None\n",
         ),
     ),
     (
@@ -112,12 +113,26 @@ static TEXTS: [(&str, &str, &str); 17] = [
             "row 0 first 0 1 Ident 6..7 n =a\n",
             "token Ident 6..7 n\n",
             "diagnostic HtmlCommentInModule 0..4\n",
+            "comment 0..5 HtmlOpen Leading 6 1 1 None\n",
         ),
     ),
     (
         "script no-tokens",
         "<!--x\na",
-        "row 0 first 0 1 Ident 6..7 n =a\ntoken Ident 6..7 n\n",
+        concat!(
+            "row 0 first 0 1 Ident 6..7 n =a\n",
+            "token Ident 6..7 n\n",
+            "comment 0..5 HtmlOpen Leading 6 1 1 None\n",
+        ),
+    ),
+    (
+        "module no-tokens",
+        "\u{A0}a",
+        concat!(
+            "row 0 first 0 1 Ident 2..3 n =a\n",
+            "token Ident 2..3 n\n",
+            "irregular 0..2\n",
+        ),
     ),
     (
         "unambiguous no-tokens next",
@@ -127,6 +142,8 @@ static TEXTS: [(&str, &str, &str); 17] = [
             "row 1 next 1 1 Eof 7..7 n\n",
             "token Ident 0..1 n\n",
             "token Eof 7..7 n\n",
+            "deferred HtmlCommentInModule 2..5\n",
+            "comment 2..7 HtmlClose Leading 7 1 1 None\n",
         ),
     ),
     (
@@ -179,6 +196,58 @@ static TEXTS: [(&str, &str, &str); 17] = [
             "token NoSubstitutionTemplate 0..7 ne\n",
         ),
     ),
+    (
+        "module tokens next*2 template next",
+        "`a${b}c`",
+        concat!(
+            "row 0 first 0 1 TemplateHead 0..4 n =a\n",
+            "row 1 next 4 1 Ident 4..5 - =b\n",
+            "row 2 next 5 1 RCurly 5..6 -\n",
+            "row 3 template 6 1 TemplateTail 5..8 - =c\n",
+            "row 4 next 8 1 Eof 8..8 -\n",
+            "token TemplateHead 0..4 n\n",
+            "token Ident 4..5 -\n",
+            "token TemplateTail 5..8 -\n",
+            "token Eof 8..8 -\n",
+            "collected TemplateHead 0..4 n\n",
+            "collected Ident 4..5 -\n",
+            "collected TemplateTail 5..8 -\n",
+            "collected Eof 8..8 -\n",
+        ),
+    ),
+    (
+        "module no-tokens template",
+        "}",
+        concat!(
+            "row 0 first 0 1 RCurly 0..1 n\n",
+            "row 1 template 1 1 Undetermined 0..1 -\n",
+            "token Undetermined 0..1 -\n",
+            "diagnostic UnterminatedString 0..1\n",
+        ),
+    ),
+    (
+        "module tokens mark template rewind next",
+        "}`a",
+        concat!(
+            "row 0 first 0 1 RCurly 0..1 n\n",
+            "row 1 template 1 1 TemplateTail 0..2 - =\n",
+            "row 2 next 1 1 Undetermined 1..3 -\n",
+            "token RCurly 0..1 n\n",
+            "token Undetermined 1..3 -\n",
+            "collected RCurly 0..1 n\n",
+            "collected Undetermined 1..3 -\n",
+            "diagnostic UnterminatedString 1..3\n",
+        ),
+    ),
+    (
+        "module no-tokens template",
+        "a`",
+        concat!(
+            "row 0 first 0 1 Ident 0..1 n =a\n",
+            "row 1 template 1 0 Ident 0..1 n\n",
+            "token Ident 0..1 n\n",
+        ),
+    ),
 ];
 
 #[test]
@@ -187,6 +256,69 @@ fn texts(rt: HostRuntime) -> Result<(), Fail> {
         let (status, output) = run_sure(rt.alloc(), words, source.as_bytes())?;
         assert_eq!(rt; status, DONE, "{words}: {source:?}");
         assert_eq!(rt; output.written(), text.as_bytes(), "{words}: {source:?}");
+    }
+    Ok(())
+}
+
+/// A file as it is written, of 27 lines and 602 bytes.
+const CART: &str = concat!(
+    "// Cart totals for the shop page.\n",
+    "import { rates } from \"./rates.js\";\n",
+    "\n",
+    "/** One line of a cart. */\n",
+    "export class Line {\n",
+    "  #price = 0;\n",
+    "  constructor(price, count = 1) {\n",
+    "    this.#price = price;\n",
+    "    this.count = count;\n",
+    "  }\n",
+    "\n",
+    "  get total() {\n",
+    "    return this.#price * this.count; // in cents\n",
+    "  }\n",
+    "}\n",
+    "\n",
+    "/* @__PURE__ */ export const EMPTY = [];\n",
+    "\n",
+    "export function sum(lines, code) {\n",
+    "  let cents = 0;\n",
+    "  for (const line of lines) cents += line.total;\n",
+    "  const rate = rates?.[code] ?? 1_000;\n",
+    "  if (cents >= 0x7fff_ffff || cents < 0) {\n",
+    "    throw new RangeError('cart too large');\n",
+    "  }\n",
+    "  return { cents, text: `cents` };\n",
+    "}\n",
+);
+
+/// The lines of its comments.
+const CART_COMMENTS: [&str; 4] = [
+    "comment 0..33 Line Leading 34 1 1 None",
+    "comment 71..97 SingleLineBlock Leading 98 1 1 Jsdoc",
+    "comment 273..284 Line Trailing 272 0 1 None",
+    "comment 292..307 SingleLineBlock Leading 308 1 0 PureNotApplied",
+];
+
+/// How many lines of the text begin with the word.
+fn lines_of(text: &[u8], word: &str) -> usize {
+    match str::from_utf8(text) {
+        Ok(text) => text.lines().filter(|line| line.starts_with(word)).count(),
+        Err(_) => 0,
+    }
+}
+
+#[test]
+fn a_whole_file(rt: HostRuntime) -> Result<(), Fail> {
+    let (status, output) = run_sure(rt.alloc(), "module no-tokens all", CART.as_bytes())?;
+    let text = output.written();
+    assert_eq!(rt; status, DONE);
+    assert_eq!(rt; CART.len(), 602);
+    assert_eq!(rt; lines_of(text, "row "), 129);
+    assert_eq!(rt; lines_of(text, "diagnostic "), 0);
+    assert_eq!(rt; lines_of(text, "row 128 next 601 1 Eof 602..602 n"), 1);
+    assert_eq!(rt; lines_of(text, "comment "), CART_COMMENTS.len());
+    for line in CART_COMMENTS {
+        assert_eq!(rt; lines_of(text, line), 1, "{line}");
     }
     Ok(())
 }
@@ -234,7 +366,7 @@ fn commands_run(alloc: Global, words: &str, source: &[u8]) -> Result<Option<usiz
 
 #[test]
 fn commands_of_all(rt: HostRuntime) -> Result<(), Fail> {
-    for (source, count) in [(b"".as_slice(), 0), (b"a b", 2), (b"foo(a);", 5)] {
+    for (source, count) in [(b"".as_slice(), 0), (b"a b", 2), (b"a?.1:b", 5)] {
         let commands = commands_run(rt.alloc(), "module no-tokens all", source)?;
         assert_eq!(rt; commands, Some(count));
     }
@@ -251,9 +383,9 @@ struct Ends {
     faults: (u64, u64),
 }
 
-/// A run over seven bytes, of which some reads, writes and flushes fail.
+/// A run over six bytes, of which some reads, writes and flushes fail.
 fn run_failing(alloc: Global, reads: &[u64], writes: &[u64]) -> Result<Ends, AllocError> {
-    let mut input = MemoryIn::new(b"foo(a);", 2, reads);
+    let mut input = MemoryIn::new(b"a?.1:b", 2, reads);
     let mut output = MemoryOut::new(alloc, 10, writes);
     let words = strings_of(alloc, "module no-tokens next*5")?;
     let outcome = lex_tool_run(alloc, &words, &mut input, &mut output);
@@ -269,13 +401,13 @@ fn run_failing(alloc: Global, reads: &[u64], writes: &[u64]) -> Result<Ends, All
 fn whole() -> Ends {
     Ends {
         status: DONE,
-        written: CALL.len(),
-        flushed: CALL.len(),
+        written: CHOICE.len(),
+        flushed: CHOICE.len(),
         faults: (0, 0),
     }
 }
 
-// Four reads give seven bytes in pieces of two, the fifth finds the end, and no read is made after it.
+// Three reads give six bytes in pieces of two, the fourth finds the end, and no read is made after it.
 #[test]
 fn reads_that_fail(rt: HostRuntime) -> Result<(), Fail> {
     let failed = Ends {
@@ -284,9 +416,9 @@ fn reads_that_fail(rt: HostRuntime) -> Result<(), Fail> {
         flushed: 0,
         faults: (1, 0),
     };
-    for call in 0..6 {
+    for call in 0..5 {
         let ends = run_failing(rt.alloc(), &[call], &[])?;
-        let wanted = if call < 5 { failed } else { whole() };
+        let wanted = if call < 4 { failed } else { whole() };
         assert_eq!(rt; ends, wanted, "at call {call}");
     }
     Ok(())
@@ -295,12 +427,12 @@ fn reads_that_fail(rt: HostRuntime) -> Result<(), Fail> {
 // The text is written in pieces of ten, and then flushed; nothing is called after that.
 #[test]
 fn writes_that_fail(rt: HostRuntime) -> Result<(), Fail> {
-    let writes = CALL.len().div_ceil(10) as u64;
+    let writes = CHOICE.len().div_ceil(10) as u64;
     for call in 0..writes + 2 {
         let ends = run_failing(rt.alloc(), &[], &[call])?;
         let failed = Ends {
             status: WRITE_FAILED,
-            written: CALL.len().min(10 * call as usize),
+            written: CHOICE.len().min(10 * call as usize),
             flushed: 0,
             faults: (0, 1),
         };

@@ -1,6 +1,6 @@
 use Rattle.std.proofs.Common.{refl, ◌∙◌, ap, take, length, [], ◌∷◌}
 use Rattle.std.proofs.Math.Seq.{take-length, take-append_seam}
-use Rattle.std.proofs.lemmas.Result.{err_from_is_err_and, on_err_weaker}
+use Rattle.std.proofs.lemmas.Result.{err_from_is_err_and, on_err_weaker, on_ok_weaker}
 use Rattle.js_lexer.proofs.LexerSteps.{reading_goes_on}
 use Rattle.js_session.proofs.read.RowReader.read_on.Goals as goal
 
@@ -26,3 +26,14 @@ returns-clause-err g c =
           ∙ take-append_seam c.self.inside.tokens (c.in_ok-row.row.token ∷ []);
     }))
     c.push-2.ensures.err
+
+pub returns-clause-ok : goal.returns-clause-ok
+returns-clause-ok g c =
+    on_ok_weaker c.push-2.result
+    (λ pushed. rw (← c.self.view_is) (record {
+      row = c.in_ok-row.row;
+      reads = c.in_ok-row.ensures.ok;
+      rows = pushed;
+      tokens = c.in_ok-push.ensures.ok;
+    }))
+    c.push-2.ensures.ok
