@@ -466,6 +466,7 @@ fn rereads_a_hashbang<C: LexerConfig + Drop>(
     let fresh = lexer.checkpoint();
     let _ = lexer.peek_token()?;
     assert!(rt; lexer.first_token()?.kind().is_same(Kind::HashbangComment));
+    assert!(rt; lexer.can_rewind(&fresh));
     lexer.rewind(fresh);
     assert_eq!(rt; lexer.first_token()?.end(), 3);
     assert_eq!(rt; lexer.tokens().len(), 0);
@@ -552,6 +553,7 @@ fn tells_texts<C: LexerConfig + Drop>(
     let fresh = lexer.checkpoint();
     let private = lexer.first_token()?;
     let escaped = lexer.next_token()?;
+    assert!(rt; lexer.can_rewind(&fresh));
     lexer.rewind(fresh);
     assert!(rt; is_source(lexer.get_string(private), "a"));
     assert!(rt; is_decoded(lexer.get_string(escaped), &[0x62]));
