@@ -1,5 +1,11 @@
 -- The text of a report.
 use Rattle.std.specs.Prelude.{ℕ, ◌+◌, Bool, true, false, List, [], ◌∷◌, ◌++◌, codes, Option, Some, None, slice_range}
+use Rattle.std.specs.Prelude.{◌==◌, if◌then◌else◌}
+use Rattle.std.specs.Option.{option_map_or}
+use Rattle.js_grammar.specs.RegularExpression.{has_flag}
+use Rattle.js_text.specs.RegExpFlags.{flag_bits, flag_of_letter}
+use Rattle.js_text.specs.declared.reg_exp_flags.RegExpFlags.{RegExpFlags}
+use Rattle.js_text.specs.declared.reg_exp_flags.RegexInfo.{RegexInfo}
 use Rattle.std.specs.Fmt.{decimal}
 use Rattle.std.specs.List.{flat_map}
 use Rattle.js_text.specs.Comment.{comment_kind_name, comment_position_name, comment_content_name}
@@ -60,9 +66,29 @@ value_text source (Slice span) = codes " =" ++ text_in_units (slice_range source
 value_text source (Units units) = codes " =" ++ all_units_text units
 value_text source Bad = codes " !"
 
+-- the letter of a flag of a regular expression, where the flag is in the set
+abbrev pub flag_letter : RegExpFlags → ℕ → List ℕ
+flag_letter flags c = letter (option_map_or (has_flag flags) (flag_of_letter c) false) c
+
+-- the letters of the flags, in the order of the alphabet
+abbrev pub flag_letters_of : RegExpFlags → List ℕ
+flag_letters_of flags = flat_map (flag_letter flags) (codes "dgimsuvy")
+
+-- these, or a dash
+abbrev pub regex_flags_text : RegExpFlags → List ℕ
+regex_flags_text flags = if flag_bits flags == 0 then codes "-" else flag_letters_of flags
+
+-- what is known of a regular expression behind a `/`, or nothing
+abbrev pub regex_text : Option RegexInfo → List ℕ
+regex_text None = []
+regex_text (Some info) =
+    codes " /" ++ decimal info.pattern_end ++ codes " " ++ regex_flags_text info.flags ++ codes " "
+    ++ bit_text info.flags_error
+
 -- a row with its number
 abbrev pub row_line : List ℕ → ℕ → Row → List ℕ
-row_line source i row = row_head i row ++ token_text row.token ++ value_text source row.value ++ 10 ∷ []
+row_line source i row =
+    row_head i row ++ token_text row.token ++ value_text source row.value ++ regex_text row.regex ++ 10 ∷ []
 
 -- a line for each row, numbered from i
 abbrev pub row_lines : List ℕ → ℕ → List Row → List ℕ

@@ -33,7 +33,7 @@ abbrev pub tokens_words : List (List ℕ × Bool)
 tokens_words = (codes "tokens", true) ∷ (codes "no-tokens", false) ∷ []
 
 -- the command with this word
-abbrev pub command_of : List ℕ → Option Command
+unfoldable pub command_of : List ℕ → Option Command
 command_of word = find (λ c. bytes_eq (command_word c) word) all_commands
 
 -- the number from 1 to 1,000,000 that the text is in decimal, with no sign and no leading zero

@@ -1,18 +1,20 @@
 //! The text of a report.
 
-ghost use Rattle.std.specs.Prelude.{◌≡◌, ◌+◌, ◌++◌, IfOk, OnOk, string_bytes};
+ghost use Rattle.std.specs.Prelude.{◌≡◌, ◌+◌, ◌++◌, [], codes, IfOk, OnOk, string_bytes, if◌then◌else◌};
 ghost use Rattle.std.specs.List.{AllByRecursion, flat_map};
 ghost use Rattle.js_session.specs.Report.{IsSliceOnPlaces};
 ghost use Rattle.js_lex_tool.specs.ReportText.{flags_text, token_text, step_name, bit_text, row_head, value_text};
 ghost use Rattle.js_lex_tool.specs.ReportText.{row_line, row_lines, token_line, span_or_dash, named_character};
 ghost use Rattle.js_lex_tool.specs.ReportText.{diagnostic_text, diagnostic_line, report_text_of};
+ghost use Rattle.js_lex_tool.specs.ReportText.{flag_letter, regex_flags_text, regex_text};
 ghost use Rattle.js_lex_tool.specs.ReportText.{comment_head, comment_rest, comment_line, irregular_line};
 
 use crate::command::command_word;
 use crate::units::{push_number, push_text_in_units, push_units};
+use bitflags::Flags;
 use js_kind::Token;
 use js_session::{Command, Report, Row, RowValue};
-use js_text::{Comment, Diagnostic, Span};
+use js_text::{Comment, Diagnostic, RegExpFlags, RegexInfo, Span};
 use std::alloc::{AllocError, Global};
 use std::fmt::Write;
 
@@ -90,6 +92,60 @@ fn push_value(text: &mut String, source: &str, value: &RowValue) -> Result<(), A
     }
 }
 
+fn push_if(text: &mut String, holds: bool, letter: &str) -> Result<(), AllocError>
+    ensures { OnOk result (string_bytes text.new ≡ string_bytes text.old ++ (if holds then letter.now else [])) }
+{
+    if holds { text.push_str(letter) } else { Ok(()) }
+}
+
+/// The letters of the flags up to `m`.
+fn push_first_flags(text: &mut String, flags: RegExpFlags) -> Result<(), AllocError>
+    ensures { OnOk result (string_bytes text.new
+        ≡ string_bytes text.old ++ flat_map (flag_letter flags) (codes "dgim")) }
+{
+    push_if(text, flags.contains(RegExpFlags::D), "d")?;
+    push_if(text, flags.contains(RegExpFlags::G), "g")?;
+    push_if(text, flags.contains(RegExpFlags::I), "i")?;
+    push_if(text, flags.contains(RegExpFlags::M), "m")
+}
+
+/// The letters of the flags behind `m`.
+fn push_last_flags(text: &mut String, flags: RegExpFlags) -> Result<(), AllocError>
+    ensures { OnOk result (string_bytes text.new
+        ≡ string_bytes text.old ++ flat_map (flag_letter flags) (codes "suvy")) }
+{
+    push_if(text, flags.contains(RegExpFlags::S), "s")?;
+    push_if(text, flags.contains(RegExpFlags::U), "u")?;
+    push_if(text, flags.contains(RegExpFlags::V), "v")?;
+    push_if(text, flags.contains(RegExpFlags::Y), "y")
+}
+
+/// The letters of the flags, or a dash.
+fn push_flags(text: &mut String, flags: RegExpFlags) -> Result<(), AllocError>
+    ensures { OnOk result (string_bytes text.new ≡ string_bytes text.old ++ regex_flags_text flags) }
+{
+    if flags.bits() == 0 {
+        return text.push_str("-");
+    }
+    push_first_flags(text, flags)?;
+    push_last_flags(text, flags)
+}
+
+fn push_regex(text: &mut String, regex: Option<RegexInfo>) -> Result<(), AllocError>
+    ensures { OnOk result (string_bytes text.new ≡ string_bytes text.old ++ regex_text regex) }
+{
+    match regex {
+        None => Ok(()),
+        Some(info) => {
+            let end = info.pattern_end;
+            write!(text, " /{end} ")?;
+            push_flags(text, info.flags)?;
+            text.push_str(" ")?;
+            text.push_str(bit(info.flags_error))
+        }
+    }
+}
+
 fn push_row(text: &mut String, source: &str, index: usize, row: &Row) -> Result<(), AllocError>
     requires { IsSliceOnPlaces source.now row.now.value }
     ensures { OnOk result (string_bytes text.new ≡ string_bytes text.old ++ row_line source.now index row.now) }
@@ -97,6 +153,7 @@ fn push_row(text: &mut String, source: &str, index: usize, row: &Row) -> Result<
     push_head(text, index, row)?;
     push_token(text, &row.token)?;
     push_value(text, source, &row.value)?;
+    push_regex(text, row.regex)?;
     text.push_str("\n")
 }
 

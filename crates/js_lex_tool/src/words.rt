@@ -52,6 +52,7 @@ fn parse_tokens(word: &str) -> Option<bool>
     }
 }
 
+#[tactic(auto, unfolding(crate::specs::Words::command_of))]
 fn parse_command(word: &str) -> Option<Command>
     ensures { result ≡ command_of word.now }
 {

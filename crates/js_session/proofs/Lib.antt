@@ -1,3 +1,4 @@
+pub mod AgainLemmas
 pub mod Causes
 pub mod FaultLemmas
 pub mod LexerLemmas

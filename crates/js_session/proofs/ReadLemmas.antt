@@ -31,73 +31,42 @@ use Rattle.js_session.specs.declared.row.Row.{Row}
 use Rattle.js_session.specs.Effects.{row_effect}
 use Rattle.js_session.specs.Live.{Live, outcome_of}
 use Rattle.js_session.specs.Marks.{lexer_behind, IsAlike}
-use Rattle.js_session.specs.Report.{IsRow, IsRead, IsOfEffect, LiesOnPlaces, IsSliceOnPlaces, fits}
-use Rattle.js_grammar.specs.Reads.{is_plain}
-use Rattle.js_lexer.specs.Lexer.{token_or_default}
+use Rattle.js_session.specs.Report.{IsRow, IsRead, IsOfEffect, LiesOnPlaces, IsSliceOnPlaces}
+use Rattle.js_grammar.specs.Reads.{is_onward}
+use Rattle.js_text.specs.declared.reg_exp_flags.RegexInfo.{RegexInfo}
+use Rattle.js_session.specs.declared.re_lex.ReadAgain.{ReadAgain}
+use Rattle.js_session.specs.RowReader.{ReadsAgainAs}
+use Rattle.js_session.proofs.AgainLemmas.{onward_regex}
 use Rattle.js_session.specs.RowReader.{RowReaderState, ReadsRow, AddsLive, AddsPeek, GoesBack}
 use Rattle.js_session.specs.RowReader.{IsMadeOf, ReadsRowAgain, IsKept, HoldsUnits, HoldsPart, HoldsKept, HoldsValue}
 
--- no plain reading finds a regular expression
-plain_regex : (text : List ℕ) (t : SourceType) (goal : Goal) (before : Option TokenParts) (place : ℕ) (o : Outcome)
-    → ReadsPlainly text t goal before place o → o.regex ≡ None
-plain_regex text t goal before place o (hashbang begins read) = ap (λ x. x.regex) read.alone
-plain_regex text t goal before place o (behind_gap begins read) = ap (λ x. x.regex) read.outcome_is
-
-plain_goal_regex : (text : List ℕ) (t : SourceType) (goal : Goal) (before : Option TokenParts) (place : ℕ) (o : Outcome)
-    → is_plain goal ≡ true → GoalReads text t goal before place o → o.regex ≡ None
-plain_goal_regex text t First before place o plain reads = plain_regex text t First before place o reads
-plain_goal_regex text t NextGoal before place o plain reads = plain_regex text t NextGoal before place o reads
-plain_goal_regex text t TailGoal before place o plain reads = absurd (cc)
-plain_goal_regex text t RegularExpression before place o plain reads = absurd (cc)
-plain_goal_regex text t RightAngle before place o plain reads = absurd (cc)
-plain_goal_regex text t TypeScriptLeftAngle before place o plain reads = absurd (cc)
-plain_goal_regex text t TypeScriptRightAngle before place o plain reads = absurd (cc)
-plain_goal_regex text t JsxIdentifier before place o plain reads = absurd (cc)
-plain_goal_regex text t JsxChild before place o plain reads = absurd (cc)
-plain_goal_regex text t JsxAttributeValue before place o plain reads = absurd (cc)
-
--- nor does a part of a template
-part_regex : (text : List ℕ) (t : SourceType) (goal : Goal) (before : Option TokenParts) (place : ℕ) (o : Outcome)
-    → fits goal (token_or_default before) ≡ true → GoalReads text t goal before place o → o.regex ≡ None
-part_regex text t First before place o fit reads = absurd (cc)
-part_regex text t NextGoal before place o fit reads = absurd (cc)
-part_regex text t TailGoal None place o fit reads = absurd reads
-part_regex text t TailGoal (Some token) place o fit reads = ap (λ x. x.regex) reads.outcome_is
-part_regex text t RegularExpression before place o fit reads = absurd (cc)
-part_regex text t RightAngle before place o fit reads = absurd (cc)
-part_regex text t TypeScriptLeftAngle before place o fit reads = absurd (cc)
-part_regex text t TypeScriptRightAngle before place o fit reads = absurd (cc)
-part_regex text t JsxIdentifier before place o fit reads = absurd (cc)
-part_regex text t JsxChild before place o fit reads = absurd (cc)
-part_regex text t JsxAttributeValue before place o fit reads = absurd (cc)
-
 -- what a lexer made of an outcome, whether it read on or read its last token again
-pub record IsReadingOf (goal : Goal) (old : LexerState) (token : TokenParts) (new : LexerState) (o : Outcome)
-    : Type 0 where
+pub record IsReadingOf (goal : Goal) (old : LexerState) (token : TokenParts) (regex : Option RegexInfo)
+    (new : LexerState) (o : Outcome) : Type 0 where
   pub token_is : token ≡ o.token
   pub reads : ReadsOutcome goal old o
   pub findings : new.findings ≡ joined old.findings o.findings
   pub has_value : HasValue old.text new.decoded token
-  pub no_regex : o.regex ≡ None
+  pub regex_is : o.regex ≡ regex
 
-pub on : (goal : Goal) (old new : LexerState) (token : TokenParts) → is_plain goal ≡ true
-    → (r : ReadsToken goal old token new) → IsReadingOf goal old token new r.outcome
-on goal old new token plain r = record {
+pub on : (goal : Goal) (old new : LexerState) (token : TokenParts) → is_onward goal ≡ true
+    → (r : ReadsToken goal old token new) → IsReadingOf goal old token None new r.outcome
+on goal old new token onward r = record {
   token_is = r.token_is;
   reads = r.reads;
   findings = r.after.findings;
   has_value = r.has_value;
-  no_regex = plain_goal_regex old.text old.source_type goal old.last old.place r.outcome plain r.reads.reads;
+  regex_is = onward_regex old.text old.source_type goal old.last old.place r.outcome onward r.reads.reads;
 }
 
-pub again : (goal : Goal) (old new : LexerState) (token : TokenParts) → fits goal (token_or_default old.last) ≡ true
-    → (r : ReadsAgain goal old token new) → IsReadingOf goal old token new r.outcome
-again goal old new token fit r = record {
-  token_is = r.token_is;
-  reads = r.reads;
-  findings = r.after.findings;
-  has_value = r.has_value;
-  no_regex = part_regex old.text old.source_type goal old.last old.place r.outcome fit r.reads.reads;
+pub again : (goal : Goal) (old new : LexerState) (found : ReadAgain) → (r : ReadsAgainAs goal old found new)
+    → IsReadingOf goal old found.token found.regex new r.reads.outcome
+again goal old new found r = record {
+  token_is = r.reads.token_is;
+  reads = r.reads.reads;
+  findings = r.reads.after.findings;
+  has_value = r.reads.has_value;
+  regex_is = r.regex;
 }
 
 same_outcome : (a b : Outcome) → a.token ≡ b.token → a.value ≡ b.value → a.regex ≡ b.regex → a.findings ≡ b.findings
@@ -160,18 +129,18 @@ is_kept true decoded start here kept = ap is_some kept
 is_kept false decoded start here kept = ap is_some kept
 
 -- the outcome that a row of a token holds: its value, and what was reported since
-made_outcome : (goal : Goal) (old new : LexerState) (token : TokenParts) (value : RowValue)
+made_outcome : (goal : Goal) (old new : LexerState) (token : TokenParts) (regex : Option RegexInfo) (value : RowValue)
     (row o : Outcome)
-    → IsUtf8 old.text → IsReadingOf goal old token new o → HoldsValue new.decoded token value
+    → IsUtf8 old.text → IsReadingOf goal old token regex new o → HoldsValue new.decoded token value
     → row
     ≡ record {
       token = token;
       value = value;
-      regex = None;
+      regex = regex;
       findings = found_since (lengths_of old.findings) new.findings;
     }
     → row ≡ o
-made_outcome goal old new token value row o u r held made =
+made_outcome goal old new token regex value row o u r held made =
     let reads = r.reads.reads in
     let here : IsValueOf old.text token value = held_value old.text new.decoded token value r.has_value held in
     let there : IsValueOf old.text o.token o.value =
@@ -179,9 +148,8 @@ made_outcome goal old new token value row o u r held made =
     let same : value ≡ o.value =
     one_value old.text token value o.value here
     (subst (λ t. IsValueOf old.text t o.value) (sym r.token_is) there) in
-    let regex : None ≡ o.regex = sym r.no_regex in
     let found = found_since_is old.findings o.findings new.findings r.findings in
-    made ∙ same_outcome _ o r.token_is same regex found
+    made ∙ same_outcome _ o r.token_is same (sym r.regex_is) found
 
 -- the value of a token without an escape lies on places, if its text does
 plain_lies : (valued : Bool) (text : List ℕ) (start end : ℕ) → IsCharBoundary text start → IsCharBoundary text end
@@ -237,12 +205,12 @@ pub record MadeRow (command : Option Command) (place : ℕ) (old : LexerState) (
   pub places : LiesOnPlaces old.text row
 
 made : (goal : Goal) (command : Option Command) (old new : LexerState) (place : ℕ)
-    (token : TokenParts) (row : Row) (o : Outcome)
-    → IsUtf8 old.text → IsReadingOf goal old token new o
-    → IsMadeOf command place (lengths_of old.findings) token new row → MadeRow command place old row token o
-made goal command old new place token row o u r is =
+    (token : TokenParts) (regex : Option RegexInfo) (row : Row) (o : Outcome)
+    → IsUtf8 old.text → IsReadingOf goal old token regex new o
+    → IsMadeOf command place (lengths_of old.findings) token regex new row → MadeRow command place old row token o
+made goal command old new place token regex row o u r is =
     let outcome =
-    made_outcome goal old new token row.value (outcome_of row) o u r is.value (ap outcome_of is.row_is) in
+    made_outcome goal old new token regex row.value (outcome_of row) o u r is.value (ap outcome_of is.row_is) in
     record {
       token_is = sym (ap (λ x. x.token) is.row_is);
       outcome_is = outcome;
@@ -254,13 +222,14 @@ made goal command old new place token row o u r is =
 
 -- a row that was made of a token that was read
 pub made_row : (goal : Goal) (command : Option Command) (old new : LexerState) (lengths : FindingLengths) (place : ℕ)
-    (token : TokenParts) → is_plain goal ≡ true → IsUtf8 old.text → ReadsToken goal old token new → lengths ≡ lengths_of old.findings
-    → place ≡ old.place → (row : Row) → IsMadeOf command place lengths token new row
+    (token : TokenParts) → is_onward goal ≡ true → IsUtf8 old.text → ReadsToken goal old token new
+    → lengths ≡ lengths_of old.findings
+    → place ≡ old.place → (row : Row) → IsMadeOf command place lengths token None new row
     → ReadsRow goal command old row new
-made_row goal command old new lengths place token plain u r before at row is =
+made_row goal command old new lengths place token onward u r before at row is =
     let m =
-    made goal command old new place token row r.outcome u (on goal old new token plain r)
-    (subst (λ l. IsMadeOf command place l token new row) before is) in
+    made goal command old new place token None row r.outcome u (on goal old new token onward r)
+    (subst (λ l. IsMadeOf command place l token None new row) before is) in
     record {
       reads = record {
         outcome = r.outcome;
@@ -280,22 +249,22 @@ made_row goal command old new lengths place token plain u r before at row is =
 
 -- and one of a token that was read again
 pub made_row_again : (goal : Goal) (command : Option Command) (old new : LexerState) (lengths : FindingLengths)
-    (place : ℕ) (token : TokenParts) → fits goal (token_or_default old.last) ≡ true → IsUtf8 old.text → ReadsAgain goal old token new
+    (place : ℕ) (found : ReadAgain) → IsUtf8 old.text → ReadsAgainAs goal old found new
     → lengths ≡ lengths_of old.findings
-    → place ≡ old.place → (row : Row) → IsMadeOf command place lengths token new row
+    → place ≡ old.place → (row : Row) → IsMadeOf command place lengths found.token found.regex new row
     → ReadsRowAgain goal command old row new
-made_row_again goal command old new lengths place token fit u r before at row is =
+made_row_again goal command old new lengths place found u r before at row is =
     let m =
-    made goal command old new place token row r.outcome u (again goal old new token fit r)
-    (subst (λ l. IsMadeOf command place l token new row) before is) in
+    made goal command old new place found.token found.regex row r.reads.outcome u (again goal old new found r)
+    (subst (λ l. IsMadeOf command place l found.token found.regex new row) before is) in
     record {
       reads = record {
-        outcome = r.outcome;
-        token_is = sym m.token_is ∙ r.token_is;
-        reads = r.reads;
-        after = r.after;
-        kept = r.kept;
-        has_value = subst (HasValue old.text new.decoded) m.token_is r.has_value;
+        outcome = r.reads.outcome;
+        token_is = sym m.token_is ∙ r.reads.token_is;
+        reads = r.reads.reads;
+        after = r.reads.after;
+        kept = r.reads.kept;
+        has_value = subst (HasValue old.text new.decoded) m.token_is r.reads.has_value;
       };
       outcome_is = m.outcome_is;
       command_is = m.command_is;

@@ -26,7 +26,8 @@ use Rattle.js_session.specs.declared.mark.SessionMark.{SessionMark}
 use Rattle.js_session.specs.declared.row.Row.{Row}
 use Rattle.js_session.specs.Live.{Live, with_outcome, with_re_lexed, outcome_of, last_live, after_mark}
 use Rattle.js_session.specs.Effects.{effect_of}
-use Rattle.js_session.specs.Effects.Effect.{re_lexes}
+use Rattle.js_session.specs.Effects.Effect.{reads, re_lexes}
+use Rattle.js_session.proofs.AgainLemmas.{fits_some, re_lexed_collected, from_any_place}
 use Rattle.js_session.specs.Marks.{live_now, front, fronts, state_of, lexer_behind, lexer_at, IsAlike}
 use Rattle.js_session.specs.Marks.{AreMarks, IsInOrder}
 use Rattle.js_session.specs.Report.{LiesOnPlaces, IsRow, IsOfEffect, fits}
@@ -107,64 +108,32 @@ order_added goal command old new marks h a =
     (subst (AllByRecursion (IsOnPlaces text)) (sym a.tokens)
     (all-push (IsOnPlaces text) old.tokens a.row.token h.tokens_lie a.reads.places.token))
 
-pub next_adds_row : (old new : RowReaderState) (ms : List SessionMark) → IsInOrder old (reverse ms)
-    → AddsLive NextGoal (Some Next) old new → AddsRow Next (seen old ms) (seen new ms)
-next_adds_row old new ms h a =
-    let after = added_restored NextGoal (Some Next) old new a in
-    let live = live_added NextGoal (Some Next) old new a in
+pub on_adds_row : (goal : Goal) (command : Command) (old new : RowReaderState) (ms : List SessionMark)
+    → effect_of command ≡ reads goal → IsInOrder old (reverse ms) → AddsLive goal (Some command) old new
+    → AddsRow command (seen old ms) (seen new ms)
+on_adds_row goal command old new ms effect h a =
+    let after = added_restored goal (Some command) old new a in
+    let live = live_added goal (Some command) old new a in
     let marks =
     fronts-outcome old.lexer.text old.lexer.source_type old.lexer.collects (live_now old) (outcome_of a.row)
     (reverse ms) h.are_marks in
     record {
       row = a.row;
-      is_row = read_is_row NextGoal (Some Next) old.lexer new.lexer (live_now old) a.row h.behind a.reads (λ is. is);
-      after = rw (after.text, after.source_type, after.collects, a.rows, live, marks) refl;
+      is_row =
+          read_is_row goal (Some command) old.lexer new.lexer (live_now old) a.row h.behind a.reads
+          (λ is. subst (λ e. IsOfEffect old.lexer.text old.lexer.source_type (live_now old) e a.row) (sym effect) is);
+      after = rw (after.text, after.source_type, after.collects, a.rows, live, marks, effect) refl;
     }
 
 -- the last live token was read again
 pub record IsReLexedFrom (goal : Goal) (old : RowReaderState) (o : Outcome) : Type 0 where
-  pub fits : fits goal (token_or_default old.lexer.last) ≡ true
+  pub fits : fits old.lexer.text goal (token_or_default old.lexer.last) ≡ true
   pub reads : GoalReads old.lexer.text old.lexer.source_type goal old.lexer.last old.lexer.place o
-
--- a token that may be read again is collected where tokens are
-fits_some : (goal : Goal) (last : Option TokenParts) → fits goal (token_or_default last) ≡ true
-    → (t : TokenParts) × (last ≡ Some t) × (is_hashbang t.kind ≡ false)
-fits_some First last e = absurd (cc)
-fits_some NextGoal last e = absurd (cc)
-fits_some RegularExpression last e = absurd (cc)
-fits_some RightAngle last e = absurd (cc)
-fits_some TypeScriptLeftAngle last e = absurd (cc)
-fits_some TypeScriptRightAngle last e = absurd (cc)
-fits_some JsxIdentifier last e = absurd (cc)
-fits_some JsxChild last e = absurd (cc)
-fits_some JsxAttributeValue last e = absurd (cc)
-fits_some TailGoal None e = absurd (cc)
-fits_some TailGoal (Some t) e =
-    let curly : t.kind ≡ RCurly = number_injective t.kind RCurly (eqb-true _ _ e) in
-    (t, refl, ap is_hashbang curly)
-
--- and so is what is read of it
-re_lexed_collected : (text : List ℕ) (t : SourceType) (goal : Goal) (before : Option TokenParts) (place : ℕ)
-    (o : Outcome) → fits goal (token_or_default before) ≡ true → GoalReads text t goal before place o
-    → is_hashbang o.token.kind ≡ false
-re_lexed_collected text t First before place o e reads = absurd (cc)
-re_lexed_collected text t NextGoal before place o e reads = absurd (cc)
-re_lexed_collected text t RegularExpression before place o e reads = absurd (cc)
-re_lexed_collected text t RightAngle before place o e reads = absurd (cc)
-re_lexed_collected text t TypeScriptLeftAngle before place o e reads = absurd (cc)
-re_lexed_collected text t TypeScriptRightAngle before place o e reads = absurd (cc)
-re_lexed_collected text t JsxIdentifier before place o e reads = absurd (cc)
-re_lexed_collected text t JsxChild before place o e reads = absurd (cc)
-re_lexed_collected text t JsxAttributeValue before place o e reads = absurd (cc)
-re_lexed_collected text t TailGoal None place o e reads = absurd reads
-re_lexed_collected text t TailGoal (Some token) place o e reads =
-    ap (λ x. is_hashbang x.token.kind) reads.outcome_is
-    ∙ part_kind_is (λ kind. is_hashbang kind ≡ false) TemplateMiddle TemplateTail refl refl refl token.start reads.behind
 
 is_replaced : (goal : Goal) (old : RowReaderState) (marks : List SessionMark) (o : Outcome) → IsInOrder old marks
     → IsReLexedFrom goal old o → IsReplaced (live_now old) o
 is_replaced goal old marks o h r =
-    let found = fits_some goal old.lexer.last r.fits in
+    let found = fits_some old.lexer.text goal old.lexer.last r.fits in
     record {
       last = found.0;
       is_last = sym h.behind.last ∙ found.1;
@@ -174,7 +143,7 @@ is_replaced goal old marks o h r =
     }
 
 again_from : (goal : Goal) (command : Option Command) (old new : RowReaderState)
-    → fits goal (token_or_default old.lexer.last) ≡ true → (a : AddsAgain goal command old new)
+    → fits old.lexer.text goal (token_or_default old.lexer.last) ≡ true → (a : AddsAgain goal command old new)
     → IsReLexedFrom goal old (outcome_of a.row)
 again_from goal command old new fit a = record { fits = fit; reads = rw a.reads.outcome_is a.reads.reads.reads.reads }
 
@@ -192,7 +161,7 @@ live_again goal command old new a =
 
 -- a row was read again, and its token is live in the place of the last one
 order_again : (goal : Goal) (command : Option Command) (old new : RowReaderState) (marks : List SessionMark)
-    → fits goal (token_or_default old.lexer.last) ≡ true → IsInOrder old marks → AddsAgain goal command old new
+    → fits old.lexer.text goal (token_or_default old.lexer.last) ≡ true → IsInOrder old marks → AddsAgain goal command old new
     → IsInOrder new marks
 order_again goal command old new marks fit h a =
     let text = old.lexer.text in
@@ -212,30 +181,15 @@ order_again goal command old new marks fit h a =
     (subst (AllByRecursion (IsOnPlaces text)) (sym a.tokens)
     (all-with_last (IsOnPlaces text) old.tokens a.row.token h.tokens_lie a.reads.places.token))
 
--- What is read again does not depend on the place behind the token.
-from_any_place : (text : List ℕ) (t : SourceType) (goal : Goal) (before : Option TokenParts) (p q : ℕ) (o : Outcome)
-    → fits goal (token_or_default before) ≡ true → GoalReads text t goal before p o
-    → GoalReads text t goal before q o
-from_any_place text t First before p q o e reads = absurd (cc)
-from_any_place text t NextGoal before p q o e reads = absurd (cc)
-from_any_place text t RegularExpression before p q o e reads = absurd (cc)
-from_any_place text t RightAngle before p q o e reads = absurd (cc)
-from_any_place text t TypeScriptLeftAngle before p q o e reads = absurd (cc)
-from_any_place text t TypeScriptRightAngle before p q o e reads = absurd (cc)
-from_any_place text t JsxIdentifier before p q o e reads = absurd (cc)
-from_any_place text t JsxChild before p q o e reads = absurd (cc)
-from_any_place text t JsxAttributeValue before p q o e reads = absurd (cc)
-from_any_place text t TailGoal before p q o e reads = reads
-
 -- The row of a re-lex that was taken.
 again_is_row : (goal : Goal) (command : Command) (old new : RowReaderState) (row : Row) (now : Live)
     → IsAlike (lexer_behind old.lexer.text old.lexer.source_type old.lexer.collects now) old.lexer
-    → fits goal (token_or_default old.lexer.last) ≡ true → effect_of command ≡ re_lexes goal
+    → fits old.lexer.text goal (token_or_default old.lexer.last) ≡ true → effect_of command ≡ re_lexes goal
     → ReadsRowAgain goal (Some command) old.lexer row new.lexer
     → IsRow old.lexer.text old.lexer.source_type now (Some command) row
 again_is_row goal command old new row now behind fit effect r =
-    let last : fits goal (token_or_default (last_live now)) ≡ true =
-    ap (λ x. fits goal (token_or_default x)) (sym behind.last) ∙ fit in
+    let last : fits old.lexer.text goal (token_or_default (last_live now)) ≡ true =
+    ap (λ x. fits old.lexer.text goal (token_or_default x)) (sym behind.last) ∙ fit in
     record {
       command_is = r.command_is;
       place = r.place ∙ behind.place;
@@ -252,7 +206,7 @@ again_is_row goal command old new row now behind fit effect r =
     }
 
 again_adds_row : (goal : Goal) (command : Command) (old new : RowReaderState) (ms : List SessionMark)
-    → effect_of command ≡ re_lexes goal → fits goal (token_or_default old.lexer.last) ≡ true
+    → effect_of command ≡ re_lexes goal → fits old.lexer.text goal (token_or_default old.lexer.last) ≡ true
     → IsInOrder old (reverse ms) → AddsAgain goal (Some command) old new
     → AddsRow command (seen old ms) (seen new ms)
 again_adds_row goal command old new ms effect fit h a =
@@ -321,13 +275,13 @@ order_not_taken command old new marks h a =
 
 not_taken_is_row : (goal : Goal) (command : Command) (old : RowReaderState) (now : Live)
     → IsAlike (lexer_behind old.lexer.text old.lexer.source_type old.lexer.collects now) old.lexer
-    → fits goal (token_or_default old.lexer.last) ≡ false → effect_of command ≡ re_lexes goal
+    → fits old.lexer.text goal (token_or_default old.lexer.last) ≡ false → effect_of command ≡ re_lexes goal
     → IsOnPlaces old.lexer.text (token_or_default old.lexer.last)
     → IsRow old.lexer.text old.lexer.source_type now (Some command) (not_taken (Some command) old.lexer)
 not_taken_is_row goal command old now behind fit effect lies =
     let row = not_taken (Some command) old.lexer in
-    let last : fits goal (token_or_default (last_live now)) ≡ false =
-    ap (λ x. fits goal (token_or_default x)) (sym behind.last) ∙ fit in
+    let last : fits old.lexer.text goal (token_or_default (last_live now)) ≡ false =
+    ap (λ x. fits old.lexer.text goal (token_or_default x)) (sym behind.last) ∙ fit in
     record {
       command_is = refl;
       place = behind.place;
@@ -344,7 +298,7 @@ not_taken_is_row goal command old now behind fit effect lies =
     }
 
 not_taken_adds_row : (goal : Goal) (command : Command) (old new : RowReaderState) (ms : List SessionMark)
-    → effect_of command ≡ re_lexes goal → fits goal (token_or_default old.lexer.last) ≡ false
+    → effect_of command ≡ re_lexes goal → fits old.lexer.text goal (token_or_default old.lexer.last) ≡ false
     → IsInOrder old (reverse ms) → AddsNotTaken (Some command) old new
     → AddsRow command (seen old ms) (seen new ms)
 not_taken_adds_row goal command old new ms effect fit h a = record {
@@ -356,26 +310,26 @@ not_taken_adds_row goal command old new ms effect fit h a = record {
 -- a re-lex, taken or not
 pub order_re_lexed : (goal : Goal) (command : Option Command) (old new : RowReaderState) (marks : List SessionMark)
     → IsInOrder old marks
-    → MatchBool (fits goal (token_or_default old.lexer.last)) (AddsAgain goal command old new)
+    → MatchBool (fits old.lexer.text goal (token_or_default old.lexer.last)) (AddsAgain goal command old new)
     (AddsNotTaken command old new)
     → IsInOrder new marks
 order_re_lexed goal command old new marks h adds =
-    by_fit (fits goal (token_or_default old.lexer.last)) refl adds
+    by_fit (fits old.lexer.text goal (token_or_default old.lexer.last)) refl adds
   where
-    by_fit : (b : Bool) → fits goal (token_or_default old.lexer.last) ≡ b
+    by_fit : (b : Bool) → fits old.lexer.text goal (token_or_default old.lexer.last) ≡ b
         → MatchBool b (AddsAgain goal command old new) (AddsNotTaken command old new) → IsInOrder new marks
     by_fit true fit adds = order_again goal command old new marks fit h adds
     by_fit false fit adds = order_not_taken command old new marks h adds
 
 pub re_lex_adds_row : (goal : Goal) (command : Command) (old new : RowReaderState) (ms : List SessionMark)
     → effect_of command ≡ re_lexes goal → IsInOrder old (reverse ms)
-    → MatchBool (fits goal (token_or_default old.lexer.last)) (AddsAgain goal (Some command) old new)
+    → MatchBool (fits old.lexer.text goal (token_or_default old.lexer.last)) (AddsAgain goal (Some command) old new)
     (AddsNotTaken (Some command) old new)
     → AddsRow command (seen old ms) (seen new ms)
 re_lex_adds_row goal command old new ms effect h adds =
-    by_fit (fits goal (token_or_default old.lexer.last)) refl adds
+    by_fit (fits old.lexer.text goal (token_or_default old.lexer.last)) refl adds
   where
-    by_fit : (b : Bool) → fits goal (token_or_default old.lexer.last) ≡ b
+    by_fit : (b : Bool) → fits old.lexer.text goal (token_or_default old.lexer.last) ≡ b
         → MatchBool b (AddsAgain goal (Some command) old new) (AddsNotTaken (Some command) old new)
         → AddsRow command (seen old ms) (seen new ms)
     by_fit true fit adds = again_adds_row goal command old new ms effect fit h adds

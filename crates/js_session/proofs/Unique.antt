@@ -52,7 +52,7 @@ effect_unique : (text : List ℕ) (t : SourceType) (now : Live) (effect : Effect
 effect_unique text t now (reads goal) a b utf8 place h g = read_unique text t now goal a b utf8 place h g
 effect_unique text t now (peeks goal) a b utf8 place h g = read_unique text t now goal a b utf8 place h g
 effect_unique text t now (re_lexes goal) a b utf8 place h g =
-    re_lex_unique text t now goal a b utf8 (fits goal (token_or_default (last_live now))) h g
+    re_lex_unique text t now goal a b utf8 (fits text goal (token_or_default (last_live now))) h g
 effect_unique text t now opens a b utf8 place h g = absurd h
 effect_unique text t now rewinds a b utf8 place h g = absurd h
 effect_unique text t now commits a b utf8 place h g = absurd h

@@ -2,8 +2,13 @@
 use Rattle.std.specs.Prelude.{Bool, true, false, Option, Some, None}
 use Rattle.js_grammar.specs.declared.goal.Goal.{Goal}
 use Rattle.js_grammar.specs.declared.goal.Goal.TheVariants.{First, Next as NextGoal, TemplateTail as TailGoal}
+use Rattle.js_grammar.specs.declared.goal.Goal.TheVariants.{RegularExpression, RightAngle, TypeScriptLeftAngle}
+use Rattle.js_grammar.specs.declared.goal.Goal.TheVariants.{TypeScriptRightAngle, JsxIdentifier}
+use Rattle.js_grammar.specs.declared.goal.Goal.TheVariants.{JsxChild as ChildGoal, JsxAttributeValue}
 use Rattle.js_session.specs.declared.command.Command.{Command}
-use Rattle.js_session.specs.declared.command.Command.TheVariants.{Next, Peek, Mark, Rewind, Commit, TemplateTail}
+use Rattle.js_session.specs.declared.command.Command.TheVariants.{Next, JsxChild, JsxAttr, Regex, TemplateTail}
+use Rattle.js_session.specs.declared.command.Command.TheVariants.{JsxName, RAngle, TsLAngle, TsRAngle, Peek}
+use Rattle.js_session.specs.declared.command.Command.TheVariants.{Mark, Rewind, Commit}
 
 -- Reading a goal from behind the last live token, with the token live from then on, or only to look; reading the last
 -- live token again; opening a mark; going back to the last open mark; or closing it.
@@ -18,11 +23,18 @@ pub data Effect : Type 0 where
 -- the effect of a command
 abbrev pub effect_of : Command → Effect
 effect_of Next = reads NextGoal
+effect_of JsxChild = reads ChildGoal
+effect_of JsxAttr = reads JsxAttributeValue
+effect_of Regex = re_lexes RegularExpression
+effect_of TemplateTail = re_lexes TailGoal
+effect_of JsxName = re_lexes JsxIdentifier
+effect_of RAngle = re_lexes RightAngle
+effect_of TsLAngle = re_lexes TypeScriptLeftAngle
+effect_of TsRAngle = re_lexes TypeScriptRightAngle
 effect_of Peek = peeks NextGoal
 effect_of Mark = opens
 effect_of Rewind = rewinds
 effect_of Commit = commits
-effect_of TemplateTail = re_lexes TailGoal
 
 -- the effect of the command of a row; the first row, which has none, reads the first goal
 abbrev pub row_effect : Option Command → Effect

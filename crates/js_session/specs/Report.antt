@@ -1,5 +1,5 @@
 -- What a session reports: which rows answer its commands, and what is live after them.
-use Rattle.std.specs.Prelude.{◌≡◌, ◌≢◌, ℕ, ◌<◌, ◌≤◌, ◌^◌, Bool, true, false, ◌==◌, List, [], ◌∷◌, length}
+use Rattle.std.specs.Prelude.{◌≡◌, ◌≢◌, ℕ, ◌<◌, ◌≤◌, ◌^◌, Bool, true, false, ◌==◌, ◌&&◌, List, [], ◌∷◌, length}
 use Rattle.std.specs.Prelude.{Option, Some, None}
 use Rattle.std.specs.Prelude.{slice_range}
 use Rattle.std.specs.Prelude.{MatchBool}
@@ -18,8 +18,11 @@ use Rattle.js_grammar.specs.declared.goal.Goal.TheVariants.{RegularExpression, R
 use Rattle.js_grammar.specs.declared.goal.Goal.TheVariants.{TypeScriptRightAngle, JsxIdentifier, JsxChild}
 use Rattle.js_grammar.specs.declared.goal.Goal.TheVariants.{JsxAttributeValue}
 use Rattle.js_kind.specs.TokenParts.{TokenParts}
-use Rattle.js_kind.specs.Kinds.{number}
-use Rattle.js_kind.specs.declared.kind.Kind.TheVariants.{Eof, RCurly}
+use Rattle.js_text.specs.Ascii.{hyphen_minus}
+use Rattle.js_text.specs.Characters.{begins, from_place}
+use Rattle.js_kind.specs.Kinds.{is_identifier_name, is_one_of, number}
+use Rattle.js_kind.specs.declared.kind.Kind.TheVariants.{Eof, RAngle, RCurly}
+use Rattle.js_lexer.specs.Goals.{expression_kinds, left_compounds, right_compounds}
 use Rattle.js_lexer.specs.Lexer.{IsOnPlaces, collected, token_or_default}
 use Rattle.js_session.specs.Effects.{Effect, effect_of, row_effect, is_step, closes}
 use Rattle.js_session.specs.Effects.Effect.{reads, peeks, re_lexes, opens, rewinds, commits}
@@ -70,26 +73,28 @@ pub record IsNotTaken (now : Live) (row : Row) : Type 0 where
   pub regex : row.regex ≡ None
   pub findings : row_findings row ≡ no_findings
 
--- The tokens that a goal may read again: the tail of a template a `}`, and the plain goals none. No command has another
--- goal yet.
-abbrev pub fits : Goal → TokenParts → Bool
-fits First token = false
-fits NextGoal token = false
-fits TailGoal token = number token.kind == number RCurly
-fits RegularExpression token = false
-fits RightAngle token = false
-fits TypeScriptLeftAngle token = false
-fits TypeScriptRightAngle token = false
-fits JsxIdentifier token = false
-fits JsxChild token = false
-fits JsxAttributeValue token = false
+-- The last live token may be read again for the goal: a `/` or `/=` as a regular expression, a `}` as a part of a
+-- template, a `>` as the longest angle, a compound angle as its first character, and a name with a `-` behind it as a
+-- name of JSX.
+abbrev pub fits : List ℕ → Goal → TokenParts → Bool
+fits text First token = false
+fits text NextGoal token = false
+fits text TailGoal token = number token.kind == number RCurly
+fits text RegularExpression token = is_one_of expression_kinds token.kind
+fits text RightAngle token = number token.kind == number RAngle
+fits text TypeScriptLeftAngle token = is_one_of left_compounds token.kind
+fits text TypeScriptRightAngle token = is_one_of right_compounds token.kind
+fits text JsxIdentifier token =
+    is_identifier_name token.kind && begins (λ c. c == hyphen_minus) (from_place text token.end)
+fits text JsxChild token = false
+fits text JsxAttributeValue token = false
 
 -- The row is one of three: a reading, a re-lex that was taken, or one that was not.
 abbrev pub IsOfEffect : List ℕ → SourceType → Live → Effect → Row → Type 0
 IsOfEffect text t now (reads goal) row = IsRead text t now goal row
 IsOfEffect text t now (peeks goal) row = IsRead text t now goal row
 IsOfEffect text t now (re_lexes goal) row =
-    MatchBool (fits goal (token_or_default (last_live now))) (IsReLexed text t now goal row) (IsNotTaken now row)
+    MatchBool (fits text goal (token_or_default (last_live now))) (IsReLexed text t now goal row) (IsNotTaken now row)
 IsOfEffect text t now opens row = ⊥
 IsOfEffect text t now rewinds row = ⊥
 IsOfEffect text t now commits row = ⊥

@@ -15,7 +15,9 @@ use Rattle.js_session.specs.Live.{outcome_of}
 use Rattle.js_session.specs.Report.{LiesOnPlaces, fits}
 use Rattle.js_session.specs.declared.command.Command.{Command}
 use Rattle.js_session.specs.declared.mark.SessionMark.{SessionMark}
+use Rattle.js_session.specs.declared.re_lex.ReadAgain.{ReadAgain}
 use Rattle.js_session.specs.declared.row.Row.{Row}
+use Rattle.js_text.specs.declared.reg_exp_flags.RegexInfo.{RegexInfo}
 
 -- A lexer, the rows that were read from it, and the tokens that are live.
 pub record RowReaderState : Type 0 where
@@ -60,7 +62,7 @@ pub record ReadsRow (goal : Goal) (command : Option Command) (old : LexerState) 
 
 -- A row is made of a token, in front of which the lexer stood at the place and had found so much.
 pub record IsMadeOf (command : Option Command) (place : ℕ) (lengths : FindingLengths) (token : TokenParts)
-    (lexer : LexerState) (row : Row) : Type 0 where
+    (regex : Option RegexInfo) (lexer : LexerState) (row : Row) : Type 0 where
   pub value : HoldsValue lexer.decoded token row.value
   pub row_is : row ≡ record {
     command = command;
@@ -68,17 +70,23 @@ pub record IsMadeOf (command : Option Command) (place : ℕ) (lengths : FindingL
     taken = true;
     token = token;
     value = row.value;
-    regex = None;
+    regex = regex;
     diagnostics = (found_since lengths lexer.findings).diagnostics;
     deferred = (found_since lengths lexer.findings).deferred;
     comments = (found_since lengths lexer.findings).comments;
     irregular = (found_since lengths lexer.findings).irregular;
   }
 
--- The lexer may read its last token again for the goal: this is of a kind that fits, and the lexer is behind it.
-pub record MayReadAgain (goal : Goal) (l : LexerState) : Type 0 where
-  pub fits : fits goal (token_or_default l.last) ≡ true
-  pub place : l.place ≡ (token_or_default l.last).end
+-- The last token was read again, with this known of it as a regular expression.
+pub record ReadsAgainAs (goal : Goal) (old : LexerState) (found : ReadAgain) (new : LexerState) : Type 0 where
+  pub reads : ReadsAgain goal old found.token new
+  pub regex : reads.outcome.regex ≡ found.regex
+
+-- The last token was read again for the goal where it fits; else nothing has changed.
+abbrev pub ReadsIfFits : Goal → LexerState → Option ReadAgain → LexerState → Type 0
+ReadsIfFits goal old None new = (fits old.text goal (token_or_default old.last) ≡ false) × (new ≡ old)
+ReadsIfFits goal old (Some found) new =
+    (fits old.text goal (token_or_default old.last) ≡ true) × ReadsAgainAs goal old found new
 
 -- A row was read for a goal from the start of the last token, in whose place the token of the row stands now.
 pub record ReadsRowAgain (goal : Goal) (command : Option Command) (old : LexerState) (row : Row) (new : LexerState)
@@ -89,6 +97,12 @@ pub record ReadsRowAgain (goal : Goal) (command : Option Command) (old : LexerSt
   pub place : row.place ≡ old.place
   pub taken : row.taken ≡ true
   pub places : LiesOnPlaces old.text row
+
+-- A row was read again for the goal, where the last token fits it; else nothing has changed.
+abbrev pub ReadsRowIfFits : Goal → Option Command → LexerState → Option Row → LexerState → Type 0
+ReadsRowIfFits goal command old None new = (fits old.text goal (token_or_default old.last) ≡ false) × (new ≡ old)
+ReadsRowIfFits goal command old (Some row) new =
+    (fits old.text goal (token_or_default old.last) ≡ true) × ReadsRowAgain goal command old row new
 
 -- a row was read and added, and its token is live
 pub record AddsLive (goal : Goal) (command : Option Command) (old new : RowReaderState) : Type 0 where

@@ -29,7 +29,7 @@ fn marks_after(marks: usize, command: Command) -> Option<usize>
     match command {
         Command::Mark => Some(marks + 1),
         Command::Rewind | Command::Commit => marks.checked_sub(1),
-        Command::Next | Command::Peek | Command::TemplateTail => Some(marks),
+        _ => Some(marks),
     }
 }
 

@@ -28,7 +28,6 @@ fn follow<C: LexerConfig + Drop, L: Ledger>(
     ensures { OnOk result (Follows command session.old session.new) }
 {
     match command {
-        Command::Next | Command::Peek | Command::TemplateTail => session.step(command, steps),
         Command::Mark => session.mark(),
         Command::Rewind => {
             session.rewind();
@@ -38,6 +37,7 @@ fn follow<C: LexerConfig + Drop, L: Ledger>(
             session.commit();
             Ok(())
         }
+        _ => session.step(command, steps),
     }
 }
 

@@ -7,6 +7,7 @@ mod found;
 pub mod laws;
 mod lex;
 mod mark;
+mod re_lex;
 mod read;
 mod report;
 mod row;

@@ -2,27 +2,28 @@
 
 ghost use Rattle.std.specs.Prelude.{◌≡◌, ◌≤◌, true, [], length, drop, is_some, None, IfOk, OnOk, OnErr, MatchBool};
 ghost use Rattle.js_grammar.specs.Outcome.{AreWithin};
-ghost use Rattle.js_grammar.specs.Reads.{is_plain};
+ghost use Rattle.js_grammar.specs.Reads.{is_onward};
 ghost use Rattle.js_grammar.specs.Spelling.{text_start, text_end};
 ghost use Rattle.js_grammar.specs.Values.{plain_value};
 ghost use Rattle.js_kind.specs.Kinds.{is_template_kind};
 ghost use Rattle.js_lexer.specs.Decoded.{value_of};
 ghost use Rattle.js_lexer.specs.Lexer.{LexerState, ReadsToken, IsRestored, CanRewind, GoesOnFrom};
-ghost use Rattle.js_lexer.specs.Lexer.{ReadsAgain, token_or_default};
+ghost use Rattle.js_lexer.specs.Lexer.{IsOnPlaces, token_or_default};
 ghost use Rattle.js_session.specs.Report.{fits};
 ghost use Rattle.js_session.specs.RowReader.{RowReaderState, ReadsRow, AddsLive, AddsPeek, MayGoOn, IsUndone, GoesBack};
 ghost use Rattle.js_session.specs.RowReader.{IsMarkOf, GoesToMark, IsKept, HoldsUnits, HoldsPart, HoldsKept};
-ghost use Rattle.js_session.specs.RowReader.{HoldsValue, IsMadeOf, MayReadAgain, ReadsRowAgain, AddsAgain, AddsNotTaken};
+ghost use Rattle.js_session.specs.RowReader.{HoldsValue, IsMadeOf, ReadsRowIfFits, AddsAgain, AddsNotTaken, not_taken};
 
 use crate::command::Command;
 use crate::found::{FoundLengths, FoundLists, found_since, lengths_of};
 use crate::mark::SessionMark;
+use crate::re_lex::read_again;
 use crate::row::Row;
 use crate::row_list::RowList;
 use js_grammar::Goal;
-use js_kind::{Kind, LexerConfig, Token, TokenList};
+use js_kind::{LexerConfig, Token, TokenList};
 use js_lexer::{Lexer, LexerCheckpoint, is_template, is_valued, text_span};
-use js_text::{CommentList, DiagnosticList, JsText, RowValue, SpanList, TemplateValue};
+use js_text::{CommentList, DiagnosticList, JsText, RegexInfo, RowValue, SpanList, TemplateValue};
 use std::alloc::{AllocError, Global};
 use std::marker::Model;
 
@@ -109,12 +110,12 @@ fn value_of<C: LexerConfig + Drop>(
     }
 }
 
-/// Reads a token of the first or the plain goal.
+/// Reads a token of a goal that goes on from where the lexer stands.
 fn read_token<C: LexerConfig + Drop>(
     lexer: &mut Lexer<'_, C>,
     goal: Goal,
 ) -> Result<Token, AllocError>
-    requires plain { is_plain goal ≡ true }
+    requires onward { is_onward goal ≡ true }
     requires first { goal ≡ Goal.First → lexer.old.last ≡ None }
     ensures ok { IfOk result (λ token. ReadsToken goal lexer.old token lexer.new) }
     ensures err { OnErr result (IsRestored lexer.old lexer.new) }
@@ -122,31 +123,8 @@ fn read_token<C: LexerConfig + Drop>(
     match goal {
         Goal::First => lexer.first_token(),
         Goal::Next => lexer.next_token(),
-        _ => unreachable!(),
-    }
-}
-
-/// Whether the goal may read the token again.
-fn fits(goal: Goal, token: &Token) -> bool
-    ensures { result ≡ fits goal token.now }
-{
-    match goal {
-        Goal::TemplateTail => token.kind().number() == Kind::RCurly.number(),
-        _ => false,
-    }
-}
-
-/// Reads the last token again for the goal.
-fn read_again<C: LexerConfig + Drop>(
-    lexer: &mut Lexer<'_, C>,
-    goal: Goal,
-) -> Result<Token, AllocError>
-    requires { MayReadAgain goal lexer.old }
-    ensures ok { IfOk result (λ token. ReadsAgain goal lexer.old token lexer.new) }
-    ensures err { OnErr result (IsRestored lexer.old lexer.new) }
-{
-    match goal {
-        Goal::TemplateTail => lexer.next_template_substitution_tail(),
+        Goal::JsxChild => lexer.next_jsx_child(),
+        Goal::JsxAttributeValue => lexer.next_jsx_attribute_value(),
         _ => unreachable!(),
     }
 }
@@ -159,11 +137,12 @@ fn row_of<C: LexerConfig + Drop>(
     place: u32,
     lengths: &FoundLengths,
     token: Token,
+    regex: Option<RegexInfo>,
 ) -> Result<Row, AllocError>
     requires ordered { text_start token.kind token.start ≤ text_end token.kind token.end }
     requires value { token.escaped ≡ true → IsKept (is_template_kind token.kind) lexer.now.decoded token.start }
     requires found { AreWithin lengths.now lexer.now.findings }
-    ensures { IfOk result (IsMadeOf command place lengths.now token lexer.now) }
+    ensures { IfOk result (IsMadeOf command place lengths.now token regex lexer.now) }
 {
     let value = value_of(lexer, alloc, &token)?;
     let FoundLists {
@@ -178,7 +157,7 @@ fn row_of<C: LexerConfig + Drop>(
         taken: true,
         token,
         value,
-        regex: None,
+        regex,
         diagnostics,
         deferred,
         comments,
@@ -186,14 +165,14 @@ fn row_of<C: LexerConfig + Drop>(
     })
 }
 
-/// Reads a row of the first or the plain goal. Where it cannot allocate, the lexer may have gone on.
+/// Reads a row of a goal that goes on. Where it cannot allocate, the lexer may have gone on.
 fn read_row<C: LexerConfig + Drop>(
     lexer: &mut Lexer<'_, C>,
     alloc: Global,
     command: Option<Command>,
     goal: Goal,
 ) -> Result<Row, AllocError>
-    requires plain { is_plain goal ≡ true }
+    requires onward { is_onward goal ≡ true }
     requires first { goal ≡ Goal.First → lexer.old.last ≡ None }
     ensures ok { IfOk result (λ row. ReadsRow goal command lexer.old row lexer.new) }
     ensures err { OnErr result (GoesOnFrom lexer.old lexer.new) }
@@ -201,24 +180,61 @@ fn read_row<C: LexerConfig + Drop>(
     let place = lexer.offset();
     let found = lengths_of(lexer);
     let token = read_token(lexer, goal)?;
-    row_of(lexer, alloc, command, place, &found, token)
+    row_of(lexer, alloc, command, place, &found, token, None)
 }
 
-/// Reads a row from the start of the last token. Where it cannot allocate, the lexer may have gone on.
+/// Reads a row from the start of the last token, where this fits the goal. Where it cannot allocate, the lexer may have
+/// gone on.
 fn read_row_again<C: LexerConfig + Drop>(
     lexer: &mut Lexer<'_, C>,
     alloc: Global,
     command: Option<Command>,
     goal: Goal,
-) -> Result<Row, AllocError>
-    requires { MayReadAgain goal lexer.old }
-    ensures ok { IfOk result (λ row. ReadsRowAgain goal command lexer.old row lexer.new) }
+) -> Result<Option<Row>, AllocError>
+    requires { lexer.old.place ≡ (token_or_default lexer.old.last).end }
+    ensures ok { IfOk result (λ row. ReadsRowIfFits goal command lexer.old row lexer.new) }
     ensures err { OnErr result (GoesOnFrom lexer.old lexer.new) }
 {
     let place = lexer.offset();
     let found = lengths_of(lexer);
-    let token = read_again(lexer, goal)?;
-    row_of(lexer, alloc, command, place, &found, token)
+    match read_again(lexer, goal)? {
+        Some(again) => {
+            let row = row_of(
+                lexer,
+                alloc,
+                command,
+                place,
+                &found,
+                again.token,
+                again.regex,
+            )?;
+            Ok(Some(row))
+        }
+        None => Ok(None),
+    }
+}
+
+/// The row of a re-lex that is not taken: it holds the last token, and nothing else.
+fn not_taken<C: LexerConfig + Drop>(
+    lexer: &Lexer<'_, C>,
+    alloc: Global,
+    command: Option<Command>,
+) -> Row
+    ensures row { result ≡ not_taken command lexer.now }
+    ensures places { IsOnPlaces lexer.now.text (token_or_default lexer.now.last) }
+{
+    Row {
+        command,
+        place: lexer.offset(),
+        taken: false,
+        token: lexer.last_token(),
+        value: RowValue::Nothing,
+        regex: None,
+        diagnostics: DiagnosticList::new_in(alloc),
+        deferred: DiagnosticList::new_in(alloc),
+        comments: CommentList::new_in(alloc),
+        irregular: SpanList::new_in(alloc),
+    }
 }
 
 /// A lexer, the rows that were read from it, and the tokens that are live.
@@ -253,7 +269,7 @@ impl<'a, C: LexerConfig + Drop> RowReader<'a, C> {
 
     /// Reads a row and adds it, with its token live. Where it cannot allocate, lexer and live tokens may have gone on.
     fn read_on(&mut self, command: Option<Command>, goal: Goal) -> Result<(), AllocError>
-        requires plain { is_plain goal ≡ true }
+        requires onward { is_onward goal ≡ true }
         requires first { goal ≡ Goal.First → self.old.lexer.last ≡ None }
         ensures ok { OnOk result (AddsLive goal command self.old self.new) }
         ensures err { OnErr result (MayGoOn self.old self.new) }
@@ -280,7 +296,7 @@ impl<'a, C: LexerConfig + Drop> RowReader<'a, C> {
         goal: Goal,
         is_peek: bool,
     ) -> Result<(), AllocError>
-        requires plain { is_plain goal ≡ true }
+        requires onward { is_onward goal ≡ true }
         requires first { goal ≡ Goal.First → self.old.lexer.last ≡ None }
         ensures ok { OnOk result
             (MatchBool is_peek (AddsPeek goal command self.old self.new) (AddsLive goal command self.old self.new)) }
@@ -302,69 +318,44 @@ impl<'a, C: LexerConfig + Drop> RowReader<'a, C> {
         }
     }
 
-    /// Reads the last token again and adds the row. Where it cannot allocate, the lexer may have gone on.
-    fn read_on_again(&mut self, command: Option<Command>, goal: Goal) -> Result<(), AllocError>
-        requires { MayReadAgain goal self.old.lexer }
-        ensures ok { OnOk result (AddsAgain goal command self.old self.new) }
+    /// Adds the row of a re-lex, which is taken where the last token fits the goal. Where it cannot allocate, the lexer may
+    /// have gone on.
+    fn re_lex_on(&mut self, command: Option<Command>, goal: Goal) -> Result<(), AllocError>
+        requires { self.old.lexer.place ≡ (token_or_default self.old.lexer.last).end }
+        ensures ok { OnOk result (MatchBool (fits self.old.lexer.text goal (token_or_default self.old.lexer.last))
+            (AddsAgain goal command self.old self.new) (AddsNotTaken command self.old self.new)) }
         ensures err { OnErr result (MayGoOn self.old self.new) }
     {
-        let row = read_row_again(&mut self.lexer, self.alloc, command, goal)?;
-        let token = row.token;
-        self.rows.push(row)?;
-        self.tokens.replace_last(token);
-        Ok(())
+        match read_row_again(&mut self.lexer, self.alloc, command, goal)? {
+            Some(row) => {
+                let token = row.token;
+                self.rows.push(row)?;
+                self.tokens.replace_last(token);
+                Ok(())
+            }
+            None => {
+                let row = not_taken(&self.lexer, self.alloc, command);
+                self.rows.push(row)
+            }
+        }
     }
 
-    /// Adds the row of a re-lex, with its token live in the place of the last one. Where it cannot allocate, all is as
-    /// before.
-    fn add_again(&mut self, command: Option<Command>, goal: Goal) -> Result<(), AllocError>
-        requires { MayReadAgain goal self.old.lexer }
-        ensures ok { OnOk result (AddsAgain goal command self.old self.new) }
+    /// Adds the row of a re-lex, which is taken where the last token fits the goal: its token is then live in the place of
+    /// that one. Where it cannot allocate, all is as before.
+    pub fn re_lex(&mut self, command: Option<Command>, goal: Goal) -> Result<(), AllocError>
+        requires { self.old.lexer.place ≡ (token_or_default self.old.lexer.last).end }
+        ensures ok { OnOk result (MatchBool (fits self.old.lexer.text goal (token_or_default self.old.lexer.last))
+            (AddsAgain goal command self.old self.new) (AddsNotTaken command self.old self.new)) }
         ensures err { OnErr result (IsUndone self.old self.new) }
     {
         let checkpoint = self.lexer.checkpoint();
         let tokens = self.tokens.len();
-        match self.read_on_again(command, goal) {
+        match self.re_lex_on(command, goal) {
             Ok(()) => Ok(()),
             Err(error) => {
                 self.go_back(checkpoint, tokens);
                 Err(error)
             }
-        }
-    }
-
-    /// Adds the row of a re-lex that is not taken: it holds the last token, and nothing else.
-    fn add_not_taken(&mut self, command: Option<Command>) -> Result<(), AllocError>
-        ensures ok { OnOk result (AddsNotTaken command self.old self.new) }
-        ensures err { OnErr result (IsUndone self.old self.new) }
-    {
-        let row = Row {
-            command,
-            place: self.lexer.offset(),
-            taken: false,
-            token: self.lexer.last_token(),
-            value: RowValue::Nothing,
-            regex: None,
-            diagnostics: DiagnosticList::new_in(self.alloc),
-            deferred: DiagnosticList::new_in(self.alloc),
-            comments: CommentList::new_in(self.alloc),
-            irregular: SpanList::new_in(self.alloc),
-        };
-        self.rows.push(row)
-    }
-
-    /// Adds the row of a re-lex, which is taken where the goal may read the last token again. Where it cannot allocate,
-    /// all is as before.
-    pub fn re_lex(&mut self, command: Option<Command>, goal: Goal) -> Result<(), AllocError>
-        requires { self.old.lexer.place ≡ (token_or_default self.old.lexer.last).end }
-        ensures ok { OnOk result (MatchBool (fits goal (token_or_default self.old.lexer.last))
-            (AddsAgain goal command self.old self.new) (AddsNotTaken command self.old self.new)) }
-        ensures err { OnErr result (IsUndone self.old self.new) }
-    {
-        if fits(goal, &self.lexer.last_token()) {
-            self.add_again(command, goal)
-        } else {
-            self.add_not_taken(command)
         }
     }
 

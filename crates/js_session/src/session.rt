@@ -4,7 +4,8 @@ ghost use Rattle.std.specs.Prelude.{◌≡◌, ◌≤◌, ◌<◌, ◌+◌, ◌^
 ghost use Rattle.std.specs.List.{AllByRecursion};
 ghost use Rattle.js_lexer.specs.Lexer.{IsOnPlaces};
 ghost use Rattle.js_session.specs.Effects.{effect_of, is_step};
-ghost use Rattle.js_session.specs.Effects.Effect.{re_lexes};
+ghost use Rattle.js_grammar.specs.Reads.{is_onward};
+ghost use Rattle.js_session.specs.Effects.Effect.{reads, re_lexes};
 ghost use Rattle.js_session.specs.Report.{LiesOnPlaces};
 ghost use Rattle.js_session.specs.Session.{Begins, AddsRow, LieOnPlaces, after_command, report_of};
 
@@ -79,12 +80,15 @@ impl<'a, C: LexerConfig + Drop> Session<'a, C> {
     }
 
     /// Adds the row of a reading, with its token live.
-    fn step_next(&mut self) -> Result<(), AllocError>
-        ensures ok { OnOk result (AddsRow Command.Next self.old self.new) }
+    fn step_on(&mut self, command: Command, goal: Goal) -> Result<(), AllocError>
+        requires effect { effect_of command ≡ reads goal }
+        requires onward { is_onward goal ≡ true }
+        requires later { goal ≡ Goal.First → ⊥ }
+        ensures ok { OnOk result (AddsRow command self.old self.new) }
         ensures err { OnErr result (self.new ≡ self.old) }
         ensures places { LieOnPlaces self.new }
     {
-        self.reader.add_row(Some(Command::Next), Goal::Next, false)
+        self.reader.add_row(Some(command), goal, false)
     }
 
     /// Adds the row of a reading, and changes nothing else.
@@ -122,9 +126,16 @@ impl<'a, C: LexerConfig + Drop> Session<'a, C> {
     {
         steps.tick();
         match command {
-            Command::Next => self.step_next(),
-            Command::Peek => self.step_peek(),
+            Command::Next => self.step_on(command, Goal::Next),
+            Command::JsxChild => self.step_on(command, Goal::JsxChild),
+            Command::JsxAttr => self.step_on(command, Goal::JsxAttributeValue),
+            Command::Regex => self.step_again(command, Goal::RegularExpression),
             Command::TemplateTail => self.step_again(command, Goal::TemplateTail),
+            Command::JsxName => self.step_again(command, Goal::JsxIdentifier),
+            Command::RAngle => self.step_again(command, Goal::RightAngle),
+            Command::TsLAngle => self.step_again(command, Goal::TypeScriptLeftAngle),
+            Command::TsRAngle => self.step_again(command, Goal::TypeScriptRightAngle),
+            Command::Peek => self.step_peek(),
             Command::Mark | Command::Rewind | Command::Commit => unreachable!(),
         }
     }

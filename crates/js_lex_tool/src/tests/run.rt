@@ -41,7 +41,7 @@ const CHOICE: &str = concat!(
 );
 
 /// Words, a source, and the text that is written.
-static TEXTS: [(&str, &str, &str); 22] = [
+static TEXTS: [(&str, &str, &str); 29] = [
     ("module no-tokens next*5", "a?.1:b", CHOICE),
     (
         "module no-tokens",
@@ -245,6 +245,104 @@ static TEXTS: [(&str, &str, &str); 22] = [
         concat!(
             "row 0 first 0 1 Ident 0..1 n =a\n",
             "row 1 template 1 0 Ident 0..1 n\n",
+            "token Ident 0..1 n\n",
+        ),
+    ),
+    (
+        "module no-tokens next*2 regex next",
+        "x=/[/]\\//gg;",
+        concat!(
+            "row 0 first 0 1 Ident 0..1 n =x\n",
+            "row 1 next 1 1 Eq 1..2 -\n",
+            "row 2 next 2 1 Slash 2..3 -\n",
+            "row 3 regex 3 1 RegExp 2..11 - /8 g 1\n",
+            "row 4 next 11 1 Semicolon 11..12 -\n",
+            "token Ident 0..1 n\n",
+            "token Eq 1..2 -\n",
+            "token RegExp 2..11 -\n",
+            "token Semicolon 11..12 -\n",
+            "diagnostic RegExpFlagTwice 10..11 U+0067\n",
+        ),
+    ),
+    (
+        "module tokens mark regex rewind next",
+        "/a/",
+        concat!(
+            "row 0 first 0 1 Slash 0..1 n\n",
+            "row 1 regex 1 1 RegExp 0..3 - /2 - 0\n",
+            "row 2 next 1 1 Ident 1..2 - =a\n",
+            "token Slash 0..1 n\n",
+            "token Ident 1..2 -\n",
+            "collected Slash 0..1 n\n",
+            "collected Ident 1..2 -\n",
+        ),
+    ),
+    (
+        "module tokens rangle ts-rangle next",
+        ">>",
+        concat!(
+            "row 0 first 0 1 RAngle 0..1 n\n",
+            "row 1 rangle 1 1 ShiftRight 0..2 -\n",
+            "row 2 ts-rangle 2 1 RAngle 0..1 -\n",
+            "row 3 next 1 1 RAngle 1..2 -\n",
+            "token RAngle 0..1 -\n",
+            "token RAngle 1..2 -\n",
+            "collected RAngle 0..1 -\n",
+            "collected RAngle 1..2 -\n",
+        ),
+    ),
+    (
+        "module no-tokens next ts-langle next*2",
+        "a<<b",
+        concat!(
+            "row 0 first 0 1 Ident 0..1 n =a\n",
+            "row 1 next 1 1 ShiftLeft 1..3 -\n",
+            "row 2 ts-langle 3 1 LAngle 1..2 -\n",
+            "row 3 next 2 1 LAngle 2..3 -\n",
+            "row 4 next 3 1 Ident 3..4 - =b\n",
+            "token Ident 0..1 n\n",
+            "token LAngle 1..2 -\n",
+            "token LAngle 2..3 -\n",
+            "token Ident 3..4 -\n",
+        ),
+    ),
+    (
+        "module no-tokens next jsx-name next jsx-child*2",
+        "<a-b>x}",
+        concat!(
+            "row 0 first 0 1 LAngle 0..1 n\n",
+            "row 1 next 1 1 Ident 1..2 - =a\n",
+            "row 2 jsx-name 2 1 Ident 1..4 - =a-b\n",
+            "row 3 next 4 1 RAngle 4..5 -\n",
+            "row 4 jsx-child 5 1 Eof 5..6 -\n",
+            "row 5 jsx-child 6 1 Eof 6..6 -\n",
+            "token LAngle 0..1 n\n",
+            "token Ident 1..4 -\n",
+            "token RAngle 4..5 -\n",
+            "token Eof 5..6 -\n",
+            "token Eof 6..6 -\n",
+            "diagnostic UnexpectedJsxEnd 6..6 U+007D\n",
+            "diagnostic UnexpectedJsxEnd 6..6 U+007D\n",
+        ),
+    ),
+    (
+        "module no-tokens next jsx-attr",
+        "a=\"x\\n\"",
+        concat!(
+            "row 0 first 0 1 Ident 0..1 n =a\n",
+            "row 1 next 1 1 Eq 1..2 -\n",
+            "row 2 jsx-attr 2 1 Str 2..7 - =x\\u005cn\n",
+            "token Ident 0..1 n\n",
+            "token Eq 1..2 -\n",
+            "token Str 2..7 -\n",
+        ),
+    ),
+    (
+        "module no-tokens regex",
+        "a",
+        concat!(
+            "row 0 first 0 1 Ident 0..1 n =a\n",
+            "row 1 regex 1 0 Ident 0..1 n\n",
             "token Ident 0..1 n\n",
         ),
     ),

@@ -32,7 +32,7 @@ pub returns-clause-ok : goal.returns-clause-ok
 returns-clause-ok g c =
     IfOk-weaker c.row_of.result _ _
     (made_row c.args.goal c.args.command c.args.lexer.now c.read_token.new.lexer c.lengths_of-found.result c.offset-place.result
-    c.in_ok-token.token c.requires.plain c.offset-place.ensures.utf8 c.in_ok-token.ensures.ok c.lengths_of-found.ensures
+    c.in_ok-token.token c.requires.onward c.offset-place.ensures.utf8 c.in_ok-token.ensures.ok c.lengths_of-found.ensures
     c.offset-place.ensures.place)
     c.row_of.ensures
 

@@ -1,42 +1,33 @@
-use Rattle.js_kind.specs.Kinds.{is_template_kind}
-use Rattle.js_text.specs.Characters.{from_place}
-use Rattle.std.proofs.Common.{ap}
-use Rattle.std.specs.Prelude.{length}
-use Rattle.std.proofs.lemmas.Result.{IfOk-weaker, err_from_is_err_and}
+use Rattle.std.proofs.Common.{subst}
+use Rattle.std.proofs.lemmas.Result.{err_from_is_err_and}
 use Rattle.js_lexer.proofs.LexerSteps.{re_lexing_goes_on}
-use Rattle.js_session.proofs.LexerLemmas.{goes_on-restored, on_err, within-after}
-use Rattle.js_session.proofs.ReadLemmas.{made_row_again, is_kept}
+use Rattle.js_session.specs.RowReader.{ReadsIfFits}
+use Rattle.js_session.proofs.LexerLemmas.{goes_on-restored}
+use Rattle.js_session.proofs.ReadLemmas.{made_row_again}
 use Rattle.js_session.proofs.read.read_row_again.Goals as goal
 
-pub returns-in_err-token-clause-err : goal.returns-in_err-token-clause-err
-returns-in_err-token-clause-err g c =
+pub returns-in_err-again-clause-err : goal.returns-in_err-again-clause-err
+returns-in_err-again-clause-err g c =
     let p = err_from_is_err_and c.from_residual.result c.from_residual.ensures.1 in
-    rw p.1 (goes_on-restored _ _ c.in_err-token.ensures.err)
+    rw p.1 (goes_on-restored _ _ c.in_err-again.ensures.err)
 
-pub row_of-requires-clause-ordered : goal.row_of-requires-clause-ordered
-row_of-requires-clause-ordered g c =
-    let read = c.in_ok-token.ensures.ok in rw read.token_is read.reads.text_lies.ordered
+pub returns-in_err-row-in-Some-clause-err : goal.returns-in_err-row-in-Some-clause-err
+returns-in_err-row-in-Some-clause-err g c =
+    let p =
+    err_from_is_err_and c.from_residual-in_err-row-in-Some.result c.from_residual-in_err-row-in-Some.ensures.1 in
+    let found =
+    subst (λ f. ReadsIfFits c.args.goal c.args.lexer.now f c.read_again.new.lexer) c.in-Some.is c.in_ok-again.ensures.ok
+    in
+    rw p.1
+    (re_lexing_goes_on c.args.goal c.args.lexer.now c.read_again.new.lexer c.in-Some.again.token found.1.reads)
 
-pub row_of-requires-clause-value : goal.row_of-requires-clause-value
-row_of-requires-clause-value g c =
-    λ escaped.
-    is_kept (is_template_kind c.in_ok-token.token.kind) c.read_again.new.lexer.decoded c.in_ok-token.token.start
-    (from_place c.args.lexer.now.text c.in_ok-token.token.start) (c.in_ok-token.ensures.ok.has_value escaped)
-
-pub returns-clause-err : goal.returns-clause-err
-returns-clause-err g c =
-    on_err c.row_of.result
-    (re_lexing_goes_on _ c.args.lexer.now c.read_again.new.lexer c.in_ok-token.token c.in_ok-token.ensures.ok)
-
-pub returns-clause-ok : goal.returns-clause-ok
-returns-clause-ok g c =
-    IfOk-weaker c.row_of.result _ _
-    (made_row_again c.args.goal c.args.command c.args.lexer.now c.read_again.new.lexer c.lengths_of-found.result c.offset-place.result
-    c.in_ok-token.token c.requires.fits c.offset-place.ensures.utf8 c.in_ok-token.ensures.ok c.lengths_of-found.ensures
-    c.offset-place.ensures.place)
-    c.row_of.ensures
-
-pub row_of-requires-clause-found : goal.row_of-requires-clause-found
-row_of-requires-clause-found g c =
-    rw c.lengths_of-found.ensures
-    (within-after c.args.lexer.now.findings c.read_again.new.lexer.findings _ c.in_ok-token.ensures.ok.after.findings)
+pub returns-in_ok-row-in-Some-clause-ok : goal.returns-in_ok-row-in-Some-clause-ok
+returns-in_ok-row-in-Some-clause-ok g c =
+    let found =
+    subst (λ f. ReadsIfFits c.args.goal c.args.lexer.now f c.read_again.new.lexer) c.in-Some.is c.in_ok-again.ensures.ok
+    in (
+      found.0,
+      made_row_again c.args.goal c.args.command c.args.lexer.now c.read_again.new.lexer c.lengths_of-found.result
+          c.offset-place.result c.in-Some.again c.offset-place.ensures.utf8 found.1 c.lengths_of-found.ensures
+          c.offset-place.ensures.place c.in_ok-row-in-Some.row c.in_ok-row-in-Some.ensures,
+    )

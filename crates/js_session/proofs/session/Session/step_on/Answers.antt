@@ -1,10 +1,9 @@
 use Rattle.std.proofs.Common.{subst}
 use Rattle.std.proofs.lemmas.Result.{on_ok_weaker}
 use Rattle.std.specs.Prelude.{reverse}
-use Rattle.js_session.specs.declared.command.Command.TheVariants.{Next}
 use Rattle.js_session.specs.Session.{AddsRow}
-use Rattle.js_session.proofs.StepLemmas.{either_way, order_added, order_undone, next_adds_row, in_order_lies, seen}
-use Rattle.js_session.proofs.session.Session.step_next.Goals as goal
+use Rattle.js_session.proofs.StepLemmas.{either_way, order_added, order_undone, on_adds_row, in_order_lies, seen}
+use Rattle.js_session.proofs.session.Session.step_on.Goals as goal
 
 pub invariant_of-self : goal.invariant_of-self
 invariant_of-self g c =
@@ -17,8 +16,9 @@ invariant_of-self g c =
 pub returns-clause-ok : goal.returns-clause-ok
 returns-clause-ok g c =
     on_ok_weaker c.add_row.result
-    (λ adds. subst (λ s. AddsRow Next s (seen c.add_row.new.self c.self.inside.marks)) c.self.view_is
-    (next_adds_row c.self.inside.reader c.add_row.new.self c.self.inside.marks c.self.invariant adds))
+    (λ adds. subst (λ s. AddsRow c.args.command s (seen c.add_row.new.self c.self.inside.marks)) c.self.view_is
+    (on_adds_row c.args.goal c.args.command c.self.inside.reader c.add_row.new.self c.self.inside.marks
+    c.requires.effect c.self.invariant adds))
     c.add_row.ensures.ok
 
 pub returns-clause-places : goal.returns-clause-places

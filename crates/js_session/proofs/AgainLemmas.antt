@@ -1,0 +1,298 @@
+-- What is read of goals beside the plain one: which tokens they read again, of which kinds, and what is known of them as
+-- regular expressions.
+use Rattle.std.proofs.Common.{◌≡◌, ℕ, Bool, true, false, not, ◌&&◌, ◌==◌, List, [], ◌∷◌, refl, sym, ◌∙◌, ap, subst, inl, inr}
+use Rattle.std.proofs.Common.{Option, None, Some}
+use Rattle.std.specs.Prelude.{IfSome, if◌then◌else◌}
+use Rattle.std.specs.List.{list_all}
+use Rattle.std.proofs.lemmas.Bool.{and_parts, eqb-true}
+use Rattle.js_text.specs.Ascii.{hyphen_minus, less_than_sign, slash}
+use Rattle.js_text.specs.Characters.{begins, from_first, from_place}
+use Rattle.js_text.specs.declared.source_type.SourceType.{SourceType}
+use Rattle.js_kind.specs.Kinds.{is_identifier_name, is_one_of, keywords, kind_text, number}
+use Rattle.js_kind.specs.TokenParts.{TokenParts, default_parts}
+use Rattle.js_kind.specs.declared.kind.Kind.{Kind}
+use Rattle.js_kind.specs.declared.kind.Kind.TheVariants.{Eof, Ident, JSXText, LAngle, LCurly, RAngle, RCurly, RegExp, Str}
+use Rattle.js_kind.specs.declared.kind.Kind.TheVariants.{TemplateMiddle, TemplateTail}
+use Rattle.js_kind.proofs.KindNumbers.{number_injective}
+use Rattle.js_kind.proofs.Members.{one_passes}
+use Rattle.js_grammar.specs.Angle.{angle_read, punctuator_read, right_angles, first_left_angle, first_right_angle}
+use Rattle.js_grammar.specs.Gap.{is_prefix}
+use Rattle.js_grammar.specs.GoalRead.{GoalRead}
+use Rattle.js_grammar.specs.Goals.{GoalReads, ReadsAgain, ReadsAngle, ReadsAttributeValue, ReadsFrom, ReadsPlainly}
+use Rattle.js_grammar.specs.Goals.ReadsAttributeValue.{string as attribute_string, plain as attribute_plain}
+use Rattle.js_grammar.specs.Goals.ReadsPlainly.{hashbang, behind_gap}
+use Rattle.js_grammar.specs.Jsx.{begins_child, jsx_child_read, jsx_name_read, jsx_read, jsx_string_before}
+use Rattle.js_grammar.specs.Jsx.{jsx_string_read, jsx_text_before, jsx_text_read, ends_jsx_text, ends_jsx_name}
+use Rattle.js_grammar.specs.Outcome.{Outcome}
+use Rattle.js_grammar.specs.Reads.{is_onward}
+use Rattle.js_grammar.specs.RegularExpression.{behind_body, regular_expression, regular_expression_read}
+use Rattle.js_grammar.specs.StringItems.{is_quote}
+use Rattle.js_grammar.specs.UnicodeEscape.{left_curly_bracket}
+use Rattle.js_grammar.specs.declared.goal.Goal.{Goal}
+use Rattle.js_grammar.specs.declared.goal.Goal.TheVariants.{First, Next as NextGoal, TemplateTail as TailGoal}
+use Rattle.js_grammar.specs.declared.goal.Goal.TheVariants.{RegularExpression, RightAngle, TypeScriptLeftAngle}
+use Rattle.js_grammar.specs.declared.goal.Goal.TheVariants.{TypeScriptRightAngle, JsxIdentifier, JsxChild}
+use Rattle.js_grammar.specs.declared.goal.Goal.TheVariants.{JsxAttributeValue}
+use Rattle.js_grammar.proofs.GoalReadings.{expression_terminated, expression_unterminated}
+use Rattle.js_grammar.proofs.NumberItems.{true_or_false}
+use Rattle.js_grammar.proofs.QuotedValues.{part_kind_is}
+use Rattle.js_lexer.specs.Goals.{IsBehindName, expression_kinds, left_compounds, right_compounds}
+use Rattle.js_lexer.specs.Lexer.{LexerState, is_hashbang, token_or_default}
+use Rattle.js_session.specs.Report.{fits}
+
+-- what was read is no hashbang comment
+abbrev IsNoHashbang : GoalRead → Type 0
+IsNoHashbang r = is_hashbang r.kind ≡ false
+
+-- and no regular expression
+pub record IsPlainRead (r : GoalRead) : Type 0 where
+  pub no_regex : r.regex ≡ None
+  pub no_hashbang : is_hashbang r.kind ≡ false
+
+found_is : (P : GoalRead → Type 0) (read : Option GoalRead) (found : GoalRead) → read ≡ Some found → IfSome read P
+    → P found
+found_is P read found e is = subst (λ r. IfSome r P) e is
+
+abbrev pub no_hashbangs : Kind → Bool
+no_hashbangs kind = not (is_hashbang kind)
+
+by_reading : (P : GoalRead → Type 0) (b : Bool) (x y : GoalRead) → P x → P y → P (if b then x else y)
+by_reading P true x y h k = h
+by_reading P false x y h k = k
+
+by_found : (P : GoalRead → Type 0) (b : Bool) (x y : Option GoalRead) → IfSome x P → IfSome y P
+    → IfSome (if b then x else y) P
+by_found P true x y h k = h
+by_found P false x y h k = k
+
+none_of : (kind : Kind) → no_hashbangs kind ≡ true → is_hashbang kind ≡ false
+none_of kind e = by_flag (is_hashbang kind) e
+  where
+    by_flag : (b : Bool) → not b ≡ true → b ≡ false
+    by_flag true e = absurd (cc)
+    by_flag false e = refl
+
+angle_plain : (kinds : List Kind) (text : List ℕ) → list_all no_hashbangs kinds ≡ true
+    → IfSome (angle_read kinds text) IsPlainRead
+angle_plain [] text all = tt
+angle_plain (k ∷ ks) text all =
+    let both = and_parts (no_hashbangs k) (list_all no_hashbangs ks) all in
+    by_found IsPlainRead (is_prefix (kind_text k) text) _ _
+    (record { no_regex = refl; no_hashbang = none_of k both.0 }) (angle_plain ks text both.1)
+
+name_plain : (text : List ℕ) → IfSome (jsx_name_read text) IsPlainRead
+name_plain text =
+    by_found IsPlainRead (begins (λ c. c == hyphen_minus) text) _ None
+    (record { no_regex = refl; no_hashbang = refl }) tt
+
+text_plain : (place : ℕ) (text left : List ℕ) → IsPlainRead (jsx_text_before place text left)
+text_plain place text [] = record { no_regex = refl; no_hashbang = refl }
+text_plain place text (c ∷ cs) =
+    by_reading IsPlainRead (begins_child c) _ _ (record { no_regex = refl; no_hashbang = refl })
+    (record { no_regex = refl; no_hashbang = refl })
+
+child_plain : (place : ℕ) (text : List ℕ) → IsPlainRead (jsx_child_read place text)
+child_plain place [] = record { no_regex = refl; no_hashbang = refl }
+child_plain place (c ∷ cs) =
+    by_reading IsPlainRead (c == less_than_sign) _ _ (record { no_regex = refl; no_hashbang = refl })
+    (by_reading IsPlainRead (c == left_curly_bracket) _ _ (record { no_regex = refl; no_hashbang = refl })
+    (text_plain place (c ∷ cs) (from_first ends_jsx_text (c ∷ cs))))
+
+string_plain : (start : ℕ) (text : List ℕ) → IfSome (jsx_string_read start text) IsPlainRead
+string_plain start [] = tt
+string_plain start (c ∷ cs) =
+    by_found IsPlainRead (is_quote c) _ None (closed (from_first (λ d. d == c) cs)) tt
+  where
+    closed : (left : List ℕ) → IsPlainRead (jsx_string_before start (c ∷ cs) left)
+    closed [] = record { no_regex = refl; no_hashbang = refl }
+    closed (d ∷ ds) = record { no_regex = refl; no_hashbang = refl }
+
+expression_no_hashbang : (start : ℕ) (text : List ℕ) → is_hashbang (regular_expression start text).kind ≡ false
+expression_no_hashbang start text =
+    elim (true_or_false (begins (λ c. c == slash) (behind_body text))) [
+      | inl e ↦ ap (λ (r : GoalRead). is_hashbang r.kind) (expression_terminated start text (behind_body text) e)
+      | inr e ↦ ap (λ (r : GoalRead). is_hashbang r.kind) (expression_unterminated start text (behind_body text) e)
+    ]
+
+expression_kind : (start : ℕ) (text : List ℕ) → IfSome (regular_expression_read start text) IsNoHashbang
+expression_kind start [] = tt
+expression_kind start (c ∷ cs) =
+    by_found IsNoHashbang (c == slash) _ None (expression_no_hashbang start cs) tt
+
+from_plain : (text : List ℕ) (line_has_ended : Bool) (start : ℕ) (read : Option GoalRead) (o : Outcome)
+    → IfSome read IsPlainRead → ReadsFrom text line_has_ended start read o
+    → (o.regex ≡ None) × (is_hashbang o.token.kind ≡ false)
+from_plain text line_has_ended start read o is reads =
+    let found = found_is IsPlainRead read reads.found reads.read_is is in (
+      ap (λ x. x.regex) reads.outcome_is ∙ found.no_regex,
+      ap (λ x. is_hashbang x.token.kind) reads.outcome_is ∙ found.no_hashbang,
+    )
+
+-- the lists of angles
+pub record AnglesAreNone : Type 0 where
+  pub longest : list_all no_hashbangs right_angles ≡ true
+  pub left : list_all no_hashbangs first_left_angle ≡ true
+  pub right : list_all no_hashbangs first_right_angle ≡ true
+
+pub angles_are_none : AnglesAreNone
+angles_are_none = record { longest = refl; left = refl; right = refl }
+
+pub angle_again : (text : List ℕ) (kinds : List Kind) (before : Option TokenParts) (o : Outcome)
+    → list_all no_hashbangs kinds ≡ true → ReadsAgain (ReadsAngle text kinds) before o
+    → (o.regex ≡ None) × (is_hashbang o.token.kind ≡ false)
+angle_again text kinds None o all reads = absurd reads
+angle_again text kinds (Some token) o all reads =
+    from_plain text false token.start (angle_read kinds (from_place text token.start)) o
+    (angle_plain kinds (from_place text token.start) all) reads
+
+pub name_again : (text : List ℕ) (t : SourceType) (before : Option TokenParts) (place : ℕ) (o : Outcome)
+    → GoalReads text t JsxIdentifier before place o → (o.regex ≡ None) × (is_hashbang o.token.kind ≡ false)
+name_again text t None place o reads = absurd reads
+name_again text t (Some token) place o reads =
+    from_plain text false token.start (jsx_name_read (from_place text token.end)) o
+    (name_plain (from_place text token.end)) reads.reads
+
+pub part_again : (text : List ℕ) (t : SourceType) (before : Option TokenParts) (place : ℕ) (o : Outcome)
+    → GoalReads text t TailGoal before place o → (o.regex ≡ None) × (is_hashbang o.token.kind ≡ false)
+part_again text t None place o reads = absurd reads
+part_again text t (Some token) place o reads = (
+  ap (λ x. x.regex) reads.outcome_is,
+  ap (λ x. is_hashbang x.token.kind) reads.outcome_is
+      ∙ part_kind_is (λ kind. is_hashbang kind ≡ false) TemplateMiddle TemplateTail refl refl refl token.start
+      reads.behind,
+)
+
+expression_again : (text : List ℕ) (t : SourceType) (before : Option TokenParts) (place : ℕ) (o : Outcome)
+    → GoalReads text t RegularExpression before place o → is_hashbang o.token.kind ≡ false
+expression_again text t None place o reads = absurd reads
+expression_again text t (Some token) place o reads =
+    ap (λ x. is_hashbang x.token.kind) reads.outcome_is
+    ∙ found_is IsNoHashbang (regular_expression_read token.start (from_place text token.start)) reads.found
+    reads.read_is (expression_kind token.start (from_place text token.start))
+
+-- a goal that goes on finds no regular expression
+plain_regex : (text : List ℕ) (t : SourceType) (goal : Goal) (before : Option TokenParts) (place : ℕ) (o : Outcome)
+    → ReadsPlainly text t goal before place o → o.regex ≡ None
+plain_regex text t goal before place o (hashbang begins read) = ap (λ x. x.regex) read.alone
+plain_regex text t goal before place o (behind_gap begins read) = ap (λ x. x.regex) read.outcome_is
+
+attribute_regex : (text : List ℕ) (t : SourceType) (before : Option TokenParts) (place : ℕ) (o : Outcome)
+    → ReadsAttributeValue text t before place o → o.regex ≡ None
+attribute_regex text t before place o (attribute_string read) =
+    ap (λ x. x.regex) read.outcome_is
+    ∙ (from_plain text read.line_has_ended o.token.start
+    (jsx_string_read o.token.start (from_place text o.token.start)) read.string
+    (string_plain o.token.start (from_place text o.token.start)) read.reads).0
+attribute_regex text t before place o (attribute_plain no_quote read) = ap (λ x. x.regex) read.outcome_is
+
+pub onward_regex : (text : List ℕ) (t : SourceType) (goal : Goal) (before : Option TokenParts) (place : ℕ) (o : Outcome)
+    → is_onward goal ≡ true → GoalReads text t goal before place o → o.regex ≡ None
+onward_regex text t First before place o onward reads = plain_regex text t First before place o reads
+onward_regex text t NextGoal before place o onward reads = plain_regex text t NextGoal before place o reads
+onward_regex text t TailGoal before place o onward reads = absurd (cc)
+onward_regex text t RegularExpression before place o onward reads = absurd (cc)
+onward_regex text t RightAngle before place o onward reads = absurd (cc)
+onward_regex text t TypeScriptLeftAngle before place o onward reads = absurd (cc)
+onward_regex text t TypeScriptRightAngle before place o onward reads = absurd (cc)
+onward_regex text t JsxIdentifier before place o onward reads = absurd (cc)
+onward_regex text t JsxChild before place o onward reads =
+    (from_plain text _ place (Some (jsx_child_read place (from_place text place))) o
+    (child_plain place (from_place text place)) reads).0
+onward_regex text t JsxAttributeValue before place o onward reads = attribute_regex text t before place o reads
+
+-- names are no hashbang comments
+names_pass : list_all no_hashbangs (Ident ∷ keywords) ≡ true
+names_pass = refl
+
+name_is_none : (kind : Kind) → is_identifier_name kind ≡ true → is_hashbang kind ≡ false
+unfolding is_identifier_name
+name_is_none kind is = none_of kind (one_passes no_hashbangs (Ident ∷ keywords) kind names_pass is)
+
+end_is_no_name : is_identifier_name Eof ≡ false
+unfolding is_identifier_name
+end_is_no_name = refl
+
+-- A kind that fits is that of a token, and not of a hashbang comment.
+some_of : (kinds : List Kind) (last : Option TokenParts) → is_one_of kinds Eof ≡ false
+    → list_all no_hashbangs kinds ≡ true → is_one_of kinds (token_or_default last).kind ≡ true
+    → (t : TokenParts) × (last ≡ Some t) × (is_hashbang t.kind ≡ false)
+some_of kinds None no_end all e = absurd (let no : true ≡ false = sym e ∙ no_end in cc)
+some_of kinds (Some t) no_end all e = (t, refl, none_of t.kind (one_passes no_hashbangs kinds t.kind all e))
+
+pub fits_some : (text : List ℕ) (goal : Goal) (last : Option TokenParts)
+    → fits text goal (token_or_default last) ≡ true
+    → (t : TokenParts) × (last ≡ Some t) × (is_hashbang t.kind ≡ false)
+fits_some text First last e = absurd (cc)
+fits_some text NextGoal last e = absurd (cc)
+fits_some text JsxChild last e = absurd (cc)
+fits_some text JsxAttributeValue last e = absurd (cc)
+fits_some text RegularExpression last e = some_of expression_kinds last refl refl e
+fits_some text TypeScriptLeftAngle last e = some_of left_compounds last refl refl e
+fits_some text TypeScriptRightAngle last e = some_of right_compounds last refl refl e
+fits_some text RightAngle None e = absurd (cc)
+fits_some text RightAngle (Some t) e =
+    let angle : t.kind ≡ RAngle = number_injective t.kind RAngle (eqb-true _ _ e) in
+    (t, refl, ap is_hashbang angle)
+fits_some text TailGoal None e = absurd (cc)
+fits_some text TailGoal (Some t) e =
+    let curly : t.kind ≡ RCurly = number_injective t.kind RCurly (eqb-true _ _ e) in
+    (t, refl, ap is_hashbang curly)
+fits_some text JsxIdentifier None e =
+    absurd (let no : true ≡ false = sym (and_parts (is_identifier_name Eof) _ e).0 ∙ end_is_no_name in cc)
+fits_some text JsxIdentifier (Some t) e =
+    (t, refl, name_is_none t.kind (and_parts (is_identifier_name t.kind) _ e).0)
+
+-- and what is read again of it is none either
+pub re_lexed_collected : (text : List ℕ) (t : SourceType) (goal : Goal) (before : Option TokenParts) (place : ℕ)
+    (o : Outcome) → fits text goal (token_or_default before) ≡ true → GoalReads text t goal before place o
+    → is_hashbang o.token.kind ≡ false
+re_lexed_collected text t First before place o e reads = absurd (cc)
+re_lexed_collected text t NextGoal before place o e reads = absurd (cc)
+re_lexed_collected text t JsxChild before place o e reads = absurd (cc)
+re_lexed_collected text t JsxAttributeValue before place o e reads = absurd (cc)
+re_lexed_collected text t RegularExpression before place o e reads = expression_again text t before place o reads
+re_lexed_collected text t RightAngle before place o e reads =
+    (angle_again text right_angles before o angles_are_none.longest reads).1
+re_lexed_collected text t TypeScriptLeftAngle before place o e reads =
+    (angle_again text first_left_angle before o angles_are_none.left reads).1
+re_lexed_collected text t TypeScriptRightAngle before place o e reads =
+    (angle_again text first_right_angle before o angles_are_none.right reads).1
+re_lexed_collected text t JsxIdentifier before place o e reads = (name_again text t before place o reads).1
+re_lexed_collected text t TailGoal before place o e reads = (part_again text t before place o reads).1
+
+-- What is read again does not depend on the place behind the token.
+pub from_any_place : (text : List ℕ) (t : SourceType) (goal : Goal) (before : Option TokenParts) (p q : ℕ) (o : Outcome)
+    → fits text goal (token_or_default before) ≡ true → GoalReads text t goal before p o
+    → GoalReads text t goal before q o
+from_any_place text t First before p q o e reads = absurd (cc)
+from_any_place text t NextGoal before p q o e reads = absurd (cc)
+from_any_place text t JsxChild before p q o e reads = absurd (cc)
+from_any_place text t JsxAttributeValue before p q o e reads = absurd (cc)
+from_any_place text t RegularExpression before p q o e reads = reads
+from_any_place text t RightAngle before p q o e reads = reads
+from_any_place text t TypeScriptLeftAngle before p q o e reads = reads
+from_any_place text t TypeScriptRightAngle before p q o e reads = reads
+from_any_place text t JsxIdentifier before p q o e reads = reads
+from_any_place text t TailGoal before p q o e reads = reads
+
+-- a lexer stands behind its last token, a name
+pub name_stands : (l : LexerState) (told : TokenParts) (start : ℕ) → told ≡ token_or_default l.last
+    → is_identifier_name told.kind ≡ true → start ≡ told.start → l.place ≡ (token_or_default l.last).end
+    → IsBehindName start l
+name_stands l told start is name starts at = by_last l.last refl
+  where
+    by_last : (last : Option TokenParts) → l.last ≡ last → IsBehindName start l
+    by_last None e =
+        let end : is_identifier_name told.kind ≡ false =
+        ap (λ t. is_identifier_name t.kind) is ∙ ap (λ o. is_identifier_name (token_or_default o).kind) e
+        ∙ end_is_no_name in
+        absurd (let no : true ≡ false = sym name ∙ end in cc)
+    by_last (Some t) e =
+        let same : told ≡ t = is ∙ ap token_or_default e in
+        record {
+          token = t;
+          last = e;
+          kind_is = ap (λ x. is_identifier_name x.kind) (sym same) ∙ name;
+          start_is = ap (λ x. x.start) (sym same) ∙ sym starts;
+          place = at ∙ ap (λ o. (token_or_default o).end) e;
+        }
