@@ -2,22 +2,13 @@
 #![tactic(auto)]
 
 use js_lex_tool::status::{DONE, MEMORY, NO_ARGUMENTS};
-use js_lex_tool::{StdIn, StdOut, lex_tool_run, status_line};
+use js_lex_tool::{StdIn, StdOut, lex_tool_run, program_words, status_line};
+use std::io;
 use std::process::ExitCode;
-use std::{env, io};
-
-/// The words after the program's name.
-fn words<R: std::rt::Env + AllocGlobal>(rt: &R) -> io::Result<Vec<String>> {
-    let mut words = Vec::new(rt.alloc());
-    for word in env::args(rt)?.skip(1) {
-        words.push(word)?;
-    }
-    Ok(words)
-}
 
 /// The exit status of the program.
 fn status(rt: &HostRuntime) -> u8 {
-    let words = match words(rt) {
+    let words = match program_words(rt) {
         Ok(words) => words,
         Err(error) if error.kind() == io::ErrorKind::OutOfMemory => return MEMORY,
         Err(_) => return NO_ARGUMENTS,

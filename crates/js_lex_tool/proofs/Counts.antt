@@ -10,49 +10,51 @@ use Rattle.std.proofs.lemmas.Fmt.{digits_value-decimal, decimal-digits_value, de
 use Rattle.std.proofs.lemmas.Fmt.{parse-decimal}
 use Rattle.std.proofs.lemmas.Slice.Eq.{bytes_eq-Decides}
 use Rattle.std.proofs.lemmas.Bool.Decides.{nat_tests}
-use Rattle.js_lex_tool.specs.Words.{count_in, most_commands}
+use Rattle.js_lex_tool.specs.Words.{count_in}
 
 -- std's own digits and their value
 pub numerals : IsNumeralModel (AllDigits 10) (digits_value 10)
 numerals = numerals_by_value _ tells_digits
 
 -- a count that is in its bounds is given, where the text is its decimal form
-abbrev checked : List ℕ → ℕ → Type 0
-checked text n = (if bytes_eq text (decimal n) && (nat_lt 0 n && nat_le n most_commands) then Some n else None) ≡ Some n
+abbrev checked : ℕ → List ℕ → ℕ → Type 0
+checked most text n = (if bytes_eq text (decimal n) && (nat_lt 0 n && nat_le n most) then Some n else None) ≡ Some n
 
-checked-decimal : (text : List ℕ) (n : ℕ) → text ≡ decimal n → 0 < n → n ≤ most_commands → checked text n
-checked-decimal text n e low high = rw ((bytes_eq-Decides text (decimal n)).1 e) (grind (arith, nat_tests))
+checked-decimal : (most : ℕ) (text : List ℕ) (n : ℕ) → text ≡ decimal n → 0 < n → n ≤ most → checked most text n
+checked-decimal most text n e low high = rw ((bytes_eq-Decides text (decimal n)).1 e) (grind (arith, nat_tests))
 
 -- A number in decimal is read.
-pub count_in-decimal : (text : List ℕ) (n : ℕ) → text ≡ decimal n → 0 < n → n ≤ most_commands → count_in text ≡ Some n
-count_in-decimal text n e low high =
+pub count_in-decimal : (most : ℕ) (text : List ℕ) (n : ℕ) → text ≡ decimal n → 0 < n → n ≤ most
+    → count_in most text ≡ Some n
+count_in-decimal most text n e low high =
     let value : digits_value 10 text ≡ n = rw e (digits_value-decimal numerals n (omega arith)) in
-    rw value (checked-decimal text n e low high)
+    rw value (checked-decimal most text n e low high)
 
 -- nothing is given where the test can't hold
-none_unless : (same : Bool) (n : ℕ) → (same ≡ true → 0 < n → n ≤ most_commands → ⊥)
-    → (if same && (nat_lt 0 n && nat_le n most_commands) then Some n else None) ≡ None
-none_unless false n h = refl
-none_unless true n h = grind (arith, nat_tests, h refl)
+none_unless : (most : ℕ) (same : Bool) (n : ℕ) → (same ≡ true → 0 < n → n ≤ most → ⊥)
+    → (if same && (nat_lt 0 n && nat_le n most) then Some n else None) ≡ None
+none_unless most false n h = refl
+none_unless most true n h = grind (arith, nat_tests, h refl)
 
 -- What is no number in decimal is not read.
-pub count_in-none : (text : List ℕ) → ((n : ℕ) → 0 < n → n ≤ most_commands → text ≡ decimal n → ⊥)
-    → count_in text ≡ None
-count_in-none text h =
+pub count_in-none : (most : ℕ) (text : List ℕ) → ((n : ℕ) → 0 < n → n ≤ most → text ≡ decimal n → ⊥)
+    → count_in most text ≡ None
+count_in-none most text h =
     let n = digits_value 10 text in
-    none_unless (bytes_eq text (decimal n)) n
+    none_unless most (bytes_eq text (decimal n)) n
     (λ same low high. h n low high ((bytes_eq-Decides text (decimal n)).0 same))
 
 -- A text that begins below `1` is not read.
-pub count_in-low : (text : List ℕ) → get_or text 0 0 ≤ 48 → count_in text ≡ None
-count_in-low text low =
-    count_in-none text (λ n some few e. omega (arith, first_decimal n some (omega arith), ap (λ ds. get_or ds 0 0) e))
+pub count_in-low : (most : ℕ) (text : List ℕ) → most < 2 ^ 64 → get_or text 0 0 ≤ 48 → count_in most text ≡ None
+count_in-low most text bounded low =
+    count_in-none most text
+    (λ n some few e. omega (arith, first_decimal n some (omega arith), ap (λ ds. get_or ds 0 0) e))
 
 -- What can't be parsed is not read.
-pub count_in-err : {E : Type 0} (text : List ℕ) (r : Result ℕ E) → result_ok r ≡ None → ParsesUnsigned 64 10 text r
-    → count_in text ≡ None
-count_in-err text r none parses =
-    count_in-none text (λ n some few same.
+pub count_in-err : {E : Type 0} (most : ℕ) (text : List ℕ) (r : Result ℕ E) → most < 2 ^ 64 → result_ok r ≡ None
+    → ParsesUnsigned 64 10 text r → count_in most text ≡ None
+count_in-err most text r bounded none parses =
+    count_in-none most text (λ n some few same.
     let ok : r ≡ Ok n = parse-decimal 64 n text r (omega arith) (omega arith) same parses in
     let is : result_ok r ≡ Some n = ap result_ok ok in
     cc)
@@ -70,10 +72,10 @@ decimal_from_parse {E} text (Ok m) n is parses first =
     rw same (sym digits)
 
 -- What is parsed, begins above `0` and is not too many, is read.
-pub count_in-parsed : {E : Type 0} (text : List ℕ) (r : Result ℕ E) (n : ℕ) → result_ok r ≡ Some n
-    → ParsesUnsigned 64 10 text r → 48 < get_or text 0 0 → n ≤ most_commands → count_in text ≡ Some n
-count_in-parsed text r zero is parses first few =
+pub count_in-parsed : {E : Type 0} (most : ℕ) (text : List ℕ) (r : Result ℕ E) (n : ℕ) → result_ok r ≡ Some n
+    → ParsesUnsigned 64 10 text r → 48 < get_or text 0 0 → n ≤ most → count_in most text ≡ Some n
+count_in-parsed most text r zero is parses first few =
     let zero_text : text ≡ _ = decimal_from_parse text r 0 is parses first ∙ decimal_digit 0 (omega arith) in
     absurd (omega (arith, ap (λ ds. get_or ds 0 0) zero_text))
-count_in-parsed text r (suc n) is parses first few =
-    count_in-decimal text (suc n) (decimal_from_parse text r (suc n) is parses first) (omega arith) few
+count_in-parsed most text r (suc n) is parses first few =
+    count_in-decimal most text (suc n) (decimal_from_parse text r (suc n) is parses first) (omega arith) few

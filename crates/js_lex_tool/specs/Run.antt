@@ -3,6 +3,7 @@ use Rattle.std.specs.Prelude.{◌≡◌, ◌≢◌, ℕ, ◌+◌, ◌≤◌, ◌
 use Rattle.std.specs.Prelude.{IsSome, Bool}
 use Rattle.std.specs.Io.KnownBytes.{Consumes, Keeps, IsAtEnd}
 use Rattle.std.specs.Str.{IsUtf8}
+use Rattle.js_auto.specs.Auto.{ReportOfChosen}
 use Rattle.js_session.specs.Faults.{HasMarks}
 use Rattle.js_session.specs.Report.{ReportOf}
 use Rattle.js_session.specs.WholeSource.{nexts, ReportOfWhole}
@@ -20,7 +21,7 @@ use Rattle.js_lex_tool.specs.declared.tool.Ran.{Ran}
 use Rattle.js_lex_tool.specs.declared.tool.ToolOutcome.{ToolOutcome}
 use Rattle.js_lex_tool.specs.declared.words.CommandLine.{CommandLine}
 use Rattle.js_lex_tool.specs.declared.words.Commands.{Commands}
-use Rattle.js_lex_tool.specs.declared.words.Commands.TheVariants.{Listed, All}
+use Rattle.js_lex_tool.specs.declared.words.Commands.TheVariants.{Listed, All, Auto}
 
 -- the most bytes that an input may have
 abbrev pub most_bytes : ℕ
@@ -38,17 +39,19 @@ pub record CountsFault (status : Status) (n before now : ℕ) : Type 0 where
   pub rises : n ≡ number status → Rises before now
   pub stays : n ≢ number status → now ≡ before
 
--- the commands that the words list: none with `all`, which closes no mark
+-- the commands that the words list: none with `all` or `auto`, which close no mark
 abbrev pub listed_commands : Commands → List Command
 listed_commands (Listed commands) = commands
 listed_commands All = []
+listed_commands Auto = []
 
--- The commands of a session over a source are those that are meant: the listed ones, or, with `all`, the least number
--- of `next` after which the last row is `Eof`.
+-- The commands of a session over a source are those that are meant: the listed ones; with `all`, the least number of
+-- `next` after which the last row is `Eof`; or, with `auto`, those that are chosen by the tokens.
 abbrev pub AreMeant : Commands → List ℕ → SourceType → Bool → List Command → Report → Type 0
 AreMeant (Listed listed) source t tokens commands report = commands ≡ listed
 AreMeant All source t tokens commands report =
     (steps : ℕ) × (commands ≡ nexts steps) × ReportOfWhole source t tokens steps report
+AreMeant Auto source t tokens commands report = ReportOfChosen source t tokens commands report
 
 -- What a run over the bytes was: its source is exactly these bytes, its source type, tokens and commands are those of
 -- the command line, and its report is that of a session over them.

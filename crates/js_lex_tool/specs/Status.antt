@@ -1,5 +1,5 @@
 -- The statuses of the program: their numbers, their lines, and the order in which a run tests for them.
-use Rattle.std.specs.Prelude.{◌≡◌, ℕ, ◌==◌, ◌⊎◌, List, [], ◌∷◌, codes, Option, option_map, find}
+use Rattle.std.specs.Prelude.{◌≡◌, ℕ, ◌==◌, ◌⊎◌, List, [], ◌∷◌, ◌++◌, codes, Option, option_map, find}
 use Rattle.std.specs.List.{after_first}
 
 -- what the program can come to
@@ -26,25 +26,41 @@ number NotUtf8 = 6
 number NoMark = 7
 number NoArguments = 10
 
--- the line that the program prints for a status, without its line end; it prints none where it is done
-abbrev pub line : Status → List ℕ
-line Done = []
-line OutOfMemory = codes "js_lex: out of memory"
-line Usage = codes "js_lex: usage: js_lex module|script|unambiguous tokens|no-tokens all|COMMAND[*N].. or js_lex gen N"
-line ReadFailed = codes "js_lex: cannot read input"
-line WriteFailed = codes "js_lex: cannot write output"
-line TooLong = codes "js_lex: input is longer than 67108864 bytes"
-line NotUtf8 = codes "js_lex: input is not UTF-8"
-line NoMark = codes "js_lex: rewind or commit without a mark"
-line NoArguments = codes "js_lex: cannot read arguments"
+-- why a program with this usage stops with a status; it has no reason where it is done
+abbrev pub reason : List ℕ → Status → List ℕ
+reason usage Done = []
+reason usage OutOfMemory = codes "out of memory"
+reason usage Usage = usage
+reason usage ReadFailed = codes "cannot read input"
+reason usage WriteFailed = codes "cannot write output"
+reason usage TooLong = codes "input is longer than 67108864 bytes"
+reason usage NotUtf8 = codes "input is not UTF-8"
+reason usage NoMark = codes "rewind or commit without a mark"
+reason usage NoArguments = codes "cannot read arguments"
 
 -- each status but Done
 abbrev pub failures : List Status
 failures = OutOfMemory ∷ Usage ∷ ReadFailed ∷ WriteFailed ∷ TooLong ∷ NotUtf8 ∷ NoMark ∷ NoArguments ∷ []
 
--- the line for an exit status
-abbrev pub line_for : ℕ → Option (List ℕ)
-line_for n = option_map line (find (λ s. number s == n) failures)
+-- why a program with this usage stops with an exit status
+abbrev pub reason_for : List ℕ → ℕ → Option (List ℕ)
+reason_for usage n = option_map (reason usage) (find (λ s. number s == n) failures)
+
+-- the line that a program prints, without its line end
+abbrev pub line_of : List ℕ → List ℕ → List ℕ
+line_of program why = program ++ codes ": " ++ why
+
+-- the line for an exit status of a program with this name and this usage
+abbrev pub line_for : List ℕ → List ℕ → ℕ → Option (List ℕ)
+line_for program usage n = option_map (line_of program) (reason_for usage n)
+
+-- the program of this crate
+abbrev pub js_lex : List ℕ
+js_lex = codes "js_lex"
+
+abbrev pub js_lex_usage : List ℕ
+js_lex_usage =
+    codes "usage: js_lex module|script|unambiguous tokens|no-tokens all|auto|COMMAND[*N].. or js_lex gen N"
 
 -- The statuses in the order in which a run tests for them. OutOfMemory is not among them: it may come at any time.
 abbrev pub order : List Status

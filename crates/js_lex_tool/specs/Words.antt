@@ -13,7 +13,7 @@ use Rattle.js_lex_tool.specs.Command.{command_word, all_commands}
 use Rattle.js_session.specs.declared.command.Command.{Command}
 use Rattle.js_lex_tool.specs.declared.words.CommandLine.{CommandLine}
 use Rattle.js_lex_tool.specs.declared.words.Commands.{Commands}
-use Rattle.js_lex_tool.specs.declared.words.Commands.TheVariants.{Listed, All}
+use Rattle.js_lex_tool.specs.declared.words.Commands.TheVariants.{Listed, All, Auto}
 
 -- at most so many commands, and so many repetitions of one
 abbrev pub most_commands : ℕ
@@ -36,18 +36,18 @@ tokens_words = (codes "tokens", true) ∷ (codes "no-tokens", false) ∷ []
 unfoldable pub command_of : List ℕ → Option Command
 command_of word = find (λ c. bytes_eq (command_word c) word) all_commands
 
--- the number from 1 to 1,000,000 that the text is in decimal, with no sign and no leading zero
-abbrev pub count_in : List ℕ → Option ℕ
-count_in text =
+-- the number from 1 to the most that the text is in decimal, with no sign and no leading zero
+abbrev pub count_in : ℕ → List ℕ → Option ℕ
+count_in most text =
     let n = digits_value 10 text in
-    if bytes_eq text (decimal n) && (nat_lt 0 n && nat_le n most_commands) then Some n else None
+    if bytes_eq text (decimal n) && (nat_lt 0 n && nat_le n most) then Some n else None
 
 abbrev pub is_star : ℕ → Bool
 is_star c = c == 42
 
 -- how often a command word means its command: once, or as often as the number behind `*` says
 abbrev pub times_in : List ℕ → Option ℕ
-times_in word = if list_any is_star word then count_in (after_first is_star word) else Some 1
+times_in word = if list_any is_star word then count_in most_commands (after_first is_star word) else Some 1
 
 -- the command of a command word, and how often it is meant
 abbrev pub repeated_command : List ℕ → Option (Command × ℕ)
@@ -68,15 +68,18 @@ allowed_commands commands = if nat_le (length commands) most_commands then Some 
 abbrev pub allowed_commands_in : List (List ℕ) → Option (List Command)
 allowed_commands_in words = option_and_then allowed_commands (commands_in words)
 
--- the word `all`, alone
-abbrev pub is_all : List (List ℕ) → Bool
-is_all [] = false
-is_all (word ∷ []) = bytes_eq word (codes "all")
-is_all (word ∷ other ∷ words) = false
+-- the words are this one alone
+abbrev pub is_alone : List ℕ → List (List ℕ) → Bool
+is_alone text [] = false
+is_alone text (word ∷ []) = bytes_eq word text
+is_alone text (word ∷ other ∷ words) = false
 
--- what words mean in the place of commands: `all` alone, or commands that are listed
+-- what words mean in the place of commands: `all` or `auto`, alone, or commands that are listed
 abbrev pub commands_meant : List (List ℕ) → Option Commands
-commands_meant words = if is_all words then Some All else option_map Listed (allowed_commands_in words)
+commands_meant words =
+    if is_alone (codes "all") words then Some All
+    else if is_alone (codes "auto") words then Some Auto
+    else option_map Listed (allowed_commands_in words)
 
 -- the command line of these parts, where each is there
 abbrev pub command_line : Option SourceType → Option Bool → Option Commands → Option CommandLine
@@ -86,7 +89,7 @@ command_line (Some source_type) (Some tokens) None = None
 command_line (Some source_type) (Some tokens) (Some commands) =
     Some (record { source_type = source_type; tokens = tokens; commands = commands })
 
--- the command line that words are: a source type, tokens or none, and commands or `all`
+-- the command line that words are: a source type, tokens or none, and commands, `all` or `auto`
 abbrev pub command_line_in : List (List ℕ) → Option CommandLine
 command_line_in [] = None
 command_line_in (first ∷ []) = None

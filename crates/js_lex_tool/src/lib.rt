@@ -1,6 +1,7 @@
 //! The program as a library: where bytes come from, what words mean, what is written.
 #![tactic(auto)]
 
+mod arguments;
 mod calls;
 mod command;
 mod memory_in;
@@ -15,14 +16,15 @@ mod tests;
 mod tool;
 mod units;
 mod words;
-mod write_all;
+pub mod write_all;
 
+pub use arguments::program_words;
 pub use memory_in::{MemoryIn, SureIn};
 pub use memory_out::{MemoryOut, SureOut};
 pub use outside::{ByteIn, ByteOut, FlushAnswer, InAnswer, OutAnswer};
-pub use read_all::MOST_BYTES;
+pub use read_all::{MOST_BYTES, ReadFault, read_to_end};
 pub use report::report_text;
-pub use status::{StatusLine, status_line};
+pub use status::{StatusLine, line_for, status_line};
 pub use std_streams::{StdIn, StdOut};
 pub use tool::{Ran, ToolOutcome, lex_tool_run, lex_tool_run_sure};
-pub use words::{CommandLine, Commands, read_words};
+pub use words::{CommandLine, Commands, parse_count, parse_source_type, parse_tokens, read_words};

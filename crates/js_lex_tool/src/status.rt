@@ -1,7 +1,7 @@
 //! The statuses of a run, and the line that the program prints for each.
 
-ghost use Rattle.std.specs.Prelude.{◌≡◌};
-ghost use Rattle.js_lex_tool.specs.Status.{line_for};
+ghost use Rattle.std.specs.Prelude.{◌≡◌, option_map};
+ghost use Rattle.js_lex_tool.specs.Status.{js_lex, js_lex_usage, line_for, reason_for};
 
 use std::marker::Model;
 use thiserror::Error;
@@ -25,35 +25,57 @@ pub const NO_MARK: u8 = 7;
 /// The program was not given its arguments. No run comes to this.
 pub const NO_ARGUMENTS: u8 = 10;
 
-/// The line that tells why the program stops before it is done, without its line end.
+/// The line that tells why a program stops before it is done, without its line end.
 #[derive(Debug, Drop, Error)]
-#[error("{0}")]
-pub struct StatusLine(&'static str);
+#[error("{program}: {reason}")]
+pub struct StatusLine {
+    program: &'static str,
+    reason: &'static str,
+}
 
 impl Model for StatusLine {
     ghost use Rattle.std.specs.Prelude.{ℕ, List};
+    ghost use Rattle.js_lex_tool.specs.Status.{line_of};
 
     ghost Value = { List ℕ };
 
-    ghost view = { λ line. line.0.now };
+    ghost view = { λ line. line_of line.program.now line.reason.now };
 }
 
-/// The line for a status. None: the program is done, or never stops with this status.
-pub fn status_line(status: u8) -> Option<StatusLine>
-    ensures { result ≡ line_for status }
+/// Why a program with this usage stops with a status. None: it is done, or no program stops with this status.
+fn reason(usage: &'static str, status: u8) -> Option<&'static str>
+    ensures { option_map (λ text. text.now) result ≡ reason_for usage.now status }
 {
-    let line = match status {
-        MEMORY => "js_lex: out of memory",
-        USAGE => {
-            "js_lex: usage: js_lex module|script|unambiguous tokens|no-tokens all|COMMAND[*N].. or js_lex gen N"
-        }
-        READ_FAILED => "js_lex: cannot read input",
-        WRITE_FAILED => "js_lex: cannot write output",
-        TOO_LONG => "js_lex: input is longer than 67108864 bytes",
-        NOT_UTF8 => "js_lex: input is not UTF-8",
-        NO_MARK => "js_lex: rewind or commit without a mark",
-        NO_ARGUMENTS => "js_lex: cannot read arguments",
+    let reason = match status {
+        MEMORY => "out of memory",
+        USAGE => usage,
+        READ_FAILED => "cannot read input",
+        WRITE_FAILED => "cannot write output",
+        TOO_LONG => "input is longer than 67108864 bytes",
+        NOT_UTF8 => "input is not UTF-8",
+        NO_MARK => "rewind or commit without a mark",
+        NO_ARGUMENTS => "cannot read arguments",
         _ => return None,
     };
-    Some(StatusLine(line))
+    Some(reason)
+}
+
+/// The line for a status of a program of this name, whose usage is this. None: the program is done, or no program stops
+/// with this status.
+pub fn line_for(program: &'static str, usage: &'static str, status: u8) -> Option<StatusLine>
+    ensures { result ≡ line_for program.now usage.now status }
+{
+    let reason = reason(usage, status)?;
+    Some(StatusLine { program, reason })
+}
+
+/// The line for a status of `js_lex`. None: the program is done, or never stops with this status.
+pub fn status_line(status: u8) -> Option<StatusLine>
+    ensures { result ≡ line_for js_lex js_lex_usage status }
+{
+    line_for(
+        "js_lex",
+        "usage: js_lex module|script|unambiguous tokens|no-tokens all|auto|COMMAND[*N].. or js_lex gen N",
+        status,
+    )
 }

@@ -21,6 +21,7 @@ use crate::report::report_text;
 use crate::status::{DONE, MEMORY, NO_MARK, NOT_UTF8, READ_FAILED, TOO_LONG, USAGE, WRITE_FAILED};
 use crate::words::{CommandLine, Commands, push_repeated, read_words};
 use crate::write_all::{WriteFault, write_all};
+use js_auto::{Auto, auto_session};
 use js_session::{Command, CommandList, LexFault, Report, lex_all, lex_session};
 use js_text::{ByteList, SourceType};
 use std::alloc::{AllocError, Global};
@@ -150,6 +151,25 @@ fn run_all(
     }
 }
 
+/// A session whose goals are chosen by the tokens: its commands, and its report.
+fn run_auto(
+    alloc: Global,
+    source: &[u8],
+    source_type: SourceType,
+    tokens: bool,
+) -> Result<(CommandList, Report), LexFault>
+    ensures commands { IfOk result (λ ran. AreMeant Commands.Auto source.now source_type tokens ran.0 ran.1) }
+    ensures report { IfOk result (λ ran. ReportOf source.now source_type tokens ran.0 ran.1) }
+    ensures slices { IfOk result (λ ran. AllByRecursion (λ row. IsSliceOnPlaces source.now row.value) ran.1.rows) }
+    ensures ok { OnOk result (IsReadable source.now) }
+    ensures cause { IfErr result (λ fault. (fault ≡ LexFault.Memory) ⊎ SourceCause source.now fault) }
+{
+    match auto_session(alloc, source, source_type, tokens) {
+        Ok(Auto { commands, report }) => Ok((commands, report)),
+        Err(fault) => Err(fault.as_lex_fault()),
+    }
+}
+
 /// A session over the source as it is meant: its commands, and its report.
 fn run_commands(
     alloc: Global,
@@ -168,6 +188,7 @@ fn run_commands(
     match commands {
         Commands::Listed(commands) => run_listed(alloc, source, source_type, tokens, commands),
         Commands::All => run_all(alloc, source, source_type, tokens),
+        Commands::Auto => run_auto(alloc, source, source_type, tokens),
     }
 }
 

@@ -2,7 +2,7 @@
 
 ghost use Rattle.std.specs.Prelude.{◌≡◌, ◌++◌, IfOk, OnOk, map, replicate, string_bytes};
 ghost use Rattle.js_lex_tool.specs.Words.{entry_for, source_type_words, tokens_words, command_of, count_in};
-ghost use Rattle.js_lex_tool.specs.Words.{repeated_command, allowed_commands_in, is_all, commands_meant};
+ghost use Rattle.js_lex_tool.specs.Words.{repeated_command, allowed_commands_in, is_alone, commands_meant};
 ghost use Rattle.js_lex_tool.specs.Words.{command_line_of};
 
 use crate::command::{COMMANDS, command_word};
@@ -20,6 +20,8 @@ pub enum Commands {
     Listed(CommandList),
     /// As many steps as lead to the end of the source.
     All,
+    /// Those that are chosen by the tokens, up to the end of the source.
+    Auto,
 }
 
 /// What the words of a run mean.
@@ -31,7 +33,8 @@ pub struct CommandLine {
     pub commands: Commands,
 }
 
-fn parse_source_type(word: &str) -> Option<SourceType>
+/// The source type that the word means.
+pub fn parse_source_type(word: &str) -> Option<SourceType>
     ensures { result ≡ entry_for source_type_words word.now }
 {
     match word {
@@ -42,7 +45,8 @@ fn parse_source_type(word: &str) -> Option<SourceType>
     }
 }
 
-fn parse_tokens(word: &str) -> Option<bool>
+/// Whether tokens are collected, as the word says.
+pub fn parse_tokens(word: &str) -> Option<bool>
     ensures { result ≡ entry_for tokens_words word.now }
 {
     match word {
@@ -62,16 +66,16 @@ fn parse_command(word: &str) -> Option<Command>
         .find(|command| command_word(*command) == word)
 }
 
-/// A number of repetitions: decimal, without sign or leading zero.
-fn parse_count(digits: &str) -> Option<usize>
-    ensures { result ≡ count_in digits.now }
+/// A number from 1 to `most`, in decimal, without sign or leading zero.
+pub fn parse_count(digits: &str, most: usize) -> Option<usize>
+    ensures { result ≡ count_in most digits.now }
 {
     let first = digits.as_bytes().first()?;
     if *first <= b'0' {
         return None;
     }
     let count = digits.parse::<usize>().ok()?;
-    if count <= MOST_COMMANDS {
+    if count <= most {
         Some(count)
     } else {
         None
@@ -84,7 +88,7 @@ fn parse_repeated(word: &str) -> Option<(Command, usize)>
 {
     match word.split_once('*') {
         None => Some((parse_command(word)?, 1)),
-        Some((name, digits)) => Some((parse_command(name)?, parse_count(digits)?)),
+        Some((name, digits)) => Some((parse_command(name)?, parse_count(digits, MOST_COMMANDS)?)),
     }
 }
 
@@ -119,11 +123,12 @@ fn read_listed(alloc: Global, words: &[String]) -> Result<Option<CommandList>, A
     Ok(Some(commands))
 }
 
-fn is_all(words: &[String]) -> bool
-    ensures { result ≡ is_all (map string_bytes words.now) }
+/// Whether the words are this one alone.
+fn is_alone(text: &str, words: &[String]) -> bool
+    ensures { result ≡ is_alone text.now (map string_bytes words.now) }
 {
     match words {
-        [word] => word.as_str() == "all",
+        [word] => word.as_str() == text,
         _ => false,
     }
 }
@@ -132,8 +137,11 @@ fn is_all(words: &[String]) -> bool
 fn read_commands(alloc: Global, words: &[String]) -> Result<Option<Commands>, AllocError>
     ensures { IfOk result (λ commands. commands ≡ commands_meant (map string_bytes words.now)) }
 {
-    if is_all(words) {
+    if is_alone("all", words) {
         return Ok(Some(Commands::All));
+    }
+    if is_alone("auto", words) {
+        return Ok(Some(Commands::Auto));
     }
     match read_listed(alloc, words)? {
         Some(commands) => Ok(Some(Commands::Listed(commands))),

@@ -40,11 +40,7 @@ use Rattle.js_lexer.specs.Goals.{IsBehindName, expression_kinds, left_compounds,
 use Rattle.js_lexer.specs.Lexer.{LexerState, is_hashbang, token_or_default}
 use Rattle.js_session.specs.Report.{fits}
 
--- what was read is no hashbang comment
-abbrev IsNoHashbang : GoalRead → Type 0
-IsNoHashbang r = is_hashbang r.kind ≡ false
-
--- and no regular expression
+-- what was read is no hashbang comment, and no regular expression
 pub record IsPlainRead (r : GoalRead) : Type 0 where
   pub no_regex : r.regex ≡ None
   pub no_hashbang : is_hashbang r.kind ≡ false
@@ -107,17 +103,20 @@ string_plain start (c ∷ cs) =
     closed [] = record { no_regex = refl; no_hashbang = refl }
     closed (d ∷ ds) = record { no_regex = refl; no_hashbang = refl }
 
-expression_no_hashbang : (start : ℕ) (text : List ℕ) → is_hashbang (regular_expression start text).kind ≡ false
-expression_no_hashbang start text =
+-- what was read is a regular expression
+abbrev IsExpression : GoalRead → Type 0
+IsExpression r = r.kind ≡ RegExp
+
+expression_of_kind : (start : ℕ) (text : List ℕ) → (regular_expression start text).kind ≡ RegExp
+expression_of_kind start text =
     elim (true_or_false (begins (λ c. c == slash) (behind_body text))) [
-      | inl e ↦ ap (λ (r : GoalRead). is_hashbang r.kind) (expression_terminated start text (behind_body text) e)
-      | inr e ↦ ap (λ (r : GoalRead). is_hashbang r.kind) (expression_unterminated start text (behind_body text) e)
+      | inl e ↦ ap (λ (r : GoalRead). r.kind) (expression_terminated start text (behind_body text) e)
+      | inr e ↦ ap (λ (r : GoalRead). r.kind) (expression_unterminated start text (behind_body text) e)
     ]
 
-expression_kind : (start : ℕ) (text : List ℕ) → IfSome (regular_expression_read start text) IsNoHashbang
+expression_kind : (start : ℕ) (text : List ℕ) → IfSome (regular_expression_read start text) IsExpression
 expression_kind start [] = tt
-expression_kind start (c ∷ cs) =
-    by_found IsNoHashbang (c == slash) _ None (expression_no_hashbang start cs) tt
+expression_kind start (c ∷ cs) = by_found IsExpression (c == slash) _ None (expression_of_kind start cs) tt
 
 from_plain : (text : List ℕ) (line_has_ended : Bool) (start : ℕ) (read : Option GoalRead) (o : Outcome)
     → IfSome read IsPlainRead → ReadsFrom text line_has_ended start read o
@@ -162,12 +161,12 @@ part_again text t (Some token) place o reads = (
       reads.behind,
 )
 
-expression_again : (text : List ℕ) (t : SourceType) (before : Option TokenParts) (place : ℕ) (o : Outcome)
-    → GoalReads text t RegularExpression before place o → is_hashbang o.token.kind ≡ false
+pub expression_again : (text : List ℕ) (t : SourceType) (before : Option TokenParts) (place : ℕ) (o : Outcome)
+    → GoalReads text t RegularExpression before place o → o.token.kind ≡ RegExp
 expression_again text t None place o reads = absurd reads
 expression_again text t (Some token) place o reads =
-    ap (λ x. is_hashbang x.token.kind) reads.outcome_is
-    ∙ found_is IsNoHashbang (regular_expression_read token.start (from_place text token.start)) reads.found
+    ap (λ x. x.token.kind) reads.outcome_is
+    ∙ found_is IsExpression (regular_expression_read token.start (from_place text token.start)) reads.found
     reads.read_is (expression_kind token.start (from_place text token.start))
 
 -- a goal that goes on finds no regular expression
@@ -250,7 +249,8 @@ re_lexed_collected text t First before place o e reads = absurd (cc)
 re_lexed_collected text t NextGoal before place o e reads = absurd (cc)
 re_lexed_collected text t JsxChild before place o e reads = absurd (cc)
 re_lexed_collected text t JsxAttributeValue before place o e reads = absurd (cc)
-re_lexed_collected text t RegularExpression before place o e reads = expression_again text t before place o reads
+re_lexed_collected text t RegularExpression before place o e reads =
+    ap is_hashbang (expression_again text t before place o reads)
 re_lexed_collected text t RightAngle before place o e reads =
     (angle_again text right_angles before o angles_are_none.longest reads).1
 re_lexed_collected text t TypeScriptLeftAngle before place o e reads =

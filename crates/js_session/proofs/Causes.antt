@@ -71,7 +71,7 @@ completely source commands (Err e) cause h marks =
     [ inl memory ↦ inr (ap Err memory) | inr other ↦ absurd (sound_no_cause source commands e h marks other) ]
 
 -- where there are no commands, none closes a mark
-no_commands : HasMarks []
+pub no_commands : HasMarks []
 no_commands i c = absurd (let no = c.here in cc)
 
 -- a cause in the source, or a lack of memory, seen as that of a session without commands

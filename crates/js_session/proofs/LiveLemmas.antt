@@ -85,7 +85,7 @@ pub record IsReplaced (now : Live) (o : Outcome) : Type 0 where
   pub was_collected : is_hashbang last.kind ≡ false
   pub is_collected : is_hashbang o.token.kind ≡ false
 
-last_or-with_last : (o : Option TokenParts) (t : TokenParts) (ts : List TokenParts) (y : TokenParts)
+pub last_or-with_last : (o : Option TokenParts) (t : TokenParts) (ts : List TokenParts) (y : TokenParts)
     → last_or o (with_last (t ∷ ts) y) ≡ Some y
 last_or-with_last o t [] y = refl
 last_or-with_last o t (u ∷ us) y = last_or-with_last (Some t) u us y

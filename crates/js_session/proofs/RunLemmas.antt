@@ -30,13 +30,13 @@ pub continues_start : (text : List ℕ) (t : SourceType) (s : State) (commands :
     → Continues text t s commands [] s commands
 continues_start text t s commands = record { run = λ more h. h; state = λ more. refl }
 
-run_step : (text : List ℕ) (t : SourceType) (s : State) (c : Command) (left : List Command) (row : Row)
+pub run_step : (text : List ℕ) (t : SourceType) (s : State) (c : Command) (left : List Command) (row : Row)
     (more : List Row) → is_step c ≡ true
     → IsRow text t s.now (Some c) row → Run text t (after_row (effect_of c) row s) left more
     → Run text t s (c ∷ left) (row ∷ more)
 run_step text t s c left row more e is h = rw e (is, h)
 
-state_step : (s : State) (c : Command) (left : List Command) (row : Row) (more : List Row) → is_step c ≡ true
+pub state_step : (s : State) (c : Command) (left : List Command) (row : Row) (more : List Row) → is_step c ≡ true
     → state_after s (c ∷ left) (row ∷ more) ≡ state_after (after_row (effect_of c) row s) left more
 state_step s c left row more e = rw e refl
 

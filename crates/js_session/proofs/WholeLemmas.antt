@@ -54,7 +54,7 @@ plainly_onward text t goal before place o u b (behind_gap begins read) =
     (pieces_text t _ _ read.pieces _ _ read.gap.pieces_are) in omega (arith, past)
 
 -- a token of a plain goal starts at the place from which it was read, or behind that
-reads_onward : (text : List ℕ) (t : SourceType) (goal : Goal) (before : Option TokenParts) (place : ℕ) (o : Outcome)
+pub reads_onward : (text : List ℕ) (t : SourceType) (goal : Goal) (before : Option TokenParts) (place : ℕ) (o : Outcome)
     → is_plain goal ≡ true → IsUtf8 text → IsCharBoundary text place → GoalReads text t goal before place o
     → place ≤ o.token.start
 reads_onward text t First before place o plain u b reads = plainly_onward text t First before place o u b reads
@@ -74,7 +74,7 @@ pub record IsOnward (text : List ℕ) (row : Row) : Type 0 where
   pub some_text : ¬ (IsEof row) → row.token.start < row.token.end
   pub lies : IsOnPlaces text row.token
 
-row_onward : (text : List ℕ) (t : SourceType) (now : Live) (goal : Goal) (row : Row)
+pub row_onward : (text : List ℕ) (t : SourceType) (now : Live) (goal : Goal) (row : Row)
     → is_plain goal ≡ true → IsUtf8 text
     → IsCharBoundary text row.place → IsRead text t now goal row → LiesOnPlaces text row → IsOnward text row
 row_onward text t now goal row plain u b is places = record {

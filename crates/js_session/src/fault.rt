@@ -47,8 +47,8 @@ fn first_without_mark(commands: &[Command]) -> Option<usize>
     None
 }
 
-/// The source as a text that can be read.
-pub(crate) fn text_of(source: &[u8]) -> Result<&str, LexFault>
+/// The source as a text that can be read, or why it is none: `Overlong` or `NotUtf8`.
+pub fn text_of(source: &[u8]) -> Result<&str, LexFault>
     ensures ok { IfOk result (λ text. (text.now ≡ source.now) × IsReadable source.now) }
     ensures err { IfErr result (SourceCause source.now) }
 {

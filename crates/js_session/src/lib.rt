@@ -19,7 +19,7 @@ mod tests;
 mod whole_source;
 
 pub use command::{Command, CommandList};
-pub use fault::LexFault;
+pub use fault::{LexFault, text_of};
 pub use js_lexer::NewFault;
 pub use js_text::{RegexInfo, RowValue};
 pub use lex::lex_session;

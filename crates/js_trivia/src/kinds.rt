@@ -45,8 +45,8 @@ fn is_end_of_expression(kind: Kind) -> bool
     )
 }
 
-/// Whether an expression may end with the token.
-fn can_end_expression(kind: Kind) -> bool
+/// Whether an expression may end with a token of the kind, as far as its comments go.
+pub fn can_end_expression(kind: Kind) -> bool
     ensures { result ≡ can_end_expression kind }
 {
     kind.is_identifier() || (kind.is_literal() || is_end_of_expression(kind))

@@ -13,5 +13,6 @@ mod tests;
 mod trivia_builder;
 
 pub use classes::classify;
+pub use kinds::can_end_expression;
 pub use lengths::TriviaLengths;
 pub use trivia_builder::TriviaBuilder;

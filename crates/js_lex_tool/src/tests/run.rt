@@ -41,7 +41,7 @@ const CHOICE: &str = concat!(
 );
 
 /// Words, a source, and the text that is written.
-static TEXTS: [(&str, &str, &str); 29] = [
+static TEXTS: [(&str, &str, &str); 32] = [
     ("module no-tokens next*5", "a?.1:b", CHOICE),
     (
         "module no-tokens",
@@ -338,6 +338,57 @@ static TEXTS: [(&str, &str, &str); 29] = [
         ),
     ),
     (
+        "module no-tokens auto",
+        "a/b",
+        concat!(
+            "row 0 first 0 1 Ident 0..1 n =a\n",
+            "row 1 next 1 1 Slash 1..2 -\n",
+            "row 2 next 2 1 Ident 2..3 - =b\n",
+            "row 3 next 3 1 Eof 3..3 -\n",
+            "token Ident 0..1 n\n",
+            "token Slash 1..2 -\n",
+            "token Ident 2..3 -\n",
+            "token Eof 3..3 -\n",
+        ),
+    ),
+    (
+        "module no-tokens auto",
+        "x=/b/g",
+        concat!(
+            "row 0 first 0 1 Ident 0..1 n =x\n",
+            "row 1 next 1 1 Eq 1..2 -\n",
+            "row 2 next 2 1 Slash 2..3 -\n",
+            "row 3 regex 3 1 RegExp 2..6 - /4 g 0\n",
+            "row 4 next 6 1 Eof 6..6 -\n",
+            "token Ident 0..1 n\n",
+            "token Eq 1..2 -\n",
+            "token RegExp 2..6 -\n",
+            "token Eof 6..6 -\n",
+        ),
+    ),
+    (
+        "script tokens auto",
+        "`a${{}}b`",
+        concat!(
+            "row 0 first 0 1 TemplateHead 0..4 n =a\n",
+            "row 1 next 4 1 LCurly 4..5 -\n",
+            "row 2 next 5 1 RCurly 5..6 -\n",
+            "row 3 next 6 1 RCurly 6..7 -\n",
+            "row 4 template 7 1 TemplateTail 6..9 - =b\n",
+            "row 5 next 9 1 Eof 9..9 -\n",
+            "token TemplateHead 0..4 n\n",
+            "token LCurly 4..5 -\n",
+            "token RCurly 5..6 -\n",
+            "token TemplateTail 6..9 -\n",
+            "token Eof 9..9 -\n",
+            "collected TemplateHead 0..4 n\n",
+            "collected LCurly 4..5 -\n",
+            "collected RCurly 5..6 -\n",
+            "collected TemplateTail 6..9 -\n",
+            "collected Eof 9..9 -\n",
+        ),
+    ),
+    (
         "module no-tokens regex",
         "a",
         concat!(
@@ -405,24 +456,32 @@ fn lines_of(text: &[u8], word: &str) -> usize {
     }
 }
 
+/// Whether the text is that of the file.
+fn is_cart(text: &[u8]) -> bool {
+    let mut right = lines_of(text, "row ") == 129
+        && lines_of(text, "diagnostic ") == 0
+        && lines_of(text, "row 128 next 601 1 Eof 602..602 n") == 1
+        && lines_of(text, "comment ") == CART_COMMENTS.len();
+    for line in CART_COMMENTS {
+        right = right && lines_of(text, line) == 1;
+    }
+    right
+}
+
+// No `/` and no `}` of it is read again, so both words give the same.
 #[test]
 fn a_whole_file(rt: HostRuntime) -> Result<(), Fail> {
-    let (status, output) = run_sure(rt.alloc(), "module no-tokens all", CART.as_bytes())?;
-    let text = output.written();
-    assert_eq!(rt; status, DONE);
     assert_eq!(rt; CART.len(), 602);
-    assert_eq!(rt; lines_of(text, "row "), 129);
-    assert_eq!(rt; lines_of(text, "diagnostic "), 0);
-    assert_eq!(rt; lines_of(text, "row 128 next 601 1 Eof 602..602 n"), 1);
-    assert_eq!(rt; lines_of(text, "comment "), CART_COMMENTS.len());
-    for line in CART_COMMENTS {
-        assert_eq!(rt; lines_of(text, line), 1, "{line}");
+    for words in ["module no-tokens all", "module no-tokens auto"] {
+        let (status, output) = run_sure(rt.alloc(), words, CART.as_bytes())?;
+        assert_eq!(rt; status, DONE, "{words}");
+        assert!(rt; is_cart(output.written()), "{words}");
     }
     Ok(())
 }
 
 /// Words, a source, and the status that comes of them.
-static REFUSALS: [(&str, &[u8], u8); 19] = [
+static REFUSALS: [(&str, &[u8], u8); 23] = [
     ("module", b"a", USAGE),
     ("tokens module", b"a", USAGE),
     ("module no-tokens nxt", b"a", USAGE),
@@ -437,7 +496,11 @@ static REFUSALS: [(&str, &[u8], u8); 19] = [
     ("module no-tokens all next", b"a", USAGE),
     ("module no-tokens next all", b"a", USAGE),
     ("module no-tokens all*2", b"a", USAGE),
+    ("module no-tokens auto next", b"a", USAGE),
+    ("module no-tokens all auto", b"a", USAGE),
+    ("module no-tokens auto*2", b"a", USAGE),
     ("module no-tokens all", b"a\xff", NOT_UTF8),
+    ("module no-tokens auto", b"/a\xff", NOT_UTF8),
     ("module no-tokens", b"a\xe2\x82", NOT_UTF8),
     ("module no-tokens", b"'\xff", NOT_UTF8),
     ("module no-tokens mark rewind rewind next", b"a", NO_MARK),
@@ -462,11 +525,21 @@ fn commands_run(alloc: Global, words: &str, source: &[u8]) -> Result<Option<usiz
     Ok(outcome.ran.map(|ran| ran.commands.len()))
 }
 
+/// Words, a source, and how many commands these mean for it.
+static COUNTS: [(&str, &[u8], usize); 6] = [
+    ("module no-tokens all", b"", 0),
+    ("module no-tokens all", b"a b", 2),
+    ("module no-tokens all", b"a?.1:b", 5),
+    ("module no-tokens auto", b"", 0),
+    ("module no-tokens auto", b"x=/b/g", 4),
+    ("module no-tokens auto", b"a/b", 3),
+];
+
 #[test]
-fn commands_of_all(rt: HostRuntime) -> Result<(), Fail> {
-    for (source, count) in [(b"".as_slice(), 0), (b"a b", 2), (b"a?.1:b", 5)] {
-        let commands = commands_run(rt.alloc(), "module no-tokens all", source)?;
-        assert_eq!(rt; commands, Some(count));
+fn commands_of_whole_sources(rt: HostRuntime) -> Result<(), Fail> {
+    for (words, source, count) in COUNTS.iter() {
+        let commands = commands_run(rt.alloc(), words, source)?;
+        assert_eq!(rt; commands, Some(*count), "{words}");
     }
     Ok(())
 }

@@ -1,0 +1,4 @@
+pub mod AutoLemmas
+pub mod Causes
+pub mod ChooserLemmas
+pub mod ChosenLemmas

@@ -1,0 +1,3 @@
+pub mod Auto
+pub mod Braces
+pub mod Choice

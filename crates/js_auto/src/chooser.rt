@@ -1,0 +1,206 @@
+//! The choice of goals, token by token.
+
+ghost use Rattle.std.specs.Prelude.{◌≡◌, ◌==◌, List, [], ◌∷◌, ◌++◌, drop, OnOk, OnErr, Some, IfSome, true};
+ghost use Rattle.js_text.specs.Lists.{with_last};
+ghost use Rattle.js_kind.specs.Kinds.{is_one_of, number};
+ghost use Rattle.js_kind.specs.TokenParts.{TokenParts};
+ghost use Rattle.js_auto.specs.Braces.{effect_of, after_effect, open_behind, without_plain, is_in_substitution};
+ghost use Rattle.js_lexer.specs.Goals.{expression_kinds};
+ghost use Rattle.js_auto.specs.Choice.{begins_expression, choice, chooser_of, ends_only_jsx, ends_operand};
+ghost use Rattle.js_auto.specs.Choice.{ends_substitution};
+
+use crate::brace::{Brace, BraceEffect, effect_of};
+use js_kind::{Kind, Token};
+use js_session::Command;
+use js_text::ItemList;
+use js_trivia::can_end_expression;
+use std::alloc::{AllocError, Global};
+use std::marker::Model;
+
+/// Chooses goals, as a lexer is driven: it is told each token, and says which command comes next. A step costs the same
+/// however many tokens came before.
+///
+/// It knows the grammar of tokens alone. A `/` divides behind a token with which an operand may end, `)` and `}` among
+/// them, and begins a regular expression behind any other. A `}` ends the substitution of a template, if that is what
+/// was opened last.
+#[derive(Drop)]
+pub struct GoalChooser {
+    /// The braces that are open before the last token, in the order in which they were opened.
+    stack: ItemList<Brace>,
+    /// The kind of the token before the last one.
+    before: Option<Kind>,
+    last: Option<Kind>,
+}
+
+impl Model for GoalChooser {
+    ghost use Rattle.std.specs.Prelude.{reverse};
+    ghost use Rattle.js_auto.specs.Choice.{Chooser};
+
+    ghost Value = { Chooser };
+
+    ghost view = { λ c. record { stack = reverse c.stack; before = c.before; last = c.last } };
+}
+
+/// Whether an operand may end with the token, though not where JSX is told from operators.
+#[tactic(auto, unfolding(crate::specs::Choice::ends_only_jsx))]
+fn ends_only_jsx(kind: Kind) -> bool
+    ensures { result ≡ ends_only_jsx kind }
+{
+    matches!(kind, Kind::RAngle | Kind::JSXText)
+}
+
+/// Whether an operand may end with the token, if there is one.
+fn ends_operand(before: Option<Kind>) -> bool
+    ensures { result ≡ ends_operand before }
+{
+    match before {
+        Some(kind) => can_end_expression(kind) && !ends_only_jsx(kind),
+        None => false,
+    }
+}
+
+/// Whether the token is a `}`.
+fn is_right_curly(kind: Kind) -> bool
+    ensures { result ≡ (number kind == number Kind.RCurly) }
+{
+    matches!(kind, Kind::RCurly)
+}
+
+/// Whether the token is a `/` or a `/=`.
+fn is_slash(kind: Kind) -> bool
+    ensures { result ≡ is_one_of expression_kinds kind }
+{
+    matches!(kind, Kind::Slash | Kind::SlashEq)
+}
+
+/// Whether a token of the kind begins a regular expression behind the token before, if there is one.
+fn begins_expression(before: Option<Kind>, kind: Kind) -> bool
+    ensures { result ≡ begins_expression before kind }
+{
+    is_slash(kind) && !ends_operand(before)
+}
+
+impl GoalChooser {
+    /// A chooser that was told no token yet. It takes no memory yet.
+    pub fn new(alloc: Global) -> GoalChooser
+        ensures { result ≡ chooser_of [] }
+    {
+        GoalChooser {
+            stack: ItemList::new_in(alloc),
+            before: None,
+            last: None,
+        }
+    }
+
+    /// Whether the brace that was opened last before the last token is that of a substitution in a template.
+    fn is_in_substitution(&self) -> bool
+        ensures { result ≡ is_in_substitution self.now.stack }
+    {
+        match self.stack.as_slice().last() {
+            Some(Brace::Template) => true,
+            _ => false,
+        }
+    }
+
+    /// Closes the brace that was opened last, if one is open.
+    fn close_any(&mut self)
+        ensures { self.new ≡ record self.old { stack = drop 1 self.old.stack } }
+    {
+        self.stack.pop();
+    }
+
+    /// Closes the brace that was opened last, if it is a plain one.
+    fn close_plain(&mut self)
+        ensures { self.new ≡ record self.old { stack = without_plain self.old.stack } }
+    {
+        if !self.is_in_substitution() {
+            self.close_any();
+        }
+    }
+
+    /// Opens a brace.
+    fn open_brace(&mut self, brace: Brace) -> Result<(), AllocError>
+        ensures ok { OnOk result (self.new ≡ record self.old { stack = brace ∷ self.old.stack }) }
+        ensures err { OnErr result (self.new ≡ self.old) }
+    {
+        self.stack.push(brace)
+    }
+
+    /// Takes up what a token does to the braces.
+    fn pass(&mut self, kind: Kind) -> Result<(), AllocError>
+        ensures ok { OnOk result (self.new ≡ record self.old { stack = after_effect (effect_of kind) self.old.stack }) }
+        ensures err { OnErr result (self.new ≡ self.old) }
+    {
+        match effect_of(kind) {
+            BraceEffect::Opens(brace) => self.open_brace(brace)?,
+            BraceEffect::ClosesPlain => self.close_plain(),
+            BraceEffect::ClosesAny => self.close_any(),
+            BraceEffect::Leaves => {}
+        }
+        Ok(())
+    }
+
+    /// Takes up what the last token does to the braces, if there is one.
+    fn pass_last(&mut self) -> Result<(), AllocError>
+        ensures ok { OnOk result (self.new ≡ record self.old { stack = open_behind self.old.last self.old.stack }) }
+        ensures err { OnErr result (self.new ≡ self.old) }
+    {
+        match self.last {
+            Some(kind) => self.pass(kind),
+            None => Ok(()),
+        }
+    }
+
+    /// Takes notice of a token that was read behind the last one. Where there is no memory for an open brace, the
+    /// chooser stays as it was.
+    pub fn read(&mut self, token: &Token) -> Result<(), AllocError>
+        ensures ok { (tokens : List TokenParts) → self.old ≡ chooser_of tokens
+            → OnOk result (self.new ≡ chooser_of (tokens ++ token.now ∷ [])) }
+        ensures err { OnErr result (self.new ≡ self.old) }
+    {
+        self.pass_last()?;
+        self.before = self.last;
+        self.last = Some(token.kind());
+        Ok(())
+    }
+
+    /// Takes notice of a token that was read again, in the place of the last one.
+    pub fn read_again(&mut self, token: &Token)
+        ensures { (tokens : List TokenParts) → self.old ≡ chooser_of tokens
+            → self.new ≡ chooser_of (with_last tokens token.now) }
+    {
+        if self.last.is_some() {
+            self.last = Some(token.kind());
+        }
+    }
+
+    /// Whether a token, behind those before the last one, ends the substitution of a template.
+    fn ends_substitution(&self, kind: Kind) -> bool
+        ensures { result ≡ ends_substitution self.now.stack kind }
+    {
+        is_right_curly(kind) && self.is_in_substitution()
+    }
+
+    /// The command that comes next: `Command::Regex` or `Command::TemplateTail` where the last token is to be read
+    /// again, else `Command::Next`. None behind the end of the source.
+    pub fn command(&self) -> Option<Command>
+        ensures choice { (tokens : List TokenParts) → self.now ≡ chooser_of tokens → result ≡ choice tokens }
+        // A token that is to be read again is of a kind that can be.
+        ensures part { result ≡ Some Command.TemplateTail → self.now.last ≡ Some Kind.RCurly }
+        ensures expression { result ≡ Some Command.Regex → IfSome self.now.last (λ kind.
+            is_one_of expression_kinds kind ≡ true) }
+    {
+        let Some(last) = self.last else {
+            return Some(Command::Next);
+        };
+        if last.is_eof() {
+            None
+        } else if self.ends_substitution(last) {
+            Some(Command::TemplateTail)
+        } else if begins_expression(self.before, last) {
+            Some(Command::Regex)
+        } else {
+            Some(Command::Next)
+        }
+    }
+}
