@@ -9,6 +9,7 @@ use Rattle.js_grammar.specs.ReLexed.{HasSpelling}
 use Rattle.js_kind.specs.TokenParts.{TokenParts}
 use Rattle.js_trivia.specs.Trivia.{is_past, comment_starts, span_starts}
 use Rattle.js_lexer.specs.Lexer.{LexerState, IsOnPlaces, Checkpoint, CanRewind, BeginsAlike, GoesOnFrom}
+use Rattle.js_lexer.specs.Lexer.{checkpoint_of, asked_lengths}
 
 -- a list that begins as one with a token has a token
 pub has_token : (t : TokenParts) (ts : List TokenParts) → BeginsAlike (t ∷ ts) [] → ⊥
@@ -36,7 +37,9 @@ can_rewind-on old new c h g = record {
   last = subst (λ u. IfSome c.last (IsOnPlaces u)) (sym g.text) h.last;
   spelling = subst (λ u. IfSome c.last (HasSpelling u)) (sym g.text) h.spelling;
   tokens = omega (arith, h.tokens, begins_alike-length old.tokens new.tokens g.tokens);
-  findings = subst (AreWithin c.lengths) (sym g.goes_on) (within-joined c.lengths old.findings g.findings h.findings);
+  findings =
+      subst (AreWithin (asked_lengths c)) (sym g.goes_on)
+      (within-joined (asked_lengths c) old.findings g.findings h.findings);
   comments =
       ap (λ f. is_past (token_before c.last).start (comment_starts (take c.lengths.comments f.comments))) g.goes_on
       ∙ ap (λ cs. is_past (token_before c.last).start (comment_starts cs))
@@ -48,3 +51,10 @@ can_rewind-on old new c h g = record {
       (take-append-le c.lengths.irregular old.findings.irregular g.findings.irregular h.findings.irregular)
       ∙ h.irregular;
 }
+
+-- where a checkpoint copies nothing, no list is shorter than it was
+pub within_all : (old now : LexerState) (c : Checkpoint) → c ≡ checkpoint_of old → CanRewind now c
+    → AreWithin c.lengths now.findings
+within_all old now c e h =
+    let asked : asked_lengths c ≡ c.lengths = ap asked_lengths e ∙ ap (λ x. x.lengths) (sym e) in
+    subst (λ n. AreWithin n now.findings) asked h.findings

@@ -21,12 +21,14 @@ use Rattle.js_grammar.specs.UnicodeEscape.{right_curly_bracket}
 use Rattle.js_kind.specs.Kinds.{kind_text}
 use Rattle.js_kind.specs.declared.kind.Kind.TheVariants.{RCurly}
 use Rattle.js_text.specs.declared.comment.Comment.{Comment}
+use Rattle.js_text.specs.declared.diagnostic.Diagnostic.{Diagnostic}
 use Rattle.js_grammar.proofs.KindTexts.{goal_reads_spelling}
 use Rattle.js_grammar.proofs.Texts.{goal_reads_text}
 use Rattle.js_lexer.specs.Decoded.{Values, AreValues, Keeps, HasValue}
 use Rattle.js_grammar.proofs.GoalWays.{goal_reads_span, goal_reads_places}
 use Rattle.js_lexer.specs.Lexer.{LexerState, IsOnPlaces, IsSound, IsRestored, collected, ReadsOutcome, ReadsToken}
-use Rattle.js_lexer.specs.Lexer.{Checkpoint, checkpoint_of, put_back, rewound, BeginsAlike, GoesOnFrom}
+use Rattle.js_lexer.specs.Lexer.{Checkpoint, checkpoint_of, checkpoint_with_errors_of, put_back, put_errors_back}
+use Rattle.js_lexer.specs.Lexer.{rewound, BeginsAlike, GoesOnFrom, with_diagnostics, with_comments}
 use Rattle.js_lexer.specs.Lexer.{ReadsAgain, after_re_lex, token_or_default}
 use Rattle.js_lexer.specs.Reader.{ReadsGoal, ReadsWithGap, ReadsWithoutGap, AddsGap, MovesOn}
 use Rattle.js_lexer.specs.declared.found.GapFindings.{GapFindings}
@@ -446,11 +448,57 @@ rewound_is old now new c e g r = record {
       ap (λ x. x.tokens) r ∙ ap (λ x. put_back (take x.tokens now.tokens) x.last_collected) e
       ∙ put_back_last old.tokens now.tokens g.tokens;
   findings =
-      ap (λ x. x.findings) r ∙ ap (λ x. cut_to x.lengths now.findings) e
+      ap (λ x. x.findings) r ∙ ap (λ x. put_errors_back x.errors (cut_to x.lengths now.findings)) e
       ∙ ap (cut_to (lengths_of old.findings)) g.goes_on ∙ cut_to-joined old.findings g.findings;
   pure_comments = ap (λ x. x.pure_comments) r ∙ ap (λ x. x.pure_comments) e;
   no_side_effects_comments = ap (λ x. x.no_side_effects_comments) r ∙ ap (λ x. x.no_side_effects_comments) e;
 }
+
+-- findings that have only grown but for diagnostics, cut back, with the diagnostics put back
+cut_to-recovered : (old more : Findings) (left : List Diagnostic)
+    → put_errors_back (Some old.diagnostics) (cut_to (lengths_of old) (joined (record old { diagnostics = left }) more))
+    ≡ old
+cut_to-recovered old more left =
+    rw (
+      take-append_seam old.deferred more.deferred,
+      take-append_seam old.comments more.comments,
+      take-append_seam old.irregular more.irregular,
+    )
+    refl
+
+-- and so does going back to one with a copy of what was reported, whatever is left of that
+pub recovered_is : (old now new : LexerState) (left : List Diagnostic) (c : Checkpoint)
+    → c ≡ checkpoint_with_errors_of old → GoesOnFrom (with_diagnostics left old) now → new ≡ rewound now c
+    → IsRestored old new
+recovered_is old now new left c e g r = record {
+  text = ap (λ x. x.text) r ∙ g.text;
+  source_type = ap (λ x. x.source_type) r ∙ g.source_type;
+  collects = ap (λ x. x.collects) r ∙ g.collects;
+  place = ap (λ x. x.place) r ∙ ap (λ x. x.place) e;
+  last = ap (λ x. x.last) r ∙ ap (λ x. x.last) e;
+  tokens =
+      ap (λ x. x.tokens) r ∙ ap (λ x. put_back (take x.tokens now.tokens) x.last_collected) e
+      ∙ put_back_last old.tokens now.tokens g.tokens;
+  findings =
+      ap (λ x. x.findings) r ∙ ap (λ x. put_errors_back x.errors (cut_to x.lengths now.findings)) e
+      ∙ ap (λ f. put_errors_back (Some old.findings.diagnostics) (cut_to (lengths_of old.findings) f)) g.goes_on
+      ∙ cut_to-recovered old.findings g.findings left;
+  pure_comments = ap (λ x. x.pure_comments) r ∙ ap (λ x. x.pure_comments) e;
+  no_side_effects_comments = ap (λ x. x.no_side_effects_comments) r ∙ ap (λ x. x.no_side_effects_comments) e;
+}
+
+-- a checkpoint does not tell which classes the comments are of
+checkpoint_of-marked : (l : LexerState) (marked : List Comment) → length marked ≡ length l.findings.comments
+    → checkpoint_of l ≡ checkpoint_of (with_comments marked l)
+checkpoint_of-marked l marked count =
+    ap (λ n. record (checkpoint_of l) { lengths = record (lengths_of l.findings) { comments = n } }) (sym count)
+
+-- going back leaves the comments that were there as they are by now
+pub marked_is : (old now new : LexerState) (marked : List Comment) (c : Checkpoint) → c ≡ checkpoint_of old
+    → length marked ≡ length old.findings.comments → GoesOnFrom (with_comments marked old) now → new ≡ rewound now c
+    → IsRestored (with_comments marked old) new
+marked_is old now new marked c e count g r =
+    rewound_is (with_comments marked old) now new c (e ∙ checkpoint_of-marked old marked count) g r
 
 pub begins_alike-append : (old more : List TokenParts) → BeginsAlike old (old ++ more)
 begins_alike-append [] more = tt

@@ -1,12 +1,13 @@
 -- How contracts see a lexer, its checkpoints and its readings.
 use Rattle.std.specs.Prelude.{◌≡◌, ◌≢◌, ℕ, ◌+◌, ◌<◌, ◌≤◌, Bool, true, List, [], ◌∷◌, ◌++◌, ◌&&◌, ◌==◌, not, length}
-use Rattle.std.specs.Prelude.{take, Option, Some, None, IfSome, is_none, unwrap_or, if◌then◌else◌}
+use Rattle.std.specs.Prelude.{take, Option, Some, None, IfSome, is_none, is_some, unwrap_or, if◌then◌else◌}
 use Rattle.std.specs.List.{last_or}
 use Rattle.std.specs.Str.{IsCharBoundary}
 use Rattle.js_text.specs.Lists.{with_last}
 use Rattle.js_text.specs.declared.comment.Comment.{Comment}
 use Rattle.js_text.specs.declared.comment.CommentContent.{CommentContent}
 use Rattle.js_text.specs.declared.comment.CommentRange.{CommentRange}
+use Rattle.js_text.specs.declared.diagnostic.Diagnostic.{Diagnostic}
 use Rattle.js_text.specs.declared.source_type.SourceType.{SourceType}
 use Rattle.js_grammar.specs.GapItems.{token_before}
 use Rattle.js_grammar.specs.Goals.{GoalReads, AgreesWithGrammar}
@@ -163,14 +164,15 @@ pub record IsBehind (kind : Kind) (l : LexerState) : Type 0 where
   pub kind_is : token.kind ≡ kind
   pub place : l.place ≡ token.end
 
--- A checkpoint: the place, the last token, the last collected one, how long the lists were, and where the annotations
--- before the last token were.
+-- A checkpoint: the place, the last token, the last collected one, how long the lists were, a copy of what was reported
+-- if one was made, and where the annotations before the last token were.
 pub record Checkpoint : Type 0 where
   pub place : ℕ
   pub last : Option TokenParts
   pub last_collected : Option TokenParts
   pub tokens : ℕ
   pub lengths : FindingLengths
+  pub errors : Option (List Diagnostic)
   pub pure_comments : Option CommentRange
   pub no_side_effects_comments : Option CommentRange
 
@@ -188,9 +190,19 @@ checkpoint_of l = record {
   last_collected = last_or None l.tokens;
   tokens = length l.tokens;
   lengths = lengths_of l.findings;
+  errors = None;
   pure_comments = l.pure_comments;
   no_side_effects_comments = l.no_side_effects_comments;
 }
+
+-- the same, with a copy of what was reported
+abbrev pub checkpoint_with_errors_of : LexerState → Checkpoint
+checkpoint_with_errors_of l = record (checkpoint_of l) { errors = Some l.findings.diagnostics }
+
+-- How long the lists have to be to go back: as long as they were. Of diagnostics none are asked for where there is a
+-- copy of them.
+abbrev pub asked_lengths : Checkpoint → FindingLengths
+asked_lengths c = record c.lengths { diagnostics = if is_some c.errors then 0 else c.lengths.diagnostics }
 
 -- The lexer may go back to the checkpoint: its places are places of the text, its last token has the spelling of its
 -- kind if it may be read again, the lists are long enough, and the comments and the irregular white space that stay
@@ -200,7 +212,7 @@ pub record CanRewind (l : LexerState) (c : Checkpoint) : Type 0 where
   pub last : IfSome c.last (IsOnPlaces l.text)
   pub spelling : IfSome c.last (HasSpelling l.text)
   pub tokens : c.tokens ≤ length l.tokens
-  pub findings : AreWithin c.lengths l.findings
+  pub findings : AreWithin (asked_lengths c) l.findings
   pub comments : is_past (token_before c.last).start (comment_starts (take c.lengths.comments l.findings.comments))
       ≡ true
   pub irregular : is_past (token_before c.last).start (span_starts (take c.lengths.irregular l.findings.irregular))
@@ -211,13 +223,17 @@ abbrev pub put_back : List TokenParts → Option TokenParts → List TokenParts
 put_back tokens None = tokens
 put_back tokens (Some token) = with_last tokens token
 
+-- the findings with this copy of what was reported, where there is one
+abbrev pub put_errors_back : Option (List Diagnostic) → Findings → Findings
+put_errors_back errors found = record found { diagnostics = unwrap_or errors found.diagnostics }
+
 -- the lexer, back at the checkpoint
 abbrev pub rewound : LexerState → Checkpoint → LexerState
 rewound l c = record l {
   place = c.place;
   last = c.last;
   tokens = put_back (take c.tokens l.tokens) c.last_collected;
-  findings = cut_to c.lengths l.findings;
+  findings = put_errors_back c.errors (cut_to c.lengths l.findings);
   pure_comments = c.pure_comments;
   no_side_effects_comments = c.no_side_effects_comments;
 }
@@ -238,6 +254,14 @@ pub record GoesOnFrom (old now : LexerState) : Type 0 where
   pub tokens : BeginsAlike old.tokens now.tokens
   pub findings : Findings
   pub goes_on : now.findings ≡ joined old.findings findings
+
+-- a lexer with other diagnostics, as where some were taken back
+abbrev pub with_diagnostics : List Diagnostic → LexerState → LexerState
+with_diagnostics diagnostics l = record l { findings = record l.findings { diagnostics = diagnostics } }
+
+-- a lexer with other comments, as where some were marked
+abbrev pub with_comments : List Comment → LexerState → LexerState
+with_comments comments l = record l { findings = record l.findings { comments = comments } }
 
 -- a peek: the token is what a reading would give, and the lexer is as before
 pub record Peeks (old : LexerState) (token : TokenParts) (new : LexerState) : Type 0 where

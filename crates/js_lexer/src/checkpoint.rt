@@ -1,18 +1,21 @@
 //! Checkpoints: what a lexer goes back to.
 
 ghost use Rattle.std.specs.Prelude.{◌≡◌, ◌≤◌, ◌↔◌, ◌++◌, true, IsTrue, IfSome, length};
+ghost use Rattle.std.specs.Prelude.{unwrap_or};
 ghost use Rattle.std.specs.Str.{IsCharBoundary};
 ghost use Rattle.js_text.specs.Characters.{from_place};
 ghost use Rattle.js_kind.specs.Kinds.{kind_text};
 ghost use Rattle.js_grammar.specs.ReLexed.{is_re_lexed, HasSpelling};
-ghost use Rattle.js_lexer.specs.Lexer.{IsOnPlaces, put_back};
+ghost use Rattle.js_lexer.specs.Lexer.{IsOnPlaces, put_back, asked_lengths};
 
 use js_kind::{Kind, Token, TokenList};
 use js_source::{Source, SourcePosition};
+use js_text::DiagnosticList;
 use js_trivia::TriviaLengths;
 use std::marker::Model;
 
-/// Where a lexer stood, its last token, and how long its lists were. It copies no list.
+/// Where a lexer stood, its last token, and how long its lists were. One that is made for error recovery has a copy of
+/// what was reported, since the parser may take some of it back; no other list is copied.
 #[derive(Drop)]
 pub struct LexerCheckpoint {
     pub(crate) position: SourcePosition,
@@ -20,6 +23,7 @@ pub struct LexerCheckpoint {
     pub(crate) last_collected: Option<Token>,
     pub(crate) tokens: usize,
     pub(crate) errors: usize,
+    pub(crate) errors_copy: Option<DiagnosticList>,
     pub(crate) deferred: usize,
     pub(crate) trivia: TriviaLengths,
 }
@@ -40,11 +44,25 @@ impl Model for LexerCheckpoint {
         comments = c.trivia.comments;
         irregular = c.trivia.irregular;
       };
+      errors = c.errors_copy;
       pure_comments = c.trivia.pure_range;
       no_side_effects_comments = c.trivia.no_side_effects;
     } };
 
     ghost invariant = { λ c. IsBehindToken c.position c.last c.trivia };
+}
+
+impl LexerCheckpoint {
+    /// How many diagnostics there have to be to go back: as many as there were, and none where they were copied.
+    pub(crate) fn asked_errors(&self) -> usize
+        ensures { result ≡ (asked_lengths self.now).diagnostics }
+    {
+        if self.errors_copy.is_some() {
+            0
+        } else {
+            self.errors
+        }
+    }
 }
 
 /// Whether the offset is a place of the text.
@@ -139,5 +157,14 @@ pub(crate) fn put_back(tokens: &mut TokenList, token: Option<Token>)
 {
     if let Some(token) = token {
         tokens.replace_last(token);
+    }
+}
+
+/// Puts copied diagnostics in the place of those that are there, where some are given.
+pub(crate) fn put_errors_back(errors: &mut DiagnosticList, copied: Option<DiagnosticList>)
+    ensures { errors.new ≡ unwrap_or copied errors.old }
+{
+    if let Some(copied) = copied {
+        *errors = copied;
     }
 }

@@ -1,10 +1,12 @@
 //! The lexer: a source, the last token, and the lists that its readings fill.
 
-ghost use Rattle.std.specs.Prelude.{◌≡◌, ◌≤◌, ◌^◌, ◌↔◌, ◌++◌, true, [], length, drop, Option, None, IsTrue, IfOk};
-ghost use Rattle.std.specs.Prelude.{OnOk, OnErr, if◌then◌else◌};
+ghost use Rattle.std.specs.Prelude.{◌≡◌, ◌≤◌, ◌^◌, ◌↔◌, ◌++◌, true, List, [], length, drop, Option, None, IsTrue};
+ghost use Rattle.std.specs.Prelude.{IfOk, OnOk, OnErr, if◌then◌else◌};
 ghost use Rattle.std.specs.List.{last_or};
 ghost use Rattle.std.specs.Str.{IsCharBoundary, IsUtf8};
 ghost use Rattle.js_text.specs.Lists.{with_last};
+ghost use Rattle.js_text.specs.declared.comment.Comment.{Comment};
+ghost use Rattle.js_text.specs.declared.diagnostic.Diagnostic.{Diagnostic};
 ghost use Rattle.js_grammar.specs.Goals.{line_has_ended_behind};
 ghost use Rattle.js_grammar.specs.Spelling.{text_start, text_end};
 ghost use Rattle.js_grammar.specs.Reads.{is_onward};
@@ -16,12 +18,16 @@ ghost use Rattle.js_lexer.specs.Gaps.{Grows};
 ghost use Rattle.js_lexer.specs.Reader.{ReadsWithGap, MovesOn};
 ghost use Rattle.js_lexer.specs.Lexer.{LexerState, fresh, token_or_default, ReadsToken, IsRestored};
 ghost use Rattle.js_lexer.specs.Lexer.{IsOnPlaces, Peeks, checkpoint_of, CanRewind, rewound, GoesOnFrom, collected};
-ghost use Rattle.js_lexer.specs.Lexer.{is_hashbang, IsBehind, ReadsAgain};
+ghost use Rattle.js_lexer.specs.Lexer.{is_hashbang, IsBehind, ReadsAgain, checkpoint_with_errors_of};
+ghost use Rattle.js_lexer.specs.Lexer.{with_comments, with_diagnostics};
 
+mod annotations;
 mod goals;
+mod lists;
 
 use crate::checkpoint::{
     LexerCheckpoint, has_spelling_if_some, is_on_places_if_some, is_place, put_back,
+    put_errors_back,
 };
 use crate::decoded::DecodedValues;
 use crate::found::GapFindings;
@@ -482,21 +488,34 @@ impl<'a, C: LexerConfig + Drop> Lexer<'a, C> {
             last_collected: last_of(self.tokens.as_slice()),
             tokens: self.tokens.len(),
             errors: self.reader.errors.len(),
+            errors_copy: None,
             deferred: self.found.deferred.len(),
             trivia: self.found.trivia.lengths(),
         }
     }
 
+    /// What `rewind` goes back to, with a copy of what was reported: diagnostics that a parser takes back after this
+    /// come back with a rewind.
+    pub fn checkpoint_with_error_recovery(&self) -> Result<LexerCheckpoint, AllocError>
+        ensures state { IfOk result (λ c. c ≡ checkpoint_with_errors_of self.now) }
+        ensures open { IfOk result (CanRewind self.now) }
+    {
+        let errors = self.reader.errors.copy(self.reader.alloc)?;
+        let mut checkpoint = self.checkpoint();
+        checkpoint.errors_copy = Some(errors);
+        Ok(checkpoint)
+    }
+
     /// Whether the lexer may go back to the checkpoint: its places are places of this text, in order, its last token
-    /// has the spelling of its kind if it may be read again, no list is shorter than it was, and the comments and the
-    /// irregular white space that stay start before that token.
+    /// has the spelling of its kind if it may be read again, no list is shorter than it was, copied diagnostics left
+    /// out, and the comments and the irregular white space that stay start before that token.
     pub fn can_rewind(&self, checkpoint: &LexerCheckpoint) -> bool
         ensures { IsTrue result ↔ CanRewind self.now checkpoint.now }
     {
         if checkpoint.tokens > self.tokens.len() {
             return false;
         }
-        if checkpoint.errors > self.reader.errors.len() {
+        if checkpoint.asked_errors() > self.reader.errors.len() {
             return false;
         }
         if checkpoint.deferred > self.found.deferred.len() {
@@ -520,13 +539,20 @@ impl<'a, C: LexerConfig + Drop> Lexer<'a, C> {
         has_spelling_if_some(source, &checkpoint.last)
     }
 
-    /// Goes back to the checkpoint: the lists are cut back to the lengths that they had, and the last collected token
-    /// is put back. Where the lists begin as they did at the checkpoint, the lexer is then as it was there.
+    /// Goes back to the checkpoint: the lists are cut back to the lengths that they had, the last collected token is put
+    /// back, and so are diagnostics that were copied. Where the lists begin as they did at the checkpoint, the lexer is
+    /// then as it was there; copied diagnostics may be others by now. Comments that were there stay marked.
     pub fn rewind(&mut self, checkpoint: LexerCheckpoint)
         requires { CanRewind self.old checkpoint }
         ensures state { self.new ≡ rewound self.old checkpoint }
         ensures restores { (earlier : LexerState) → checkpoint ≡ checkpoint_of earlier → GoesOnFrom earlier self.old
             → IsRestored earlier self.new }
+        ensures recovers { (earlier : LexerState) (left : List Diagnostic)
+            → checkpoint ≡ checkpoint_with_errors_of earlier
+            → GoesOnFrom (with_diagnostics left earlier) self.old → IsRestored earlier self.new }
+        ensures keeps_marks { (earlier : LexerState) (marked : List Comment) → checkpoint ≡ checkpoint_of earlier
+            → length marked ≡ length earlier.findings.comments → GoesOnFrom (with_comments marked earlier) self.old
+            → IsRestored (with_comments marked earlier) self.new }
     {
         let LexerCheckpoint {
             position,
@@ -534,6 +560,7 @@ impl<'a, C: LexerConfig + Drop> Lexer<'a, C> {
             last_collected,
             tokens,
             errors,
+            errors_copy,
             deferred,
             trivia,
         } = checkpoint;
@@ -542,6 +569,7 @@ impl<'a, C: LexerConfig + Drop> Lexer<'a, C> {
         self.tokens.truncate(tokens);
         put_back(&mut self.tokens, last_collected);
         self.reader.errors.truncate(errors);
+        put_errors_back(&mut self.reader.errors, errors_copy);
         self.found.deferred.truncate(deferred);
         self.found.trivia.cut_back(&trivia);
     }

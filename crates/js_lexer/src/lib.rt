@@ -10,8 +10,11 @@ mod gap;
 #[cfg(test)]
 mod goal_tests;
 mod jsx;
+pub mod laws;
 mod lexeme;
 mod lexer;
+#[cfg(test)]
+mod list_tests;
 mod mark;
 mod pieces;
 mod punctuator;

@@ -9,6 +9,7 @@ use Rattle.js_text.specs.declared.source_type.SourceType.{SourceType}
 use Rattle.js_grammar.specs.Outcome.{Findings, FindingLengths, Outcome, joined, cut_to, lengths_of, AreWithin}
 use Rattle.js_kind.specs.TokenParts.{TokenParts}
 use Rattle.js_lexer.specs.Lexer.{LexerState, GoesOnFrom, checkpoint_of, put_back}
+use Rattle.js_lexer.proofs.GoesOn.{within_all}
 use Rattle.js_lexer.proofs.LexerSteps.{put_back_last}
 use Rattle.js_session.specs.Live.{Live, with_outcome, with_re_lexed}
 use Rattle.js_session.specs.Marks.{front, fronts, lexer_behind, lexer_at, IsAlike, IsMark, AreMarks}
@@ -103,6 +104,12 @@ none_at text t c now m is none =
     let nothing = last_none (front now m).tokens (sym (ap (λ x. x.last) is.checkpoint) ∙ none) in
     sym (length-front now m is.tokens) ∙ ap length nothing
 
+-- what was found at a mark is no more than what is found now
+within : (text : List ℕ) (t : SourceType) (c : Bool) (now : Live) (m : SessionMark) → IsMark text t c now m
+    → AreWithin m.checkpoint.lengths now.findings
+within text t c now m is =
+    within_all (lexer_at text t c m (front now m)) (lexer_behind text t c now) m.checkpoint is.checkpoint is.can_rewind
+
 -- the front of a front
 front_front : (text : List ℕ) (t : SourceType) (c : Bool) (now : Live) (m x : SessionMark) → IsMark text t c now m
     → IsMark text t c (front now m) x → front (front now m) x ≡ front now x
@@ -111,8 +118,8 @@ front_front text t c now m x is other =
     same_live (front (front now m) x) (front now x)
     (put_back-take x.tokens m.tokens now.tokens m.checkpoint.last x.checkpoint.last le
     (none_at text t c (front now m) x other))
-    (cut_to-cut_to x.checkpoint.lengths m.checkpoint.lengths now.findings is.can_rewind.findings
-    other.can_rewind.findings)
+    (cut_to-cut_to x.checkpoint.lengths m.checkpoint.lengths now.findings (within text t c now m is)
+    (within text t c (front now m) x other))
 
 -- the front of what is live with one more outcome
 front-outcome : (text : List ℕ) (t : SourceType) (c : Bool) (now : Live) (o : Outcome) (m : SessionMark)
@@ -120,7 +127,7 @@ front-outcome : (text : List ℕ) (t : SourceType) (c : Bool) (now : Live) (o : 
 front-outcome text t c now o m is =
     same_live (front (with_outcome now o) m) (front now m)
     (ap (λ l. put_back l m.checkpoint.last) (take-append-le m.tokens now.tokens (o.token ∷ []) is.tokens))
-    (cut_to-joined-le m.checkpoint.lengths now.findings o.findings is.can_rewind.findings)
+    (cut_to-joined-le m.checkpoint.lengths now.findings o.findings (within text t c now m is))
 
 -- and of what is live with its last token read again
 front-re_lexed : (text : List ℕ) (t : SourceType) (c : Bool) (now : Live) (o : Outcome) (m : SessionMark)
@@ -132,7 +139,7 @@ front-re_lexed text t c now o m is =
     (ap (λ l. put_back (take m.tokens (with_last l o.token)) m.checkpoint.last) (sym whole)
     ∙ put_back-take m.tokens (length now.tokens) now.tokens (Some o.token) m.checkpoint.last is.tokens
     (none_at text t c now m is))
-    (cut_to-joined-le m.checkpoint.lengths now.findings o.findings is.can_rewind.findings)
+    (cut_to-joined-le m.checkpoint.lengths now.findings o.findings (within text t c now m is))
 
 -- a mark stays one where the lexer has gone on and its front is the same
 mark-on : (text : List ℕ) (t : SourceType) (c : Bool) (a b : Live) (m : SessionMark) → IsMark text t c a m

@@ -6,6 +6,8 @@ mod digits;
 mod escape;
 #[cfg(test)]
 mod goal_tests;
+#[cfg(test)]
+mod integer_tests;
 mod items;
 mod jsx;
 mod name;

@@ -1,5 +1,5 @@
 use Rattle.std.proofs.Common.{rules}
-use Rattle.js_lexer.proofs.LexerSteps.{rewound_is}
+use Rattle.js_lexer.proofs.LexerSteps.{rewound_is, recovered_is, marked_is}
 use Rattle.js_lexer.proofs.lexer.Lexer.rewind.Goals as goal
 
 pub returns-clause-state : goal.returns-clause-state
@@ -8,3 +8,13 @@ returns-clause-state g c = search rules
 pub returns-clause-restores : goal.returns-clause-restores
 returns-clause-restores g c =
     λ earlier e goes. rewound_is earlier c.args.self.now _ c.args.checkpoint e goes (returns-clause-state g c)
+
+pub returns-clause-recovers : goal.returns-clause-recovers
+returns-clause-recovers g c =
+    λ earlier left e goes.
+    recovered_is earlier c.args.self.now _ left c.args.checkpoint e goes (returns-clause-state g c)
+
+pub returns-clause-keeps_marks : goal.returns-clause-keeps_marks
+returns-clause-keeps_marks g c =
+    λ earlier marked e count goes.
+    marked_is earlier c.args.self.now _ marked c.args.checkpoint e count goes (returns-clause-state g c)
