@@ -1,7 +1,7 @@
 pub mod Classes
 pub mod Digits
 pub mod KindNumbers
-pub mod Letters
 pub mod Members
 pub mod NameKinds
 pub mod Packing
+mod WordPlaces

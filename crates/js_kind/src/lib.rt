@@ -11,6 +11,7 @@ mod predicates;
 #[cfg(test)]
 mod tests;
 mod token;
+mod words;
 
 pub use config::{
     LexerConfig, NoTokensLexerConfig, NoTokensParserConfig, ParserConfig, RuntimeLexerConfig,

@@ -2,7 +2,7 @@
 use Rattle.std.proofs.Common.{◌≡◌, ◌≤◌, ◌-◌, Bool, true, false, not, List, [], ◌∷◌, ◌++◌, length, take}
 use Rattle.std.proofs.Common.{refl, sym, ◌∙◌, ap}
 use Rattle.std.proofs.Common.{subst, arith, append-nil, Option, Some, None}
-use Rattle.std.specs.Prelude.{slice_get, ℕ, IfSome, if◌then◌else◌}
+use Rattle.std.specs.Prelude.{slice_get, ℕ, IfSome, is_none, if◌then◌else◌}
 use Rattle.std.specs.Option.{is_some}
 use Rattle.std.specs.List.{last_or}
 use Rattle.std.specs.Str.{IsUtf8}
@@ -53,6 +53,10 @@ no_token_yet None true e = refl
 no_token_yet None false e = cc
 no_token_yet (Some token) true e = cc
 no_token_yet (Some token) false e = refl
+
+pub first_token : (last : Option TokenParts) → line_has_ended_behind last ≡ is_none last
+first_token None = refl
+first_token (Some token) = refl
 
 starts_before_end : (text : List ℕ) (last : Option TokenParts) → IfSome last (IsOnPlaces text)
     → (token_before last).start ≤ (token_before last).end

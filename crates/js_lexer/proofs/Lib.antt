@@ -17,6 +17,7 @@ pub mod MarkLaws
 pub mod NameSteps
 pub mod NumberSteps
 pub mod PartSteps
+pub mod PlainSteps
 pub mod PrintableSteps
 pub mod QuotedSteps
 pub mod ReadingLaws

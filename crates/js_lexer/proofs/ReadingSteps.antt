@@ -48,16 +48,13 @@ use Rattle.js_trivia.specs.Pieces.{HaveBytes, end_of}
 use Rattle.js_lexer.specs.Gaps.{TakesMark}
 use Rattle.js_lexer.specs.Reader.{StaysWithin, SkipsWholeGap, ReadsLexeme, ReadsBehind, IsHashbangRead}
 use Rattle.js_lexer.specs.Reader.{ReadsTokenHere, lexeme_token, ReadsWithGap, ReadsWithoutGap, AddsGap, NothingHere, MovesOn, IsUnmoved}
+use Rattle.js_lexer.specs.Plain.{plain_lexeme}
 use Rattle.js_lexer.specs.Spellings.{Spells, Recovers}
 use Rattle.js_lexer.specs.declared.found.GapFindings.{GapFindings}
 use Rattle.js_lexer.specs.declared.lexeme.Lexeme.{Lexeme}
 use Rattle.js_lexer.specs.declared.reader.Reader.{Reader}
 use Rattle.js_lexer.specs.declared.recovery.Recovered.{Recovered}
 use Rattle.js_lexer.proofs.WholeSteps.{pieces_lead, line_shorter}
-
-abbrev pub plain_lexeme : Kind → Bool → Lexeme
-plain_lexeme kind line_has_ended =
-    record { kind = kind; is_on_new_line = line_has_ended; escaped = false; has_separator = false }
 
 -- a spelling without a flag and a value was read
 pub lexeme_spelled : (old new : Reader) (k : Kind) (l : Lexeme) → StaysWithin old new → IsUnflagged k

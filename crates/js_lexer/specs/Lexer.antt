@@ -59,6 +59,14 @@ fresh text t collects = record {
   decoded = no_values;
 }
 
+-- the place of a lexer in its text
+abbrev pub here : LexerState → At
+here l = record { text = l.text; place = l.place }
+
+-- a builder that holds no range of annotations
+abbrev pub without_ranges : Trivia → Trivia
+without_ranges s = record s { pure_comments = None; no_side_effects_comments = None }
+
 -- the token, or the default token where none was read yet
 abbrev pub token_or_default : Option TokenParts → TokenParts
 token_or_default last = unwrap_or last default_parts
@@ -156,6 +164,10 @@ pub record ReadsToken (goal : Goal) (old : LexerState) (token : TokenParts) (new
   pub after : IsRestored (after_outcome old outcome) new
   pub kept : Keeps old.decoded new.decoded
   pub has_value : HasValue old.text new.decoded token
+
+-- The next token was read.
+abbrev pub ReadsNext : LexerState → LexerState → Type 0
+ReadsNext old new = (token : TokenParts) × ReadsToken Next old token new
 
 -- The lexer stands behind its last token, which is of this kind.
 pub record IsBehind (kind : Kind) (l : LexerState) : Type 0 where

@@ -20,7 +20,7 @@ use std::alloc::AllocError;
 
 /// Whether the byte is a character that begins no piece; false where one may begin.
 #[inline(always)]
-fn begins_no_piece(b: u8) -> bool
+pub(crate) fn begins_no_piece(b: u8) -> bool
     ensures { MatchBool result (BeginsNoPiece b) (Unit {0}) }
 {
     if b <= b' ' {
@@ -40,7 +40,7 @@ fn begins_no_piece(b: u8) -> bool
 
 /// Skips TABs and SPs, and tells the byte behind them.
 #[inline(always)]
-fn skip_blanks(source: &mut Source<'_>, table: &[bool; 256]) -> Option<u8>
+pub(crate) fn skip_blanks(source: &mut Source<'_>, table: &[bool; 256]) -> Option<u8>
     requires { TellsBlanks table.now }
     ensures next { IsNext result (rest source.new) }
     ensures text { source.new.text ≡ source.old.text }

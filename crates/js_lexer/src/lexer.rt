@@ -15,7 +15,13 @@ ghost use Rattle.js_source.specs.Source.{IsPlaced};
 ghost use Rattle.js_lexer.specs.Decoded.{Keeps, KeepsValues, HasValue, value_of, GivesDecoded, GivesPart, GivesText};
 ghost use Rattle.js_lexer.specs.Decoded.{GivesTemplate, GivesStretch};
 ghost use Rattle.js_lexer.specs.Gaps.{Grows};
-ghost use Rattle.js_lexer.specs.Reader.{ReadsWithGap, MovesOn};
+ghost use Rattle.js_source.specs.Source.{rest, HasFirstByte};
+ghost use Rattle.js_trivia.specs.Trivia.{handle_token};
+ghost use Rattle.js_grammar.specs.Gap.{whole_gap_piece};
+ghost use Rattle.std.specs.Prelude.{is_none, ◌<◌};
+ghost use Rattle.js_lexer.specs.Plain.{PassesPlainGap, ReadsPlainToken};
+ghost use Rattle.js_lexer.specs.Lexer.{here, without_ranges, ReadsNext};
+ghost use Rattle.js_lexer.specs.Reader.{ReadsWithGap, ReadsTokenHere, MovesOn};
 ghost use Rattle.js_lexer.specs.Lexer.{LexerState, fresh, token_or_default, ReadsToken, IsRestored};
 ghost use Rattle.js_lexer.specs.Lexer.{IsOnPlaces, Peeks, checkpoint_of, CanRewind, rewound, GoesOnFrom, collected};
 ghost use Rattle.js_lexer.specs.Lexer.{is_hashbang, IsBehind, ReadsAgain, checkpoint_with_errors_of};
@@ -31,6 +37,7 @@ use crate::checkpoint::{
 };
 use crate::decoded::DecodedValues;
 use crate::found::GapFindings;
+use crate::plain::{pass_plain_gap, read_plain_spelling};
 use crate::reader::Reader;
 use crate::tables::ByteTables;
 use crate::token_text::{is_template, text_span};
@@ -101,6 +108,39 @@ fn read_and_collect(
     let token = reader.read_goal(goal, found, decoded)?;
     collect(tokens, collects, &token)?;
     Ok(token)
+}
+
+/// Reads the token that stands here, where no gap does, and collects it. Where it cannot allocate, the reader may have
+/// moved on and reported.
+fn read_here_and_collect(
+    reader: &mut Reader<'_>,
+    decoded: &mut DecodedValues,
+    tokens: &mut TokenList,
+    collects: bool,
+) -> Result<Token, AllocError>
+    requires gap { whole_gap_piece reader.old.source_type reader.old.line_has_ended (rest reader.old.source) ≡ None }
+    requires placed { IsPlaced reader.old.source }
+    ensures ok { IfOk result (λ token. ReadsTokenHere reader.old token reader.new) }
+    ensures tokens { IfOk result (λ token. tokens.new ≡ tokens.old ++ collected collects token) }
+    ensures placed { OnOk result (IsPlaced reader.new.source) }
+    ensures value { IfOk result (λ token. HasValue reader.old.source.text decoded.new token) }
+    ensures kept { KeepsValues reader.old.source.text decoded.old decoded.new }
+    ensures err { OnErr result (MovesOn reader.old reader.new) }
+    ensures same { OnErr result (tokens.new ≡ tokens.old) }
+{
+    let token = reader.read_here(decoded)?;
+    collect(tokens, collects, &token)?;
+    Ok(token)
+}
+
+/// Tells the builder of a token before which it was told of nothing but line ends.
+#[inline(always)]
+fn tell_alone(trivia: &mut TriviaBuilder, token: &Token)
+    ensures { trivia.new ≡ handle_token token.now (without_ranges trivia.old) }
+{
+    trivia.clear_pure_comments();
+    trivia.clear_no_side_effects_comments();
+    trivia.handle_token(*token);
 }
 
 /// The last token of a list.
@@ -201,15 +241,122 @@ impl<'a, C: LexerConfig + Drop> Lexer<'a, C> {
     }
 
     /// Reads the next token.
+    #[inline(always)]
     pub fn next_token(&mut self) -> Result<Token, AllocError>
         ensures ok { IfOk result (λ token. ReadsToken Goal.Next self.old token self.new) }
         ensures err { OnErr result (IsRestored self.old self.new) }
         ensures kept { Keeps self.old.decoded self.new.decoded }
     {
-        self.read(Goal::Next)
+        self.read_next()?;
+        Ok(self.found.trivia.previous_token())
+    }
+
+    /// Reads the next token, which the builder of trivia has then as the last one.
+    #[inline(always)]
+    fn read_next(&mut self) -> Result<(), AllocError>
+        ensures ok { OnOk result (ReadsNext self.old self.new) }
+        ensures err { OnErr result (IsRestored self.old self.new) }
+        ensures kept { Keeps self.old.decoded self.new.decoded }
+    {
+        let mut source = self.reader.source.here();
+        let mut line_has_ended = self.last.is_none();
+        let tables = &self.reader.tables;
+        match pass_plain_gap(
+            &mut source,
+            &tables.blanks,
+            &tables.starts,
+            &mut line_has_ended,
+        ) {
+            Some(b) => self.read_behind_gap(source, line_has_ended, b),
+            None => self.read_with_any_gap(),
+        }
+    }
+
+    /// Reads the next token behind a gap of any form.
+    #[inline(never)]
+    fn read_with_any_gap(&mut self) -> Result<(), AllocError>
+        ensures ok { OnOk result (ReadsNext self.old self.new) }
+        ensures err { OnErr result (IsRestored self.old self.new) }
+        ensures kept { Keeps self.old.decoded self.new.decoded }
+    {
+        self.read(Goal::Next)?;
+        Ok(())
+    }
+
+    /// Reads the next token where a plain gap stands before it, and `b` is the next byte behind that.
+    #[inline(always)]
+    fn read_behind_gap(
+        &mut self,
+        source: Source<'a>,
+        line_has_ended: bool,
+        b: u8,
+    ) -> Result<(), AllocError>
+        requires gap { PassesPlainGap (here self.old) (is_none self.old.last) source line_has_ended }
+        requires ascii { b < 128 }
+        requires next { HasFirstByte b (rest source) }
+        ensures ok { OnOk result (ReadsNext self.old self.new) }
+        ensures err { OnErr result (IsRestored self.old self.new) }
+        ensures kept { Keeps self.old.decoded self.new.decoded }
+    {
+        let start = source.offset();
+        let mut behind = source.here();
+        match read_plain_spelling(&mut behind, &self.reader.tables.starts, b) {
+            Some(kind) => {
+                let span = Span::new(start, behind.offset());
+                self.take_plain(behind, Token::new(kind, span, line_has_ended))
+            }
+            None => self.read_here(source, line_has_ended),
+        }
+    }
+
+    /// Takes a token that was read behind a plain gap.
+    #[inline(always)]
+    fn take_plain(&mut self, source: Source<'a>, token: Token) -> Result<(), AllocError>
+        requires { ReadsPlainToken (here self.old) (is_none self.old.last) token source }
+        ensures ok { OnOk result (ReadsNext self.old self.new) }
+        ensures err { OnErr result (IsRestored self.old self.new) }
+        ensures kept { Keeps self.old.decoded self.new.decoded }
+    {
+        collect(&mut self.tokens, self.config.tokens(), &token)?;
+        self.reader.source = source;
+        tell_alone(&mut self.found.trivia, &token);
+        self.last = Some(token);
+        Ok(())
+    }
+
+    /// Reads the next token, of any form, where a plain gap stands before it.
+    #[inline(never)]
+    fn read_here(&mut self, source: Source<'a>, line_has_ended: bool) -> Result<(), AllocError>
+        requires { PassesPlainGap (here self.old) (is_none self.old.last) source line_has_ended }
+        ensures ok { OnOk result (ReadsNext self.old self.new) }
+        ensures err { OnErr result (IsRestored self.old self.new) }
+        ensures kept { Keeps self.old.decoded self.new.decoded }
+    {
+        let place = self.reader.source.position();
+        let reported = self.reader.errors.len();
+        self.reader.source = source;
+        self.reader.line_has_ended = line_has_ended;
+        let read = read_here_and_collect(
+            &mut self.reader,
+            &mut self.decoded,
+            &mut self.tokens,
+            self.config.tokens(),
+        );
+        match read {
+            Ok(token) => {
+                tell_alone(&mut self.found.trivia, &token);
+                self.last = Some(token);
+                Ok(())
+            }
+            Err(error) => {
+                self.reader.go_back(place, reported);
+                Err(error)
+            }
+        }
     }
 
     /// Reads a token of a goal that goes on, or leaves the lexer as it was.
+    #[inline(never)]
     fn read(&mut self, goal: Goal) -> Result<Token, AllocError>
         requires { is_onward goal ≡ true }
         ensures ok { IfOk result (λ token. ReadsToken goal self.old token self.new) }

@@ -17,6 +17,7 @@ mod lexer;
 mod list_tests;
 mod mark;
 mod pieces;
+mod plain;
 mod punctuator;
 mod re_lex;
 mod reader;

@@ -8,6 +8,7 @@ ghost use Rattle.js_lexer.specs.Gaps.{TakesMark};
 use js_source::Source;
 
 /// Takes the mark, where it is next.
+#[inline(always)]
 pub(crate) fn advance_if_mark(source: &mut Source<'_>, mark: &[u8]) -> bool
     requires { All (λ b. b < 128) mark.now }
     ensures { TakesMark mark.now source.old result source.new }

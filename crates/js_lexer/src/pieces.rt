@@ -23,6 +23,7 @@ use js_trivia::TriviaBuilder;
 use std::alloc::AllocError;
 
 /// The mark that a line comment of the kind begins with.
+#[inline(always)]
 fn opening_mark(kind: CommentKind) -> &'static [u8]
     ensures { result.now ≡ opening_mark kind }
 {
@@ -85,6 +86,7 @@ fn defer_html(
 impl Reader<'_> {
     /// Reads a comment that begins with the mark of its kind, up to the end of its line, and tells whether one stands
     /// here.
+    #[inline(always)]
     pub fn skip_marked_line(
         &mut self,
         found: &mut GapFindings,

@@ -37,7 +37,7 @@ use std::alloc::AllocError;
 
 /// Whether a name begins with the ASCII character, or with an escape of it.
 #[inline(always)]
-fn begins_ascii_name(table: &[bool; 256], b: u8) -> bool
+pub(crate) fn begins_ascii_name(table: &[bool; 256], b: u8) -> bool
     requires table { TellsStarts table.now }
     requires ascii { b < 128 }
     ensures { result ≡ is_name_start b }

@@ -5,6 +5,7 @@ use Rattle.std.specs.Prelude.{map, MatchBool, IfNone, IfSome}
 use Rattle.std.specs.Char.{IsScalar, OutOfScalarRange, InScalarRange, is_ascii_alphanumeric}
 use Rattle.std.specs.Char.Utf16.{is_high_surrogate, is_low_surrogate}
 use Rattle.std.specs.Option.{option_map_or}
+use Rattle.std.proofs.lemmas.Bool.{eqb-true}
 use Rattle.std.proofs.lemmas.Bool.Decides.{nat_tests}
 use Rattle.js_text.specs.Ascii.{backslash}
 use Rattle.js_text.specs.Characters.{begins, from_place, from_first, before_first, is_identifier_start}
@@ -125,6 +126,16 @@ plain_passed old mid new name none past text left =
       stops = ap (begins is_identifier_part) left_is ∙ parts_end cs;
       escape = λ no. absurd (cc);
     }
+
+-- another character than an escape's mark was read
+pub other_first : (b : ℕ) (old new : At) → Reads old new b → (b ≡ backslash → ⊥)
+    → begins (λ c. c == backslash) (rest old) ≡ false
+other_first b old new reads other =
+    ap (begins (λ c. c == backslash)) reads.here ∙ none_equal (b == backslash) refl
+  where
+    none_equal : (same : Bool) → (b == backslash) ≡ same → same ≡ false
+    none_equal true e = absurd (other (eqb-true b backslash e))
+    none_equal false e = refl
 
 -- the escape of a low surrogate, taken or not
 pub low_taken : (old mid late new : At) (c : ℕ) (is : Bool) → Reads old mid backslash

@@ -148,6 +148,12 @@ pub record SpellsName (old new : At) (before after : List Diagnostic) (was now :
   pub flags : now ≡ record was { escaped = now.escaped; has_separator = false }
   pub value : HasValue now.escaped decoded spelt.value
 
+-- A name without an escape was read, of this kind: nothing is reported, and the flags of a token are not set.
+abbrev pub SpellsPlainName : At → At → Kind → Type 0
+SpellsPlainName old new kind =
+    (errors : List Diagnostic) (token : TokenParts) → SpellsName old new errors errors token
+    (record token { escaped = false; has_separator = false }) (record { kind = kind; value = Plain })
+
 -- It was reported that no name follows a `#`; the token is of this kind.
 pub record ReportsNoName (old : At) (before after : List Diagnostic) (kind : Kind) : Type 0 where
   pub report : Diagnostic

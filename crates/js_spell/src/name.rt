@@ -3,16 +3,16 @@
 ghost use Rattle.std.specs.Prelude.{◌≡◌, ◌≤◌, ◌<◌, ◌==◌, ◌++◌, ◌∷◌, [], length, Bool, true, IfOk, IfSome, IfNone, OnOk};
 ghost use Rattle.std.specs.Prelude.{OnErr, MatchBool, string_bytes};
 ghost use Rattle.std.specs.Char.Utf16.{is_low_surrogate};
-ghost use Rattle.std.specs.Str.{chars};
+ghost use Rattle.std.specs.Str.{chars, IsCharBoundary};
 ghost use Rattle.js_text.specs.Ascii.{backslash};
-ghost use Rattle.js_text.specs.Characters.{begins, from_first, is_identifier_part};
+ghost use Rattle.js_text.specs.Characters.{begins, from_place, from_first, is_identifier_part};
 ghost use Rattle.js_text.specs.JsStr.{units_of};
 ghost use Rattle.js_grammar.specs.Name.{begins_name, is_no_part, low_surrogate_escape};
 ghost use Rattle.js_kind.specs.Keywords.{name_kind};
-ghost use Rattle.js_source.specs.Source.{rest, IsPlaced, BeginsWith};
+ghost use Rattle.js_source.specs.Source.{rest, IsPlaced, BeginsWith, HasFirstByte};
 ghost use Rattle.js_spell.specs.Name.{class_of, PassesPlain, DecodesEscape, DecodesUnicode, ReadsEscape, ReadsItems};
 ghost use Rattle.js_spell.specs.Name.{PassesParts, ReadsToEnd, SpellsDecoded, SpellsName, ReportsNoName};
-ghost use Rattle.js_spell.specs.Name.{SpellsPrivateName};
+ghost use Rattle.js_spell.specs.Name.{SpellsPlainName, SpellsPrivateName};
 ghost use Rattle.js_spell.specs.Numeric.{BreaksOff};
 ghost use Rattle.js_spell.specs.declared.name.Position.TheVariants.{Later};
 ghost use Rattle.js_spell.specs.declared.spelt.SpeltValue.TheVariants.{Decoded};
@@ -21,7 +21,7 @@ use crate::parts::parts;
 use crate::spelt::{Spelt, SpeltValue};
 use crate::unicode_escape::{read_hex_digits, read_unicode_escape};
 use js_kind::{Kind, Token, match_keyword};
-use js_source::Source;
+use js_source::{Source, SourcePosition};
 use js_text::{
     Diagnostic, DiagnosticList, JSStrBuilder, Span, is_identifier_part, is_identifier_start,
 };
@@ -384,6 +384,72 @@ pub fn read_name(
     token.set_escaped(true);
     token.set_has_separator(false);
     Ok(spelt)
+}
+
+/// The place of the first character that is no part of a name.
+#[inline(never)]
+fn end_of_parts(source: Source<'_>) -> SourcePosition
+    requires { IsPlaced source }
+    ensures rest { from_place source.entry.text result ≡ from_first is_no_part (rest source.entry) }
+    ensures onward { source.entry.place ≤ result }
+    ensures boundary { IsCharBoundary source.entry.text result }
+{
+    let mut source = source;
+    skip_parts(&mut source);
+    source.position()
+}
+
+/// Goes to the first character that is no part of a name; the usual way has ASCII characters alone.
+#[inline(always)]
+fn pass_to_end(source: &mut Source<'_>)
+    requires { IsPlaced source.old }
+    ensures text { source.new.text ≡ source.old.text }
+    ensures rest { rest source.new ≡ from_first is_no_part (rest source.old) }
+    ensures onward { source.old.place ≤ source.new.place }
+    ensures placed { IsPlaced source.new }
+{
+    if let Some(_c) = pass_parts(source) {
+        let end = end_of_parts(source.here());
+        source.set_position(end);
+    }
+}
+
+/// Passes the characters of the name that begins with the ASCII character `b`, up to its first escape or its end.
+#[inline(always)]
+fn pass_plain_from(source: &mut Source<'_>, b: u8)
+    requires ascii { b < 128 }
+    requires next { HasFirstByte b (rest source.old) }
+    requires begun { begins_name (rest source.old) ≡ true }
+    requires plain { b ≡ backslash → ⊥ }
+    ensures passes { PassesPlain source.old Later source.new }
+    ensures onward { source.old.place ≤ source.new.place }
+    ensures placed { IsPlaced source.new }
+{
+    source.next_ascii(b);
+    pass_to_end(source);
+}
+
+/// Reads the name that is next and begins with the ASCII character `b`, where no escape stands in it (ECMA-262 12.7).
+/// Where one does, the source stands somewhere in the same text.
+#[inline(always)]
+pub fn read_plain_name(source: &mut Source<'_>, b: u8) -> Option<Kind>
+    requires placed { IsPlaced source.old }
+    requires ascii { b < 128 }
+    requires next { HasFirstByte b (rest source.old) }
+    requires begun { begins_name (rest source.old) ≡ true }
+    ensures some { IfSome result (SpellsPlainName source.old source.new) }
+    ensures placed { IsPlaced source.new }
+{
+    if b == b'\\' {
+        return None;
+    }
+    let start = source.position();
+    pass_plain_from(source, b);
+    let name = source.str_from_pos_to_current(start);
+    if begins_ascii(source, b'\\') {
+        return None;
+    }
+    Some(match_keyword(name))
 }
 
 /// Whether a name is next, good or at fault.

@@ -10,3 +10,4 @@ pub mod Starts
 pub mod Steps
 pub mod Twice
 pub mod Walk
+mod WordSteps

@@ -3,3 +3,4 @@ pub mod Builder
 pub mod Marks
 pub mod Pieces
 pub mod Trivia
+pub mod Words

@@ -72,6 +72,7 @@ pub(crate) fn attach_pending(
 }
 
 /// Attaches each comment that waits to the token before or the token after.
+#[inline(never)]
 pub(crate) fn attach_each_pending(
     comments: &mut [Comment],
     processed: usize,

@@ -1,6 +1,8 @@
 //! The classes of comments by what is in them.
 
-ghost use Rattle.std.specs.Prelude.{◌≡◌, ◌<◌, ◌≤◌, ◌==◌, ◌||◌, false, codes, drop, length, IfNone, IfSome};
+ghost use Rattle.std.specs.Prelude.{◌≡◌, ◌<◌, ◌≤◌, ◌==◌, ◌||◌, false, codes, drop, length, IfNone, IfSome, MatchBool};
+ghost use Rattle.std.specs.Prelude.{if◌then◌else◌};
+ghost use Rattle.js_trivia.specs.Words.{BeginsNoWord};
 ghost use Rattle.js_text.specs.Characters.{begins};
 ghost use Rattle.js_grammar.specs.CommentClasses.{stays_leading, begins_with, is_licensed, is_blank, without_blanks};
 ghost use Rattle.js_grammar.specs.CommentClasses.{is_capital, is_beyond_ascii, is_empty, begins_with_either, is_hint_for};
@@ -240,6 +242,7 @@ fn tool_class(content: &[u8], text: &[u8]) -> CommentContent
 }
 
 /// The class by the text behind the blanks in front.
+#[inline(never)]
 fn worded_class(content: &str, text: &[u8]) -> CommentContent
     ensures { result ≡ worded_class content.now text.now }
 {
@@ -258,6 +261,47 @@ fn worded_class(content: &str, text: &[u8]) -> CommentContent
     }
 }
 
+/// Whether no mark and no word that a class goes by begins with the byte.
+fn begins_no_word(b: u8) -> bool
+    ensures { MatchBool result (BeginsNoWord b) (Unit {0}) }
+{
+    if b >= 128 {
+        return false;
+    }
+    match b {
+        b'@' => false,
+        b'#' => false,
+        b'w' => false,
+        b't' => false,
+        b'v' => false,
+        b'c' => false,
+        b'n' => false,
+        b'i' => false,
+        _ => true,
+    }
+}
+
+/// The class of a comment that no mark and no word begins.
+fn licensed_class(content: &[u8]) -> CommentContent
+    ensures { result ≡ (if is_licensed content.now then CommentContent.Legal else CommentContent.None) }
+{
+    if is_licensed(content) {
+        CommentContent::Legal
+    } else {
+        CommentContent::None
+    }
+}
+
+/// The class by the text behind the blanks in front; most comments are told by its first byte.
+fn class_by_words(content: &str, text: &[u8]) -> CommentContent
+    ensures { result ≡ worded_class content.now text.now }
+{
+    match text {
+        [first, ..] if begins_no_word(*first) => licensed_class(content.as_bytes()),
+        _ => worded_class(content, text),
+    }
+}
+
 /// What a comment tells tools, by its text without the marks of the comment.
 pub fn classify(content: &str, is_block: bool) -> CommentContent
     ensures { result ≡ class_of is_block content.now }
@@ -270,6 +314,6 @@ pub fn classify(content: &str, is_block: bool) -> CommentContent
     } else if is_block && begins_with(bytes, b"*") {
         documentation_class(bytes)
     } else {
-        worded_class(content, without_blanks(bytes))
+        class_by_words(content, without_blanks(bytes))
     }
 }

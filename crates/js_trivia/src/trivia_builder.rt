@@ -205,6 +205,7 @@ impl TriviaBuilder {
     }
 
     /// Takes notice of the next token: the comments that wait are attached to it or to the token before.
+    #[inline(always)]
     pub fn handle_token(&mut self, token: Token)
         ensures { self.new ≡ handle_token token self.old }
     {

@@ -1,0 +1,322 @@
+-- The steps of readings that need the source alone.
+use Rattle.std.proofs.Common.{◌≡◌, ◌<◌, ◌≤◌, ◌&&◌, ◌||◌, ◌==◌, not, ℕ, zero, suc, Bool, true, false, List, [], ◌∷◌, refl, sym, ◌∙◌, ap, subst}
+use Rattle.std.proofs.Common.{arith, Option, Some, None}
+use Rattle.std.specs.Prelude.{codes, is_none, IfSome, MatchBool, nat_le}
+use Rattle.std.proofs.lemmas.Bool.{ne_eqb, eqb-true, leb-true, leb-false}
+use Rattle.js_text.proofs.CharacterLemmas.{start_in_ascii}
+use Rattle.js_text.specs.SourceType.{is_module}
+use Rattle.js_text.specs.declared.comment.Comment.{Comment}
+use Rattle.js_text.specs.declared.source_type.SourceType.{SourceType}
+use Rattle.js_kind.specs.TokenParts.{TokenParts}
+use Rattle.js_kind.specs.declared.kind.Kind.{Kind}
+use Rattle.js_grammar.specs.Gap.{is_prefix, is_reported, piece, whole_gap_piece, has_html_comments}
+use Rattle.js_grammar.specs.Goals.{line_has_ended_behind}
+use Rattle.js_grammar.specs.Name.{begins_name}
+use Rattle.js_grammar.specs.declared.goal.Goal.TheVariants.{Next}
+use Rattle.js_grammar.proofs.Flags.{punctuator_unflagged}
+use Rattle.js_grammar.proofs.GapLemmas.{none_behind, unreported}
+use Rattle.js_grammar.proofs.NumberClasses.{all_below, below}
+use Rattle.js_grammar.proofs.PieceLemmas.{piece-other, piece-minus, piece-angle}
+use Rattle.js_source.specs.Runs.{PassesRun}
+use Rattle.js_source.specs.Source.{At, rest, IsPlaced, HasFirstByte, HasFirstTwoBytes}
+use Rattle.js_source.specs.Search.{matches_at}
+use Rattle.js_spell.specs.Name.{SpellsPlainName}
+use Rattle.js_trivia.specs.Attachment.{Attachment, after_newline, after_token}
+use Rattle.js_trivia.specs.Trivia.{Trivia, handle_token}
+use Rattle.js_lexer.specs.Gaps.{BeginsNoPiece}
+use Rattle.js_lexer.specs.Plain.{EndsGap, EndsGapInAscii}
+use Rattle.js_lexer.specs.Plain.{moved, after_ends, ends_told, PassesPlainGap, plain_lexeme, SpellsPlainly}
+use Rattle.js_lexer.specs.Plain.{ReadsPlainToken}
+use Rattle.js_lexer.specs.Reader.{Leads, ReadsTokenHere, ReadsWithGap, MovesOn, lexeme_token}
+use Rattle.js_lexer.specs.Spellings.{ReadsPunctuator}
+use Rattle.js_lexer.specs.Tables.{TellsBlanks, TellsStarts, is_name_start}
+use Rattle.js_lexer.specs.declared.found.GapFindings.{GapFindings}
+use Rattle.js_lexer.specs.declared.reader.Reader.{Reader}
+use Rattle.js_lexer.proofs.GapSteps.{blanks_lead, line_feed_skipped, no_gap_left}
+use Rattle.js_lexer.proofs.FastSteps.{begins_none}
+use Rattle.js_lexer.proofs.PartSteps.{is_start}
+use Rattle.js_lexer.proofs.NameSteps.{lexeme_of_name}
+use Rattle.js_lexer.proofs.ReadingSteps.{lexeme_spelled, lexeme_onward, goal_behind, token_behind}
+use Rattle.js_lexer.proofs.SpellingSteps.{punctuator_spelled}
+use Rattle.js_lexer.proofs.WholeSteps.{whole_at_once}
+
+-- blanks and line feeds were passed so far
+pub record GapSoFar (start : At) (line_had_ended : Bool) (now : At) (line_has_ended : Bool) : Type 0 where
+  pub from : IsPlaced start
+  pub placed : IsPlaced now
+  pub ends : ℕ
+  pub leads : (r : Reader) (before : GapFindings)
+      → Leads false (moved r start line_had_ended) before false (moved r now line_has_ended) (ends_told ends before)
+
+pub gap_starts : (table : List Bool) → TellsBlanks table → (start now : At) (ended : Bool) → IsPlaced start
+    → IsPlaced now → now.text ≡ start.text → PassesRun table start.text start.place now.place
+    → GapSoFar start ended now ended
+gap_starts table tells start now ended h g text run = record {
+  from = h;
+  placed = g;
+  ends = 0;
+  leads = λ r before. blanks_lead table tells (moved r start ended) now before h g text run;
+}
+
+-- a line feed, and the blanks behind it
+pub gap_goes_on : (table : List Bool) → TellsBlanks table → (start now mid next : At) (had has : Bool)
+    → GapSoFar start had now has → rest now ≡ 10 ∷ rest mid → mid.text ≡ now.text → IsPlaced mid → IsPlaced next
+    → next.text ≡ mid.text → PassesRun table mid.text mid.place next.place → GapSoFar start had next true
+gap_goes_on table tells start now mid next had has s here text k g same run = record {
+  from = s.from;
+  placed = g;
+  ends = suc s.ends;
+  leads = λ r before later found skips.
+      s.leads r before later found
+      ((line_feed_skipped (moved r now has) (ends_told s.ends before) mid (ends_told (suc s.ends) before) s.placed k text
+      here refl refl).leads later found
+      (blanks_lead table tells (moved r mid true) next (ends_told (suc s.ends) before) k g same run later found skips));
+}
+
+-- the gap has ended
+pub gap_passed : (start now : At) (had has : Bool) → GapSoFar start had now has → EndsGap has (rest now)
+    → PassesPlainGap start had now has
+gap_passed start now had has s ends = record {
+  from = s.from;
+  placed = s.placed;
+  ends = s.ends;
+  skips = λ r before.
+      let none = none_behind r.source_type has (rest now) (ends r.source_type) in
+      whole_at_once (moved r start had) (moved r now has) before (ends_told s.ends before)
+      (s.leads r before (moved r now has) (ends_told s.ends before)
+      (no_gap_left false (moved r now has) (moved r now has) (ends_told s.ends before) (ends_told s.ends before)
+      (record { source = refl; stays = record { source_type = refl; line_has_ended = refl; errors = refl } }) refl
+      none.1))
+      none.0;
+}
+
+whole_none : (t : SourceType) (ended : Bool) (cs : List ℕ) → is_reported t ended cs ≡ false → piece t ended cs ≡ None
+    → whole_gap_piece t ended cs ≡ None
+whole_none t ended cs none e = unreported t ended cs none ∙ e
+
+-- a character that begins no piece
+pub no_piece_ends : (b : ℕ) (ended : Bool) (cs : List ℕ) → HasFirstByte b cs → BeginsNoPiece b
+    → EndsGapInAscii b ended cs
+no_piece_ends b ended [] first none = absurd first
+no_piece_ends b ended (c ∷ cs) first none = record {
+  ascii = none.ascii;
+  ends = λ t.
+      ap (λ d. whole_gap_piece t ended (d ∷ cs)) (first.0 none.ascii)
+      ∙ whole_none t ended (b ∷ cs) (rw (ne_eqb b 60 none.no_angle) refl)
+      (piece-other t ended b cs none.no_white_space none.no_line_terminator none.no_slash none.no_angle none.no_minus);
+}
+
+-- no piece begins with the first character of a name
+abbrev is_no_start : ℕ → Bool
+is_no_start b = not (is_start b)
+
+no_control_starts : all_below is_no_start 33 ≡ true
+no_control_starts = refl
+
+start_is_high : (b : ℕ) → is_start b ≡ true → 32 < b
+start_is_high b is = by_test (nat_le 33 b) refl
+  where
+    by_test : (x : Bool) → nat_le 33 b ≡ x → 32 < b
+    by_test true e = omega (arith, leb-true 33 b e)
+    by_test false e =
+        absurd
+        (let none : not (is_start b) ≡ true = below is_no_start 33 b no_control_starts (leb-false 33 b e) in
+        let both : false ≡ true = ap not (sym is) ∙ none in cc)
+
+pub start_ends : (b : ℕ) (ended : Bool) (cs : List ℕ) → b < 128 → HasFirstByte b cs → is_start b ≡ true
+    → EndsGapInAscii b ended cs
+start_ends b ended cs small first is =
+    no_piece_ends b ended cs first
+    (begins_none b (start_is_high b is) small (λ e. let no : is_start 47 ≡ true = ap is_start (sym e) ∙ is in cc)
+    (λ e. let no : is_start 60 ≡ true = ap is_start (sym e) ∙ is in cc)
+    (λ e. let no : is_start 45 ≡ true = ap is_start (sym e) ∙ is in cc))
+
+-- the table of the starts of names tells as much
+pub tells_ends : (table : List Bool) (b : ℕ) (ended : Bool) (cs : List ℕ) → TellsStarts table
+    → matches_at table b ≡ true → HasFirstByte b cs → EndsGapInAscii b ended cs
+tells_ends table b ended cs tells is first = by_test (nat_le 128 b) refl
+  where
+    by_test : (x : Bool) → nat_le 128 b ≡ x → EndsGapInAscii b ended cs
+    by_test true e = absurd (let both : true ≡ false = sym is ∙ tells.ascii b (leb-true 128 b e) in cc)
+    by_test false e =
+        let small = leb-false 128 b e in
+        start_ends b ended cs small first
+        (ap (λ x. x || (b == 92)) (sym (start_in_ascii b small)) ∙ sym (tells.tells b small) ∙ is)
+
+and_false : (x : Bool) → (x && false) ≡ false
+and_false true = refl
+and_false false = refl
+
+-- a `-` where no line has ended
+pub minus_alone : (b : ℕ) (ended : Bool) (cs : List ℕ) → b ≡ 45 → HasFirstByte b cs
+    → MatchBool (not ended) (EndsGapInAscii b ended cs) (Unit {0})
+minus_alone b true cs is first = tt
+minus_alone b false [] is first = absurd first
+minus_alone b false (c ∷ cs) is first =
+    let small : b < 128 = omega (arith, is) in
+    let same : c ≡ 45 = first.0 small ∙ is in
+    record {
+      ascii = small;
+      ends = λ t.
+          ap (λ d. whole_gap_piece t false (d ∷ cs)) same
+          ∙ whole_none t false (45 ∷ cs) refl
+          (piece-minus t false cs
+          ∙ rw (and_false (has_html_comments t), and_false (is_prefix (codes "->") cs)) refl);
+    }
+
+no_mark : (second : ℕ) (cs : List ℕ) → (second == 33) ≡ false → HasFirstByte second cs
+    → is_prefix (codes "!--") cs ≡ false
+no_mark second [] other first = absurd first
+no_mark second (d ∷ ds) other first = by_test (d == 33) refl
+  where
+    by_test : (x : Bool) → (d == 33) ≡ x → (x && is_prefix (codes "--") ds) ≡ false
+    by_test true e =
+        let is : d ≡ 33 = eqb-true d 33 e in
+        let same : d ≡ second = first.1 (omega (arith, is)) in
+        absurd (let both : true ≡ false = sym e ∙ ap (λ n. n == 33) same ∙ other in cc)
+    by_test false e = refl
+
+-- a `<` that no `!` follows
+pub angle_alone : (b first second : ℕ) (ended : Bool) (cs : List ℕ) → b ≡ 60 → HasFirstByte b cs
+    → HasFirstTwoBytes first second cs → MatchBool (not (second == 33)) (EndsGapInAscii b ended cs) (Unit {0})
+angle_alone b first second ended [] is here two = absurd here
+angle_alone b first second ended (c ∷ cs) is here two = by_test (second == 33) refl
+  where
+    small : b < 128
+    small = omega (arith, is)
+
+    same : c ≡ 60
+    same = here.0 small ∙ is
+
+    behind : HasFirstByte second cs
+    behind = let at : c ≡ first = two.0.1 (omega (arith, same)) in two.1 (omega (arith, at, same))
+
+    by_test : (x : Bool) → (second == 33) ≡ x → MatchBool (not x) (EndsGapInAscii b ended (c ∷ cs)) (Unit {0})
+    by_test true e = tt
+    by_test false e =
+        let none = no_mark second cs e behind in
+        record {
+          ascii = small;
+          ends = λ t.
+              ap (λ d. whole_gap_piece t ended (d ∷ cs)) same
+              ∙ whole_none t ended (60 ∷ cs) (rw none refl) (piece-angle t ended cs ∙ rw none refl);
+        }
+
+-- a name without an escape
+pub name_plainly : (ended : Bool) (old new : At) (kind : Kind) → begins_name (rest old) ≡ true
+    → SpellsPlainName old new kind → SpellsPlainly ended old new kind
+name_plainly ended old new kind begun spells r =
+    let name = spells r.errors (record {
+      start = 0;
+      end = 0;
+      kind = kind;
+      is_on_new_line = false;
+      escaped = false;
+      has_separator = false;
+    }) in
+    lexeme_of_name (moved r old ended) (moved r new ended) kind false name.decoded begun name.read name.kind refl
+
+-- a punctuator
+punctuator_plainly : (ended : Bool) (old new : At) (kind : Kind) → EndsGap ended (rest old)
+    → ((t : SourceType) (line_has_ended : Bool) → is_reported t line_has_ended (rest old) ≡ false
+    → ReadsPunctuator t line_has_ended old new (Some kind))
+    → SpellsPlainly ended old new kind
+punctuator_plainly ended old new kind ends reads r =
+    let read = reads r.source_type ended (none_behind r.source_type ended (rest old) (ends r.source_type)).0 in
+    lexeme_spelled (moved r old ended) (moved r new ended) kind (plain_lexeme kind ended)
+    record { source_type = refl; line_has_ended = refl; errors = refl }
+    (punctuator_unflagged read.1.it kind read.1.in_table read.1.kind)
+    (punctuator_spelled r.source_type ended old new kind read) refl
+
+pub punctuator_or_none : (ended : Bool) (old new : At) (found : Option Kind) → EndsGap ended (rest old)
+    → ((t : SourceType) (line_has_ended : Bool) → is_reported t line_has_ended (rest old) ≡ false
+    → ReadsPunctuator t line_has_ended old new found)
+    → IfSome found (SpellsPlainly ended old new)
+punctuator_or_none ended old new None ends reads = tt
+punctuator_or_none ended old new (Some kind) ends reads = punctuator_plainly ended old new kind ends reads
+
+-- where an ASCII character of the class is next, a name begins
+pub name_begins : (b : ℕ) (cs : List ℕ) → b < 128 → HasFirstByte b cs → is_name_start b ≡ true
+    → begins_name cs ≡ true
+name_begins b [] small first is = absurd first
+name_begins b (c ∷ cs) small first is = ap is_name_start (first.0 small) ∙ is
+
+-- the reading of a token behind such a gap
+pub behind_plain_gap : (previous : Option TokenParts) (r : Reader) (old : At) (had : Bool) (mid : At) (has : Bool)
+    (before : GapFindings) (token : TokenParts) (new : Reader) → line_has_ended_behind previous ≡ had
+    → (gap : PassesPlainGap old had mid has) → ReadsTokenHere (moved r mid has) token new
+    → ReadsWithGap Next previous (moved r old had) before token new (ends_told gap.ends before)
+behind_plain_gap previous r old had mid has before token new first gap there =
+    goal_behind Next previous (moved r old had) before token new (ends_told gap.ends before) refl refl
+    (token_behind previous (moved r old had) before (moved r mid has) (ends_told gap.ends before) new token gap.from
+    gap.placed first (gap.skips r before) there)
+
+-- line ends that no comment stands between are forgotten at the next token
+step : (attached pending : List Comment) (saw for_comment : Bool) (previous token : TokenParts) → pending ≡ []
+    → (after_token token (after_newline record {
+      attached = attached;
+      pending = pending;
+      saw_newline = saw;
+      saw_newline_for_comment = for_comment;
+      previous = previous;
+    }) ≡ after_token token record {
+      attached = attached;
+      pending = pending;
+      saw_newline = saw;
+      saw_newline_for_comment = for_comment;
+      previous = previous;
+    })
+    × ((after_newline record {
+      attached = attached;
+      pending = pending;
+      saw_newline = saw;
+      saw_newline_for_comment = for_comment;
+      previous = previous;
+    }).pending ≡ [])
+step attached [] true for_comment previous token e = (refl, refl)
+step attached [] false for_comment previous token e = (refl, refl)
+step attached (c ∷ cs) saw for_comment previous token e = absurd (cc)
+
+forgotten : (n : ℕ) (s : Trivia) (token : TokenParts) → s.attachment.pending ≡ []
+    → (handle_token token (after_ends n s) ≡ handle_token token s) × ((after_ends n s).attachment.pending ≡ [])
+forgotten zero s token none = (refl, none)
+forgotten (suc n) s token none =
+    let before = forgotten n s token none in
+    let a = (after_ends n s).attachment in
+    let now = step a.attached a.pending a.saw_newline a.saw_newline_for_comment a.previous token before.1 in
+    (ap (λ x. record (after_ends n s) { attachment = x }) now.0 ∙ before.0, now.1)
+
+pub ends_forgotten : (n : ℕ) (s : Trivia) (token : TokenParts) → s.attachment.pending ≡ []
+    → handle_token token s ≡ handle_token token (after_ends n s)
+ends_forgotten n s token none = sym (forgotten n s token none).0
+
+-- a reading has moved its reader on
+pub token_moves_on : (old : Reader) (token : TokenParts) (new : Reader) → ReadsTokenHere old token new → MovesOn old new
+token_moves_on old token new r = record {
+  text = r.reads.text;
+  source_type = r.reads.source_type;
+  more = r.reads.reading.diagnostics;
+  errors = r.reads.errors;
+}
+
+-- and that of a plain spelling is one of a token
+pub plain_token : (old mid new : At) (had has : Bool) (kind : Kind) (token : TokenParts) → PassesPlainGap old had mid has
+    → SpellsPlainly has mid new kind → IsPlaced new → token ≡ lexeme_token mid.place new.place (plain_lexeme kind has)
+    → ReadsPlainToken old had token new
+plain_token old mid new had has kind token gap spells g is = record {
+  mid = mid;
+  line_has_ended = has;
+  gap = gap;
+  here = λ r. record { lexeme = plain_lexeme kind has; reads = spells r; token_is = is; placed = g };
+  escaped = ap (λ t. t.escaped) is;
+}
+
+pub plain_onward : (ended : Bool) (old new : At) (kind : Kind) (r : Reader) → IsPlaced old → IsPlaced new
+    → SpellsPlainly ended old new kind → old.place ≤ new.place
+plain_onward ended old new kind r h g spells =
+    lexeme_onward (moved r old ended) (moved r new ended) (plain_lexeme kind ended) h g (spells r)
+
+-- where a gap has ended, whatever source it is
+pub gap_ends : (r : Reader) (before : GapFindings) (old : At) (had : Bool) (new : At) (has : Bool)
+    → PassesPlainGap old had new has → EndsGap has (rest new)
+gap_ends r before old had new has gap t = (gap.skips (record r { source_type = t }) before).longest

@@ -1,0 +1,137 @@
+use Rattle.std.proofs.Common.{◌≡◌, [], refl, sym, ◌∙◌, ap, subst, take, List, ℕ}
+use Rattle.std.specs.Prelude.{is_none}
+use Rattle.std.specs.Str.{IsCharBoundary}
+use Rattle.js_grammar.specs.declared.goal.Goal.TheVariants.{Next}
+use Rattle.js_source.specs.Source.{At}
+use Rattle.js_trivia.specs.Attachment.{Attachment}
+use Rattle.js_lexer.specs.Decoded.{KeepsValues, HasValue}
+use Rattle.js_lexer.specs.Lexer.{without_ranges}
+use Rattle.js_lexer.specs.Plain.{ends_told, moved}
+use Rattle.js_lexer.proofs.LexerSteps.{state_of, reader_is, between_is, first_token, sound_after, sound_back, reads_token}
+use Rattle.js_lexer.proofs.LexerSteps.{cut_back}
+use Rattle.js_lexer.proofs.PlainSteps.{behind_plain_gap, ends_forgotten}
+use Rattle.js_lexer.proofs.lexer.Lexer.read_here.Goals as goal
+
+pub read_here_and_collect-read-requires-clause-gap : goal.read_here_and_collect-read-requires-clause-gap
+read_here_and_collect-read-requires-clause-gap g c =
+    let p = rw (← c.self.view_is) at c.requires in
+    (p.skips c.self.inside.reader c.self.inside.found).longest
+
+pub invariant_of-self : goal.invariant_of-self
+invariant_of-self g c =
+    let r = c.self.inside.reader in
+    let last = c.self.inside.last in
+    let p = rw (← c.self.view_is) at c.requires in
+    let cleared = without_ranges c.self.inside.found.trivia in
+    let before = record c.self.inside.found { trivia = cleared } in
+    let none : c.self.inside.found.trivia.attachment.pending ≡ [] =
+    ap (λ (a : Attachment). a.pending) c.self.invariant.attachment in
+    let text = (p.skips r before).skips.text in
+    let kept =
+    subst (λ (t : List ℕ). KeepsValues t c.self.inside.decoded c.read_here_and_collect-read.new.decoded) text
+    c.in-Ok.ensures.kept in
+    sound_after Next (state_of r c.self.inside.found last c.self.inside.decoded) (moved r r.source (is_none last)) before
+    c.in-Ok.token c.read_here_and_collect-read.new.reader (ends_told p.ends before) c.tell_alone.new.trivia
+    c.read_here_and_collect-read.new.decoded c.in-Ok.ensures.placed.utf8 (kept.are_values c.self.invariant.are_values)
+    (reader_is r c.self.inside.found last c.self.inside.decoded (is_none last) cleared c.self.invariant refl)
+    (behind_plain_gap last r r.source (is_none last) c.args.source c.args.line_has_ended before c.in-Ok.token
+    c.read_here_and_collect-read.new.reader (first_token last) p c.in-Ok.ensures.ok)
+    (c.tell_alone.ensures ∙ ends_forgotten p.ends cleared c.in-Ok.token none)
+
+pub go_back-requires : goal.go_back-requires
+go_back-requires g c =
+    let p = rw (← c.self.view_is) at c.requires in
+    let text = (p.skips c.self.inside.reader c.self.inside.found).skips.text in
+    rw (c.position-place.ensures.place, c.in-Err.ensures.err.text, text) p.from.boundary
+
+pub invariant_of-self-in-Err : goal.invariant_of-self-in-Err
+invariant_of-self-in-Err g c =
+    let r = c.self.inside.reader in
+    let p = rw (← c.self.view_is) at c.requires in
+    let text = (p.skips r c.self.inside.found).skips.text in
+    let kept =
+    subst (λ (t : List ℕ). KeepsValues t c.self.inside.decoded c.read_here_and_collect-read.new.decoded) text
+    c.in-Err.ensures.kept in
+    let source : c.go_back.new.self.source ≡ r.source =
+    c.go_back.ensures.source ∙ rw (c.in-Err.ensures.err.text, text, c.position-place.ensures.place) refl in
+    sound_back r.source c.go_back.new.self.source c.self.inside.last c.self.inside.found.trivia
+    c.self.inside.found.trivia c.self.inside.decoded c.read_here_and_collect-read.new.decoded source refl
+    c.self.invariant (kept.are_values c.self.invariant.are_values)
+
+pub returns-in-Ok-clause-ok : goal.returns-in-Ok-clause-ok
+returns-in-Ok-clause-ok g c =
+    let r = c.self.inside.reader in
+    let last = c.self.inside.last in
+    let p = rw (← c.self.view_is) at c.requires in
+    let cleared = without_ranges c.self.inside.found.trivia in
+    let before = record c.self.inside.found { trivia = cleared } in
+    let none : c.self.inside.found.trivia.attachment.pending ≡ [] =
+    ap (λ (a : Attachment). a.pending) c.self.invariant.attachment in
+    let text = (p.skips r before).skips.text in
+    let tokens = rw c.tokens.ensures at c.in-Ok.ensures.tokens in
+    let kept =
+    subst (λ (t : List ℕ). KeepsValues t c.self.inside.decoded c.read_here_and_collect-read.new.decoded) text
+    c.in-Ok.ensures.kept in
+    let has =
+    subst (λ (t : List ℕ). HasValue t c.read_here_and_collect-read.new.decoded c.in-Ok.token) text
+    c.in-Ok.ensures.value in
+    rw (← c.self.view_is, tokens) (
+      c.in-Ok.token,
+      reads_token _ _ (moved r r.source (is_none last)) before c.read_here_and_collect-read.new.reader
+          (ends_told p.ends before) c.tell_alone.new.trivia Next c.in-Ok.token c.read_here_and_collect-read.new.decoded
+          p.from.utf8
+          record {
+            source = refl;
+            source_type = refl;
+            errors = refl;
+            deferred = refl;
+            between = between_is r.source last c.self.inside.found.trivia cleared c.self.inside.decoded c.self.invariant refl;
+          }
+          (behind_plain_gap last r r.source (is_none last) c.args.source c.args.line_has_ended before c.in-Ok.token
+          c.read_here_and_collect-read.new.reader (first_token last) p c.in-Ok.ensures.ok)
+          (c.tell_alone.ensures ∙ ends_forgotten p.ends cleared c.in-Ok.token none)
+          (kept.kept c.self.invariant.are_values) has refl,
+    )
+
+pub returns-in-Ok-clause-kept : goal.returns-in-Ok-clause-kept
+returns-in-Ok-clause-kept g c =
+    let r = c.self.inside.reader in
+    let p = rw (← c.self.view_is) at c.requires in
+    let text = (p.skips r c.self.inside.found).skips.text in
+    let kept =
+    subst (λ (t : List ℕ). KeepsValues t c.self.inside.decoded c.read_here_and_collect-read.new.decoded) text
+    c.in-Ok.ensures.kept in
+    rw (← c.self.view_is) (kept.kept c.self.invariant.are_values)
+
+pub returns-in-Err-clause-err : goal.returns-in-Err-clause-err
+returns-in-Err-clause-err g c =
+    let r = c.self.inside.reader in
+    let p = rw (← c.self.view_is) at c.requires in
+    let text = (p.skips r c.self.inside.found).skips.text in
+    let moves = c.in-Err.ensures.err in
+    let source : c.go_back.new.self.source ≡ r.source =
+    c.go_back.ensures.source ∙ rw (moves.text, text, c.position-place.ensures.place) refl in
+    let errors =
+    c.go_back.ensures.errors ∙ ap (λ n. take n c.read_here_and_collect-read.new.reader.errors) c.len-reported.ensures
+    ∙ cut_back r.errors moves.more c.read_here_and_collect-read.new.reader.errors moves.errors in
+    rw (← c.self.view_is) (record {
+      text = ap (λ (a : At). a.text) source;
+      source_type = c.go_back.ensures.source_type ∙ moves.source_type;
+      collects = refl;
+      place = ap (λ (a : At). a.place) source;
+      last = refl;
+      tokens = c.in-Err.ensures.same;
+      findings = rw errors refl;
+      pure_comments = refl;
+      no_side_effects_comments = refl;
+    })
+
+pub returns-in-Err-clause-kept : goal.returns-in-Err-clause-kept
+returns-in-Err-clause-kept g c =
+    let r = c.self.inside.reader in
+    let p = rw (← c.self.view_is) at c.requires in
+    let text = (p.skips r c.self.inside.found).skips.text in
+    let kept =
+    subst (λ (t : List ℕ). KeepsValues t c.self.inside.decoded c.read_here_and_collect-read.new.decoded) text
+    c.in-Err.ensures.kept in
+    rw (← c.self.view_is) (kept.kept c.self.invariant.are_values)

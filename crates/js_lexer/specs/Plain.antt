@@ -1,0 +1,61 @@
+-- Readings that need the source alone.
+use Rattle.std.specs.Prelude.{◌≡◌, ◌<◌, ℕ, zero, suc, Bool, false, List, None}
+use Rattle.js_text.specs.declared.source_type.SourceType.{SourceType}
+use Rattle.js_grammar.specs.Gap.{whole_gap_piece}
+use Rattle.js_kind.specs.TokenParts.{TokenParts}
+use Rattle.js_kind.specs.declared.kind.Kind.{Kind}
+use Rattle.js_source.specs.Source.{At, IsPlaced}
+use Rattle.js_trivia.specs.Trivia.{Trivia, handle_newline}
+use Rattle.js_lexer.specs.Reader.{SkipsWholeGap, ReadsLexeme, ReadsTokenHere}
+use Rattle.js_lexer.specs.declared.found.GapFindings.{GapFindings}
+use Rattle.js_lexer.specs.declared.lexeme.Lexeme.{Lexeme}
+use Rattle.js_lexer.specs.declared.reader.Reader.{Reader}
+
+-- a reader at another place, where a line has ended or not
+abbrev pub moved : Reader → At → Bool → Reader
+moved r source line_has_ended = record r { source = source; line_has_ended = line_has_ended }
+
+-- the builder, told of so many line ends
+abbrev pub after_ends : ℕ → Trivia → Trivia
+after_ends zero s = s
+after_ends (suc n) s = handle_newline (after_ends n s)
+
+-- what was found, with so many line ends
+abbrev pub ends_told : ℕ → GapFindings → GapFindings
+ends_told n found = record found { trivia = after_ends n found.trivia }
+
+-- A whole gap was passed in which there is nothing to tell of but line ends, whatever reader stands there.
+pub record PassesPlainGap (old : At) (line_had_ended : Bool) (new : At) (line_has_ended : Bool) : Type 0 where
+  pub from : IsPlaced old
+  pub placed : IsPlaced new
+  pub ends : ℕ
+  pub skips : (r : Reader) (before : GapFindings)
+      → SkipsWholeGap (moved r old line_had_ended) before (moved r new line_has_ended) (ends_told ends before)
+
+-- no piece of a whole gap stands here, whatever source it is
+abbrev pub EndsGap : Bool → List ℕ → Type 0
+EndsGap line_has_ended here = (t : SourceType) → whole_gap_piece t line_has_ended here ≡ None
+
+-- and an ASCII character does
+pub record EndsGapInAscii (b : ℕ) (line_has_ended : Bool) (here : List ℕ) : Type 0 where
+  pub ascii : b < 128
+  pub ends : EndsGap line_has_ended here
+
+-- what was read of the kind, without a flag
+abbrev pub plain_lexeme : Kind → Bool → Lexeme
+plain_lexeme kind line_has_ended =
+    record { kind = kind; is_on_new_line = line_has_ended; escaped = false; has_separator = false }
+
+-- What stands behind a gap was read, good and without a flag, whatever reader stands there.
+abbrev pub SpellsPlainly : Bool → At → At → Kind → Type 0
+SpellsPlainly line_has_ended old new kind =
+    (r : Reader)
+    → ReadsLexeme (moved r old line_has_ended) (plain_lexeme kind line_has_ended) (moved r new line_has_ended)
+
+-- A token behind such a gap was read, whatever reader stands there.
+pub record ReadsPlainToken (old : At) (line_had_ended : Bool) (token : TokenParts) (new : At) : Type 0 where
+  pub mid : At
+  pub line_has_ended : Bool
+  pub gap : PassesPlainGap old line_had_ended mid line_has_ended
+  pub here : (r : Reader) → ReadsTokenHere (moved r mid line_has_ended) token (moved r new line_has_ended)
+  pub escaped : token.escaped ≡ false
