@@ -1,10 +1,9 @@
 -- A lexer is driven on by the goals that are chosen, and less is left of its text.
 use Rattle.std.proofs.Common.{◌≡◌, ℕ, ◌+◌, ◌-◌, ◌*◌, ◌<◌, ◌≤◌, Bool, true, false, cond, List, [], ◌∷◌, ◌++◌, length}
-use Rattle.std.proofs.Common.{refl, sym, ◌∙◌, ap, subst, arith, Option, Some, None}
+use Rattle.std.proofs.Common.{refl, sym, ◌∙◌, ap, subst, arith, Option, Some, None, Result, Ok, Err}
 use Rattle.std.proofs.lemmas.Bool.{eqb-true}
-use Rattle.std.proofs.lemmas.Str.{IsCharBoundary-le}
 use Rattle.std.specs.List.{last_or}
-use Rattle.std.specs.Prelude.{◌==◌}
+use Rattle.std.specs.Prelude.{◌==◌, OnOk}
 use Rattle.std.specs.Str.{IsUtf8, IsCharBoundary}
 use Rattle.js_text.specs.Lists.{with_last}
 use Rattle.js_kind.specs.Kinds.{is_one_of, number}
@@ -21,8 +20,9 @@ use Rattle.js_grammar.specs.declared.goal.Goal.{Goal}
 use Rattle.js_grammar.specs.declared.goal.Goal.TheVariants.{First, Next as NextGoal, RegularExpression}
 use Rattle.js_grammar.specs.declared.goal.Goal.TheVariants.{TemplateTail as TailGoal}
 use Rattle.js_lexer.specs.Goals.{expression_kinds}
-use Rattle.js_lexer.specs.Lexer.{LexerState, IsOnPlaces, ReadsAgain, ReadsToken, token_or_default}
+use Rattle.js_lexer.specs.Lexer.{IsBehind, LexerState, IsOnPlaces, ReadsAgain, ReadsToken, token_or_default}
 use Rattle.js_lexer.proofs.AgainSteps.{kinds_begin}
+use Rattle.js_session.specs.declared.command.Command.{Command}
 use Rattle.js_session.specs.declared.command.Command.TheVariants.{Next, Regex, TemplateTail}
 use Rattle.js_session.proofs.AgainLemmas.{expression_again}
 use Rattle.js_session.proofs.LiveLemmas.{last_or-push, last_or-with_last}
@@ -41,8 +41,10 @@ left_is l token is =
 
 -- a lexer behind a token that was read
 abbrev pub drives_behind : (old new : LexerState) (goal : Goal) (token : TokenParts) (tokens : List TokenParts)
-    (c : Chooser) → ReadsToken goal old token new → c ≡ chooser_of (tokens ++ token ∷ []) → Drives new c
-drives_behind old new goal token tokens c r told = record {
+    (c : Chooser) → IsUtf8 old.text → ReadsToken goal old token new → c ≡ chooser_of (tokens ++ token ∷ [])
+    → Drives new c
+drives_behind old new goal token tokens c u r told = record {
+  utf8 = subst IsUtf8 (sym r.after.text) u;
   tokens = tokens ++ token ∷ [];
   told = told;
   last = token;
@@ -56,22 +58,22 @@ drives_behind old new goal token tokens c r told = record {
       (r.reads.some_text (λ is. other (ap (λ t. t.kind) r.token_is ∙ is)));
 }
 
-pub drives_next : (old new : LexerState) (c d : Chooser) (token : TokenParts) → IsUtf8 old.text
+pub drives_next : (old new : LexerState) (c d : Chooser) (token : TokenParts)
     → (to : DrivesTo Next old c) → ReadsToken NextGoal old token new
     → d ≡ chooser_of (to.drives.tokens ++ token ∷ []) → DrivesOn old new d
-drives_next old new c d token u to r told = by_choice (chosen_by to.drives.tokens Next to.chosen)
+drives_next old new c d token to r told = by_choice (chosen_by to.drives.tokens Next to.chosen)
   where
     by_choice : Chosen to.drives.tokens Next → DrivesOn old new d
     by_choice (reads is other) =
         let b : IsCharBoundary old.text old.place =
         subst (IsCharBoundary old.text) (sym to.drives.place) to.drives.lies.end in
         let on : old.place ≤ r.outcome.token.start =
-        reads_onward old.text old.source_type NextGoal old.last old.place r.outcome refl u b r.reads.reads in
+        reads_onward old.text old.source_type NextGoal old.last old.place r.outcome refl to.drives.utf8 b r.reads.reads in
         let start : r.outcome.token.start ≡ token.start = ap (λ t. t.start) (sym r.token_is) in
         let longer = to.drives.some_text (not_end to.drives.last.kind (other to.drives.last to.drives.is_last)) in
         let few = one_at_most (is_re_lexed token.kind) in
-        let drives = drives_behind old new NextGoal token to.drives.tokens d r told in
-        let within : token.start ≤ length new.text = IsCharBoundary-le new.text token.start drives.lies.start in
+        let drives = drives_behind old new NextGoal token to.drives.tokens d to.drives.utf8 r told in
+        let within : token.start ≤ length new.text = drives.lies.start.0 in
         let was = left_is old to.drives.last to.drives.lexer_last in
         let is_left = left_is new token drives.lexer_last in
         let text : length new.text ≡ length old.text = ap length r.after.text in
@@ -87,6 +89,7 @@ abbrev pub drives_again : (old new : LexerState) (c d : Chooser) (goal : Goal) (
     → (drives : Drives old c) → ReadsAgain goal old token new → d ≡ chooser_of (with_last drives.tokens token)
     → Drives new d
 drives_again old new c d goal token drives r told = record {
+  utf8 = subst IsUtf8 (sym r.after.text) drives.utf8;
   tokens = with_last drives.tokens token;
   told = told;
   last = token;
@@ -162,3 +165,47 @@ drives_part old new c d token to r told = by_choice (chosen_by to.drives.tokens 
               (ap (λ t. t.start) r.token_is ∙ ap (λ x. x.token.start) read.outcome_is) before
               (ap (λ t. is_re_lexed t.kind) r.token_is ∙ part_not_again old.text old.source_type to.drives.last old.place r.outcome read);
         }
+
+-- No other command is chosen.
+pub no_other : (c : Command) (l : LexerState) (chooser : Chooser) → DrivesTo c l chooser → ¬ (c ≡ Next) → ¬ (c ≡ Regex)
+    → ¬ (c ≡ TemplateTail) → ⊥
+no_other c l chooser to no_next no_regex no_tail = by_choice (chosen_by to.drives.tokens c to.chosen)
+  where
+    by_choice : Chosen to.drives.tokens c → ⊥
+    by_choice (reads is _) = no_next is
+    by_choice (reads_expression is _ _ _) = no_regex is
+    by_choice (reads_part is _ _ _) = no_tail is
+
+-- The last token, where a regular expression is chosen, begins one.
+pub begins_expression : (l : LexerState) (chooser : Chooser) → DrivesTo Regex l chooser
+    → is_one_of expression_kinds (token_or_default l.last).kind ≡ true
+begins_expression l chooser to = by_choice (chosen_by to.drives.tokens Regex to.chosen)
+  where
+    by_choice : Chosen to.drives.tokens Regex → is_one_of expression_kinds (token_or_default l.last).kind ≡ true
+    by_choice (reads is _) = absurd (cc)
+    by_choice (reads_expression is last at fit) =
+        let same : last ≡ to.drives.last = let both : Some last ≡ Some to.drives.last = sym at ∙ to.drives.is_last in cc in
+        ap (λ o. is_one_of expression_kinds (token_or_default o).kind) to.drives.lexer_last
+        ∙ (ap (λ t. is_one_of expression_kinds t.kind) (sym same) ∙ fit)
+    by_choice (reads_part is _ _ _) = absurd (cc)
+
+-- The last token, where a part of a template is chosen, is a `}`, and the lexer is behind it.
+pub behind_brace : (l : LexerState) (chooser : Chooser) → DrivesTo TemplateTail l chooser → IsBehind RCurly l
+behind_brace l chooser to = by_choice (chosen_by to.drives.tokens TemplateTail to.chosen)
+  where
+    by_choice : Chosen to.drives.tokens TemplateTail → IsBehind RCurly l
+    by_choice (reads is _) = absurd (cc)
+    by_choice (reads_expression is _ _ _) = absurd (cc)
+    by_choice (reads_part is last at fit) =
+        let same : last ≡ to.drives.last = let both : Some last ≡ Some to.drives.last = sym at ∙ to.drives.is_last in cc in
+        record {
+          token = to.drives.last;
+          last = to.drives.lexer_last;
+          kind_is = ap (λ t. t.kind) (sym same) ∙ number_injective last.kind RCurly (eqb-true _ _ fit);
+          place = to.drives.place;
+        }
+
+-- What follows where a call does not fail.
+pub on_ok : {T E : Type 0} {P Q : Type 0} (r : Result T E) → OnOk r P → (P → Q) → OnOk r Q
+on_ok (Ok x) p f = f p
+on_ok (Err e) p f = p

@@ -1,6 +1,7 @@
 -- A lexer that is driven by the goals that are chosen.
 use Rattle.std.specs.Prelude.{◌≡◌, ◌≢◌, ℕ, ◌+◌, ◌-◌, ◌*◌, ◌<◌, List, length, cond, Option, Some, None}
 use Rattle.std.specs.List.{last_or}
+use Rattle.std.specs.Str.{IsUtf8}
 use Rattle.js_kind.specs.TokenParts.{TokenParts}
 use Rattle.js_kind.specs.declared.kind.Kind.TheVariants.{Eof}
 use Rattle.js_grammar.specs.ReLexed.{is_re_lexed}
@@ -12,6 +13,7 @@ use Rattle.js_auto.specs.Choice.{Chooser, choice, chooser_of}
 pub record Drives (l : LexerState) (c : Chooser) : Type 0 where
   pub tokens : List TokenParts
   pub told : c ≡ chooser_of tokens
+  pub utf8 : IsUtf8 l.text
   pub last : TokenParts
   pub is_last : last_or None tokens ≡ Some last
   pub lexer_last : l.last ≡ Some last

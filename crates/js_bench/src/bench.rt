@@ -7,9 +7,7 @@ ghost use Rattle.js_bench.specs.Words.{bench_line_of};
 
 use crate::pass::{PassCounts, count_pass};
 use crate::words::{BenchLine, read_bench_words};
-use js_lex_tool::status::{
-    DONE, MEMORY, NOT_UTF8, READ_FAILED, TOO_LONG, USAGE, WRITE_FAILED,
-};
+use js_lex_tool::status::{DONE, MEMORY, NOT_UTF8, READ_FAILED, TOO_LONG, USAGE, WRITE_FAILED};
 use js_lex_tool::write_all::{WriteFault, write_all};
 use js_lex_tool::{ByteIn, ByteOut, MOST_BYTES, ReadFault, read_to_end};
 use std::alloc::{AllocError, Global};

@@ -1,6 +1,7 @@
 //! One pass over a source: its tokens are read by the goals that are chosen, and no rows are made of them.
 
 ghost use Rattle.std.specs.Prelude.{◌≡◌, ◌<◌, ◌^◌, length, None, OnOk, IfOk};
+ghost use Rattle.std.specs.Str.{IsUtf8};
 ghost use Rattle.js_bench.specs.Drive.{DrivesOn, DrivesTo};
 
 use js_auto::GoalChooser;
@@ -90,7 +91,8 @@ fn pass_with<C: LexerConfig + Drop>(
     alloc: Global,
     mut lexer: Lexer<'_, C>,
 ) -> Result<PassCounts, AllocError>
-    requires { lexer.last ≡ None }
+    requires unread { lexer.last ≡ None }
+    requires utf8 { IsUtf8 lexer.text }
 {
     let mut chooser = GoalChooser::new(alloc);
     let first = lexer.first_token()?;
@@ -114,7 +116,8 @@ fn lexer_over<'a, C: LexerConfig + Drop>(
     config: C,
 ) -> Result<Lexer<'a, C>, AllocError>
     requires { length text.now < 2 ^ 32 }
-    ensures { IfOk result (λ lexer. lexer.last ≡ None) }
+    ensures unread { IfOk result (λ lexer. lexer.last ≡ None) }
+    ensures utf8 { IfOk result (λ lexer. IsUtf8 lexer.text) }
 {
     match Lexer::new(alloc, text, source_type, config) {
         Ok(lexer) => Ok(lexer),
@@ -132,8 +135,14 @@ pub fn count_pass(
     requires { length text.now < 2 ^ 32 }
 {
     if tokens {
-        pass_with(alloc, lexer_over(alloc, text, source_type, TokensLexerConfig)?)
+        pass_with(
+            alloc,
+            lexer_over(alloc, text, source_type, TokensLexerConfig)?,
+        )
     } else {
-        pass_with(alloc, lexer_over(alloc, text, source_type, NoTokensLexerConfig)?)
+        pass_with(
+            alloc,
+            lexer_over(alloc, text, source_type, NoTokensLexerConfig)?,
+        )
     }
 }

@@ -24,9 +24,9 @@ checked-decimal : (most : ℕ) (text : List ℕ) (n : ℕ) → text ≡ decimal 
 checked-decimal most text n e low high = rw ((bytes_eq-Decides text (decimal n)).1 e) (grind (arith, nat_tests))
 
 -- A number in decimal is read.
-pub count_in-decimal : (most : ℕ) (text : List ℕ) (n : ℕ) → text ≡ decimal n → 0 < n → n ≤ most
+pub count_in-decimal : (most : ℕ) (text : List ℕ) (n : ℕ) → most < 2 ^ 64 → text ≡ decimal n → 0 < n → n ≤ most
     → count_in most text ≡ Some n
-count_in-decimal most text n e low high =
+count_in-decimal most text n bounded e low high =
     let value : digits_value 10 text ≡ n = rw e (digits_value-decimal numerals n (omega arith)) in
     rw value (checked-decimal most text n e low high)
 
@@ -72,10 +72,11 @@ decimal_from_parse {E} text (Ok m) n is parses first =
     rw same (sym digits)
 
 -- What is parsed, begins above `0` and is not too many, is read.
-pub count_in-parsed : {E : Type 0} (most : ℕ) (text : List ℕ) (r : Result ℕ E) (n : ℕ) → result_ok r ≡ Some n
-    → ParsesUnsigned 64 10 text r → 48 < get_or text 0 0 → n ≤ most → count_in most text ≡ Some n
-count_in-parsed most text r zero is parses first few =
+pub count_in-parsed : {E : Type 0} (most : ℕ) (text : List ℕ) (r : Result ℕ E) (n : ℕ) → most < 2 ^ 64
+    → result_ok r ≡ Some n → ParsesUnsigned 64 10 text r → 48 < get_or text 0 0 → n ≤ most
+    → count_in most text ≡ Some n
+count_in-parsed most text r zero bounded is parses first few =
     let zero_text : text ≡ _ = decimal_from_parse text r 0 is parses first ∙ decimal_digit 0 (omega arith) in
     absurd (omega (arith, ap (λ ds. get_or ds 0 0) zero_text))
-count_in-parsed most text r (suc n) is parses first few =
-    count_in-decimal most text (suc n) (decimal_from_parse text r (suc n) is parses first) (omega arith) few
+count_in-parsed most text r (suc n) bounded is parses first few =
+    count_in-decimal most text (suc n) bounded (decimal_from_parse text r (suc n) is parses first) (omega arith) few

@@ -75,11 +75,7 @@ pub fn parse_count(digits: &str, most: usize) -> Option<usize>
         return None;
     }
     let count = digits.parse::<usize>().ok()?;
-    if count <= most {
-        Some(count)
-    } else {
-        None
-    }
+    if count <= most { Some(count) } else { None }
 }
 
 /// A command word: its command, and how often it is meant.

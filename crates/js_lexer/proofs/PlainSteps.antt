@@ -1,5 +1,6 @@
 -- The steps of readings that need the source alone.
-use Rattle.std.proofs.Common.{◌≡◌, ◌<◌, ◌≤◌, ◌&&◌, ◌||◌, ◌==◌, not, ℕ, zero, suc, Bool, true, false, List, [], ◌∷◌, refl, sym, ◌∙◌, ap, subst}
+use Rattle.std.proofs.Common.{◌≡◌, ◌<◌, ◌≤◌, ◌&&◌, ◌||◌, ◌==◌, not, ℕ, zero, suc, Bool, true, false, List, [], ◌∷◌}
+use Rattle.std.proofs.Common.{refl, sym, ◌∙◌, ap, subst}
 use Rattle.std.proofs.Common.{arith, Option, Some, None}
 use Rattle.std.specs.Prelude.{codes, is_none, IfSome, MatchBool, nat_le}
 use Rattle.std.proofs.lemmas.Bool.{ne_eqb, eqb-true, leb-true, leb-false}
@@ -68,8 +69,8 @@ gap_goes_on table tells start now mid next had has s here text k g same run = re
   ends = suc s.ends;
   leads = λ r before later found skips.
       s.leads r before later found
-      ((line_feed_skipped (moved r now has) (ends_told s.ends before) mid (ends_told (suc s.ends) before) s.placed k text
-      here refl refl).leads later found
+      ((line_feed_skipped (moved r now has) (ends_told s.ends before) mid (ends_told (suc s.ends) before) s.placed k
+      text here refl refl).leads later found
       (blanks_lead table tells (moved r mid true) next (ends_told (suc s.ends) before) k g same run later found skips));
 }
 
@@ -300,7 +301,8 @@ token_moves_on old token new r = record {
 }
 
 -- and that of a plain spelling is one of a token
-pub plain_token : (old mid new : At) (had has : Bool) (kind : Kind) (token : TokenParts) → PassesPlainGap old had mid has
+pub plain_token : (old mid new : At) (had has : Bool) (kind : Kind) (token : TokenParts)
+    → PassesPlainGap old had mid has
     → SpellsPlainly has mid new kind → IsPlaced new → token ≡ lexeme_token mid.place new.place (plain_lexeme kind has)
     → ReadsPlainToken old had token new
 plain_token old mid new had has kind token gap spells g is = record {

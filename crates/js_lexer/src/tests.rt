@@ -36,7 +36,10 @@ pub(crate) fn push_token(text: &mut String, token: &Token) -> Result<(), AllocEr
     write!(text, "{name} {start}..{end}{newline}{escaped}{separator};")
 }
 
-fn push_diagnostic(text: &mut String, diagnostic: &Diagnostic) -> Result<(), AllocError> {
+pub(crate) fn push_diagnostic(
+    text: &mut String,
+    diagnostic: &Diagnostic,
+) -> Result<(), AllocError> {
     let name = diagnostic.name();
     match diagnostic.span() {
         Some(span) => {

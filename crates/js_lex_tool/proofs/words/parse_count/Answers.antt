@@ -15,10 +15,10 @@ returns-in_err-count c =
     c.from_residual-in_err-count.ensures
     ∙ sym (count_in-err c.args.most c.args.digits.now c.parse.result (omega arith) none c.parse.ensures.value.0)
 
-pub returns-then-count-le-most : goal.returns-then-count-le-most
-returns-then-count-le-most c =
+pub returns-then-count-most : goal.returns-then-count-most
+returns-then-count-most c =
     let some : result_ok c.parse.result ≡ Some c.in_ok-count.count = sym c.ok.ensures.value ∙ c.in_ok-count.was in
     let first = c.in_ok-first.ensures.item.3.1 0 in
     let at : c.in_ok-first.first.now ≡ get_or c.args.digits.now 0 0 = rw c.as_bytes.ensures.value at first in
-    sym (count_in-parsed c.args.most c.args.digits.now c.parse.result c.in_ok-count.count some c.parse.ensures.value.0
-    (omega arith) c.if-count-le-most.true)
+    sym (count_in-parsed c.args.most c.args.digits.now c.parse.result c.in_ok-count.count (omega arith) some c.parse.ensures.value.0
+    (omega arith) c.if-count-most.true)

@@ -21,6 +21,11 @@ returns g c =
     let hyphen =
     ap (λ n. begins (λ d. d == hyphen_minus) (from_place c.args.lexer.now.text n)) (sym c.requires)
     ∙ c.in_ok-token.ensures.0 in
-    let read = c.in_ok-token.ensures.1 in
-    (rw (name, hyphen) refl, record { reads = read; regex = (name_again c.args.lexer.now.text c.args.lexer.now.source_type c.args.lexer.now.last
-    c.args.lexer.now.place read.outcome read.reads.reads).0 })
+    let read = c.in_ok-token.ensures.1 in (
+      rw (name, hyphen) refl,
+      record {
+        reads = read;
+        regex = (name_again c.args.lexer.now.text c.args.lexer.now.source_type c.args.lexer.now.last
+            c.args.lexer.now.place read.outcome read.reads.reads).0;
+      },
+    )

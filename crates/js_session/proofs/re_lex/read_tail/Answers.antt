@@ -10,6 +10,11 @@ returns-clause-ok g c =
     eq-eqb _ _
     (ap (λ t. number t.kind) (sym c.last_token.ensures.token) ∙ ap number (sym c.kind.ensures) ∙ sym c.number.ensures
     ∙ c.if-number.false ∙ c.number-2.ensures) in
-    let read = c.in_ok-token.ensures.ok in
-    (fit, record { reads = read; regex = (part_again c.args.lexer.now.text c.args.lexer.now.source_type c.args.lexer.now.last c.args.lexer.now.place
-    read.outcome read.reads.reads).0 })
+    let read = c.in_ok-token.ensures.ok in (
+      fit,
+      record {
+        reads = read;
+        regex = (part_again c.args.lexer.now.text c.args.lexer.now.source_type c.args.lexer.now.last c.args.lexer.now.place
+            read.outcome read.reads.reads).0;
+      },
+    )

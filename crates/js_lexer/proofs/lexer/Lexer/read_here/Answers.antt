@@ -7,7 +7,8 @@ use Rattle.js_trivia.specs.Attachment.{Attachment}
 use Rattle.js_lexer.specs.Decoded.{KeepsValues, HasValue}
 use Rattle.js_lexer.specs.Lexer.{without_ranges}
 use Rattle.js_lexer.specs.Plain.{ends_told, moved}
-use Rattle.js_lexer.proofs.LexerSteps.{state_of, reader_is, between_is, first_token, sound_after, sound_back, reads_token}
+use Rattle.js_lexer.proofs.LexerSteps.{state_of, reader_is, between_is, first_token, sound_after, sound_back}
+use Rattle.js_lexer.proofs.LexerSteps.{reads_token}
 use Rattle.js_lexer.proofs.LexerSteps.{cut_back}
 use Rattle.js_lexer.proofs.PlainSteps.{behind_plain_gap, ends_forgotten}
 use Rattle.js_lexer.proofs.lexer.Lexer.read_here.Goals as goal
@@ -30,8 +31,8 @@ invariant_of-self g c =
     let kept =
     subst (λ (t : List ℕ). KeepsValues t c.self.inside.decoded c.read_here_and_collect-read.new.decoded) text
     c.in-Ok.ensures.kept in
-    sound_after Next (state_of r c.self.inside.found last c.self.inside.decoded) (moved r r.source (is_none last)) before
-    c.in-Ok.token c.read_here_and_collect-read.new.reader (ends_told p.ends before) c.tell_alone.new.trivia
+    sound_after Next (state_of r c.self.inside.found last c.self.inside.decoded) (moved r r.source (is_none last))
+    before c.in-Ok.token c.read_here_and_collect-read.new.reader (ends_told p.ends before) c.tell_alone.new.trivia
     c.read_here_and_collect-read.new.decoded c.in-Ok.ensures.placed.utf8 (kept.are_values c.self.invariant.are_values)
     (reader_is r c.self.inside.found last c.self.inside.decoded (is_none last) cleared c.self.invariant refl)
     (behind_plain_gap last r r.source (is_none last) c.args.source c.args.line_has_ended before c.in-Ok.token
@@ -85,7 +86,8 @@ returns-in-Ok-clause-ok g c =
             source_type = refl;
             errors = refl;
             deferred = refl;
-            between = between_is r.source last c.self.inside.found.trivia cleared c.self.inside.decoded c.self.invariant refl;
+            between =
+                between_is r.source last c.self.inside.found.trivia cleared c.self.inside.decoded c.self.invariant refl;
           }
           (behind_plain_gap last r r.source (is_none last) c.args.source c.args.line_has_ended before c.in-Ok.token
           c.read_here_and_collect-read.new.reader (first_token last) p c.in-Ok.ensures.ok)

@@ -21,8 +21,8 @@ invariant_of-self-2 g c =
     let new = moved r c.args.source p.line_has_ended in
     let none : c.self.inside.found.trivia.attachment.pending ≡ [] =
     ap (λ (a : Attachment). a.pending) c.self.invariant.attachment in
-    sound_after Next (state_of r c.self.inside.found last c.self.inside.decoded) (moved r r.source (is_none last)) before
-    c.args.token new (ends_told p.gap.ends before) c.tell_alone.new.trivia c.self.inside.decoded
+    sound_after Next (state_of r c.self.inside.found last c.self.inside.decoded) (moved r r.source (is_none last))
+    before c.args.token new (ends_told p.gap.ends before) c.tell_alone.new.trivia c.self.inside.decoded
     (p.here r).placed.utf8 c.self.invariant.are_values
     (reader_is r c.self.inside.found last c.self.inside.decoded (is_none last) cleared c.self.invariant refl)
     (behind_plain_gap last r r.source (is_none last) p.mid p.line_has_ended before c.args.token new (first_token last)
@@ -50,10 +50,12 @@ returns-clause-ok g c =
             source_type = refl;
             errors = refl;
             deferred = refl;
-            between = between_is r.source last c.self.inside.found.trivia cleared c.self.inside.decoded c.self.invariant refl;
+            between =
+                between_is r.source last c.self.inside.found.trivia cleared c.self.inside.decoded c.self.invariant refl;
           }
-          (behind_plain_gap last r r.source (is_none last) p.mid p.line_has_ended before c.args.token new (first_token last)
-          p.gap (p.here r))
+          (behind_plain_gap last r r.source (is_none last) p.mid p.line_has_ended before c.args.token new
+          (first_token last) p.gap (p.here r))
           (c.tell_alone.ensures ∙ ends_forgotten p.gap.ends cleared c.args.token none)
-          (same.kept c.self.invariant.are_values) (no_value r.source.text c.self.inside.decoded c.args.token p.escaped) refl,
+          (same.kept c.self.invariant.are_values)
+          (no_value r.source.text c.self.inside.decoded c.args.token p.escaped) refl,
     )

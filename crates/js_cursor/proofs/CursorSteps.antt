@@ -1,0 +1,128 @@
+-- The steps of a cursor.
+use Rattle.std.proofs.Common.{◌≡◌, ◌≢◌, ◌<◌, ◌≤◌, ◌==◌, ℕ, ◌-◌, ◌^◌, Bool, true, false, not, List, [], ◌∷◌, ◌++◌}
+use Rattle.std.proofs.Common.{length, take, drop}
+use Rattle.std.proofs.Common.{Option, Some, None, refl, sym, ◌∙◌, ap, subst, arith, append-nil, length-append}
+use Rattle.std.specs.Prelude.{◌&&◌, ◌||◌, ◌↔◌, if◌then◌else◌, is_none, nat_le, IsTrue}
+use Rattle.std.specs.List.{list_all}
+use Rattle.std.specs.Option.{is_some}
+use Rattle.std.proofs.lemmas.Bool.{and_parts, eq-eqb, eqb-true}
+use Rattle.std.proofs.lemmas.Bool.Decides.{nat_tests, same_from_decides}
+use Rattle.std.proofs.Math.Seq.{take-append_seam}
+use Rattle.js_kind.proofs.KindNumbers.{number_injective}
+use Rattle.js_kind.proofs.Members.{one_passes}
+use Rattle.js_kind.specs.Kinds.{number, is_name_kind, is_one_of}
+use Rattle.js_kind.specs.TokenParts.{TokenParts}
+use Rattle.js_kind.specs.declared.kind.Kind.{Kind}
+use Rattle.js_kind.specs.declared.kind.Kind.TheVariants.{Eof}
+use Rattle.js_grammar.specs.declared.goal.Goal.{Goal}
+use Rattle.js_lexer.specs.Decoded as of_values
+use Rattle.js_lexer.specs.Lexer as of_state
+use Rattle.js_lexer.specs.Lexer.{IsBehind}
+use Rattle.js_lexer.proofs.GoesOn as of_lexer
+use Rattle.js_cursor.specs.Checkpoint.{CanRewind, CursorCheckpoint, GoesOnFrom}
+use Rattle.js_cursor.specs.Cursor.{Advances, CursorState, HasByte, IsAsBefore, IsFresh, IsOnToken, is_at_token_end}
+use Rattle.js_cursor.specs.Cursor.{noting_escape, span_of, with_error}
+use Rattle.js_cursor.specs.ReLex.{is_angle, is_free}
+use Rattle.js_cursor.specs.declared.diagnostic.CursorDiagnostic.{CursorDiagnostic}
+use Rattle.js_cursor.specs.declared.diagnostic.CursorDiagnostic.TheVariants.{EscapedKeyword}
+
+-- a test for one kind compares numbers
+pub is_kind : (a b : Kind) (r : Bool) → IsTrue r ↔ (a ≡ b) → r ≡ (number a == number b)
+is_kind a b r h =
+    same_from_decides r (number a == number b) h
+    (λ e. number_injective a b (eqb-true _ _ e), λ e. eq-eqb _ _ (ap number e))
+
+noted_more : (b : Bool) (error : CursorDiagnostic) (c : CursorState)
+    → (more : List CursorDiagnostic)
+    × ((if b then with_error error c else c) ≡ record c { errors = c.errors ++ more })
+noted_more true error c = (error ∷ [], refl)
+noted_more false error c = ([], ap (λ es. record c { errors = es }) (sym (append-nil c.errors)))
+
+-- an escape that is noted adds errors alone
+pub noting_adds : (kind : Kind) (c : CursorState)
+    → (more : List CursorDiagnostic) × (noting_escape kind c ≡ record c { errors = c.errors ++ more })
+noting_adds kind c = noted_more (c.token.escaped && is_name_kind kind) (EscapedKeyword (span_of c.token)) c
+
+-- where nothing could be read, an escape that was noted is taken back
+pub back_from : (kind : Kind) (old noted read new : CursorState) (errors : List CursorDiagnostic)
+    → noted ≡ noting_escape kind old → IsAsBefore noted read → errors ≡ take (length old.errors) read.errors
+    → new ≡ record read { errors = errors } → IsAsBefore old new
+back_from kind old noted read new errors noted_is before errors_are new_is =
+    let adds = noting_adds kind old in
+    let noted_all : noted ≡ record old { errors = old.errors ++ adds.0 } = noted_is ∙ adds.1 in
+    let lexer_same : noted.lexer ≡ old.lexer = ap (λ (c : CursorState). c.lexer) noted_all in
+    let new_lexer : new.lexer ≡ read.lexer = ap (λ (c : CursorState). c.lexer) new_is in
+    let read_is : read ≡ record old { lexer = read.lexer; errors = old.errors ++ adds.0 } =
+    before.others ∙ ap (λ (c : CursorState). record c { lexer = read.lexer }) noted_all in
+    let errors_back : errors ≡ old.errors =
+    errors_are ∙ ap (λ (c : CursorState). take (length old.errors) c.errors) read_is
+    ∙ take-append_seam old.errors adds.0 in
+    subst (IsAsBefore old) (sym new_is)
+    (record {
+      lexer = subst (λ l. of_state.IsRestored l read.lexer) lexer_same before.lexer;
+      decoded =
+          subst (λ (l : of_state.LexerState). of_values.Keeps l.decoded read.lexer.decoded) lexer_same before.decoded;
+      others =
+          ap (λ (c : CursorState). record c { errors = errors }) read_is
+          ∙ ap (λ es. record old { lexer = read.lexer; errors = es }) errors_back;
+    })
+
+-- the lexer stands behind a token that may be read again
+pub is_behind : (kind : Kind) (c : CursorState) → c.lexer.last ≡ Some c.token → c.token.kind ≡ kind
+    → is_free c ≡ true → IsBehind kind c.lexer
+is_behind kind c last is free =
+    record { token = c.token; last = last; kind_is = is; place = eqb-true _ _ (and_parts _ _ free).1 }
+
+none_is : {A : Type 0} (o : Option A) → is_some o ≡ false → is_none o ≡ true
+none_is None e = refl
+none_is (Some x) e = absurd (cc)
+
+is_false : (b : Bool) → not b ≡ true → b ≡ false
+is_false true e = absurd (cc)
+is_false false e = refl
+
+-- what a re-lex of a compound answers
+pub angle_taken : (angle : Kind) (compounds : List Kind) (c : CursorState) (taken : Bool)
+    → list_all (λ kind. not (number kind == number angle)) compounds ≡ true → is_some c.fatal ≡ false
+    → is_one_of compounds c.token.kind ≡ true → taken ≡ is_at_token_end c → taken ≡ is_angle angle compounds c
+angle_taken angle compounds c taken others no_fatal is e =
+    let none = none_is c.fatal no_fatal in
+    let other = is_false (number c.token.kind == number angle)
+    (one_passes (λ kind. not (number kind == number angle)) compounds c.token.kind others is) in
+    rw (none, other, is) e
+
+-- a token that has a byte was passed
+pub goes_past_byte : (kind : Kind) (old new : CursorState) → Advances kind old new → HasByte old.token
+    → (number old.token.kind == number kind) ≡ true → kind ≢ Eof → 1 ≤ new.previous_end
+goes_past_byte kind old new r has_byte at some =
+    let end : new.previous_end ≡ old.token.end =
+    ap (λ (c : CursorState). c.previous_end) r.others
+    ∙ ap (λ (c : CursorState). c.token.end) (noting_adds kind old).1 in
+    let is : old.token.kind ≡ kind = number_injective old.token.kind kind (eqb-true _ _ at) in
+    let bytes : old.token.start < old.token.end = has_byte (λ e. some (sym is ∙ e)) in
+    omega (arith, end, bytes)
+
+-- a cursor that has gone on may go back to where it could go before
+pub can_rewind-on : (old new : CursorState) (to : CursorCheckpoint) → CanRewind old to → GoesOnFrom old new
+    → CanRewind new to
+can_rewind-on old new to h g = record {
+  lexer = of_lexer.can_rewind-on old.lexer new.lexer to.lexer h.lexer g.lexer;
+  errors = omega (arith, h.errors, ap length g.errors, length-append old.errors g.more);
+}
+
+-- A round that leads on leaves less to read: there is a fatal error, or the current token starts later.
+pub leads_on : {A : Type 0} (before after : Option A) (m n : ℕ) → m < 2 ^ 32 → is_some before ≡ false
+    → (is_none after && nat_le n m) ≡ false
+    → (if is_some after then 0 else 2 ^ 32 - n) < (if is_some before then 0 else 2 ^ 32 - m)
+leads_on (Some x) after m n short is e = absurd (cc)
+leads_on None (Some y) m n short is e = omega arith
+leads_on None None m n short is e = let later : m < n = grind (arith, nat_tests) in omega arith
+
+-- the lexer of a new cursor stands on its token
+pub on_first : (goal : Goal) (old new : of_state.LexerState) (token : TokenParts) (rest : List ℕ)
+    → rest ≡ drop old.place old.text → IsFresh old → of_state.ReadsToken goal old token new → IsOnToken rest new token
+on_first goal old new token rest rest_is fresh r = record {
+  text_is = r.after.text ∙ sym (rest_is ∙ ap (λ n. drop n old.text) fresh.place);
+  last = r.after.last ∙ ap Some (sym r.token_is);
+  some_text = subst HasByte (sym r.token_is) r.reads.some_text;
+}

@@ -1,0 +1,6 @@
+pub mod Checkpoint
+pub mod Cursor
+pub mod Expect
+pub mod ListSteps
+pub mod Lists
+pub mod ReLex

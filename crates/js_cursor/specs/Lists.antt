@@ -1,0 +1,174 @@
+-- Lists that a cursor reads.
+use Rattle.std.specs.Prelude.{◌≡◌, ℕ, ◌-◌, ◌&&◌, ◌||◌, Bool, true, false, List, [], ◌∷◌, Option, Some, None, ⊤}
+use Rattle.std.specs.Prelude.{is_none, nat_le}
+use Rattle.std.specs.List.{FoldsTo}
+use Rattle.std.specs.Option.{is_some}
+use Rattle.js_text.specs.declared.span.Span.{Span}
+use Rattle.js_kind.specs.Kinds.{is_one_of}
+use Rattle.js_kind.specs.declared.kind.Kind.{Kind}
+use Rattle.js_kind.specs.declared.kind.Kind.TheVariants.{Eof, Undetermined}
+use Rattle.js_cursor.specs.Cursor.{CursorState, Advances, is_at, span_of, with_fatal_error}
+use Rattle.js_cursor.specs.Expect.{expecting, expecting_closing}
+use Rattle.js_cursor.specs.declared.diagnostic.CursorDiagnostic.TheVariants.{ExpectClosingOrSeparator}
+use Rattle.js_cursor.specs.declared.fault.CursorFault.{CursorFault}
+use Rattle.js_cursor.specs.declared.fault.CursorFault.TheVariants.{Stuck, Memory}
+
+-- What a call of an element means: the element and the cursor before it, what it read, and both after it.
+abbrev pub Reading : Type 0 → Type 0 → Type 1
+Reading F T = F → CursorState → T → F → CursorState → Type 0
+
+-- The rounds read these items, one after another, each from where the one before it left the element and the cursor.
+abbrev pub Rounds : {F T : Type 0} → Reading F T → F → CursorState → List T → F → CursorState → Type 0
+Rounds {F} R f c xs g d =
+    FoldsTo {P = F × CursorState} (λ before x after. R before.0 before.1 x after.0 after.1) (f, c) xs (g, d)
+
+-- a list ends where it is closed, and under a fatal error
+abbrev pub ends_at : Kind → CursorState → Bool
+ends_at close c = is_at close c || is_some c.fatal
+
+-- A round that began at the place does not lead on: no fatal error stands after it, and the token starts no later.
+abbrev pub is_stuck_at : ℕ → CursorState → Bool
+is_stuck_at start after = is_none after.fatal && nat_le after.token.start start
+
+abbrev pub is_stuck : CursorState → CursorState → Bool
+is_stuck before after = is_stuck_at before.token.start after
+
+-- A round of a normal list, where the list does not end: an element.
+pub record IsRound {F T : Type 0} (R : Reading F T) (close : Kind) (f : F) (c : CursorState) (x : T) (g : F)
+    (d : CursorState) : Type 0 where
+  pub is_open : ends_at close c ≡ false
+  pub read : R f c x g d
+
+-- Behind an element stands a separator, the list does not end, and neither does it behind the separator, where the
+-- cursor is then.
+pub record IsSeparated (close separator : Kind) (c between : CursorState) : Type 0 where
+  pub is_open : ends_at close c ≡ false
+  pub separator_is : is_at separator c ≡ true
+  pub advances : Advances separator c between
+  pub more : is_one_of (close ∷ Eof ∷ Undetermined ∷ []) between.token.kind ≡ false
+
+-- A round of a list with separators: a separator, and an element behind it.
+pub record IsSeparatedRound {F T : Type 0} (R : Reading F T) (close separator : Kind) (f : F) (c : CursorState) (x : T)
+    (g : F) (d : CursorState) : Type 0 where
+  pub between : CursorState
+  pub separated : IsSeparated close separator c between
+  pub read : R f between x g d
+
+-- the same rounds, those that do not lead on left out
+abbrev pub LeadingOn : {F T : Type 0} → Reading F T → Reading F T
+LeadingOn Q f c x g d = Q f c x g d × (is_stuck c d ≡ false)
+
+-- After rounds that led on came one that did not, and the cursor stands as that left it, at this place.
+pub record GetsStuck {F T : Type 0} (Q : Reading F T) (f : F) (c : CursorState) (at : ℕ) (new : CursorState)
+    : Type 0 where
+  pub xs : List T
+  pub before : F
+  pub from : CursorState
+  pub rounds : Rounds (LeadingOn Q) f c xs before from
+  pub x : T
+  pub after : F
+  pub round : Q before from x after new
+  pub stuck : is_stuck from new ≡ true
+  pub at_is : at ≡ new.token.start
+
+-- why a list was not read, where no memory was wanting
+abbrev pub OnStuck : CursorFault → (ℕ → Type 0) → Type 0
+OnStuck (Stuck at) P = P at
+OnStuck Memory P = ⊤
+
+-- A normal list was read: its opening, elements up to its end, and its closing.
+pub record ReadsNormalList {F T : Type 0} (R : Reading F T) (opening close : Kind) (f : F) (old : CursorState)
+    (xs : List T) (new : CursorState) : Type 0 where
+  pub opened : CursorState
+  pub opens : Advances opening (expecting opening old) opened
+  pub last : F
+  pub end : CursorState
+  pub rounds : Rounds (LeadingOn (IsRound R close)) f opened xs last end
+  pub ends : ends_at close end ≡ true
+  pub closes : Advances close (expecting_closing close (span_of old.token) end) new
+
+-- A normal list was opened, and got stuck.
+pub record StopsNormalList {F T : Type 0} (R : Reading F T) (opening close : Kind) (f : F) (old : CursorState) (at : ℕ)
+    (new : CursorState) : Type 0 where
+  pub opened : CursorState
+  pub opens : Advances opening (expecting opening old) opened
+  pub stuck : GetsStuck (IsRound R close) f opened at new
+
+-- the elements that are there, of those that may be none
+abbrev pub Present : {F T : Type 0} → Reading F (Option T) → Reading F T
+Present R f c x g d = R f c (Some x) g d
+
+-- A list that an element may break off ends where it ends, or behind an element that is none.
+pub data EndsBreakable {F T : Type 0} (R : Reading F (Option T)) (close : Kind) (f : F) (c : CursorState) (g : F)
+    (end : CursorState) : Type 0 where
+  closed : ends_at close c ≡ true → g ≡ f → end ≡ c → EndsBreakable R close f c g end
+  broken : ends_at close c ≡ false → R f c None g end → EndsBreakable R close f c g end
+
+-- Elements were read up to there.
+pub record ReadsWhileSome {F T : Type 0} (R : Reading F (Option T)) (close : Kind) (f : F) (c : CursorState)
+    (xs : List T) (g : F) (end : CursorState) : Type 0 where
+  pub last : F
+  pub from : CursorState
+  pub rounds : Rounds (LeadingOn (IsRound (Present R) close)) f c xs last from
+  pub ends : EndsBreakable R close last from g end
+
+-- Such a list was read: its opening, elements up to where it ends, and its closing.
+pub record ReadsBreakableList {F T : Type 0} (R : Reading F (Option T)) (opening close : Kind) (f : F)
+    (old : CursorState) (xs : List T) (new : CursorState) : Type 0 where
+  pub opened : CursorState
+  pub opens : Advances opening (expecting opening old) opened
+  pub last : F
+  pub end : CursorState
+  pub elements : ReadsWhileSome R close f opened xs last end
+  pub closes : Advances close (expecting_closing close (span_of old.token) end) new
+
+-- A list that is neither closed nor goes on stops the cursor.
+abbrev pub neither_closed_nor_separated : Kind → Kind → Span → CursorState → CursorState
+neither_closed_nor_separated close separator opening c =
+    with_fatal_error (ExpectClosingOrSeparator close separator c.token.kind (span_of c.token) opening) c
+
+-- Where a list with separators ends behind an element, and what it tells of a separator at its end.
+pub data EndsDelimited (close separator : Kind) (opening : Span) (c : CursorState) (trailing : Option ℕ)
+    (new : CursorState) : Type 0 where
+  closed : ends_at close c ≡ true → trailing ≡ None → new ≡ c
+      → EndsDelimited close separator opening c trailing new
+  neither : ends_at close c ≡ false → is_at separator c ≡ false → trailing ≡ None
+      → new ≡ neither_closed_nor_separated close separator opening c
+      → EndsDelimited close separator opening c trailing new
+  trails : ends_at close c ≡ false → is_at separator c ≡ true → Advances separator c new
+      → is_at close new ≡ true → trailing ≡ Some (new.previous_end - 1)
+      → EndsDelimited close separator opening c trailing new
+  cut_off : ends_at close c ≡ false → is_at separator c ≡ true → Advances separator c new
+      → is_at close new ≡ false → is_one_of (Eof ∷ Undetermined ∷ []) new.token.kind ≡ true → trailing ≡ None
+      → EndsDelimited close separator opening c trailing new
+
+-- Elements with separators between them were read, at least one.
+pub record ReadsSeparated {F T : Type 0} (R : Reading F T) (close separator : Kind) (f : F) (old : CursorState)
+    (xs : List T) (last : F) (end : CursorState) : Type 0 where
+  pub is_open : ends_at close old ≡ false
+  pub x : T
+  pub then_f : F
+  pub behind : CursorState
+  pub first : R f old x then_f behind
+  pub more : List T
+  pub rounds : Rounds (LeadingOn (IsSeparatedRound R close separator)) then_f behind more last end
+  pub xs_are : xs ≡ x ∷ more
+
+-- A list with separators was read: it ends at once, or behind its elements.
+pub data ReadsDelimitedList {F T : Type 0} (R : Reading F T) (close separator : Kind) (opening : Span) (f : F)
+    (old : CursorState) (xs : List T) (trailing : Option ℕ) (new : CursorState) : Type 0 where
+  empty : ends_at close old ≡ true → xs ≡ [] → trailing ≡ None → new ≡ old
+      → ReadsDelimitedList R close separator opening f old xs trailing new
+  elements : (last : F) (end : CursorState) → ReadsSeparated R close separator f old xs last end
+      → EndsDelimited close separator opening end trailing new
+      → ReadsDelimitedList R close separator opening f old xs trailing new
+
+-- A list with separators got stuck, behind its first element.
+pub record StopsDelimitedList {F T : Type 0} (R : Reading F T) (close separator : Kind) (f : F) (old : CursorState)
+    (at : ℕ) (new : CursorState) : Type 0 where
+  pub is_open : ends_at close old ≡ false
+  pub x : T
+  pub then_f : F
+  pub behind : CursorState
+  pub first : R f old x then_f behind
+  pub stuck : GetsStuck (IsSeparatedRound R close separator) then_f behind at new
