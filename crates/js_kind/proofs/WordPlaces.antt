@@ -1,7 +1,9 @@
 -- The table of words.
-use Rattle.std.proofs.Common.{◌≡◌, ◌⊎◌, ◌≤◌, ◌<◌, ◌&&◌, ◌==◌, ℕ, zero, suc, Bool, true, false, List, [], ◌∷◌, length, refl}
+use Rattle.std.proofs.Common.{◌≡◌, ◌⊎◌, ◌+◌, ◌≤◌, ◌<◌, ◌&&◌, ◌==◌, ℕ, zero, suc, Bool, true, false, List, [], ◌∷◌}
+use Rattle.std.proofs.Common.{length, refl}
 use Rattle.std.proofs.Common.{sym, ◌∙◌, ap, subst, arith, inl, inr, if◌then◌else◌}
-use Rattle.std.specs.Prelude.{nat_le, slice_index_or}
+use Rattle.std.specs.Prelude.{nat_le, slice_index, slice_index_or}
+use Rattle.std.proofs.lemmas.Grind.{same_number_lists}
 use Rattle.std.proofs.lemmas.Bool.{eqb-true, eq-eqb, and_parts, leb-true}
 use Rattle.std.proofs.lemmas.Slice.Eq.{bytes_eq-Decides}
 use Rattle.std.specs.List.{list_all}
@@ -9,7 +11,8 @@ use Rattle.std.specs.Str.{bytes_eq}
 use Rattle.js_kind.specs.declared.kind.Kind.{Kind}
 use Rattle.js_kind.specs.declared.kind.Kind.TheVariants.{Ident, Eof}
 use Rattle.js_kind.specs.Kinds.{number, keywords, kind_text, is_name_kind}
-use Rattle.js_kind.specs.Keywords.{name_kind, kind_in, word_place, is_placed, is_found, PlacesWords, IsOnlyWord, IsKindOfName}
+use Rattle.js_kind.specs.Keywords.{name_kind, kind_in, word_place, is_placed, is_found, PlacesWords, IsOnlyWord}
+use Rattle.js_kind.specs.Keywords.{IsKindOfName}
 use Rattle.js_kind.proofs.KindNumbers.{number_injective}
 use Rattle.js_kind.proofs.Members.{one_passes}
 use Rattle.js_kind.proofs.NameKinds.{name_kind-is_kind_of_name}
@@ -104,3 +107,8 @@ lengths_differ xs ys m n e f differ = by_test (bytes_eq xs ys) refl
         let equal : m ≡ n = e ∙ ap length ((bytes_eq-Decides xs ys).0 same) ∙ sym f in
         absurd (let both : true ≡ false = sym (eq-eqb m n equal) ∙ differ in cc)
     by_test false same = refl
+
+-- texts that are compared byte by byte
+pub same_to_the_end : (xs ys : List ℕ) → length xs ≡ length ys
+    → ((k : ℕ) → k < length xs → slice_index xs k ≡ slice_index ys k) → bytes_eq xs ys ≡ true
+same_to_the_end xs ys count all = (bytes_eq-Decides xs ys).1 (same_number_lists xs ys count all)

@@ -1,5 +1,5 @@
-//! The keyword table: each word stands at a place that two of its first characters, its last one and its length tell, so
-//! that a name is compared with one word.
+//! The keyword table: each word stands at a place that its first two characters, its last one and its length tell, so a
+//! name is compared with one word.
 
 ghost use Rattle.std.specs.Prelude.{◌≡◌, ◌≤◌, ◌<◌, length};
 ghost use Rattle.js_kind.specs.Keywords.{word_place, PlacesWords, IsOnlyWord};

@@ -5,14 +5,14 @@ use Rattle.std.specs.Prelude.{map, MatchBool, IfNone, IfSome}
 use Rattle.std.specs.Char.{IsScalar, OutOfScalarRange, InScalarRange, is_ascii_alphanumeric}
 use Rattle.std.specs.Char.Utf16.{is_high_surrogate, is_low_surrogate}
 use Rattle.std.specs.Option.{option_map_or}
-use Rattle.std.proofs.lemmas.Bool.{eqb-true}
+use Rattle.std.proofs.lemmas.Bool.{eqb-true, eq-eqb}
 use Rattle.std.proofs.lemmas.Bool.Decides.{nat_tests}
 use Rattle.js_text.specs.Ascii.{backslash}
 use Rattle.js_text.specs.Characters.{begins, from_place, from_first, before_first, is_identifier_start}
 use Rattle.js_text.specs.Characters.{is_identifier_part}
 use Rattle.js_text.proofs.CharacterLemmas.{part_in_ascii}
 use Rattle.js_text.proofs.TextLemmas.{before_from}
-use Rattle.js_source.specs.Source.{At, rest, Reads, BeginsWith, StepsPast}
+use Rattle.js_source.specs.Source.{At, rest, Reads, BeginsWith, HasFirstByte, StepsPast}
 use Rattle.js_source.specs.Runs.{PassesRun}
 use Rattle.js_source.proofs.Places.{begins_with}
 use Rattle.js_source.proofs.RunSteps.{from_first-run}
@@ -126,6 +126,12 @@ plain_passed old mid new name none past text left =
       stops = ap (begins is_identifier_part) left_is ∙ parts_end cs;
       escape = λ no. absurd (cc);
     }
+
+-- the mark of an escape is next
+pub mark_first : (b : ℕ) (cs : List ℕ) → b < 128 → HasFirstByte b cs → b ≡ backslash
+    → begins (λ c. c == backslash) cs ≡ true
+mark_first b [] small first is = absurd first
+mark_first b (c ∷ cs) small first is = eq-eqb c backslash (first.0 small ∙ is)
 
 -- another character than an escape's mark was read
 pub other_first : (b : ℕ) (old new : At) → Reads old new b → (b ≡ backslash → ⊥)

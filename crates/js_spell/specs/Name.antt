@@ -1,14 +1,14 @@
 -- The steps of reading a name.
 use Rattle.std.specs.Prelude.{◌≡◌, ℕ, ◌<◌, Bool, true, false, List, [], ◌∷◌, ◌++◌, ◌==◌, map, length, Option, Some}
-use Rattle.std.specs.Prelude.{None, option_to_list}
+use Rattle.std.specs.Prelude.{None, option_to_list, drop, ◌⊎◌}
 use Rattle.std.specs.List.{list_any}
 use Rattle.std.specs.Str.{chars, encode_utf8_all, IsUtf8}
 use Rattle.js_text.specs.Ascii.{backslash}
-use Rattle.js_text.specs.Characters.{begins, is_identifier_start, is_identifier_part}
+use Rattle.js_text.specs.Characters.{begins, from_first, is_identifier_start, is_identifier_part}
 use Rattle.js_text.specs.JsStr.{units_of}
 use Rattle.js_text.specs.declared.diagnostic.Diagnostic.{Diagnostic}
 use Rattle.js_grammar.specs.Name.{NameItem, NameFault, CutsInto, items_text, items_value, items_report, item_report}
-use Rattle.js_grammar.specs.Name.{plain_item, escape_item, item_of_escape, latin_small_letter_u, name_read}
+use Rattle.js_grammar.specs.Name.{is_no_part, plain_item, escape_item, item_of_escape, latin_small_letter_u, name_read}
 use Rattle.js_grammar.specs.Name.{private_read, name_item, no_private_name, unnamed}
 use Rattle.js_grammar.specs.Name.NameFault.{bad_escape, not_allowed}
 use Rattle.js_grammar.specs.UnicodeEscape.{unicode_escape}
@@ -153,6 +153,12 @@ abbrev pub SpellsPlainName : At → At → Kind → Type 0
 SpellsPlainName old new kind =
     (errors : List Diagnostic) (token : TokenParts) → SpellsName old new errors errors token
     (record token { escaped = false; has_separator = false }) (record { kind = kind; value = Plain })
+
+-- An escape begins the name, or stands behind its first characters.
+abbrev pub MeetsEscape : List ℕ → Type 0
+MeetsEscape text =
+    (begins (λ c. c == backslash) text ≡ true)
+    ⊎ (begins (λ c. c == backslash) (from_first is_no_part (drop 1 text)) ≡ true)
 
 -- It was reported that no name follows a `#`; the token is of this kind.
 pub record ReportsNoName (old : At) (before after : List Diagnostic) (kind : Kind) : Type 0 where

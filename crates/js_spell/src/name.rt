@@ -1,7 +1,7 @@
 //! Reading a name or a private name, good or at fault (ECMA-262 12.7).
 
 ghost use Rattle.std.specs.Prelude.{◌≡◌, ◌≤◌, ◌<◌, ◌==◌, ◌++◌, ◌∷◌, [], length, Bool, true, IfOk, IfSome, IfNone, OnOk};
-ghost use Rattle.std.specs.Prelude.{OnErr, MatchBool, string_bytes};
+ghost use Rattle.std.specs.Prelude.{OnErr, MatchBool, string_bytes, drop};
 ghost use Rattle.std.specs.Char.Utf16.{is_low_surrogate};
 ghost use Rattle.std.specs.Str.{chars, IsCharBoundary};
 ghost use Rattle.js_text.specs.Ascii.{backslash};
@@ -12,7 +12,7 @@ ghost use Rattle.js_kind.specs.Keywords.{name_kind};
 ghost use Rattle.js_source.specs.Source.{rest, IsPlaced, BeginsWith, HasFirstByte};
 ghost use Rattle.js_spell.specs.Name.{class_of, PassesPlain, DecodesEscape, DecodesUnicode, ReadsEscape, ReadsItems};
 ghost use Rattle.js_spell.specs.Name.{PassesParts, ReadsToEnd, SpellsDecoded, SpellsName, ReportsNoName};
-ghost use Rattle.js_spell.specs.Name.{SpellsPlainName, SpellsPrivateName};
+ghost use Rattle.js_spell.specs.Name.{SpellsPlainName, MeetsEscape, SpellsPrivateName};
 ghost use Rattle.js_spell.specs.Numeric.{BreaksOff};
 ghost use Rattle.js_spell.specs.declared.name.Position.TheVariants.{Later};
 ghost use Rattle.js_spell.specs.declared.spelt.SpeltValue.TheVariants.{Decoded};
@@ -422,6 +422,7 @@ fn pass_plain_from(source: &mut Source<'_>, b: u8)
     requires begun { begins_name (rest source.old) ≡ true }
     requires plain { b ≡ backslash → ⊥ }
     ensures passes { PassesPlain source.old Later source.new }
+    ensures rest { rest source.new ≡ from_first is_no_part (drop 1 (rest source.old)) }
     ensures onward { source.old.place ≤ source.new.place }
     ensures placed { IsPlaced source.new }
 {
@@ -430,7 +431,7 @@ fn pass_plain_from(source: &mut Source<'_>, b: u8)
 }
 
 /// Reads the name that is next and begins with the ASCII character `b`, where no escape stands in it (ECMA-262 12.7).
-/// Where one does, the source stands somewhere in the same text.
+/// None: one does, and the source stands somewhere in the same text.
 #[inline(always)]
 pub fn read_plain_name(source: &mut Source<'_>, b: u8) -> Option<Kind>
     requires placed { IsPlaced source.old }
@@ -438,6 +439,8 @@ pub fn read_plain_name(source: &mut Source<'_>, b: u8) -> Option<Kind>
     requires next { HasFirstByte b (rest source.old) }
     requires begun { begins_name (rest source.old) ≡ true }
     ensures some { IfSome result (SpellsPlainName source.old source.new) }
+    ensures none { IfNone result (MeetsEscape (rest source.old)) }
+    ensures text { source.new.text ≡ source.old.text }
     ensures placed { IsPlaced source.new }
 {
     if b == b'\\' {

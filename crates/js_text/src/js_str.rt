@@ -94,6 +94,18 @@ impl JSStrBuilder {
         ensures ok { OnOk result (self.new ≡ self.old ++ encode_utf16 c) }
         ensures err { OnErr result (self.new ≡ self.old) }
     {
+        let code_point = c as u32;
+        if code_point < 0x10000 {
+            return self.push_unit(code_point as u16);
+        }
+        self.push_pair(c)
+    }
+
+    /// Adds the units of a character that may have two.
+    fn push_pair(&mut self, c: char) -> Result<(), AllocError>
+        ensures ok { OnOk result (self.new ≡ self.old ++ encode_utf16 c) }
+        ensures err { OnErr result (self.new ≡ self.old) }
+    {
         let mut room = [0; 2];
         self.units.extend_from_slice(c.encode_utf16(&mut room))
     }

@@ -1,5 +1,6 @@
 -- Comments that no mark and no word begins.
-use Rattle.std.proofs.Common.{◌≡◌, ◌<◌, ◌&&◌, ◌==◌, ℕ, Bool, true, false, List, ◌∷◌, length, arith, refl, sym, ◌∙◌, if◌then◌else◌}
+use Rattle.std.proofs.Common.{◌≡◌, ◌<◌, ◌&&◌, ◌==◌, ℕ, Bool, true, false, List, ◌∷◌, length, arith, refl, sym, ◌∙◌}
+use Rattle.std.proofs.Common.{if◌then◌else◌}
 use Rattle.std.proofs.lemmas.Bool.{eqb-true, eq-eqb, ne_eqb}
 use Rattle.js_text.specs.declared.comment.CommentContent.{CommentContent}
 use Rattle.js_text.specs.declared.comment.CommentContent.TheVariants as variant
