@@ -1,15 +1,21 @@
 -- What a chooser keeps of the tokens that it was told.
 use Rattle.std.proofs.Common.{◌≡◌, List, [], ◌∷◌, ◌++◌, refl, sym, ◌∙◌, ap, subst}
-use Rattle.std.proofs.Common.{Some, None, true, false}
+use Rattle.std.proofs.Common.{Some, None, true, false, ◌==◌, Option}
 use Rattle.std.specs.Prelude.{IsSome, is_some, option_map}
 use Rattle.std.specs.List.{last_or}
+use Rattle.std.proofs.lemmas.Bool.{or_parts}
 use Rattle.js_text.specs.Lists.{with_last}
+use Rattle.js_kind.specs.Kinds.{is_one_of, number}
+use Rattle.js_kind.specs.Predicates.{is_eof}
 use Rattle.js_kind.specs.TokenParts.{TokenParts}
 use Rattle.js_kind.specs.declared.kind.Kind.{Kind}
+use Rattle.js_kind.specs.declared.kind.Kind.TheVariants.{Eof, RCurly}
+use Rattle.js_lexer.specs.Goals.{expression_kinds}
+use Rattle.js_session.specs.declared.command.Command.TheVariants.{Next}
 use Rattle.js_session.proofs.LiveLemmas.{last_or-push, last_or-with_last}
 use Rattle.js_auto.specs.declared.brace.Brace.{Brace}
 use Rattle.js_auto.specs.Braces.{effect_of, after_effect, braces, braces_from, open_behind}
-use Rattle.js_auto.specs.Choice.{Chooser, but_last, chooser_of, last_kind}
+use Rattle.js_auto.specs.Choice.{Chooser, but_last, choice_behind, chooser_of, last_kind}
 
 braces-push : (stack : List Brace) (tokens : List TokenParts) (t : TokenParts)
     → braces_from stack (tokens ++ t ∷ []) ≡ after_effect (effect_of t.kind) (braces_from stack tokens)
@@ -93,3 +99,13 @@ pub told_again : (tokens : List TokenParts) (t : TokenParts) (old : Chooser) (ki
 told_again tokens t old kind told some is =
     ap (with_kind kind) told ∙ ap (λ k. with_kind k (chooser_of tokens)) is
     ∙ sym (chooser-with_last tokens t (subst (λ c. IsSome c.last) told some))
+
+-- Behind a token that is read no other way, the next one is read.
+pub reads_on : (stack : List Brace) (before : Option Kind) (last : Kind)
+    → is_one_of (Eof ∷ RCurly ∷ expression_kinds) last ≡ false
+    → choice_behind stack before (Some last) ≡ Some Next
+unfolding is_eof
+reads_on stack before last none =
+    let eof = or_parts (number last == number Eof) (is_one_of (RCurly ∷ expression_kinds) last) none in
+    let curly = or_parts (number last == number RCurly) (is_one_of expression_kinds last) eof.1 in
+    rw (eof.0, curly.0, curly.1) refl

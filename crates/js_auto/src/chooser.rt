@@ -1,15 +1,16 @@
 //! The choice of goals, token by token.
 
-ghost use Rattle.std.specs.Prelude.{◌≡◌, ◌==◌, List, [], ◌∷◌, ◌++◌, drop, OnOk, OnErr, Some, IfSome, true};
+ghost use Rattle.std.specs.Prelude.{◌≡◌, ◌==◌, List, [], ◌∷◌, ◌++◌, drop, MatchBool, OnOk, OnErr, Some};
+ghost use Rattle.std.specs.Prelude.{IfSome, true};
 ghost use Rattle.js_text.specs.Lists.{with_last};
 ghost use Rattle.js_kind.specs.Kinds.{is_one_of, number};
 ghost use Rattle.js_kind.specs.TokenParts.{TokenParts};
 ghost use Rattle.js_auto.specs.Braces.{effect_of, after_effect, open_behind, without_plain, is_in_substitution};
 ghost use Rattle.js_lexer.specs.Goals.{expression_kinds};
 ghost use Rattle.js_auto.specs.Choice.{begins_expression, choice, chooser_of, ends_only_jsx, ends_operand};
-ghost use Rattle.js_auto.specs.Choice.{ends_substitution};
+ghost use Rattle.js_auto.specs.Choice.{choice_behind, ends_substitution};
 
-use crate::brace::{Brace, BraceEffect, effect_of};
+use crate::brace::{Brace, BraceEffect, effect_of, may_change_braces};
 use js_kind::{Kind, Token};
 use js_session::Command;
 use js_text::ItemList;
@@ -80,6 +81,14 @@ fn begins_expression(before: Option<Kind>, kind: Kind) -> bool
     is_slash(kind) && !ends_operand(before)
 }
 
+/// Whether behind a token of the kind another command than `Command::Next` may come. Behind most none does.
+#[inline(always)]
+fn may_be_read_again(kind: Kind) -> bool
+    ensures { result ≡ is_one_of (Kind.Eof ∷ Kind.RCurly ∷ expression_kinds) kind }
+{
+    matches!(kind, Kind::Eof | Kind::RCurly | Kind::Slash | Kind::SlashEq)
+}
+
 impl GoalChooser {
     /// A chooser that was told no token yet. It takes no memory yet.
     pub fn new(alloc: Global) -> GoalChooser
@@ -140,7 +149,19 @@ impl GoalChooser {
         Ok(())
     }
 
+    /// Whether the last token may change the braces that are open.
+    #[inline(always)]
+    fn last_may_change_braces(&self) -> bool
+        ensures { MatchBool result (Unit {0}) (open_behind self.now.last self.now.stack ≡ self.now.stack) }
+    {
+        match self.last {
+            Some(kind) => may_change_braces(kind),
+            _ => false,
+        }
+    }
+
     /// Takes up what the last token does to the braces, if there is one.
+    #[inline(never)]
     fn pass_last(&mut self) -> Result<(), AllocError>
         ensures ok { OnOk result (self.new ≡ record self.old { stack = open_behind self.old.last self.old.stack }) }
         ensures err { OnErr result (self.new ≡ self.old) }
@@ -151,14 +172,27 @@ impl GoalChooser {
         }
     }
 
+    /// Opens or closes a brace, where the last token does.
+    #[inline(always)]
+    fn pass_brace(&mut self) -> Result<(), AllocError>
+        ensures ok { OnOk result (self.new ≡ record self.old { stack = open_behind self.old.last self.old.stack }) }
+        ensures err { OnErr result (self.new ≡ self.old) }
+    {
+        if self.last_may_change_braces() {
+            return self.pass_last();
+        }
+        Ok(())
+    }
+
     /// Takes notice of a token that was read behind the last one. Where there is no memory for an open brace, the
     /// chooser stays as it was.
+    #[inline(always)]
     pub fn read(&mut self, token: &Token) -> Result<(), AllocError>
         ensures ok { (tokens : List TokenParts) → self.old ≡ chooser_of tokens
             → OnOk result (self.new ≡ chooser_of (tokens ++ token.now ∷ [])) }
         ensures err { OnErr result (self.new ≡ self.old) }
     {
-        self.pass_last()?;
+        self.pass_brace()?;
         self.before = self.last;
         self.last = Some(token.kind());
         Ok(())
@@ -181,8 +215,25 @@ impl GoalChooser {
         is_right_curly(kind) && self.is_in_substitution()
     }
 
+    /// The command behind the last token, which is of this kind.
+    #[inline(never)]
+    fn command_behind(&self, last: Kind) -> Option<Command>
+        ensures { result ≡ choice_behind self.now.stack self.now.before (Some last) }
+    {
+        if last.is_eof() {
+            None
+        } else if self.ends_substitution(last) {
+            Some(Command::TemplateTail)
+        } else if begins_expression(self.before, last) {
+            Some(Command::Regex)
+        } else {
+            Some(Command::Next)
+        }
+    }
+
     /// The command that comes next: `Command::Regex` or `Command::TemplateTail` where the last token is to be read
     /// again, else `Command::Next`. None behind the end of the source.
+    #[inline(always)]
     pub fn command(&self) -> Option<Command>
         ensures choice { (tokens : List TokenParts) → self.now ≡ chooser_of tokens → result ≡ choice tokens }
         // A token that is to be read again is of a kind that can be.
@@ -193,14 +244,9 @@ impl GoalChooser {
         let Some(last) = self.last else {
             return Some(Command::Next);
         };
-        if last.is_eof() {
-            None
-        } else if self.ends_substitution(last) {
-            Some(Command::TemplateTail)
-        } else if begins_expression(self.before, last) {
-            Some(Command::Regex)
-        } else {
-            Some(Command::Next)
+        if may_be_read_again(last) {
+            return self.command_behind(last);
         }
+        Some(Command::Next)
     }
 }

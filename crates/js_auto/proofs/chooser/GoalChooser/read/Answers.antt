@@ -8,4 +8,4 @@ returns-clause-ok c =
     let now = c.self.inside in
     λ tokens told. told_on tokens c.args.token.now c.args.self.now
     (record { stack = reverse now.stack; before = now.before; last = now.last }) c.kind.result told
-    (c.self.view_is ∙ c.in_ok-pass_last.ensures.ok) c.kind.ensures
+    (c.self.view_is ∙ c.in_ok-pass_brace.ensures.ok) c.kind.ensures
