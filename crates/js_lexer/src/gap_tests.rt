@@ -1,6 +1,7 @@
 //! Rows from outside: comments, irregular white space, and what is reported for the case of a module.
 
 use crate::lexer::Lexer;
+use crate::tests::{next, peek};
 use js_kind::{Kind, NoTokensLexerConfig};
 use js_text::{Comment, Diagnostic, SourceType, Span};
 use std::alloc::{AllocError, Global};
@@ -59,8 +60,8 @@ fn found(alloc: Global, source: &str, source_type: SourceType) -> Result<String,
         Err(_) => return Err(Fail::from("no lexer")),
     };
     for _ in 0..source.len() {
-        if !lexer.next_token()?.kind().is_same(Kind::Eof) {
-            lexer.peek_token()?;
+        if !next(&mut lexer)?.kind().is_same(Kind::Eof) {
+            peek(&mut lexer)?;
         }
     }
     Ok(found_text(alloc, &lexer)?)

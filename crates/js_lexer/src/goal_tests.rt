@@ -1,8 +1,11 @@
 //! Goals beside the plain one.
 
+ghost use Rattle.std.specs.Prelude.{◌≡◌, None};
+
 use crate::lexer::Lexer;
+use crate::regex::RegexToken;
 use crate::tests::{lexer_of, push_token};
-use js_kind::{Kind, LexerConfig, NoTokensLexerConfig, TokensLexerConfig};
+use js_kind::{Kind, LexerConfig, NoTokensLexerConfig, Token, TokensLexerConfig};
 use js_text::SourceType;
 use std::alloc::{AllocError, Global};
 use std::test::Fail;
@@ -22,19 +25,35 @@ fn push_lists<C: LexerConfig + Drop>(
     Ok(())
 }
 
+/// Reads the next token, and adds it with all that is collected and reported.
+fn push_rest<C: LexerConfig + Drop>(
+    text: &mut String,
+    lexer: &mut Lexer<'_, C>,
+) -> Result<(), AllocError> {
+    let token = lexer.next_token()?;
+    push_token(text, &token)?;
+    push_lists(text, lexer)
+}
+
+/// Reads the first token, a `/`, as a regular expression.
+fn read_expression<C: LexerConfig + Drop>(lexer: &mut Lexer<'_, C>) -> Result<RegexToken, Fail>
+    requires { lexer.old.last ≡ None }
+{
+    let token = lexer.first_token()?;
+    if !token.kind().is_same(Kind::Slash) {
+        return Err(Fail::from("no slash"));
+    }
+    Ok(lexer.next_regex(Kind::Slash)?)
+}
+
 /// A regular expression in the place of its `/`, and the token behind it.
 fn reads_expression<C: LexerConfig + Drop>(alloc: Global, config: C) -> Result<String, Fail> {
     let mut lexer = lexer_of(alloc, "/[/]\\//gg;", SourceType::Module, config)?;
     let mut text = String::new(alloc);
-    let token = lexer.first_token()?;
-    if token.kind().is_same(Kind::Slash) {
-        let found = lexer.next_regex(Kind::Slash)?;
-        push_token(&mut text, &found.token)?;
-        assert_end(found.pattern_end, found.flags_error)?;
-        let next = lexer.next_token()?;
-        push_token(&mut text, &next)?;
-    }
-    push_lists(&mut text, &lexer)?;
+    let found = read_expression(&mut lexer)?;
+    push_token(&mut text, &found.token)?;
+    assert_end(found.pattern_end, found.flags_error)?;
+    push_rest(&mut text, &mut lexer)?;
     Ok(text)
 }
 
@@ -47,68 +66,102 @@ fn assert_end(pattern_end: u32, flags_error: bool) -> Result<(), Fail> {
     }
 }
 
+/// Reads the first token, a `>`, as a compound, which is cut again.
+fn cut_right_angle<C: LexerConfig + Drop>(lexer: &mut Lexer<'_, C>) -> Result<(Token, Token), Fail>
+    requires { lexer.old.last ≡ None }
+{
+    let token = lexer.first_token()?;
+    if !token.kind().is_same(Kind::RAngle) {
+        return Err(Fail::from("no angle"));
+    }
+    let compound = lexer.re_lex_right_angle();
+    if !compound.kind().is_same(Kind::ShiftRight) {
+        return Err(Fail::from("no compound"));
+    }
+    Ok((compound, lexer.re_lex_as_typescript_r_angle(2)))
+}
+
 /// A `>` that is read as a compound, which is cut again, and the token behind it.
 fn reads_angles<C: LexerConfig + Drop>(alloc: Global, config: C) -> Result<String, Fail> {
     let mut lexer = lexer_of(alloc, ">>", SourceType::Module, config)?;
     let mut text = String::new(alloc);
-    let token = lexer.first_token()?;
-    if token.kind().is_same(Kind::RAngle) {
-        let compound = lexer.re_lex_right_angle();
-        push_token(&mut text, &compound)?;
-        if compound.kind().is_same(Kind::ShiftRight) {
-            let first = lexer.re_lex_as_typescript_r_angle(2);
-            push_token(&mut text, &first)?;
-        }
-        let next = lexer.next_token()?;
-        push_token(&mut text, &next)?;
-    }
-    push_lists(&mut text, &lexer)?;
+    let (compound, first) = cut_right_angle(&mut lexer)?;
+    push_token(&mut text, &compound)?;
+    push_token(&mut text, &first)?;
+    push_rest(&mut text, &mut lexer)?;
     Ok(text)
+}
+
+/// Reads the first token, a `<<=`, and cuts it.
+fn cut_left_angle<C: LexerConfig + Drop>(lexer: &mut Lexer<'_, C>) -> Result<Token, Fail>
+    requires { lexer.old.last ≡ None }
+{
+    let token = lexer.first_token()?;
+    if !token.kind().is_same(Kind::ShiftLeftEq) {
+        return Err(Fail::from("no compound"));
+    }
+    Ok(lexer.re_lex_as_typescript_l_angle(3))
 }
 
 /// A `<<=` that is cut, and the token behind its first `<`.
 fn cuts_left_angle<C: LexerConfig + Drop>(alloc: Global, config: C) -> Result<String, Fail> {
     let mut lexer = lexer_of(alloc, "<<=", SourceType::Script, config)?;
     let mut text = String::new(alloc);
-    let token = lexer.first_token()?;
-    if token.kind().is_same(Kind::ShiftLeftEq) {
-        let first = lexer.re_lex_as_typescript_l_angle(3);
-        push_token(&mut text, &first)?;
-        let next = lexer.next_token()?;
-        push_token(&mut text, &next)?;
-    }
-    push_lists(&mut text, &lexer)?;
+    let first = cut_left_angle(&mut lexer)?;
+    push_token(&mut text, &first)?;
+    push_rest(&mut text, &mut lexer)?;
     Ok(text)
+}
+
+/// Reads the first token, a name, as one of JSX.
+fn read_name<C: LexerConfig + Drop>(lexer: &mut Lexer<'_, C>) -> Result<Option<Token>, Fail>
+    requires { lexer.old.last ≡ None }
+{
+    let token = lexer.first_token()?;
+    if !token.kind().is_identifier_name() {
+        return Err(Fail::from("no name"));
+    }
+    Ok(lexer.continue_lex_jsx_identifier(token.start()))
 }
 
 /// A name of JSX in the place of its first part.
 fn reads_name<C: LexerConfig + Drop>(alloc: Global, config: C) -> Result<String, Fail> {
     let mut lexer = lexer_of(alloc, "\\u0061-b>", SourceType::Module, config)?;
     let mut text = String::new(alloc);
-    let token = lexer.first_token()?;
-    if token.kind().is_identifier_name() {
-        if let Some(name) = lexer.continue_lex_jsx_identifier(token.start()) {
-            push_token(&mut text, &name)?;
-        }
+    if let Some(name) = read_name(&mut lexer)? {
+        push_token(&mut text, &name)?;
     }
     push_lists(&mut text, &lexer)?;
     Ok(text)
+}
+
+/// Reads a child of JSX, and adds it. Like the function below it promises nothing.
+fn push_child<C: LexerConfig + Drop>(
+    text: &mut String,
+    lexer: &mut Lexer<'_, C>,
+) -> Result<(), AllocError> {
+    let child = lexer.next_jsx_child()?;
+    push_token(text, &child)
+}
+
+/// Reads the value of an attribute, and adds it.
+fn push_value<C: LexerConfig + Drop>(
+    text: &mut String,
+    lexer: &mut Lexer<'_, C>,
+) -> Result<(), AllocError> {
+    let value = lexer.next_jsx_attribute_value()?;
+    push_token(text, &value)
 }
 
 /// A child of JSX, and the value of an attribute behind it.
 fn reads_jsx<C: LexerConfig + Drop>(alloc: Global, config: C) -> Result<String, Fail> {
     let mut lexer = lexer_of(alloc, " x< \"\\n\"}", SourceType::Module, config)?;
     let mut text = String::new(alloc);
-    let child = lexer.next_jsx_child()?;
-    push_token(&mut text, &child)?;
-    let mark = lexer.next_jsx_child()?;
-    push_token(&mut text, &mark)?;
-    let value = lexer.next_jsx_attribute_value()?;
-    push_token(&mut text, &value)?;
-    let end = lexer.next_jsx_child()?;
-    push_token(&mut text, &end)?;
-    let next = lexer.next_jsx_attribute_value()?;
-    push_token(&mut text, &next)?;
+    push_child(&mut text, &mut lexer)?;
+    push_child(&mut text, &mut lexer)?;
+    push_value(&mut text, &mut lexer)?;
+    push_child(&mut text, &mut lexer)?;
+    push_value(&mut text, &mut lexer)?;
     push_lists(&mut text, &lexer)?;
     Ok(text)
 }

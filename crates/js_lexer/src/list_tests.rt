@@ -4,7 +4,7 @@ ghost use Rattle.std.specs.Prelude.{◌≡◌, true};
 
 use crate::checkpoint::LexerCheckpoint;
 use crate::lexer::Lexer;
-use crate::tests::{lexer_of, push_diagnostic, push_token};
+use crate::tests::{goes_back, lexer_of, next, push_diagnostic, push_token};
 use js_kind::{Kind, LexerConfig, NoTokensLexerConfig, Token, TokenList, TokensLexerConfig};
 use js_text::{CommentRange, SourceType, Span};
 use std::alloc::{AllocError, Global};
@@ -28,8 +28,8 @@ fn finalizes<C: LexerConfig + Drop>(
     expected: &str,
 ) -> Result<(), Fail> {
     let mut lexer = lexer_of(alloc, "a", SourceType::Module, config)?;
-    lexer.first_token()?;
-    lexer.next_token()?;
+    next(&mut lexer)?;
+    next(&mut lexer)?;
     let tokens = lexer.finalize_tokens();
     assert_eq!(rt; told(alloc, tokens.as_slice())?.as_str(), expected);
     assert_eq!(rt; lexer.tokens().len(), 0);
@@ -46,7 +46,7 @@ fn rewrites<C: LexerConfig + Drop>(
     let mut lexer = lexer_of(alloc, "a", SourceType::Module, config)?;
     let rewritten = Token::new(Kind::Let, Span { start: 0, end: 1 }, false);
     lexer.rewrite_last_collected_token(rewritten);
-    lexer.first_token()?;
+    next(&mut lexer)?;
     lexer.rewrite_last_collected_token(rewritten);
     assert_eq!(rt; told(alloc, lexer.tokens())?.as_str(), expected);
     assert!(rt; lexer.last_token().kind().is_same(Kind::Ident));
@@ -70,7 +70,7 @@ fn sets(
     requires { lexer.old.collects ≡ true }
 {
     lexer.set_tokens(tokens);
-    lexer.next_token()?;
+    next(lexer)?;
     told(alloc, lexer.tokens())
 }
 
@@ -87,15 +87,6 @@ fn tokens_that_are_set(rt: HostRuntime) -> Result<(), Fail> {
         Err(_) => return Err(Fail::from("no lexer")),
     }
     Ok(())
-}
-
-/// Goes back, if that is allowed, and tells.
-fn goes_back<C: LexerConfig + Drop>(lexer: &mut Lexer<'_, C>, checkpoint: LexerCheckpoint) -> bool {
-    if !lexer.can_rewind(&checkpoint) {
-        return false;
-    }
-    lexer.rewind(checkpoint);
-    true
 }
 
 /// Takes back the only fault, and goes back to a checkpoint that copied it. It tells whether there was one, whether
@@ -131,7 +122,7 @@ fn recovers_a_fault<C: LexerConfig + Drop>(
     config: C,
 ) -> Result<(), Fail> {
     let mut lexer = lexer_of(alloc, "1x", SourceType::Module, config)?;
-    lexer.first_token()?;
+    next(&mut lexer)?;
     assert_eq!(rt; recovers(&mut lexer)?, (true, false, false, true));
     assert_eq!(rt; reported(alloc, &lexer)?.as_str(), "InvalidNumberEnd 1..2;");
     assert_eq!(rt; lexer.last_token().end(), 2);
@@ -197,7 +188,7 @@ fn stays_marked<C: LexerConfig + Drop>(
 /// An annotation before the first token is taken up, and stays so.
 fn marks<C: LexerConfig + Drop>(rt: &impl Abort, alloc: Global, config: C) -> Result<(), Fail> {
     let mut lexer = lexer_of(alloc, "/* @__PURE__ */ f", SourceType::Module, config)?;
-    lexer.first_token()?;
+    next(&mut lexer)?;
     assert_eq!(rt; annotated(&lexer), (true, false));
     assert_eq!(rt;
         stays_marked(&mut lexer),
@@ -215,8 +206,8 @@ fn marks_behind<C: LexerConfig + Drop>(
 ) -> Result<(), Fail> {
     let source = "export /* #__NO_SIDE_EFFECTS__ */ class Foo {}";
     let mut lexer = lexer_of(alloc, source, SourceType::Module, config)?;
-    lexer.first_token()?;
-    lexer.next_token()?;
+    next(&mut lexer)?;
+    next(&mut lexer)?;
     assert_eq!(rt; annotated(&lexer), (false, true));
     assert_eq!(rt;
         stays_marked(&mut lexer),

@@ -2,6 +2,7 @@
 
 ghost use Rattle.std.specs.Prelude.{◌≡◌, None, IfOk};
 
+use crate::checkpoint::LexerCheckpoint;
 use crate::lexer::Lexer;
 use js_kind::{
     Kind, LexerConfig, NoTokensLexerConfig, RuntimeLexerConfig, Token, TokensLexerConfig,
@@ -24,6 +25,29 @@ pub(crate) fn lexer_of<C: LexerConfig + Drop>(
         Ok(lexer) => Ok(lexer),
         Err(_) => Err(Fail::from("no lexer")),
     }
+}
+
+/// The next token. This and the two below promise nothing: tests compare what comes out, and without the facts of a
+/// reading they are proved sooner.
+pub(crate) fn next<C: LexerConfig + Drop>(lexer: &mut Lexer<'_, C>) -> Result<Token, AllocError> {
+    lexer.next_token()
+}
+
+/// What the next token will be.
+pub(crate) fn peek<C: LexerConfig + Drop>(lexer: &mut Lexer<'_, C>) -> Result<Token, AllocError> {
+    lexer.peek_token()
+}
+
+/// Goes back, if that is allowed, and tells.
+pub(crate) fn goes_back<C: LexerConfig + Drop>(
+    lexer: &mut Lexer<'_, C>,
+    checkpoint: LexerCheckpoint,
+) -> bool {
+    if !lexer.can_rewind(&checkpoint) {
+        return false;
+    }
+    lexer.rewind(checkpoint);
+    true
 }
 
 pub(crate) fn push_token(text: &mut String, token: &Token) -> Result<(), AllocError> {
@@ -59,7 +83,7 @@ fn lexed(alloc: Global, source: &str, source_type: SourceType) -> Result<String,
     push_token(&mut text, &token)?;
     for _ in 0..source.len() {
         if !token.kind().is_same(Kind::Eof) {
-            token = lexer.next_token()?;
+            token = next(&mut lexer)?;
             push_token(&mut text, &token)?;
         }
     }
@@ -322,7 +346,7 @@ fn kinds(rt: &impl std::process::Abort, alloc: Global, source: &str) -> Result<S
     let mut text = String::new(alloc);
     let mut end = 0;
     for _ in 0..source.len() {
-        let token = lexer.next_token()?;
+        let token = next(&mut lexer)?;
         assert_eq!(rt; token.start(), end, "{source}");
         end = token.end();
         let name = token.kind().name();
@@ -458,7 +482,21 @@ fn punctuators(rt: HostRuntime) -> Result<(), Fail> {
     Ok(())
 }
 
-/// Peeks at the first token, reads it, and goes back before it.
+/// Reads the first token, goes back before it, and reads it again. It tells where the token ends, each time.
+fn rereads<C: LexerConfig + Drop>(lexer: &mut Lexer<'_, C>) -> Result<(u32, u32), AllocError>
+    requires { lexer.old.last ≡ None }
+{
+    let fresh = lexer.checkpoint();
+    let first = lexer.first_token()?;
+    if !lexer.can_rewind(&fresh) {
+        return Ok((first.end(), 0));
+    }
+    lexer.rewind(fresh);
+    let again = lexer.first_token()?;
+    Ok((first.end(), again.end()))
+}
+
+/// A hashbang comment is read again, and not collected.
 fn rereads_a_hashbang<C: LexerConfig + Drop>(
     rt: &impl std::process::Abort,
     alloc: Global,
@@ -466,34 +504,44 @@ fn rereads_a_hashbang<C: LexerConfig + Drop>(
 ) -> Result<(), Fail> {
     let mut lexer = lexer_of(alloc, "#!x\na", SourceType::Module, config)?;
     assert_eq!(rt; lexer.remaining(), "#!x\na");
-    let fresh = lexer.checkpoint();
-    let _ = lexer.peek_token()?;
-    assert!(rt; lexer.first_token()?.kind().is_same(Kind::HashbangComment));
-    assert!(rt; lexer.can_rewind(&fresh));
-    lexer.rewind(fresh);
-    assert_eq!(rt; lexer.first_token()?.end(), 3);
+    assert_eq!(rt; rereads(&mut lexer)?, (3, 3));
     assert_eq!(rt; lexer.tokens().len(), 0);
     Ok(())
 }
 
-/// Peeks over a fault, reads it, and goes back before it.
+/// Where the lexer stands, where its last token ends, and how much was reported.
+fn stand<C: LexerConfig + Drop>(lexer: &Lexer<'_, C>) -> (u32, u32, usize) {
+    (
+        lexer.offset(),
+        lexer.last_token().end(),
+        lexer.errors().len(),
+    )
+}
+
+/// Peeks at a token, reads it, and goes back before it. It tells whether both are the same, and how much was reported
+/// behind each.
+fn peeks_and_reads<C: LexerConfig + Drop>(
+    lexer: &mut Lexer<'_, C>,
+) -> Result<(bool, usize, usize), AllocError> {
+    let checkpoint = lexer.checkpoint();
+    let peeked = peek(lexer)?;
+    let behind_peek = lexer.errors().len();
+    let read = next(lexer)?;
+    let behind = lexer.errors().len();
+    let back = goes_back(lexer, checkpoint);
+    Ok((back && peeked.is_same(&read), behind_peek, behind))
+}
+
+/// A fault that is peeked at, or before which the lexer goes back, is not reported.
 fn goes_back_before_a_fault<C: LexerConfig + Drop>(
     rt: &impl std::process::Abort,
     alloc: Global,
     config: C,
 ) -> Result<(), Fail> {
     let mut lexer = lexer_of(alloc, "a \u{1}b", SourceType::Module, config)?;
-    assert_eq!(rt; lexer.first_token()?.end(), 1);
-    let checkpoint = lexer.checkpoint();
-    let peeked = lexer.peek_token()?;
-    assert_eq!(rt; lexer.errors().len(), 0);
-    assert!(rt; peeked.is_same(&lexer.next_token()?));
-    assert_eq!(rt; lexer.errors().len(), 1);
-    assert!(rt; lexer.can_rewind(&checkpoint));
-    lexer.rewind(checkpoint);
-    assert_eq!(rt; lexer.offset(), 1);
-    assert_eq!(rt; lexer.last_token().end(), 1);
-    assert_eq!(rt; lexer.errors().len(), 0);
+    assert_eq!(rt; next(&mut lexer)?.end(), 1);
+    assert_eq!(rt; peeks_and_reads(&mut lexer)?, (true, 0, 1));
+    assert_eq!(rt; stand(&lexer), (1, 1, 0));
     Ok(())
 }
 
@@ -504,13 +552,27 @@ fn hands_out_errors<C: LexerConfig + Drop>(
     config: C,
 ) -> Result<(), Fail> {
     let mut lexer = lexer_of(alloc, "\u{1}", SourceType::Script, config)?;
-    assert_eq!(rt; lexer.first_token()?.end(), 1);
+    assert_eq!(rt; next(&mut lexer)?.end(), 1);
     assert_eq!(rt; lexer.take_errors().len(), 1);
     assert_eq!(rt; lexer.errors().len(), 0);
     Ok(())
 }
 
-/// Reads `a b`, hands out the tokens, and tells whether it may go back then.
+/// Goes to the end behind the next token, reads the end, and hands out the tokens. It tells how many there were, and
+/// whether going back to before the end was allowed, before and behind that.
+fn hands_out<C: LexerConfig + Drop>(
+    lexer: &mut Lexer<'_, C>,
+) -> Result<(usize, bool, bool), AllocError> {
+    next(lexer)?;
+    let checkpoint = lexer.checkpoint();
+    lexer.advance_to_end();
+    next(lexer)?;
+    let before = lexer.can_rewind(&checkpoint);
+    let handed = lexer.take_tokens().len();
+    Ok((handed, before, lexer.can_rewind(&checkpoint)))
+}
+
+/// Behind tokens that were handed out, no way leads back before them.
 fn hands_out_tokens<C: LexerConfig + Drop>(
     rt: &impl std::process::Abort,
     alloc: Global,
@@ -518,15 +580,10 @@ fn hands_out_tokens<C: LexerConfig + Drop>(
     collected: usize,
 ) -> Result<(), Fail> {
     let mut lexer = lexer_of(alloc, "a b", SourceType::Script, config)?;
-    assert_eq!(rt; lexer.first_token()?.end(), 1);
-    let checkpoint = lexer.checkpoint();
-    lexer.advance_to_end();
+    let expected = (collected, true, collected == 0);
+    assert_eq!(rt; hands_out(&mut lexer)?, expected);
     assert_eq!(rt; lexer.remaining(), "");
-    assert!(rt; lexer.next_token()?.kind().is_same(Kind::Eof));
-    assert!(rt; lexer.can_rewind(&checkpoint));
-    assert_eq!(rt; lexer.take_tokens().len(), collected);
     assert_eq!(rt; lexer.tokens().len(), 0);
-    assert_eq!(rt; lexer.can_rewind(&checkpoint), collected == 0);
     Ok(())
 }
 
@@ -546,18 +603,25 @@ fn is_decoded(text: Option<JsText<'_>>, expected: &[u16]) -> bool {
     }
 }
 
-/// Reads a private name and a name with an escape, goes back before them, and asks for their texts.
+/// Reads two tokens, and goes back before them, if that is allowed.
+fn reads_two<C: LexerConfig + Drop>(
+    lexer: &mut Lexer<'_, C>,
+) -> Result<(Token, Token, bool), AllocError> {
+    let fresh = lexer.checkpoint();
+    let first = next(lexer)?;
+    let second = next(lexer)?;
+    Ok((first, second, goes_back(lexer, fresh)))
+}
+
+/// The texts of a private name and of a name with an escape stay behind a way back.
 fn tells_texts<C: LexerConfig + Drop>(
     rt: &impl std::process::Abort,
     alloc: Global,
     config: C,
 ) -> Result<(), Fail> {
     let mut lexer = lexer_of(alloc, "#a \\u0062", SourceType::Module, config)?;
-    let fresh = lexer.checkpoint();
-    let private = lexer.first_token()?;
-    let escaped = lexer.next_token()?;
-    assert!(rt; lexer.can_rewind(&fresh));
-    lexer.rewind(fresh);
+    let (private, escaped, back) = reads_two(&mut lexer)?;
+    assert!(rt; back);
     assert!(rt; is_source(lexer.get_string(private), "a"));
     assert!(rt; is_decoded(lexer.get_string(escaped), &[0x62]));
     assert!(rt; is_decoded(lexer.get_js_string(escaped), &[0x62]));
@@ -585,6 +649,34 @@ fn is_bad(value: Option<TemplateValue<'_>>) -> bool {
     matches!(value, Some(TemplateValue::Bad))
 }
 
+/// A string without an escape and one with it have their texts, and are no templates.
+fn tells_strings<C: LexerConfig + Drop>(
+    rt: &impl std::process::Abort,
+    lexer: &mut Lexer<'_, C>,
+) -> Result<(), AllocError> {
+    let plain = next(lexer)?;
+    let escaped = next(lexer)?;
+    assert!(rt; is_source(lexer.get_string(plain), "ab"));
+    assert!(rt; is_decoded(lexer.get_string(escaped), &[0xD83D]));
+    assert!(rt; lexer.get_template_string(escaped).is_none());
+    Ok(())
+}
+
+/// A template without an escape, one with a line end that is changed, and one with a bad escape.
+fn tells_templates<C: LexerConfig + Drop>(
+    rt: &impl std::process::Abort,
+    lexer: &mut Lexer<'_, C>,
+) -> Result<(), AllocError> {
+    let plain = next(lexer)?;
+    let decoded = next(lexer)?;
+    let bad = next(lexer)?;
+    assert!(rt; is_source_part(lexer.get_template_string(plain), "c"));
+    assert!(rt; is_decoded_part(lexer.get_template_string(decoded), &[0x64, 0x0A]));
+    assert!(rt; lexer.get_string(decoded).is_none());
+    assert!(rt; is_bad(lexer.get_template_string(bad)));
+    Ok(())
+}
+
 /// Reads strings and templates, with escapes and without, and asks for their values.
 fn tells_values<C: LexerConfig + Drop>(
     rt: &impl std::process::Abort,
@@ -597,19 +689,9 @@ fn tells_values<C: LexerConfig + Drop>(
         SourceType::Module,
         config,
     )?;
-    let plain = lexer.first_token()?;
-    let escaped = lexer.next_token()?;
-    let template = lexer.next_token()?;
-    let decoded = lexer.next_token()?;
-    let bad = lexer.next_token()?;
-    let head = lexer.next_token()?;
-    assert!(rt; is_source(lexer.get_string(plain), "ab"));
-    assert!(rt; is_decoded(lexer.get_string(escaped), &[0xD83D]));
-    assert!(rt; lexer.get_template_string(escaped).is_none());
-    assert!(rt; is_source_part(lexer.get_template_string(template), "c"));
-    assert!(rt; is_decoded_part(lexer.get_template_string(decoded), &[0x64, 0x0A]));
-    assert!(rt; lexer.get_string(decoded).is_none());
-    assert!(rt; is_bad(lexer.get_template_string(bad)));
+    tells_strings(rt, &mut lexer)?;
+    tells_templates(rt, &mut lexer)?;
+    let head = next(&mut lexer)?;
     assert!(rt; is_source_part(lexer.get_template_string(head), "e"));
     Ok(())
 }
