@@ -33,5 +33,5 @@ pub use number::{parse_big_int, parse_int};
 pub use numeric::read_number;
 pub use regular_expression::read_regular_expression;
 pub use spelt::{Spelt, SpeltValue};
-pub use string::read_string;
-pub use template::read_template_part;
+pub use string::{read_plain_string, read_string};
+pub use template::{read_plain_part, read_template_part};

@@ -1,0 +1,10 @@
+use Rattle.std.proofs.Common.{sym}
+use Rattle.std.proofs.lemmas.Option.{IfSome_then}
+use Rattle.js_lexer.proofs.PlainSteps.{string_plainly, string_begins}
+use Rattle.js_lexer.proofs.plain.read_value.Goals as goal
+
+pub returns-then-is_quote-clause-spells : goal.returns-then-is_quote-clause-spells
+returns-then-is_quote-clause-spells c = λ ended.
+    IfSome_then c.read_plain_string.result c.read_plain_string.ensures.some
+    (λ kind spells. string_plainly ended c.args.source.now c.read_plain_string.new.source kind
+    (string_begins c.args.b _ c.requires.ascii c.requires.next (sym c.if-is_quote.ensures)) spells)
