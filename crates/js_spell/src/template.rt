@@ -78,9 +78,9 @@ pub fn read_template_part(
     }
 }
 
-/// Reads a part of a template behind the backquote or the `}` that begins it, where no escape and no CR stands in it and
-/// its mark ends it (ECMA-262 12.9.6). The kind is `substitute` where this is a `${`, and `tail` where it is a backquote.
-/// None: it is another part, and the source stands somewhere in the same text.
+/// Reads a part of a template behind the backquote or the `}` that begins it, where no escape and no CR stands in it
+/// and its mark ends it (ECMA-262 12.9.6). The kind is `substitute` where this is a `${`, and `tail` where it is a
+/// backquote. None: it is another part, and the source stands somewhere in the same text.
 #[inline(always)]
 pub fn read_plain_part(source: &mut Source<'_>, substitute: Kind, tail: Kind) -> Option<Kind>
     requires { IsPlaced source.old }

@@ -11,6 +11,7 @@ use js_source::Source;
 const LAST_CODE_POINT: u32 = 0x10FFFF;
 
 /// Takes a digit of the radix, if one is next, and gives its value.
+#[inline(always)]
 pub(crate) fn take_digit(source: &mut Source<'_>, radix: u32) -> Option<u32>
     requires placed { IsPlaced source.old }
     requires least { 2 ≤ radix }
