@@ -4,6 +4,7 @@ use Rattle.std.proofs.Common.{refl, sym, ◌∙◌, ap, subst}
 use Rattle.std.proofs.Common.{arith, Option, Some, None}
 use Rattle.std.specs.Prelude.{codes, MatchBool, nat_le}
 use Rattle.std.proofs.lemmas.Bool.{ne_eqb, eqb-true, leb-true, leb-false}
+use Rattle.std.specs.Char.{is_ascii_digit}
 use Rattle.js_text.proofs.CharacterLemmas.{start_in_ascii}
 use Rattle.js_text.specs.Ascii.{grave_accent}
 use Rattle.js_text.specs.Characters.{begins}
@@ -15,6 +16,7 @@ use Rattle.js_kind.specs.declared.kind.Kind.TheVariants.{NoSubstitutionTemplate,
 use Rattle.js_grammar.specs.Gap.{is_prefix, is_reported, piece, whole_gap_piece, has_html_comments}
 use Rattle.js_grammar.specs.Goals.{line_has_ended_behind}
 use Rattle.js_grammar.specs.Name.{begins_name}
+use Rattle.js_grammar.specs.Number.{begins_number}
 use Rattle.js_grammar.specs.StringItems.{is_quote}
 use Rattle.js_grammar.specs.declared.goal.Goal.TheVariants.{Next}
 use Rattle.js_grammar.proofs.Flags.{punctuator_unflagged}
@@ -25,6 +27,7 @@ use Rattle.js_source.specs.Runs.{PassesRun, place_of}
 use Rattle.js_source.specs.Source.{At, rest, Reads, IsPlaced, HasFirstByte, HasFirstTwoBytes}
 use Rattle.js_source.specs.Search.{matches_at}
 use Rattle.js_spell.specs.Name.{SpellsPlainName}
+use Rattle.js_spell.specs.Numeric.{SpellsPlainNumber}
 use Rattle.js_spell.specs.Strings.{SpellsPlainString, SpellsPlainPart}
 use Rattle.js_spell.specs.declared.spelt.SpeltValue.TheVariants.{Plain}
 use Rattle.js_trivia.specs.Attachment.{after_newline, after_token}
@@ -41,9 +44,11 @@ use Rattle.js_lexer.specs.declared.reader.Reader.{Reader}
 use Rattle.js_lexer.proofs.GapSteps.{blanks_lead, line_feed_skipped, no_gap_left}
 use Rattle.js_lexer.proofs.FastSteps.{begins_none}
 use Rattle.js_lexer.proofs.PartSteps.{is_start}
+use Rattle.js_lexer.proofs.NumberSteps.{digit_begins}
 use Rattle.js_lexer.proofs.NameSteps.{lexeme_of_name}
 use Rattle.js_lexer.proofs.QuotedSteps.{lexeme_of_string, lexeme_of_template, behind_backquote}
-use Rattle.js_lexer.proofs.ReadingSteps.{lexeme_spelled, lexeme_onward, goal_behind, token_behind}
+use Rattle.js_lexer.proofs.ReadingSteps.{lexeme_spelled, lexeme_onward, lexeme_of_number}
+use Rattle.js_lexer.proofs.ReadingSteps.{goal_behind, token_behind}
 use Rattle.js_lexer.proofs.SpellingSteps.{punctuator_spelled}
 use Rattle.js_lexer.proofs.WholeSteps.{whole_at_once}
 
@@ -342,6 +347,18 @@ template_plainly ended old mid new kind h g reads spells r =
     lexeme_of_template (moved r old ended) (moved r new ended) mid old.place (token_at old.place)
     (record (token_at old.place) { escaped = false; has_separator = false }) (record { kind = kind; value = Plain })
     reads refl (spells r.errors (token_at old.place) (behind_backquote old mid h g reads)) refl
+
+-- a number without a separator
+pub number_plainly : (ended : Bool) (old new : At) (kind : Kind) → begins_number (rest old) ≡ true
+    → SpellsPlainNumber old new kind → SpellsPlainly ended old new kind
+number_plainly ended old new kind begun spells r =
+    lexeme_of_number (moved r old ended) (moved r new ended) kind false begun
+    (spells r.errors (token_at old.place)).read refl
+
+-- where a digit is next, a number begins
+pub number_begins : (b : ℕ) (cs : List ℕ) → HasFirstByte b cs → is_ascii_digit b ≡ true → begins_number cs ≡ true
+number_begins b cs first is =
+    sym (digit_begins cs b first (λ e. let no : is_ascii_digit 46 ≡ true = ap is_ascii_digit (sym e) ∙ is in cc)) ∙ is
 
 -- where an ASCII quote is next, a string begins
 pub string_begins : (b : ℕ) (cs : List ℕ) → b < 128 → HasFirstByte b cs → is_quote b ≡ true

@@ -1,5 +1,6 @@
 //! Readings that need the source alone: a gap of blanks and line feeds, and behind it a name, a string or a template
-//! without escapes, or a punctuator. Most tokens are read so; all others are left to the readings of any form.
+//! without escapes, a decimal number, or a punctuator. Most tokens are read so; all others are left to the readings of
+//! any form.
 
 ghost use Rattle.std.specs.Prelude.{◌≡◌, ◌<◌, Bool, IfSome, MatchBool};
 ghost use Rattle.std.specs.Str.{IsCharBoundary};
@@ -15,7 +16,7 @@ use crate::punctuator::read_punctuator;
 use crate::reading::begins_ascii_name;
 use js_kind::Kind;
 use js_source::{Source, SourcePosition};
-use js_spell::{read_plain_name, read_plain_part, read_plain_string};
+use js_spell::{read_plain_name, read_plain_number, read_plain_part, read_plain_string};
 
 /// Whether the byte `b`, which is next, is a `<` or a `-` that begins no comment.
 #[inline(always)]
@@ -100,7 +101,7 @@ fn read_plain_template(source: &mut Source<'_>) -> Option<Kind>
     read_plain_part(source, Kind::TemplateHead, Kind::NoSubstitutionTemplate)
 }
 
-/// Reads the string or the template that begins with the ASCII character `b`, which is next.
+/// Reads the string, the number or the template that begins with the ASCII character `b`, which is next.
 #[inline(always)]
 fn read_value(source: &mut Source<'_>, b: u8) -> Option<Kind>
     requires placed { IsPlaced source.old }
@@ -113,20 +114,24 @@ fn read_value(source: &mut Source<'_>, b: u8) -> Option<Kind>
     if is_quote(b) {
         return read_plain_string(source, b);
     }
+    if b.is_ascii_digit() {
+        return read_plain_number(source, b);
+    }
     if b != b'`' {
         return None;
     }
     read_plain_template(source)
 }
 
-/// The kind of a value without escapes, and the place behind it.
+/// The kind of a value that was read so, and the place behind it.
 #[derive(Clone, Copy)]
 struct PlainValue {
     kind: Kind,
     end: SourcePosition,
 }
 
-/// Reads the string or the template without escapes that begins with the ASCII character `b`, which is next.
+/// Reads the string or the template without escapes, or the decimal number, that begins with the ASCII character `b`,
+/// which is next.
 #[inline(never)]
 fn read_plain_value(source: Source<'_>, b: u8) -> Option<PlainValue>
     requires placed { IsPlaced source }
@@ -144,8 +149,9 @@ fn read_plain_value(source: Source<'_>, b: u8) -> Option<PlainValue>
     })
 }
 
-/// Reads the name, the string or the template without escapes, or the punctuator, that begins with the ASCII character
-/// `b`, which is next. Where something else stands there, the source stands somewhere in the same text.
+/// Reads the name, the string or the template without escapes, the decimal number, or the punctuator, that begins with
+/// the ASCII character `b`, which is next. Where something else stands there, the source stands somewhere in the same
+/// text.
 #[inline(always)]
 pub(crate) fn read_plain_spelling(
     source: &mut Source<'_>,

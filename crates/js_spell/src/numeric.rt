@@ -77,7 +77,7 @@ impl Prefix {
 
 /// Whether a digit is next.
 #[inline(always)]
-fn begins_digit(source: &Source<'_>, digits: Digits) -> bool
+pub(crate) fn begins_digit(source: &Source<'_>, digits: Digits) -> bool
     ensures { result ≡ begins (is_digit_of (radix_of_digits digits)) (rest source.now) }
 {
     match source.peek_byte() {
