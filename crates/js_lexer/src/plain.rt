@@ -1,6 +1,6 @@
 //! Readings that need the source alone: a gap of blanks and line feeds, and behind it a name, a string or a template
-//! without escapes, a decimal number, or a punctuator. Most tokens are read so; all others are left to the readings of
-//! any form.
+//! without escapes, a number without separators, or a punctuator. Most tokens are read so; all others are left to the
+//! readings of any form.
 
 ghost use Rattle.std.specs.Prelude.{◌≡◌, ◌<◌, Bool, IfSome, MatchBool};
 ghost use Rattle.std.specs.Str.{IsCharBoundary};
@@ -130,8 +130,8 @@ struct PlainValue {
     end: SourcePosition,
 }
 
-/// Reads the string or the template without escapes, or the decimal number, that begins with the ASCII character `b`,
-/// which is next.
+/// Reads the string or the template without escapes, or the number without separators, that begins with the ASCII
+/// character `b`, which is next.
 #[inline(never)]
 fn read_plain_value(source: Source<'_>, b: u8) -> Option<PlainValue>
     requires placed { IsPlaced source }
@@ -149,9 +149,9 @@ fn read_plain_value(source: Source<'_>, b: u8) -> Option<PlainValue>
     })
 }
 
-/// Reads the name, the string or the template without escapes, the decimal number, or the punctuator, that begins with
-/// the ASCII character `b`, which is next. Where something else stands there, the source stands somewhere in the same
-/// text.
+/// Reads the name, the string or the template without escapes, the number without separators, or the punctuator, that
+/// begins with the ASCII character `b`, which is next. Where something else stands there, the source stands somewhere in
+/// the same text.
 #[inline(always)]
 pub(crate) fn read_plain_spelling(
     source: &mut Source<'_>,

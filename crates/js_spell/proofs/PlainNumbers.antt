@@ -1,6 +1,6 @@
--- The steps of reading a decimal number without an exponent, a separator and a fault.
+-- The steps of reading a number without a separator and without a fault.
 use Rattle.std.proofs.Common.{◌≡◌, ℕ, ◌<◌, ◌≤◌, Bool, true, false, ◌||◌, ◌==◌, List, [], ◌∷◌, drop, refl, sym, ◌∙◌}
-use Rattle.std.proofs.Common.{ap, subst, arith, inl, inr, None, ltb, nat_le, not}
+use Rattle.std.proofs.Common.{ap, subst, arith, inl, inr, ltb, nat_le, not}
 use Rattle.std.specs.Prelude.{◌⊎◌, MatchBool}
 use Rattle.std.proofs.lemmas.Bool.{eqb-true, ne_eqb, ltb-true, ltb-false, le-leb}
 use Rattle.std.specs.Char.{is_ascii_alphabetic, is_ascii_alphanumeric}
@@ -15,21 +15,25 @@ use Rattle.js_kind.specs.declared.kind.Kind.TheVariants.{Decimal, Float, Decimal
 use Rattle.js_source.specs.Runs.{PassesRun}
 use Rattle.js_source.specs.Search.{matches_at}
 use Rattle.js_source.specs.Source.{At, rest, Reads, IsPlaced, HasFirstByte}
-use Rattle.js_grammar.specs.Number.{may_not_follow_number, digit_zero, latin_small_letter_n}
+use Rattle.js_grammar.specs.Number.{may_not_follow_number, digit_zero, latin_small_letter_n, is_exponent_mark}
+use Rattle.js_grammar.specs.NumberReads.{exponent_or}
 use Rattle.js_grammar.specs.NumberReads.{behind_digits, decimal_items, fraction_items, number_items, suffix_or, base_at}
-use Rattle.js_grammar.proofs.NumberClasses.{all_below, below, contraposed, ends_number, point_stops, suffix_stops}
+use Rattle.js_grammar.proofs.NumberClasses.{all_below, below, contraposed, ends_number}
+use Rattle.js_grammar.proofs.NumberCuts.{NoPrefix, no_prefix_ended, no_prefix_suffix, no_prefix_point, no_prefix_mark}
 use Rattle.js_grammar.proofs.NumberItems.{true_or_false}
 use Rattle.js_spell.specs.Name.{TellsParts}
 use Rattle.js_spell.specs.Numeric.{TellsDigits, PassesDigits, PassesGroups, ReadsRun, ReadsInteger, ReadsPart, ReadsEnd}
-use Rattle.js_spell.specs.Numeric.{SpellsNumber, MayGoOn, FollowsInteger}
+use Rattle.js_spell.specs.Numeric.{ReadsCut, SpellsNumber, MayGoOn, FollowsInteger, TakesExponentMark, TakesSign}
+use Rattle.js_spell.specs.Numeric.{HasPrefix, base_of_prefix}
+use Rattle.js_spell.specs.declared.numeric.Prefix.{Prefix}
 use Rattle.js_spell.specs.declared.numeric.Passed.TheVariants.{Whole}
 use Rattle.js_spell.specs.declared.spelt.SpeltValue.TheVariants.{Plain}
 use Rattle.js_spell.proofs.EndSteps.{good_number_read}
 use Rattle.js_spell.proofs.LeadSteps.{zero_leads, other_leads}
 use Rattle.js_spell.proofs.NumericSteps.{same, same_true, passes_whole, run_whole_read, integer_read}
-use Rattle.js_spell.proofs.NumericSteps.{fraction_read, no_fraction_read, no_exponent_read, behind_point_read}
+use Rattle.js_spell.proofs.NumericSteps.{fraction_read, exponent_read, behind_point_read}
 use Rattle.js_spell.proofs.NumericSteps.{behind_other_read, no_suffix_read, decimal_read}
-use Rattle.js_spell.proofs.PrefixSteps.{led_read}
+use Rattle.js_spell.proofs.PrefixSteps.{led_read, prefixed_read, prefix_big_read, prefix_plain_read}
 
 -- digits that no separator follows
 groups_of_digits : (radix : ℕ) (old new : At) → PassesDigits radix old Whole new
@@ -42,13 +46,13 @@ groups_of_digits radix old new digits = record {
   separator = sym digits.separator;
 }
 
-pub plain_run_read : (table : List Bool) (old new : At) (errors : List Diagnostic) → TellsDigits 10 table
-    → new.text ≡ old.text → PassesRun table old.text old.place new.place → begins (matches_at table) (rest new) ≡ false
-    → begins (is_digit_of 10) (rest old) ≡ true → begins (λ c. c == low_line) (rest new) ≡ false
-    → ReadsRun 10 old new errors errors false false true
-plain_run_read table old new errors tells text run stops digit none =
-    run_whole_read 10 old new errors false false digit
-    (groups_of_digits 10 old new (passes_whole 10 table old new (omega arith) tells text run stops none))
+pub plain_run_read : (radix : ℕ) (table : List Bool) (old new : At) (errors : List Diagnostic) → radix ≤ 16
+    → TellsDigits radix table → new.text ≡ old.text → PassesRun table old.text old.place new.place
+    → begins (matches_at table) (rest new) ≡ false → begins (is_digit_of radix) (rest old) ≡ true
+    → begins (λ c. c == low_line) (rest new) ≡ false → ReadsRun radix old new errors errors false false true
+plain_run_read radix table old new errors small tells text run stops digit none =
+    run_whole_read radix old new errors false false digit
+    (groups_of_digits radix old new (passes_whole radix table old new small tells text run stops none))
 
 -- the first character, by its byte
 first_there : (p : ℕ → Bool) (x : Bool) (b : ℕ) (cs : List ℕ) → b < 128 → HasFirstByte b cs → p b ≡ x → begins p cs ≡ x
@@ -59,7 +63,7 @@ digit_is_no_point : is_digit_of 10 full_stop ≡ false
 unfolding is_digit_of
 digit_is_no_point = refl
 
-no_point : (b : ℕ) (cs : List ℕ) → b < 128 → HasFirstByte b cs → is_digit_of 10 b ≡ true
+pub no_point : (b : ℕ) (cs : List ℕ) → b < 128 → HasFirstByte b cs → is_digit_of 10 b ≡ true
     → begins (λ c. c == full_stop) cs ≡ false
 no_point b cs small first digit =
     first_there (λ c. c == full_stop) false b cs small first
@@ -95,27 +99,36 @@ pub integer_passed : (b : ℕ) (table : List Bool) (old new : At) (errors : List
     → ReadsInteger old new errors errors false false
 integer_passed b table old new errors tells text run stops small first digit other follows =
     integer_read old new errors errors false false true (other_digit b (rest old) small first other)
-    (plain_run_read table old new errors tells text run stops
+    (plain_run_read 10 table old new errors (omega arith) tells text run stops
     (first_there (is_digit_of 10) true b (rest old) small first digit) follows.separator)
 
 -- a fraction, and none
-pub fraction_passed : (table : List Bool) (old new : At) (errors : List Diagnostic) → IsPlaced old → IsPlaced new
-    → TellsDigits 10 table → new.text ≡ old.text → PassesRun table old.text old.place new.place
-    → begins (matches_at table) (rest new) ≡ false → begins (is_digit_of 10) (rest old) ≡ true
-    → begins may_not_follow_number (rest new) ≡ false
+pub fraction_passed : (table : List Bool) (old mid new : At) (errors : List Diagnostic) (kind : Kind) → IsPlaced old
+    → IsPlaced mid → TellsDigits 10 table → mid.text ≡ old.text → PassesRun table old.text old.place mid.place
+    → begins (matches_at table) (rest mid) ≡ false → begins (is_digit_of 10) (rest old) ≡ true
+    → FollowsInteger (rest mid) → ReadsEnd mid new errors errors false false kind (exponent_or Float (rest mid))
     → ReadsPart old new errors errors false false (fraction_items (rest old))
-fraction_passed table old new errors h g tells text run stops digit end =
-    let ends = ends_number (rest new) end in
-    fraction_read old new new errors errors errors false false false true Float h g digit
-    (plain_run_read table old new errors tells text run stops digit (ends.run 10 (omega arith)).separator)
-    (no_exponent_read new errors false Float ends.exponent)
+fraction_passed table old mid new errors kind h g tells text run stops digit follows end =
+    fraction_read old mid new errors errors errors false false false true kind h g digit
+    (plain_run_read 10 table old mid errors (omega arith) tells text run stops digit follows.separator) end
 
-pub no_fraction_passed : (old : At) (errors : List Diagnostic) → begins (is_digit_of 10) (rest old) ≡ false
-    → begins may_not_follow_number (rest old) ≡ false
-    → ReadsPart old old errors errors false false (fraction_items (rest old))
-no_fraction_passed old errors none end =
-    no_fraction_read old old errors errors false false Float none
-    (no_exponent_read old errors false Float (ends_number (rest old) end).exponent)
+-- an exponent
+pub exponent_passed : (table : List Bool) (old marked signed new : At) (errors : List Diagnostic) (without kind : Kind)
+    → IsPlaced old → IsPlaced signed → TakesExponentMark old marked → TakesSign marked signed kind
+    → TellsDigits 10 table → new.text ≡ signed.text → PassesRun table signed.text signed.place new.place
+    → begins (matches_at table) (rest new) ≡ false → begins (is_digit_of 10) (rest signed) ≡ true
+    → begins may_not_follow_number (rest new) ≡ false
+    → ReadsEnd old new errors errors false false kind (exponent_or without (rest old))
+exponent_passed table old marked signed new errors without kind h g mark sign tells text run stops digit end =
+    exponent_read old marked signed new errors errors false false true without kind h g mark sign
+    (plain_run_read 10 table signed new errors (omega arith) tells text run stops digit
+    ((ends_number (rest new) end).run 10 (omega arith)).separator)
+
+-- back to where the source stood
+pub put_back : (old mid new : At) (place : ℕ) → mid.text ≡ old.text → place ≡ old.place
+    → new ≡ record mid { place = place } → new ≡ old
+put_back old mid new place text at e =
+    e ∙ ap (λ t. record { text = t; place = place }) text ∙ ap (λ p. record { text = old.text; place = p }) at
 
 -- in ASCII letters, digits and two marks may not follow a number, and nothing else
 abbrev is_ascii_follower : ℕ → Bool
@@ -125,53 +138,26 @@ follower_in_ascii : (c : ℕ) → c < 128 → may_not_follow_number c ≡ is_asc
 unfolding may_not_follow_number
 follower_in_ascii c small = ap (λ x. is_digit_of 10 c || x) (start_in_ascii c small)
 
--- the letters of bases may not follow a number
-base_letters : (is_ascii_follower 98 ≡ true) × (is_ascii_follower 66 ≡ true) × (is_ascii_follower 111 ≡ true)
-    × (is_ascii_follower 79 ≡ true) × (is_ascii_follower 120 ≡ true) × (is_ascii_follower 88 ≡ true)
-unfolding is_digit_of
-base_letters = (refl, refl, refl, refl, refl, refl)
+-- what follows an integer: the end of the number, a point, a suffix, an exponent
+follows_integer : (cs : List ℕ) → NoPrefix cs → FollowsInteger cs
+follows_integer cs none =
+    record { digit = none.stops.digit; separator = none.stops.separator; base = none.letter }
 
-follower_is : (letter c : ℕ) → letter < 128 → is_ascii_follower letter ≡ true → may_not_follow_number c ≡ false
-    → (c == letter) ≡ false
-follower_is letter c small is h =
-    contraposed (c == letter) (may_not_follow_number c)
-    (λ e. ap may_not_follow_number (eqb-true c letter e) ∙ follower_in_ascii letter small ∙ is) h
-
-pub no_base_there : (cs : List ℕ) → begins may_not_follow_number cs ≡ false → base_at cs ≡ None
-no_base_there [] h = refl
-no_base_there (c ∷ cs) h =
-    rw (
-      follower_is 98 c (omega arith) base_letters.0 h,
-      follower_is 66 c (omega arith) base_letters.1 h,
-      follower_is 111 c (omega arith) base_letters.2 h,
-      follower_is 79 c (omega arith) base_letters.3 h,
-      follower_is 120 c (omega arith) base_letters.4 h,
-      follower_is 88 c (omega arith) base_letters.5 h,
-    ) refl
-
--- what follows an integer: the end of the number, a point, a suffix
 pub end_follows : (cs : List ℕ) → begins may_not_follow_number cs ≡ false → FollowsInteger cs
-end_follows cs h =
-    let stops = (ends_number cs h).run 10 (omega arith) in
-    record { digit = stops.digit; separator = stops.separator; base = no_base_there cs h }
+end_follows cs h = follows_integer cs (no_prefix_ended cs h)
 
 pub point_follows : (old mid : At) → Reads old mid full_stop → FollowsInteger (rest old)
 point_follows old mid read =
-    let stops = point_stops (rest mid) in
-    record {
-      digit = ap (begins (is_digit_of 10)) read.here ∙ stops.digit;
-      separator = ap (begins (λ c. c == low_line)) read.here ∙ stops.separator;
-      base = ap base_at read.here;
-    }
+    subst FollowsInteger (sym read.here) (follows_integer (full_stop ∷ rest mid) (no_prefix_point (rest mid)))
 
 pub suffix_follows : (old mid : At) → Reads old mid latin_small_letter_n → FollowsInteger (rest old)
 suffix_follows old mid read =
-    let stops = suffix_stops 10 (rest mid) (omega arith) in
-    record {
-      digit = ap (begins (is_digit_of 10)) read.here ∙ stops.digit;
-      separator = ap (begins (λ c. c == low_line)) read.here ∙ stops.separator;
-      base = ap base_at read.here;
-    }
+    subst FollowsInteger (sym read.here)
+    (follows_integer (latin_small_letter_n ∷ rest mid) (no_prefix_suffix (rest mid)))
+
+pub exponent_follows : (old mid : At) → TakesExponentMark old mid → FollowsInteger (rest old)
+exponent_follows old mid mark =
+    follows_integer (rest old) (no_prefix_mark (rest old) (ap (begins is_exponent_mark) mark.read.here ∙ mark.is))
 
 -- what is read of it
 pub behind_point : (old mid new : At) (errors : List Diagnostic) → IsPlaced old → IsPlaced mid → Reads old mid full_stop
@@ -183,31 +169,76 @@ behind_point old mid new errors h g read part =
     (ap (begins (λ c. c == latin_small_letter_n)) read.here)
     (behind_point_read old mid new errors errors false false h g read part)
 
-pub behind_nothing : (old : At) (errors : List Diagnostic) → begins (λ c. c == full_stop) (rest old) ≡ false
-    → begins may_not_follow_number (rest old) ≡ false
-    → ReadsEnd old old errors errors false false Decimal
-    (suffix_or DecimalBigInt (behind_digits (rest old)) (rest old))
-behind_nothing old errors none end =
-    let ends = ends_number (rest old) end in
-    no_suffix_read old old errors errors false false DecimalBigInt Decimal (behind_digits (rest old)) ends.suffix
-    (behind_other_read old old errors errors false false Decimal none
-    (no_exponent_read old errors false Decimal ends.exponent))
+pub behind_exponent : (old new : At) (errors : List Diagnostic) (kind : Kind)
+    → begins (λ c. c == full_stop) (rest old) ≡ false → begins (λ c. c == latin_small_letter_n) (rest old) ≡ false
+    → ReadsEnd old new errors errors false false kind (exponent_or Decimal (rest old))
+    → ReadsEnd old new errors errors false false kind (suffix_or DecimalBigInt (behind_digits (rest old)) (rest old))
+behind_exponent old new errors kind no_point no_suffix end =
+    no_suffix_read old new errors errors false false DecimalBigInt kind (behind_digits (rest old)) no_suffix
+    (behind_other_read old new errors errors false false kind no_point end)
+
+-- a number with a prefix, and the suffix of one
+pub prefixed_suffix : (prefix : Prefix) (radix : ℕ) (table : List Bool) (old mid here new : At)
+    (errors : List Diagnostic) → radix ≡ (base_of_prefix prefix).radix → radix ≤ 16 → IsPlaced old → IsPlaced mid
+    → IsPlaced here → (p : HasPrefix prefix (rest old)) → mid.text ≡ old.text → rest mid ≡ p.behind
+    → TellsDigits radix table → here.text ≡ mid.text → PassesRun table mid.text mid.place here.place
+    → begins (matches_at table) (rest here) ≡ false → begins (is_digit_of radix) (rest mid) ≡ true
+    → Reads here new latin_small_letter_n
+    → ReadsCut old new errors errors false false (base_of_prefix prefix).big_kind (number_items (rest old))
+prefixed_suffix prefix radix table old mid here new errors is small h g k p text behind tells same run stops digit read =
+    let base = base_of_prefix prefix in
+    let digits : ReadsRun base.radix mid here errors errors false false true =
+    subst (λ (r : ℕ). ReadsRun r mid here errors errors false false true) is
+    (plain_run_read radix table mid here errors small tells same run stops digit
+    (ap (begins (λ c. c == low_line)) read.here)) in
+    prefixed_read prefix old mid new errors errors false false base.big_kind h g p text behind
+    (prefix_big_read base mid here new errors errors false false g k digits read)
+
+pub prefixed_alone : (prefix : Prefix) (radix : ℕ) (table : List Bool) (old mid here : At)
+    (errors : List Diagnostic) → radix ≡ (base_of_prefix prefix).radix → radix ≤ 16 → IsPlaced old → IsPlaced mid
+    → IsPlaced here → (p : HasPrefix prefix (rest old)) → mid.text ≡ old.text → rest mid ≡ p.behind
+    → TellsDigits radix table → here.text ≡ mid.text → PassesRun table mid.text mid.place here.place
+    → begins (matches_at table) (rest here) ≡ false → begins (is_digit_of radix) (rest mid) ≡ true
+    → begins may_not_follow_number (rest here) ≡ false
+    → ReadsCut old here errors errors false false (base_of_prefix prefix).kind (number_items (rest old))
+prefixed_alone prefix radix table old mid here errors is small h g k p text behind tells same run stops digit end =
+    let base = base_of_prefix prefix in
+    let ends = ends_number (rest here) end in
+    let digits : ReadsRun base.radix mid here errors errors false false true =
+    subst (λ (r : ℕ). ReadsRun r mid here errors errors false false true) is
+    (plain_run_read radix table mid here errors small tells same run stops digit (ends.run radix small).separator) in
+    prefixed_read prefix old mid here errors errors false false base.kind h g p text behind
+    (prefix_plain_read base mid here errors errors false false g k digits ends.suffix)
+
+-- where nothing but its `0` would be left of a number, it has not ended
+zero_is_one : is_ascii_follower digit_zero ≡ true
+unfolding is_digit_of
+zero_is_one = refl
+
+pub prefix_goes_on : (prefix : Prefix) (cs : List ℕ) → HasPrefix prefix cs
+    → begins may_not_follow_number cs ≡ false → ⊥
+prefix_goes_on prefix cs p end =
+    let zero : begins may_not_follow_number cs ≡ true =
+    ap (begins may_not_follow_number) p.here ∙ follower_in_ascii digit_zero (omega arith) ∙ zero_is_one in
+    cc
 
 -- the whole number
-pub plain_number : (old mid new : At) (errors : List Diagnostic) (token : TokenParts) (kind : Kind) → IsPlaced old
-    → IsPlaced mid → number_items (rest old) ≡ decimal_items (rest old)
-    → ReadsInteger old mid errors errors false false
+pub decimal_cut : (old mid new : At) (errors : List Diagnostic) (kind : Kind) → IsPlaced old → IsPlaced mid
+    → number_items (rest old) ≡ decimal_items (rest old) → ReadsInteger old mid errors errors false false
     → ReadsEnd mid new errors errors false false kind
     (suffix_or DecimalBigInt (behind_digits (rest mid)) (rest mid))
+    → ReadsCut old new errors errors false false kind (number_items (rest old))
+decimal_cut old mid new errors kind h g items integer end =
+    led_read old new errors errors false false kind (decimal_items (rest old)) items
+    (decimal_read old mid new errors errors errors false false false kind h g integer end)
+
+pub plain_number : (old new : At) (errors : List Diagnostic) (token : TokenParts) (kind : Kind)
+    → ReadsCut old new errors errors false false kind (number_items (rest old))
     → begins may_not_follow_number (rest new) ≡ false
     → SpellsNumber old new errors errors token (record token { escaped = false; has_separator = false })
     (record { kind = kind; value = Plain })
-plain_number old mid new errors token kind h g items integer end ends = record {
-  read =
-      good_number_read old new new errors errors errors false kind
-      (led_read old new errors errors false false kind (decimal_items (rest old)) items
-      (decimal_read old mid new errors errors errors false false false kind h g integer end))
-      (ends, refl, refl);
+plain_number old new errors token kind cut ends = record {
+  read = good_number_read old new new errors errors errors false kind cut (ends, refl, refl);
   flags = refl;
   value = refl;
 }

@@ -1,12 +1,12 @@
-use Rattle.std.proofs.Common.{◌≡◌, ◌∙◌, subst, false}
+use Rattle.std.proofs.Common.{◌≡◌, ◌∙◌, ◌==◌, subst, false}
 use Rattle.js_text.specs.Characters.{begins}
-use Rattle.js_grammar.specs.NumberReads.{behind_digits}
-use Rattle.js_grammar.specs.Number.{may_not_follow_number}
-use Rattle.js_kind.specs.declared.kind.Kind.TheVariants.{DecimalBigInt}
+use Rattle.js_grammar.specs.NumberReads.{behind_digits, exponent_or}
+use Rattle.js_grammar.specs.Number.{latin_small_letter_n}
+use Rattle.js_kind.specs.declared.kind.Kind.TheVariants.{Decimal, DecimalBigInt}
 use Rattle.js_source.specs.Source.{At, rest}
-use Rattle.js_spell.specs.Numeric.{FollowsInteger}
+use Rattle.js_spell.specs.Numeric.{FollowsInteger, ReadsEnd}
 use Rattle.js_spell.proofs.NumericSteps.{suffix_read}
-use Rattle.js_spell.proofs.PlainNumbers.{behind_point, behind_nothing, point_follows, suffix_follows, end_follows}
+use Rattle.js_spell.proofs.PlainNumbers.{behind_point, behind_exponent, point_follows, suffix_follows}
 use Rattle.js_spell.proofs.plain_number.read_behind_integer.Goals as goal
 
 pub returns-then-advance_if_ascii_eq-clause-reads : goal.returns-then-advance_if_ascii_eq-clause-reads
@@ -32,13 +32,16 @@ returns-then-advance_if_ascii_eq-2-clause-follows c = λ end.
 
 pub returns-clause-reads : goal.returns-clause-reads
 returns-clause-reads c = λ end errors.
-    let same = c.if-advance_if_ascii_eq-2.ensures.cases.1 ∙ c.if-advance_if_ascii_eq.ensures.cases.1 in
-    rw same
-    (behind_nothing c.args.source.now errors c.if-advance_if_ascii_eq.ensures.cases.0
-    (subst (λ (at : At). begins may_not_follow_number (rest at) ≡ false) same end))
+    let none = c.if-advance_if_ascii_eq.ensures.cases in
+    let same = c.if-advance_if_ascii_eq-2.ensures.cases.1 ∙ none.1 in
+    behind_exponent c.args.source.now c.pass_exponent_or.new.source errors c.pass_exponent_or.result none.0
+    (subst (λ (at : At). begins (λ c. c == latin_small_letter_n) (rest at) ≡ false) none.1
+    c.if-advance_if_ascii_eq-2.ensures.cases.0)
+    (subst
+    (λ (at : At). ReadsEnd at c.pass_exponent_or.new.source errors errors false false c.pass_exponent_or.result
+    (exponent_or Decimal (rest at))) same (c.pass_exponent_or.ensures.reads end errors))
 
 pub returns-clause-follows : goal.returns-clause-follows
 returns-clause-follows c = λ end.
     let same = c.if-advance_if_ascii_eq-2.ensures.cases.1 ∙ c.if-advance_if_ascii_eq.ensures.cases.1 in
-    end_follows (rest c.args.source.now)
-    (subst (λ (at : At). begins may_not_follow_number (rest at) ≡ false) same end)
+    subst (λ (at : At). FollowsInteger (rest at)) same (c.pass_exponent_or.ensures.follows end)
