@@ -2,27 +2,35 @@
 use Rattle.std.proofs.Common.{◌≡◌, ◌<◌, ◌≤◌, ◌&&◌, ◌||◌, ◌==◌, not, ℕ, zero, suc, Bool, true, false, List, [], ◌∷◌}
 use Rattle.std.proofs.Common.{refl, sym, ◌∙◌, ap, subst}
 use Rattle.std.proofs.Common.{arith, Option, Some, None}
-use Rattle.std.specs.Prelude.{codes, is_none, IfSome, MatchBool, nat_le}
+use Rattle.std.specs.Prelude.{codes, MatchBool, nat_le}
 use Rattle.std.proofs.lemmas.Bool.{ne_eqb, eqb-true, leb-true, leb-false}
+use Rattle.std.specs.Char.{is_ascii_digit}
 use Rattle.js_text.proofs.CharacterLemmas.{start_in_ascii}
-use Rattle.js_text.specs.SourceType.{is_module}
+use Rattle.js_text.specs.Ascii.{grave_accent}
+use Rattle.js_text.specs.Characters.{begins}
 use Rattle.js_text.specs.declared.comment.Comment.{Comment}
 use Rattle.js_text.specs.declared.source_type.SourceType.{SourceType}
-use Rattle.js_kind.specs.TokenParts.{TokenParts}
+use Rattle.js_kind.specs.TokenParts.{TokenParts, default_parts}
 use Rattle.js_kind.specs.declared.kind.Kind.{Kind}
+use Rattle.js_kind.specs.declared.kind.Kind.TheVariants.{NoSubstitutionTemplate, TemplateHead}
 use Rattle.js_grammar.specs.Gap.{is_prefix, is_reported, piece, whole_gap_piece, has_html_comments}
 use Rattle.js_grammar.specs.Goals.{line_has_ended_behind}
 use Rattle.js_grammar.specs.Name.{begins_name}
+use Rattle.js_grammar.specs.Number.{begins_number}
+use Rattle.js_grammar.specs.StringItems.{is_quote}
 use Rattle.js_grammar.specs.declared.goal.Goal.TheVariants.{Next}
 use Rattle.js_grammar.proofs.Flags.{punctuator_unflagged}
 use Rattle.js_grammar.proofs.GapLemmas.{none_behind, unreported}
 use Rattle.js_grammar.proofs.NumberClasses.{all_below, below}
 use Rattle.js_grammar.proofs.PieceLemmas.{piece-other, piece-minus, piece-angle}
-use Rattle.js_source.specs.Runs.{PassesRun}
-use Rattle.js_source.specs.Source.{At, rest, IsPlaced, HasFirstByte, HasFirstTwoBytes}
+use Rattle.js_source.specs.Runs.{PassesRun, place_of}
+use Rattle.js_source.specs.Source.{At, rest, Reads, IsPlaced, HasFirstByte, HasFirstTwoBytes}
 use Rattle.js_source.specs.Search.{matches_at}
 use Rattle.js_spell.specs.Name.{SpellsPlainName}
-use Rattle.js_trivia.specs.Attachment.{Attachment, after_newline, after_token}
+use Rattle.js_spell.specs.Numeric.{SpellsPlainNumber}
+use Rattle.js_spell.specs.Strings.{SpellsPlainString, SpellsPlainPart}
+use Rattle.js_spell.specs.declared.spelt.SpeltValue.TheVariants.{Plain}
+use Rattle.js_trivia.specs.Attachment.{after_newline, after_token}
 use Rattle.js_trivia.specs.Trivia.{Trivia, handle_token}
 use Rattle.js_lexer.specs.Gaps.{BeginsNoPiece}
 use Rattle.js_lexer.specs.Plain.{EndsGap, EndsGapInAscii}
@@ -36,8 +44,11 @@ use Rattle.js_lexer.specs.declared.reader.Reader.{Reader}
 use Rattle.js_lexer.proofs.GapSteps.{blanks_lead, line_feed_skipped, no_gap_left}
 use Rattle.js_lexer.proofs.FastSteps.{begins_none}
 use Rattle.js_lexer.proofs.PartSteps.{is_start}
+use Rattle.js_lexer.proofs.NumberSteps.{digit_begins}
 use Rattle.js_lexer.proofs.NameSteps.{lexeme_of_name}
-use Rattle.js_lexer.proofs.ReadingSteps.{lexeme_spelled, lexeme_onward, goal_behind, token_behind}
+use Rattle.js_lexer.proofs.QuotedSteps.{lexeme_of_string, lexeme_of_template, behind_backquote}
+use Rattle.js_lexer.proofs.ReadingSteps.{lexeme_spelled, lexeme_onward, lexeme_of_number}
+use Rattle.js_lexer.proofs.ReadingSteps.{goal_behind, token_behind}
 use Rattle.js_lexer.proofs.SpellingSteps.{punctuator_spelled}
 use Rattle.js_lexer.proofs.WholeSteps.{whole_at_once}
 
@@ -218,7 +229,7 @@ name_plainly ended old new kind begun spells r =
     lexeme_of_name (moved r old ended) (moved r new ended) kind false name.decoded begun name.read name.kind refl
 
 -- a punctuator
-punctuator_plainly : (ended : Bool) (old new : At) (kind : Kind) → EndsGap ended (rest old)
+pub punctuator_plainly : (ended : Bool) (old new : At) (kind : Kind) → EndsGap ended (rest old)
     → ((t : SourceType) (line_has_ended : Bool) → is_reported t line_has_ended (rest old) ≡ false
     → ReadsPunctuator t line_has_ended old new (Some kind))
     → SpellsPlainly ended old new kind
@@ -228,13 +239,6 @@ punctuator_plainly ended old new kind ends reads r =
     record { source_type = refl; line_has_ended = refl; errors = refl }
     (punctuator_unflagged read.1.it kind read.1.in_table read.1.kind)
     (punctuator_spelled r.source_type ended old new kind read) refl
-
-pub punctuator_or_none : (ended : Bool) (old new : At) (found : Option Kind) → EndsGap ended (rest old)
-    → ((t : SourceType) (line_has_ended : Bool) → is_reported t line_has_ended (rest old) ≡ false
-    → ReadsPunctuator t line_has_ended old new found)
-    → IfSome found (SpellsPlainly ended old new)
-punctuator_or_none ended old new None ends reads = tt
-punctuator_or_none ended old new (Some kind) ends reads = punctuator_plainly ended old new kind ends reads
 
 -- where an ASCII character of the class is next, a name begins
 pub name_begins : (b : ℕ) (cs : List ℕ) → b < 128 → HasFirstByte b cs → is_name_start b ≡ true
@@ -322,3 +326,49 @@ plain_onward ended old new kind r h g spells =
 pub gap_ends : (r : Reader) (before : GapFindings) (old : At) (had : Bool) (new : At) (has : Bool)
     → PassesPlainGap old had new has → EndsGap has (rest new)
 gap_ends r before old had new has gap t = (gap.skips (record r { source_type = t }) before).longest
+
+-- the token that a plain reading is told with
+abbrev pub token_at : ℕ → TokenParts
+token_at start = record default_parts { start = start }
+
+-- a string without an escape
+pub string_plainly : (ended : Bool) (old new : At) (kind : Kind) → begins is_quote (rest old) ≡ true
+    → SpellsPlainString old new kind → SpellsPlainly ended old new kind
+string_plainly ended old new kind begun spells r =
+    lexeme_of_string (moved r old ended) (moved r new ended) old.place (token_at old.place)
+    (record (token_at old.place) { escaped = false; has_separator = false }) (record { kind = kind; value = Plain })
+    begun refl (spells r.errors (token_at old.place) refl) refl
+
+-- a template, or its first part, without an escape
+pub template_plainly : (ended : Bool) (old mid new : At) (kind : Kind) → IsPlaced old → IsPlaced mid
+    → Reads old mid grave_accent → SpellsPlainPart TemplateHead NoSubstitutionTemplate mid new kind
+    → SpellsPlainly ended old new kind
+template_plainly ended old mid new kind h g reads spells r =
+    lexeme_of_template (moved r old ended) (moved r new ended) mid old.place (token_at old.place)
+    (record (token_at old.place) { escaped = false; has_separator = false }) (record { kind = kind; value = Plain })
+    reads refl (spells r.errors (token_at old.place) (behind_backquote old mid h g reads)) refl
+
+-- a number without a separator
+pub number_plainly : (ended : Bool) (old new : At) (kind : Kind) → begins_number (rest old) ≡ true
+    → SpellsPlainNumber old new kind → SpellsPlainly ended old new kind
+number_plainly ended old new kind begun spells r =
+    lexeme_of_number (moved r old ended) (moved r new ended) kind false begun
+    (spells r.errors (token_at old.place)).read refl
+
+-- where a digit is next, a number begins
+pub number_begins : (b : ℕ) (cs : List ℕ) → HasFirstByte b cs → is_ascii_digit b ≡ true → begins_number cs ≡ true
+number_begins b cs first is =
+    sym (digit_begins cs b first (λ e. let no : is_ascii_digit 46 ≡ true = ap is_ascii_digit (sym e) ∙ is in cc)) ∙ is
+
+-- where an ASCII quote is next, a string begins
+pub string_begins : (b : ℕ) (cs : List ℕ) → b < 128 → HasFirstByte b cs → is_quote b ≡ true
+    → begins is_quote cs ≡ true
+string_begins b [] small first is = absurd first
+string_begins b (c ∷ cs) small first is = ap is_quote (first.0 small) ∙ is
+
+-- the place behind what was read so
+pub spelled_up_to : (ended : Bool) (old new : At) (kind : Kind) (end : ℕ) → new.text ≡ old.text → end ≡ new.place
+    → SpellsPlainly ended old new kind → SpellsPlainly ended old (place_of old.text end) kind
+spelled_up_to ended old new kind end text at spells =
+    subst (λ p. SpellsPlainly ended old (place_of old.text p) kind) (sym at)
+    (subst (λ t. SpellsPlainly ended old (place_of t new.place) kind) text spells)

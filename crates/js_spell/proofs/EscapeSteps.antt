@@ -15,7 +15,8 @@ use Rattle.js_grammar.proofs.NumberItems.{true_or_false}
 use Rattle.js_grammar.proofs.UnicodeEscapes.{digit_below, below_digit, all_hex_digits, some_hex_digits}
 use Rattle.js_grammar.proofs.UnicodeEscapes.{no_more_digits, one_more_digit, last_digit, braced_whole, braced_open}
 use Rattle.js_grammar.proofs.UnicodeEscapes.{braced_without_digit, braced_too_great, without_brace, behind_brace}
-use Rattle.js_source.specs.Source.{At, rest, Reads, BeginsWith}
+use Rattle.js_grammar.proofs.NumberClasses.{contraposed, digit_is_ascii}
+use Rattle.js_source.specs.Source.{At, rest, Reads, BeginsWith, HasFirstByte}
 use Rattle.js_source.proofs.Places.{begins_with}
 use Rattle.js_spell.specs.Escape.{TakesDigit, TakesDigits, TakesCodePoint, ReadsUnicodeEscape}
 
@@ -40,6 +41,14 @@ digit_here radix c value old new begun small e past =
       sym e,
       record { text = step.0; here = found.1 ∙ ap (λ t. c ∷ t) (sym step.1) },
     )
+
+-- no hexadecimal digit, by the byte that is next
+pub no_hex_digit_here : (b : ℕ) (cs : List ℕ) → HasFirstByte b cs → is_digit_of 16 b ≡ false
+    → begins (is_digit_of 16) cs ≡ false
+no_hex_digit_here b [] first none = absurd first
+no_hex_digit_here b (c ∷ cs) first none =
+    contraposed (is_digit_of 16 c) (is_digit_of 16 b)
+    (λ e. ap (is_digit_of 16) (sym (first.1 (digit_is_ascii c e))) ∙ e) none
 
 -- no digits yet
 pub no_digits : (radix : ℕ) (before : List ℕ) (at : At) → AllDigits radix (before ++ [])

@@ -24,7 +24,7 @@ pub other_leads : (text : List ℕ) → begins (λ c. c == full_stop) text ≡ f
 other_leads text no_point none = number_decimal text no_point none
 
 -- `0` with no base and no digit behind it too
-zero_leads : (text : List ℕ) → begins (λ c. c == full_stop) text ≡ false → begins (λ c. c == digit_zero) text ≡ true
+pub zero_leads : (text : List ℕ) → begins (λ c. c == full_stop) text ≡ false → begins (λ c. c == digit_zero) text ≡ true
     → base_at (drop 1 text) ≡ None → begins (is_digit_of 10) (drop 1 text) ≡ false
     → number_items text ≡ decimal_items text
 zero_leads text no_point zero none other =

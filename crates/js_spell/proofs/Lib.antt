@@ -12,6 +12,7 @@ pub mod LegacySteps
 pub mod NameReadings
 pub mod NameSteps
 pub mod NumericSteps
+pub mod PlainNumbers
 pub mod PlainSteps
 pub mod PrefixSteps
 pub mod SpellSteps

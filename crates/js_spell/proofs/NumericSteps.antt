@@ -46,7 +46,7 @@ abbrev pub same : Bool → Bool → Bool
 same true y = y
 same false y = not y
 
-same_true : (x y : Bool) → same x y ≡ true → x ≡ y
+pub same_true : (x y : Bool) → same x y ≡ true → x ≡ y
 same_true true true e = refl
 same_true true false e = absurd (cc)
 same_true false true e = absurd (cc)

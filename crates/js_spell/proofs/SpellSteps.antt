@@ -1,12 +1,12 @@
 -- The steps of reading a whole string, or a part of a template.
 use Rattle.std.proofs.Common.{◌≡◌, ℕ, ◌+◌, ◌≤◌, Bool, true, false, ◌&&◌, ◌==◌, List, [], ◌∷◌, ◌++◌}
 use Rattle.std.proofs.Common.{length, take, drop, refl, sym, ◌∙◌, ap, arith, Option, Some, None, inl, inr}
-use Rattle.std.proofs.Common.{append_assoc, ltb}
-use Rattle.std.specs.Prelude.{IfNone, IfSome, codes}
+use Rattle.std.proofs.Common.{append_assoc, ltb, subst, ◌<◌}
+use Rattle.std.specs.Prelude.{IfNone, IfSome, codes, slice_index}
 use Rattle.std.specs.Char.{encode_utf8}
 use Rattle.std.proofs.lemmas.Bool.{eqb-true, eq-eqb, ltb-true, ltb-false}
 use Rattle.std.proofs.lemmas.Bool.Decides.{nat_tests}
-use Rattle.js_text.specs.Ascii.{quotation_mark, apostrophe, grave_accent}
+use Rattle.js_text.specs.Ascii.{quotation_mark, apostrophe, grave_accent, dollar_sign}
 use Rattle.js_text.specs.Characters.{begins}
 use Rattle.js_text.specs.declared.diagnostic.Diagnostic.{Diagnostic}
 use Rattle.js_text.specs.declared.diagnostic.Diagnostic.TheVariants.{UnterminatedString}
@@ -22,13 +22,15 @@ use Rattle.js_grammar.specs.StringItems.{terminated_string, unterminated}
 use Rattle.js_grammar.specs.StringItems.StringValue.{units, bad_value}
 use Rattle.js_grammar.specs.Template.{template_items, template_value, template_part_read, part_of_items}
 use Rattle.js_grammar.proofs.NumberItems.{true_or_false}
+use Rattle.js_grammar.proofs.Tests.{and_true}
 use Rattle.js_grammar.proofs.StringSteps.{string_terminated, string_unterminated, part_with_tail}
 use Rattle.js_grammar.proofs.StringSteps.{part_with_substitution, part_unterminated, template_value_bad}
 use Rattle.js_grammar.proofs.StringSteps.{template_value_good}
-use Rattle.js_source.specs.Source.{At, rest, Reads, IsPlaced, StepsPast, HasFirstByte}
+use Rattle.js_source.specs.Source.{At, rest, Reads, ReadsTwo, IsPlaced, StepsPast, HasFirstByte}
 use Rattle.js_spell.specs.Numeric.{BreaksOff}
 use Rattle.js_spell.specs.Strings.{in_template, item_of, quote_of, ReadsValue, value_of, spelt_value, Unterminated}
 use Rattle.js_spell.specs.Strings.{EndsString, EndsPart, Spells, SpellsString, is_elsewhere, TakesQuote}
+use Rattle.js_spell.specs.Strings.{escape_here, plain_here, PassesCharacters}
 use Rattle.js_spell.specs.declared.plain.Literal.{Literal}
 use Rattle.js_spell.specs.declared.plain.Literal.TheVariants.{DoubleQuoted, SingleQuoted, Template}
 use Rattle.js_spell.specs.declared.spelt.Spelt.{Spelt}
@@ -36,6 +38,7 @@ use Rattle.js_spell.specs.declared.spelt.SpeltValue.{SpeltValue}
 use Rattle.js_spell.specs.declared.spelt.SpeltValue.TheVariants.{Plain}
 use Rattle.js_spell.specs.declared.template.PartEnd.TheVariants.{Tail, Substitution, Missing}
 use Rattle.js_spell.proofs.NumericSteps.{leads_to}
+use Rattle.js_spell.proofs.ItemSteps.{plain_value_read}
 
 -- the quote that is next
 pub double_taken : (old new : At) → Reads old new quotation_mark → TakesQuote old new DoubleQuoted
@@ -361,3 +364,68 @@ quote_by_byte b (c ∷ cs) first =
 
 pub no_quote_at_end : (text : List ℕ) → text ≡ [] → false ≡ begins is_quote text
 no_quote_at_end text e = sym (ap (begins is_quote) e)
+
+-- A string without an escape that its quote ends.
+quote_is_no_escape : (literal : Literal) (cs : List ℕ) → escape_here literal (quote_of literal ∷ cs) ≡ false
+quote_is_no_escape DoubleQuoted cs = refl
+quote_is_no_escape SingleQuoted cs = refl
+quote_is_no_escape Template cs = refl
+
+pub plain_string : (quote b : ℕ) (old mid here new : At) (errors : List Diagnostic) (token : TokenParts)
+    (literal : Literal) → IsPlaced old → IsPlaced mid → token.start ≡ old.place → in_template literal ≡ false
+    → quote_of literal ≡ quote → Reads old mid quote → PassesCharacters literal mid here
+    → plain_here literal (rest here) ≡ false → b ≡ quote → Reads here new b
+    → SpellsString token.start old new errors errors token (record token { escaped = false; has_separator = false })
+    (record { kind = Str; value = Plain })
+plain_string quote b old mid here new errors token literal h g start string is taken passes all same closing =
+    let end : Reads here new quote = subst (λ q. Reads here new q) same closing in
+    let none : escape_here literal (rest here) ≡ false =
+    ap (escape_here literal) (end.here ∙ ap (λ q. q ∷ rest new) (sym is)) ∙ quote_is_no_escape literal (rest new) in
+    string_closed token.start old mid here new errors errors errors token
+    (record token { escaped = false; has_separator = false }) (record { kind = Str; value = Plain }) literal Plain quote
+    h g start (record { string = string; read = subst (λ q. Reads old mid q) (sym is) taken })
+    (plain_value_read literal token.start mid here errors passes all none) (sym is) (end, refl) refl refl
+
+-- A part of a template without an escape and without a CR that its mark ends.
+pub plain_tail : (substitute tail : Kind) (b : ℕ) (old here new : At) (errors : List Diagnostic) (token : TokenParts)
+    → token.start + 1 ≡ old.place → PassesCharacters Template old here → plain_here Template (rest here) ≡ false
+    → b ≡ grave_accent → Reads here new b
+    → Spells (template_part_read substitute tail token.start (rest old)) old new errors errors token
+    (record token { escaped = false; has_separator = false }) (record { kind = tail; value = Plain })
+plain_tail substitute tail b old here new errors token start passes all same closing =
+    let end : Reads here new grave_accent = subst (λ q. Reads here new q) same closing in
+    let none : escape_here Template (rest here) ≡ false = ap (escape_here Template) end.here in
+    part_closed substitute tail token.start old here new errors errors errors token
+    (record token { escaped = false; has_separator = false }) (record { kind = tail; value = Plain }) Plain start
+    (plain_value_read Template token.start old here errors passes all none) (end, refl) refl refl
+
+-- what is next where `${` is
+opening : (text : List ℕ) → is_prefix (codes "${") text ≡ true
+    → (begins (λ c. c == grave_accent) text ≡ false) × (escape_here Template text ≡ false)
+opening [] e = absurd (cc)
+opening (c ∷ cs) e =
+    let is : c ≡ dollar_sign = eqb-true c dollar_sign (and_true (c == dollar_sign) (is_prefix (codes "{") cs) e).0 in
+    (ap (λ d. d == grave_accent) is, ap (λ d. escape_here Template (d ∷ cs)) is)
+
+two_left : (found : Option (List ℕ)) (old new : At) → is_prefix (codes "${") (rest old) ≡ true
+    → IfNone found ((length (rest old) < 2) × (new ≡ old))
+    → IfSome found (λ pair. ReadsTwo old new (slice_index pair 0) (slice_index pair 1))
+    → (new.text ≡ old.text) × (drop 2 (rest old) ≡ rest new)
+two_left None old new begun (few, same) some =
+    let enough = substitution_left (rest old) begun in absurd (omega (arith, few, enough))
+two_left (Some pair) old new begun none read = (read.text, ap (drop 2) read.here)
+
+pub plain_substitution : (substitute tail : Kind) (found : Option (List ℕ)) (old here new : At)
+    (errors : List Diagnostic) (token : TokenParts) → token.start + 1 ≡ old.place → PassesCharacters Template old here
+    → plain_here Template (rest here) ≡ false → is_prefix (codes "${") (rest here) ≡ true
+    → IfNone found ((length (rest here) < 2) × (new ≡ here))
+    → IfSome found (λ pair. ReadsTwo here new (slice_index pair 0) (slice_index pair 1))
+    → Spells (template_part_read substitute tail token.start (rest old)) old new errors errors token
+    (record token { escaped = false; has_separator = false }) (record { kind = substitute; value = Plain })
+plain_substitution substitute tail found old here new errors token start passes all begun none some =
+    let first = opening (rest here) begun in
+    let left = two_left found here new begun none some in
+    part_substituted substitute tail token.start old here new errors errors errors token
+    (record token { escaped = false; has_separator = false }) (record { kind = substitute; value = Plain }) Plain start
+    (plain_value_read Template token.start old here errors passes all first.1)
+    (first.0, begun, left.0, left.1, refl) refl refl

@@ -1,6 +1,7 @@
 -- The steps of reading a number.
 use Rattle.std.specs.Prelude.{◌≡◌, ℕ, ◌<◌, Bool, true, false, List, [], ◌∷◌, ◌++◌, ◌||◌, not, length, drop, ◌⊎◌, Some}
-use Rattle.std.specs.Prelude.{None}
+use Rattle.std.specs.Prelude.{None, nat_le, ◌==◌}
+use Rattle.js_text.specs.Ascii.{low_line}
 use Rattle.js_text.specs.declared.diagnostic.Diagnostic.{Diagnostic}
 use Rattle.js_text.specs.Characters.{begins}
 use Rattle.js_source.specs.Runs.{HasAscii}
@@ -11,7 +12,7 @@ use Rattle.js_grammar.specs.Number.{run, integer, are_digits, is_exponent_mark, 
 use Rattle.js_kind.specs.Digits.{is_digit_of}
 use Rattle.js_grammar.specs.NumberReads.{Items, number_read, invalid_number_end, number_items, legacy_items}
 use Rattle.js_grammar.specs.NumberReads.{decimal_items, behind_prefix, plain_digits, sign_of, items_text}
-use Rattle.js_grammar.specs.NumberReads.{contains_separator, missing_digits}
+use Rattle.js_grammar.specs.NumberReads.{contains_separator, missing_digits, base_at}
 use Rattle.js_kind.specs.declared.kind.Kind.{Kind}
 use Rattle.js_spell.specs.declared.digits.Digits.{Digits}
 use Rattle.js_spell.specs.declared.digits.Digits.TheVariants.{Binary, Octal, Decimal, Hex}
@@ -200,3 +201,20 @@ abbrev pub Leads : Lead → List ℕ → Type 0
 Leads (LedByPrefix prefix) text = HasPrefix prefix text
 Leads Legacy text = number_items text ≡ legacy_items text
 Leads DecimalLead text = number_items text ≡ decimal_items text
+
+-- A number was read without a separator and without a fault, of this kind: nothing is reported, and the flags of a token
+-- are not set.
+abbrev pub SpellsPlainNumber : At → At → Kind → Type 0
+SpellsPlainNumber old new kind =
+    (errors : List Diagnostic) (token : TokenParts) → SpellsNumber old new errors errors token
+    (record token { escaped = false; has_separator = false }) (record { kind = kind; value = Plain })
+
+-- A character is next that may not follow a number, or one past ASCII.
+abbrev pub MayGoOn : List ℕ → Type 0
+MayGoOn text = (begins may_not_follow_number text ≡ true) ⊎ (begins (λ c. nat_le 128 c) text ≡ true)
+
+-- What may follow an integer that is read to its end: no digit, no separator, and no letter of a base.
+pub record FollowsInteger (text : List ℕ) : Type 0 where
+  pub digit : begins (is_digit_of 10) text ≡ false
+  pub separator : begins (λ c. c == low_line) text ≡ false
+  pub base : base_at text ≡ None

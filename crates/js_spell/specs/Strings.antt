@@ -1,6 +1,6 @@
 -- The steps of reading a string or a part of a template.
 use Rattle.std.specs.Prelude.{◌≡◌, ℕ, ◌<◌, Bool, true, false, not, List, [], ◌∷◌, ◌++◌, length, drop, ◌==◌, ◌&&◌, ◌||◌}
-use Rattle.std.specs.Prelude.{Option}
+use Rattle.std.specs.Prelude.{Option, ◌+◌}
 use Rattle.std.specs.Prelude.{Some, None, codes, if◌then◌else◌}
 use Rattle.js_text.specs.Ascii.{carriage_return, quotation_mark, apostrophe, backslash, grave_accent}
 use Rattle.js_text.specs.Ascii.{dollar_sign}
@@ -9,13 +9,14 @@ use Rattle.js_text.specs.JsStr.{units_of}
 use Rattle.js_text.specs.declared.diagnostic.Diagnostic.{Diagnostic}
 use Rattle.js_text.specs.declared.diagnostic.Diagnostic.TheVariants.{UnterminatedString}
 use Rattle.js_kind.specs.TokenParts.{TokenParts}
+use Rattle.js_kind.specs.declared.kind.Kind.{Kind}
 use Rattle.js_grammar.specs.Gap.{is_prefix}
 use Rattle.js_grammar.specs.StringItems.{StringItem, StringValue, StringRead, string_item, ends_string}
 use Rattle.js_grammar.specs.StringItems.{all_items, items_before, string_text, string_units, contains_escape}
 use Rattle.js_grammar.specs.StringItems.{contains_bad_escape}
 use Rattle.js_grammar.specs.StringItems.{are_good, item_reports, stretch, string_read}
 use Rattle.js_grammar.specs.StringItems.StringValue.{no_value, units, bad_value}
-use Rattle.js_grammar.specs.Template.{template_item, template_value}
+use Rattle.js_grammar.specs.Template.{template_item, template_value, template_part_read}
 use Rattle.js_source.specs.Runs.{HasAscii}
 use Rattle.js_source.specs.Search.{matches_at}
 use Rattle.js_source.specs.Source.{At, rest, Reads}
@@ -205,3 +206,35 @@ pub record SpellsString (start : ℕ) (old new : At) (before after : List Diagno
   pub behind : List ℕ
   pub here : rest old ≡ quote ∷ behind
   pub spells : Spells (string_read quote start behind) old new before after was now spelt
+
+-- A string without an escape was read, of this kind: nothing is reported, and the flags of a token are not set.
+abbrev pub SpellsPlainString : At → At → Kind → Type 0
+SpellsPlainString old new kind =
+    (errors : List Diagnostic) (token : TokenParts) → token.start ≡ old.place
+    → SpellsString token.start old new errors errors token (record token { escaped = false; has_separator = false })
+    (record { kind = kind; value = Plain })
+
+-- An escape stands in the string that begins with the quote, or the quote that would end it is missing.
+pub record MeetsNoQuote (quote : ℕ) (text : List ℕ) : Type 0 where
+  pub literal : Literal
+  pub is : quote_of literal ≡ quote
+  pub left : List ℕ
+  pub passed : IsPlainBefore literal (drop 1 text) left
+  pub all : plain_here literal left ≡ false
+  pub none : begins (λ c. c == quote) left ≡ false
+
+-- A part of a template was read without an escape and without a CR, of this kind: nothing is reported, and the flags of
+-- a token are not set.
+abbrev pub SpellsPlainPart : Kind → Kind → At → At → Kind → Type 0
+SpellsPlainPart substitute tail old new kind =
+    (errors : List Diagnostic) (token : TokenParts) → token.start + 1 ≡ old.place
+    → Spells (template_part_read substitute tail token.start (rest old)) old new errors errors token
+    (record token { escaped = false; has_separator = false }) (record { kind = kind; value = Plain })
+
+-- An escape or a CR stands in the part of a template, or the mark that would end it is missing.
+pub record MeetsNoPartEnd (text : List ℕ) : Type 0 where
+  pub left : List ℕ
+  pub passed : IsPlainBefore Template text left
+  pub all : plain_here Template left ≡ false
+  pub no_tail : begins (λ c. c == grave_accent) left ≡ false
+  pub no_substitution : is_prefix (codes "${") left ≡ false

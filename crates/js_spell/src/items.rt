@@ -25,6 +25,9 @@ use js_source::{Source, SourcePosition};
 use js_text::{Diagnostic, DiagnosticList, JSStrBuilder, Span};
 use std::alloc::{AllocError, Global};
 
+/// The room that is taken for the units of a value behind its first escape.
+const MORE_UNITS: usize = 16;
+
 /// Passes characters that stand for themselves, and adds their units.
 fn copy_characters(
     source: &mut Source<'_>,
@@ -247,8 +250,9 @@ fn read_decoded(
     ensures onward { source.old.place ≤ source.new.place }
     ensures placed { IsPlaced source.new }
 {
-    let mut text = JSStrBuilder::new_in(alloc);
-    text.push_str(source.str_from_pos_to_current(from))?;
+    let plain = source.str_from_pos_to_current(from);
+    let mut text = JSStrBuilder::with_capacity_in(alloc, plain.len() + MORE_UNITS)?;
+    text.push_str(plain)?;
     let has_bad = read_items(source, literal, &mut text, errors, token)?;
     Ok(decoded(literal, has_bad, text))
 }

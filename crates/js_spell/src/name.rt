@@ -30,6 +30,9 @@ use std::alloc::{AllocError, Global};
 /// The first of the low surrogates.
 const FIRST_LOW_SURROGATE: u32 = 0xDC00;
 
+/// The room that is taken for a name behind its first escape, in bytes.
+const MORE_BYTES: usize = 16;
+
 /// The last of the low surrogates.
 const LAST_LOW_SURROGATE: u32 = 0xDFFF;
 
@@ -310,7 +313,7 @@ fn decode_name(
     ensures err { OnErr result (BreaksOff source.old source.new errors.old errors.new) }
     ensures placed { IsPlaced source.new }
 {
-    let mut decoded = String::new(alloc);
+    let mut decoded = String::with_capacity(alloc, plain.len() + MORE_BYTES)?;
     decoded.push_str(plain)?;
     read_escape_into(source, errors, position, &mut decoded)?;
     read_rest_into(source, errors, &mut decoded)?;
@@ -322,7 +325,7 @@ fn spell_decoded(alloc: Global, text: &str) -> Result<Spelt, AllocError>
     ensures kind { IfOk result (λ spelt. spelt.kind ≡ name_kind text.now) }
     ensures value { IfOk result (λ spelt. spelt.value ≡ Decoded (units_of (chars text.now))) }
 {
-    let mut units = JSStrBuilder::new_in(alloc);
+    let mut units = JSStrBuilder::with_capacity_in(alloc, text.len())?;
     units.push_str(text)?;
     Ok(Spelt {
         kind: match_keyword(text),

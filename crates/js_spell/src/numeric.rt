@@ -34,7 +34,7 @@ enum Passed {
 
 /// A prefix, which names the base of a number.
 #[derive(Clone, Copy, Debug)]
-enum Prefix {
+pub(crate) enum Prefix {
     Binary,
     Octal,
     Hex,
@@ -42,7 +42,7 @@ enum Prefix {
 
 impl Prefix {
     /// The digits of numbers with the prefix.
-    fn digits(self) -> Digits
+    pub(crate) fn digits(self) -> Digits
         ensures { radix_of_digits result ≡ (base_of_prefix self).radix }
     {
         match self {
@@ -53,7 +53,7 @@ impl Prefix {
     }
 
     /// The kind of numbers with the prefix.
-    fn kind(self) -> Kind
+    pub(crate) fn kind(self) -> Kind
         ensures { result ≡ (base_of_prefix self).kind }
     {
         match self {
@@ -64,7 +64,7 @@ impl Prefix {
     }
 
     /// The kind of numbers with the prefix and a suffix `n`.
-    fn big_kind(self) -> Kind
+    pub(crate) fn big_kind(self) -> Kind
         ensures { result ≡ (base_of_prefix self).big_kind }
     {
         match self {
@@ -77,7 +77,7 @@ impl Prefix {
 
 /// Whether a digit is next.
 #[inline(always)]
-fn begins_digit(source: &Source<'_>, digits: Digits) -> bool
+pub(crate) fn begins_digit(source: &Source<'_>, digits: Digits) -> bool
     ensures { result ≡ begins (is_digit_of (radix_of_digits digits)) (rest source.now) }
 {
     match source.peek_byte() {
@@ -162,7 +162,7 @@ fn read_run(
 
 /// Takes the mark of an exponent, if one is next.
 #[inline(always)]
-fn take_exponent_mark(source: &mut Source<'_>) -> bool
+pub(crate) fn take_exponent_mark(source: &mut Source<'_>) -> bool
     ensures cases { MatchBool result (TakesExponentMark source.old source.new)
         ((begins is_exponent_mark (rest source.old) ≡ false) × (source.new ≡ source.old)) }
     ensures placed { IsPlaced source.new }
@@ -175,7 +175,7 @@ fn take_exponent_mark(source: &mut Source<'_>) -> bool
 
 /// Takes the sign of an exponent, if one is next, and gives the kind of a number without a point that has it.
 #[inline(always)]
-fn take_sign(source: &mut Source<'_>) -> Kind
+pub(crate) fn take_sign(source: &mut Source<'_>) -> Kind
     ensures sign { TakesSign source.old source.new result }
     ensures placed { IsPlaced source.new }
 {
@@ -343,7 +343,7 @@ fn read_behind_prefix(
 
 /// How a number without a leading point begins.
 #[derive(Clone, Copy, Debug)]
-enum Lead {
+pub(crate) enum Lead {
     /// With a prefix.
     Prefix(Prefix),
     /// With `0` and a digit.
@@ -367,7 +367,7 @@ fn behind_zero(b: u8) -> Lead
 }
 
 /// How the number that is next begins.
-fn find_lead(source: &Source<'_>) -> Lead
+pub(crate) fn find_lead(source: &Source<'_>) -> Lead
     requires { begins (λ c. c == full_stop) (rest source.now) ≡ false }
     ensures { Leads result (rest source.now) }
 {

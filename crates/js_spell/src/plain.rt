@@ -4,10 +4,13 @@ ghost use Rattle.std.specs.Prelude.{◌≡◌, ◌==◌, ◌&&◌, false, codes,
 ghost use Rattle.js_text.specs.Ascii.{dollar_sign};
 ghost use Rattle.js_grammar.specs.Gap.{is_prefix};
 ghost use Rattle.js_grammar.specs.UnicodeEscape.{left_curly_bracket};
+ghost use Rattle.std.specs.Str.{IsCharBoundary};
+ghost use Rattle.js_text.specs.Characters.{from_place};
+ghost use Rattle.js_source.specs.Runs.{place_of};
 ghost use Rattle.js_source.specs.Source.{rest, IsPlaced, HasFirstByte};
 ghost use Rattle.js_spell.specs.Strings.{in_template, plain_here, TellsPlain, PassesCharacters, StopsAt};
 
-use js_source::Source;
+use js_source::{Source, SourcePosition};
 
 /// What the characters stand in.
 #[derive(Clone, Copy, Debug)]
@@ -178,4 +181,39 @@ pub(crate) fn pass_characters(source: &mut Source<'_>, literal: Literal) -> Opti
             }
         }
     }
+}
+
+/// The place of the first character that does not stand for itself.
+#[inline(never)]
+fn end_of_characters(source: Source<'_>, literal: Literal) -> SourcePosition
+    requires { IsPlaced source }
+    ensures passes { PassesCharacters literal source.entry (place_of source.entry.text result) }
+    ensures all { plain_here literal (from_place source.entry.text result) ≡ false }
+    ensures boundary { IsCharBoundary source.entry.text result }
+{
+    let mut source = source;
+    pass_characters(&mut source, literal);
+    source.position()
+}
+
+/// Passes the characters that stand for themselves, and gives the byte that is next; the usual way has ASCII characters
+/// alone.
+#[inline(always)]
+pub(crate) fn pass_to_mark(source: &mut Source<'_>, literal: Literal) -> Option<u8>
+    requires { IsPlaced source.old }
+    ensures passes { PassesCharacters literal source.old source.new }
+    ensures all { plain_here literal (rest source.new) ≡ false }
+    ensures none { IfNone result (rest source.new ≡ []) }
+    ensures some { IfSome result (λ b. HasFirstByte b (rest source.new)) }
+    ensures placed { IsPlaced source.new }
+{
+    let b = source.pass_ascii(table_of(literal))?;
+    if b < 128 {
+        if b != b'$' {
+            return Some(b);
+        }
+    }
+    let end = end_of_characters(source.here(), literal);
+    source.set_position(end);
+    source.peek_byte()
 }

@@ -1,16 +1,17 @@
 //! Reading strings (ECMA-262 12.9.4).
 
-ghost use Rattle.std.specs.Prelude.{◌≡◌, ◌<◌, ◌≤◌, true, IfOk, OnErr};
+ghost use Rattle.std.specs.Prelude.{◌≡◌, ◌<◌, ◌≤◌, true, false, IfOk, IfNone, IfSome, OnErr};
 ghost use Rattle.js_text.specs.Ascii.{quotation_mark};
 ghost use Rattle.js_text.specs.Characters.{begins};
 ghost use Rattle.js_grammar.specs.StringItems.{is_quote};
-ghost use Rattle.js_source.specs.Source.{rest, IsPlaced, Reads};
+ghost use Rattle.js_source.specs.Source.{rest, IsPlaced, Reads, HasFirstByte};
 ghost use Rattle.js_spell.specs.Numeric.{BreaksOff};
-ghost use Rattle.js_spell.specs.Strings.{quote_of, TakesQuote, EndsString, SpellsString};
+ghost use Rattle.js_spell.specs.Strings.{in_template, quote_of, TakesQuote, EndsString, SpellsString};
+ghost use Rattle.js_spell.specs.Strings.{SpellsPlainString, MeetsNoQuote};
 
 use crate::escape::report_unterminated;
 use crate::items::read_value;
-use crate::plain::Literal;
+use crate::plain::{Literal, pass_to_mark};
 use crate::spelt::{Spelt, SpeltValue, spell};
 use js_kind::{Kind, Token};
 use js_source::Source;
@@ -89,4 +90,41 @@ pub fn read_string(
         return Ok(spell(token, Kind::Str, value));
     }
     Ok(spell(token, Kind::Undetermined, SpeltValue::Plain))
+}
+
+/// The string that a quote begins.
+#[inline(always)]
+fn literal_of(quote: u8) -> Literal
+    requires { is_quote quote ≡ true }
+    ensures string { in_template result ≡ false }
+    ensures quote { quote_of result ≡ quote }
+{
+    if quote == b'"' {
+        Literal::DoubleQuoted
+    } else {
+        Literal::SingleQuoted
+    }
+}
+
+/// Reads the string that is next and begins with the quote, where no escape stands in it and the quote ends it
+/// (ECMA-262 12.9.4). None: it is another, and the source stands somewhere in the same text.
+#[inline(always)]
+pub fn read_plain_string(source: &mut Source<'_>, quote: u8) -> Option<Kind>
+    requires placed { IsPlaced source.old }
+    requires ascii { quote < 128 }
+    requires next { HasFirstByte quote (rest source.old) }
+    requires quote { is_quote quote ≡ true }
+    ensures some { IfSome result (SpellsPlainString source.old source.new) }
+    ensures none { IfNone result (MeetsNoQuote quote (rest source.old)) }
+    ensures text { source.new.text ≡ source.old.text }
+    ensures placed { IsPlaced source.new }
+{
+    let literal = literal_of(quote);
+    source.next_ascii(quote);
+    let b = pass_to_mark(source, literal)?;
+    if b != quote {
+        return None;
+    }
+    source.next_ascii(b);
+    Some(Kind::Str)
 }

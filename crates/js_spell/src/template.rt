@@ -1,14 +1,14 @@
 //! Reading the parts of templates (ECMA-262 12.9.6).
 
-ghost use Rattle.std.specs.Prelude.{◌≡◌, ◌+◌, ◌≤◌, ◌==◌, true, false, IfOk, OnErr};
+ghost use Rattle.std.specs.Prelude.{◌≡◌, ◌+◌, ◌≤◌, ◌==◌, true, false, IfOk, IfNone, IfSome, OnErr};
 ghost use Rattle.js_source.specs.Source.{rest, IsPlaced};
 ghost use Rattle.js_grammar.specs.Template.{template_part_read};
 ghost use Rattle.js_spell.specs.Numeric.{BreaksOff};
-ghost use Rattle.js_spell.specs.Strings.{EndsPart, Spells};
+ghost use Rattle.js_spell.specs.Strings.{EndsPart, Spells, SpellsPlainPart, MeetsNoPartEnd};
 
 use crate::escape::report_unterminated;
 use crate::items::read_value;
-use crate::plain::{Literal, begins_substitution};
+use crate::plain::{Literal, begins_substitution, pass_to_mark};
 use crate::spelt::{Spelt, SpeltValue, spell};
 use js_kind::{Kind, Token};
 use js_source::Source;
@@ -76,4 +76,27 @@ pub fn read_template_part(
         PartEnd::Substitution => Ok(spell(token, substitute, value)),
         PartEnd::Missing => Ok(spell(token, Kind::Undetermined, SpeltValue::Plain)),
     }
+}
+
+/// Reads a part of a template behind the backquote or the `}` that begins it, where no escape and no CR stands in it
+/// and its mark ends it (ECMA-262 12.9.6). The kind is `substitute` where this is a `${`, and `tail` where it is a
+/// backquote. None: it is another part, and the source stands somewhere in the same text.
+#[inline(always)]
+pub fn read_plain_part(source: &mut Source<'_>, substitute: Kind, tail: Kind) -> Option<Kind>
+    requires { IsPlaced source.old }
+    ensures some { IfSome result (SpellsPlainPart substitute tail source.old source.new) }
+    ensures none { IfNone result (MeetsNoPartEnd (rest source.old)) }
+    ensures text { source.new.text ≡ source.old.text }
+    ensures placed { IsPlaced source.new }
+{
+    let b = pass_to_mark(source, Literal::Template)?;
+    if b == b'`' {
+        source.next_ascii(b);
+        return Some(tail);
+    }
+    if begins_substitution(source) {
+        source.next_2_chars();
+        return Some(substitute);
+    }
+    None
 }

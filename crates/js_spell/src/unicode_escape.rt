@@ -1,6 +1,8 @@
 //! Reading unicode escapes (ECMA-262 12.9.4).
 
-ghost use Rattle.std.specs.Prelude.{◌≤◌, ◌<◌, ◌^◌, IfSome};
+ghost use Rattle.std.specs.Prelude.{◌≡◌, ◌≤◌, ◌<◌, ◌^◌, true, false, IfNone, IfSome};
+ghost use Rattle.std.specs.Char.{digit_value};
+ghost use Rattle.js_kind.specs.Digits.{is_digit_of};
 ghost use Rattle.js_grammar.specs.UnicodeEscape.{hex_digits, braced_digits, unicode_escape, last_code_point};
 ghost use Rattle.js_source.specs.Source.{rest, IsPlaced};
 ghost use Rattle.js_spell.specs.Escape.{TakesDigit, ReadsUnicodeEscape};
@@ -24,6 +26,36 @@ pub(crate) fn take_digit(source: &mut Source<'_>, radix: u32) -> Option<u32>
     Some(value)
 }
 
+/// The value of the byte as a hexadecimal digit, if it is one.
+#[inline(always)]
+#[tactic(auto, unfolding(js_kind::specs::Digits::is_digit_of))]
+fn hex_value(b: u8) -> Option<u32>
+    ensures none { IfNone result (is_digit_of 16 b ≡ false) }
+    ensures some { IfSome result (λ value. (is_digit_of 16 b ≡ true) × (digit_value b ≡ value)) }
+    ensures value { IfSome result (λ value. value < 16) }
+{
+    match b {
+        b'0'..=b'9' => Some((b - b'0') as u32),
+        b'a'..=b'f' => Some((b - b'a') as u32 + 10),
+        b'A'..=b'F' => Some((b - b'A') as u32 + 10),
+        _ => None,
+    }
+}
+
+/// Takes a hexadecimal digit, if one is next, and gives its value.
+#[inline(always)]
+fn take_hex_digit(source: &mut Source<'_>) -> Option<u32>
+    requires { IsPlaced source.old }
+    ensures digit { TakesDigit 16 source.old source.new result }
+    ensures value { IfSome result (λ value. value < 16) }
+    ensures placed { IsPlaced source.new }
+{
+    let b = source.peek_byte()?;
+    let value = hex_value(b)?;
+    source.next_ascii(b);
+    Some(value)
+}
+
 /// Reads just so many hexadecimal digits and gives their value, or reads those that are there.
 pub(crate) fn read_hex_digits(source: &mut Source<'_>, count: u32) -> Option<u32>
     requires few { count ≤ 4 }
@@ -34,7 +66,7 @@ pub(crate) fn read_hex_digits(source: &mut Source<'_>, count: u32) -> Option<u32
 {
     let mut value = 0;
     'digits: for _ in 0..count {
-        value = value * 16 + take_digit(source, 16)?;
+        value = value * 16 + take_hex_digit(source)?;
     }
     Some(value)
 }
@@ -46,8 +78,8 @@ fn read_braced_digits(source: &mut Source<'_>) -> Option<u32>
     ensures small { IfSome result (λ value. value ≤ last_code_point) }
     ensures placed { IsPlaced source.new }
 {
-    let mut value = take_digit(source, 16)?;
-    'digits: while let Some(digit) = take_digit(source, 16) {
+    let mut value = take_hex_digit(source)?;
+    'digits: while let Some(digit) = take_hex_digit(source) {
         value = value * 16 + digit;
         if value > LAST_CODE_POINT {
             return None;

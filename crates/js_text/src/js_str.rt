@@ -89,6 +89,14 @@ impl JSStrBuilder {
         }
     }
 
+    /// A text of no units, with room for so many.
+    pub fn with_capacity_in(alloc: Global, units: usize) -> Result<JSStrBuilder, AllocError>
+        ensures { IfOk result (λ s. s ≡ []) }
+    {
+        let units = Vec::with_capacity(alloc, units)?;
+        Ok(JSStrBuilder { units })
+    }
+
     /// Adds the one or two units of a character.
     pub fn push(&mut self, c: char) -> Result<(), AllocError>
         ensures ok { OnOk result (self.new ≡ self.old ++ encode_utf16 c) }

@@ -17,13 +17,13 @@ returns-clause-ok c =
       short = c.requires.placed.short;
       boundary = c.requires.boundary;
     } in
-    let spelled = c.str_from_pos_to_current.ensures.characters cs plain.plain.here in
-    let chars_are = stretch_chars from cs (rest c.args.source.now) c.str_from_pos_to_current.result.now placed
+    let spelled = c.str_from_pos_to_current-plain.ensures.characters cs plain.plain.here in
+    let chars_are = stretch_chars from cs (rest c.args.source.now) c.str_from_pos_to_current-plain.result.now placed
     plain.plain.here spelled in
     rw c.decoded.ensures
     (decoded_value_read c.args.literal c.args.token.now.start from c.args.source.now c.read_items.new.source
     c.push_str.new.self c.read_items.new.text c.args.errors.now c.read_items.new.errors c.in_ok-has_bad.has_bad
     placed c.requires.placed plain (c.in_ok-push_str.ensures.ok
-    ∙ ap (λ us. us ++ units_of (chars c.str_from_pos_to_current.result.now)) c.new_in-text.ensures
+    ∙ ap (λ us. us ++ units_of (chars c.str_from_pos_to_current-plain.result.now)) c.in_ok-text.ensures
     ∙ ap units_of chars_are) c.requires.escaped
     c.in_ok-has_bad.ensures.ok c.in_ok-has_bad.ensures.ended)

@@ -9,25 +9,25 @@ use Rattle.js_spell.proofs.unicode_escape.read_braced_digits.Goals as goal
 pub returns-in_err-value-clause-read : goal.returns-in_err-value-clause-read
 returns-in_err-value-clause-read c =
     rw c.from_residual.ensures
-    (no_code_point c.args.source.now c.take_digit.new.source c.in_err-value.ensures.digit)
+    (no_code_point c.args.source.now c.take_hex_digit.new.source c.in_err-value.ensures.digit)
 
 pub digits-init : goal.digits-init
 digits-init c = record {
   taken =
-      first_of_code_point c.args.source.now c.take_digit.new.source c.in_ok-value.value c.in_ok-value.ensures.digit;
+      first_of_code_point c.args.source.now c.take_hex_digit.new.source c.in_ok-value.value c.in_ok-value.ensures.digit;
   small = omega (arith, c.in_ok-value.ensures.value);
-  placed = c.take_digit.ensures.placed;
+  placed = c.take_hex_digit.ensures.placed;
 }
 
 pub returns-then-value-gt-LAST_CODE_POINT-clause-read : goal.returns-then-value-gt-LAST_CODE_POINT-clause-read
 returns-then-value-gt-LAST_CODE_POINT-clause-read c =
-    code_point_too_great c.args.source.now c.digits.source c.take_digit-in-digits.new.source c.digits.value
+    code_point_too_great c.args.source.now c.digits.source c.take_hex_digit-in-digits.new.source c.digits.value
     c.in-Some.digit c.digits.invariant.taken c.in-Some.ensures.digit (omega (arith, c.if-value-gt-LAST_CODE_POINT.true))
 
 pub digits-preserved : goal.digits-preserved
 digits-preserved c = record {
   taken =
-      more_of_code_point c.args.source.now c.digits.source c.take_digit-in-digits.new.source c.digits.value
+      more_of_code_point c.args.source.now c.digits.source c.take_hex_digit-in-digits.new.source c.digits.value
       c.in-Some.digit c.digits.invariant.taken c.in-Some.ensures.digit
       (omega (arith, c.if-value-gt-LAST_CODE_POINT.false));
   small = omega (arith, c.if-value-gt-LAST_CODE_POINT.false);

@@ -28,16 +28,16 @@ overflow_add-value c =
 pub returns-in_err-value-clause-read : goal.returns-in_err-value-clause-read
 returns-in_err-value-clause-read c =
     rw c.from_residual.ensures
-    (hex_digits_broken c.args.source.now c.digits.source c.take_digit.new.source c.args.count c.digits.counter
+    (hex_digits_broken c.args.source.now c.digits.source c.take_hex_digit.new.source c.args.count c.digits.counter
     c.digits.value c.digits.invariant.taken c.digits-test.true c.in_err-value.ensures.digit)
 
 pub digits-preserved : goal.digits-preserved
 digits-preserved c = record {
   taken =
-      more_digits 16 [] c.args.source.now c.digits.source c.take_digit.new.source c.digits.counter c.digits.value
+      more_digits 16 [] c.args.source.now c.digits.source c.take_hex_digit.new.source c.digits.counter c.digits.value
       c.in_ok-value.field-0 c.digits.invariant.taken c.in_ok-value.ensures.digit;
   within = omega (arith, c.digits-test.true);
-  placed = c.take_digit.ensures.placed;
+  placed = c.take_hex_digit.ensures.placed;
 }
 
 pub returns-clause-read : goal.returns-clause-read
