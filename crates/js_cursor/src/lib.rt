@@ -8,6 +8,8 @@ mod cursor;
 mod diagnostic;
 mod element;
 mod fault;
+#[cfg(test)]
+mod json_tests;
 pub mod laws;
 mod predicate;
 
