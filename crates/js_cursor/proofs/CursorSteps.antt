@@ -1,12 +1,12 @@
 -- The steps of a cursor.
-use Rattle.std.proofs.Common.{◌≡◌, ◌≢◌, ◌<◌, ◌≤◌, ◌==◌, ℕ, ◌-◌, ◌^◌, Bool, true, false, not, List, [], ◌∷◌, ◌++◌}
+use Rattle.std.proofs.Common.{◌≡◌, ◌≢◌, ◌<◌, ◌≤◌, ◌==◌, ℕ, Bool, true, false, not, List, [], ◌∷◌, ◌++◌}
 use Rattle.std.proofs.Common.{length, take, drop}
 use Rattle.std.proofs.Common.{Option, Some, None, refl, sym, ◌∙◌, ap, subst, arith, append-nil, length-append}
-use Rattle.std.specs.Prelude.{◌&&◌, ◌||◌, ◌↔◌, if◌then◌else◌, is_none, nat_le, IsTrue}
+use Rattle.std.specs.Prelude.{◌&&◌, ◌↔◌, if◌then◌else◌, is_none, IsTrue}
 use Rattle.std.specs.List.{list_all}
 use Rattle.std.specs.Option.{is_some}
 use Rattle.std.proofs.lemmas.Bool.{and_parts, eq-eqb, eqb-true}
-use Rattle.std.proofs.lemmas.Bool.Decides.{nat_tests, same_from_decides}
+use Rattle.std.proofs.lemmas.Bool.Decides.{same_from_decides}
 use Rattle.std.proofs.Math.Seq.{take-append_seam}
 use Rattle.js_text.specs.declared.diagnostic.Diagnostic.{Diagnostic}
 use Rattle.js_kind.proofs.KindNumbers.{number_injective}
@@ -134,14 +134,6 @@ recovered_is earlier old new left to e goes restored new_is =
           goes.ambient
           ∙ ap (λ l. record earlier { lexer = l }) (sym lexer_back);
     }
-
--- A round that leads on leaves less to read: there is a fatal error, or the current token starts later.
-pub leads_on : {A : Type 0} (before after : Option A) (m n : ℕ) → m < 2 ^ 32 → is_some before ≡ false
-    → (is_none after && nat_le n m) ≡ false
-    → (if is_some after then 0 else 2 ^ 32 - n) < (if is_some before then 0 else 2 ^ 32 - m)
-leads_on (Some x) after m n short is e = absurd (cc)
-leads_on None (Some y) m n short is e = omega arith
-leads_on None None m n short is e = let later : m < n = grind (arith, nat_tests) in omega arith
 
 -- the lexer of a new cursor stands on its token
 pub on_first : (goal : Goal) (old new : of_state.LexerState) (token : TokenParts) (rest : List ℕ)

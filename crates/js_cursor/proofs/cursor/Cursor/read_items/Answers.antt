@@ -1,14 +1,13 @@
-use Rattle.std.proofs.Common.{◌≡◌, ◌<◌, ◌^◌, ◌++◌, [], ◌∷◌, false, true, refl, sym, ◌∙◌, ap, subst, append_assoc}
+use Rattle.std.proofs.Common.{◌<◌, ◌^◌, ◌++◌, [], ◌∷◌, refl, sym, ◌∙◌, ap, append_assoc}
 use Rattle.std.proofs.Common.{append-nil, arith}
 use Rattle.std.proofs.lemmas.Fn.{says_at}
 use Rattle.js_kind.specs.declared.kind.Kind.TheVariants.{Comma}
-use Rattle.js_cursor.specs.Lists.{IsSeparated, IsSeparatedRound, LeadingOn, is_stuck_at}
+use Rattle.js_cursor.specs.Lists.{IsSeparated, IsSeparatedRound, LeadingOn}
 use Rattle.js_cursor.specs.RestSteps.{readers_of}
 use Rattle.js_cursor.specs.Rests.{ReadsItem, elements}
 use Rattle.js_cursor.specs.Rests.EndsWithRest.{ends, rest_is_not_last}
-use Rattle.js_cursor.proofs.CursorSteps.{leads_on}
 use Rattle.js_cursor.proofs.RestItems.{elements-append, ends_behind, separated_behind}
-use Rattle.js_cursor.proofs.RoundSteps.{no_fatal_error, rounds-push}
+use Rattle.js_cursor.proofs.RoundSteps.{leaves_less, rounds-push, stuck_as_told}
 use Rattle.js_cursor.proofs.cursor.Cursor.read_items.Goals as goal
 
 pub items-init : goal.items-init
@@ -22,10 +21,9 @@ items-smaller g c =
     let separated : IsSeparated c.args.close Comma c.items.self c.behind_item.new.self =
     separated_behind c.args.close c.args.opening_span c.is_some-has_rest.result c.items.self c.in_ok-goes_on.goes_on
     c.behind_item.new.self c.if-not-goes_on.false c.in_ok-goes_on.ensures in
-    leads_on before.fatal after.fatal before.token.start after.token.start short
-    (no_fatal_error c.args.close before separated.is_open)
-    (subst (λ n. is_stuck_at n after ≡ false) c.cur_start-start.ensures
-    (sym c.is_stuck_at.ensures ∙ c.if-is_stuck_at.false))
+    leaves_less c.args.close before after short separated.is_open
+    (stuck_as_told before after c.cur_start-start.result c.is_stuck_at.result _ c.cur_start-start.ensures
+    c.is_stuck_at.ensures c.if-is_stuck_at.false)
 
 pub items-preserved : goal.items-preserved
 items-preserved g c =
@@ -41,8 +39,8 @@ items-preserved g c =
       rounds-push Q (readers_of c.args.items.now) c.args.self.now more (readers_of c.items.items) before round.item
           (readers_of c.read_item.new.items) after c.items.invariant.1 (
             record { between = c.behind_item.new.self; separated = separated; read = round.reads },
-            subst (λ n. is_stuck_at n after ≡ false) c.cur_start-start.ensures
-                (sym c.is_stuck_at.ensures ∙ c.if-is_stuck_at.false),
+            stuck_as_told before after c.cur_start-start.result c.is_stuck_at.result _ c.cur_start-start.ensures
+                c.is_stuck_at.ensures c.if-is_stuck_at.false,
           ),
       round.kept ∙ ap (λ ys. ys ++ elements (round.item ∷ [])) c.items.invariant.2
           ∙ append_assoc c.args.items.now.elements.items (elements more) (elements (round.item ∷ []))
@@ -100,7 +98,7 @@ returns-then-is_stuck_at-clause-stuck g c =
         read = round.reads;
       };
       stuck =
-          subst (λ n. is_stuck_at n after ≡ true) c.cur_start-start.ensures
-          (sym c.is_stuck_at.ensures ∙ c.if-is_stuck_at.true);
+          stuck_as_told c.items.self after c.cur_start-start.result c.is_stuck_at.result _ c.cur_start-start.ensures
+          c.is_stuck_at.ensures c.if-is_stuck_at.true;
       at_is = c.cur_start.ensures;
     }

@@ -1,10 +1,9 @@
-use Rattle.std.proofs.Common.{◌≡◌, ℕ, ◌-◌, ◌^◌, List, ◌++◌}
-use Rattle.std.specs.Prelude.{if◌then◌else◌}
-use Rattle.std.specs.Option.{is_some}
+use Rattle.std.proofs.Common.{◌≡◌, List, ◌++◌}
 use Rattle.js_kind.specs.declared.kind.Kind.TheVariants.{Comma}
 use Rattle.js_cursor.specs.Lists.{IsSeparatedRound, LeadingOn, Rounds}
 use Rattle.js_cursor.specs.Rests.{Item, ReadsItem, elements}
 use Rattle.js_cursor.specs.RestSteps.{readers_of}
+use Rattle.js_cursor.proofs.RoundSteps.{left_to_read}
 use Rattle.js_cursor.proofs.cursor.Cursor.read_items.Given as goal
 
 -- What was read so far are rounds, and their elements were added.
@@ -17,4 +16,4 @@ invariant-items g l =
 
 -- No fatal error stands, and there is still text behind the current token.
 abbrev pub decreases-items : goal.decreases-items
-decreases-items g l = if is_some l.self.fatal then 0 else 2 ^ 32 - l.self.token.start
+decreases-items g l = left_to_read l.self
