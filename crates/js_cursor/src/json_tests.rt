@@ -83,6 +83,7 @@ fn read_list<E: Element<RuntimeLexerConfig, usize> + Drop>(
     let read = cursor.parse_delimited_list(alloc, close, Kind::Comma, opening, element);
     let count = match read {
         Ok((counts, _)) => sum(counts.as_slice()),
+        // a value that is read leads on or stops the parser, so no list gets stuck
         Err(_) => return Err(AllocError),
     };
     cursor.expect_closing(close, opening)?;
@@ -111,12 +112,13 @@ impl<E: Element<RuntimeLexerConfig, usize> + Copy + Drop> Element<RuntimeLexerCo
 }
 
 /// A source, how many plain values it holds, and whether it is at fault.
-static CASES: [(&str, usize, bool); 6] = [
+static CASES: [(&str, usize, bool); 7] = [
     ("1", 1, false),
     ("[1, \"a\", null]", 3, false),
     ("{\"a\": [1, 2], \"b\": {\"c\": true}}", 3, false),
     ("[[1], {}, []]", 1, false),
     ("[1 2]", 1, true),
+    ("[1,", 1, true),
     ("{\"a\": 1", 1, true),
 ];
 

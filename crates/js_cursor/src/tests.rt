@@ -63,11 +63,11 @@ fn token_of(cursor: &TestCursor<'_>) -> (Kind, u32, u32) {
     (token.kind(), token.start(), token.end())
 }
 
-/// The fatal error of a cursor, or else the last error.
-fn fault_of(cursor: &TestCursor<'_>) -> Option<CursorDiagnostic> {
+/// The fatal error of a cursor, or else the last error, and whether it is fatal.
+fn fault_of(cursor: &TestCursor<'_>) -> (Option<CursorDiagnostic>, bool) {
     match cursor.fatal_error() {
-        Some(fatal) => Some(fatal.error),
-        None => cursor.errors().last().copied(),
+        Some(fatal) => (Some(fatal.error), true),
+        None => (cursor.errors().last().copied(), false),
     }
 }
 
@@ -115,8 +115,8 @@ fn tokens_behind_calls(rt: HostRuntime) -> Result<(), Fail> {
     Ok(())
 }
 
-/// A source, calls, and what is at fault then.
-static FAULTS: [(&str, &[Step], CursorDiagnostic); 3] = [
+/// A source, calls, what is at fault then, and whether that is fatal.
+static FAULTS: [(&str, &[Step], CursorDiagnostic, bool); 3] = [
     (
         "x ? y ; z",
         &[
@@ -130,6 +130,7 @@ static FAULTS: [(&str, &[Step], CursorDiagnostic); 3] = [
             span: Span { start: 6, end: 7 },
             question: Span { start: 2, end: 3 },
         },
+        true,
     ),
     (
         "a b",
@@ -137,6 +138,7 @@ static FAULTS: [(&str, &[Step], CursorDiagnostic); 3] = [
         CursorDiagnostic::AutoSemicolonInsertion {
             span: Span { start: 1, end: 1 },
         },
+        true,
     ),
     (
         "l\\u0065t",
@@ -144,15 +146,16 @@ static FAULTS: [(&str, &[Step], CursorDiagnostic); 3] = [
         CursorDiagnostic::EscapedKeyword {
             span: Span { start: 0, end: 8 },
         },
+        false,
     ),
 ];
 
 #[test]
 fn faults(rt: HostRuntime) -> Result<(), Fail> {
-    for (source, steps, fault) in &FAULTS {
+    for (source, steps, fault, is_fatal) in &FAULTS {
         let mut cursor = cursor_over(rt.alloc(), source)?;
         take_steps(&mut cursor, steps)?;
-        assert_eq!(rt; fault_of(&cursor), Some(*fault), "{source:?}");
+        assert_eq!(rt; fault_of(&cursor), (Some(*fault), *is_fatal), "{source:?}");
     }
     Ok(())
 }
@@ -384,7 +387,7 @@ fn a_list_that_is_broken_off(rt: HostRuntime) -> Result<(), Fail> {
         span: Span { start: 4, end: 5 },
         opening: Span { start: 0, end: 1 },
     };
-    assert_eq!(rt; fault_of(&cursor), Some(expected));
+    assert_eq!(rt; fault_of(&cursor), (Some(expected), true));
     Ok(())
 }
 
@@ -405,15 +408,16 @@ fn reads_with_rest(
     Ok((elements.len(), rest.is_some()))
 }
 
-/// A list with a rest, how many elements it has, and what is at fault.
-static RESTS: [(&str, usize, Option<CursorDiagnostic>); 3] = [
-    ("[a,...b]", 1, None),
+/// A list with a rest, how many elements it has, what is at fault, and whether that is fatal.
+static RESTS: [(&str, usize, Option<CursorDiagnostic>, bool); 3] = [
+    ("[a,...b]", 1, None, false),
     (
         "[...b,]",
         0,
         Some(CursorDiagnostic::RestElementTrailingComma {
             span: Span { start: 5, end: 6 },
         }),
+        false,
     ),
     (
         "[...b,a]",
@@ -421,12 +425,13 @@ static RESTS: [(&str, usize, Option<CursorDiagnostic>); 3] = [
         Some(CursorDiagnostic::RestLast {
             span: Span { start: 1, end: 5 },
         }),
+        true,
     ),
 ];
 
 #[test]
 fn lists_with_a_rest(rt: HostRuntime) -> Result<(), Fail> {
-    for (source, elements, fault) in &RESTS {
+    for (source, elements, fault, is_fatal) in &RESTS {
         let mut cursor = cursor_over(rt.alloc(), source)?;
         cursor.expect(Kind::LBrack)?;
         assert_eq!(rt;
@@ -434,7 +439,7 @@ fn lists_with_a_rest(rt: HostRuntime) -> Result<(), Fail> {
             Ok((*elements, true)),
             "{source:?}"
         );
-        assert_eq!(rt; fault_of(&cursor), *fault, "{source:?}");
+        assert_eq!(rt; fault_of(&cursor), (*fault, *is_fatal), "{source:?}");
     }
     Ok(())
 }

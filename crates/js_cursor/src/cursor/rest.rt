@@ -213,15 +213,15 @@ impl<C: LexerConfig + Drop> Cursor<'_, C> {
             StopsDelimitedList (ReadsItem E.reads P.reads) close Kind.Comma
             (record { element = parse_element; rest = parse_rest; found = None }) self.old at self.new)) }
     {
+        if self.is_at_end_of_list(close) {
+            return Ok((Vec::new(alloc), None));
+        }
         let mut items = ItemReader {
             element: parse_element,
             rest: parse_rest,
             elements: Vec::new(alloc),
             found: None,
         };
-        if self.is_at_end_of_list(close) {
-            return Ok((Vec::new(alloc), None));
-        }
         read_item(self, &mut items)?;
         let read = self.read_items(
             close,

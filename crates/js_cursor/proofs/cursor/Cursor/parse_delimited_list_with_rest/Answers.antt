@@ -23,7 +23,7 @@ returns-clause-ok g c =
     })
     (read.kept
     ∙ ap (λ ys. ys ++ elements read.more)
-    (first.kept ∙ ap (λ ys. ys ++ elements (first.item ∷ [])) c.new.ensures.items)
+    (first.kept ∙ ap (λ ys. ys ++ elements (first.item ∷ [])) c.new-2.ensures.items)
     ∙ sym (elements-append (first.item ∷ []) read.more))
     refl read.ends
 
