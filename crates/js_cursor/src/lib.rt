@@ -8,8 +8,6 @@ mod cursor;
 mod diagnostic;
 mod element;
 mod fault;
-#[cfg(test)]
-mod json_tests;
 pub mod laws;
 mod predicate;
 
@@ -20,5 +18,7 @@ pub use element::Element;
 pub use fault::CursorFault;
 pub use predicate::Predicate;
 
+#[cfg(test)]
+mod json_tests;
 #[cfg(test)]
 mod tests;
