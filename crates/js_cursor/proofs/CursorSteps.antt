@@ -1,13 +1,14 @@
 -- The steps of a cursor.
-use Rattle.std.proofs.Common.{◌≡◌, ◌≢◌, ◌<◌, ◌≤◌, ◌==◌, ℕ, ◌-◌, ◌^◌, Bool, true, false, not, List, [], ◌∷◌, ◌++◌}
+use Rattle.std.proofs.Common.{◌≡◌, ◌≢◌, ◌<◌, ◌≤◌, ◌==◌, ℕ, Bool, true, false, not, List, [], ◌∷◌, ◌++◌}
 use Rattle.std.proofs.Common.{length, take, drop}
 use Rattle.std.proofs.Common.{Option, Some, None, refl, sym, ◌∙◌, ap, subst, arith, append-nil, length-append}
-use Rattle.std.specs.Prelude.{◌&&◌, ◌||◌, ◌↔◌, if◌then◌else◌, is_none, nat_le, IsTrue}
+use Rattle.std.specs.Prelude.{◌&&◌, ◌↔◌, if◌then◌else◌, is_none, IsTrue}
 use Rattle.std.specs.List.{list_all}
 use Rattle.std.specs.Option.{is_some}
 use Rattle.std.proofs.lemmas.Bool.{and_parts, eq-eqb, eqb-true}
-use Rattle.std.proofs.lemmas.Bool.Decides.{nat_tests, same_from_decides}
+use Rattle.std.proofs.lemmas.Bool.Decides.{same_from_decides}
 use Rattle.std.proofs.Math.Seq.{take-append_seam}
+use Rattle.js_text.specs.declared.diagnostic.Diagnostic.{Diagnostic}
 use Rattle.js_kind.proofs.KindNumbers.{number_injective}
 use Rattle.js_kind.proofs.Members.{one_passes}
 use Rattle.js_kind.specs.Kinds.{number, is_name_kind, is_one_of}
@@ -19,7 +20,8 @@ use Rattle.js_lexer.specs.Decoded as of_values
 use Rattle.js_lexer.specs.Lexer as of_state
 use Rattle.js_lexer.specs.Lexer.{IsBehind}
 use Rattle.js_lexer.proofs.GoesOn as of_lexer
-use Rattle.js_cursor.specs.Checkpoint.{CanRewind, CursorCheckpoint, GoesOnFrom}
+use Rattle.js_cursor.specs.Checkpoint.{CanRewind, CursorCheckpoint, GoesOnFrom, checkpoint_with_errors_of, rewound}
+use Rattle.js_cursor.specs.Checkpoint.{with_diagnostics}
 use Rattle.js_cursor.specs.Cursor.{Advances, CursorState, HasByte, IsAsBefore, IsFresh, IsOnToken, is_at_token_end}
 use Rattle.js_cursor.specs.Cursor.{noting_escape, span_of, with_error}
 use Rattle.js_cursor.specs.ReLex.{is_angle, is_free}
@@ -110,13 +112,28 @@ can_rewind-on old new to h g = record {
   errors = omega (arith, h.errors, ap length g.errors, length-append old.errors g.more);
 }
 
--- A round that leads on leaves less to read: there is a fatal error, or the current token starts later.
-pub leads_on : {A : Type 0} (before after : Option A) (m n : ℕ) → m < 2 ^ 32 → is_some before ≡ false
-    → (is_none after && nat_le n m) ≡ false
-    → (if is_some after then 0 else 2 ^ 32 - n) < (if is_some before then 0 else 2 ^ 32 - m)
-leads_on (Some x) after m n short is e = absurd (cc)
-leads_on None (Some y) m n short is e = omega arith
-leads_on None None m n short is e = let later : m < n = grind (arith, nat_tests) in omega arith
+-- a cursor that went back to a checkpoint with a copy of what its lexer had reported
+pub recovered_is : (earlier old new : CursorState) (left : List Diagnostic) (to : CursorCheckpoint)
+    → to ≡ checkpoint_with_errors_of earlier → GoesOnFrom (with_diagnostics left earlier) old
+    → of_state.IsRestored earlier.lexer new.lexer → new ≡ rewound old to → IsAsBefore earlier new
+recovered_is earlier old new left to e goes restored new_is =
+    let back : new ≡ rewound old (checkpoint_with_errors_of earlier) = new_is ∙ ap (rewound old) e in
+    let lexer_back : new.lexer ≡ of_state.rewound old.lexer (of_state.checkpoint_with_errors_of earlier.lexer) =
+    ap (λ (c : CursorState). c.lexer) back in
+    let errors_back : take (length earlier.errors) old.errors ≡ earlier.errors =
+    ap (take (length earlier.errors)) goes.errors ∙ take-append_seam earlier.errors goes.more in
+    record {
+      lexer = restored;
+      decoded =
+          subst (λ (l : of_state.LexerState). of_values.Keeps earlier.lexer.decoded l.decoded) (sym lexer_back)
+          goes.decoded;
+      others =
+          back
+          ∙ ap (λ es. record (rewound old (checkpoint_with_errors_of earlier)) { errors = es }) errors_back
+          ∙ ap (λ a. record (rewound old (checkpoint_with_errors_of earlier)) { errors = earlier.errors; ambient = a })
+          goes.ambient
+          ∙ ap (λ l. record earlier { lexer = l }) (sym lexer_back);
+    }
 
 -- the lexer of a new cursor stands on its token
 pub on_first : (goal : Goal) (old new : of_state.LexerState) (token : TokenParts) (rest : List ℕ)

@@ -1,3 +1,4 @@
 pub mod CursorSteps
 pub mod GoesOn
+pub mod RestItems
 pub mod RoundSteps

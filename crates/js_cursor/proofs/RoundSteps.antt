@@ -1,11 +1,13 @@
 -- The rounds of lists.
-use Rattle.std.proofs.Common.{◌≡◌, ℕ, Bool, true, false, List, [], ◌∷◌, ◌++◌, refl}
-use Rattle.std.specs.Prelude.{◌||◌}
+use Rattle.std.proofs.Common.{◌≡◌, ◌<◌, ℕ, ◌-◌, ◌^◌, Bool, true, false, List, [], ◌∷◌, ◌++◌, refl, sym, ◌∙◌, subst}
+use Rattle.std.proofs.Common.{Option, Some, None, arith}
+use Rattle.std.specs.Prelude.{◌&&◌, ◌||◌, if◌then◌else◌, is_none, nat_le}
 use Rattle.std.specs.Option.{is_some}
+use Rattle.std.proofs.lemmas.Bool.Decides.{nat_tests}
 use Rattle.std.proofs.lemmas.Fn.{FoldsTo-push}
 use Rattle.js_kind.specs.declared.kind.Kind.{Kind}
 use Rattle.js_cursor.specs.Cursor.{CursorState, is_at}
-use Rattle.js_cursor.specs.Lists.{OnStuck, Reading, Rounds, ends_at}
+use Rattle.js_cursor.specs.Lists.{IsRound, LeadingOn, OnStuck, Reading, Rounds, ends_at, is_stuck, is_stuck_at}
 use Rattle.js_cursor.specs.declared.fault.CursorFault.{CursorFault}
 use Rattle.js_cursor.specs.declared.fault.CursorFault.TheVariants.{Stuck, Memory}
 
@@ -23,6 +25,40 @@ or_none false b e = (refl, e)
 -- where a list does not end, no fatal error stands
 pub no_fatal_error : (close : Kind) (c : CursorState) → ends_at close c ≡ false → is_some c.fatal ≡ false
 no_fatal_error close c e = (or_none (is_at close c) (is_some c.fatal) e).1
+
+-- what is left to read at most
+abbrev pub left_to_read : CursorState → ℕ
+left_to_read c = if is_some c.fatal then 0 else 2 ^ 32 - c.token.start
+
+leads_on : {A : Type 0} (before after : Option A) (m n : ℕ) → m < 2 ^ 32 → is_some before ≡ false
+    → (is_none after && nat_le n m) ≡ false
+    → (if is_some after then 0 else 2 ^ 32 - n) < (if is_some before then 0 else 2 ^ 32 - m)
+leads_on (Some x) after m n short is e = absurd (cc)
+leads_on None (Some y) m n short is e = omega arith
+leads_on None None m n short is e = let later : m < n = grind (arith, nat_tests) in omega arith
+
+-- A round that leads on leaves less to read: there is a fatal error, or the current token starts later.
+pub leaves_less : (close : Kind) (before after : CursorState) → before.token.start < 2 ^ 32
+    → ends_at close before ≡ false → is_stuck before after ≡ false → left_to_read after < left_to_read before
+leaves_less close before after short is_open leading =
+    leads_on before.fatal after.fatal before.token.start after.token.start short (no_fatal_error close before is_open)
+    leading
+
+-- what a test of the place where a round began tells of the round
+pub stuck_as_told : (before after : CursorState) (start : ℕ) (told answer : Bool) → start ≡ before.token.start
+    → told ≡ is_stuck_at start after → told ≡ answer → is_stuck before after ≡ answer
+stuck_as_told before after start told answer start_is told_is e =
+    subst (λ n. is_stuck_at n after ≡ answer) start_is (sym told_is ∙ e)
+
+-- one more round of a normal list, which leads on
+pub round-push : {F T : Type 0} (R : Reading F T) (close : Kind) (f : F) (c : CursorState) (xs ys : List T) (g : F)
+    (d : CursorState) (x : T) (h : F) (e : CursorState) → Rounds (LeadingOn (IsRound R close)) f c xs g d
+    → ends_at close d ≡ false → R g d x h e → is_stuck d e ≡ false → ys ≡ xs ++ x ∷ []
+    → Rounds (LeadingOn (IsRound R close)) f c ys h e
+round-push R close f c xs ys g d x h e rounds is_open read leading added =
+    subst (λ zs. Rounds (LeadingOn (IsRound R close)) f c zs h e) (sym added)
+    (rounds-push (LeadingOn (IsRound R close)) f c xs g d x h e rounds
+    (record { is_open = is_open; read = read }, leading))
 
 -- what is said of a place where a list gets stuck
 pub on_stuck-map : (fault : CursorFault) (P Q : ℕ → Type 0) → ((at : ℕ) → P at → Q at) → OnStuck fault P

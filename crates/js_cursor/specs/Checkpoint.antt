@@ -1,5 +1,6 @@
 -- Checkpoints of a cursor, and what speculation keeps.
 use Rattle.std.specs.Prelude.{◌≡◌, ℕ, ◌≤◌, List, ◌++◌, length, take, Option, Some, None}
+use Rattle.js_text.specs.declared.diagnostic.Diagnostic.{Diagnostic}
 use Rattle.js_kind.specs.TokenParts.{TokenParts}
 use Rattle.js_lexer.specs.Decoded.{Keeps}
 use Rattle.js_lexer.specs.Lexer as of_lexer
@@ -30,9 +31,17 @@ checkpoint_of c = record {
   fatal = c.fatal;
 }
 
+-- the same, with a copy of what the lexer had reported
+abbrev pub checkpoint_with_errors_of : CursorState → CursorCheckpoint
+checkpoint_with_errors_of c = record (checkpoint_of c) { lexer = of_lexer.checkpoint_with_errors_of c.lexer }
+
 -- a cursor whose fatal error was taken
 abbrev pub without_fatal_error : CursorState → CursorState
 without_fatal_error c = record c { fatal = None }
+
+-- a cursor whose lexer has reported these diagnostics, as where some were taken back
+abbrev pub with_diagnostics : List Diagnostic → CursorState → CursorState
+with_diagnostics diagnostics c = record c { lexer = of_lexer.with_diagnostics diagnostics c.lexer }
 
 -- The cursor may go back to the checkpoint: its lexer may, and it has no fewer errors than there were.
 pub record CanRewind (c : CursorState) (to : CursorCheckpoint) : Type 0 where

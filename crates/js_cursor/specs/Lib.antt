@@ -4,3 +4,5 @@ pub mod Expect
 pub mod ListSteps
 pub mod Lists
 pub mod ReLex
+pub mod Rests
+pub mod RestSteps

@@ -1,5 +1,5 @@
 -- Tokens that a cursor reads again as tokens of another goal.
-use Rattle.std.specs.Prelude.{◌≡◌, ℕ, ◌&&◌, ◌||◌, Bool, List, [], ◌∷◌, ◌==◌, is_none}
+use Rattle.std.specs.Prelude.{◌≡◌, ℕ, ◌&&◌, ◌||◌, Bool, List, ◌==◌, is_none}
 use Rattle.js_text.specs.Ascii.{hyphen_minus}
 use Rattle.js_text.specs.Characters.{begins, from_place}
 use Rattle.js_text.specs.declared.reg_exp_flags.RegExpFlags.{RegExpFlags}
@@ -8,7 +8,6 @@ use Rattle.js_kind.specs.declared.kind.Kind.{Kind}
 use Rattle.js_grammar.specs.declared.goal.Goal.{Goal}
 use Rattle.js_lexer.specs.Goals.{ReadsRegex}
 use Rattle.js_lexer.specs.Lexer.{ReadsAgain}
-use Rattle.js_lexer.specs.declared.regex.RegexToken.{RegexToken}
 use Rattle.js_cursor.specs.Cursor.{CursorState, is_at, is_at_token_end}
 
 -- No fatal error stands, and the lexer stands where the current token ends.

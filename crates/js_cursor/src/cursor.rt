@@ -11,6 +11,7 @@ mod advance;
 mod expect;
 mod list;
 mod re_lex;
+mod rest;
 mod speculate;
 
 use crate::diagnostic::{CursorDiagnostic, FatalError};

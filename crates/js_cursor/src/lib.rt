@@ -19,4 +19,6 @@ pub use fault::CursorFault;
 pub use predicate::Predicate;
 
 #[cfg(test)]
+mod json_tests;
+#[cfg(test)]
 mod tests;

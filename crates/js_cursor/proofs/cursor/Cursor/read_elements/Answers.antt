@@ -1,31 +1,20 @@
-use Rattle.std.proofs.Common.{◌≡◌, ◌<◌, ◌^◌, false, sym, ◌∙◌, subst, arith}
-use Rattle.js_cursor.specs.Lists.{IsRound, LeadingOn, Rounds, is_stuck_at}
-use Rattle.js_cursor.proofs.CursorSteps.{leads_on}
-use Rattle.js_cursor.proofs.RoundSteps.{no_fatal_error, rounds-push}
+use Rattle.std.proofs.Common.{◌<◌, ◌^◌, sym, ◌∙◌, arith}
+use Rattle.js_cursor.proofs.RoundSteps.{leaves_less, round-push, stuck_as_told}
 use Rattle.js_cursor.proofs.cursor.Cursor.read_elements.Goals as goal
 
 pub loop-close-smaller : goal.loop-close-smaller
 loop-close-smaller g c =
-    let before = c.loop-close.self in
-    let after = c.read.new.cursor in
     let short : c.loop-close.self.token.start < 2 ^ 32 = omega arith in
-    leads_on before.fatal after.fatal before.token.start after.token.start short
-    (no_fatal_error c.args.close before (sym c.is_at_end_of_list.ensures ∙ c.loop-close-test.true))
-    (subst (λ n. is_stuck_at n after ≡ false) c.cur_start-start.ensures
-    (sym c.is_stuck_at.ensures ∙ c.if-is_stuck_at.false))
+    leaves_less c.args.close c.loop-close.self c.read.new.cursor short
+    (sym c.is_at_end_of_list.ensures ∙ c.loop-close-test.true)
+    (stuck_as_told c.loop-close.self c.read.new.cursor c.cur_start-start.result c.is_stuck_at.result _
+    c.cur_start-start.ensures c.is_stuck_at.ensures c.if-is_stuck_at.false)
 
 pub loop-close-preserved : goal.loop-close-preserved
 loop-close-preserved g c =
-    let before = c.loop-close.self in
-    let after = c.read.new.cursor in
-    let Q = LeadingOn (IsRound g.F.Element.reads c.args.close) in
-    subst (λ ys. Rounds Q c.args.f.now c.args.self.now ys c.read.new.self after) (sym c.in_ok-push_last.ensures)
-    (rounds-push Q c.args.f.now c.args.self.now c.loop-close.elements.items c.loop-close.f before
-    c.in_ok-element.element c.read.new.self after c.loop-close.invariant (
-      record {
-        is_open = sym c.is_at_end_of_list.ensures ∙ c.loop-close-test.true;
-        read = c.in_ok-element.ensures;
-      },
-      subst (λ n. is_stuck_at n after ≡ false) c.cur_start-start.ensures
-          (sym c.is_stuck_at.ensures ∙ c.if-is_stuck_at.false),
-    ))
+    round-push g.F.Element.reads c.args.close c.args.f.now c.args.self.now c.loop-close.elements.items _
+    c.loop-close.f c.loop-close.self c.in_ok-element.element c.read.new.self c.read.new.cursor
+    c.loop-close.invariant (sym c.is_at_end_of_list.ensures ∙ c.loop-close-test.true) c.in_ok-element.ensures
+    (stuck_as_told c.loop-close.self c.read.new.cursor c.cur_start-start.result c.is_stuck_at.result _
+    c.cur_start-start.ensures c.is_stuck_at.ensures c.if-is_stuck_at.false)
+    c.in_ok-push_last.ensures

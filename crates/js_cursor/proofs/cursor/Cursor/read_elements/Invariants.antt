@@ -1,7 +1,5 @@
-use Rattle.std.proofs.Common.{ℕ, ◌-◌, ◌^◌}
-use Rattle.std.specs.Prelude.{if◌then◌else◌}
-use Rattle.std.specs.Option.{is_some}
 use Rattle.js_cursor.specs.Lists.{IsRound, LeadingOn, Rounds}
+use Rattle.js_cursor.proofs.RoundSteps.{left_to_read}
 use Rattle.js_cursor.proofs.cursor.Cursor.read_elements.Given as goal
 
 -- What was read so far are rounds.
@@ -11,4 +9,4 @@ invariant-loop-close g l =
 
 -- No fatal error stands, and there is still text behind the current token.
 abbrev pub decreases-loop-close : goal.decreases-loop-close
-decreases-loop-close g l = if is_some l.self.fatal then 0 else 2 ^ 32 - l.self.token.start
+decreases-loop-close g l = left_to_read l.self

@@ -1,7 +1,6 @@
-use Rattle.std.proofs.Common.{◌≡◌, ℕ, ◌-◌, ◌^◌, List, ◌++◌}
-use Rattle.std.specs.Prelude.{if◌then◌else◌}
-use Rattle.std.specs.Option.{is_some}
+use Rattle.std.proofs.Common.{◌≡◌, List, ◌++◌}
 use Rattle.js_cursor.specs.Lists.{IsSeparatedRound, LeadingOn, Rounds}
+use Rattle.js_cursor.proofs.RoundSteps.{left_to_read}
 use Rattle.js_cursor.proofs.cursor.Cursor.read_separated.Given as goal
 
 -- What was read so far are rounds, and their elements were added.
@@ -14,4 +13,4 @@ invariant-elements g l =
 
 -- No fatal error stands, and there is still text behind the current token.
 abbrev pub decreases-elements : goal.decreases-elements
-decreases-elements g l = if is_some l.self.fatal then 0 else 2 ^ 32 - l.self.token.start
+decreases-elements g l = left_to_read l.self

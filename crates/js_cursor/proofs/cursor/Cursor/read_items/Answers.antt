@@ -1,0 +1,104 @@
+use Rattle.std.proofs.Common.{◌<◌, ◌^◌, ◌++◌, [], ◌∷◌, refl, sym, ◌∙◌, ap, append_assoc}
+use Rattle.std.proofs.Common.{append-nil, arith}
+use Rattle.std.proofs.lemmas.Fn.{says_at}
+use Rattle.js_kind.specs.declared.kind.Kind.TheVariants.{Comma}
+use Rattle.js_cursor.specs.Lists.{IsSeparated, IsSeparatedRound, LeadingOn}
+use Rattle.js_cursor.specs.RestSteps.{readers_of}
+use Rattle.js_cursor.specs.Rests.{ReadsItem, elements}
+use Rattle.js_cursor.specs.Rests.EndsWithRest.{ends, rest_is_not_last}
+use Rattle.js_cursor.proofs.RestItems.{elements-append, ends_behind, separated_behind}
+use Rattle.js_cursor.proofs.RoundSteps.{leaves_less, rounds-push, stuck_as_told}
+use Rattle.js_cursor.proofs.cursor.Cursor.read_items.Goals as goal
+
+pub items-init : goal.items-init
+items-init g c = ([], refl, sym (append-nil c.args.items.now.elements.items))
+
+pub items-smaller : goal.items-smaller
+items-smaller g c =
+    let before = c.items.self in
+    let after = c.read_item.new.cursor in
+    let short : c.items.self.token.start < 2 ^ 32 = omega arith in
+    let separated : IsSeparated c.args.close Comma c.items.self c.behind_item.new.self =
+    separated_behind c.args.close c.args.opening_span c.is_some-has_rest.result c.items.self c.in_ok-goes_on.goes_on
+    c.behind_item.new.self c.if-not-goes_on.false c.in_ok-goes_on.ensures in
+    leaves_less c.args.close before after short separated.is_open
+    (stuck_as_told before after c.cur_start-start.result c.is_stuck_at.result _ c.cur_start-start.ensures
+    c.is_stuck_at.ensures c.if-is_stuck_at.false)
+
+pub items-preserved : goal.items-preserved
+items-preserved g c =
+    let before = c.items.self in
+    let after = c.read_item.new.cursor in
+    let Q = LeadingOn (IsSeparatedRound (ReadsItem g.E.Element.reads g.P.Element.reads) c.args.close Comma) in
+    let separated : IsSeparated c.args.close Comma c.items.self c.behind_item.new.self =
+    separated_behind c.args.close c.args.opening_span c.is_some-has_rest.result c.items.self c.in_ok-goes_on.goes_on
+    c.behind_item.new.self c.if-not-goes_on.false c.in_ok-goes_on.ensures in
+    let more = c.items.invariant.0 in
+    let round = c.in_ok-read_item.ensures in (
+      more ++ round.item ∷ [],
+      rounds-push Q (readers_of c.args.items.now) c.args.self.now more (readers_of c.items.items) before round.item
+          (readers_of c.read_item.new.items) after c.items.invariant.1 (
+            record { between = c.behind_item.new.self; separated = separated; read = round.reads },
+            stuck_as_told before after c.cur_start-start.result c.is_stuck_at.result _ c.cur_start-start.ensures
+                c.is_stuck_at.ensures c.if-is_stuck_at.false,
+          ),
+      round.kept ∙ ap (λ ys. ys ++ elements (round.item ∷ [])) c.items.invariant.2
+          ∙ append_assoc c.args.items.now.elements.items (elements more) (elements (round.item ∷ []))
+          ∙ ap (λ ys. c.args.items.now.elements.items ++ ys) (sym (elements-append more (round.item ∷ []))),
+    )
+
+pub returns-then-not-goes_on-clause-ok : goal.returns-then-not-goes_on-clause-ok
+returns-then-not-goes_on-clause-ok g c =
+    let read = c.items.invariant in
+    record {
+      more = read.0;
+      end = c.items.self;
+      rounds = read.1;
+      kept = read.2;
+      ends =
+          ends
+          (ends_behind c.args.close c.args.opening_span c.is_some-has_rest.result _ c.items.self
+          c.in_ok-goes_on.goes_on c.behind_item.new.self c.if-not-goes_on.true c.is_some-has_rest.ensures
+          c.in_ok-goes_on.ensures);
+    }
+
+pub returns-in-Some-clause-ok : goal.returns-in-Some-clause-ok
+returns-in-Some-clause-ok g c =
+    let read = c.items.invariant in
+    record {
+      more = read.0;
+      end = c.items.self;
+      rounds = read.1;
+      kept = read.2;
+      ends =
+          rest_is_not_last c.in-Some.rest c.in-Some.is c.behind_item.new.self
+          (separated_behind c.args.close c.args.opening_span c.is_some-has_rest.result c.items.self
+          c.in_ok-goes_on.goes_on c.behind_item.new.self c.if-not-goes_on.false c.in_ok-goes_on.ensures)
+          c.rest_last_diagnostic.result
+          (c.rest_span.result, says_at g.S.Fn c.rest_span.ensures refl, c.rest_last_diagnostic.ensures) c.set_fatal_error.ensures;
+    }
+
+pub returns-then-is_stuck_at-clause-stuck : goal.returns-then-is_stuck_at-clause-stuck
+returns-then-is_stuck_at-clause-stuck g c =
+    let read = c.items.invariant in
+    let round = c.in_ok-read_item.ensures in
+    let after = c.read_item.new.cursor in
+    record {
+      xs = read.0;
+      before = readers_of c.items.items;
+      from = c.items.self;
+      rounds = read.1;
+      x = round.item;
+      after = readers_of c.read_item.new.items;
+      round = record {
+        between = c.behind_item.new.self;
+        separated =
+            separated_behind c.args.close c.args.opening_span c.is_some-has_rest.result c.items.self
+            c.in_ok-goes_on.goes_on c.behind_item.new.self c.if-not-goes_on.false c.in_ok-goes_on.ensures;
+        read = round.reads;
+      };
+      stuck =
+          stuck_as_told c.items.self after c.cur_start-start.result c.is_stuck_at.result _ c.cur_start-start.ensures
+          c.is_stuck_at.ensures c.if-is_stuck_at.true;
+      at_is = c.cur_start.ensures;
+    }

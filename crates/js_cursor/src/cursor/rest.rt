@@ -1,0 +1,245 @@
+//! Lists that a rest may end.
+
+ghost use Rattle.std.specs.Prelude.{◌≡◌, true, false, None, IfOk, IfErr, OnOk};
+ghost use Rattle.std.specs.Fn.{FnReturnsAt};
+ghost use Rattle.js_text.specs.declared.span.Span.{Span};
+ghost use Rattle.js_cursor.specs.Cursor.{is_at};
+ghost use Rattle.js_cursor.specs.Lists.{GetsStuck, IsSeparatedRound, OnStuck, StopsDelimitedList, ends_at};
+ghost use Rattle.js_cursor.specs.Rests.{ReadsItem, ReadsListWithRest, noting_trailing_comma};
+ghost use Rattle.js_cursor.specs.RestSteps.{GoesBehindItem, ReadsItems, ReadsOneItem, readers_of};
+
+use super::Cursor;
+use super::list::push_last;
+use crate::diagnostic::CursorDiagnostic;
+use crate::element::Element;
+use crate::fault::CursorFault;
+use js_kind::{Kind, LexerConfig};
+use js_text::Span;
+use std::alloc::{AllocError, Global};
+
+/// What reads the elements and the rest of a list, and what of them was read.
+#[derive(Drop)]
+pub(crate) struct ItemReader<E, P, A, R> {
+    element: E,
+    rest: P,
+    elements: Vec<A>,
+    found: Option<R>,
+}
+
+/// Reads a rest.
+fn read_rest<C, A, R, E, P>(
+    cursor: &mut Cursor<'_, C>,
+    items: &mut ItemReader<E, P, A, R>,
+) -> Result<(), AllocError>
+where
+    C: LexerConfig + Drop,
+    A: Drop,
+    R: Drop,
+    E: Element<C, A>,
+    P: Element<C, R>,
+    requires first { items.old.found ≡ None }
+    requires at { is_at Kind.Dot3 cursor.old ≡ true }
+    ensures { OnOk result (ReadsOneItem E.reads P.reads items.old cursor.old items.new cursor.new) }
+{
+    let rest = items.rest.read(cursor)?;
+    items.found = Some(rest);
+    Ok(())
+}
+
+/// Reads an element.
+fn read_element<C, A, R, E, P>(
+    cursor: &mut Cursor<'_, C>,
+    items: &mut ItemReader<E, P, A, R>,
+) -> Result<(), AllocError>
+where
+    C: LexerConfig + Drop,
+    A: Drop,
+    R: Drop,
+    E: Element<C, A>,
+    P: Element<C, R>,
+    requires first { items.old.found ≡ None }
+    requires at { is_at Kind.Dot3 cursor.old ≡ false }
+    ensures { OnOk result (ReadsOneItem E.reads P.reads items.old cursor.old items.new cursor.new) }
+{
+    let element = items.element.read(cursor)?;
+    push_last(&mut items.elements, element)?;
+    Ok(())
+}
+
+/// Reads an item: a rest where it begins with `...`, and else an element.
+fn read_item<C, A, R, E, P>(
+    cursor: &mut Cursor<'_, C>,
+    items: &mut ItemReader<E, P, A, R>,
+) -> Result<(), AllocError>
+where
+    C: LexerConfig + Drop,
+    A: Drop,
+    R: Drop,
+    E: Element<C, A>,
+    P: Element<C, R>,
+    requires { items.old.found ≡ None }
+    ensures { OnOk result (ReadsOneItem E.reads P.reads items.old cursor.old items.new cursor.new) }
+{
+    if cursor.at(Kind::Dot3) {
+        return read_rest(cursor, items);
+    }
+    read_element(cursor, items)
+}
+
+impl<C: LexerConfig + Drop> Cursor<'_, C> {
+    /// Reports a comma at the span that stands between a rest and the end of its list.
+    fn note_trailing_comma(&mut self, has_rest: bool, span: Span) -> Result<(), AllocError>
+        ensures { OnOk result (self.new ≡ noting_trailing_comma has_rest span self.old) }
+    {
+        if !has_rest {
+            return Ok(());
+        }
+        if self.ambient {
+            return Ok(());
+        }
+        self.error(CursorDiagnostic::RestElementTrailingComma { span })
+    }
+
+    /// Goes past a comma, and tells whether an item is behind it; else the list ends there.
+    fn go_past_comma(&mut self, close: Kind, has_rest: bool) -> Result<bool, AllocError>
+        requires open { ends_at close self.old ≡ false }
+        requires at { is_at Kind.Comma self.old ≡ true }
+        ensures { IfOk result (λ goes_on. (opening : Span)
+            → GoesBehindItem close opening has_rest self.old goes_on self.new) }
+    {
+        let span = self.cur_span();
+        self.go_past(Kind::Comma)?;
+        if self.at(close) {
+            self.note_trailing_comma(has_rest, span)?;
+            return Ok(false);
+        }
+        if self.is_cut_off() {
+            return Ok(false);
+        }
+        Ok(true)
+    }
+
+    /// Tells whether an item stands behind an item, and goes past a comma; else the list ends there.
+    fn behind_item(
+        &mut self,
+        close: Kind,
+        opening_span: Span,
+        has_rest: bool,
+    ) -> Result<bool, AllocError>
+        ensures { IfOk result (λ goes_on. GoesBehindItem close opening_span has_rest self.old goes_on self.new) }
+    {
+        if self.is_at_end_of_list(close) {
+            return Ok(false);
+        }
+        if !self.at(Kind::Comma) {
+            self.stop_list(close, Kind::Comma, opening_span);
+            return Ok(false);
+        }
+        self.go_past_comma(close, has_rest)
+    }
+
+    /// Reads commas with items behind them up to the end of the list.
+    fn read_items<A, R, E, P, S, D>(
+        &mut self,
+        close: Kind,
+        opening_span: Span,
+        items: &mut ItemReader<E, P, A, R>,
+        rest_span: S,
+        rest_last_diagnostic: D,
+    ) -> Result<(), CursorFault>
+    where
+        A: Drop,
+        R: Drop,
+        E: Element<C, A>,
+        P: Element<C, R>,
+        S: Fn(&R) -> Span + Drop,
+        D: Fn(Span) -> CursorDiagnostic + Drop,
+        requires span { S.IsAlwaysCallable rest_span }
+        requires diagnostic { D.IsAlwaysCallable rest_last_diagnostic }
+        ensures ok { OnOk result (ReadsItems E.reads P.reads
+            (λ r error. (span : Span) × FnReturnsAt S.Fn rest_span r span × D.post rest_last_diagnostic span error)
+            close opening_span items.old self.old items.new self.new) }
+        ensures stuck { IfErr result (λ fault. OnStuck fault (λ at.
+            GetsStuck (IsSeparatedRound (ReadsItem E.reads P.reads) close Kind.Comma) (readers_of items.old) self.old at
+            self.new)) }
+    {
+        'items: loop {
+            let start = self.cur_start();
+            let has_rest = items.found.is_some();
+            let goes_on = self.behind_item(close, opening_span, has_rest)?;
+            if !goes_on {
+                return Ok(());
+            }
+            if let Some(rest) = &items.found {
+                self.set_fatal_error(rest_last_diagnostic(rest_span(rest)));
+                return Ok(());
+            }
+            read_item(self, items)?;
+            if self.is_stuck_at(start) {
+                return Err(CursorFault::Stuck {
+                    at: self.cur_start(),
+                });
+            }
+        }
+    }
+
+    /// Reads a list up to `close`, with commas between its items: elements, and at the end a rest, which begins with
+    /// `...`. It gives the elements, and the rest, if there is one. An item behind a rest stops the parser, with what
+    /// `rest_last_diagnostic` gives for the span that `rest_span` tells; a comma between a rest and `close` is an error,
+    /// but in an ambient context. The caller has gone past what opens the list, and goes past `close`.
+    pub fn parse_delimited_list_with_rest<A, R, E, P, S, D>(
+        &mut self,
+        alloc: Global,
+        close: Kind,
+        opening_span: Span,
+        parse_element: E,
+        parse_rest: P,
+        rest_span: S,
+        rest_last_diagnostic: D,
+    ) -> Result<(Vec<A>, Option<R>), CursorFault>
+    where
+        A: Drop,
+        R: Drop,
+        E: Element<C, A> + Drop,
+        P: Element<C, R> + Drop,
+        S: Fn(&R) -> Span + Drop,
+        D: Fn(Span) -> CursorDiagnostic + Drop,
+        requires span { S.IsAlwaysCallable rest_span }
+        requires diagnostic { D.IsAlwaysCallable rest_last_diagnostic }
+        ensures ok { IfOk result (λ read. ReadsListWithRest E.reads P.reads
+            (λ r error. (span : Span) × FnReturnsAt S.Fn rest_span r span × D.post rest_last_diagnostic span error)
+            close opening_span parse_element parse_rest self.old read.0.items read.1 self.new) }
+        ensures stuck { IfErr result (λ fault. OnStuck fault (λ at.
+            StopsDelimitedList (ReadsItem E.reads P.reads) close Kind.Comma
+            (record { element = parse_element; rest = parse_rest; found = None }) self.old at self.new)) }
+    {
+        if self.is_at_end_of_list(close) {
+            return Ok((Vec::new(alloc), None));
+        }
+        let mut items = ItemReader {
+            element: parse_element,
+            rest: parse_rest,
+            elements: Vec::new(alloc),
+            found: None,
+        };
+        read_item(self, &mut items)?;
+        let read = self.read_items(
+            close,
+            opening_span,
+            &mut items,
+            rest_span,
+            rest_last_diagnostic,
+        );
+        match read {
+            Ok(()) => {}
+            Err(fault) => return Err(fault),
+        }
+        let ItemReader {
+            element: _,
+            rest: _,
+            elements,
+            found,
+        } = items;
+        Ok((elements, found))
+    }
+}
