@@ -6,7 +6,7 @@ use Rattle.std.specs.Prelude.{codes, MatchBool, nat_le}
 use Rattle.std.proofs.lemmas.Bool.{ne_eqb, eqb-true, leb-true, leb-false}
 use Rattle.std.specs.Char.{is_ascii_digit}
 use Rattle.js_text.proofs.CharacterLemmas.{start_in_ascii}
-use Rattle.js_text.specs.Ascii.{grave_accent}
+use Rattle.js_text.specs.Ascii.{grave_accent, number_sign}
 use Rattle.js_text.specs.Characters.{begins}
 use Rattle.js_text.specs.declared.comment.Comment.{Comment}
 use Rattle.js_text.specs.declared.source_type.SourceType.{SourceType}
@@ -26,7 +26,7 @@ use Rattle.js_grammar.proofs.PieceLemmas.{piece-other, piece-minus, piece-angle}
 use Rattle.js_source.specs.Runs.{PassesRun, place_of}
 use Rattle.js_source.specs.Source.{At, rest, Reads, IsPlaced, HasFirstByte, HasFirstTwoBytes}
 use Rattle.js_source.specs.Search.{matches_at}
-use Rattle.js_spell.specs.Name.{SpellsPlainName}
+use Rattle.js_spell.specs.Name.{SpellsPlainName, SpellsPlainPrivateName}
 use Rattle.js_spell.specs.Numeric.{SpellsPlainNumber}
 use Rattle.js_spell.specs.Strings.{SpellsPlainString, SpellsPlainPart}
 use Rattle.js_spell.specs.declared.spelt.SpeltValue.TheVariants.{Plain}
@@ -45,7 +45,7 @@ use Rattle.js_lexer.proofs.GapSteps.{blanks_lead, line_feed_skipped, no_gap_left
 use Rattle.js_lexer.proofs.FastSteps.{begins_none}
 use Rattle.js_lexer.proofs.PartSteps.{is_start}
 use Rattle.js_lexer.proofs.NumberSteps.{digit_begins}
-use Rattle.js_lexer.proofs.NameSteps.{lexeme_of_name}
+use Rattle.js_lexer.proofs.NameSteps.{lexeme_of_name, lexeme_of_private}
 use Rattle.js_lexer.proofs.QuotedSteps.{lexeme_of_string, lexeme_of_template, behind_backquote}
 use Rattle.js_lexer.proofs.ReadingSteps.{lexeme_spelled, lexeme_onward, lexeme_of_number}
 use Rattle.js_lexer.proofs.ReadingSteps.{goal_behind, token_behind}
@@ -347,6 +347,13 @@ template_plainly ended old mid new kind h g reads spells r =
     lexeme_of_template (moved r old ended) (moved r new ended) mid old.place (token_at old.place)
     (record (token_at old.place) { escaped = false; has_separator = false }) (record { kind = kind; value = Plain })
     reads refl (spells r.errors (token_at old.place) (behind_backquote old mid h g reads)) refl
+
+-- a private name without an escape
+pub private_plainly : (ended : Bool) (old mid new : At) (kind : Kind) → IsPlaced old → IsPlaced mid
+    → Reads old mid number_sign → SpellsPlainPrivateName mid new kind → SpellsPlainly ended old new kind
+private_plainly ended old mid new kind h g reads spells r =
+    let name = spells r.errors (token_at old.place) in
+    lexeme_of_private (moved r old ended) (moved r new ended) mid kind false name.decoded h g reads name.read refl
 
 -- a number without a separator
 pub number_plainly : (ended : Bool) (old new : At) (kind : Kind) → begins_number (rest old) ≡ true

@@ -4,7 +4,7 @@
 
 ghost use Rattle.std.specs.Prelude.{◌≡◌, ◌<◌, Bool, IfSome, MatchBool};
 ghost use Rattle.std.specs.Str.{IsCharBoundary};
-ghost use Rattle.js_text.specs.Ascii.{grave_accent};
+ghost use Rattle.js_text.specs.Ascii.{grave_accent, number_sign};
 ghost use Rattle.js_grammar.specs.StringItems.{is_quote};
 ghost use Rattle.js_source.specs.Runs.{place_of};
 ghost use Rattle.js_source.specs.Source.{rest, IsPlaced, HasFirstByte};
@@ -16,7 +16,9 @@ use crate::punctuator::read_punctuator;
 use crate::reading::begins_ascii_name;
 use js_kind::Kind;
 use js_source::{Source, SourcePosition};
-use js_spell::{read_plain_name, read_plain_number, read_plain_part, read_plain_string};
+use js_spell::{
+    read_plain_name, read_plain_number, read_plain_part, read_plain_private_name, read_plain_string,
+};
 
 /// Whether the byte `b`, which is next, is a `<` or a `-` that begins no comment.
 #[inline(always)]
@@ -101,7 +103,20 @@ fn read_plain_template(source: &mut Source<'_>) -> Option<Kind>
     read_plain_part(source, Kind::TemplateHead, Kind::NoSubstitutionTemplate)
 }
 
-/// Reads the string, the number or the template that begins with the ASCII character `b`, which is next.
+/// Reads the private name that is next, where it begins with an ASCII character and no escape stands in it.
+#[inline(always)]
+fn read_plain_private(source: &mut Source<'_>) -> Option<Kind>
+    requires placed { IsPlaced source.old }
+    requires next { HasFirstByte number_sign (rest source.old) }
+    ensures spells { (line_has_ended : Bool) → IfSome result (SpellsPlainly line_has_ended source.old source.new) }
+    ensures text { source.new.text ≡ source.old.text }
+    ensures placed { IsPlaced source.new }
+{
+    source.next_ascii(b'#');
+    read_plain_private_name(source)
+}
+
+/// Reads the string, the number, the private name or the template that begins with the ASCII character `b`, which is next.
 #[inline(always)]
 fn read_value(source: &mut Source<'_>, b: u8) -> Option<Kind>
     requires placed { IsPlaced source.old }
@@ -117,10 +132,13 @@ fn read_value(source: &mut Source<'_>, b: u8) -> Option<Kind>
     if b.is_ascii_digit() {
         return read_plain_number(source, b);
     }
-    if b != b'`' {
+    if b == b'`' {
+        return read_plain_template(source);
+    }
+    if b != b'#' {
         return None;
     }
-    read_plain_template(source)
+    read_plain_private(source)
 }
 
 /// The kind of a value that was read so, and the place behind it.

@@ -1,7 +1,9 @@
 -- What is read of a name, item by item.
 use Rattle.std.proofs.Common.{◌≡◌, ℕ, ◌+◌, ◌<◌, ◌≤◌, Bool, true, false, ◌||◌, ◌==◌, List, [], ◌∷◌, ◌++◌, length, drop}
 use Rattle.std.proofs.Common.{refl, sym, ◌∙◌, ap, subst, arith, append_assoc, Option, Some, None, add-zero}
-use Rattle.std.proofs.Common.{length-append}
+use Rattle.std.proofs.Common.{length-append, inl, inr, ◌&&◌}
+use Rattle.std.specs.Prelude.{◌⊎◌, nat_lt}
+use Rattle.std.proofs.lemmas.Bool.{ltb-true}
 use Rattle.std.specs.Prelude.{map, option_to_list, Result, Ok, Err, OnOk, is_ok, if◌then◌else◌}
 use Rattle.std.specs.Char.{encode_utf8}
 use Rattle.std.specs.List.{list_any}
@@ -20,7 +22,7 @@ use Rattle.js_text.specs.declared.diagnostic.Diagnostic.{Diagnostic}
 use Rattle.js_text.specs.declared.diagnostic.Diagnostic.TheVariants.{InvalidCharacter, UnicodeEscapeSequence}
 use Rattle.js_text.specs.declared.span.Span.{Span}
 use Rattle.js_text.proofs.TextLemmas.{before_from}
-use Rattle.js_source.specs.Source.{At, rest, IsPlaced, StepsPast, Reads}
+use Rattle.js_source.specs.Source.{At, rest, IsPlaced, StepsPast, Reads, HasFirstByte}
 use Rattle.js_grammar.specs.Name.{NameItem, NameFault, CutsInto, items_text, items_value, items_report, item_report}
 use Rattle.js_grammar.specs.Name.{fault_report, plain_item, is_no_part, name_item, escape_item, name_read}
 use Rattle.js_grammar.specs.Outcome.{place_behind}
@@ -43,6 +45,11 @@ use Rattle.js_spell.specs.declared.name.Position.TheVariants.{First, Later}
 use Rattle.js_spell.specs.declared.spelt.Spelt.{Spelt}
 use Rattle.js_spell.specs.declared.spelt.SpeltValue.TheVariants.{Plain, Decoded}
 use Rattle.js_spell.proofs.NumericSteps.{leads_to}
+use Rattle.js_kind.specs.declared.kind.Kind.{Kind}
+use Rattle.js_kind.specs.declared.kind.Kind.TheVariants.{PrivateIdentifier}
+use Rattle.js_spell.specs.Name.{SpellsPlainName, SpellsPlainPrivateName}
+use Rattle.js_grammar.specs.Name.{begins_name}
+use Rattle.js_grammar.specs.Name.{named}
 
 one_byte : length (encode_utf8_all (backslash ∷ [])) ≡ 1
 unfolding encode_utf8
@@ -392,3 +399,48 @@ character_reported old new before after c sp h k read s report = record {
       (leads_to old new (c ∷ []) h k read.text read.here);
   read = rw read.here refl;
 }
+
+-- where a character of the class is next, a name begins
+pub start_begins : (b : ℕ) (cs : List ℕ) → b < 128 → HasFirstByte b cs → is_identifier_start b ≡ true
+    → begins_name cs ≡ true
+start_begins b [] small first is = absurd first
+start_begins b (c ∷ cs) small first is =
+    either_way (is_identifier_start c) (c == backslash) (ap is_identifier_start (first.0 small) ∙ is)
+  where
+    either_way : (x y : Bool) → x ≡ true → (x || y) ≡ true
+    either_way true y e = refl
+    either_way false y e = absurd (cc)
+
+-- and where none is, none does
+pub no_start_begins : (b : ℕ) (cs : List ℕ) → HasFirstByte b cs
+    → (128 ≤ b) ⊎ (is_identifier_start b ≡ false)
+    → begins (λ c. nat_lt c 128 && is_identifier_start c) cs ≡ false
+no_start_begins b [] first other = absurd first
+no_start_begins b (c ∷ cs) first other = by_test (nat_lt c 128) refl
+  where
+    by_test : (x : Bool) → nat_lt c 128 ≡ x → (x && is_identifier_start c) ≡ false
+    by_test false e = refl
+    by_test true e =
+        let small = ltb-true c 128 e in
+        let same : c ≡ b = first.1 small in
+        elim other [
+          | inl wide ↦ absurd (omega (arith, same, small, wide))
+          | inr none ↦ ap is_identifier_start same ∙ none
+        ]
+
+-- a private name without an escape
+pub plain_private : (old new : At) (kind : Kind) → begins_name (rest old) ≡ true → SpellsPlainName old new kind
+    → SpellsPlainPrivateName old new PrivateIdentifier
+plain_private old new kind begun spells errors token =
+    let name = spells errors token in
+    record {
+      decoded = name.decoded;
+      read = record {
+        text = name.read.text;
+        added = name.read.added;
+        reports = name.read.reports;
+        read = rw begun (ap named name.read.read);
+      };
+      flags = refl;
+      value = refl;
+    }

@@ -1,6 +1,6 @@
 -- The steps of reading a name.
 use Rattle.std.specs.Prelude.{◌≡◌, ℕ, ◌<◌, Bool, true, false, List, [], ◌∷◌, ◌++◌, ◌==◌, map, length, Option, Some}
-use Rattle.std.specs.Prelude.{None, option_to_list, drop, ◌⊎◌}
+use Rattle.std.specs.Prelude.{None, option_to_list, drop, ◌⊎◌, nat_lt, ◌&&◌}
 use Rattle.std.specs.List.{list_any}
 use Rattle.std.specs.Str.{chars, encode_utf8_all, IsUtf8}
 use Rattle.js_text.specs.Ascii.{backslash}
@@ -184,3 +184,14 @@ pub record SpellsPrivateName (old new : At) (before after : List Diagnostic) (wa
   pub read : ReadsPrivateName old new before after spelt.kind now.escaped decoded
   pub flags : now ≡ record was { escaped = now.escaped; has_separator = false }
   pub value : HasValue now.escaped decoded spelt.value
+
+-- No ASCII character that begins a name is next, or an escape stands in the name.
+abbrev pub MeetsNoPlainName : List ℕ → Type 0
+MeetsNoPlainName text = (begins (λ c. nat_lt c 128 && is_identifier_start c) text ≡ false) ⊎ MeetsEscape text
+
+-- A private name without an escape was read behind its `#`, of this kind: nothing is reported, and the flags of a token
+-- are not set.
+abbrev pub SpellsPlainPrivateName : At → At → Kind → Type 0
+SpellsPlainPrivateName old new kind =
+    (errors : List Diagnostic) (token : TokenParts) → SpellsPrivateName old new errors errors token
+    (record token { escaped = false; has_separator = false }) (record { kind = kind; value = Plain })

@@ -1,18 +1,19 @@
 //! Reading a name or a private name, good or at fault (ECMA-262 12.7).
 
 ghost use Rattle.std.specs.Prelude.{◌≡◌, ◌≤◌, ◌<◌, ◌==◌, ◌++◌, ◌∷◌, [], length, Bool, true, IfOk, IfSome, IfNone, OnOk};
-ghost use Rattle.std.specs.Prelude.{OnErr, MatchBool, string_bytes, drop};
+ghost use Rattle.std.specs.Prelude.{OnErr, MatchBool, MatchOption, string_bytes, drop, false, ◌⊎◌, List, ℕ};
 ghost use Rattle.std.specs.Char.Utf16.{is_low_surrogate};
 ghost use Rattle.std.specs.Str.{chars, IsCharBoundary};
 ghost use Rattle.js_text.specs.Ascii.{backslash};
-ghost use Rattle.js_text.specs.Characters.{begins, from_place, from_first, is_identifier_part};
+ghost use Rattle.js_text.specs.Characters.{begins, from_place, from_first, is_identifier_part, is_identifier_start};
 ghost use Rattle.js_text.specs.JsStr.{units_of};
 ghost use Rattle.js_grammar.specs.Name.{begins_name, is_no_part, low_surrogate_escape};
 ghost use Rattle.js_kind.specs.Keywords.{name_kind};
 ghost use Rattle.js_source.specs.Source.{rest, IsPlaced, BeginsWith, HasFirstByte};
 ghost use Rattle.js_spell.specs.Name.{class_of, PassesPlain, DecodesEscape, DecodesUnicode, ReadsEscape, ReadsItems};
 ghost use Rattle.js_spell.specs.Name.{PassesParts, ReadsToEnd, SpellsDecoded, SpellsName, ReportsNoName};
-ghost use Rattle.js_spell.specs.Name.{SpellsPlainName, MeetsEscape, SpellsPrivateName};
+ghost use Rattle.js_spell.specs.Name.{SpellsPlainName, MeetsEscape, SpellsPrivateName, SpellsPlainPrivateName};
+ghost use Rattle.js_spell.specs.Name.{MeetsNoPlainName};
 ghost use Rattle.js_spell.specs.Numeric.{BreaksOff};
 ghost use Rattle.js_spell.specs.declared.name.Position.TheVariants.{Later};
 ghost use Rattle.js_spell.specs.declared.spelt.SpeltValue.TheVariants.{Decoded};
@@ -402,35 +403,56 @@ fn end_of_parts(source: Source<'_>) -> SourcePosition
     source.position()
 }
 
-/// Goes to the first character that is no part of a name; the usual way has ASCII characters alone.
+/// Goes to the first character that is no part of a name, and gives the byte that is next; the usual way has ASCII
+/// characters alone.
 #[inline(always)]
-fn pass_to_end(source: &mut Source<'_>)
+fn pass_to_end(source: &mut Source<'_>) -> Option<u8>
     requires { IsPlaced source.old }
     ensures text { source.new.text ≡ source.old.text }
     ensures rest { rest source.new ≡ from_first is_no_part (rest source.old) }
+    ensures none { IfNone result (rest source.new ≡ []) }
+    ensures some { IfSome result (λ b. HasFirstByte b (rest source.new)) }
     ensures onward { source.old.place ≤ source.new.place }
     ensures placed { IsPlaced source.new }
 {
-    if let Some(_c) = pass_parts(source) {
-        let end = end_of_parts(source.here());
-        source.set_position(end);
+    let b = source.pass_ascii(parts())?;
+    if b < 128 {
+        return Some(b);
     }
+    let end = end_of_parts(source.here());
+    source.set_position(end);
+    source.peek_byte()
 }
 
-/// Passes the characters of the name that begins with the ASCII character `b`, up to its first escape or its end.
+/// Passes the characters of the name that begins with the ASCII character `b`, up to its first escape or its end, and
+/// gives the byte that is next.
 #[inline(always)]
-fn pass_plain_from(source: &mut Source<'_>, b: u8)
+fn pass_plain_from(source: &mut Source<'_>, b: u8) -> Option<u8>
     requires ascii { b < 128 }
     requires next { HasFirstByte b (rest source.old) }
     requires begun { begins_name (rest source.old) ≡ true }
     requires plain { b ≡ backslash → ⊥ }
     ensures passes { PassesPlain source.old Later source.new }
     ensures rest { rest source.new ≡ from_first is_no_part (drop 1 (rest source.old)) }
+    ensures none { IfNone result (rest source.new ≡ []) }
+    ensures some { IfSome result (λ b. HasFirstByte b (rest source.new)) }
     ensures onward { source.old.place ≤ source.new.place }
     ensures placed { IsPlaced source.new }
 {
     source.next_ascii(b);
-    pass_to_end(source);
+    pass_to_end(source)
+}
+
+/// Whether the byte that is next is the `\` of an escape.
+#[inline(always)]
+fn is_backslash(next: Option<u8>) -> bool
+    ensures { (text : List ℕ) → MatchOption next (text ≡ []) (λ b. HasFirstByte b text)
+        → result ≡ begins (λ c. c == backslash) text }
+{
+    match next {
+        Some(b) => b == b'\\',
+        None => false,
+    }
 }
 
 /// Reads the name that is next and begins with the ASCII character `b`, where no escape stands in it (ECMA-262 12.7).
@@ -450,9 +472,9 @@ pub fn read_plain_name(source: &mut Source<'_>, b: u8) -> Option<Kind>
         return None;
     }
     let start = source.position();
-    pass_plain_from(source, b);
+    let next = pass_plain_from(source, b);
     let name = source.str_from_pos_to_current(start);
-    if begins_ascii(source, b'\\') {
+    if is_backslash(next) {
         return None;
     }
     Some(match_keyword(name))
@@ -466,6 +488,36 @@ pub(crate) fn begins_name(source: &Source<'_>) -> bool
         Some(c) => is_identifier_start(c) || c == '\\',
         None => false,
     }
+}
+
+/// Whether the byte is an ASCII character that begins a name and no escape.
+#[inline(always)]
+fn is_plain_start(b: u8) -> bool
+    ensures { MatchBool result ((b < 128) × (is_identifier_start b ≡ true))
+        ((128 ≤ b) ⊎ (is_identifier_start b ≡ false)) }
+{
+    if b >= 128 {
+        return false;
+    }
+    is_identifier_start(b as char)
+}
+
+/// Reads the name behind a `#` that was just read, where it begins with an ASCII character and no escape stands in it
+/// (ECMA-262 12.7). None: something else stands there, and the source stands somewhere in the same text.
+#[inline(always)]
+pub fn read_plain_private_name(source: &mut Source<'_>) -> Option<Kind>
+    requires { IsPlaced source.old }
+    ensures some { IfSome result (SpellsPlainPrivateName source.old source.new) }
+    ensures none { IfNone result (MeetsNoPlainName (rest source.old)) }
+    ensures text { source.new.text ≡ source.old.text }
+    ensures placed { IsPlaced source.new }
+{
+    let b = source.peek_byte()?;
+    if !is_plain_start(b) {
+        return None;
+    }
+    read_plain_name(source, b)?;
+    Some(Kind::PrivateIdentifier)
 }
 
 /// Reports that no name follows a `#`, and gives the kind of the token.
