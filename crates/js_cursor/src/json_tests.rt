@@ -1,6 +1,6 @@
 //! A small parser of values like those of JSON, which shows what a cursor is for. It counts the plain values (texts,
-//! numbers, words) that a value holds. How deep values may nest is in its type: `Value<Value<Plain>>` holds plain values
-//! in lists in lists.
+//! numbers, words) that a value holds. How deep values may nest is in its type: `Value<Value<Plain>>` holds plain
+//! values in lists in lists.
 
 use crate::tests::{TestCursor, cursor_over};
 use crate::{Cursor, Element, Predicate};

@@ -185,8 +185,8 @@ impl<C: LexerConfig + Drop> Cursor<'_, C> {
 
     /// Reads a list up to `close`, with commas between its items: elements, and at the end a rest, which begins with
     /// `...`. It gives the elements, and the rest, if there is one. An item behind a rest stops the parser, with what
-    /// `rest_last_diagnostic` gives for the span that `rest_span` tells; a comma between a rest and `close` is an error,
-    /// but in an ambient context. The caller has gone past what opens the list, and goes past `close`.
+    /// `rest_last_diagnostic` gives for the span that `rest_span` tells; a comma between a rest and `close` is an
+    /// error, but in an ambient context. The caller has gone past what opens the list, and goes past `close`.
     pub fn parse_delimited_list_with_rest<A, R, E, P, S, D>(
         &mut self,
         alloc: Global,

@@ -65,6 +65,7 @@ returns-then-not-goes_on-clause-ok g c =
 pub returns-in-Some-clause-ok : goal.returns-in-Some-clause-ok
 returns-in-Some-clause-ok g c =
     let read = c.items.invariant in
+    let told = says_at g.S.Fn c.rest_span.ensures refl in
     record {
       more = read.0;
       end = c.items.self;
@@ -75,7 +76,7 @@ returns-in-Some-clause-ok g c =
           (separated_behind c.args.close c.args.opening_span c.is_some-has_rest.result c.items.self
           c.in_ok-goes_on.goes_on c.behind_item.new.self c.if-not-goes_on.false c.in_ok-goes_on.ensures)
           c.rest_last_diagnostic.result
-          (c.rest_span.result, says_at g.S.Fn c.rest_span.ensures refl, c.rest_last_diagnostic.ensures) c.set_fatal_error.ensures;
+          (c.rest_span.result, told, c.rest_last_diagnostic.ensures) c.set_fatal_error.ensures;
     }
 
 pub returns-then-is_stuck_at-clause-stuck : goal.returns-then-is_stuck_at-clause-stuck
