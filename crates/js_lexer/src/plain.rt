@@ -116,7 +116,8 @@ fn read_plain_private(source: &mut Source<'_>) -> Option<Kind>
     read_plain_private_name(source)
 }
 
-/// Reads the string, the number, the private name or the template that begins with the ASCII character `b`, which is next.
+/// Reads the string, the number, the private name or the template that begins with the ASCII character `b`, which is
+/// next.
 #[inline(always)]
 fn read_value(source: &mut Source<'_>, b: u8) -> Option<Kind>
     requires placed { IsPlaced source.old }
@@ -148,8 +149,8 @@ struct PlainValue {
     end: SourcePosition,
 }
 
-/// Reads the string or the template without escapes, or the number without separators, that begins with the ASCII
-/// character `b`, which is next.
+/// Reads the string, the template or the private name without escapes, or the number without separators, that begins
+/// with the ASCII character `b`, which is next.
 #[inline(never)]
 fn read_plain_value(source: Source<'_>, b: u8) -> Option<PlainValue>
     requires placed { IsPlaced source }
@@ -168,8 +169,8 @@ fn read_plain_value(source: Source<'_>, b: u8) -> Option<PlainValue>
 }
 
 /// Reads the name, the string or the template without escapes, the number without separators, or the punctuator, that
-/// begins with the ASCII character `b`, which is next. Where something else stands there, the source stands somewhere in
-/// the same text.
+/// begins with the ASCII character `b`, which is next. Where something else stands there, the source stands somewhere
+/// in the same text.
 #[inline(always)]
 pub(crate) fn read_plain_spelling(
     source: &mut Source<'_>,

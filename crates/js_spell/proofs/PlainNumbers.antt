@@ -185,7 +185,8 @@ pub prefixed_suffix : (prefix : Prefix) (radix : ℕ) (table : List Bool) (old m
     → begins (matches_at table) (rest here) ≡ false → begins (is_digit_of radix) (rest mid) ≡ true
     → Reads here new latin_small_letter_n
     → ReadsCut old new errors errors false false (base_of_prefix prefix).big_kind (number_items (rest old))
-prefixed_suffix prefix radix table old mid here new errors is small h g k p text behind tells same run stops digit read =
+prefixed_suffix prefix radix table old mid here new errors is small h g k p text behind tells same run stops digit
+    read =
     let base = base_of_prefix prefix in
     let digits : ReadsRun base.radix mid here errors errors false false true =
     subst (λ (r : ℕ). ReadsRun r mid here errors errors false false true) is

@@ -202,8 +202,8 @@ Leads (LedByPrefix prefix) text = HasPrefix prefix text
 Leads Legacy text = number_items text ≡ legacy_items text
 Leads DecimalLead text = number_items text ≡ decimal_items text
 
--- A number was read without a separator and without a fault, of this kind: nothing is reported, and the flags of a token
--- are not set.
+-- A number was read without a separator and without a fault, of this kind: nothing is reported, and the flags of a
+-- token are not set.
 abbrev pub SpellsPlainNumber : At → At → Kind → Type 0
 SpellsPlainNumber old new kind =
     (errors : List Diagnostic) (token : TokenParts) → SpellsNumber old new errors errors token

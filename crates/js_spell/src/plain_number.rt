@@ -101,8 +101,8 @@ fn read_behind_integer(source: &mut Source<'_>) -> Kind
     pass_exponent_or(source, Kind::Decimal)
 }
 
-/// Reads the number with the prefix that is next, and gives its kind. Where no digit follows the prefix, the source does
-/// not move.
+/// Reads the number with the prefix that is next, and gives its kind. Where no digit follows the prefix, the source
+/// does not move.
 #[inline(always)]
 fn read_prefixed(source: &mut Source<'_>, prefix: Prefix) -> Kind
     requires placed { IsPlaced source.old }
@@ -186,8 +186,8 @@ fn ends_number(source: &Source<'_>) -> bool
     }
 }
 
-/// Reads the number that is next and begins with the digit `b`, where it has no separator and no fault, and no character
-/// past ASCII follows it (ECMA-262 12.9.3). None: it goes on where the source stands then, in the same text.
+/// Reads the number that is next and begins with the digit `b`, where it has no separator and no fault, and no
+/// character past ASCII follows it (ECMA-262 12.9.3). None: it goes on where the source stands then, in the same text.
 #[inline(always)]
 pub fn read_plain_number(source: &mut Source<'_>, b: u8) -> Option<Kind>
     requires placed { IsPlaced source.old }

@@ -7,7 +7,8 @@ use Rattle.js_spell.proofs.name.decode_name.Goals as goal
 
 pub returns-clause-ok : goal.returns-clause-ok
 returns-clause-ok c =
-    let start = c.in_ok-push_str.ensures.bytes ∙ ap (λ bytes. bytes ++ c.args.plain.now) c.in_ok-decoded.ensures.bytes in
+    let start = c.in_ok-push_str.ensures.bytes
+    ∙ ap (λ bytes. bytes ++ c.args.plain.now) c.in_ok-decoded.ensures.bytes in
     let more = c.in_ok-read_rest_into.ensures.ok in
     name_decoded c.args.position c.args.source.now c.read_escape_into.new.source c.read_rest_into.new.source
     c.args.errors.now c.read_escape_into.new.errors c.read_rest_into.new.errors c.args.plain.now
