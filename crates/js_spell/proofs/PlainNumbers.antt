@@ -1,12 +1,13 @@
 -- The steps of reading a number without a separator and without a fault.
 use Rattle.std.proofs.Common.{◌≡◌, ℕ, ◌<◌, ◌≤◌, Bool, true, false, ◌||◌, ◌==◌, List, [], ◌∷◌, drop, refl, sym, ◌∙◌}
+use Rattle.std.proofs.Common.{◌++◌, length, length-append}
 use Rattle.std.proofs.Common.{ap, subst, arith, inl, inr, ltb, nat_le, not}
 use Rattle.std.specs.Prelude.{◌⊎◌, MatchBool}
 use Rattle.std.proofs.lemmas.Bool.{eqb-true, ne_eqb, ltb-true, ltb-false, le-leb}
 use Rattle.std.specs.Char.{is_ascii_alphabetic, is_ascii_alphanumeric}
 use Rattle.js_text.proofs.CharacterLemmas.{start_in_ascii, part_in_ascii}
 use Rattle.js_text.specs.Ascii.{full_stop, low_line}
-use Rattle.js_text.specs.Characters.{begins}
+use Rattle.js_text.specs.Characters.{begins, from_place}
 use Rattle.js_text.specs.declared.diagnostic.Diagnostic.{Diagnostic}
 use Rattle.js_kind.specs.Digits.{is_digit_of}
 use Rattle.js_kind.specs.TokenParts.{TokenParts}
@@ -30,7 +31,7 @@ use Rattle.js_spell.specs.declared.numeric.Passed.TheVariants.{Whole}
 use Rattle.js_spell.specs.declared.spelt.SpeltValue.TheVariants.{Plain}
 use Rattle.js_spell.proofs.EndSteps.{good_number_read}
 use Rattle.js_spell.proofs.LeadSteps.{zero_leads, other_leads}
-use Rattle.js_spell.proofs.NumericSteps.{same, same_true, passes_whole, run_whole_read, integer_read}
+use Rattle.js_spell.proofs.NumericSteps.{stops_digits, same, same_true, passes_whole, run_whole_read, integer_read}
 use Rattle.js_spell.proofs.NumericSteps.{fraction_read, exponent_read, behind_point_read}
 use Rattle.js_spell.proofs.NumericSteps.{behind_other_read, no_suffix_read, decimal_read}
 use Rattle.js_spell.proofs.PrefixSteps.{led_read, prefixed_read, prefix_big_read, prefix_plain_read}
@@ -101,6 +102,20 @@ integer_passed b table old new errors tells text run stops small first digit oth
     integer_read old new errors errors false false true (other_digit b (rest old) small first other)
     (plain_run_read 10 table old new errors (omega arith) tells text run stops
     (first_there (is_digit_of 10) true b (rest old) small first digit) follows.separator)
+
+-- at least one digit was passed
+pub digit_passed : (table : List Bool) (b : ℕ) (old new : At) → TellsDigits 10 table → new.text ≡ old.text
+    → PassesRun table old.text old.place new.place → begins (matches_at table) (rest new) ≡ false → b < 128
+    → HasFirstByte b (rest old) → is_digit_of 10 b ≡ true → length (rest new) < length (rest old)
+digit_passed table b old new tells text run stops small first is =
+    by_run run.run (run.here ∙ ap (λ t. run.run ++ from_place t new.place) (sym text))
+  where
+    by_run : (xs : List ℕ) → rest old ≡ xs ++ rest new → length (rest new) < length (rest old)
+    by_run [] e =
+        let digit = first_there (is_digit_of 10) true b (rest old) small first is in
+        let none = ap (begins (is_digit_of 10)) e ∙ stops_digits 10 table (rest new) (omega arith) tells stops in
+        let both : true ≡ false = sym digit ∙ none in absurd (cc)
+    by_run (x ∷ xs) e = omega (arith, ap length e, length-append xs (rest new))
 
 -- a fraction, and none
 pub fraction_passed : (table : List Bool) (old mid new : At) (errors : List Diagnostic) (kind : Kind) → IsPlaced old

@@ -1,6 +1,6 @@
 //! Reading a number without a separator and without a fault (ECMA-262 12.9.3).
 
-ghost use Rattle.std.specs.Prelude.{◌≡◌, ◌<◌, ◌≤◌, ◌⊎◌, List, false, true, IfNone, IfSome, MatchBool};
+ghost use Rattle.std.specs.Prelude.{◌≡◌, ◌<◌, ◌≤◌, ◌⊎◌, length, List, false, true, IfNone, IfSome, MatchBool};
 ghost use Rattle.js_text.specs.Characters.{begins};
 ghost use Rattle.js_text.specs.declared.diagnostic.Diagnostic.{Diagnostic};
 ghost use Rattle.js_kind.specs.Digits.{is_digit_of};
@@ -29,6 +29,7 @@ fn pass_integer(source: &mut Source<'_>, b: u8)
         → ReadsInteger source.old source.new errors errors false false }
     ensures items { FollowsInteger (rest source.new)
         → number_items (rest source.old) ≡ decimal_items (rest source.old) }
+    ensures fewer { length (rest source.new) < length (rest source.old) }
     ensures text { source.new.text ≡ source.old.text }
     ensures placed { IsPlaced source.new }
 {
