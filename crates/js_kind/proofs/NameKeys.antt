@@ -1,6 +1,7 @@
 -- Keys of names.
-use Rattle.std.proofs.Common.{◌≡◌, ◌+◌, ◌-◌, ◌*◌, ◌^◌, ◌%◌, ◌/◌, ◌≤◌, ◌<◌, ℕ, zero, suc, refl, sym, ◌∙◌, ap, arith, bit_and, lit<}
-use Rattle.std.proofs.Common.{List, [], ◌∷◌, ◌⊎◌, inl, inr, subst, length, map, take, drop, get_or, length-drop}
+use Rattle.std.proofs.Common.{◌≡◌, ◌+◌, ◌-◌, ◌*◌, ◌^◌, ◌%◌, ◌/◌, ◌≤◌, ◌<◌, ℕ, zero, suc, bit_and, lit<, arith}
+use Rattle.std.proofs.Common.{List, [], ◌∷◌, length, map, take, drop, get_or, length-drop}
+use Rattle.std.proofs.Common.{◌⊎◌, inl, inr, refl, sym, ◌∙◌, ap, subst}
 use Rattle.std.proofs.lemmas.Nat.{and_mask, mod-pow-add, pow-add, pow_pos}
 use Rattle.std.proofs.lemmas.List.{take-take, take_all, length-take, get_or-drop}
 use Rattle.std.proofs.lemmas.Bool.{cases_lt}

@@ -1,7 +1,6 @@
 -- The table of words.
-use Rattle.std.proofs.Common.{◌≡◌, ◌⊎◌, ◌+◌, ◌*◌, ◌^◌, ◌%◌, ◌/◌, ◌≤◌, ◌<◌, ◌&&◌, ◌==◌, ℕ, zero, suc, Bool, true, false}
-use Rattle.std.proofs.Common.{List, [], ◌∷◌, ◌++◌, length, take, drop, get_or, refl, lit<, sym, ◌∙◌, ap, subst, arith, inl, inr}
-use Rattle.std.proofs.Common.{if◌then◌else◌}
+use Rattle.std.proofs.Common.{◌≡◌, ◌⊎◌, ◌≤◌, ◌<◌, ◌&&◌, ◌==◌, ℕ, zero, suc, Bool, true, false}
+use Rattle.std.proofs.Common.{List, [], ◌∷◌, ◌++◌, length, take, drop, get_or, refl, lit<, sym, ◌∙◌, ap, arith, inl, inr}
 use Rattle.std.proofs.lemmas.Bool.{both_ways, eqb-true, leb-true, and_parts, or_cases}
 use Rattle.std.proofs.lemmas.Slice.Eq.{bytes_eq-Decides}
 use Rattle.std.proofs.lemmas.Grind.{same_number_lists}
@@ -13,7 +12,7 @@ use Rattle.js_kind.specs.declared.kind.Kind.{Kind}
 use Rattle.js_kind.specs.declared.kind.Kind.TheVariants.{Ident}
 use Rattle.js_kind.specs.declared.words.Word.{Word}
 use Rattle.js_kind.specs.Kinds.{number, keywords, kind_text, is_name_kind}
-use Rattle.js_kind.specs.Keywords.{name_kind, key_of, place_of, bytes_number, empty, is_placed, is_empty_or_word}
+use Rattle.js_kind.specs.Keywords.{name_kind, key_of, place_of, empty, is_placed, is_empty_or_word}
 use Rattle.js_kind.specs.Keywords.{is_empty, is_word, HoldsWords, IsOnlyWord, IsKindOfName}
 use Rattle.js_kind.proofs.KindNumbers.{number_injective}
 use Rattle.js_kind.proofs.Members.{one_passes}

@@ -5,6 +5,7 @@ use Rattle.std.specs.List.{list_all}
 use Rattle.std.specs.Str.{bytes_eq}
 use Rattle.js_kind.specs.declared.kind.Kind.{Kind}
 use Rattle.js_kind.specs.declared.kind.Kind.TheVariants.{Ident}
+use Rattle.js_kind.specs.declared.words.TheConstants.{FACTOR}
 use Rattle.js_kind.specs.declared.words.Word.{Word}
 use Rattle.js_kind.specs.Kinds.{number, is_name_kind, kind_text}
 pub use Rattle.js_kind.specs.Kinds.{keywords}
@@ -43,7 +44,7 @@ mask length = 2 ^ (8 * min length 8) - 1
 
 -- the place of a key in the table: the 9 high bits of a product
 abbrev pub place_of : ℕ → ℕ
-place_of key = key * 6714573934940099733 % 2 ^ 64 / 2 ^ 55
+place_of key = key * FACTOR % 2 ^ 64 / 2 ^ 55
 
 -- the entry is that of no word
 abbrev pub is_empty : Word → Bool

@@ -141,13 +141,16 @@ fn words() -> &'static [Word; 512]
     &WORDS
 }
 
-/// The place of a key: the high bits of a product, which differ for the keys of all words.
+/// A factor for which the high bits of its products with the keys of all words differ.
+pub(crate) const FACTOR: u64 = 0x5D2E_F56B_2233_9495;
+
+/// The place of a key.
 #[inline(always)]
 fn place_of(key: u64) -> usize
     ensures place { result ≡ place_of key }
     ensures bound { result < 512 }
 {
-    (key.wrapping_mul(0x5D2E_F56B_2233_9495) >> 55) as usize
+    (key.wrapping_mul(FACTOR) >> 55) as usize
 }
 
 /// The one word that may have this key, or an empty place where none may.

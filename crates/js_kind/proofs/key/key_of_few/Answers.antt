@@ -13,7 +13,8 @@ overflow_mul-key c =
 pub overflow_add-key : goal.overflow_add-key
 overflow_add-key c =
     let small = few_small c.args.bytes.now c.loop-left.left (λ k. (c.type_inv.bytes k).fits) c.requires in
-    let byte : slice_index c.args.bytes.now (c.loop-left.left - 1) < 256 = (c.type_inv.bytes (c.loop-left.left - 1)).fits in
+    let at = c.loop-left.left - 1 in
+    let byte : slice_index c.args.bytes.now at < 256 = (c.type_inv.bytes at).fits in
     omega (arith, small)
 
 pub loop-left-preserved : goal.loop-left-preserved

@@ -1,4 +1,4 @@
-use Rattle.std.proofs.Common.{◌≡◌, ◌≤◌, length, drop, ℕ}
+use Rattle.std.proofs.Common.{◌≡◌, ◌≤◌, length, drop}
 use Rattle.js_kind.specs.Keywords.{bytes_number}
 use Rattle.js_kind.proofs.key.key_of_few.Given as goal
 
