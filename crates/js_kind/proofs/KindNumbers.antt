@@ -1,7 +1,7 @@
 -- The numbers of kinds.
-use Rattle.std.proofs.Common.{◌≡◌, ℕ, List, map, length, get_or, refl, sym, ◌∙◌, ap}
+use Rattle.std.proofs.Common.{◌≡◌, ℕ, zero, suc, List, [], ◌∷◌, ◌++◌, map, length, get_or, refl, sym, ◌∙◌, ap}
 use Rattle.std.proofs.lemmas.Option.{slice_get-map, get_or_from_slice_get}
-use Rattle.std.proofs.Math.ListN.{get_or-map}
+use Rattle.std.proofs.Math.ListN.{get_or-map, replicate}
 use Rattle.std.specs.Prelude.{Some, slice_get}
 use Rattle.std.specs.Option.{option_map}
 use denote.Enum.Bare.{tag_one}
@@ -21,6 +21,14 @@ number_injective = tag_one the_type tt
 pub kind_at_number : (kind : Kind) → slice_get VARIANTS (number kind) ≡ Some kind
 kind_at_number variant.Eof = refl
 kind_at_number _ = refl
+
+-- A list that is filled up with a default has it wherever the list alone has no item.
+pub filled : (kinds : List Kind) (n i : ℕ) (d : Kind) → get_or (kinds ++ replicate n d) i d ≡ get_or kinds i d
+filled [] zero i d = refl
+filled [] (suc n) zero d = refl
+filled [] (suc n) (suc i) d = filled [] n i d
+filled (k ∷ ks) n zero d = refl
+filled (k ∷ ks) n (suc i) d = filled ks n i d
 
 -- A table of the rows of all kinds has each at the place of its number.
 pub has_each_row : (rows : List Row) → length rows ≡ 169 → map row_of rows ≡ map kind_row VARIANTS → HasEachRow rows

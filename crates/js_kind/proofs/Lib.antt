@@ -4,4 +4,5 @@ pub mod KindNumbers
 pub mod Members
 pub mod NameKinds
 pub mod Packing
-mod WordPlaces
+mod NameKeys
+mod WordTable

@@ -1,10 +1,12 @@
 -- The keyword table.
-use Rattle.std.specs.Prelude.{◌≡◌, ◌≢◌, ◌⊎◌, ℕ, ◌+◌, ◌-◌, ◌*◌, ◌%◌, Bool, true, List, [], ◌∷◌, ◌==◌, length}
-use Rattle.std.specs.Prelude.{if◌then◌else◌, slice_index, slice_index_or}
+use Rattle.std.specs.Prelude.{◌≡◌, ◌≢◌, ◌⊎◌, ℕ, ◌+◌, ◌-◌, ◌*◌, ◌/◌, ◌%◌, ◌^◌, min, Bool, true, ◌==◌, ◌&&◌, ◌||◌}
+use Rattle.std.specs.Prelude.{List, [], ◌∷◌, length, take, get_or, if◌then◌else◌}
 use Rattle.std.specs.List.{list_all}
 use Rattle.std.specs.Str.{bytes_eq}
 use Rattle.js_kind.specs.declared.kind.Kind.{Kind}
-use Rattle.js_kind.specs.declared.kind.Kind.TheVariants.{Ident, Eof}
+use Rattle.js_kind.specs.declared.kind.Kind.TheVariants.{Ident}
+use Rattle.js_kind.specs.declared.words.TheConstants.{FACTOR}
+use Rattle.js_kind.specs.declared.words.Word.{Word}
 use Rattle.js_kind.specs.Kinds.{number, is_name_kind, kind_text}
 pub use Rattle.js_kind.specs.Kinds.{keywords}
 
@@ -23,26 +25,50 @@ IsKindOfName text kind =
     ((is_name_kind kind ≡ true) × (kind_text kind ≡ text))
     ⊎ ((kind ≡ Ident) × ((other : Kind) → is_name_kind other ≡ true → kind_text other ≢ text))
 
--- the place of a word in a table of words: by its first two characters, its last one and its length
-abbrev pub word_place : List ℕ → ℕ
-word_place text =
-    (slice_index text 0 * 30 + slice_index text 1 * 12 + slice_index text (length text - 1) + length text * 16) % 256
+-- an entry of the table that is that of no word
+abbrev pub empty : Word
+empty = record { key = 0; length = 0; kind = Ident }
 
--- the kind stands at the place of its text
-abbrev pub is_placed : List Kind → Kind → Bool
-is_placed table kind = number (slice_index_or table (word_place (kind_text kind)) Eof) == number kind
+-- the number of some bytes, the first one the least
+abbrev pub bytes_number : List ℕ → ℕ
+bytes_number [] = 0
+bytes_number (b ∷ bs) = b + 256 * bytes_number bs
 
--- a name with the text of the kind is of the kind
-abbrev pub is_found : Kind → Bool
-is_found kind = number (name_kind (kind_text kind)) == number kind
+-- the key of a text: the number of its first eight bytes
+abbrev pub key_of : List ℕ → ℕ
+key_of text = bytes_number (take 8 text)
 
--- the table has each word at its place, and elsewhere `Ident`
-pub record PlacesWords (table : List Kind) : Type 0 where
-  pub count : length table ≡ 256
+-- what leaves the bytes of a text of this length of the eight bytes from its start on
+abbrev pub mask : ℕ → ℕ
+mask length = 2 ^ (8 * min length 8) - 1
+
+-- the place of a key in the table: the 9 high bits of a product
+abbrev pub place_of : ℕ → ℕ
+place_of key = key * FACTOR % 2 ^ 64 / 2 ^ 55
+
+-- the entry is that of no word
+abbrev pub is_empty : Word → Bool
+is_empty word = number word.kind == number Ident && word.key == 0 && word.length == 0
+
+-- the entry is that of the word of its kind
+abbrev pub is_word : Word → Bool
+is_word word =
+    is_name_kind word.kind && word.key == key_of (kind_text word.kind) && word.length == length (kind_text word.kind)
+
+abbrev pub is_empty_or_word : Word → Bool
+is_empty_or_word word = is_empty word || is_word word
+
+-- the entry at the place of the text of the kind is that of the kind
+abbrev pub is_placed : List Word → Kind → Bool
+is_placed table kind = number (get_or table (place_of (key_of (kind_text kind))) empty).kind == number kind
+
+-- the table has each word at the place of its key, and elsewhere nothing
+pub record HoldsWords (table : List Word) : Type 0 where
+  pub count : length table ≡ 512
   pub places : list_all (is_placed table) keywords ≡ true
-  pub words : list_all is_found table ≡ true
+  pub words : list_all is_empty_or_word table ≡ true
 
--- no other word has the text, and a name with the text of the kind is of the kind
-pub record IsOnlyWord (text : List ℕ) (kind : Kind) : Type 0 where
-  pub only : (other : Kind) → is_name_kind other ≡ true → kind_text other ≡ text → other ≡ kind
-  pub found : name_kind (kind_text kind) ≡ kind
+-- no other word has the key, and the entry is that of the word, or of none
+pub record IsOnlyWord (key : ℕ) (word : Word) : Type 0 where
+  pub only : (other : Kind) → is_name_kind other ≡ true → key_of (kind_text other) ≡ key → other ≡ word.kind
+  pub entry : is_empty_or_word word ≡ true

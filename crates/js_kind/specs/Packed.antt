@@ -1,5 +1,5 @@
 -- The parts of a token in one number.
-use Rattle.std.specs.Prelude.{◌≡◌, ℕ, ◌+◌, ◌*◌, ◌/◌, ◌%◌, ◌^◌, ◌==◌, Bool, true, false, get_or}
+use Rattle.std.specs.Prelude.{◌≡◌, ℕ, ◌+◌, ◌*◌, ◌/◌, ◌%◌, ◌^◌, ◌==◌, Bool, true, false, List, ◌++◌, get_or, replicate}
 use Rattle.js_kind.specs.declared.kind.Kind.{Kind}
 use Rattle.js_kind.specs.declared.kind.Kind.TheVariants.{Eof}
 use Rattle.js_kind.specs.declared.kind.TheConstants.Kind.{VARIANTS}
@@ -9,6 +9,10 @@ use Rattle.js_kind.specs.TokenParts.{TokenParts}
 -- the kind of a number, and `Eof` where it is that of none
 abbrev pub kind_at : ℕ → Kind
 kind_at n = get_or VARIANTS n Eof
+
+-- the kinds of the numbers from 0 to 255
+abbrev pub kinds_by_number : List Kind
+kinds_by_number = VARIANTS ++ replicate 87 Eof
 
 -- a flag in a byte
 abbrev pub flag : Bool → ℕ

@@ -2,7 +2,7 @@
 
 ghost use Rattle.std.specs.Prelude.{◌≡◌};
 ghost use Rattle.js_kind.specs.KindRows.{kind_row};
-ghost use Rattle.js_kind.specs.Packed.{kind_at};
+ghost use Rattle.js_kind.specs.Packed.{kind_at, kinds_by_number};
 ghost use Rattle.js_kind.specs.Kinds.{ListsByNumber, HasEachRow, row_of};
 
 use crate::kind::Kind;
@@ -198,6 +198,28 @@ macro_rules! kinds {
     };
 }
 
+/// All kinds in the order of their numbers, then `Eof` up to the place 255.
+macro_rules! kinds_then_ends {
+    ($($kind:ident $name:literal $text:literal,)*) => {
+        [
+            $(Kind::$kind,)*
+            Kind::Eof, Kind::Eof, Kind::Eof, Kind::Eof, Kind::Eof, Kind::Eof, Kind::Eof,
+            Kind::Eof, Kind::Eof, Kind::Eof, Kind::Eof, Kind::Eof, Kind::Eof, Kind::Eof,
+            Kind::Eof, Kind::Eof, Kind::Eof, Kind::Eof, Kind::Eof, Kind::Eof, Kind::Eof,
+            Kind::Eof, Kind::Eof, Kind::Eof, Kind::Eof, Kind::Eof, Kind::Eof, Kind::Eof,
+            Kind::Eof, Kind::Eof, Kind::Eof, Kind::Eof, Kind::Eof, Kind::Eof, Kind::Eof,
+            Kind::Eof, Kind::Eof, Kind::Eof, Kind::Eof, Kind::Eof, Kind::Eof, Kind::Eof,
+            Kind::Eof, Kind::Eof, Kind::Eof, Kind::Eof, Kind::Eof, Kind::Eof, Kind::Eof,
+            Kind::Eof, Kind::Eof, Kind::Eof, Kind::Eof, Kind::Eof, Kind::Eof, Kind::Eof,
+            Kind::Eof, Kind::Eof, Kind::Eof, Kind::Eof, Kind::Eof, Kind::Eof, Kind::Eof,
+            Kind::Eof, Kind::Eof, Kind::Eof, Kind::Eof, Kind::Eof, Kind::Eof, Kind::Eof,
+            Kind::Eof, Kind::Eof, Kind::Eof, Kind::Eof, Kind::Eof, Kind::Eof, Kind::Eof,
+            Kind::Eof, Kind::Eof, Kind::Eof, Kind::Eof, Kind::Eof, Kind::Eof, Kind::Eof,
+            Kind::Eof, Kind::Eof, Kind::Eof,
+        ]
+    };
+}
+
 macro_rules! rows {
     ($($kind:ident $name:literal $text:literal,)*) => {
         [$(Row { name: $name, text: $text },)*]
@@ -220,12 +242,13 @@ fn rows() -> &'static [Row; 169]
     &ROWS
 }
 
-/// All kinds, in the order of their numbers.
-static KINDS: [Kind; 169] = with_kinds!(kinds);
+/// The kind of each byte, so that a look-up tests no bound.
+static KINDS: [Kind; 256] = with_kinds!(kinds_then_ends);
 
-/// The table of kinds.
-fn kinds() -> &'static [Kind; 169]
-    ensures { result.now ≡ Kind.VARIANTS }
+/// The table of the kinds of bytes.
+#[inline(always)]
+fn by_number() -> &'static [Kind; 256]
+    ensures { result.now ≡ kinds_by_number }
 {
     &KINDS
 }
@@ -235,12 +258,7 @@ impl Kind {
     pub(crate) fn from_number(number: u8) -> Kind
         ensures { result ≡ kind_at number }
     {
-        let kinds = kinds();
-        if (number as usize) < kinds.len() {
-            kinds[number as usize]
-        } else {
-            Kind::Eof
-        }
+        by_number()[number as usize]
     }
 
     /// All kinds, in the order of their numbers.

@@ -2,6 +2,7 @@
 #![tactic(auto)]
 
 mod config;
+mod key;
 mod keyword;
 mod kind;
 mod kind_rows;
@@ -19,6 +20,7 @@ pub use config::{
 };
 pub use keyword::{
     identifier_name_is_ident_or_keyword, keyword_is_kind_of_name, keyword_of_text, match_keyword,
+    match_keyword_between,
 };
 pub use kind::Kind;
 pub use kind_rows::variants_by_number;

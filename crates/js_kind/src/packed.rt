@@ -61,6 +61,7 @@ pub(crate) fn pack(span: Span, kind: Kind, is_on_new_line: bool) -> u128
       is_on_new_line = is_on_new_line;
     }) }
 {
-    let kind_and_line = (byte_of(is_on_new_line) as u128) << 8 | kind.number() as u128;
-    (kind_and_line << 32 | span.end as u128) << 32 | span.start as u128
+    let high = (byte_of(is_on_new_line) as u64) << 8 | kind.number() as u64;
+    let low = (span.end as u64) << 32 | span.start as u64;
+    (high as u128) << 64 | low as u128
 }

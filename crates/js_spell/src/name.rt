@@ -21,7 +21,7 @@ ghost use Rattle.js_spell.specs.declared.spelt.SpeltValue.TheVariants.{Decoded};
 use crate::parts::parts;
 use crate::spelt::{Spelt, SpeltValue};
 use crate::unicode_escape::{read_hex_digits, read_unicode_escape};
-use js_kind::{Kind, Token, match_keyword};
+use js_kind::{Kind, Token, match_keyword, match_keyword_between};
 use js_source::{Source, SourcePosition};
 use js_text::{
     Diagnostic, DiagnosticList, JSStrBuilder, Span, is_identifier_part, is_identifier_start,
@@ -473,11 +473,12 @@ pub fn read_plain_name(source: &mut Source<'_>, b: u8) -> Option<Kind>
     }
     let start = source.position();
     let next = pass_plain_from(source, b);
-    let name = source.str_from_pos_to_current(start);
     if is_backslash(next) {
         return None;
     }
-    Some(match_keyword(name))
+    let from = source.offset_of(start) as usize;
+    let to = source.offset() as usize;
+    Some(match_keyword_between(source.whole().as_bytes(), from, to))
 }
 
 /// Whether a name is next, good or at fault.

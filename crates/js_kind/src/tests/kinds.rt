@@ -1,6 +1,6 @@
 //! The kinds of the original, and which texts are words.
 
-use crate::keyword::match_keyword;
+use crate::keyword::{match_keyword, match_keyword_between};
 use crate::kind::Kind;
 use std::test::Fail;
 
@@ -278,6 +278,29 @@ static NAMES: [(&'static str, Kind); 13] = [
 fn kinds_of_names(rt: HostRuntime) {
     for (text, kind) in &NAMES {
         assert_eq!(rt; match_keyword(text), *kind, "{text}");
+    }
+}
+
+/// Texts, the places in them where a name stands, and its kind.
+static PLACED_NAMES: [(&'static str, usize, usize, Kind); 8] = [
+    ("a let b; this", 2, 5, Kind::Let),
+    ("a let b; this", 9, 13, Kind::This),
+    ("a let b; this", 13, 13, Kind::Ident),
+    ("x instanceof y", 2, 12, Kind::Instanceof),
+    ("x instanceoff y", 2, 13, Kind::Ident),
+    ("constructor", 0, 11, Kind::Constructor),
+    ("lets go on", 0, 4, Kind::Ident),
+    ("interfacf {}", 0, 9, Kind::Ident),
+];
+
+#[test]
+fn kinds_of_placed_names(rt: HostRuntime) {
+    for (text, from, to, kind) in &PLACED_NAMES {
+        assert_eq!(rt;
+            match_keyword_between(text.as_bytes(), *from, *to),
+            *kind,
+            "{text}"
+        );
     }
 }
 

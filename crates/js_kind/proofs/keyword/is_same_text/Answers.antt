@@ -1,5 +1,5 @@
 use Rattle.std.proofs.Common.{arith, sym}
-use Rattle.js_kind.proofs.WordPlaces.{same_to_the_end}
+use Rattle.js_kind.proofs.WordTable.{same_to_the_end}
 use Rattle.js_kind.proofs.keyword.is_same_text.Goals as goal
 
 pub returns : goal.returns
