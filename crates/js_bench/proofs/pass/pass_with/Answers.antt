@@ -21,5 +21,5 @@ read_chosen-requires g c = record {
 
 pub tokens-preserved : goal.tokens-preserved
 tokens-preserved g c =
-    let on = c.in_ok-read_chosen.ensures.driven in
-    record { drives = on.drives; few = omega (arith, on.less, c.in_ok-read_chosen.ensures.one_at_most) }
+    let on = c.in_ok-tokens.ensures.driven in
+    record { drives = on.drives; few = omega (arith, on.less, c.in_ok-tokens.ensures.one_at_most) }
