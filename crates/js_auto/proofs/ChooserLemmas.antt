@@ -1,21 +1,23 @@
 -- What a chooser keeps of the tokens that it was told.
 use Rattle.std.proofs.Common.{◌≡◌, List, [], ◌∷◌, ◌++◌, refl, sym, ◌∙◌, ap, subst}
-use Rattle.std.proofs.Common.{Some, None, true, false, ◌==◌, Option}
-use Rattle.std.specs.Prelude.{IsSome, is_some, option_map}
+use Rattle.std.proofs.Common.{Some, None, true, false, Bool, ◌&&◌, ◌==◌, Option}
+use Rattle.std.specs.Prelude.{IsSome, is_some, option_map, if◌then◌else◌}
 use Rattle.std.specs.List.{last_or}
-use Rattle.std.proofs.lemmas.Bool.{or_parts}
+use Rattle.std.proofs.lemmas.Bool.{eqb-true}
 use Rattle.js_text.specs.Lists.{with_last}
 use Rattle.js_kind.specs.Kinds.{is_one_of, number}
 use Rattle.js_kind.specs.Predicates.{is_eof}
 use Rattle.js_kind.specs.TokenParts.{TokenParts}
 use Rattle.js_kind.specs.declared.kind.Kind.{Kind}
-use Rattle.js_kind.specs.declared.kind.Kind.TheVariants.{Eof, RCurly}
+use Rattle.js_kind.specs.declared.kind.Kind.TheVariants.{RCurly}
+use Rattle.js_kind.proofs.KindNumbers.{number_injective}
 use Rattle.js_lexer.specs.Goals.{expression_kinds}
-use Rattle.js_session.specs.declared.command.Command.TheVariants.{Next}
+use Rattle.js_session.specs.declared.command.Command.TheVariants.{Next, Regex, TemplateTail}
 use Rattle.js_session.proofs.LiveLemmas.{last_or-push, last_or-with_last}
 use Rattle.js_auto.specs.declared.brace.Brace.{Brace}
 use Rattle.js_auto.specs.Braces.{effect_of, after_effect, braces, braces_from, open_behind}
-use Rattle.js_auto.specs.Choice.{Chooser, but_last, choice_behind, chooser_of, last_kind}
+use Rattle.js_auto.specs.Choice.{Chooser, begins_expression, but_last, choice_behind, chooser_of}
+use Rattle.js_auto.specs.Choice.{ends_substitution, last_kind}
 
 braces-push : (stack : List Brace) (tokens : List TokenParts) (t : TokenParts)
     → braces_from stack (tokens ++ t ∷ []) ≡ after_effect (effect_of t.kind) (braces_from stack tokens)
@@ -100,12 +102,29 @@ told_again tokens t old kind told some is =
     ap (with_kind kind) told ∙ ap (λ k. with_kind k (chooser_of tokens)) is
     ∙ sym (chooser-with_last tokens t (subst (λ c. IsSome c.last) told some))
 
--- Behind a token that is read no other way, the next one is read.
-pub reads_on : (stack : List Brace) (before : Option Kind) (last : Kind)
-    → is_one_of (Eof ∷ RCurly ∷ expression_kinds) last ≡ false
-    → choice_behind stack before (Some last) ≡ Some Next
-unfolding is_eof
-reads_on stack before last none =
-    let eof = or_parts (number last == number Eof) (is_one_of (RCurly ∷ expression_kinds) last) none in
-    let curly = or_parts (number last == number RCurly) (is_one_of expression_kinds last) eof.1 in
-    rw (eof.0, curly.0, curly.1) refl
+-- Behind which last token a part of a template is read, and behind which one a regular expression.
+pub part_behind : (stack : List Brace) (before : Option Kind) (kind : Kind)
+    → choice_behind stack before (Some kind) ≡ Some TemplateTail → kind ≡ RCurly
+part_behind stack before kind chosen =
+    by_tests (is_eof kind) (number kind == number RCurly) _ (begins_expression before kind) refl chosen
+  where
+    by_tests : (end curly inside regex : Bool) → (number kind == number RCurly) ≡ curly
+        → (if end then None else if curly && inside then Some TemplateTail else if regex then Some Regex else Some Next)
+        ≡ Some TemplateTail → kind ≡ RCurly
+    by_tests end true inside regex is e = number_injective kind RCurly (eqb-true _ _ is)
+    by_tests true false inside regex is e = absurd (cc)
+    by_tests false false inside true is e = absurd (cc)
+    by_tests false false inside false is e = absurd (cc)
+
+pub expression_behind : (stack : List Brace) (before : Option Kind) (kind : Kind)
+    → choice_behind stack before (Some kind) ≡ Some Regex → is_one_of expression_kinds kind ≡ true
+expression_behind stack before kind chosen =
+    by_tests (is_eof kind) (ends_substitution stack kind) (is_one_of expression_kinds kind) _ refl chosen
+  where
+    by_tests : (end tail slash begins : Bool) → is_one_of expression_kinds kind ≡ slash
+        → (if end then None else if tail then Some TemplateTail else if slash && begins then Some Regex else Some Next)
+        ≡ Some Regex → is_one_of expression_kinds kind ≡ true
+    by_tests end tail true begins is e = is
+    by_tests true tail false begins is e = absurd (cc)
+    by_tests false true false begins is e = absurd (cc)
+    by_tests false false false begins is e = absurd (cc)

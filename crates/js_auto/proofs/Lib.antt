@@ -2,3 +2,4 @@ pub mod AutoLemmas
 pub mod Causes
 pub mod ChooserLemmas
 pub mod ChosenLemmas
+pub mod NotableLemmas

@@ -1,3 +1,4 @@
 pub mod Auto
 pub mod Braces
 pub mod Choice
+pub mod Notable

@@ -1,6 +1,6 @@
 //! Braces, and what tokens do to those that are open.
 
-ghost use Rattle.std.specs.Prelude.{◌≡◌, MatchBool};
+ghost use Rattle.std.specs.Prelude.{◌≡◌};
 ghost use Rattle.js_auto.specs.Braces.{effect_of};
 
 use js_kind::Kind;
@@ -38,16 +38,4 @@ pub(crate) fn effect_of(kind: Kind) -> BraceEffect
         Kind::TemplateTail => BraceEffect::ClosesAny,
         _ => BraceEffect::Leaves,
     }
-}
-
-/// Whether a token of the kind may change the braces that are open. Few do.
-#[inline(always)]
-#[tactic(auto, unfolding(crate::specs::Braces::effect_of))]
-pub(crate) fn may_change_braces(kind: Kind) -> bool
-    ensures { MatchBool result (Unit {0}) (effect_of kind ≡ BraceEffect.Leaves) }
-{
-    matches!(
-        kind,
-        Kind::LCurly | Kind::RCurly | Kind::TemplateHead | Kind::TemplateTail
-    )
 }

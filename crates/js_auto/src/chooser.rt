@@ -1,6 +1,6 @@
 //! The choice of goals, token by token.
 
-ghost use Rattle.std.specs.Prelude.{◌≡◌, ◌==◌, List, [], ◌∷◌, ◌++◌, drop, MatchBool, OnOk, OnErr, Some};
+ghost use Rattle.std.specs.Prelude.{◌≡◌, ◌==◌, List, [], ◌∷◌, ◌++◌, drop, OnOk, OnErr, Some};
 ghost use Rattle.std.specs.Prelude.{IfSome, true};
 ghost use Rattle.js_text.specs.Lists.{with_last};
 ghost use Rattle.js_kind.specs.Kinds.{is_one_of, number};
@@ -10,7 +10,8 @@ ghost use Rattle.js_lexer.specs.Goals.{expression_kinds};
 ghost use Rattle.js_auto.specs.Choice.{begins_expression, choice, chooser_of, ends_only_jsx, ends_operand};
 ghost use Rattle.js_auto.specs.Choice.{choice_behind, ends_substitution};
 
-use crate::brace::{Brace, BraceEffect, effect_of, may_change_braces};
+use crate::brace::{Brace, BraceEffect, effect_of};
+use crate::notable::is_notable;
 use js_kind::{Kind, Token};
 use js_session::Command;
 use js_text::ItemList;
@@ -31,15 +32,21 @@ pub struct GoalChooser {
     /// The kind of the token before the last one.
     before: Option<Kind>,
     last: Option<Kind>,
+    /// Whether the last token may change the braces, be read again, or be the end of the source. A step behind any other
+    /// token looks at nothing else.
+    is_last_notable: bool,
 }
 
 impl Model for GoalChooser {
-    ghost use Rattle.std.specs.Prelude.{reverse};
+    ghost use Rattle.std.specs.Prelude.{◌≡◌, reverse};
     ghost use Rattle.js_auto.specs.Choice.{Chooser};
+    ghost use Rattle.js_auto.specs.Notable.{is_notable};
 
     ghost Value = { Chooser };
 
     ghost view = { λ c. record { stack = reverse c.stack; before = c.before; last = c.last } };
+
+    ghost invariant = { λ c. c.is_last_notable ≡ is_notable c.last };
 }
 
 /// Whether an operand may end with the token, though not where JSX is told from operators.
@@ -81,14 +88,6 @@ fn begins_expression(before: Option<Kind>, kind: Kind) -> bool
     is_slash(kind) && !ends_operand(before)
 }
 
-/// Whether behind a token of the kind another command than `Command::Next` may come. Behind most none does.
-#[inline(always)]
-fn may_be_read_again(kind: Kind) -> bool
-    ensures { result ≡ is_one_of (Kind.Eof ∷ Kind.RCurly ∷ expression_kinds) kind }
-{
-    matches!(kind, Kind::Eof | Kind::RCurly | Kind::Slash | Kind::SlashEq)
-}
-
 impl GoalChooser {
     /// A chooser that was told no token yet. It takes no memory yet.
     pub fn new(alloc: Global) -> GoalChooser
@@ -98,6 +97,7 @@ impl GoalChooser {
             stack: ItemList::new_in(alloc),
             before: None,
             last: None,
+            is_last_notable: false,
         }
     }
 
@@ -149,17 +149,6 @@ impl GoalChooser {
         Ok(())
     }
 
-    /// Whether the last token may change the braces that are open.
-    #[inline(always)]
-    fn last_may_change_braces(&self) -> bool
-        ensures { MatchBool result (Unit {0}) (open_behind self.now.last self.now.stack ≡ self.now.stack) }
-    {
-        match self.last {
-            Some(kind) => may_change_braces(kind),
-            _ => false,
-        }
-    }
-
     /// Takes up what the last token does to the braces, if there is one.
     #[inline(never)]
     fn pass_last(&mut self) -> Result<(), AllocError>
@@ -172,18 +161,6 @@ impl GoalChooser {
         }
     }
 
-    /// Opens or closes a brace, where the last token does.
-    #[inline(always)]
-    fn pass_brace(&mut self) -> Result<(), AllocError>
-        ensures ok { OnOk result (self.new ≡ record self.old { stack = open_behind self.old.last self.old.stack }) }
-        ensures err { OnErr result (self.new ≡ self.old) }
-    {
-        if self.last_may_change_braces() {
-            return self.pass_last();
-        }
-        Ok(())
-    }
-
     /// Takes notice of a token that was read behind the last one. Where there is no memory for an open brace, the
     /// chooser stays as it was.
     #[inline(always)]
@@ -192,9 +169,13 @@ impl GoalChooser {
             → OnOk result (self.new ≡ chooser_of (tokens ++ token.now ∷ [])) }
         ensures err { OnErr result (self.new ≡ self.old) }
     {
-        self.pass_brace()?;
+        if self.is_last_notable {
+            self.pass_last()?;
+        }
+        let kind = token.kind();
         self.before = self.last;
-        self.last = Some(token.kind());
+        self.last = Some(kind);
+        self.is_last_notable = is_notable(kind);
         Ok(())
     }
 
@@ -204,7 +185,9 @@ impl GoalChooser {
             → self.new ≡ chooser_of (with_last tokens token.now) }
     {
         if self.last.is_some() {
-            self.last = Some(token.kind());
+            let kind = token.kind();
+            self.last = Some(kind);
+            self.is_last_notable = is_notable(kind);
         }
     }
 
@@ -241,12 +224,12 @@ impl GoalChooser {
         ensures expression { result ≡ Some Command.Regex → IfSome self.now.last (λ kind.
             is_one_of expression_kinds kind ≡ true) }
     {
+        if !self.is_last_notable {
+            return Some(Command::Next);
+        }
         let Some(last) = self.last else {
             return Some(Command::Next);
         };
-        if may_be_read_again(last) {
-            return self.command_behind(last);
-        }
-        Some(Command::Next)
+        self.command_behind(last)
     }
 }

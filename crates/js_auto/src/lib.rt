@@ -6,6 +6,7 @@ mod brace;
 mod chooser;
 mod fault;
 pub mod laws;
+mod notable;
 #[cfg(test)]
 mod tests;
 

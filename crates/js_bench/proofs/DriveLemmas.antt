@@ -1,6 +1,6 @@
 -- A lexer is driven on by the goals that are chosen, and less is left of its text.
-use Rattle.std.proofs.Common.{◌≡◌, ℕ, ◌+◌, ◌-◌, ◌*◌, ◌<◌, ◌≤◌, Bool, true, false, cond, List, [], ◌∷◌, ◌++◌, length}
-use Rattle.std.proofs.Common.{refl, sym, ◌∙◌, ap, subst, arith, Option, Some, None, Result, Ok, Err}
+use Rattle.std.proofs.Common.{◌≡◌, ℕ, ◌+◌, ◌-◌, ◌*◌, ◌^◌, ◌<◌, ◌≤◌, Bool, true, false, cond, List, [], ◌∷◌}
+use Rattle.std.proofs.Common.{◌++◌, length, refl, sym, ◌∙◌, ap, subst, arith, Option, Some, None, Result, Ok, Err}
 use Rattle.std.proofs.lemmas.Bool.{eqb-true}
 use Rattle.std.specs.List.{last_or}
 use Rattle.std.specs.Prelude.{◌==◌, OnOk}
@@ -57,6 +57,15 @@ drives_behind old new goal token tokens c u r told = record {
   some_text = λ other. subst (λ t. t.start < t.end) (sym r.token_is)
       (r.reads.some_text (λ is. other (ap (λ t. t.kind) r.token_is ∙ is)));
 }
+
+left_at_most : (l : LexerState) → left l ≤ 2 * length l.text + 1
+left_at_most l =
+    let few = one_at_most (is_re_lexed (token_or_default l.last).kind) in omega (arith, few)
+
+-- Behind the first token of a text of fewer than 2 ^ 32 bytes there is room to count one token for each step.
+pub few_left : (old new : LexerState) (goal : Goal) (token : TokenParts) → length old.text < 2 ^ 32
+    → ReadsToken goal old token new → 1 + left new < 2 ^ 34
+few_left old new goal token short r = omega (arith, left_at_most new, ap length r.after.text, short)
 
 pub drives_next : (old new : LexerState) (c d : Chooser) (token : TokenParts)
     → (to : DrivesTo Next old c) → ReadsToken NextGoal old token new

@@ -1,6 +1,6 @@
 //! One pass over a source: its tokens are read by the goals that are chosen, and no rows are made of them.
 
-ghost use Rattle.std.specs.Prelude.{◌≡◌, ◌<◌, ◌^◌, length, None, OnOk, IfOk};
+ghost use Rattle.std.specs.Prelude.{◌≡◌, ◌<◌, ◌≤◌, ◌^◌, length, None, OnOk, IfOk};
 ghost use Rattle.std.specs.Str.{IsUtf8};
 ghost use Rattle.js_bench.specs.Drive.{DrivesOn, DrivesTo};
 
@@ -67,7 +67,8 @@ fn read_chosen<C: LexerConfig + Drop>(
     command: Command,
 ) -> Result<u64, AllocError>
     requires { DrivesTo command lexer.old chooser.old }
-    ensures { OnOk result (DrivesOn lexer.old lexer.new chooser.new) }
+    ensures driven { OnOk result (DrivesOn lexer.old lexer.new chooser.new) }
+    ensures one_at_most { IfOk result (λ more. more ≤ 1) }
 {
     match command {
         Command::Next => {
@@ -93,13 +94,14 @@ fn pass_with<C: LexerConfig + Drop>(
 ) -> Result<PassCounts, AllocError>
     requires unread { lexer.last ≡ None }
     requires utf8 { IsUtf8 lexer.text }
+    requires short { length lexer.text < 2 ^ 32 }
 {
     let mut chooser = GoalChooser::new(alloc);
     let first = lexer.first_token()?;
     chooser.read(&first)?;
     let mut tokens: u64 = 1;
     'tokens: while let Some(command) = chooser.command() {
-        tokens = tokens.saturating_add(read_chosen(&mut lexer, &mut chooser, command)?);
+        tokens += read_chosen(&mut lexer, &mut chooser, command)?;
     }
     Ok(PassCounts {
         tokens,
@@ -118,6 +120,7 @@ fn lexer_over<'a, C: LexerConfig + Drop>(
     requires { length text.now < 2 ^ 32 }
     ensures unread { IfOk result (λ lexer. lexer.last ≡ None) }
     ensures utf8 { IfOk result (λ lexer. IsUtf8 lexer.text) }
+    ensures short { IfOk result (λ lexer. length lexer.text < 2 ^ 32) }
 {
     match Lexer::new(alloc, text, source_type, config) {
         Ok(lexer) => Ok(lexer),

@@ -1,13 +1,28 @@
-use Rattle.std.proofs.Common.{sym, ◌∙◌, ap}
-use Rattle.std.specs.Prelude.{reverse}
+use Rattle.std.proofs.Common.{◌≡◌, sym, ◌∙◌, ap, subst, true, Some}
+use Rattle.std.specs.Prelude.{reverse, IfSome}
+use Rattle.js_kind.specs.Kinds.{is_one_of}
+use Rattle.js_lexer.specs.Goals.{expression_kinds}
 use Rattle.js_auto.specs.Choice.{Chooser, choice_behind}
-use Rattle.js_auto.proofs.ChooserLemmas.{reads_on}
+use Rattle.js_auto.proofs.ChooserLemmas.{expression_behind, part_behind}
+use Rattle.js_auto.proofs.NotableLemmas.{reads_on}
 use Rattle.js_auto.proofs.chooser.GoalChooser.command.Goals as goal
 
-pub returns-clause-choice : goal.returns-clause-choice
-returns-clause-choice c =
+pub returns-then-not-self-clause-choice : goal.returns-then-not-self-clause-choice
+returns-then-not-self-clause-choice c =
     let old = c.self.inside in
-    let none = sym c.may_be_read_again.ensures ∙ c.if-may_be_read_again.false in
-    λ tokens told. sym (reads_on (reverse old.stack) old.before c.in-Some.last none)
-    ∙ ap (choice_behind (reverse old.stack) old.before) (sym c.in-Some.is)
+    let plain = sym c.self.invariant ∙ c.if-not-self.true in
+    λ tokens told. sym (reads_on (reverse old.stack) old.before old.last plain)
     ∙ ap (λ (s : Chooser). choice_behind s.stack s.before s.last) (c.self.view_is ∙ told)
+
+pub returns-clause-part : goal.returns-clause-part
+returns-clause-part c = λ chosen.
+    sym (ap (λ (s : Chooser). s.last) c.self.view_is) ∙ c.in-Some.is
+    ∙ ap Some (part_behind c.args.self.now.stack c.args.self.now.before c.in-Some.last
+    (sym c.command_behind.ensures ∙ chosen))
+
+pub returns-clause-expression : goal.returns-clause-expression
+returns-clause-expression c = λ chosen.
+    let last = sym (ap (λ (s : Chooser). s.last) c.self.view_is) ∙ c.in-Some.is in
+    subst (λ o. IfSome o (λ kind. is_one_of expression_kinds kind ≡ true)) (sym last)
+    (expression_behind c.args.self.now.stack c.args.self.now.before c.in-Some.last
+    (sym c.command_behind.ensures ∙ chosen))

@@ -1,11 +1,23 @@
-use Rattle.std.proofs.Common.{◌∙◌}
+use Rattle.std.proofs.Common.{◌≡◌, sym, ◌∙◌, ap}
 use Rattle.std.specs.Prelude.{reverse}
+use Rattle.js_auto.specs.Braces.{open_behind}
+use Rattle.js_auto.specs.Choice.{Chooser}
+use Rattle.js_auto.specs.Notable.{is_notable}
 use Rattle.js_auto.proofs.ChooserLemmas.{told_on}
+use Rattle.js_auto.proofs.NotableLemmas.{leaves_chooser}
+use Rattle.js_auto.proofs.chooser.GoalChooser.read.Goals.{then-self+in_ok-pass_last, else-self}
 use Rattle.js_auto.proofs.chooser.GoalChooser.read.Goals as goal
 
 pub returns-clause-ok : goal.returns-clause-ok
 returns-clause-ok c =
-    let now = c.self.inside in
-    λ tokens told. told_on tokens c.args.token.now c.args.self.now
-    (record { stack = reverse now.stack; before = now.before; last = now.last }) c.kind.result told
-    (c.self.view_is ∙ c.in_ok-pass_brace.ensures.ok) c.kind.ensures
+    let old = c.args.self.now in
+    let now = c.self-2.inside in
+    let passed : c.if-self.self ≡ record old { stack = open_behind old.last old.stack } =
+    elim c.if-self.branch [
+      | then-self+in_ok-pass_last w ↦ w.self-is ∙ w.in_ok-pass_last.ensures.ok
+      | else-self w ↦ w.self-is ∙ leaves_chooser old
+          (sym (ap (λ (s : Chooser). is_notable s.last) c.self.view_is) ∙ sym c.self.invariant ∙ w.if-self.false)
+    ]
+    in λ tokens told. told_on tokens c.args.token.now old
+    (record { stack = reverse now.stack; before = now.before; last = now.last }) c.kind-kind.result told
+    (c.self-2.view_is ∙ passed) c.kind-kind.ensures

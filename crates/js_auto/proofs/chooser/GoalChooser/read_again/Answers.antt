@@ -8,8 +8,8 @@ pub returns-then-is_some : goal.returns-then-is_some
 returns-then-is_some c =
     let old = c.self.inside in
     λ tokens told. told_again tokens c.args.token.now
-    (record { stack = reverse old.stack; before = old.before; last = old.last }) c.kind.result (c.self.view_is ∙ told)
-    (sym c.is_some.ensures ∙ c.if-is_some.true) c.kind.ensures
+    (record { stack = reverse old.stack; before = old.before; last = old.last }) c.kind-kind.result
+    (c.self.view_is ∙ told) (sym c.is_some.ensures ∙ c.if-is_some.true) c.kind-kind.ensures
 
 pub returns-else-is_some : goal.returns-else-is_some
 returns-else-is_some c =

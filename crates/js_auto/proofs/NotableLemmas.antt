@@ -1,0 +1,91 @@
+-- What the table of notable kinds tells, and what is known behind a last token of another kind.
+use Rattle.std.proofs.Common.{◌≡◌, ◌==◌, Bool, false, List, ◌∷◌, map, refl, sym, ◌∙◌, ap, Option, Some, None}
+use Rattle.std.specs.Option.{option_map}
+use Rattle.std.specs.Prelude.{slice_get, slice_index_or}
+use Rattle.std.proofs.lemmas.Bool.{or_parts}
+use Rattle.std.proofs.lemmas.Option.{slice_get-map}
+use Rattle.js_kind.specs.Kinds.{is_one_of, number}
+use Rattle.js_kind.specs.Predicates.{is_eof}
+use Rattle.js_kind.specs.declared.kind.Kind.{Kind}
+use Rattle.js_kind.specs.declared.kind.Kind.TheVariants.{Eof, LCurly, RCurly, TemplateHead, TemplateTail}
+use Rattle.js_kind.specs.declared.kind.TheConstants.Kind.{VARIANTS}
+use Rattle.js_kind.proofs.KindNumbers.{kind_at_number}
+use Rattle.js_lexer.specs.Goals.{expression_kinds}
+use Rattle.js_session.specs.declared.command.Command.TheVariants.{Next}
+use Rattle.js_auto.specs.declared.brace.Brace.{Brace}
+use Rattle.js_auto.specs.declared.brace.BraceEffect.TheVariants.{Leaves}
+use Rattle.js_auto.specs.Braces.{after_effect, effect_of, open_behind}
+use Rattle.js_auto.specs.Choice.{Chooser, choice_behind}
+use Rattle.js_auto.specs.Notable.{TellsNotable, is_notable, notable_kinds}
+
+-- What a test tells of a kind stands at its number in the list of what it tells of all.
+at_number : (test : Kind → Bool) (kind : Kind) → slice_get (map test VARIANTS) (number kind) ≡ Some (test kind)
+at_number test kind = slice_get-map test VARIANTS (number kind) ∙ ap (option_map test) (kind_at_number kind)
+
+-- A table that computes tells of each kind whether it is notable.
+pub tells_notable : (table : List Bool)
+    → map (λ kind. slice_index_or table (number kind) false) VARIANTS ≡ map (is_one_of notable_kinds) VARIANTS
+    → TellsNotable table
+tells_notable table all =
+    record {
+      tells = λ kind.
+          let in_table = at_number (λ k. slice_index_or table (number k) false) kind in
+          let is = at_number (is_one_of notable_kinds) kind in
+          let same : Some (slice_index_or table (number kind) false) ≡ Some (is_one_of notable_kinds kind) =
+          sym in_table ∙ (ap (λ xs. slice_get xs (number kind)) all ∙ is)
+          in cc;
+    }
+
+-- what is known of a kind that is not notable
+record IsPlain (kind : Kind) : Type 0 where
+  eof : (number kind == number Eof) ≡ false
+  left_curly : (number kind == number LCurly) ≡ false
+  right_curly : (number kind == number RCurly) ≡ false
+  head : (number kind == number TemplateHead) ≡ false
+  tail : (number kind == number TemplateTail) ≡ false
+  slashes : is_one_of expression_kinds kind ≡ false
+
+-- A kind that is none of a list is not the first of them, and none of the others.
+not_first : (kind other : Kind) (kinds : List Kind) → is_one_of (other ∷ kinds) kind ≡ false
+    → ((number kind == number other) ≡ false) × (is_one_of kinds kind ≡ false)
+not_first kind other kinds none = or_parts (number kind == number other) (is_one_of kinds kind) none
+
+is_plain : (kind : Kind) → is_one_of notable_kinds kind ≡ false → IsPlain kind
+is_plain kind none =
+    let eof = not_first kind Eof (LCurly ∷ RCurly ∷ TemplateHead ∷ TemplateTail ∷ expression_kinds) none in
+    let left = not_first kind LCurly (RCurly ∷ TemplateHead ∷ TemplateTail ∷ expression_kinds) eof.1 in
+    let right = not_first kind RCurly (TemplateHead ∷ TemplateTail ∷ expression_kinds) left.1 in
+    let head = not_first kind TemplateHead (TemplateTail ∷ expression_kinds) right.1 in
+    let tail = not_first kind TemplateTail expression_kinds head.1 in
+    record {
+      eof = eof.0;
+      left_curly = left.0;
+      right_curly = right.0;
+      head = head.0;
+      tail = tail.0;
+      slashes = tail.1;
+    }
+
+no_effect : (kind : Kind) → IsPlain kind → effect_of kind ≡ Leaves
+unfolding effect_of
+no_effect kind is = rw (is.left_curly, is.head, is.right_curly, is.tail) refl
+
+-- Behind a last token that is not notable the braces are those before it.
+leaves_braces : (last : Option Kind) (stack : List Brace) → is_notable last ≡ false → open_behind last stack ≡ stack
+leaves_braces None stack plain = refl
+leaves_braces (Some kind) stack plain = ap (λ effect. after_effect effect stack) (no_effect kind (is_plain kind plain))
+
+-- Such a token changes nothing of what a chooser keeps of those before it.
+pub leaves_chooser : (c : Chooser) → is_notable c.last ≡ false → c ≡ record c { stack = open_behind c.last c.stack }
+leaves_chooser c plain = ap (λ stack. record c { stack = stack }) (sym (leaves_braces c.last c.stack plain))
+
+reads_behind : (stack : List Brace) (before : Option Kind) (kind : Kind) → IsPlain kind
+    → choice_behind stack before (Some kind) ≡ Some Next
+unfolding is_eof
+reads_behind stack before kind is = rw (is.eof, is.right_curly, is.slashes) refl
+
+-- Behind such a token the next one is read.
+pub reads_on : (stack : List Brace) (before last : Option Kind) → is_notable last ≡ false
+    → choice_behind stack before last ≡ Some Next
+reads_on stack before None plain = refl
+reads_on stack before (Some kind) plain = reads_behind stack before kind (is_plain kind plain)

@@ -1,0 +1,19 @@
+-- The kinds of tokens that change what the choice of goals does next.
+use Rattle.std.specs.Prelude.{◌≡◌, Bool, false, List, [], ◌∷◌, slice_index_or, Option, Some, None}
+use Rattle.js_kind.specs.Kinds.{is_one_of, number}
+use Rattle.js_kind.specs.declared.kind.Kind.{Kind}
+use Rattle.js_kind.specs.declared.kind.Kind.TheVariants.{Eof, LCurly, RCurly, TemplateHead, TemplateTail}
+use Rattle.js_lexer.specs.Goals.{expression_kinds}
+
+-- the kinds of tokens that open or close braces, and of those behind which another command than `Next` may come
+abbrev pub notable_kinds : List Kind
+notable_kinds = Eof ∷ LCurly ∷ RCurly ∷ TemplateHead ∷ TemplateTail ∷ expression_kinds
+
+-- the last token, if there is one, is of such a kind
+abbrev pub is_notable : Option Kind → Bool
+is_notable None = false
+is_notable (Some kind) = is_one_of notable_kinds kind
+
+-- The table tells of each kind, at the place of its number, whether it is notable.
+pub record TellsNotable (table : List Bool) : Type 0 where
+  pub tells : (kind : Kind) → slice_index_or table (number kind) false ≡ is_one_of notable_kinds kind
