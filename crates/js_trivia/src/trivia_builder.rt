@@ -15,7 +15,7 @@ use crate::classes::{classify, stays_leading};
 use crate::kinds::keeps_line_comment_leading;
 use crate::lengths::TriviaLengths;
 use crate::marks::{mark_no_side_effects_within, mark_pure_within};
-use crate::order::{extend_if, find_comment, is_past_comments, is_past_spans, new_index};
+use crate::order::{extend, find_comment, is_past_comments, is_past_spans, new_index};
 use js_kind::{Kind, Token};
 use js_text::{
     Comment, CommentContent, CommentKind, CommentList, CommentPosition, CommentRange, Span,
@@ -302,15 +302,17 @@ impl TriviaBuilder {
         requires { index < 2 ^ 32 - 1 }
         ensures { self.new ≡ note_class content index self.old }
     {
-        self.settled = false;
-        let is_pure = matches!(content, CommentContent::PureNotApplied);
-        let has_no_side_effects = matches!(content, CommentContent::NoSideEffectsNotApplied);
-        self.pure_comments = extend_if(is_pure, self.pure_comments, index);
-        self.no_side_effects_comments = extend_if(
-            has_no_side_effects,
-            self.no_side_effects_comments,
-            index,
-        );
+        match content {
+            CommentContent::PureNotApplied => {
+                self.pure_comments = extend(self.pure_comments, index);
+                self.settled = false;
+            }
+            CommentContent::NoSideEffectsNotApplied => {
+                self.no_side_effects_comments = extend(self.no_side_effects_comments, index);
+                self.settled = false;
+            }
+            _ => {}
+        }
     }
 
     /// Adds a comment, or counts it for the range of its class where it is held already.
