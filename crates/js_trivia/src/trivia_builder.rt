@@ -243,16 +243,15 @@ impl TriviaBuilder {
     pub fn handle_token_alone(&mut self, token: Token)
         ensures { self.new ≡ handle_token token (without_ranges self.old) }
     {
-        if self.settled {
-            self.previous = token;
-        } else {
-            self.handle_token_slowly(token);
+        if !self.settled {
+            self.settle(token);
         }
+        self.previous = token;
     }
 
-    /// The same where something is to be forgotten, or a comment waits.
+    /// Takes notice of such a token where a range may be held, or a comment may wait.
     #[inline(never)]
-    fn handle_token_slowly(&mut self, token: Token)
+    fn settle(&mut self, token: Token)
         ensures { self.new ≡ handle_token token (without_ranges self.old) }
     {
         self.clear_pure_comments();
