@@ -1,7 +1,8 @@
 -- A search for licences goes from one `@` to the next.
 use Rattle.std.proofs.Common.{◌≡◌, ℕ, zero, suc, ◌<◌, ◌≤◌, Bool, true, false, List, [], ◌∷◌, length, drop, take, refl}
-use Rattle.std.proofs.Common.{sym, ◌∙◌, arith, get_or, None, Some}
+use Rattle.std.proofs.Common.{sym, ◌∙◌, arith, get_or, None, Some, length-take}
 use Rattle.std.specs.Prelude.{◌==◌, ◌&&◌, ◌||◌, codes}
+use Rattle.std.specs.List.{list_any}
 use Rattle.std.proofs.lemmas.Bool.{eqb-true, eq-eqb}
 use lib.Pointwise.{pointwise}
 use Rattle.memchr.specs.Find.{IsFirstByte, is_byte}
@@ -47,3 +48,40 @@ at_none text h =
     nothing_left zero (x ∷ xs) le = absurd (omega arith)
     nothing_left (suc n) [] le = refl
     nothing_left (suc n) (x ∷ xs) le = nothing_left n xs (omega arith)
+
+or_none : (a b : Bool) → (a || b) ≡ false → (a ≡ false) × (b ≡ false)
+or_none true b h = absurd cc
+or_none false b h = (refl, h)
+
+-- the same, where a search of the front finds none
+pub without_any_at : (k : ℕ) (text : List ℕ) → list_any (λ b. b == 64) (take k text) ≡ false
+    → is_licensed text ≡ is_licensed (drop k text)
+without_any_at zero text h = refl
+without_any_at (suc k) [] h = refl
+without_any_at (suc k) (b ∷ bs) h =
+    let parts = or_none (b == 64) (list_any (λ b. b == 64) (take k bs)) h in
+    not_here b bs parts.0 ∙ without_any_at k bs parts.1
+
+mark_too_long : (mark bs : List ℕ) → length bs < length mark → pointwise (λ x y. x == y) mark bs ≡ false
+mark_too_long [] bs le = absurd (omega arith)
+mark_too_long (m ∷ ms) [] le = refl
+mark_too_long (m ∷ ms) (b ∷ bs) le = and_none (m == b) _ (mark_too_long ms bs (omega arith))
+  where
+    and_none : (a b : Bool) → b ≡ false → (a && b) ≡ false
+    and_none true b h = h
+    and_none false b h = refl
+
+none_there : (front p q rest : Bool) → p ≡ false → q ≡ false → rest ≡ false
+    → (((front && p) || (front && q)) || rest) ≡ false
+none_there true p q rest no_p no_q no_rest = simp (no_p, no_q, no_rest)
+none_there false p q rest no_p no_q no_rest = no_rest
+
+-- fewer bytes than the shorter mark has hold neither
+pub seven_hold_none : (text : List ℕ) → length text < 8 → is_licensed text ≡ false
+seven_hold_none [] le = refl
+seven_hold_none (b ∷ bs) le =
+    none_there (64 == b) (pointwise (λ x y. x == y) (codes "license") (take 7 bs))
+    (pointwise (λ x y. x == y) (codes "preserve") (take 8 bs)) (is_licensed bs)
+    (mark_too_long (codes "license") (take 7 bs) (omega (arith, length-take 7 bs)))
+    (mark_too_long (codes "preserve") (take 8 bs) (omega (arith, length-take 8 bs)))
+    (seven_hold_none bs (omega arith))

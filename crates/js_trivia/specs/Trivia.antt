@@ -138,6 +138,10 @@ handle_newline s = record s { attachment = after_newline s.attachment }
 abbrev pub handle_token : TokenParts → Trivia → Trivia
 handle_token token s = record s { attachment = after_token token s.attachment }
 
+-- the same with no range of annotations
+abbrev pub without_ranges : Trivia → Trivia
+without_ranges s = record s { pure_comments = None; no_side_effects_comments = None }
+
 abbrev pub call : Item → Trivia → Trivia
 call (irregular span) s = add_irregular span s
 call line_end s = handle_newline s

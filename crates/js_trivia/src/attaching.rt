@@ -10,24 +10,61 @@ use crate::kinds::takes_comments;
 use js_kind::Token;
 use js_text::{Comment, CommentPosition};
 
-/// Attaches comments to one place.
-fn attach_all(comments: &mut [Comment], position: CommentPosition, attached_to: u32)
+/// Attaches a comment to one place.
+fn attach_to(comment: &mut Comment, position: CommentPosition, attached_to: u32)
+    ensures { comment.new ≡ attach_to position attached_to comment.old }
+{
+    comment.position = position;
+    comment.attached_to = attached_to;
+}
+
+/// Attaches any number of comments to one place.
+#[inline(never)]
+fn attach_many(comments: &mut [Comment], position: CommentPosition, attached_to: u32)
     ensures { comments.new ≡ map (attach_to position attached_to) comments.old }
 {
     for comment in comments.iter_mut() {
-        comment.position = position;
-        comment.attached_to = attached_to;
+        attach_to(comment, position, attached_to);
     }
 }
 
-/// Attaches each comment to the token before or the token after.
-fn attach_each(comments: &mut [Comment], previous: &Token, token: &Token)
+/// Attaches comments to one place; mostly there is one.
+fn attach_all(comments: &mut [Comment], position: CommentPosition, attached_to: u32)
+    ensures { comments.new ≡ map (attach_to position attached_to) comments.old }
+{
+    match comments {
+        [comment] => attach_to(comment, position, attached_to),
+        _ => attach_many(comments, position, attached_to),
+    }
+}
+
+/// Attaches any number of comments, each to the token before or the token after.
+#[inline(never)]
+fn attach_each_of_many(comments: &mut [Comment], previous: &Token, token: &Token)
     ensures { comments.new ≡ map (attach_alone previous.now token.now) comments.old }
 {
     let may_trail = takes_comments(previous.kind(), token.kind());
     for comment in comments.iter_mut() {
         attach_alone(comment, may_trail, previous.end(), token.start());
     }
+}
+
+/// Attaches each comment to the token before or the token after; mostly there is one.
+fn attach_each(comments: &mut [Comment], previous: &Token, token: &Token)
+    ensures { comments.new ≡ map (attach_alone previous.now token.now) comments.old }
+{
+    match comments {
+        [comment] => attach_one(comment, previous, token),
+        _ => attach_each_of_many(comments, previous, token),
+    }
+}
+
+/// Attaches a comment to the token before or the token after. Behind a line end the tokens need not be asked.
+fn attach_one(comment: &mut Comment, previous: &Token, token: &Token)
+    ensures { comment.new ≡ attach_alone previous.now token.now comment.old }
+{
+    let may_trail = !comment.preceded && takes_comments(previous.kind(), token.kind());
+    attach_alone(comment, may_trail, previous.end(), token.start());
 }
 
 /// Attaches a comment to the token before, if it may be trailing, or to the token after.

@@ -3,7 +3,7 @@
 ghost use Rattle.std.specs.Prelude.{◌≡◌, ◌-◌, ◌^◌, ◌<◌, ◌≤◌, IfSome};
 ghost use Rattle.std.specs.List.{position_from};
 ghost use Rattle.js_trivia.specs.Trivia.{is_past, AscendFrom, comment_starts, span_starts, is_span, index_of_new};
-ghost use Rattle.js_trivia.specs.Trivia.{extend, extend_if};
+ghost use Rattle.js_trivia.specs.Trivia.{extend};
 
 use js_text::{Comment, CommentRange, Span};
 
@@ -56,7 +56,7 @@ fn position_of(comments: &[Comment], start: u32, end: u32) -> Option<usize>
 }
 
 /// The range with the comment at this index.
-fn extend(range: Option<CommentRange>, index: u32) -> Option<CommentRange>
+pub(crate) fn extend(range: Option<CommentRange>, index: u32) -> Option<CommentRange>
     requires { index < 2 ^ 32 - 1 }
     ensures { result ≡ extend index range }
 {
@@ -71,20 +71,5 @@ fn extend(range: Option<CommentRange>, index: u32) -> Option<CommentRange>
             Some(CommentRange { start, end })
         }
         None => Some(CommentRange { start: index, end }),
-    }
-}
-
-pub(crate) fn extend_if(
-    is_noted: bool,
-    range: Option<CommentRange>,
-    index: u32,
-) -> Option<CommentRange>
-    requires { index < 2 ^ 32 - 1 }
-    ensures { result ≡ extend_if is_noted index range }
-{
-    if is_noted {
-        extend(range, index)
-    } else {
-        range
     }
 }

@@ -8,14 +8,14 @@ ghost use Rattle.js_grammar.specs.GapItems.{found_at};
 ghost use Rattle.js_trivia.specs.Marks.{IsRangeOf, mark_range, pure_applied, no_side_effects_applied};
 ghost use Rattle.js_trivia.specs.Trivia.{Trivia, no_trivia, held, IsNew, push_comment, note_class, add_comment};
 ghost use Rattle.js_trivia.specs.Trivia.{add_irregular, handle_newline, handle_token, lengths_of, cut_to, IsPlacedIn};
-ghost use Rattle.js_trivia.specs.Trivia.{class_in_text, found_in, CanCutBack};
+ghost use Rattle.js_trivia.specs.Trivia.{class_in_text, found_in, CanCutBack, without_ranges};
 
 use crate::attaching::{attach_each_pending, attach_pending, mark_last_pending};
 use crate::classes::{classify, stays_leading};
 use crate::kinds::keeps_line_comment_leading;
 use crate::lengths::TriviaLengths;
 use crate::marks::{mark_no_side_effects_within, mark_pure_within};
-use crate::order::{extend_if, find_comment, is_past_comments, is_past_spans, new_index};
+use crate::order::{extend, find_comment, is_past_comments, is_past_spans, new_index};
 use js_kind::{Kind, Token};
 use js_text::{
     Comment, CommentContent, CommentKind, CommentList, CommentPosition, CommentRange, Span,
@@ -34,6 +34,17 @@ fn class_in(source_text: &str, kind: CommentKind, span: Span) -> CommentContent
     classify(&source_text[start as usize..end as usize], !kind.is_line())
 }
 
+/// Whether there is neither range.
+#[inline(always)]
+fn are_none(
+    pure_comments: Option<CommentRange>,
+    no_side_effects_comments: Option<CommentRange>,
+) -> bool
+    ensures { result ≡ true → (pure_comments ≡ None) × (no_side_effects_comments ≡ None) }
+{
+    pure_comments.is_none() && no_side_effects_comments.is_none()
+}
+
 /// Comments and irregular white space in the order of the text. Comments wait for the next token, until it is clear to
 /// which token they belong.
 #[derive(Drop)]
@@ -50,12 +61,14 @@ pub struct TriviaBuilder {
     previous: Token,
     pure_comments: Option<CommentRange>,
     no_side_effects_comments: Option<CommentRange>,
+    /// Only if no comment waits, no line end came since the last token, and no range is held.
+    settled: bool,
 }
 
 impl Model for TriviaBuilder {
-    ghost use Rattle.std.specs.Prelude.{take, drop, length, ◌≤◌};
+    ghost use Rattle.std.specs.Prelude.{◌≡◌, true, take, drop};
     ghost use Rattle.js_trivia.specs.Trivia.{Trivia};
-    ghost use Rattle.js_trivia.specs.Builder.{IsInOrder};
+    ghost use Rattle.js_trivia.specs.Builder.{IsInOrder, IsSettled};
 
     ghost Value = { Trivia };
 
@@ -72,7 +85,9 @@ impl Model for TriviaBuilder {
       no_side_effects_comments = b.no_side_effects_comments;
     } };
 
-    ghost invariant = { λ b. IsInOrder b.processed b.comments.items b.irregular_whitespaces.items };
+    ghost invariant = { λ b. IsInOrder b.processed b.comments.items b.irregular_whitespaces.items
+        × (b.settled ≡ true → IsSettled b.processed b.comments.items b.saw_newline b.saw_newline_for_comment
+        b.pure_comments b.no_side_effects_comments) };
 }
 
 impl TriviaBuilder {
@@ -89,6 +104,7 @@ impl TriviaBuilder {
             previous: Token::new(Kind::Undetermined, Span::empty(0), false),
             pure_comments: None,
             no_side_effects_comments: None,
+            settled: false,
         }
     }
 
@@ -165,6 +181,7 @@ impl TriviaBuilder {
         ensures { self.new ≡ record self.old { pure_comments = range } }
     {
         self.pure_comments = range;
+        self.settled = false;
     }
 
     /// Sets the range of comments of class `NoSideEffectsNotApplied` before the last token.
@@ -173,6 +190,7 @@ impl TriviaBuilder {
         ensures { self.new ≡ record self.old { no_side_effects_comments = range } }
     {
         self.no_side_effects_comments = range;
+        self.settled = false;
     }
 
     /// Turns `PureNotApplied` into `Pure` in a range of the comments: a parser has taken them up.
@@ -217,6 +235,28 @@ impl TriviaBuilder {
         self.saw_newline = false;
         self.saw_newline_for_comment = false;
         self.previous = token;
+        self.settled = are_none(self.pure_comments, self.no_side_effects_comments);
+    }
+
+    /// Takes notice of a token before which there was nothing to tell of: the ranges of annotations are forgotten.
+    #[inline(always)]
+    pub fn handle_token_alone(&mut self, token: Token)
+        ensures { self.new ≡ handle_token token (without_ranges self.old) }
+    {
+        if !self.settled {
+            self.settle(token);
+        }
+        self.previous = token;
+    }
+
+    /// Takes notice of such a token where a range may be held, or a comment may wait.
+    #[inline(never)]
+    fn settle(&mut self, token: Token)
+        ensures { self.new ≡ handle_token token (without_ranges self.old) }
+    {
+        self.clear_pure_comments();
+        self.clear_no_side_effects_comments();
+        self.handle_token(token);
     }
 
     /// Adds a comment after those that wait, and attaches them if it is a trailing line comment.
@@ -234,6 +274,7 @@ impl TriviaBuilder {
         ensures err { OnErr result (self.new ≡ self.old) }
     {
         let is_line = kind.is_line();
+        self.settled = false;
         self.comments.push(Comment {
             span: Span { start, end },
             kind,
@@ -260,14 +301,17 @@ impl TriviaBuilder {
         requires { index < 2 ^ 32 - 1 }
         ensures { self.new ≡ note_class content index self.old }
     {
-        let is_pure = matches!(content, CommentContent::PureNotApplied);
-        let has_no_side_effects = matches!(content, CommentContent::NoSideEffectsNotApplied);
-        self.pure_comments = extend_if(is_pure, self.pure_comments, index);
-        self.no_side_effects_comments = extend_if(
-            has_no_side_effects,
-            self.no_side_effects_comments,
-            index,
-        );
+        match content {
+            CommentContent::PureNotApplied => {
+                self.pure_comments = extend(self.pure_comments, index);
+                self.settled = false;
+            }
+            CommentContent::NoSideEffectsNotApplied => {
+                self.no_side_effects_comments = extend(self.no_side_effects_comments, index);
+                self.settled = false;
+            }
+            _ => {}
+        }
     }
 
     /// Adds a comment, or counts it for the range of its class where it is held already.
@@ -342,6 +386,7 @@ impl TriviaBuilder {
         let trails = mark_last_pending(&mut self.comments, self.processed) && !self.saw_newline;
         self.saw_newline = true;
         self.saw_newline_for_comment = true;
+        self.settled = false;
         if trails {
             self.trail_pending();
         }
@@ -407,5 +452,6 @@ impl TriviaBuilder {
         self.previous = to.previous;
         self.pure_comments = to.pure_range;
         self.no_side_effects_comments = to.no_side_effects;
+        self.settled = false;
     }
 }

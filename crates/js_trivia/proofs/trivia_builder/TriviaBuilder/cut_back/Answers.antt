@@ -3,6 +3,8 @@ use Rattle.js_trivia.proofs.trivia_builder.TriviaBuilder.cut_back.Goals as goal
 
 pub invariant_of-self : goal.invariant_of-self
 invariant_of-self c =
-    rw (c.truncate.ensures.items, c.truncate-2.ensures.items)
-    (cut_in_order c.args.to.now.comments c.args.to.now.irregular c.self.inside.processed c.self.inside.comments.items
-    _ c.self.invariant (rw (← c.self.view_is) at c.requires.comments))
+    rw (c.truncate.ensures.items, c.truncate-2.ensures.items) (
+      cut_in_order c.args.to.now.comments c.args.to.now.irregular c.self.inside.processed c.self.inside.comments.items
+          _ c.self.invariant.0 (rw (← c.self.view_is) at c.requires.comments),
+      λ h. absurd cc,
+    )

@@ -8,9 +8,9 @@ pub overflow_cast-result : goal.overflow_cast-result
 overflow_cast-result c =
     omega (
       arith,
-      c.self.invariant.within,
+      c.self.invariant.0.within,
       count_fits (λ (x : Comment). x.span.start) c.self.inside.comments.items
-          c.self.invariant.comments_ascend,
+          c.self.invariant.0.comments_ascend,
     )
 
 pub overflow_cast-result-2 : goal.overflow_cast-result-2
@@ -19,5 +19,5 @@ overflow_cast-result-2 c =
       arith,
       c.len.ensures,
       count_fits (λ (x : Span). x.start) c.self.inside.irregular_whitespaces.items
-          c.self.invariant.spans_ascend,
+          c.self.invariant.0.spans_ascend,
     )

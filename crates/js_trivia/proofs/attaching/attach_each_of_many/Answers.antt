@@ -2,7 +2,7 @@ use Rattle.std.proofs.Common.{arith}
 use Rattle.std.proofs.lemmas.Grind.{common_steps}
 use Rattle.std.proofs.lemmas.List.Edits.{map_over_more}
 use Rattle.js_trivia.specs.Attachment.{attach_alone}
-use Rattle.js_trivia.proofs.attaching.attach_each.Goals as goal
+use Rattle.js_trivia.proofs.attaching.attach_each_of_many.Goals as goal
 
 pub loop-comment-preserved : goal.loop-comment-preserved
 loop-comment-preserved c =

@@ -1,6 +1,6 @@
 use Rattle.std.proofs.Common.{◌≡◌, ◌++◌, map, take, drop}
 use Rattle.js_trivia.specs.Attachment.{attach_alone}
-use Rattle.js_trivia.proofs.attaching.attach_each.Given as goal
+use Rattle.js_trivia.proofs.attaching.attach_each_of_many.Given as goal
 
 abbrev pub invariant-loop-comment : goal.invariant-loop-comment
 invariant-loop-comment l =
