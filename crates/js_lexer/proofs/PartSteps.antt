@@ -2,14 +2,15 @@
 use Rattle.std.proofs.Common.{◌≡◌, ℕ, ◌+◌, ◌<◌, ◌≤◌, Bool, true, false, not, ◌&&◌, ◌||◌, ◌==◌, ltb, List, [], ◌∷◌}
 use Rattle.std.proofs.Common.{length, length-append, get_or, zero, suc, refl, sym, ◌∙◌, ap, arith, add-zero}
 use Rattle.std.specs.Char.{is_ascii_alphabetic}
-use Rattle.std.proofs.lemmas.Bool.{ltb-true, ltb-false, eqb-true}
+use Rattle.std.proofs.lemmas.Bool.{ltb-true, ltb-false, eqb-true, eq-eqb}
 use Rattle.std.proofs.Math.ListN.{get_or-eq_default}
 use Rattle.js_text.specs.Characters.{is_white_space, is_irregular_whitespace, from_place}
 use Rattle.js_text.proofs.CharacterLemmas.{start_in_ascii}
 use Rattle.js_source.specs.Source.{At, rest}
 use Rattle.js_source.specs.Search.{matches_at}
 use Rattle.js_source.specs.Runs.{HasAscii, PassesRun}
-use Rattle.js_lexer.specs.Tables.{TellsStarts, TellsBlanks}
+use Rattle.js_lexer.specs.Tables.{TellsStarts, TellsBlanks, TellsMarks}
+use Rattle.js_lexer.proofs.FastSteps.{begins_none}
 
 abbrev same : Bool → Bool → Bool
 same true y = y
@@ -104,6 +105,24 @@ tells_blanks xs e n =
       ascii = ascii_alone is_blank xs e n;
       tells = λ b lt m. white b (sym (entry_low is_blank xs e n b lt) ∙ m);
       plain = λ b lt m. plain b (sym (entry_low is_blank xs e n b lt) ∙ m);
+    }
+
+-- the characters above SP but `-`, `/` and `<`
+abbrev pub is_mark : ℕ → Bool
+is_mark b = ltb 32 b && (not (b == 45) && (not (b == 47) && not (b == 60)))
+
+is_none : (b n : ℕ) → not (b == n) ≡ true → b ≡ n → ⊥
+is_none b n e same = let both : true ≡ false = sym e ∙ ap not (eq-eqb b n same) in cc
+
+pub tells_marks : (xs : List Bool) → tells is_mark 0 xs ≡ true → length xs ≡ 256 → TellsMarks xs
+tells_marks xs e n =
+    record {
+      ascii = ascii_alone is_mark xs e n;
+      tells = λ b lt m.
+          let is = and_true _ _ (sym (entry_low is_mark xs e n b lt) ∙ m) in
+          let minus = and_true _ _ is.1 in
+          let marks = and_true _ _ minus.1 in
+          begins_none b (ltb-true 32 b is.0) lt (is_none b 47 marks.0) (is_none b 60 marks.1) (is_none b 45 minus.0);
     }
 
 pub run_fewer : (table : List Bool) (old new : At) → new.text ≡ old.text → PassesRun table old.text old.place new.place

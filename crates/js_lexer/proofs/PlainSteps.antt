@@ -23,7 +23,7 @@ use Rattle.js_grammar.proofs.Flags.{punctuator_unflagged}
 use Rattle.js_grammar.proofs.GapLemmas.{none_behind, unreported}
 use Rattle.js_grammar.proofs.NumberClasses.{all_below, below}
 use Rattle.js_grammar.proofs.PieceLemmas.{piece-other, piece-minus, piece-angle}
-use Rattle.js_source.specs.Runs.{PassesRun, place_of}
+use Rattle.js_source.specs.Runs.{HasAscii, PassesRun, place_of}
 use Rattle.js_source.specs.Source.{At, rest, Reads, IsPlaced, HasFirstByte, HasFirstTwoBytes}
 use Rattle.js_source.specs.Search.{matches_at}
 use Rattle.js_spell.specs.Name.{SpellsPlainName, SpellsPlainPrivateName}
@@ -33,12 +33,12 @@ use Rattle.js_spell.specs.declared.spelt.SpeltValue.TheVariants.{Plain}
 use Rattle.js_trivia.specs.Attachment.{after_newline, after_token}
 use Rattle.js_trivia.specs.Trivia.{Trivia, handle_token}
 use Rattle.js_lexer.specs.Gaps.{BeginsNoPiece}
-use Rattle.js_lexer.specs.Plain.{EndsGap, EndsGapInAscii}
+use Rattle.js_lexer.specs.Plain.{EndsGap, EndsGapInAscii, MeetsByte, PassesPieces}
 use Rattle.js_lexer.specs.Plain.{moved, after_ends, ends_told, PassesPlainGap, plain_lexeme, SpellsPlainly}
 use Rattle.js_lexer.specs.Plain.{ReadsPlainToken}
 use Rattle.js_lexer.specs.Reader.{Leads, ReadsTokenHere, ReadsWithGap, MovesOn, lexeme_token}
 use Rattle.js_lexer.specs.Spellings.{ReadsPunctuator}
-use Rattle.js_lexer.specs.Tables.{TellsBlanks, TellsStarts, is_name_start}
+use Rattle.js_lexer.specs.Tables.{TellsBlanks, TellsMarks, TellsStarts, is_name_start}
 use Rattle.js_lexer.specs.declared.found.GapFindings.{GapFindings}
 use Rattle.js_lexer.specs.declared.reader.Reader.{Reader}
 use Rattle.js_lexer.proofs.GapSteps.{blanks_lead, line_feed_skipped, no_gap_left}
@@ -52,41 +52,69 @@ use Rattle.js_lexer.proofs.ReadingSteps.{goal_behind, token_behind}
 use Rattle.js_lexer.proofs.SpellingSteps.{punctuator_spelled}
 use Rattle.js_lexer.proofs.WholeSteps.{whole_at_once}
 
--- blanks and line feeds were passed so far
-pub record GapSoFar (start : At) (line_had_ended : Bool) (now : At) (line_has_ended : Bool) : Type 0 where
-  pub from : IsPlaced start
-  pub placed : IsPlaced now
-  pub ends : ℕ
-  pub leads : (r : Reader) (before : GapFindings)
-      → Leads false (moved r start line_had_ended) before false (moved r now line_has_ended) (ends_told ends before)
+-- nothing was passed yet
+pub none_passed : (start : At) (ended : Bool) → IsPlaced start → PassesPieces start ended start ended
+none_passed start ended h = record { from = h; placed = h; ends = 0; leads = λ r before later found skips. skips }
 
-pub gap_starts : (table : List Bool) → TellsBlanks table → (start now : At) (ended : Bool) → IsPlaced start
-    → IsPlaced now → now.text ≡ start.text → PassesRun table start.text start.place now.place
-    → GapSoFar start ended now ended
-gap_starts table tells start now ended h g text run = record {
-  from = h;
+-- a run of blanks
+pub blanks_passed : (table : List Bool) → TellsBlanks table → (start now next : At) (had has : Bool)
+    → PassesPieces start had now has → IsPlaced next → next.text ≡ now.text
+    → PassesRun table now.text now.place next.place → PassesPieces start had next has
+blanks_passed table tells start now next had has s g text run = record {
+  from = s.from;
   placed = g;
-  ends = 0;
-  leads = λ r before. blanks_lead table tells (moved r start ended) now before h g text run;
+  ends = s.ends;
+  leads = λ r before later found skips.
+      s.leads r before later found
+      (blanks_lead table tells (moved r now has) next (ends_told s.ends before) s.placed g text run later found skips);
 }
 
--- a line feed, and the blanks behind it
-pub gap_goes_on : (table : List Bool) → TellsBlanks table → (start now mid next : At) (had has : Bool)
-    → GapSoFar start had now has → rest now ≡ 10 ∷ rest mid → mid.text ≡ now.text → IsPlaced mid → IsPlaced next
-    → next.text ≡ mid.text → PassesRun table mid.text mid.place next.place → GapSoFar start had next true
-gap_goes_on table tells start now mid next had has s here text k g same run = record {
+-- a run of one character
+run_of_one : (table : List Bool) (now next : At) (b : ℕ) → b < 128 → matches_at table b ≡ true
+    → rest now ≡ b ∷ rest next → next.text ≡ now.text → now.place ≤ next.place → IsPlaced next
+    → PassesRun table now.text now.place next.place
+run_of_one table now next b small has here text onward g = record {
+  onward = onward;
+  placed = subst (λ t. IsPlaced (place_of t next.place)) text g;
+  run = b ∷ [];
+  all = (small, has, tt);
+  here = here ∙ ap (λ t. b ∷ rest (place_of t next.place)) text;
+}
+
+-- the bytes of a table of ASCII characters are such
+small_of : (table : List Bool) (b : ℕ) → HasAscii table → matches_at table b ≡ true → b < 128
+small_of table b ascii is = by_test (nat_le 128 b) refl
+  where
+    by_test : (x : Bool) → nat_le 128 b ≡ x → b < 128
+    by_test true e = absurd (let both : true ≡ false = sym is ∙ ascii b (leb-true 128 b e) in cc)
+    by_test false e = leb-false 128 b e
+
+pub blank_is_ascii : (table : List Bool) (b : ℕ) → TellsBlanks table → matches_at table b ≡ true → b < 128
+blank_is_ascii table b tells is = small_of table b tells.ascii is
+
+-- one blank
+pub blank_passed : (table : List Bool) → TellsBlanks table → (start now next : At) (had has : Bool) (b : ℕ)
+    → PassesPieces start had now has → matches_at table b ≡ true → rest now ≡ b ∷ rest next → next.text ≡ now.text
+    → now.place ≤ next.place → IsPlaced next → PassesPieces start had next has
+blank_passed table tells start now next had has b s is here text onward g =
+    blanks_passed table tells start now next had has s g text
+    (run_of_one table now next b (blank_is_ascii table b tells is) is here text onward g)
+
+-- a line feed
+pub line_feed_passed : (start now next : At) (had has : Bool) → PassesPieces start had now has
+    → rest now ≡ 10 ∷ rest next → next.text ≡ now.text → IsPlaced next → PassesPieces start had next true
+line_feed_passed start now next had has s here text g = record {
   from = s.from;
   placed = g;
   ends = suc s.ends;
   leads = λ r before later found skips.
       s.leads r before later found
-      ((line_feed_skipped (moved r now has) (ends_told s.ends before) mid (ends_told (suc s.ends) before) s.placed k
-      text here refl refl).leads later found
-      (blanks_lead table tells (moved r mid true) next (ends_told (suc s.ends) before) k g same run later found skips));
+      ((line_feed_skipped (moved r now has) (ends_told s.ends before) next (ends_told (suc s.ends) before) s.placed g
+      text here refl refl).leads later found skips);
 }
 
 -- the gap has ended
-pub gap_passed : (start now : At) (had has : Bool) → GapSoFar start had now has → EndsGap has (rest now)
+pub gap_passed : (start now : At) (had has : Bool) → PassesPieces start had now has → EndsGap has (rest now)
     → PassesPlainGap start had now has
 gap_passed start now had has s ends = record {
   from = s.from;
@@ -143,6 +171,22 @@ start_ends b ended cs small first is =
     (λ e. let no : is_start 60 ≡ true = ap is_start (sym e) ∙ is in cc)
     (λ e. let no : is_start 45 ≡ true = ap is_start (sym e) ∙ is in cc))
 
+-- the gap has ended before the byte
+pub byte_met : (b : ℕ) (start now : At) (had has : Bool) → PassesPieces start had now has
+    → EndsGapInAscii b has (rest now) → HasFirstByte b (rest now) → MeetsByte b start had now has
+byte_met b start now had has s ends next =
+    record { gap = gap_passed start now had has s ends.ends; ascii = ends.ascii; next = next }
+
+-- what the table of marks tells
+pub mark_ends : (table : List Bool) (b : ℕ) (ended : Bool) (cs : List ℕ) → TellsMarks table
+    → matches_at table b ≡ true → HasFirstByte b cs → EndsGapInAscii b ended cs
+mark_ends table b ended cs tells is first =
+    no_piece_ends b ended cs first (tells.tells b (small_of table b tells.ascii is) is)
+
+-- what the table of the starts of names tells
+pub starts_name : (table : List Bool) (b : ℕ) → TellsStarts table → matches_at table b ≡ true → is_name_start b ≡ true
+starts_name table b tells is = sym (tells.tells b (small_of table b tells.ascii is)) ∙ is
+
 -- the table of the starts of names tells as much
 pub tells_ends : (table : List Bool) (b : ℕ) (ended : Bool) (cs : List ℕ) → TellsStarts table
     → matches_at table b ≡ true → HasFirstByte b cs → EndsGapInAscii b ended cs
@@ -155,7 +199,7 @@ tells_ends table b ended cs tells is first = by_test (nat_le 128 b) refl
         start_ends b ended cs small first
         (ap (λ x. x || (b == 92)) (sym (start_in_ascii b small)) ∙ sym (tells.tells b small) ∙ is)
 
-and_false : (x : Bool) → (x && false) ≡ false
+pub and_false : (x : Bool) → (x && false) ≡ false
 and_false true = refl
 and_false false = refl
 

@@ -1,14 +1,17 @@
 -- Readings that need the source alone.
-use Rattle.std.specs.Prelude.{◌≡◌, ◌<◌, ℕ, zero, suc, Bool, false, List, None}
+use Rattle.std.specs.Prelude.{◌≡◌, ◌<◌, ℕ, zero, suc, Bool, true, false, List, length, None}
 use Rattle.js_text.specs.declared.source_type.SourceType.{SourceType}
 use Rattle.js_grammar.specs.Gap.{whole_gap_piece}
 use Rattle.js_kind.specs.TokenParts.{TokenParts}
 use Rattle.js_kind.specs.declared.kind.Kind.{Kind}
-use Rattle.js_source.specs.Source.{At, IsPlaced}
+use Rattle.js_source.specs.Source.{At, rest, IsPlaced, HasFirstByte}
 use Rattle.js_trivia.specs.Trivia.{Trivia, handle_newline}
-use Rattle.js_lexer.specs.Reader.{SkipsWholeGap, ReadsLexeme, ReadsTokenHere}
+use Rattle.js_lexer.specs.Reader.{Leads, SkipsWholeGap, ReadsLexeme, ReadsTokenHere}
+use Rattle.js_lexer.specs.Tables.{is_name_start}
 use Rattle.js_lexer.specs.declared.found.GapFindings.{GapFindings}
 use Rattle.js_lexer.specs.declared.lexeme.Lexeme.{Lexeme}
+use Rattle.js_lexer.specs.declared.plain.GapEnd.{GapEnd}
+use Rattle.js_lexer.specs.declared.plain.GapEnd.TheVariants.{Name, Mark, Other}
 use Rattle.js_lexer.specs.declared.reader.Reader.{Reader}
 
 -- a reader at another place, where a line has ended or not
@@ -23,6 +26,20 @@ after_ends (suc n) s = handle_newline (after_ends n s)
 -- what was found, with so many line ends
 abbrev pub ends_told : ℕ → GapFindings → GapFindings
 ends_told n found = record found { trivia = after_ends n found.trivia }
+
+-- Pieces of a gap were passed of which there is nothing to tell but line ends, whatever reader stands there.
+pub record PassesPieces (old : At) (line_had_ended : Bool) (new : At) (line_has_ended : Bool) : Type 0 where
+  pub from : IsPlaced old
+  pub placed : IsPlaced new
+  pub ends : ℕ
+  pub leads : (r : Reader) (before : GapFindings)
+      → Leads false (moved r old line_had_ended) before false (moved r new line_has_ended) (ends_told ends before)
+
+-- Some more such pieces were passed, whatever stands before them.
+pub record GoesOnWithGap (old : At) (line_had_ended : Bool) (new : At) (line_has_ended : Bool) : Type 0 where
+  pub fewer : length (rest new) < length (rest old)
+  pub passes : (start : At) (had : Bool) → PassesPieces start had old line_had_ended
+      → PassesPieces start had new line_has_ended
 
 -- A whole gap was passed in which there is nothing to tell of but line ends, whatever reader stands there.
 pub record PassesPlainGap (old : At) (line_had_ended : Bool) (new : At) (line_has_ended : Bool) : Type 0 where
@@ -40,6 +57,18 @@ EndsGap line_has_ended here = (t : SourceType) → whole_gap_piece t line_has_en
 pub record EndsGapInAscii (b : ℕ) (line_has_ended : Bool) (here : List ℕ) : Type 0 where
   pub ascii : b < 128
   pub ends : EndsGap line_has_ended here
+
+-- A plain gap was passed, and the byte is next behind it, an ASCII character.
+pub record MeetsByte (b : ℕ) (old : At) (line_had_ended : Bool) (new : At) (line_has_ended : Bool) : Type 0 where
+  pub gap : PassesPlainGap old line_had_ended new line_has_ended
+  pub ascii : b < 128
+  pub next : HasFirstByte b (rest new)
+
+-- what ends a plain gap
+abbrev pub EndsAt : GapEnd → At → Bool → At → Bool → Type 0
+EndsAt (Name b) old had new has = MeetsByte b old had new has × (is_name_start b ≡ true)
+EndsAt (Mark b) old had new has = MeetsByte b old had new has
+EndsAt Other old had new has = Unit {0}
 
 -- what was read of the kind, without a flag
 abbrev pub plain_lexeme : Kind → Bool → Lexeme

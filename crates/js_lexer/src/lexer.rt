@@ -15,11 +15,12 @@ ghost use Rattle.js_source.specs.Source.{IsPlaced};
 ghost use Rattle.js_lexer.specs.Decoded.{Keeps, KeepsValues, HasValue, value_of, GivesDecoded, GivesPart, GivesText};
 ghost use Rattle.js_lexer.specs.Decoded.{GivesTemplate, GivesStretch};
 ghost use Rattle.js_lexer.specs.Gaps.{Grows};
-ghost use Rattle.js_source.specs.Source.{rest, HasFirstByte};
+ghost use Rattle.js_source.specs.Source.{rest};
 ghost use Rattle.js_trivia.specs.Trivia.{handle_token};
 ghost use Rattle.js_grammar.specs.Gap.{whole_gap_piece};
-ghost use Rattle.std.specs.Prelude.{is_none, ◌<◌};
-ghost use Rattle.js_lexer.specs.Plain.{PassesPlainGap, ReadsPlainToken};
+ghost use Rattle.std.specs.Prelude.{is_none};
+ghost use Rattle.js_lexer.specs.Plain.{MeetsByte, PassesPlainGap, ReadsPlainToken, SpellsPlainly};
+ghost use Rattle.js_lexer.specs.Tables.{is_name_start};
 ghost use Rattle.js_lexer.specs.Lexer.{here, without_ranges, ReadsNext};
 ghost use Rattle.js_lexer.specs.Reader.{ReadsWithGap, ReadsTokenHere, MovesOn};
 ghost use Rattle.js_lexer.specs.Lexer.{LexerState, fresh, token_or_default, ReadsToken, IsRestored};
@@ -37,7 +38,7 @@ use crate::checkpoint::{
 };
 use crate::decoded::DecodedValues;
 use crate::found::GapFindings;
-use crate::plain::{pass_plain_gap, read_plain_spelling};
+use crate::plain::{GapEnd, pass_plain_gap, read_name_plainly, read_plain_mark};
 use crate::reader::Reader;
 use crate::tables::ByteTables;
 use crate::token_text::{is_template, text_span};
@@ -84,6 +85,7 @@ fn replace_collected(tokens: &mut TokenList, collects: bool, token: Token)
 
 /// Reads a token of the first or the plain goal, and collects it. Where it cannot allocate, the reader may have moved
 /// on and reported, and more may have been found.
+#[inline(always)]
 fn read_and_collect(
     reader: &mut Reader<'_>,
     goal: Goal,
@@ -247,32 +249,121 @@ impl<'a, C: LexerConfig + Drop> Lexer<'a, C> {
         ensures err { OnErr result (IsRestored self.old self.new) }
         ensures kept { Keeps self.old.decoded self.new.decoded }
     {
-        self.read_next()?;
-        Ok(self.found.trivia.previous_token())
-    }
-
-    /// Reads the next token, which the builder of trivia has then as the last one.
-    #[inline(always)]
-    fn read_next(&mut self) -> Result<(), AllocError>
-        ensures ok { OnOk result (ReadsNext self.old self.new) }
-        ensures err { OnErr result (IsRestored self.old self.new) }
-        ensures kept { Keeps self.old.decoded self.new.decoded }
-    {
         let mut source = self.reader.source.here();
         let mut line_has_ended = self.last.is_none();
-        let tables = &self.reader.tables;
-        match pass_plain_gap(
-            &mut source,
-            &tables.blanks,
-            &tables.starts,
-            &mut line_has_ended,
-        ) {
-            Some(b) => self.read_behind_gap(source, line_has_ended, b),
-            None => self.read_with_any_gap(),
+        match pass_plain_gap(&mut source, &self.reader.tables, &mut line_has_ended) {
+            GapEnd::Name(b) => self.read_name_here(source, line_has_ended, b),
+            GapEnd::Mark(b) => self.read_mark_here(source, line_has_ended, b),
+            GapEnd::Other => self.read_behind_any_gap(),
         }
     }
 
+    /// Reads the name that begins with `b` behind a plain gap.
+    #[inline(always)]
+    fn read_name_here(
+        &mut self,
+        source: Source<'a>,
+        line_has_ended: bool,
+        b: u8,
+    ) -> Result<Token, AllocError>
+        requires meets { MeetsByte b (here self.old) (is_none self.old.last) source line_has_ended }
+        requires begun { is_name_start b ≡ true }
+        ensures ok { IfOk result (λ token. ReadsToken Goal.Next self.old token self.new) }
+        ensures err { OnErr result (IsRestored self.old self.new) }
+        ensures kept { Keeps self.old.decoded self.new.decoded }
+    {
+        let mut behind = source.here();
+        match read_name_plainly(&mut behind, b) {
+            Some(kind) => self.take_spelled(source, behind, kind, line_has_ended),
+            None => self.read_any_here(source, line_has_ended),
+        }
+    }
+
+    /// Reads the token that begins with `b` behind a plain gap, and is no name.
+    #[inline(always)]
+    fn read_mark_here(
+        &mut self,
+        source: Source<'a>,
+        line_has_ended: bool,
+        b: u8,
+    ) -> Result<Token, AllocError>
+        requires { MeetsByte b (here self.old) (is_none self.old.last) source line_has_ended }
+        ensures ok { IfOk result (λ token. ReadsToken Goal.Next self.old token self.new) }
+        ensures err { OnErr result (IsRestored self.old self.new) }
+        ensures kept { Keeps self.old.decoded self.new.decoded }
+    {
+        let mut behind = source.here();
+        match read_plain_mark(&mut behind, b) {
+            Some(kind) => self.take_spelled(source, behind, kind, line_has_ended),
+            None => self.read_any_here(source, line_has_ended),
+        }
+    }
+
+    /// Takes the token of the kind that was read from behind a plain gap up to the place of `behind`.
+    #[inline(always)]
+    fn take_spelled(
+        &mut self,
+        source: Source<'a>,
+        behind: Source<'a>,
+        kind: Kind,
+        line_has_ended: bool,
+    ) -> Result<Token, AllocError>
+        requires gap { PassesPlainGap (here self.old) (is_none self.old.last) source line_has_ended }
+        requires spells { SpellsPlainly line_has_ended source behind kind }
+        ensures ok { IfOk result (λ token. ReadsToken Goal.Next self.old token self.new) }
+        ensures err { OnErr result (IsRestored self.old self.new) }
+        ensures kept { Keeps self.old.decoded self.new.decoded }
+    {
+        let start = source.offset();
+        let span = Span::new(start, behind.offset());
+        let token = Token::new(kind, span, line_has_ended);
+        self.take_plain(behind, token)?;
+        Ok(token)
+    }
+
+    /// Takes a token that was read behind a plain gap.
+    #[inline(always)]
+    fn take_plain(&mut self, source: Source<'a>, token: Token) -> Result<(), AllocError>
+        requires { ReadsPlainToken (here self.old) (is_none self.old.last) token source }
+        ensures ok { OnOk result (ReadsToken Goal.Next self.old token self.new) }
+        ensures err { OnErr result (IsRestored self.old self.new) }
+        ensures kept { Keeps self.old.decoded self.new.decoded }
+    {
+        collect(&mut self.tokens, self.config.tokens(), &token)?;
+        self.reader.source.set_position(source.position());
+        tell_alone(&mut self.found.trivia, &token);
+        self.last = Some(token);
+        Ok(())
+    }
+
+    /// Reads the next token, of any form, where a plain gap stands before it.
+    #[inline(always)]
+    fn read_any_here(
+        &mut self,
+        source: Source<'a>,
+        line_has_ended: bool,
+    ) -> Result<Token, AllocError>
+        requires { PassesPlainGap (here self.old) (is_none self.old.last) source line_has_ended }
+        ensures ok { IfOk result (λ token. ReadsToken Goal.Next self.old token self.new) }
+        ensures err { OnErr result (IsRestored self.old self.new) }
+        ensures kept { Keeps self.old.decoded self.new.decoded }
+    {
+        self.read_here(source, line_has_ended)?;
+        Ok(self.found.trivia.previous_token())
+    }
+
     /// Reads the next token behind a gap of any form.
+    #[inline(always)]
+    fn read_behind_any_gap(&mut self) -> Result<Token, AllocError>
+        ensures ok { IfOk result (λ token. ReadsToken Goal.Next self.old token self.new) }
+        ensures err { OnErr result (IsRestored self.old self.new) }
+        ensures kept { Keeps self.old.decoded self.new.decoded }
+    {
+        self.read_with_any_gap()?;
+        Ok(self.found.trivia.previous_token())
+    }
+
+    /// Reads the next token behind a gap of any form, which the builder of trivia has then as the last one.
     #[inline(never)]
     fn read_with_any_gap(&mut self) -> Result<(), AllocError>
         ensures ok { OnOk result (ReadsNext self.old self.new) }
@@ -283,48 +374,8 @@ impl<'a, C: LexerConfig + Drop> Lexer<'a, C> {
         Ok(())
     }
 
-    /// Reads the next token where a plain gap stands before it, and `b` is the next byte behind that.
-    #[inline(always)]
-    fn read_behind_gap(
-        &mut self,
-        source: Source<'a>,
-        line_has_ended: bool,
-        b: u8,
-    ) -> Result<(), AllocError>
-        requires gap { PassesPlainGap (here self.old) (is_none self.old.last) source line_has_ended }
-        requires ascii { b < 128 }
-        requires next { HasFirstByte b (rest source) }
-        ensures ok { OnOk result (ReadsNext self.old self.new) }
-        ensures err { OnErr result (IsRestored self.old self.new) }
-        ensures kept { Keeps self.old.decoded self.new.decoded }
-    {
-        let start = source.offset();
-        let mut behind = source.here();
-        match read_plain_spelling(&mut behind, &self.reader.tables.starts, b) {
-            Some(kind) => {
-                let span = Span::new(start, behind.offset());
-                self.take_plain(behind, Token::new(kind, span, line_has_ended))
-            }
-            None => self.read_here(source, line_has_ended),
-        }
-    }
-
-    /// Takes a token that was read behind a plain gap.
-    #[inline(always)]
-    fn take_plain(&mut self, source: Source<'a>, token: Token) -> Result<(), AllocError>
-        requires { ReadsPlainToken (here self.old) (is_none self.old.last) token source }
-        ensures ok { OnOk result (ReadsNext self.old self.new) }
-        ensures err { OnErr result (IsRestored self.old self.new) }
-        ensures kept { Keeps self.old.decoded self.new.decoded }
-    {
-        collect(&mut self.tokens, self.config.tokens(), &token)?;
-        self.reader.source = source;
-        tell_alone(&mut self.found.trivia, &token);
-        self.last = Some(token);
-        Ok(())
-    }
-
-    /// Reads the next token, of any form, where a plain gap stands before it.
+    /// Reads the next token, of any form, where a plain gap stands before it. The builder of trivia has it then as the
+    /// last one.
     #[inline(never)]
     fn read_here(&mut self, source: Source<'a>, line_has_ended: bool) -> Result<(), AllocError>
         requires { PassesPlainGap (here self.old) (is_none self.old.last) source line_has_ended }
@@ -356,7 +407,7 @@ impl<'a, C: LexerConfig + Drop> Lexer<'a, C> {
     }
 
     /// Reads a token of a goal that goes on, or leaves the lexer as it was.
-    #[inline(never)]
+    #[inline(always)]
     fn read(&mut self, goal: Goal) -> Result<Token, AllocError>
         requires { is_onward goal ≡ true }
         ensures ok { IfOk result (λ token. ReadsToken goal self.old token self.new) }

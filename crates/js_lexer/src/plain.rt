@@ -2,18 +2,20 @@
 //! without escapes, a number without separators, or a punctuator. Most tokens are read so; all others are left to the
 //! readings of any form.
 
-ghost use Rattle.std.specs.Prelude.{◌≡◌, ◌<◌, Bool, IfSome, MatchBool};
+ghost use Rattle.std.specs.Prelude.{◌≡◌, ◌<◌, Bool, true, IfSome, MatchBool};
 ghost use Rattle.std.specs.Str.{IsCharBoundary};
-ghost use Rattle.js_text.specs.Ascii.{grave_accent, number_sign};
+ghost use Rattle.js_text.specs.Ascii.{grave_accent, line_feed, number_sign};
 ghost use Rattle.js_grammar.specs.StringItems.{is_quote};
 ghost use Rattle.js_source.specs.Runs.{place_of};
-ghost use Rattle.js_source.specs.Source.{rest, IsPlaced, HasFirstByte};
-ghost use Rattle.js_lexer.specs.Plain.{EndsGap, EndsGapInAscii, PassesPlainGap, SpellsPlainly};
-ghost use Rattle.js_lexer.specs.Tables.{TellsStarts, TellsBlanks};
+ghost use Rattle.js_source.specs.Source.{At, rest, IsPlaced, HasFirstByte};
+ghost use Rattle.js_source.specs.Search.{matches_at};
+ghost use Rattle.js_lexer.specs.Plain.{EndsAt, EndsGap, EndsGapInAscii, GoesOnWithGap, PassesPieces, SpellsPlainly};
+ghost use Rattle.js_lexer.specs.Tables.{TellsStarts, TellsBlanks, TellsMarks, is_name_start};
 
-use crate::gap::{begins_no_piece, skip_blanks};
+use crate::gap::skip_blanks;
 use crate::punctuator::read_punctuator;
 use crate::reading::begins_ascii_name;
+use crate::tables::ByteTables;
 use js_kind::Kind;
 use js_source::{Source, SourcePosition};
 use js_spell::{
@@ -41,45 +43,112 @@ fn is_mark_alone(source: &Source<'_>, b: u8, line_has_ended: bool) -> bool
 /// Whether the byte `b`, which is next, is an ASCII character that begins no piece of a gap; false where it may begin
 /// one.
 #[inline(always)]
-fn ends_gap(source: &Source<'_>, starts: &[bool; 256], b: u8, line_has_ended: bool) -> bool
-    requires starts { TellsStarts starts.now }
+fn ends_gap(source: &Source<'_>, marks: &[bool; 256], b: u8, line_has_ended: bool) -> bool
+    requires marks { TellsMarks marks.now }
     requires next { HasFirstByte b (rest source.now) }
     ensures { MatchBool result (EndsGapInAscii b line_has_ended (rest source.now)) (Unit {0}) }
 {
-    if starts[b as usize] {
-        return true;
-    }
-    if begins_no_piece(b) {
+    if marks[b as usize] {
         return true;
     }
     is_mark_alone(source, b, line_has_ended)
 }
 
-/// Passes a whole gap of blanks and line feeds, and gives the byte behind it. None: the gap goes on, or the text ends.
+/// Passes the TAB or the SP that is next, if one is.
+#[inline(always)]
+fn pass_blank(source: &mut Source<'_>, blanks: &[bool; 256])
+    requires blanks { TellsBlanks blanks.now }
+    requires placed { IsPlaced source.old }
+    ensures { (start : At) (had has : Bool) → PassesPieces start had source.old has
+        → PassesPieces start had source.new has }
+{
+    match source.peek_byte() {
+        Some(b) if blanks[b as usize] => source.next_ascii(b),
+        _ => {}
+    }
+}
+
+/// Passes the line feed that is next, and the blanks behind it.
+#[inline(always)]
+fn pass_line_feed(source: &mut Source<'_>, blanks: &[bool; 256], line_has_ended: &mut bool)
+    requires blanks { TellsBlanks blanks.now }
+    requires next { HasFirstByte line_feed (rest source.old) }
+    ensures { GoesOnWithGap source.old line_has_ended.old source.new line_has_ended.new }
+{
+    source.next_ascii(b'\n');
+    *line_has_ended = true;
+    skip_blanks(source, blanks);
+}
+
+/// Passes the blank `b`, which is next, and the blanks behind it.
+#[inline(always)]
+fn pass_blanks(source: &mut Source<'_>, blanks: &[bool; 256], b: u8)
+    requires blanks { TellsBlanks blanks.now }
+    requires blank { matches_at blanks.now b ≡ true }
+    requires next { HasFirstByte b (rest source.old) }
+    ensures { (line_has_ended : Bool) → GoesOnWithGap source.old line_has_ended source.new line_has_ended }
+{
+    source.next_ascii(b);
+    skip_blanks(source, blanks);
+}
+
+/// Passes the line feed or the blank `b`, which is next, and the blanks behind it, if it is one of them.
+#[inline(always)]
+fn pass_more(
+    source: &mut Source<'_>,
+    blanks: &[bool; 256],
+    b: u8,
+    line_has_ended: &mut bool,
+) -> bool
+    requires blanks { TellsBlanks blanks.now }
+    requires next { HasFirstByte b (rest source.old) }
+    ensures { MatchBool result (GoesOnWithGap source.old line_has_ended.old source.new line_has_ended.new) (Unit {0}) }
+{
+    if b == b'\n' {
+        pass_line_feed(source, blanks, line_has_ended);
+        return true;
+    }
+    if !blanks[b as usize] {
+        return false;
+    }
+    pass_blanks(source, blanks, b);
+    true
+}
+
+/// What ends a plain gap: the byte that is next behind it.
+#[derive(Clone, Copy)]
+pub(crate) enum GapEnd {
+    /// A character that begins a name, or a `\`.
+    Name(u8),
+    /// Another ASCII character that begins no piece of a gap.
+    Mark(u8),
+    /// The gap may go on, in another form, or the text ends.
+    Other,
+}
+
+/// Passes a whole gap of blanks and line feeds, and tells what ends it. Most gaps are one SP.
 #[inline(always)]
 pub(crate) fn pass_plain_gap(
     source: &mut Source<'_>,
-    blanks: &[bool; 256],
-    starts: &[bool; 256],
+    tables: &ByteTables,
     line_has_ended: &mut bool,
-) -> Option<u8>
-    requires blanks { TellsBlanks blanks.now }
-    requires starts { TellsStarts starts.now }
+) -> GapEnd
     requires placed { IsPlaced source.old }
-    ensures gap { IfSome result (λ _. PassesPlainGap source.old line_has_ended.old source.new line_has_ended.new) }
-    ensures next { IfSome result (λ b. HasFirstByte b (rest source.new)) }
-    ensures ascii { IfSome result (λ b. b < 128) }
+    ensures { EndsAt result source.old line_has_ended.old source.new line_has_ended.new }
 {
-    let mut next = skip_blanks(source, blanks)?;
-    while !ends_gap(source, starts, next, *line_has_ended) {
-        if next != b'\n' {
-            return None;
+    pass_blank(source, &tables.blanks);
+    while let Some(next) = source.peek_byte() {
+        if tables.starts[next as usize] {
+            return GapEnd::Name(next);
         }
-        source.next_ascii(next);
-        *line_has_ended = true;
-        next = skip_blanks(source, blanks)?;
+        if ends_gap(source, &tables.marks, next, *line_has_ended) {
+            return GapEnd::Mark(next);
+        }
+        if !pass_more(source, &tables.blanks, next, line_has_ended) {
+            return GapEnd::Other;
+        }
     }
-    Some(next)
+    GapEnd::Other
 }
 
 /// Whether it is the byte of a quote.
@@ -142,57 +211,98 @@ fn read_value(source: &mut Source<'_>, b: u8) -> Option<Kind>
     read_plain_private(source)
 }
 
-/// The kind of a value that was read so, and the place behind it.
+/// The kind of what was read so, if anything was, and the place behind it.
 #[derive(Clone, Copy)]
-struct PlainValue {
-    kind: Kind,
-    end: SourcePosition,
+pub(crate) struct PlainEnd {
+    pub kind: Option<Kind>,
+    pub end: SourcePosition,
 }
 
 /// Reads the string, the template or the private name without escapes, or the number without separators, that begins
 /// with the ASCII character `b`, which is next.
 #[inline(never)]
-fn read_plain_value(source: Source<'_>, b: u8) -> Option<PlainValue>
+fn read_plain_value(source: Source<'_>, b: u8) -> PlainEnd
     requires placed { IsPlaced source }
     requires ascii { b < 128 }
     requires next { HasFirstByte b (rest source) }
-    ensures spells { (line_has_ended : Bool) → IfSome result
-        (λ value. SpellsPlainly line_has_ended source.entry (place_of source.entry.text value.end) value.kind) }
-    ensures boundary { IfSome result (λ value. IsCharBoundary source.entry.text value.end) }
+    ensures spells { (line_has_ended : Bool) → IfSome result.kind
+        (λ kind. SpellsPlainly line_has_ended source.entry (place_of source.entry.text result.end) kind) }
+    ensures boundary { IsCharBoundary source.entry.text result.end }
 {
     let mut source = source;
-    let kind = read_value(&mut source, b)?;
-    Some(PlainValue {
+    let kind = read_value(&mut source, b);
+    PlainEnd {
         kind,
         end: source.position(),
-    })
+    }
 }
 
-/// Reads the name, the string or the template without escapes, the number without separators, or the punctuator, that
-/// begins with the ASCII character `b`, which is next. Where something else stands there, the source stands somewhere
-/// in the same text.
+/// Reads the punctuator, the string, the template or the private name without escapes, or the number without
+/// separators, that begins with the ASCII character `b`, which is next.
 #[inline(always)]
-pub(crate) fn read_plain_spelling(
-    source: &mut Source<'_>,
-    starts: &[bool; 256],
-    b: u8,
-) -> Option<Kind>
-    requires starts { TellsStarts starts.now }
+pub(crate) fn read_plain_mark(source: &mut Source<'_>, b: u8) -> Option<Kind>
     requires placed { IsPlaced source.old }
     requires ascii { b < 128 }
     requires next { HasFirstByte b (rest source.old) }
-    ensures { (line_has_ended : Bool) → EndsGap line_has_ended (rest source.old)
+    ensures spells { (line_has_ended : Bool) → EndsGap line_has_ended (rest source.old)
         → IfSome result (SpellsPlainly line_has_ended source.old source.new) }
+    ensures text { source.new.text ≡ source.old.text }
 {
-    if begins_ascii_name(starts, b) {
-        return read_plain_name(source, b);
-    }
     let mut behind = source.here();
     if let Some(kind) = read_punctuator(source) {
         return Some(kind);
     }
-    let value = read_plain_value(behind.here(), b)?;
+    let value = read_plain_value(behind.here(), b);
     behind.set_position(value.end);
     *source = behind;
-    Some(value.kind)
+    value.kind
+}
+
+/// Reads the name that begins with the ASCII character `b`, which is next, where no escape stands in it.
+#[inline(always)]
+pub(crate) fn read_name_plainly(source: &mut Source<'_>, b: u8) -> Option<Kind>
+    requires placed { IsPlaced source.old }
+    requires ascii { b < 128 }
+    requires next { HasFirstByte b (rest source.old) }
+    requires begun { is_name_start b ≡ true }
+    ensures spells { (line_has_ended : Bool) → IfSome result (SpellsPlainly line_has_ended source.old source.new) }
+    ensures text { source.new.text ≡ source.old.text }
+{
+    read_plain_name(source, b)
+}
+
+/// Reads what `read_name_plainly` or `read_plain_mark` does.
+#[inline(always)]
+fn read_plain_spelling(source: &mut Source<'_>, starts: &[bool; 256], b: u8) -> Option<Kind>
+    requires starts { TellsStarts starts.now }
+    requires placed { IsPlaced source.old }
+    requires ascii { b < 128 }
+    requires next { HasFirstByte b (rest source.old) }
+    ensures spells { (line_has_ended : Bool) → EndsGap line_has_ended (rest source.old)
+        → IfSome result (SpellsPlainly line_has_ended source.old source.new) }
+    ensures text { source.new.text ≡ source.old.text }
+{
+    if begins_ascii_name(starts, b) {
+        return read_name_plainly(source, b);
+    }
+    read_plain_mark(source, b)
+}
+
+/// Reads the same, and leaves the source where it was. It is called where speed matters less, and not inlined again.
+#[inline(never)]
+pub(crate) fn read_plain_here(source: Source<'_>, starts: &[bool; 256], b: u8) -> PlainEnd
+    requires starts { TellsStarts starts.now }
+    requires placed { IsPlaced source }
+    requires ascii { b < 128 }
+    requires next { HasFirstByte b (rest source) }
+    ensures spells { (line_has_ended : Bool) → EndsGap line_has_ended (rest source.entry) → IfSome result.kind
+        (λ kind. SpellsPlainly line_has_ended source.entry (place_of source.entry.text result.end) kind) }
+    ensures boundary { IsCharBoundary source.entry.text result.end }
+{
+    let mut source = source;
+    let kind = read_plain_spelling(&mut source, starts, b);
+    PlainEnd {
+        kind,
+        end: source.position(),
+    }
 }

@@ -1,6 +1,6 @@
 //! Readings of the first and the plain goal.
 
-ghost use Rattle.std.specs.Prelude.{◌≡◌, ◌≢◌, ◌<◌, ◌==◌, Bool, true, false, [], Option, None, IsTrue, IfOk, IfSome};
+ghost use Rattle.std.specs.Prelude.{◌≡◌, ◌≢◌, ◌<◌, ◌==◌, Bool, true, false, [], Option, None, IsTrue, IfOk, IfSome, IfNone};
 ghost use Rattle.std.specs.Prelude.{OnOk};
 ghost use Rattle.std.specs.Prelude.{OnErr};
 ghost use Rattle.js_text.specs.Ascii.{number_sign, grave_accent};
@@ -24,6 +24,7 @@ use crate::decoded::DecodedValues;
 use crate::found::GapFindings;
 use crate::lexeme::Lexeme;
 use crate::mark::advance_if_mark;
+use crate::plain::read_plain_here;
 use crate::punctuator::read_punctuator;
 use crate::reader::Reader;
 use crate::recover::recover;
@@ -395,7 +396,29 @@ impl Reader<'_> {
         Ok(lexeme.token(span))
     }
 
+    /// Reads the token that stands here, where no gap does, if it is one that needs the source alone.
+    #[inline(always)]
+    fn read_plainly(&mut self) -> Option<Token>
+        requires gap { whole_gap_piece self.old.source_type self.old.line_has_ended (rest self.old.source) ≡ None }
+        requires placed { IsPlaced self.old.source }
+        ensures some { IfSome result (λ token. ReadsTokenHere self.old token self.new) }
+        ensures escaped { IfSome result (λ token. token.escaped ≡ false) }
+        ensures none { IfNone result (self.new ≡ self.old) }
+    {
+        let start = self.source.offset();
+        let b = self.source.peek_byte()?;
+        if b >= 128 {
+            return None;
+        }
+        let read = read_plain_here(self.source.here(), &self.tables.starts, b);
+        let kind = read.kind?;
+        self.source.set_position(read.end);
+        let span = Span::new(start, self.source.offset());
+        Some(Token::new(kind, span, self.line_has_ended))
+    }
+
     /// Reads a token behind a whole gap.
+    #[inline(always)]
     fn read_behind_gap(
         &mut self,
         found: &mut GapFindings,
@@ -414,7 +437,10 @@ impl Reader<'_> {
         self.skip_whole_gap(found)?;
         // The source is between characters, as everywhere.
         let _place = self.source.position();
-        self.read_here(decoded)
+        match self.read_plainly() {
+            Some(token) => Ok(token),
+            None => self.read_here(decoded),
+        }
     }
 
     /// Reads a hashbang comment, where one stands at the start of the text (ECMA-262 12.5).
@@ -434,6 +460,7 @@ impl Reader<'_> {
     }
 
     /// Reads a token of a goal that goes on from here, and keeps its value where it has an escape.
+    #[inline(always)]
     pub fn read_goal(
         &mut self,
         goal: Goal,

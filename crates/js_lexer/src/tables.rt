@@ -2,7 +2,7 @@
 
 ghost use Rattle.std.specs.Prelude.{◌≡◌, false};
 ghost use Rattle.js_lexer.specs.Comments.{StopsAtLineEnds, StopsInBlocks, stopping_bytes};
-ghost use Rattle.js_lexer.specs.Tables.{TellsStarts, TellsBlanks};
+ghost use Rattle.js_lexer.specs.Tables.{TellsStarts, TellsBlanks, TellsMarks};
 
 use js_source::SafeByteMatchTable;
 
@@ -53,6 +53,29 @@ static BLANKS: [bool; 256] = [
     false, false, false, false, false, false, false, false, false,
 ];
 
+/// The ASCII characters above SP but `-`, `/` and `<`: no piece of a gap begins with one.
+static MARKS: [bool; 256] = [
+    false, false, false, false, false, false, false, false, false, false, false, false, false,
+    false, false, false, false, false, false, false, false, false, false, false, false, false,
+    false, false, false, false, false, false, false, true, true, true, true, true, true, true,
+    true, true, true, true, true, false, true, false, true, true, true, true, true, true, true,
+    true, true, true, true, true, false, true, true, true, true, true, true, true, true, true,
+    true, true, true, true, true, true, true, true, true, true, true, true, true, true, true, true,
+    true, true, true, true, true, true, true, true, true, true, true, true, true, true, true, true,
+    true, true, true, true, true, true, true, true, true, true, true, true, true, true, true, true,
+    true, true, true, true, true, true, true, true, true, true, false, false, false, false, false,
+    false, false, false, false, false, false, false, false, false, false, false, false, false,
+    false, false, false, false, false, false, false, false, false, false, false, false, false,
+    false, false, false, false, false, false, false, false, false, false, false, false, false,
+    false, false, false, false, false, false, false, false, false, false, false, false, false,
+    false, false, false, false, false, false, false, false, false, false, false, false, false,
+    false, false, false, false, false, false, false, false, false, false, false, false, false,
+    false, false, false, false, false, false, false, false, false, false, false, false, false,
+    false, false, false, false, false, false, false, false, false, false, false, false, false,
+    false, false, false, false, false, false, false, false, false, false, false, false, false,
+    false, false, false, false, false, false,
+];
+
 /// The table of the ASCII characters that begin names, and of `\`.
 #[inline(always)]
 pub(crate) fn starts() -> &'static [bool; 256]
@@ -69,6 +92,14 @@ pub(crate) fn blanks() -> &'static [bool; 256]
     &BLANKS
 }
 
+/// The table of ASCII characters that begin no piece of a gap.
+#[inline(always)]
+pub(crate) fn marks() -> &'static [bool; 256]
+    ensures { TellsMarks result.now }
+{
+    &MARKS
+}
+
 /// The tables of bytes that a reading looks in.
 #[derive(Drop)]
 pub(crate) struct ByteTables {
@@ -81,10 +112,13 @@ pub(crate) struct ByteTables {
     pub starts: [bool; 256],
     /// TAB and SP.
     pub blanks: [bool; 256],
+    /// The ASCII characters that begin no piece of a gap.
+    pub marks: [bool; 256],
     ghost line_ends: { StopsAtLineEnds line },
     ghost block_ends: { StopsInBlocks block },
     ghost name_starts: { TellsStarts starts },
     ghost gap_blanks: { TellsBlanks blanks },
+    ghost gap_ends: { TellsMarks marks },
 }
 
 /// The first bytes of the line terminators, LF, CR and that of U+2028 and U+2029, and with them `*` where it is wanted.
@@ -109,6 +143,7 @@ impl ByteTables {
             block,
             starts: *starts(),
             blanks: *blanks(),
+            marks: *marks(),
         }
     }
 }

@@ -1,13 +1,10 @@
 use Rattle.std.proofs.Common.{length}
-use Rattle.js_source.specs.Source.{rest, HasFirstByte}
-use Rattle.js_lexer.proofs.PlainSteps.{GapSoFar}
+use Rattle.js_source.specs.Source.{rest}
+use Rattle.js_lexer.specs.Plain.{PassesPieces}
 use Rattle.js_lexer.proofs.plain.pass_plain_gap.Given as goal
 
 abbrev pub invariant-loop-next : goal.invariant-loop-next
-invariant-loop-next l = record {
-  next : HasFirstByte l.next (rest l.source);
-  so_far : GapSoFar l.fn.source l.fn.line_has_ended l.source l.line_has_ended;
-}
+invariant-loop-next l = PassesPieces l.fn.source l.fn.line_has_ended l.source l.line_has_ended
 
 abbrev pub decreases-loop-next : goal.decreases-loop-next
 decreases-loop-next l = length (rest l.source)

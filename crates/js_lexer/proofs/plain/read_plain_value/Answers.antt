@@ -1,15 +1,17 @@
 use Rattle.std.proofs.Common.{sym, subst}
 use Rattle.std.specs.Str.{IsCharBoundary}
+use Rattle.std.proofs.lemmas.Option.{IfSome_then}
 use Rattle.js_lexer.proofs.PlainSteps.{spelled_up_to}
 use Rattle.js_lexer.proofs.plain.read_plain_value.Goals as goal
 
 pub returns-clause-spells : goal.returns-clause-spells
 returns-clause-spells c = λ ended.
-    spelled_up_to ended c.args.source c.read_value.new.source c.in_ok-kind.kind c.position.result
-    c.read_value.ensures.text c.position.ensures.place (c.in_ok-kind.ensures.spells ended)
+    IfSome_then c.read_value-kind.result (c.read_value-kind.ensures.spells ended)
+    (λ kind spells. spelled_up_to ended c.args.source c.read_value-kind.new.source kind c.position.result
+    c.read_value-kind.ensures.text c.position.ensures.place spells)
 
 pub returns-clause-boundary : goal.returns-clause-boundary
 returns-clause-boundary c =
-    subst (λ t. IsCharBoundary t c.position.result) c.read_value.ensures.text
-    (subst (λ p. IsCharBoundary c.read_value.new.source.text p) (sym c.position.ensures.place)
+    subst (λ t. IsCharBoundary t c.position.result) c.read_value-kind.ensures.text
+    (subst (λ p. IsCharBoundary c.read_value-kind.new.source.text p) (sym c.position.ensures.place)
     c.position.ensures.placed.boundary)

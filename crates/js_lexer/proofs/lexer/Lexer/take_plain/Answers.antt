@@ -41,9 +41,8 @@ returns-clause-ok g c =
     ap (λ (a : Attachment). a.pending) c.self.invariant.attachment in
     let tokens = rw c.tokens.ensures at c.in_ok-collect.ensures.ok in
     let same = keeps_same r.source.text c.self.inside.decoded c.self.inside.decoded refl in
-    rw (← c.self.view_is, tokens) (
-      c.args.token,
-      reads_token _ _ (moved r r.source (is_none last)) before new (ends_told p.gap.ends before) c.tell_alone.new.trivia
+    rw (← c.self.view_is, tokens)
+      (reads_token _ _ (moved r r.source (is_none last)) before new (ends_told p.gap.ends before) c.tell_alone.new.trivia
           Next c.args.token c.self.inside.decoded p.gap.from.utf8
           record {
             source = refl;
@@ -57,5 +56,4 @@ returns-clause-ok g c =
           (first_token last) p.gap (p.here r))
           (c.tell_alone.ensures ∙ ends_forgotten p.gap.ends cleared c.args.token none)
           (same.kept c.self.invariant.are_values)
-          (no_value r.source.text c.self.inside.decoded c.args.token p.escaped) refl,
-    )
+          (no_value r.source.text c.self.inside.decoded c.args.token p.escaped) refl)

@@ -17,4 +17,5 @@ invariant_of-result c =
       block_ends = subst StopsInBlocks (sym block) stops_in_blocks;
       name_starts = c.starts.ensures;
       gap_blanks = c.blanks.ensures;
+      gap_ends = c.marks.ensures;
     }
