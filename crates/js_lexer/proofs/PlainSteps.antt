@@ -34,7 +34,7 @@ use Rattle.js_trivia.specs.Attachment.{after_newline, after_token}
 use Rattle.js_trivia.specs.Trivia.{Trivia, handle_token}
 use Rattle.js_lexer.specs.Gaps.{BeginsNoPiece}
 use Rattle.js_lexer.specs.Plain.{EndsGap, EndsGapInAscii, MeetsByte, PassesPieces}
-use Rattle.js_lexer.specs.Plain.{moved, after_ends, ends_told, PassesPlainGap, plain_lexeme, SpellsPlainly}
+use Rattle.js_lexer.specs.Plain.{moved, after_ends, ends_told, PassesPlainGap, plain_lexeme, SpellsFor, SpellsPlainly}
 use Rattle.js_lexer.specs.Plain.{ReadsPlainToken}
 use Rattle.js_lexer.specs.Reader.{Leads, ReadsTokenHere, ReadsWithGap, MovesOn, lexeme_token}
 use Rattle.js_lexer.specs.Spellings.{ReadsPunctuator}
@@ -175,7 +175,7 @@ start_ends b ended cs small first is =
 pub byte_met : (b : ℕ) (start now : At) (had has : Bool) → PassesPieces start had now has
     → EndsGapInAscii b has (rest now) → HasFirstByte b (rest now) → MeetsByte b start had now has
 byte_met b start now had has s ends next =
-    record { gap = gap_passed start now had has s ends.ends; ascii = ends.ascii; next = next }
+    record { gap = gap_passed start now had has s ends.ends; ascii = ends.ascii; next = next; ends = ends.ends }
 
 -- what the table of marks tells
 pub mark_ends : (table : List Bool) (b : ℕ) (ended : Bool) (cs : List ℕ) → TellsMarks table
@@ -273,12 +273,13 @@ name_plainly ended old new kind begun spells r =
     lexeme_of_name (moved r old ended) (moved r new ended) kind false name.decoded begun name.read name.kind refl
 
 -- a punctuator
-pub punctuator_plainly : (ended : Bool) (old new : At) (kind : Kind) → EndsGap ended (rest old)
+pub punctuator_plainly : (r : Reader) (ended : Bool) (old new : At) (kind : Kind)
+    → whole_gap_piece r.source_type ended (rest old) ≡ None
     → ((t : SourceType) (line_has_ended : Bool) → is_reported t line_has_ended (rest old) ≡ false
     → ReadsPunctuator t line_has_ended old new (Some kind))
-    → SpellsPlainly ended old new kind
-punctuator_plainly ended old new kind ends reads r =
-    let read = reads r.source_type ended (none_behind r.source_type ended (rest old) (ends r.source_type)).0 in
+    → SpellsFor r ended old new kind
+punctuator_plainly r ended old new kind none reads =
+    let read = reads r.source_type ended (none_behind r.source_type ended (rest old) none).0 in
     lexeme_spelled (moved r old ended) (moved r new ended) kind (plain_lexeme kind ended)
     record { source_type = refl; line_has_ended = refl; errors = refl }
     (punctuator_unflagged read.1.it kind read.1.in_table read.1.kind)
@@ -347,6 +348,17 @@ token_moves_on old token new r = record {
   more = r.reads.reading.diagnostics;
   errors = r.reads.errors;
 }
+
+-- a source that goes to the place of another one over the same text is that
+pub moved_on : (old new behind : At) (place : ℕ) → new ≡ record old { place = place } → place ≡ behind.place
+    → behind.text ≡ old.text → new ≡ behind
+moved_on old new behind place is at text =
+    is ∙ ap (λ n. place_of old.text n) at ∙ ap (λ t. place_of t behind.place) (sym text)
+
+-- a token that was read behind a plain gap is one of the same text
+pub plain_text : (r : Reader) (before : GapFindings) (old : At) (had : Bool) (token : TokenParts) (new : At)
+    → ReadsPlainToken old had token new → new.text ≡ old.text
+plain_text r before old had token new p = (p.here r).reads.text ∙ (p.gap.skips r before).skips.text
 
 -- and that of a plain spelling is one of a token
 pub plain_token : (old mid new : At) (had has : Bool) (kind : Kind) (token : TokenParts)
@@ -418,8 +430,25 @@ string_begins b [] small first is = absurd first
 string_begins b (c ∷ cs) small first is = ap is_quote (first.0 small) ∙ is
 
 -- the place behind what was read so
-pub spelled_up_to : (ended : Bool) (old new : At) (kind : Kind) (end : ℕ) → new.text ≡ old.text → end ≡ new.place
-    → SpellsPlainly ended old new kind → SpellsPlainly ended old (place_of old.text end) kind
-spelled_up_to ended old new kind end text at spells =
-    subst (λ p. SpellsPlainly ended old (place_of old.text p) kind) (sym at)
-    (subst (λ t. SpellsPlainly ended old (place_of t new.place) kind) text spells)
+pub spelled_up_to : (r : Reader) (ended : Bool) (old new : At) (kind : Kind) (end : ℕ) → new.text ≡ old.text
+    → end ≡ new.place → SpellsFor r ended old new kind → SpellsFor r ended old (place_of old.text end) kind
+spelled_up_to r ended old new kind end text at spells =
+    subst (λ p. SpellsFor r ended old (place_of old.text p) kind) (sym at)
+    (subst (λ t. SpellsFor r ended old (place_of t new.place) kind) text spells)
+
+-- what was read from a source of its own, for the reader that goes behind it
+pub spelled_from : (r : Reader) (here new : At) (kind : Kind) (end : ℕ) → here ≡ r.source
+    → new ≡ place_of r.source.text end
+    → (whole_gap_piece r.source_type r.line_has_ended (rest here) ≡ None
+    → SpellsFor r r.line_has_ended here (place_of here.text end) kind)
+    → whole_gap_piece r.source_type r.line_has_ended (rest r.source) ≡ None
+    → SpellsFor r r.line_has_ended r.source new kind
+spelled_from r here new kind end same is spells none =
+    subst (λ a. SpellsFor r r.line_has_ended r.source a kind) (sym is)
+    (subst (λ (a : At). SpellsFor r r.line_has_ended a (place_of a.text end) kind) same
+    (spells (subst (λ (a : At). whole_gap_piece r.source_type r.line_has_ended (rest a) ≡ None) (sym same) none)))
+
+pub spelled_onward : (r : Reader) (new : At) (kind : Kind) → IsPlaced r.source → IsPlaced new
+    → SpellsFor r r.line_has_ended r.source new kind → r.source.place ≤ new.place
+spelled_onward r new kind h g spells =
+    lexeme_onward r (moved r new r.line_has_ended) (plain_lexeme kind r.line_has_ended) h g spells

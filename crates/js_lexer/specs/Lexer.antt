@@ -63,10 +63,6 @@ fresh text t collects = record {
 abbrev pub here : LexerState → At
 here l = record { text = l.text; place = l.place }
 
--- a builder that holds no range of annotations
-abbrev pub without_ranges : Trivia → Trivia
-without_ranges s = record s { pure_comments = None; no_side_effects_comments = None }
-
 -- the token, or the default token where none was read yet
 abbrev pub token_or_default : Option TokenParts → TokenParts
 token_or_default last = unwrap_or last default_parts

@@ -63,6 +63,7 @@ pub record MeetsByte (b : ℕ) (old : At) (line_had_ended : Bool) (new : At) (li
   pub gap : PassesPlainGap old line_had_ended new line_has_ended
   pub ascii : b < 128
   pub next : HasFirstByte b (rest new)
+  pub ends : EndsGap line_has_ended (rest new)
 
 -- what ends a plain gap
 abbrev pub EndsAt : GapEnd → At → Bool → At → Bool → Type 0
@@ -75,11 +76,14 @@ abbrev pub plain_lexeme : Kind → Bool → Lexeme
 plain_lexeme kind line_has_ended =
     record { kind = kind; is_on_new_line = line_has_ended; escaped = false; has_separator = false }
 
--- What stands behind a gap was read, good and without a flag, whatever reader stands there.
+-- What stands behind a gap was read, good and without a flag, where the reader stands there.
+abbrev pub SpellsFor : Reader → Bool → At → At → Kind → Type 0
+SpellsFor r line_has_ended old new kind =
+    ReadsLexeme (moved r old line_has_ended) (plain_lexeme kind line_has_ended) (moved r new line_has_ended)
+
+-- The same, whatever reader stands there.
 abbrev pub SpellsPlainly : Bool → At → At → Kind → Type 0
-SpellsPlainly line_has_ended old new kind =
-    (r : Reader)
-    → ReadsLexeme (moved r old line_has_ended) (plain_lexeme kind line_has_ended) (moved r new line_has_ended)
+SpellsPlainly line_has_ended old new kind = (r : Reader) → SpellsFor r line_has_ended old new kind
 
 -- A token behind such a gap was read, whatever reader stands there.
 pub record ReadsPlainToken (old : At) (line_had_ended : Bool) (token : TokenParts) (new : At) : Type 0 where

@@ -16,12 +16,12 @@ ghost use Rattle.js_lexer.specs.Decoded.{Keeps, KeepsValues, HasValue, value_of,
 ghost use Rattle.js_lexer.specs.Decoded.{GivesTemplate, GivesStretch};
 ghost use Rattle.js_lexer.specs.Gaps.{Grows};
 ghost use Rattle.js_source.specs.Source.{rest};
-ghost use Rattle.js_trivia.specs.Trivia.{handle_token};
+ghost use Rattle.js_trivia.specs.Trivia.{handle_token, without_ranges};
 ghost use Rattle.js_grammar.specs.Gap.{whole_gap_piece};
 ghost use Rattle.std.specs.Prelude.{is_none};
 ghost use Rattle.js_lexer.specs.Plain.{MeetsByte, PassesPlainGap, ReadsPlainToken, SpellsPlainly};
 ghost use Rattle.js_lexer.specs.Tables.{is_name_start};
-ghost use Rattle.js_lexer.specs.Lexer.{here, without_ranges, ReadsNext};
+ghost use Rattle.js_lexer.specs.Lexer.{here, ReadsNext};
 ghost use Rattle.js_lexer.specs.Reader.{ReadsWithGap, ReadsTokenHere, MovesOn};
 ghost use Rattle.js_lexer.specs.Lexer.{LexerState, fresh, token_or_default, ReadsToken, IsRestored};
 ghost use Rattle.js_lexer.specs.Lexer.{IsOnPlaces, Peeks, checkpoint_of, CanRewind, rewound, GoesOnFrom, collected};
@@ -140,9 +140,7 @@ fn read_here_and_collect(
 fn tell_alone(trivia: &mut TriviaBuilder, token: &Token)
     ensures { trivia.new ≡ handle_token token.now (without_ranges trivia.old) }
 {
-    trivia.clear_pure_comments();
-    trivia.clear_no_side_effects_comments();
-    trivia.handle_token(*token);
+    trivia.handle_token_alone(*token);
 }
 
 /// The last token of a list.
@@ -314,7 +312,7 @@ impl<'a, C: LexerConfig + Drop> Lexer<'a, C> {
         ensures err { OnErr result (IsRestored self.old self.new) }
         ensures kept { Keeps self.old.decoded self.new.decoded }
     {
-        let start = source.offset();
+        let start = self.reader.source.offset_of(source.position());
         let span = Span::new(start, behind.offset());
         let token = Token::new(kind, span, line_has_ended);
         self.take_plain(behind, token)?;

@@ -2,14 +2,16 @@
 //! without escapes, a number without separators, or a punctuator. Most tokens are read so; all others are left to the
 //! readings of any form.
 
-ghost use Rattle.std.specs.Prelude.{◌≡◌, ◌<◌, Bool, true, IfSome, MatchBool};
+ghost use Rattle.std.specs.Prelude.{◌≡◌, ◌<◌, Bool, true, None, IfSome, MatchBool};
 ghost use Rattle.std.specs.Str.{IsCharBoundary};
 ghost use Rattle.js_text.specs.Ascii.{grave_accent, line_feed, number_sign};
+ghost use Rattle.js_grammar.specs.Gap.{whole_gap_piece};
 ghost use Rattle.js_grammar.specs.StringItems.{is_quote};
 ghost use Rattle.js_source.specs.Runs.{place_of};
 ghost use Rattle.js_source.specs.Source.{At, rest, IsPlaced, HasFirstByte};
 ghost use Rattle.js_source.specs.Search.{matches_at};
-ghost use Rattle.js_lexer.specs.Plain.{EndsAt, EndsGap, EndsGapInAscii, GoesOnWithGap, PassesPieces, SpellsPlainly};
+ghost use Rattle.js_lexer.specs.Plain.{EndsAt, EndsGapInAscii, GoesOnWithGap, PassesPieces, SpellsFor, SpellsPlainly};
+ghost use Rattle.js_lexer.specs.declared.reader.Reader.{Reader};
 ghost use Rattle.js_lexer.specs.Tables.{TellsStarts, TellsBlanks, TellsMarks, is_name_start};
 
 use crate::gap::skip_blanks;
@@ -226,7 +228,7 @@ fn read_plain_value(source: Source<'_>, b: u8) -> PlainEnd
     requires ascii { b < 128 }
     requires next { HasFirstByte b (rest source) }
     ensures spells { (line_has_ended : Bool) → IfSome result.kind
-        (λ kind. SpellsPlainly line_has_ended source.entry (place_of source.entry.text result.end) kind) }
+        (SpellsPlainly line_has_ended source.entry (place_of source.entry.text result.end)) }
     ensures boundary { IsCharBoundary source.entry.text result.end }
 {
     let mut source = source;
@@ -244,8 +246,9 @@ pub(crate) fn read_plain_mark(source: &mut Source<'_>, b: u8) -> Option<Kind>
     requires placed { IsPlaced source.old }
     requires ascii { b < 128 }
     requires next { HasFirstByte b (rest source.old) }
-    ensures spells { (line_has_ended : Bool) → EndsGap line_has_ended (rest source.old)
-        → IfSome result (SpellsPlainly line_has_ended source.old source.new) }
+    ensures spells { (r : Reader) (line_has_ended : Bool)
+        → whole_gap_piece r.source_type line_has_ended (rest source.old) ≡ None
+        → IfSome result (SpellsFor r line_has_ended source.old source.new) }
     ensures text { source.new.text ≡ source.old.text }
 {
     let mut behind = source.here();
@@ -278,8 +281,9 @@ fn read_plain_spelling(source: &mut Source<'_>, starts: &[bool; 256], b: u8) -> 
     requires placed { IsPlaced source.old }
     requires ascii { b < 128 }
     requires next { HasFirstByte b (rest source.old) }
-    ensures spells { (line_has_ended : Bool) → EndsGap line_has_ended (rest source.old)
-        → IfSome result (SpellsPlainly line_has_ended source.old source.new) }
+    ensures spells { (r : Reader) (line_has_ended : Bool)
+        → whole_gap_piece r.source_type line_has_ended (rest source.old) ≡ None
+        → IfSome result (SpellsFor r line_has_ended source.old source.new) }
     ensures text { source.new.text ≡ source.old.text }
 {
     if begins_ascii_name(starts, b) {
@@ -295,8 +299,9 @@ pub(crate) fn read_plain_here(source: Source<'_>, starts: &[bool; 256], b: u8) -
     requires placed { IsPlaced source }
     requires ascii { b < 128 }
     requires next { HasFirstByte b (rest source) }
-    ensures spells { (line_has_ended : Bool) → EndsGap line_has_ended (rest source.entry) → IfSome result.kind
-        (λ kind. SpellsPlainly line_has_ended source.entry (place_of source.entry.text result.end) kind) }
+    ensures spells { (r : Reader) (line_has_ended : Bool)
+        → whole_gap_piece r.source_type line_has_ended (rest source.entry) ≡ None
+        → IfSome result.kind (SpellsFor r line_has_ended source.entry (place_of source.entry.text result.end)) }
     ensures boundary { IsCharBoundary source.entry.text result.end }
 {
     let mut source = source;

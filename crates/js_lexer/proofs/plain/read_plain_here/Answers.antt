@@ -5,9 +5,9 @@ use Rattle.js_lexer.proofs.PlainSteps.{spelled_up_to}
 use Rattle.js_lexer.proofs.plain.read_plain_here.Goals as goal
 
 pub returns-clause-spells : goal.returns-clause-spells
-returns-clause-spells c = λ ended ends.
-    IfSome_then c.read_plain_spelling-kind.result (c.read_plain_spelling-kind.ensures.spells ended ends)
-    (λ kind spells. spelled_up_to ended c.args.source c.read_plain_spelling-kind.new.source kind c.position.result
+returns-clause-spells c = λ r ended none.
+    IfSome_then c.read_plain_spelling-kind.result (c.read_plain_spelling-kind.ensures.spells r ended none)
+    (λ kind spells. spelled_up_to r ended c.args.source c.read_plain_spelling-kind.new.source kind c.position.result
     c.read_plain_spelling-kind.ensures.text c.position.ensures.place spells)
 
 pub returns-clause-boundary : goal.returns-clause-boundary

@@ -7,8 +7,8 @@ use Rattle.js_lexer.proofs.plain.read_plain_value.Goals as goal
 pub returns-clause-spells : goal.returns-clause-spells
 returns-clause-spells c = λ ended.
     IfSome_then c.read_value-kind.result (c.read_value-kind.ensures.spells ended)
-    (λ kind spells. spelled_up_to ended c.args.source c.read_value-kind.new.source kind c.position.result
-    c.read_value-kind.ensures.text c.position.ensures.place spells)
+    (λ kind spells r. spelled_up_to r ended c.args.source c.read_value-kind.new.source kind c.position.result
+    c.read_value-kind.ensures.text c.position.ensures.place (spells r))
 
 pub returns-clause-boundary : goal.returns-clause-boundary
 returns-clause-boundary c =

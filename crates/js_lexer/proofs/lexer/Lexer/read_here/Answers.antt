@@ -4,8 +4,8 @@ use Rattle.std.specs.Str.{IsCharBoundary}
 use Rattle.js_grammar.specs.declared.goal.Goal.TheVariants.{Next}
 use Rattle.js_source.specs.Source.{At}
 use Rattle.js_trivia.specs.Attachment.{Attachment}
+use Rattle.js_trivia.specs.Trivia.{without_ranges}
 use Rattle.js_lexer.specs.Decoded.{KeepsValues, HasValue}
-use Rattle.js_lexer.specs.Lexer.{without_ranges}
 use Rattle.js_lexer.specs.Plain.{ends_told, moved}
 use Rattle.js_lexer.proofs.LexerSteps.{state_of, reader_is, between_is, first_token, sound_after, sound_back}
 use Rattle.js_lexer.proofs.LexerSteps.{reads_token}

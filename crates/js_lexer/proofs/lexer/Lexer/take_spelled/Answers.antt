@@ -6,15 +6,15 @@ use Rattle.js_lexer.proofs.lexer.Lexer.take_spelled.Goals as goal
 
 pub new-span-requires : goal.new-span-requires
 new-span-requires g c =
-    rw (c.offset-start.ensures.place, c.offset.ensures.place)
+    rw (c.offset_of-start.ensures, c.position.ensures.place, c.offset.ensures.place)
     (plain_onward c.args.line_has_ended c.args.source c.args.behind c.args.kind c.self.inside.reader
-    c.offset-start.ensures.placed c.offset.ensures.placed c.requires.spells)
+    c.position.ensures.placed c.offset.ensures.placed c.requires.spells)
 
 pub new-token-requires : goal.new-token-requires
 new-token-requires g c =
-    rw (c.new-span.ensures, c.offset-start.ensures.place, c.offset.ensures.place)
+    rw (c.new-span.ensures, c.offset_of-start.ensures, c.position.ensures.place, c.offset.ensures.place)
     (plain_onward c.args.line_has_ended c.args.source c.args.behind c.args.kind c.self.inside.reader
-    c.offset-start.ensures.placed c.offset.ensures.placed c.requires.spells)
+    c.position.ensures.placed c.offset.ensures.placed c.requires.spells)
 
 pub take_plain-requires : goal.take_plain-requires
 take_plain-requires g c =
@@ -22,5 +22,5 @@ take_plain-requires g c =
     plain_token _ c.args.source c.args.behind _ c.args.line_has_ended c.args.kind c.new-token.result
     c.requires.gap c.requires.spells c.offset.ensures.placed
     (c.new-token.ensures ∙ ap (λ s. lexeme_token s.start s.end lexeme) c.new-span.ensures
-    ∙ ap (λ n. lexeme_token n c.offset.result lexeme) c.offset-start.ensures.place
+    ∙ ap (λ n. lexeme_token n c.offset.result lexeme) (c.offset_of-start.ensures ∙ c.position.ensures.place)
     ∙ ap (λ n. lexeme_token c.args.source.place n lexeme) c.offset.ensures.place)
