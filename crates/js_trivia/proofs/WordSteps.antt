@@ -2,7 +2,6 @@
 use Rattle.std.proofs.Common.{◌≡◌, ◌<◌, ◌&&◌, ◌==◌, ℕ, Bool, true, false, List, ◌∷◌, length, arith, refl, sym, ◌∙◌}
 use Rattle.std.proofs.Common.{if◌then◌else◌}
 use Rattle.std.proofs.lemmas.Bool.{eqb-true, eq-eqb, ne_eqb}
-use Rattle.js_text.specs.declared.comment.CommentContent.{CommentContent}
 use Rattle.js_text.specs.declared.comment.CommentContent.TheVariants as variant
 use Rattle.js_grammar.specs.CommentClasses.{is_licensed, is_beyond_ascii, worded_class}
 use Rattle.js_trivia.specs.Words.{BeginsNoWord}

@@ -1,5 +1,5 @@
 -- What holds of the fields of every trivia builder.
-use Rattle.std.specs.Prelude.{◌≡◌, ℕ, ◌≤◌, Bool, true, false, List, length, Option, None}
+use Rattle.std.specs.Prelude.{◌≡◌, ℕ, ◌≤◌, Bool, false, List, length, Option, None}
 use Rattle.js_text.specs.declared.comment.Comment.{Comment}
 use Rattle.js_text.specs.declared.comment.CommentRange.{CommentRange}
 use Rattle.js_text.specs.declared.span.Span.{Span}

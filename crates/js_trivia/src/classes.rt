@@ -65,19 +65,21 @@ fn from_next_at(text: &[u8]) -> Option<&[u8]>
     }
 }
 
-/// From so many bytes on, a search of its own is faster than eights of bytes.
-const LONG: usize = 32;
+/// From so many bytes on, a search by `memchr` is faster than one by blocks.
+const LONG: usize = 128;
 
-/// What is left behind eights of bytes without an `@`.
-fn past_eights(text: &[u8]) -> &[u8]
+/// What is left behind blocks of so many bytes without an `@`.
+#[inline(always)]
+fn past_blocks(text: &[u8], size: usize) -> &[u8]
+    requires { 0 < size }
     ensures { is_licensed result.now ≡ is_licensed text.now }
 {
     let mut rest = text;
-    while rest.len() >= 8 {
-        if rest[..8].contains(&b'@') {
+    while rest.len() >= size {
+        if rest[..size].contains(&b'@') {
             return rest;
         }
-        rest = &rest[8..];
+        rest = &rest[size..];
     }
     rest
 }
@@ -104,7 +106,7 @@ fn is_licensed(content: &[u8]) -> bool
     if content.len() >= LONG {
         return is_licensed_anywhere(content);
     }
-    let rest = past_eights(content);
+    let rest = past_blocks(past_blocks(content, 16), 8);
     rest.len() >= 8 && is_licensed_anywhere(rest)
 }
 

@@ -1,5 +1,4 @@
-use Rattle.std.proofs.Common.{rules, arith}
-use Rattle.js_grammar.specs.CommentClasses.{is_beyond_ascii}
+use Rattle.std.proofs.Common.{rules}
 use Rattle.js_trivia.proofs.WordSteps.{below_128}
 use Rattle.js_trivia.proofs.classes.begins_no_word.Goals as goal
 

@@ -5,4 +5,4 @@ use Rattle.js_trivia.proofs.classes.is_licensed.Goals as goal
 
 pub returns-else-rest-ge8 : goal.returns-else-rest-ge8
 returns-else-rest-ge8 c =
-    grind (arith, nat_tests, seven_hold_none c.past_eights-rest.result.now c.if-rest-ge8.false)
+    grind (arith, nat_tests, seven_hold_none c.past_blocks-rest.result.now c.if-rest-ge8.false)

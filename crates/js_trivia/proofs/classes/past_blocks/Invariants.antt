@@ -1,6 +1,6 @@
 use Rattle.std.proofs.Common.{◌≡◌, length}
 use Rattle.js_grammar.specs.CommentClasses.{is_licensed}
-use Rattle.js_trivia.proofs.classes.past_eights.Given as goal
+use Rattle.js_trivia.proofs.classes.past_blocks.Given as goal
 
 abbrev pub invariant-loop-rest : goal.invariant-loop-rest
 invariant-loop-rest l = is_licensed l.rest ≡ is_licensed l.text
