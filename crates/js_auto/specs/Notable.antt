@@ -1,5 +1,5 @@
 -- The kinds of tokens that change what the choice of goals does next.
-use Rattle.std.specs.Prelude.{◌≡◌, Bool, false, List, [], ◌∷◌, slice_index_or, Option, Some, None}
+use Rattle.std.specs.Prelude.{◌≡◌, Bool, false, List, ◌∷◌, slice_index_or, Option, Some, None}
 use Rattle.js_kind.specs.Kinds.{is_one_of, number}
 use Rattle.js_kind.specs.declared.kind.Kind.{Kind}
 use Rattle.js_kind.specs.declared.kind.Kind.TheVariants.{Eof, LCurly, RCurly, TemplateHead, TemplateTail}

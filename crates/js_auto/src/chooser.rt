@@ -32,8 +32,8 @@ pub struct GoalChooser {
     /// The kind of the token before the last one.
     before: Option<Kind>,
     last: Option<Kind>,
-    /// Whether the last token may change the braces, be read again, or be the end of the source. A step behind any other
-    /// token looks at nothing else.
+    /// Whether the last token may change the braces, be read again, or be the end of the source. A step behind any
+    /// other token looks at nothing else.
     is_last_notable: bool,
 }
 

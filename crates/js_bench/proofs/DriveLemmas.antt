@@ -1,23 +1,19 @@
 -- A lexer is driven on by the goals that are chosen, and less is left of its text.
-use Rattle.std.proofs.Common.{◌≡◌, ℕ, ◌+◌, ◌-◌, ◌*◌, ◌^◌, ◌<◌, ◌≤◌, Bool, true, false, cond, List, [], ◌∷◌}
-use Rattle.std.proofs.Common.{◌++◌, length, refl, sym, ◌∙◌, ap, subst, arith, Option, Some, None, Result, Ok, Err}
+use Rattle.std.proofs.Common.{◌≡◌, ◌+◌, ◌-◌, ◌*◌, ◌^◌, ◌<◌, ◌≤◌, true, false, cond, List, [], ◌∷◌}
+use Rattle.std.proofs.Common.{◌++◌, length, refl, sym, ◌∙◌, ap, subst, arith, Some, None, Result, Ok, Err}
 use Rattle.std.proofs.lemmas.Bool.{eqb-true}
-use Rattle.std.specs.List.{last_or}
-use Rattle.std.specs.Prelude.{◌==◌, OnOk}
+use Rattle.std.specs.Prelude.{OnOk}
 use Rattle.std.specs.Str.{IsUtf8, IsCharBoundary}
 use Rattle.js_text.specs.Lists.{with_last}
-use Rattle.js_kind.specs.Kinds.{is_one_of, number}
-use Rattle.js_kind.specs.Predicates.{is_eof}
+use Rattle.js_kind.specs.Kinds.{is_one_of}
 use Rattle.js_kind.specs.TokenParts.{TokenParts}
-use Rattle.js_kind.specs.declared.kind.Kind.{Kind}
-use Rattle.js_kind.specs.declared.kind.Kind.TheVariants.{Eof, RCurly}
+use Rattle.js_kind.specs.declared.kind.Kind.TheVariants.{RCurly}
 use Rattle.js_kind.proofs.KindNumbers.{number_injective}
 use Rattle.js_kind.proofs.Members.{one_passes}
 use Rattle.js_grammar.specs.Goals.{GoalReads}
-use Rattle.js_grammar.specs.Outcome.{Outcome}
 use Rattle.js_grammar.specs.ReLexed.{is_re_lexed}
 use Rattle.js_grammar.specs.declared.goal.Goal.{Goal}
-use Rattle.js_grammar.specs.declared.goal.Goal.TheVariants.{First, Next as NextGoal, RegularExpression}
+use Rattle.js_grammar.specs.declared.goal.Goal.TheVariants.{Next as NextGoal, RegularExpression}
 use Rattle.js_grammar.specs.declared.goal.Goal.TheVariants.{TemplateTail as TailGoal}
 use Rattle.js_lexer.specs.Goals.{expression_kinds}
 use Rattle.js_lexer.specs.Lexer.{IsBehind, LexerState, IsOnPlaces, ReadsAgain, ReadsToken, token_or_default}
@@ -25,9 +21,9 @@ use Rattle.js_lexer.proofs.AgainSteps.{kinds_begin}
 use Rattle.js_session.specs.declared.command.Command.{Command}
 use Rattle.js_session.specs.declared.command.Command.TheVariants.{Next, Regex, TemplateTail}
 use Rattle.js_session.proofs.AgainLemmas.{expression_again}
-use Rattle.js_session.proofs.LiveLemmas.{last_or-push, last_or-with_last}
+use Rattle.js_session.proofs.LiveLemmas.{last_or-push}
 use Rattle.js_session.proofs.WholeLemmas.{reads_onward}
-use Rattle.js_auto.specs.Choice.{Chooser, choice, chooser_of}
+use Rattle.js_auto.specs.Choice.{Chooser, chooser_of}
 use Rattle.js_auto.proofs.AutoLemmas.{curly_again, expression_not_again, last_put, not_end, one_at_most, part_not_again}
 use Rattle.js_auto.proofs.ChosenLemmas.{Chosen, chosen_by}
 use Rattle.js_auto.proofs.ChosenLemmas.Chosen.{reads, reads_expression, reads_part}

@@ -1,5 +1,5 @@
 -- Lines of passes.
-use Rattle.std.proofs.Common.{◌≡◌, ℕ, ◌+◌, List, [], ◌∷◌, ◌++◌, sym, ◌∙◌, ap}
+use Rattle.std.proofs.Common.{◌≡◌, ℕ, ◌+◌, List, [], ◌∷◌, ◌++◌, ◌∙◌, ap}
 use Rattle.std.proofs.lemmas.List.{length-append, flat_map_more}
 use Rattle.js_bench.specs.Run.{HasPasses, pass_line}
 use Rattle.js_bench.specs.declared.pass.PassCounts.{PassCounts}

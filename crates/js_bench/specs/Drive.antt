@@ -1,5 +1,5 @@
 -- A lexer that is driven by the goals that are chosen.
-use Rattle.std.specs.Prelude.{◌≡◌, ◌≢◌, ℕ, ◌+◌, ◌-◌, ◌*◌, ◌<◌, List, length, cond, Option, Some, None}
+use Rattle.std.specs.Prelude.{◌≡◌, ◌≢◌, ℕ, ◌+◌, ◌-◌, ◌*◌, ◌<◌, List, length, cond, Some, None}
 use Rattle.std.specs.List.{last_or}
 use Rattle.std.specs.Str.{IsUtf8}
 use Rattle.js_kind.specs.TokenParts.{TokenParts}
