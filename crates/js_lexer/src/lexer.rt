@@ -60,6 +60,19 @@ fn is_hashbang(kind: Kind) -> bool
     kind.number() == Kind::HashbangComment.number()
 }
 
+/// A list for the tokens of a text of so many bytes, with room for all of them where tokens are collected: each but the
+/// one at the end has a byte.
+fn room_for_tokens(alloc: Global, collects: bool, bytes: usize) -> Result<TokenList, AllocError>
+    requires { bytes < 2 ^ 32 }
+    ensures { IfOk result (λ tokens. tokens ≡ []) }
+{
+    if !collects {
+        return Ok(TokenList::new_in(alloc));
+    }
+    let items = Vec::with_capacity(alloc, bytes + 1)?;
+    Ok(TokenList::from_vec(items))
+}
+
 /// Collects the token, where tokens are collected and it is no hashbang comment.
 fn collect(tokens: &mut TokenList, collects: bool, token: &Token) -> Result<(), AllocError>
     ensures ok { OnOk result (tokens.new ≡ tokens.old ++ collected collects token.now) }
@@ -210,6 +223,10 @@ impl<'a, C: LexerConfig + Drop> Lexer<'a, C> {
         if source_text.len() > u32::MAX as usize {
             return Err(NewFault::Overlong);
         }
+        let tokens = match room_for_tokens(alloc, config.tokens(), source_text.len()) {
+            Ok(tokens) => tokens,
+            Err(_) => return Err(NewFault::Memory),
+        };
         Ok(Lexer {
             reader: Reader {
                 source: Source::new(source_text),
@@ -225,7 +242,7 @@ impl<'a, C: LexerConfig + Drop> Lexer<'a, C> {
             },
             config,
             last: None,
-            tokens: TokenList::new_in(alloc),
+            tokens,
             decoded: DecodedValues::new_in(alloc),
         })
     }
