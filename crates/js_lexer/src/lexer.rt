@@ -18,7 +18,7 @@ ghost use Rattle.js_lexer.specs.Gaps.{Grows};
 ghost use Rattle.js_source.specs.Source.{rest};
 ghost use Rattle.js_trivia.specs.Trivia.{handle_token, without_ranges};
 ghost use Rattle.js_grammar.specs.Gap.{whole_gap_piece};
-ghost use Rattle.std.specs.Prelude.{is_none};
+ghost use Rattle.std.specs.Prelude.{is_none, ◌<◌};
 ghost use Rattle.js_lexer.specs.Plain.{MeetsByte, PassesPlainGap, ReadsPlainToken, SpellsPlainly};
 ghost use Rattle.js_lexer.specs.Tables.{is_name_start};
 ghost use Rattle.js_lexer.specs.Lexer.{here, ReadsNext};
