@@ -191,8 +191,8 @@ regex_again old new r found reader comments behind before u source source_type e
     (sym last) (read.reads, read.info) in
     record {
       again =
-          reads_again old new r RegularExpression found.token reader comments behind old.decoded u source source_type errors
-          both.0 (keeps_all old.decoded)
+          reads_again old new r RegularExpression found.token reader comments behind old.decoded u source source_type
+          errors both.0 (keeps_all old.decoded)
           (no_value old.text old.decoded found.token (expression_unescaped before r reader found.token read.reads))
           same behind_is e;
       info = both.1;

@@ -36,7 +36,7 @@ use Rattle.js_lexer.specs.Gaps.{BeginsNoPiece}
 use Rattle.js_lexer.specs.Plain.{EndsGap, EndsGapInAscii, MeetsByte, PassesPieces}
 use Rattle.js_lexer.specs.Plain.{moved, after_ends, ends_told, PassesPlainGap, plain_lexeme, SpellsFor, SpellsPlainly}
 use Rattle.js_lexer.specs.Plain.{ReadsPlainToken}
-use Rattle.js_lexer.specs.Reader.{ReadsTokenHere, ReadsWithGap, MovesOn, lexeme_token}
+use Rattle.js_lexer.specs.Reader.{Leads, ReadsTokenHere, ReadsWithGap, MovesOn, lexeme_token}
 use Rattle.js_lexer.specs.Spellings.{ReadsPunctuator}
 use Rattle.js_lexer.specs.Tables.{TellsBlanks, TellsMarks, TellsStarts, is_name_start}
 use Rattle.js_lexer.specs.declared.found.GapFindings.{GapFindings}

@@ -4,8 +4,7 @@ use Rattle.js_lexer.proofs.plain.pass_plain_gap.Goals as goal
 pub returns-then-tables-next : goal.returns-then-tables-next
 returns-then-tables-next c =
     let tables = c.args.tables.now in
-    let b = c.in-Some.next in
-    (
+    let b = c.in-Some.next in (
       byte_met b c.args.source.now c.loop-next.source c.args.line_has_ended.now c.loop-next.line_has_ended
           c.loop-next.invariant
           (tells_ends tables.starts b c.loop-next.line_has_ended _ tables.name_starts c.if-tables-next.true

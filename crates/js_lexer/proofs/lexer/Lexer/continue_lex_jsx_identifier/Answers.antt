@@ -1,7 +1,7 @@
 use Rattle.std.proofs.Common.{refl, sym, subst}
 use Rattle.std.specs.Str.{IsUtf8}
 use Rattle.js_grammar.specs.declared.goal.Goal.TheVariants.{JsxIdentifier}
-use Rattle.js_lexer.specs.Lexer.{IsSound, last_read}
+use Rattle.js_lexer.specs.Lexer.{IsSound}
 use Rattle.js_lexer.proofs.AgainSteps.{name_again, name_starts}
 use Rattle.js_lexer.proofs.LexerSteps.{sound_again, told_again, told_last}
 use Rattle.js_lexer.proofs.lexer.Lexer.continue_lex_jsx_identifier.Goals as goal
@@ -26,7 +26,7 @@ returns g c =
     let there = c.in_ok-token.ensures.reads.1 c.requires.token c.requires.start_is (sym place) in
     let tokens = rw c.tokens.ensures at c.replace_collected.ensures in
     let told =
-    told_again (last_read c.self.inside.has_read c.self.inside.found.trivia.attachment.previous) c.in_ok-token.token c.self.inside.found.trivia c.handle_token.new.self
+    told_again _ c.in_ok-token.token c.self.inside.found.trivia c.handle_token.new.self
     c.self.inside.reader.source c.self.inside.decoded c.self.invariant c.handle_token.ensures in
     rw (← c.self.view_is, tokens, told.1, told.2, told.3)
     (name_again _ _ c.self.inside.reader c.args.start c.in_ok-token.token c.read_jsx_name.new.self

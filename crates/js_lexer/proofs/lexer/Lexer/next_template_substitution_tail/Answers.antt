@@ -1,7 +1,7 @@
 use Rattle.std.proofs.Common.{refl, subst, sym, ◌∙◌, ap}
 use Rattle.std.specs.Str.{IsUtf8}
 use Rattle.js_grammar.specs.declared.goal.Goal.TheVariants.{TemplateTail as TailGoal}
-use Rattle.js_lexer.specs.Lexer.{IsSound, token_or_default, last_read}
+use Rattle.js_lexer.specs.Lexer.{IsSound, token_or_default}
 use Rattle.js_lexer.specs.Reader.{ReadsWithoutGap}
 use Rattle.js_lexer.proofs.LexerSteps.{curly_here, reads_again, sound_again, told_again, told_last}
 use Rattle.js_lexer.proofs.lexer.Lexer.next_template_substitution_tail.Goals as goal
@@ -42,7 +42,7 @@ returns-in-Ok-clause-ok g c =
     (c.in-Ok.ensures.ok behind.token (sym start)) in
     let tokens = rw c.tokens.ensures at c.replace_collected.ensures in
     let told =
-    told_again (last_read c.self.inside.has_read c.self.inside.found.trivia.attachment.previous) c.in-Ok.token c.self.inside.found.trivia c.handle_token.new.self
+    told_again _ c.in-Ok.token c.self.inside.found.trivia c.handle_token.new.self
     c.self.inside.reader.source c.self.inside.decoded c.self.invariant c.handle_token.ensures in
     rw (← c.self.view_is, tokens, told.1, told.2, told.3)
     (reads_again _ _ c.self.inside.reader _ c.in-Ok.token c.read_next_part.new.self

@@ -3,7 +3,7 @@ use Rattle.std.specs.Str.{IsUtf8}
 use Rattle.js_text.specs.Ascii.{less_than_sign}
 use Rattle.js_grammar.specs.declared.goal.Goal.TheVariants.{TypeScriptLeftAngle}
 use Rattle.js_lexer.specs.Goals.{left_compounds}
-use Rattle.js_lexer.specs.Lexer.{IsSound, last_read}
+use Rattle.js_lexer.specs.Lexer.{IsSound}
 use Rattle.js_lexer.specs.Reader.{ReadsWithoutGap}
 use Rattle.js_lexer.proofs.AgainSteps.{keeps_all, kinds_begin, left_unescaped, left_starts, no_value, starts_with}
 use Rattle.js_lexer.proofs.LexerSteps.{reads_again, sound_again, told_again, told_last}
@@ -14,7 +14,7 @@ overflow_sub-start g c =
     let last = rw (← c.self.view_is) at c.requires.last in
     let place = rw (← c.self.view_is) at c.requires.place in
     let starts =
-    starts_with left_compounds less_than_sign c.args.offset c.self.inside.reader.source.text (last_read c.self.inside.has_read c.self.inside.found.trivia.attachment.previous)
+    starts_with left_compounds less_than_sign c.args.offset c.self.inside.reader.source.text _
     c.offset.result c.requires.token kinds_begin.left c.offset.ensures.placed.utf8 last c.requires.kind_is
     c.requires.bytes_are (c.offset.ensures.place ∙ place) c.self.invariant.last_lies
     c.self.invariant.last_spelled in
@@ -25,7 +25,7 @@ read_left_angle-token-requires-clause-boundary g c =
     let last = rw (← c.self.view_is) at c.requires.last in
     let place = rw (← c.self.view_is) at c.requires.place in
     let starts =
-    starts_with left_compounds less_than_sign c.args.offset c.self.inside.reader.source.text (last_read c.self.inside.has_read c.self.inside.found.trivia.attachment.previous)
+    starts_with left_compounds less_than_sign c.args.offset c.self.inside.reader.source.text _
     c.offset.result c.requires.token kinds_begin.left c.offset.ensures.placed.utf8 last c.requires.kind_is
     c.requires.bytes_are (c.offset.ensures.place ∙ place) c.self.invariant.last_lies
     c.self.invariant.last_spelled in
@@ -36,7 +36,7 @@ read_left_angle-token-requires-clause-here g c =
     let last = rw (← c.self.view_is) at c.requires.last in
     let place = rw (← c.self.view_is) at c.requires.place in
     let starts =
-    starts_with left_compounds less_than_sign c.args.offset c.self.inside.reader.source.text (last_read c.self.inside.has_read c.self.inside.found.trivia.attachment.previous)
+    starts_with left_compounds less_than_sign c.args.offset c.self.inside.reader.source.text _
     c.offset.result c.requires.token kinds_begin.left c.offset.ensures.placed.utf8 last c.requires.kind_is
     c.requires.bytes_are (c.offset.ensures.place ∙ place) c.self.invariant.last_lies
     c.self.invariant.last_spelled in
@@ -47,7 +47,7 @@ invariant_of-self g c =
     let last = rw (← c.self.view_is) at c.requires.last in
     let place = rw (← c.self.view_is) at c.requires.place in
     let starts =
-    starts_with left_compounds less_than_sign c.args.offset c.self.inside.reader.source.text (last_read c.self.inside.has_read c.self.inside.found.trivia.attachment.previous)
+    starts_with left_compounds less_than_sign c.args.offset c.self.inside.reader.source.text _
     c.offset.result c.requires.token kinds_begin.left c.offset.ensures.placed.utf8 last c.requires.kind_is
     c.requires.bytes_are (c.offset.ensures.place ∙ place) c.self.invariant.last_lies
     c.self.invariant.last_spelled in
@@ -65,7 +65,7 @@ returns g c =
     let last = rw (← c.self.view_is) at c.requires.last in
     let place = rw (← c.self.view_is) at c.requires.place in
     let starts =
-    starts_with left_compounds less_than_sign c.args.offset c.self.inside.reader.source.text (last_read c.self.inside.has_read c.self.inside.found.trivia.attachment.previous)
+    starts_with left_compounds less_than_sign c.args.offset c.self.inside.reader.source.text _
     c.offset.result c.requires.token kinds_begin.left c.offset.ensures.placed.utf8 last c.requires.kind_is
     c.requires.bytes_are (c.offset.ensures.place ∙ place) c.self.invariant.last_lies
     c.self.invariant.last_spelled in
@@ -75,12 +75,13 @@ returns g c =
     (sym starts.1.last_is) there in
     let tokens = rw c.tokens.ensures at c.replace_collected.ensures in
     let told =
-    told_again (last_read c.self.inside.has_read c.self.inside.found.trivia.attachment.previous) c.read_left_angle-token.result c.self.inside.found.trivia c.handle_token.new.self
+    told_again _ c.read_left_angle-token.result c.self.inside.found.trivia c.handle_token.new.self
     c.self.inside.reader.source c.self.inside.decoded c.self.invariant c.handle_token.ensures in
     rw (← c.self.view_is, tokens, told.1, told.2, told.3)
     (reads_again _ _ c.self.inside.reader _ c.read_left_angle-token.result c.read_left_angle-token.new.self
     c.handle_token.new.self.attachment.attached c.handle_token.new.self.attachment.previous c.self.inside.decoded
     (subst IsUtf8 read.read.text c.read_left_angle-token.ensures.placed.utf8) refl refl refl read (keeps_all c.self.inside.decoded)
     (no_value c.self.inside.reader.source.text c.self.inside.decoded c.read_left_angle-token.result
-    (left_unescaped starts.1.token c.self.inside.reader c.read_left_angle-token.new.self c.read_left_angle-token.result there)) told.0
+    (left_unescaped starts.1.token c.self.inside.reader c.read_left_angle-token.new.self
+    c.read_left_angle-token.result there)) told.0
     (told_last _ c.self.inside.found.trivia c.handle_token.new.self c.handle_token.ensures) refl)

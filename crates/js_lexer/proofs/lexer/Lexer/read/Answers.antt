@@ -15,11 +15,11 @@ invariant_of-self g c =
     let cleared =
     c.clear_no_side_effects_comments.ensures
     ∙ ap (λ (s : Trivia). record s { no_side_effects_comments = None }) c.clear_pure_comments.ensures in
-    let l = state_of c.self.inside.reader c.self.inside.found (last_read c.self.inside.has_read c.self.inside.found.trivia.attachment.previous) c.self.inside.decoded in
+    let l = state_of c.self.inside.reader c.self.inside.found _ c.self.inside.decoded in
     sound_after c.args.goal l _ _ c.in-Ok.token c.read_and_collect-read.new.reader c.read_and_collect-read.new.found
     c.handle_token.new.self c.read_and_collect-read.new.decoded c.in-Ok.ensures.placed.utf8
     (c.in-Ok.ensures.kept.are_values c.self.invariant.are_values)
-    (reader_is c.self.inside.reader c.self.inside.found (last_read c.self.inside.has_read c.self.inside.found.trivia.attachment.previous) c.self.inside.decoded
+    (reader_is c.self.inside.reader c.self.inside.found _ c.self.inside.decoded
     (not c.self.inside.has_read) c.clear_no_side_effects_comments.new.self c.self.invariant cleared)
     (c.in-Ok.ensures.ok _ first) c.handle_token.ensures
 
@@ -88,7 +88,7 @@ returns-in-Ok-clause-ok g c =
       errors = refl;
       deferred = refl;
       between =
-          between_is c.self.inside.reader.source (last_read c.self.inside.has_read c.self.inside.found.trivia.attachment.previous) c.self.inside.found.trivia
+          between_is c.self.inside.reader.source _ c.self.inside.found.trivia
           c.clear_no_side_effects_comments.new.self c.self.inside.decoded c.self.invariant cleared;
     } read c.handle_token.ensures (c.in-Ok.ensures.kept.kept c.self.invariant.are_values) c.in-Ok.ensures.value refl)
 

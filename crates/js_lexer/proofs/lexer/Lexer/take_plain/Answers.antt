@@ -36,7 +36,8 @@ invariant_of-self-2 g c =
     moved_on r.source c.set_position.new.self c.args.source c.position.result c.set_position.ensures
     c.position.ensures.place (plain_text r before _ _ c.args.token c.args.source p) in
     subst
-    (λ (a : At). IsSound a (Some c.tell_alone.new.trivia.attachment.previous) c.tell_alone.new.trivia c.self.inside.decoded)
+    (λ (a : At).
+    IsSound a (Some c.tell_alone.new.trivia.attachment.previous) c.tell_alone.new.trivia c.self.inside.decoded)
     (sym at)
     (sound_after Next (state_of r c.self.inside.found last c.self.inside.decoded) (moved r r.source (is_none last))
     before c.args.token new (ends_told p.gap.ends before) c.tell_alone.new.trivia c.self.inside.decoded
@@ -62,18 +63,18 @@ returns-clause-ok g c =
     moved_on r.source c.set_position.new.self c.args.source c.position.result c.set_position.ensures
     c.position.ensures.place (plain_text r before _ _ c.args.token c.args.source p) in
     rw (← c.self.view_is, tokens, at)
-      (reads_token _ _ (moved r r.source (is_none last)) before new (ends_told p.gap.ends before) c.tell_alone.new.trivia
-          Next c.args.token c.self.inside.decoded p.gap.from.utf8
-          record {
-            source = refl;
-            source_type = refl;
-            errors = refl;
-            deferred = refl;
-            between =
-                between_is r.source last c.self.inside.found.trivia cleared c.self.inside.decoded c.self.invariant refl;
-          }
-          (behind_plain_gap last r r.source (is_none last) p.mid p.line_has_ended before c.args.token new
-          (first_token last) p.gap (p.here r))
-          (c.tell_alone.ensures ∙ ends_forgotten p.gap.ends cleared c.args.token none)
-          (same.kept c.self.invariant.are_values)
-          (no_value r.source.text c.self.inside.decoded c.args.token p.escaped) refl)
+    (reads_token _ _ (moved r r.source (is_none last)) before new (ends_told p.gap.ends before) c.tell_alone.new.trivia
+    Next c.args.token c.self.inside.decoded p.gap.from.utf8
+    record {
+      source = refl;
+      source_type = refl;
+      errors = refl;
+      deferred = refl;
+      between =
+          between_is r.source last c.self.inside.found.trivia cleared c.self.inside.decoded c.self.invariant refl;
+    }
+    (behind_plain_gap last r r.source (is_none last) p.mid p.line_has_ended before c.args.token new
+    (first_token last) p.gap (p.here r))
+    (c.tell_alone.ensures ∙ ends_forgotten p.gap.ends cleared c.args.token none)
+    (same.kept c.self.invariant.are_values)
+    (no_value r.source.text c.self.inside.decoded c.args.token p.escaped) refl)

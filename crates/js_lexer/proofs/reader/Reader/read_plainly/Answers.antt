@@ -1,5 +1,7 @@
-use Rattle.std.proofs.Common.{◌∙◌, ap}
-use Rattle.js_lexer.specs.Plain.{plain_lexeme}
+use Rattle.std.proofs.Common.{◌≡◌, None, sym, ◌∙◌, ap, subst}
+use Rattle.js_grammar.specs.Gap.{whole_gap_piece}
+use Rattle.js_source.specs.Source.{At, rest}
+use Rattle.js_lexer.specs.Plain.{SpellsFor, plain_lexeme}
 use Rattle.js_lexer.specs.Reader.{lexeme_token}
 use Rattle.js_lexer.proofs.PlainSteps.{spelled_from, spelled_onward}
 use Rattle.js_lexer.proofs.reader.Reader.read_plainly.Goals as goal
