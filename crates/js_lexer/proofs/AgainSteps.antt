@@ -19,7 +19,6 @@ use Rattle.js_grammar.specs.declared.goal.Goal.TheVariants.{TypeScriptLeftAngle,
 use Rattle.js_lexer.specs.Decoded.{HasValue, Keeps, Values}
 use Rattle.js_lexer.specs.Reader.{ReadsWithoutGap}
 use Rattle.js_lexer.specs.declared.reader.Reader.{Reader}
-use Rattle.js_grammar.specs.declared.goal.Goal.{Goal}
 use Rattle.js_lexer.specs.Goals.{ReadsExpression, ReadsName, ReadsNameOn, ReadsRegex, expression_kinds, info_of}
 use Rattle.js_lexer.specs.Goals.{left_compounds, right_compounds}
 use Rattle.js_lexer.specs.Lexer.{IsOnPlaces, LexerState}
@@ -171,19 +170,19 @@ child_starts before old new token r = omega (arith, ap (λ o. o.token.start) r.r
 
 -- a regular expression, as contracts see it
 pub regex_again : (old new : LexerState) (r : Reader) (found : RegexToken) (reader : Reader) (comments : List Comment)
-    (before : TokenParts) → IsUtf8 old.text → r.source ≡ record { text = old.text; place = old.place }
+    (behind before : TokenParts) → IsUtf8 old.text → r.source ≡ record { text = old.text; place = old.place }
     → r.source_type ≡ old.source_type → r.errors ≡ old.findings.diagnostics → old.last ≡ Some before
-    → ReadsExpression before r found reader → comments ≡ old.findings.comments
+    → ReadsExpression before r found reader → comments ≡ old.findings.comments → behind ≡ found.token
     → new ≡ record old {
       text = reader.source.text;
       source_type = reader.source_type;
       place = reader.source.place;
-      last = Some found.token;
+      last = Some behind;
       tokens = if old.collects then with_last old.tokens found.token else old.tokens;
       findings = record old.findings { diagnostics = reader.errors; comments = comments };
     }
     → ReadsRegex old found new
-regex_again old new r found reader comments before u source source_type errors last read same e =
+regex_again old new r found reader comments behind before u source source_type errors last read same behind_is e =
     let both : (reads : ReadsWithoutGap RegularExpression old.last r found.token reader)
     × (reads.read.outcome.regex ≡ Some (info_of found)) =
     subst
@@ -192,32 +191,33 @@ regex_again old new r found reader comments before u source source_type errors l
     (sym last) (read.reads, read.info) in
     record {
       again =
-          reads_again old new r RegularExpression found.token reader comments old.decoded u source source_type errors
-          both.0 (keeps_all old.decoded)
+          reads_again old new r RegularExpression found.token reader comments behind old.decoded u source source_type
+          errors both.0 (keeps_all old.decoded)
           (no_value old.text old.decoded found.token (expression_unescaped before r reader found.token read.reads))
-          same e;
+          same behind_is e;
       info = both.1;
     }
 
 -- a name of JSX, as contracts see it
 pub name_again : (old new : LexerState) (r : Reader) (start : ℕ) (token : TokenParts) (reader : Reader)
-    (comments : List Comment) (before : TokenParts) → IsUtf8 old.text
+    (comments : List Comment) (behind before : TokenParts) → IsUtf8 old.text
     → r.source ≡ record { text = old.text; place = old.place } → r.source_type ≡ old.source_type
     → r.errors ≡ old.findings.diagnostics → old.last ≡ Some before → before.start ≡ start → old.place ≡ before.end
-    → ReadsNameOn start r (Some token) reader → comments ≡ old.findings.comments
+    → ReadsNameOn start r (Some token) reader → comments ≡ old.findings.comments → behind ≡ token
     → new ≡ record old {
       text = reader.source.text;
       source_type = reader.source_type;
       place = reader.source.place;
-      last = Some token;
+      last = Some behind;
       tokens = if old.collects then with_last old.tokens token else old.tokens;
       findings = record old.findings { diagnostics = reader.errors; comments = comments };
     }
     → ReadsName old (Some token) new
-name_again old new r start token reader comments before u source source_type errors last at place read same e =
+name_again old new r start token reader comments behind before u source source_type errors last at place read same
+    behind_is e =
     let there = read.1 before at (sym place ∙ ap (λ a. a.place) (sym source)) in (
       ap (λ (a : At). begins (λ c. c == hyphen_minus) (rest a)) (sym source) ∙ read.0,
-      reads_again old new r JsxIdentifier token reader comments old.decoded u source source_type errors
+      reads_again old new r JsxIdentifier token reader comments behind old.decoded u source source_type errors
           (subst (λ o. ReadsWithoutGap JsxIdentifier o r token reader) (sym last) there) (keeps_all old.decoded)
-          (no_value old.text old.decoded token (name_unescaped before r reader token there)) same e,
+          (no_value old.text old.decoded token (name_unescaped before r reader token there)) same behind_is e,
     )

@@ -3,7 +3,6 @@ use Rattle.std.proofs.Common.{◌≡◌, ◌≤◌, ◌-◌, Bool, true, false, 
 use Rattle.std.proofs.Common.{refl, sym, ◌∙◌, ap}
 use Rattle.std.proofs.Common.{subst, arith, append-nil, Option, Some, None}
 use Rattle.std.specs.Prelude.{slice_get, ℕ, IfSome, is_none, if◌then◌else◌}
-use Rattle.std.specs.Option.{is_some}
 use Rattle.std.specs.List.{last_or}
 use Rattle.std.specs.Str.{IsUtf8}
 use Rattle.std.proofs.lemmas.Str.{IsCharBoundary-start}
@@ -29,7 +28,7 @@ use Rattle.js_grammar.proofs.GoalWays.{goal_reads_span, goal_reads_places}
 use Rattle.js_lexer.specs.Lexer.{LexerState, IsOnPlaces, IsSound, IsRestored, collected, ReadsOutcome, ReadsToken}
 use Rattle.js_lexer.specs.Lexer.{Checkpoint, checkpoint_of, checkpoint_with_errors_of, put_back, put_errors_back}
 use Rattle.js_lexer.specs.Lexer.{rewound, BeginsAlike, GoesOnFrom, with_diagnostics, with_comments}
-use Rattle.js_lexer.specs.Lexer.{ReadsAgain, after_re_lex, token_or_default}
+use Rattle.js_lexer.specs.Lexer.{ReadsAgain, after_re_lex, last_read, token_or_default}
 use Rattle.js_lexer.specs.Reader.{ReadsGoal, ReadsWithGap, ReadsWithoutGap, AddsGap, MovesOn}
 use Rattle.js_lexer.specs.declared.found.GapFindings.{GapFindings}
 use Rattle.js_lexer.specs.declared.reader.Reader.{Reader}
@@ -47,12 +46,15 @@ pub record IsReaderOf (l : LexerState) (r : Reader) (found : GapFindings) : Type
   pub between : IsBetweenGaps l.last l.place l.findings.comments l.findings.irregular found.trivia
 
 -- a line has ended where no token was read yet
-pub no_token_yet : (last : Option TokenParts) (line_has_ended : Bool) → is_some last ≡ not line_has_ended
-    → line_has_ended_behind last ≡ line_has_ended
-no_token_yet None true e = refl
-no_token_yet None false e = cc
-no_token_yet (Some token) true e = cc
-no_token_yet (Some token) false e = refl
+pub no_token_yet : (has_read : Bool) (previous : TokenParts)
+    → line_has_ended_behind (last_read has_read previous) ≡ not has_read
+no_token_yet false previous = refl
+no_token_yet true previous = refl
+
+-- the token that a builder was told of is then its last one
+pub told_last : (token : TokenParts) (trivia now : Trivia) → now ≡ handle_token token trivia
+    → now.attachment.previous ≡ token
+told_last token trivia now e = ap (λ (t : Trivia). t.attachment.previous) e
 
 pub first_token : (last : Option TokenParts) → line_has_ended_behind last ≡ is_none last
 first_token None = refl
@@ -113,11 +115,12 @@ reader_is r found last values line_has_ended cleared sound e = record {
 }
 
 -- a lexer that went back is sound, with more values
-pub sound_back : (old new : At) (last : Option TokenParts) (trivia now : Trivia) (values more : Values) → new ≡ old
-    → now ≡ trivia → IsSound old last trivia values → AreValues old.text more → IsSound new last now more
-sound_back old new last trivia now values more same e sound are =
-    subst (λ a. IsSound a last now more) (sym same)
-    (subst (λ s. IsSound old last s more) (sym e)
+pub sound_back : (old new : At) (has_read : Bool) (trivia now : Trivia) (values more : Values) → new ≡ old
+    → now ≡ trivia → IsSound old (last_read has_read trivia.attachment.previous) trivia values
+    → AreValues old.text more → IsSound new (last_read has_read now.attachment.previous) now more
+sound_back old new has_read trivia now values more same e sound are =
+    subst (λ a. IsSound a (last_read has_read now.attachment.previous) now more) (sym same)
+    (subst (λ (s : Trivia). IsSound old (last_read has_read s.attachment.previous) s more) (sym e)
     (record {
       last_lies = sound.last_lies;
       last_spelled = sound.last_spelled;
@@ -191,18 +194,19 @@ pub sound_after : (goal : Goal) (l : LexerState) (old : Reader) (before : GapFin
     (new : Reader) (after : GapFindings) (trivia : Trivia) (values : Values) → IsUtf8 new.source.text
     → AreValues old.source.text values → IsReaderOf l old before
     → ReadsWithGap goal l.last old before token new after → trivia ≡ handle_token token after.trivia
-    → IsSound new.source (Some token) trivia values
+    → IsSound new.source (Some trivia.attachment.previous) trivia values
 sound_after goal l old before token new after trivia values u are is r e =
     let holds = behind_token l.findings.comments l.findings.irregular r.read.outcome in
     let now : trivia ≡ holds = e ∙ held_now goal l old before token new after is r in
     let held =
     held_before_token l.last l.source_type l.place l.findings.comments l.findings.irregular r.read.outcome before after
     is.between (told_of goal l old before token new after is r) in
-    sound_behind goal l.last old token new trivia values u are r.read
+    subst (λ t. IsSound new.source (Some t) trivia values) (sym (told_last token after.trivia trivia e))
+    (sound_behind goal l.last old token new trivia values u are r.read
     (subst (λ s. s.attachment ≡ between_gaps s.attachment.attached false token) (sym now)
     (ap (between_gaps holds.attachment.attached false) (sym r.read.token_is)))
     (subst (λ s. HeldBefore token.start s) (sym now)
-    (subst (λ (x : TokenParts). HeldBefore x.start holds) (sym r.read.token_is) held))
+    (subst (λ (x : TokenParts). HeldBefore x.start holds) (sym r.read.token_is) held)))
 
 -- a reading of a lexer's reader is one from the lexer's place
 goal_of_lexer : (l : LexerState) (r : Reader) (before : GapFindings) (new : Reader) (goal : Goal)
@@ -238,7 +242,7 @@ pub reads_token : (old new : LexerState) (r : Reader) (before : GapFindings) (re
       text = reader.source.text;
       source_type = reader.source_type;
       place = reader.source.place;
-      last = Some token;
+      last = Some trivia.attachment.previous;
       tokens = old.tokens ++ collected old.collects token;
       findings = record {
         diagnostics = reader.errors;
@@ -271,7 +275,8 @@ reads_token old new r before reader after trivia goal token values u is with_gap
         source_type = ap (λ x. x.source_type) e ∙ reads.source_type ∙ is.source_type;
         collects = ap (λ x. x.collects) e;
         place = ap (λ x. x.place) e ∙ reads.end ∙ ap (λ x. x.end) reads.token_is;
-        last = ap (λ x. x.last) e ∙ ap Some reads.token_is;
+        last =
+            ap (λ x. x.last) e ∙ ap Some (told_last token after.trivia trivia told ∙ reads.token_is);
         tokens = ap (λ x. x.tokens) e ∙ ap (λ x. old.tokens ++ collected old.collects x) reads.token_is;
         findings = ap (λ x. x.findings) e ∙ rw (errors, deferred, now) refl;
         pure_comments = ap (λ x. x.pure_comments) e ∙ ap (λ (s : Trivia). s.pure_comments) now;
@@ -286,7 +291,8 @@ reads_token old new r before reader after trivia goal token values u is with_gap
 pub sound_again : (goal : Goal) (previous token : TokenParts) (old new : Reader) (trivia now : Trivia)
     (values more : Values) → IsUtf8 new.source.text → AreValues old.source.text more
     → ReadsGoal goal (Some previous) old token new → IsSound old.source (Some previous) trivia values
-    → token.start ≡ previous.start → now ≡ handle_token token trivia → IsSound new.source (Some token) now more
+    → token.start ≡ previous.start → now ≡ handle_token token trivia
+    → IsSound new.source (Some now.attachment.previous) now more
 sound_again goal previous token old new trivia now values more u are r sound start e =
     let told : Trivia = record trivia { attachment = between_gaps trivia.attachment.attached false token } in
     let same : now ≡ told =
@@ -295,11 +301,12 @@ sound_again goal previous token old new trivia now values more u are r sound sta
     let comments =
     ap (λ (a : Attachment). is_past previous.start (comment_starts (held a))) (sym sound.attachment)
     ∙ sound.held.comments in
-    sound_behind goal (Some previous) old token new now more u are r
+    subst (λ t. IsSound new.source (Some t) now more) (sym (told_last token trivia now e))
+    (sound_behind goal (Some previous) old token new now more u are r
     (subst (λ s. s.attachment ≡ between_gaps s.attachment.attached false token) (sym same) refl)
     (subst (λ s. HeldBefore token.start s) (sym same)
     (subst (λ (n : ℕ). HeldBefore n told) (sym start)
-    (record { comments = comments; irregular = sound.held.irregular })))
+    (record { comments = comments; irregular = sound.held.irregular }))))
 
 -- what a builder between two gaps holds after it was told of a token again
 pub told_again : (previous : Option TokenParts) (token : TokenParts) (trivia now : Trivia) (here : At) (values : Values)
@@ -317,22 +324,22 @@ told_again previous token trivia now here values sound e = (
 
 -- a token that was read again, as contracts see it
 abbrev pub reads_again : (old new : LexerState) (r : Reader) (goal : Goal) (token : TokenParts) (reader : Reader)
-    (comments : List Comment) (values : Values)
+    (comments : List Comment) (last : TokenParts) (values : Values)
     → IsUtf8 old.text → r.source ≡ record { text = old.text; place = old.place } → r.source_type ≡ old.source_type
     → r.errors ≡ old.findings.diagnostics
     → ReadsWithoutGap goal old.last r token reader → Keeps old.decoded values → HasValue old.text values token
-    → comments ≡ old.findings.comments
+    → comments ≡ old.findings.comments → last ≡ token
     → new ≡ record old {
       text = reader.source.text;
       source_type = reader.source_type;
       place = reader.source.place;
-      last = Some token;
+      last = Some last;
       tokens = if old.collects then with_last old.tokens token else old.tokens;
       findings = record old.findings { diagnostics = reader.errors; comments = comments };
       decoded = values;
     }
     → ReadsAgain goal old token new
-reads_again old new r goal token reader comments values u source source_type errors alone kept has same e =
+reads_again old new r goal token reader comments last values u source source_type errors alone kept has same last_is e =
     let reads = alone.read in
     let here : GoalReads old.text old.source_type goal old.last old.place reads.outcome =
     subst (λ (a : At). GoalReads a.text old.source_type goal old.last a.place reads.outcome) source
@@ -356,7 +363,7 @@ reads_again old new r goal token reader comments values u source source_type err
         source_type = ap (λ x. x.source_type) e ∙ reads.source_type ∙ source_type;
         collects = ap (λ x. x.collects) e;
         place = ap (λ x. x.place) e ∙ reads.end ∙ ap (λ x. x.end) reads.token_is;
-        last = ap (λ x. x.last) e ∙ ap Some reads.token_is;
+        last = ap (λ x. x.last) e ∙ ap Some (last_is ∙ reads.token_is);
         tokens =
             ap (λ x. x.tokens) e
             ∙ ap (λ x. if old.collects then with_last old.tokens x else old.tokens) reads.token_is;

@@ -1,6 +1,6 @@
 -- Marked comments, and what has gone on from a lexer whose comments are marked.
-use Rattle.std.proofs.Common.{◌≡◌, ◌≤◌, ◌+◌, ◌-◌, ℕ, Bool, true, List, [], ◌++◌, length, take, drop, map, refl, sym, ◌∙◌}
-use Rattle.std.proofs.Common.{ap, subst, arith, append-nil, append_assoc, Option}
+use Rattle.std.proofs.Common.{◌≡◌, ◌≤◌, ◌+◌, ◌-◌, ℕ, Bool, List, [], ◌++◌, length, take, drop, map, sym, ◌∙◌}
+use Rattle.std.proofs.Common.{ap, subst, arith, append-nil, append_assoc}
 use Rattle.std.specs.Prelude.{slice_range, is_none}
 use Rattle.std.proofs.lemmas.List.{take-append-drop, drop-drop, take_all, drop_all, length-map, map-append}
 use Rattle.js_text.specs.declared.comment.Comment.{Comment}
@@ -12,10 +12,10 @@ use Rattle.js_kind.specs.TokenParts.{TokenParts}
 use Rattle.js_source.specs.Source.{At}
 use Rattle.js_trivia.specs.Attachment.{Attachment, between_gaps}
 use Rattle.js_trivia.specs.Marks.{IsRangeOf, mark, marked_within, mark_range}
-use Rattle.js_trivia.specs.Trivia.{Trivia, HeldBefore, held, comment_starts, span_starts, is_past}
+use Rattle.js_trivia.specs.Trivia.{Trivia, held, comment_starts, span_starts, is_past}
 use Rattle.js_trivia.proofs.Marking.{starts_of_marked}
 use Rattle.js_lexer.specs.Decoded.{Values}
-use Rattle.js_lexer.specs.Lexer.{LexerState, IsSound, GoesOnFrom, with_comments}
+use Rattle.js_lexer.specs.Lexer.{LexerState, IsSound, GoesOnFrom, last_read, with_comments}
 
 -- a list is its front, a stretch behind that, and the rest
 cut_in_three : (cs : List Comment) (start end : ℕ) → start ≤ end
@@ -112,14 +112,18 @@ is_marked s now is_first previous range applied between is now_is =
     }
 
 -- A lexer whose comments are marked is sound.
-pub sound_marked : (here : At) (last : Option TokenParts) (s now : Trivia) (values : Values) (range : CommentRange)
-    (applied : CommentContent → CommentContent) → IsSound here last s values → IsRangeOf s.attachment.attached range
-    → now ≡ mark_range applied range s → IsSound here last now values
-sound_marked here last s now values range applied sound is now_is =
+pub sound_marked : (here : At) (has_read : Bool) (s now : Trivia) (values : Values) (range : CommentRange)
+    (applied : CommentContent → CommentContent) → IsSound here (last_read has_read s.attachment.previous) s values
+    → IsRangeOf s.attachment.attached range → now ≡ mark_range applied range s
+    → IsSound here (last_read has_read now.attachment.previous) now values
+sound_marked here has_read s now values range applied sound is now_is =
+    let last = last_read has_read s.attachment.previous in
     let previous = token_before last in
     let marked = marked_within range applied (held s.attachment) in
     let m = is_marked s now (is_none last) previous range applied sound.attachment is now_is in
-    record {
+    subst (λ t. IsSound here (last_read has_read t) now values)
+    (sym (ap (λ (u : Trivia). u.attachment.previous) now_is))
+    (record {
       last_lies = sound.last_lies;
       last_spelled = sound.last_spelled;
       behind = sound.behind;
@@ -136,4 +140,4 @@ sound_marked here last s now values range applied sound is now_is =
         irregular = ap (λ spans. is_past previous.start (span_starts spans)) m.irregular ∙ sound.held.irregular;
       };
       are_values = sound.are_values;
-    }
+    })

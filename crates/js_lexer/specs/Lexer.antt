@@ -1,6 +1,6 @@
 -- How contracts see a lexer, its checkpoints and its readings.
 use Rattle.std.specs.Prelude.{◌≡◌, ◌≢◌, ℕ, ◌+◌, ◌<◌, ◌≤◌, Bool, true, List, [], ◌∷◌, ◌++◌, ◌&&◌, ◌==◌, not, length}
-use Rattle.std.specs.Prelude.{take, Option, Some, None, IfSome, is_none, is_some, unwrap_or, if◌then◌else◌}
+use Rattle.std.specs.Prelude.{false, take, Option, Some, None, IfSome, is_none, is_some, unwrap_or, if◌then◌else◌}
 use Rattle.std.specs.List.{last_or}
 use Rattle.std.specs.Str.{IsCharBoundary}
 use Rattle.js_text.specs.Lists.{with_last}
@@ -43,6 +43,11 @@ pub record LexerState : Type 0 where
   pub pure_comments : Option CommentRange
   pub no_side_effects_comments : Option CommentRange
   pub decoded : Values
+
+-- the last token, which the builder of trivia has, where one was read
+abbrev pub last_read : Bool → TokenParts → Option TokenParts
+last_read false previous = None
+last_read true previous = Some previous
 
 -- a lexer that has read nothing
 abbrev pub fresh : List ℕ → SourceType → Bool → LexerState

@@ -178,13 +178,14 @@ pub struct Lexer<'a, C: LexerConfig + Drop> {
     reader: Reader<'a>,
     found: GapFindings,
     config: C,
-    last: Option<Token>,
+    /// Whether a token was read. The builder of trivia has the last one.
+    has_read: bool,
     tokens: TokenList,
     decoded: DecodedValues,
 }
 
 impl<'a, C: LexerConfig + Drop> Model for Lexer<'a, C> {
-    ghost use Rattle.js_lexer.specs.Lexer.{LexerState, IsSound};
+    ghost use Rattle.js_lexer.specs.Lexer.{LexerState, IsSound, last_read};
 
     ghost Value = { LexerState };
 
@@ -193,7 +194,7 @@ impl<'a, C: LexerConfig + Drop> Model for Lexer<'a, C> {
       source_type = l.reader.source_type;
       collects = C.collects l.config;
       place = l.reader.source.place;
-      last = l.last;
+      last = last_read l.has_read l.found.trivia.attachment.previous;
       tokens = l.tokens;
       findings = record {
         diagnostics = l.reader.errors;
@@ -206,7 +207,8 @@ impl<'a, C: LexerConfig + Drop> Model for Lexer<'a, C> {
       decoded = l.decoded;
     } };
 
-    ghost invariant = { λ l. IsSound l.reader.source l.last l.found.trivia l.decoded };
+    ghost invariant = { λ l. IsSound l.reader.source (last_read l.has_read l.found.trivia.attachment.previous)
+        l.found.trivia l.decoded };
 }
 
 impl<'a, C: LexerConfig + Drop> Lexer<'a, C> {
@@ -241,7 +243,7 @@ impl<'a, C: LexerConfig + Drop> Lexer<'a, C> {
                 deferred: DiagnosticList::new_in(alloc),
             },
             config,
-            last: None,
+            has_read: false,
             tokens,
             decoded: DecodedValues::new_in(alloc),
         })
@@ -265,7 +267,7 @@ impl<'a, C: LexerConfig + Drop> Lexer<'a, C> {
         ensures kept { Keeps self.old.decoded self.new.decoded }
     {
         let mut source = self.reader.source.here();
-        let mut line_has_ended = self.last.is_none();
+        let mut line_has_ended = !self.has_read;
         match pass_plain_gap(&mut source, &self.reader.tables, &mut line_has_ended) {
             GapEnd::Name(b) => self.read_name_here(source, line_has_ended, b),
             GapEnd::Mark(b) => self.read_mark_here(source, line_has_ended, b),
@@ -347,7 +349,7 @@ impl<'a, C: LexerConfig + Drop> Lexer<'a, C> {
         collect(&mut self.tokens, self.config.tokens(), &token)?;
         self.reader.source.set_position(source.position());
         tell_alone(&mut self.found.trivia, &token);
-        self.last = Some(token);
+        self.has_read = true;
         Ok(())
     }
 
@@ -411,7 +413,7 @@ impl<'a, C: LexerConfig + Drop> Lexer<'a, C> {
         match read {
             Ok(token) => {
                 tell_alone(&mut self.found.trivia, &token);
-                self.last = Some(token);
+                self.has_read = true;
                 Ok(())
             }
             Err(error) => {
@@ -435,7 +437,7 @@ impl<'a, C: LexerConfig + Drop> Lexer<'a, C> {
         let trivia_before = self.found.trivia.lengths();
         self.found.trivia.clear_pure_comments();
         self.found.trivia.clear_no_side_effects_comments();
-        self.reader.line_has_ended = self.last.is_none();
+        self.reader.line_has_ended = !self.has_read;
         let read = read_and_collect(
             &mut self.reader,
             goal,
@@ -447,7 +449,7 @@ impl<'a, C: LexerConfig + Drop> Lexer<'a, C> {
         match read {
             Ok(token) => {
                 self.found.trivia.handle_token(token);
-                self.last = Some(token);
+                self.has_read = true;
                 Ok(token)
             }
             Err(error) => {
@@ -474,7 +476,7 @@ impl<'a, C: LexerConfig + Drop> Lexer<'a, C> {
             Ok(token) => {
                 replace_collected(&mut self.tokens, self.config.tokens(), token);
                 self.found.trivia.handle_token(token);
-                self.last = Some(token);
+                self.has_read = true;
                 Ok(token)
             }
             Err(error) => {
@@ -496,6 +498,17 @@ impl<'a, C: LexerConfig + Drop> Lexer<'a, C> {
         Ok(token)
     }
 
+    /// The last token, if one was read.
+    fn last(&self) -> Option<Token>
+        ensures { result ≡ self.now.last }
+    {
+        if self.has_read {
+            Some(self.found.trivia.previous_token())
+        } else {
+            None
+        }
+    }
+
     /// The last token that was read; a default token before the first.
     pub fn last_token(&self) -> Token
         ensures token { result ≡ token_or_default self.now.last }
@@ -503,7 +516,7 @@ impl<'a, C: LexerConfig + Drop> Lexer<'a, C> {
     {
         // The text is UTF-8, so the default token lies on it too.
         let _place = self.reader.source.position();
-        self.last.unwrap_or(Token::default())
+        self.last().unwrap_or(Token::default())
     }
 
     /// The text of a token of this source. Of one with an escape it is the value of the name or the string that was
@@ -697,7 +710,7 @@ impl<'a, C: LexerConfig + Drop> Lexer<'a, C> {
     {
         LexerCheckpoint {
             position: self.reader.source.position(),
-            last: self.last,
+            last: self.last(),
             last_collected: last_of(self.tokens.as_slice()),
             tokens: self.tokens.len(),
             errors: self.reader.errors.len(),
@@ -778,7 +791,7 @@ impl<'a, C: LexerConfig + Drop> Lexer<'a, C> {
             trivia,
         } = checkpoint;
         self.reader.source.set_position(position);
-        self.last = last;
+        self.has_read = last.is_some();
         self.tokens.truncate(tokens);
         put_back(&mut self.tokens, last_collected);
         self.reader.errors.truncate(errors);

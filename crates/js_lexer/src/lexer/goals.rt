@@ -40,7 +40,7 @@ impl<C: LexerConfig + Drop> Lexer<'_, C> {
             Ok(found) => {
                 replace_collected(&mut self.tokens, self.config.tokens(), found.token);
                 self.found.trivia.handle_token(found.token);
-                self.last = Some(found.token);
+                self.has_read = true;
                 Ok(found)
             }
             Err(error) => {
@@ -72,7 +72,7 @@ impl<C: LexerConfig + Drop> Lexer<'_, C> {
         let token = self.reader.read_longest_right_angle(start);
         replace_collected(&mut self.tokens, self.config.tokens(), token);
         self.found.trivia.handle_token(token);
-        self.last = Some(token);
+        self.has_read = true;
         token
     }
 
@@ -86,7 +86,7 @@ impl<C: LexerConfig + Drop> Lexer<'_, C> {
         let token = self.reader.read_left_angle(start);
         replace_collected(&mut self.tokens, self.config.tokens(), token);
         self.found.trivia.handle_token(token);
-        self.last = Some(token);
+        self.has_read = true;
         token
     }
 
@@ -100,7 +100,7 @@ impl<C: LexerConfig + Drop> Lexer<'_, C> {
         let token = self.reader.read_right_angle(start);
         replace_collected(&mut self.tokens, self.config.tokens(), token);
         self.found.trivia.handle_token(token);
-        self.last = Some(token);
+        self.has_read = true;
         token
     }
 
@@ -115,7 +115,7 @@ impl<C: LexerConfig + Drop> Lexer<'_, C> {
         let token = self.reader.read_jsx_name(start)?;
         replace_collected(&mut self.tokens, self.config.tokens(), token);
         self.found.trivia.handle_token(token);
-        self.last = Some(token);
+        self.has_read = true;
         Some(token)
     }
 

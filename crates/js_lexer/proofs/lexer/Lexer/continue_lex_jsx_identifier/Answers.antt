@@ -3,7 +3,7 @@ use Rattle.std.specs.Str.{IsUtf8}
 use Rattle.js_grammar.specs.declared.goal.Goal.TheVariants.{JsxIdentifier}
 use Rattle.js_lexer.specs.Lexer.{IsSound}
 use Rattle.js_lexer.proofs.AgainSteps.{name_again, name_starts}
-use Rattle.js_lexer.proofs.LexerSteps.{sound_again, told_again}
+use Rattle.js_lexer.proofs.LexerSteps.{sound_again, told_again, told_last}
 use Rattle.js_lexer.proofs.lexer.Lexer.continue_lex_jsx_identifier.Goals as goal
 
 pub invariant_of-self-2 : goal.invariant_of-self-2
@@ -26,10 +26,11 @@ returns g c =
     let there = c.in_ok-token.ensures.reads.1 c.requires.token c.requires.start_is (sym place) in
     let tokens = rw c.tokens.ensures at c.replace_collected.ensures in
     let told =
-    told_again c.self.inside.last c.in_ok-token.token c.self.inside.found.trivia c.handle_token.new.self
+    told_again _ c.in_ok-token.token c.self.inside.found.trivia c.handle_token.new.self
     c.self.inside.reader.source c.self.inside.decoded c.self.invariant c.handle_token.ensures in
     rw (← c.self.view_is, tokens, told.1, told.2, told.3)
     (name_again _ _ c.self.inside.reader c.args.start c.in_ok-token.token c.read_jsx_name.new.self
-    c.handle_token.new.self.attachment.attached c.requires.token
+    c.handle_token.new.self.attachment.attached c.handle_token.new.self.attachment.previous c.requires.token
     (subst IsUtf8 there.read.text c.read_jsx_name.ensures.placed.utf8) refl refl refl last c.requires.start_is place
-    c.in_ok-token.ensures.reads told.0 refl)
+    c.in_ok-token.ensures.reads told.0
+    (told_last _ c.self.inside.found.trivia c.handle_token.new.self c.handle_token.ensures) refl)

@@ -6,7 +6,7 @@ use Rattle.js_lexer.proofs.lexer.Lexer.mark_pure_comments_applied.Goals as goal
 
 pub invariant_of-self : goal.invariant_of-self
 invariant_of-self g c =
-    sound_marked c.self.inside.reader.source c.self.inside.last c.self.inside.found.trivia
+    sound_marked c.self.inside.reader.source c.self.inside.has_read c.self.inside.found.trivia
     c.mark_pure_comments_applied.new.self c.self.inside.decoded c.args.range pure_applied c.self.invariant
     (subst (λ (l : LexerState). IsRangeOf l.findings.comments c.args.range) (sym c.self.view_is) c.requires)
     c.mark_pure_comments_applied.ensures

@@ -3,7 +3,7 @@ use Rattle.std.specs.Str.{IsUtf8}
 use Rattle.js_grammar.specs.declared.goal.Goal.TheVariants.{TemplateTail as TailGoal}
 use Rattle.js_lexer.specs.Lexer.{IsSound, token_or_default}
 use Rattle.js_lexer.specs.Reader.{ReadsWithoutGap}
-use Rattle.js_lexer.proofs.LexerSteps.{curly_here, reads_again, sound_again, told_again}
+use Rattle.js_lexer.proofs.LexerSteps.{curly_here, reads_again, sound_again, told_again, told_last}
 use Rattle.js_lexer.proofs.lexer.Lexer.next_template_substitution_tail.Goals as goal
 
 pub read_next_part-requires-clause-here : goal.read_next_part-requires-clause-here
@@ -42,10 +42,11 @@ returns-in-Ok-clause-ok g c =
     (c.in-Ok.ensures.ok behind.token (sym start)) in
     let tokens = rw c.tokens.ensures at c.replace_collected.ensures in
     let told =
-    told_again c.self.inside.last c.in-Ok.token c.self.inside.found.trivia c.handle_token.new.self
+    told_again _ c.in-Ok.token c.self.inside.found.trivia c.handle_token.new.self
     c.self.inside.reader.source c.self.inside.decoded c.self.invariant c.handle_token.ensures in
     rw (← c.self.view_is, tokens, told.1, told.2, told.3)
     (reads_again _ _ c.self.inside.reader _ c.in-Ok.token c.read_next_part.new.self
-    c.handle_token.new.self.attachment.attached c.read_next_part.new.decoded
+    c.handle_token.new.self.attachment.attached c.handle_token.new.self.attachment.previous c.read_next_part.new.decoded
     (subst IsUtf8 read.read.text c.in-Ok.ensures.placed.utf8) refl refl refl read
-    (c.in-Ok.ensures.kept.kept c.self.invariant.are_values) c.in-Ok.ensures.value told.0 refl)
+    (c.in-Ok.ensures.kept.kept c.self.invariant.are_values) c.in-Ok.ensures.value told.0
+    (told_last _ c.self.inside.found.trivia c.handle_token.new.self c.handle_token.ensures) refl)

@@ -6,7 +6,7 @@ use Rattle.js_lexer.specs.Goals.{right_compounds}
 use Rattle.js_lexer.specs.Lexer.{IsSound}
 use Rattle.js_lexer.specs.Reader.{ReadsWithoutGap}
 use Rattle.js_lexer.proofs.AgainSteps.{keeps_all, kinds_begin, right_unescaped, right_starts, no_value, starts_with}
-use Rattle.js_lexer.proofs.LexerSteps.{reads_again, sound_again, told_again}
+use Rattle.js_lexer.proofs.LexerSteps.{reads_again, sound_again, told_again, told_last}
 use Rattle.js_lexer.proofs.lexer.Lexer.re_lex_as_typescript_r_angle.Goals as goal
 
 pub overflow_sub-start : goal.overflow_sub-start
@@ -14,7 +14,7 @@ overflow_sub-start g c =
     let last = rw (← c.self.view_is) at c.requires.last in
     let place = rw (← c.self.view_is) at c.requires.place in
     let starts =
-    starts_with right_compounds greater_than_sign c.args.offset c.self.inside.reader.source.text c.self.inside.last
+    starts_with right_compounds greater_than_sign c.args.offset c.self.inside.reader.source.text _
     c.offset.result c.requires.token kinds_begin.right c.offset.ensures.placed.utf8 last c.requires.kind_is
     c.requires.bytes_are (c.offset.ensures.place ∙ place) c.self.invariant.last_lies
     c.self.invariant.last_spelled in
@@ -25,7 +25,7 @@ read_right_angle-token-requires-clause-boundary g c =
     let last = rw (← c.self.view_is) at c.requires.last in
     let place = rw (← c.self.view_is) at c.requires.place in
     let starts =
-    starts_with right_compounds greater_than_sign c.args.offset c.self.inside.reader.source.text c.self.inside.last
+    starts_with right_compounds greater_than_sign c.args.offset c.self.inside.reader.source.text _
     c.offset.result c.requires.token kinds_begin.right c.offset.ensures.placed.utf8 last c.requires.kind_is
     c.requires.bytes_are (c.offset.ensures.place ∙ place) c.self.invariant.last_lies
     c.self.invariant.last_spelled in
@@ -36,7 +36,7 @@ read_right_angle-token-requires-clause-here g c =
     let last = rw (← c.self.view_is) at c.requires.last in
     let place = rw (← c.self.view_is) at c.requires.place in
     let starts =
-    starts_with right_compounds greater_than_sign c.args.offset c.self.inside.reader.source.text c.self.inside.last
+    starts_with right_compounds greater_than_sign c.args.offset c.self.inside.reader.source.text _
     c.offset.result c.requires.token kinds_begin.right c.offset.ensures.placed.utf8 last c.requires.kind_is
     c.requires.bytes_are (c.offset.ensures.place ∙ place) c.self.invariant.last_lies
     c.self.invariant.last_spelled in
@@ -47,7 +47,7 @@ invariant_of-self g c =
     let last = rw (← c.self.view_is) at c.requires.last in
     let place = rw (← c.self.view_is) at c.requires.place in
     let starts =
-    starts_with right_compounds greater_than_sign c.args.offset c.self.inside.reader.source.text c.self.inside.last
+    starts_with right_compounds greater_than_sign c.args.offset c.self.inside.reader.source.text _
     c.offset.result c.requires.token kinds_begin.right c.offset.ensures.placed.utf8 last c.requires.kind_is
     c.requires.bytes_are (c.offset.ensures.place ∙ place) c.self.invariant.last_lies
     c.self.invariant.last_spelled in
@@ -65,7 +65,7 @@ returns g c =
     let last = rw (← c.self.view_is) at c.requires.last in
     let place = rw (← c.self.view_is) at c.requires.place in
     let starts =
-    starts_with right_compounds greater_than_sign c.args.offset c.self.inside.reader.source.text c.self.inside.last
+    starts_with right_compounds greater_than_sign c.args.offset c.self.inside.reader.source.text _
     c.offset.result c.requires.token kinds_begin.right c.offset.ensures.placed.utf8 last c.requires.kind_is
     c.requires.bytes_are (c.offset.ensures.place ∙ place) c.self.invariant.last_lies
     c.self.invariant.last_spelled in
@@ -75,11 +75,13 @@ returns g c =
     (sym starts.1.last_is) there in
     let tokens = rw c.tokens.ensures at c.replace_collected.ensures in
     let told =
-    told_again c.self.inside.last c.read_right_angle-token.result c.self.inside.found.trivia c.handle_token.new.self
+    told_again _ c.read_right_angle-token.result c.self.inside.found.trivia c.handle_token.new.self
     c.self.inside.reader.source c.self.inside.decoded c.self.invariant c.handle_token.ensures in
     rw (← c.self.view_is, tokens, told.1, told.2, told.3)
     (reads_again _ _ c.self.inside.reader _ c.read_right_angle-token.result c.read_right_angle-token.new.self
-    c.handle_token.new.self.attachment.attached c.self.inside.decoded
+    c.handle_token.new.self.attachment.attached c.handle_token.new.self.attachment.previous c.self.inside.decoded
     (subst IsUtf8 read.read.text c.read_right_angle-token.ensures.placed.utf8) refl refl refl read (keeps_all c.self.inside.decoded)
     (no_value c.self.inside.reader.source.text c.self.inside.decoded c.read_right_angle-token.result
-    (right_unescaped starts.1.token c.self.inside.reader c.read_right_angle-token.new.self c.read_right_angle-token.result there)) told.0 refl)
+    (right_unescaped starts.1.token c.self.inside.reader c.read_right_angle-token.new.self
+    c.read_right_angle-token.result there)) told.0
+    (told_last _ c.self.inside.found.trivia c.handle_token.new.self c.handle_token.ensures) refl)

@@ -5,7 +5,7 @@ use Rattle.js_grammar.specs.declared.goal.Goal.TheVariants.{RightAngle}
 use Rattle.js_lexer.specs.Lexer.{IsSound}
 use Rattle.js_lexer.specs.Reader.{ReadsWithoutGap}
 use Rattle.js_lexer.proofs.AgainSteps.{keeps_all, kinds_begin, longest_unescaped, longest_starts, no_value, starts_with, one_angle, right_angle_kind}
-use Rattle.js_lexer.proofs.LexerSteps.{reads_again, sound_again, told_again}
+use Rattle.js_lexer.proofs.LexerSteps.{reads_again, sound_again, told_again, told_last}
 use Rattle.js_lexer.proofs.lexer.Lexer.re_lex_right_angle.Goals as goal
 
 pub overflow_sub-start : goal.overflow_sub-start
@@ -13,7 +13,7 @@ overflow_sub-start g c =
     let last = rw (← c.self.view_is) at c.requires.last in
     let place = rw (← c.self.view_is) at c.requires.place in
     let starts =
-    starts_with right_angle_kind greater_than_sign 1 c.self.inside.reader.source.text c.self.inside.last
+    starts_with right_angle_kind greater_than_sign 1 c.self.inside.reader.source.text _
     c.offset-start.result c.requires.token kinds_begin.angle c.offset-start.ensures.placed.utf8 last (one_angle _ c.requires.kind_is).0
     (one_angle _ c.requires.kind_is).1 (c.offset-start.ensures.place ∙ place) c.self.invariant.last_lies
     c.self.invariant.last_spelled in
@@ -24,7 +24,7 @@ read_longest_right_angle-token-requires-clause-boundary g c =
     let last = rw (← c.self.view_is) at c.requires.last in
     let place = rw (← c.self.view_is) at c.requires.place in
     let starts =
-    starts_with right_angle_kind greater_than_sign 1 c.self.inside.reader.source.text c.self.inside.last
+    starts_with right_angle_kind greater_than_sign 1 c.self.inside.reader.source.text _
     c.offset-start.result c.requires.token kinds_begin.angle c.offset-start.ensures.placed.utf8 last (one_angle _ c.requires.kind_is).0
     (one_angle _ c.requires.kind_is).1 (c.offset-start.ensures.place ∙ place) c.self.invariant.last_lies
     c.self.invariant.last_spelled in
@@ -35,7 +35,7 @@ read_longest_right_angle-token-requires-clause-here g c =
     let last = rw (← c.self.view_is) at c.requires.last in
     let place = rw (← c.self.view_is) at c.requires.place in
     let starts =
-    starts_with right_angle_kind greater_than_sign 1 c.self.inside.reader.source.text c.self.inside.last
+    starts_with right_angle_kind greater_than_sign 1 c.self.inside.reader.source.text _
     c.offset-start.result c.requires.token kinds_begin.angle c.offset-start.ensures.placed.utf8 last (one_angle _ c.requires.kind_is).0
     (one_angle _ c.requires.kind_is).1 (c.offset-start.ensures.place ∙ place) c.self.invariant.last_lies
     c.self.invariant.last_spelled in
@@ -46,7 +46,7 @@ invariant_of-self g c =
     let last = rw (← c.self.view_is) at c.requires.last in
     let place = rw (← c.self.view_is) at c.requires.place in
     let starts =
-    starts_with right_angle_kind greater_than_sign 1 c.self.inside.reader.source.text c.self.inside.last
+    starts_with right_angle_kind greater_than_sign 1 c.self.inside.reader.source.text _
     c.offset-start.result c.requires.token kinds_begin.angle c.offset-start.ensures.placed.utf8 last (one_angle _ c.requires.kind_is).0
     (one_angle _ c.requires.kind_is).1 (c.offset-start.ensures.place ∙ place) c.self.invariant.last_lies
     c.self.invariant.last_spelled in
@@ -64,7 +64,7 @@ returns g c =
     let last = rw (← c.self.view_is) at c.requires.last in
     let place = rw (← c.self.view_is) at c.requires.place in
     let starts =
-    starts_with right_angle_kind greater_than_sign 1 c.self.inside.reader.source.text c.self.inside.last
+    starts_with right_angle_kind greater_than_sign 1 c.self.inside.reader.source.text _
     c.offset-start.result c.requires.token kinds_begin.angle c.offset-start.ensures.placed.utf8 last (one_angle _ c.requires.kind_is).0
     (one_angle _ c.requires.kind_is).1 (c.offset-start.ensures.place ∙ place) c.self.invariant.last_lies
     c.self.invariant.last_spelled in
@@ -74,11 +74,13 @@ returns g c =
     (sym starts.1.last_is) there in
     let tokens = rw c.tokens.ensures at c.replace_collected.ensures in
     let told =
-    told_again c.self.inside.last c.read_longest_right_angle-token.result c.self.inside.found.trivia c.handle_token.new.self
+    told_again _ c.read_longest_right_angle-token.result c.self.inside.found.trivia c.handle_token.new.self
     c.self.inside.reader.source c.self.inside.decoded c.self.invariant c.handle_token.ensures in
     rw (← c.self.view_is, tokens, told.1, told.2, told.3)
     (reads_again _ _ c.self.inside.reader _ c.read_longest_right_angle-token.result c.read_longest_right_angle-token.new.self
-    c.handle_token.new.self.attachment.attached c.self.inside.decoded
+    c.handle_token.new.self.attachment.attached c.handle_token.new.self.attachment.previous c.self.inside.decoded
     (subst IsUtf8 read.read.text c.read_longest_right_angle-token.ensures.placed.utf8) refl refl refl read (keeps_all c.self.inside.decoded)
     (no_value c.self.inside.reader.source.text c.self.inside.decoded c.read_longest_right_angle-token.result
-    (longest_unescaped starts.1.token c.self.inside.reader c.read_longest_right_angle-token.new.self c.read_longest_right_angle-token.result there)) told.0 refl)
+    (longest_unescaped starts.1.token c.self.inside.reader c.read_longest_right_angle-token.new.self
+    c.read_longest_right_angle-token.result there)) told.0
+    (told_last _ c.self.inside.found.trivia c.handle_token.new.self c.handle_token.ensures) refl)

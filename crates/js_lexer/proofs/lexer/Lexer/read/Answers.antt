@@ -1,8 +1,9 @@
-use Rattle.std.proofs.Common.{◌≡◌, ◌∙◌, refl, ap, subst, None, [], take}
+use Rattle.std.proofs.Common.{◌≡◌, ◌∙◌, refl, ap, subst, None, [], take, not}
 use Rattle.std.specs.Str.{IsUtf8}
 use Rattle.js_source.specs.Source.{At}
 use Rattle.js_trivia.specs.Attachment.{Attachment}
 use Rattle.js_trivia.specs.Trivia.{Trivia, cut_to, GrewFrom}
+use Rattle.js_lexer.specs.Lexer.{last_read}
 use Rattle.js_lexer.proofs.LexerSteps.{state_of, reader_is, no_token_yet, between_is, sound_after, sound_back}
 use Rattle.js_lexer.proofs.LexerSteps.{reads_token, cut_back}
 use Rattle.js_lexer.proofs.TriviaLaws.{grew_by_calls, back_after_calls, long_enough}
@@ -10,16 +11,16 @@ use Rattle.js_lexer.proofs.lexer.Lexer.read.Goals as goal
 
 pub invariant_of-self : goal.invariant_of-self
 invariant_of-self g c =
-    let first = no_token_yet _ c.is_none-self-inside.result c.is_none-self-inside.ensures in
+    let first = no_token_yet c.self.inside.has_read c.self.inside.found.trivia.attachment.previous in
     let cleared =
     c.clear_no_side_effects_comments.ensures
     ∙ ap (λ (s : Trivia). record s { no_side_effects_comments = None }) c.clear_pure_comments.ensures in
-    let l = state_of c.self.inside.reader c.self.inside.found c.self.inside.last c.self.inside.decoded in
+    let l = state_of c.self.inside.reader c.self.inside.found _ c.self.inside.decoded in
     sound_after c.args.goal l _ _ c.in-Ok.token c.read_and_collect-read.new.reader c.read_and_collect-read.new.found
     c.handle_token.new.self c.read_and_collect-read.new.decoded c.in-Ok.ensures.placed.utf8
     (c.in-Ok.ensures.kept.are_values c.self.invariant.are_values)
-    (reader_is c.self.inside.reader c.self.inside.found c.self.inside.last c.self.inside.decoded
-    c.is_none-self-inside.result c.clear_no_side_effects_comments.new.self c.self.invariant cleared)
+    (reader_is c.self.inside.reader c.self.inside.found _ c.self.inside.decoded
+    (not c.self.inside.has_read) c.clear_no_side_effects_comments.new.self c.self.invariant cleared)
     (c.in-Ok.ensures.ok _ first) c.handle_token.ensures
 
 pub cut_back-requires-clause-comments : goal.cut_back-requires-clause-comments
@@ -65,13 +66,13 @@ invariant_of-self-in-Err g c =
     let moves = c.in-Err.ensures.err in
     let source : c.go_back.new.self.source ≡ c.self.inside.reader.source =
     c.go_back.ensures.source ∙ rw (moves.text, c.position-place.ensures.place) refl in
-    sound_back c.self.inside.reader.source c.go_back.new.self.source c.self.inside.last s c.cut_back.new.self
+    sound_back c.self.inside.reader.source c.go_back.new.self.source c.self.inside.has_read s c.cut_back.new.self
     c.self.inside.decoded c.read_and_collect-read.new.decoded source trivia c.self.invariant
     (c.in-Err.ensures.kept.are_values c.self.invariant.are_values)
 
 pub returns-in-Ok-clause-ok : goal.returns-in-Ok-clause-ok
 returns-in-Ok-clause-ok g c =
-    let first = no_token_yet _ c.is_none-self-inside.result c.is_none-self-inside.ensures in
+    let first = no_token_yet c.self.inside.has_read c.self.inside.found.trivia.attachment.previous in
     let cleared =
     c.clear_no_side_effects_comments.ensures
     ∙ ap (λ (s : Trivia). record s { no_side_effects_comments = None }) c.clear_pure_comments.ensures in
@@ -87,7 +88,7 @@ returns-in-Ok-clause-ok g c =
       errors = refl;
       deferred = refl;
       between =
-          between_is c.self.inside.reader.source c.self.inside.last c.self.inside.found.trivia
+          between_is c.self.inside.reader.source _ c.self.inside.found.trivia
           c.clear_no_side_effects_comments.new.self c.self.inside.decoded c.self.invariant cleared;
     } read c.handle_token.ensures (c.in-Ok.ensures.kept.kept c.self.invariant.are_values) c.in-Ok.ensures.value refl)
 
@@ -119,7 +120,7 @@ returns-in-Err-clause-err g c =
       source_type = c.go_back.ensures.source_type ∙ moves.source_type;
       collects = refl;
       place = ap (λ (a : At). a.place) source;
-      last = refl;
+      last = ap (λ (u : Trivia). last_read c.self.inside.has_read u.attachment.previous) trivia;
       tokens = c.in-Err.ensures.same;
       findings = rw (errors, deferred, trivia) refl;
       pure_comments = ap (λ (u : Trivia). u.pure_comments) trivia;

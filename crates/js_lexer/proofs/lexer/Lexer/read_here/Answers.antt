@@ -1,12 +1,12 @@
-use Rattle.std.proofs.Common.{◌≡◌, [], refl, sym, ◌∙◌, ap, subst, take, List, ℕ}
+use Rattle.std.proofs.Common.{◌≡◌, [], refl, ◌∙◌, ap, subst, take, List, ℕ}
 use Rattle.std.specs.Prelude.{is_none}
-use Rattle.std.specs.Str.{IsCharBoundary}
 use Rattle.js_grammar.specs.declared.goal.Goal.TheVariants.{Next}
 use Rattle.js_source.specs.Source.{At}
 use Rattle.js_trivia.specs.Attachment.{Attachment}
 use Rattle.js_trivia.specs.Trivia.{without_ranges}
 use Rattle.js_lexer.specs.Decoded.{KeepsValues, HasValue}
 use Rattle.js_lexer.specs.Plain.{ends_told, moved}
+use Rattle.js_lexer.specs.Lexer.{last_read}
 use Rattle.js_lexer.proofs.LexerSteps.{state_of, reader_is, between_is, first_token, sound_after, sound_back}
 use Rattle.js_lexer.proofs.LexerSteps.{reads_token}
 use Rattle.js_lexer.proofs.LexerSteps.{cut_back}
@@ -21,7 +21,7 @@ read_here_and_collect-read-requires-clause-gap g c =
 pub invariant_of-self : goal.invariant_of-self
 invariant_of-self g c =
     let r = c.self.inside.reader in
-    let last = c.self.inside.last in
+    let last = last_read c.self.inside.has_read c.self.inside.found.trivia.attachment.previous in
     let p = rw (← c.self.view_is) at c.requires in
     let cleared = without_ranges c.self.inside.found.trivia in
     let before = record c.self.inside.found { trivia = cleared } in
@@ -55,14 +55,14 @@ invariant_of-self-in-Err g c =
     c.in-Err.ensures.kept in
     let source : c.go_back.new.self.source ≡ r.source =
     c.go_back.ensures.source ∙ rw (c.in-Err.ensures.err.text, text, c.position-place.ensures.place) refl in
-    sound_back r.source c.go_back.new.self.source c.self.inside.last c.self.inside.found.trivia
+    sound_back r.source c.go_back.new.self.source c.self.inside.has_read c.self.inside.found.trivia
     c.self.inside.found.trivia c.self.inside.decoded c.read_here_and_collect-read.new.decoded source refl
     c.self.invariant (kept.are_values c.self.invariant.are_values)
 
 pub returns-in-Ok-clause-ok : goal.returns-in-Ok-clause-ok
 returns-in-Ok-clause-ok g c =
     let r = c.self.inside.reader in
-    let last = c.self.inside.last in
+    let last = last_read c.self.inside.has_read c.self.inside.found.trivia.attachment.previous in
     let p = rw (← c.self.view_is) at c.requires in
     let cleared = without_ranges c.self.inside.found.trivia in
     let before = record c.self.inside.found { trivia = cleared } in

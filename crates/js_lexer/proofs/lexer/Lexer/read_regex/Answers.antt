@@ -5,7 +5,7 @@ use Rattle.js_grammar.specs.declared.goal.Goal.TheVariants.{RegularExpression}
 use Rattle.js_lexer.specs.Goals.{expression_kinds}
 use Rattle.js_lexer.specs.Lexer.{IsSound}
 use Rattle.js_lexer.proofs.AgainSteps.{expression_starts, kinds_begin, regex_again, starts_with}
-use Rattle.js_lexer.proofs.LexerSteps.{sound_again, told_again}
+use Rattle.js_lexer.proofs.LexerSteps.{sound_again, told_again, told_last}
 use Rattle.js_lexer.proofs.lexer.Lexer.read_regex.Goals as goal
 
 pub overflow_sub-start : goal.overflow_sub-start
@@ -13,7 +13,7 @@ overflow_sub-start g c =
     let last = rw (← c.self.view_is) at c.requires.last in
     let place = rw (← c.self.view_is) at c.requires.place in
     let starts =
-    starts_with expression_kinds slash c.args.bytes c.self.inside.reader.source.text c.self.inside.last
+    starts_with expression_kinds slash c.args.bytes c.self.inside.reader.source.text _
     c.offset.result c.requires.token kinds_begin.expressions c.offset.ensures.placed.utf8 last c.requires.kind_is
     c.requires.bytes_are (c.offset.ensures.place ∙ place) c.self.invariant.last_lies
     c.self.invariant.last_spelled in
@@ -24,7 +24,7 @@ read_expression-requires-clause-boundary g c =
     let last = rw (← c.self.view_is) at c.requires.last in
     let place = rw (← c.self.view_is) at c.requires.place in
     let starts =
-    starts_with expression_kinds slash c.args.bytes c.self.inside.reader.source.text c.self.inside.last
+    starts_with expression_kinds slash c.args.bytes c.self.inside.reader.source.text _
     c.offset.result c.requires.token kinds_begin.expressions c.offset.ensures.placed.utf8 last c.requires.kind_is
     c.requires.bytes_are (c.offset.ensures.place ∙ place) c.self.invariant.last_lies
     c.self.invariant.last_spelled in
@@ -35,7 +35,7 @@ read_expression-requires-clause-here g c =
     let last = rw (← c.self.view_is) at c.requires.last in
     let place = rw (← c.self.view_is) at c.requires.place in
     let starts =
-    starts_with expression_kinds slash c.args.bytes c.self.inside.reader.source.text c.self.inside.last
+    starts_with expression_kinds slash c.args.bytes c.self.inside.reader.source.text _
     c.offset.result c.requires.token kinds_begin.expressions c.offset.ensures.placed.utf8 last c.requires.kind_is
     c.requires.bytes_are (c.offset.ensures.place ∙ place) c.self.invariant.last_lies
     c.self.invariant.last_spelled in
@@ -46,7 +46,7 @@ invariant_of-self g c =
     let last = rw (← c.self.view_is) at c.requires.last in
     let place = rw (← c.self.view_is) at c.requires.place in
     let starts =
-    starts_with expression_kinds slash c.args.bytes c.self.inside.reader.source.text c.self.inside.last
+    starts_with expression_kinds slash c.args.bytes c.self.inside.reader.source.text _
     c.offset.result c.requires.token kinds_begin.expressions c.offset.ensures.placed.utf8 last c.requires.kind_is
     c.requires.bytes_are (c.offset.ensures.place ∙ place) c.self.invariant.last_lies
     c.self.invariant.last_spelled in
@@ -64,17 +64,18 @@ returns-in-Ok-clause-ok g c =
     let last = rw (← c.self.view_is) at c.requires.last in
     let place = rw (← c.self.view_is) at c.requires.place in
     let starts =
-    starts_with expression_kinds slash c.args.bytes c.self.inside.reader.source.text c.self.inside.last
+    starts_with expression_kinds slash c.args.bytes c.self.inside.reader.source.text _
     c.offset.result c.requires.token kinds_begin.expressions c.offset.ensures.placed.utf8 last c.requires.kind_is
     c.requires.bytes_are (c.offset.ensures.place ∙ place) c.self.invariant.last_lies
     c.self.invariant.last_spelled in
     let there = c.in-Ok.ensures.ok starts.1.token starts.1.at in
     let tokens = rw c.tokens.ensures at c.replace_collected.ensures in
     let told =
-    told_again c.self.inside.last c.in-Ok.found.token c.self.inside.found.trivia c.handle_token.new.self
+    told_again _ c.in-Ok.found.token c.self.inside.found.trivia c.handle_token.new.self
     c.self.inside.reader.source c.self.inside.decoded c.self.invariant c.handle_token.ensures in
     rw (← c.self.view_is, tokens, told.1, told.2, told.3)
     (regex_again _ _ c.self.inside.reader c.in-Ok.found c.read_expression.new.self
-    c.handle_token.new.self.attachment.attached starts.1.token
+    c.handle_token.new.self.attachment.attached c.handle_token.new.self.attachment.previous starts.1.token
     (subst IsUtf8 there.reads.read.text c.read_expression.ensures.placed.utf8) refl refl refl starts.1.last_is there
-    told.0 refl)
+    told.0
+    (told_last _ c.self.inside.found.trivia c.handle_token.new.self c.handle_token.ensures) refl)

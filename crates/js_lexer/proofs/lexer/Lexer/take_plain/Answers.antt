@@ -1,11 +1,11 @@
 use Rattle.std.proofs.Common.{◌≡◌, [], refl, sym, ◌∙◌, ap, subst, Some}
 use Rattle.std.specs.Prelude.{is_none}
-use Rattle.std.specs.Str.{IsCharBoundary, IsUtf8}
+use Rattle.std.specs.Str.{IsCharBoundary}
 use Rattle.js_grammar.specs.declared.goal.Goal.TheVariants.{Next}
 use Rattle.js_trivia.specs.Attachment.{Attachment}
 use Rattle.js_source.specs.Source.{At}
 use Rattle.js_trivia.specs.Trivia.{without_ranges}
-use Rattle.js_lexer.specs.Lexer.{IsSound}
+use Rattle.js_lexer.specs.Lexer.{IsSound, last_read}
 use Rattle.js_lexer.specs.Plain.{ends_told, moved}
 use Rattle.js_lexer.proofs.AgainSteps.{no_value}
 use Rattle.js_lexer.proofs.DecodedSteps.{keeps_same}
@@ -25,7 +25,7 @@ set_position-requires g c =
 pub invariant_of-self-2 : goal.invariant_of-self-2
 invariant_of-self-2 g c =
     let r = c.self.inside.reader in
-    let last = c.self.inside.last in
+    let last = last_read c.self.inside.has_read c.self.inside.found.trivia.attachment.previous in
     let p = rw (← c.self.view_is) at c.requires in
     let cleared = without_ranges c.self.inside.found.trivia in
     let before = record c.self.inside.found { trivia = cleared } in
@@ -35,7 +35,10 @@ invariant_of-self-2 g c =
     let at =
     moved_on r.source c.set_position.new.self c.args.source c.position.result c.set_position.ensures
     c.position.ensures.place (plain_text r before _ _ c.args.token c.args.source p) in
-    subst (λ (a : At). IsSound a (Some c.args.token) c.tell_alone.new.trivia c.self.inside.decoded) (sym at)
+    subst
+    (λ (a : At).
+    IsSound a (Some c.tell_alone.new.trivia.attachment.previous) c.tell_alone.new.trivia c.self.inside.decoded)
+    (sym at)
     (sound_after Next (state_of r c.self.inside.found last c.self.inside.decoded) (moved r r.source (is_none last))
     before c.args.token new (ends_told p.gap.ends before) c.tell_alone.new.trivia c.self.inside.decoded
     (p.here r).placed.utf8 c.self.invariant.are_values
@@ -47,7 +50,7 @@ invariant_of-self-2 g c =
 pub returns-clause-ok : goal.returns-clause-ok
 returns-clause-ok g c =
     let r = c.self.inside.reader in
-    let last = c.self.inside.last in
+    let last = last_read c.self.inside.has_read c.self.inside.found.trivia.attachment.previous in
     let p = rw (← c.self.view_is) at c.requires in
     let cleared = without_ranges c.self.inside.found.trivia in
     let before = record c.self.inside.found { trivia = cleared } in
