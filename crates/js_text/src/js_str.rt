@@ -8,13 +8,17 @@ ghost use Rattle.std.specs.Cmp.Lexicographic.{nat_list_eq_equiv, pointwise};
 ghost use Rattle.std.specs.Str.{chars};
 ghost use Rattle.js_text.specs.JsStr.{units_of, AddsPrefix};
 
+use smallvec::SmallVec;
 use std::alloc::{AllocError, Global};
 use std::marker::Model;
+
+/// As many units are kept in the value itself, without an allocation.
+const FEW_UNITS: usize = 20;
 
 /// A text of JavaScript, seen as the list of its UTF-16 units. A surrogate may stand outside a pair.
 #[derive(Debug, Drop)]
 pub struct JSStr {
-    units: Vec<u16>,
+    units: SmallVec<u16, FEW_UNITS>,
 }
 
 impl Model for JSStr {
@@ -60,7 +64,7 @@ impl JSStr {
     pub fn copy(&self, alloc: Global) -> Result<JSStr, AllocError>
         ensures { IfOk result (λ s. s ≡ self.now) }
     {
-        let units = Vec::from_slice(alloc, self.units.as_slice())?;
+        let units = SmallVec::from_slice(alloc, self.units.as_slice())?;
         Ok(JSStr { units })
     }
 }
@@ -68,7 +72,7 @@ impl JSStr {
 /// A `JSStr` that is built up, seen as the list of its UTF-16 units. It keeps its allocator.
 #[derive(Drop)]
 pub struct JSStrBuilder {
-    units: Vec<u16>,
+    units: SmallVec<u16, FEW_UNITS>,
 }
 
 impl Model for JSStrBuilder {
@@ -85,7 +89,7 @@ impl JSStrBuilder {
         ensures { result ≡ [] }
     {
         JSStrBuilder {
-            units: Vec::new(alloc),
+            units: SmallVec::new(alloc),
         }
     }
 
@@ -93,11 +97,12 @@ impl JSStrBuilder {
     pub fn with_capacity_in(alloc: Global, units: usize) -> Result<JSStrBuilder, AllocError>
         ensures { IfOk result (λ s. s ≡ []) }
     {
-        let units = Vec::with_capacity(alloc, units)?;
+        let units = SmallVec::with_capacity(alloc, units)?;
         Ok(JSStrBuilder { units })
     }
 
     /// Adds the one or two units of a character.
+    #[inline(always)]
     pub fn push(&mut self, c: char) -> Result<(), AllocError>
         ensures ok { OnOk result (self.new ≡ self.old ++ encode_utf16 c) }
         ensures err { OnErr result (self.new ≡ self.old) }
@@ -110,6 +115,7 @@ impl JSStrBuilder {
     }
 
     /// Adds the units of a character that may have two.
+    #[inline(never)]
     fn push_pair(&mut self, c: char) -> Result<(), AllocError>
         ensures ok { OnOk result (self.new ≡ self.old ++ encode_utf16 c) }
         ensures err { OnErr result (self.new ≡ self.old) }
@@ -119,6 +125,7 @@ impl JSStrBuilder {
     }
 
     /// Adds the units of a text, character by character.
+    #[inline(never)]
     pub fn push_str(&mut self, s: &str) -> Result<(), AllocError>
         ensures ok { OnOk result (self.new ≡ self.old ++ units_of (chars s.now)) }
         ensures err { OnErr result (AddsPrefix (units_of (chars s.now)) self.old self.new) }
@@ -130,6 +137,7 @@ impl JSStrBuilder {
     }
 
     /// Adds a unit. A surrogate is added as it is.
+    #[inline(always)]
     pub fn push_unit(&mut self, unit: u16) -> Result<(), AllocError>
         ensures ok { OnOk result (self.new ≡ self.old ++ unit ∷ []) }
         ensures err { OnErr result (self.new ≡ self.old) }
