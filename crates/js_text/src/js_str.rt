@@ -1,6 +1,6 @@
 //! Texts as lists of UTF-16 units (ECMA-262 6.1.4).
 
-ghost use Rattle.std.specs.Prelude.{◌≡◌, [], ◌∷◌, ◌++◌, IfOk, IfSome, OnOk, OnErr, is_none, nat_eq, string_bytes};
+ghost use Rattle.std.specs.Prelude.{◌≡◌, [], ◌∷◌, ◌++◌, IfOk, IfSome, MatchBool, OnOk, OnErr, is_none, nat_eq, string_bytes};
 ghost use Rattle.std.specs.Char.Escape.{encode_utf16};
 ghost use Rattle.std.specs.Char.Utf16.{has_unpaired_surrogate};
 ghost use Rattle.std.specs.Cmp.{partial_equiv_from_equiv};
@@ -69,6 +69,26 @@ impl JSStr {
     }
 }
 
+/// Adds the units of a text of ASCII characters, where there is room for them. Else it adds none, and gives false.
+#[inline(always)]
+fn push_ascii(units: &mut SmallVec<u16, FEW_UNITS>, text: &[u8]) -> bool
+    ensures { MatchBool result (units.new.items ≡ units.old.items ++ units_of (chars text.now))
+        (units.new.items ≡ units.old.items) }
+{
+    let len = units.len();
+    if units.capacity() - len < text.len() {
+        return false;
+    }
+    'bytes: for b in text {
+        if *b >= 128 {
+            units.truncate(len);
+            return false;
+        }
+        units.push_reserved(*b as u16);
+    }
+    true
+}
+
 /// A `JSStr` that is built up, seen as the list of its UTF-16 units. It keeps its allocator.
 #[derive(Drop)]
 pub struct JSStrBuilder {
@@ -126,7 +146,7 @@ impl JSStrBuilder {
 
     /// Adds the units of a text, character by character.
     #[inline(never)]
-    pub fn push_str(&mut self, s: &str) -> Result<(), AllocError>
+    fn push_characters(&mut self, s: &str) -> Result<(), AllocError>
         ensures ok { OnOk result (self.new ≡ self.old ++ units_of (chars s.now)) }
         ensures err { OnErr result (AddsPrefix (units_of (chars s.now)) self.old self.new) }
     {
@@ -134,6 +154,17 @@ impl JSStrBuilder {
             self.push(c)?;
         }
         Ok(())
+    }
+
+    /// Adds the units of a text.
+    pub fn push_str(&mut self, s: &str) -> Result<(), AllocError>
+        ensures ok { OnOk result (self.new ≡ self.old ++ units_of (chars s.now)) }
+        ensures err { OnErr result (AddsPrefix (units_of (chars s.now)) self.old self.new) }
+    {
+        if push_ascii(&mut self.units, s.as_bytes()) {
+            return Ok(());
+        }
+        self.push_characters(s)
     }
 
     /// Adds a unit. A surrogate is added as it is.
