@@ -25,9 +25,6 @@ use js_source::{Source, SourcePosition};
 use js_text::{Diagnostic, DiagnosticList, JSStrBuilder, Span};
 use std::alloc::{AllocError, Global};
 
-/// The room that is taken for the units of a value behind its first escape.
-const MORE_UNITS: usize = 16;
-
 /// Passes characters that stand for themselves, and adds their units.
 fn copy_characters(
     source: &mut Source<'_>,
@@ -251,7 +248,7 @@ fn read_decoded(
     ensures placed { IsPlaced source.new }
 {
     let plain = source.str_from_pos_to_current(from);
-    let mut text = JSStrBuilder::with_capacity_in(alloc, plain.len() + MORE_UNITS)?;
+    let mut text = JSStrBuilder::with_capacity_in(alloc, plain.len() + plain.len() / 2)?;
     text.push_str(plain)?;
     let has_bad = read_items(source, literal, &mut text, errors, token)?;
     Ok(decoded(literal, has_bad, text))

@@ -1,6 +1,6 @@
 //! Texts as lists of UTF-16 units (ECMA-262 6.1.4).
 
-ghost use Rattle.std.specs.Prelude.{◌≡◌, [], ◌∷◌, ◌++◌, IfOk, IfSome, OnOk, OnErr, is_none, nat_eq, string_bytes};
+ghost use Rattle.std.specs.Prelude.{◌≡◌, [], ◌∷◌, ◌++◌, IfOk, IfSome, MatchBool, OnOk, OnErr, is_none, nat_eq, string_bytes};
 ghost use Rattle.std.specs.Char.Escape.{encode_utf16};
 ghost use Rattle.std.specs.Char.Utf16.{has_unpaired_surrogate};
 ghost use Rattle.std.specs.Cmp.{partial_equiv_from_equiv};
@@ -8,13 +8,17 @@ ghost use Rattle.std.specs.Cmp.Lexicographic.{nat_list_eq_equiv, pointwise};
 ghost use Rattle.std.specs.Str.{chars};
 ghost use Rattle.js_text.specs.JsStr.{units_of, AddsPrefix};
 
+use smallvec::SmallVec;
 use std::alloc::{AllocError, Global};
 use std::marker::Model;
+
+/// As many units are kept in the value itself, without an allocation.
+const FEW_UNITS: usize = 20;
 
 /// A text of JavaScript, seen as the list of its UTF-16 units. A surrogate may stand outside a pair.
 #[derive(Debug, Drop)]
 pub struct JSStr {
-    units: Vec<u16>,
+    units: SmallVec<u16, FEW_UNITS>,
 }
 
 impl Model for JSStr {
@@ -60,15 +64,35 @@ impl JSStr {
     pub fn copy(&self, alloc: Global) -> Result<JSStr, AllocError>
         ensures { IfOk result (λ s. s ≡ self.now) }
     {
-        let units = Vec::from_slice(alloc, self.units.as_slice())?;
+        let units = SmallVec::from_slice(alloc, self.units.as_slice())?;
         Ok(JSStr { units })
     }
+}
+
+/// Adds the units of a text of ASCII characters, where there is room for them. Else it adds none, and gives false.
+#[inline(always)]
+fn push_ascii(units: &mut SmallVec<u16, FEW_UNITS>, text: &[u8]) -> bool
+    ensures { MatchBool result (units.new.items ≡ units.old.items ++ units_of (chars text.now))
+        (units.new.items ≡ units.old.items) }
+{
+    let len = units.len();
+    if units.capacity() - len < text.len() {
+        return false;
+    }
+    'bytes: for b in text {
+        if *b >= 128 {
+            units.truncate(len);
+            return false;
+        }
+        units.push_reserved(*b as u16);
+    }
+    true
 }
 
 /// A `JSStr` that is built up, seen as the list of its UTF-16 units. It keeps its allocator.
 #[derive(Drop)]
 pub struct JSStrBuilder {
-    units: Vec<u16>,
+    units: SmallVec<u16, FEW_UNITS>,
 }
 
 impl Model for JSStrBuilder {
@@ -85,7 +109,7 @@ impl JSStrBuilder {
         ensures { result ≡ [] }
     {
         JSStrBuilder {
-            units: Vec::new(alloc),
+            units: SmallVec::new(alloc),
         }
     }
 
@@ -93,11 +117,12 @@ impl JSStrBuilder {
     pub fn with_capacity_in(alloc: Global, units: usize) -> Result<JSStrBuilder, AllocError>
         ensures { IfOk result (λ s. s ≡ []) }
     {
-        let units = Vec::with_capacity(alloc, units)?;
+        let units = SmallVec::with_capacity(alloc, units)?;
         Ok(JSStrBuilder { units })
     }
 
     /// Adds the one or two units of a character.
+    #[inline(always)]
     pub fn push(&mut self, c: char) -> Result<(), AllocError>
         ensures ok { OnOk result (self.new ≡ self.old ++ encode_utf16 c) }
         ensures err { OnErr result (self.new ≡ self.old) }
@@ -110,6 +135,7 @@ impl JSStrBuilder {
     }
 
     /// Adds the units of a character that may have two.
+    #[inline(never)]
     fn push_pair(&mut self, c: char) -> Result<(), AllocError>
         ensures ok { OnOk result (self.new ≡ self.old ++ encode_utf16 c) }
         ensures err { OnErr result (self.new ≡ self.old) }
@@ -119,7 +145,8 @@ impl JSStrBuilder {
     }
 
     /// Adds the units of a text, character by character.
-    pub fn push_str(&mut self, s: &str) -> Result<(), AllocError>
+    #[inline(never)]
+    fn push_characters(&mut self, s: &str) -> Result<(), AllocError>
         ensures ok { OnOk result (self.new ≡ self.old ++ units_of (chars s.now)) }
         ensures err { OnErr result (AddsPrefix (units_of (chars s.now)) self.old self.new) }
     {
@@ -129,7 +156,19 @@ impl JSStrBuilder {
         Ok(())
     }
 
+    /// Adds the units of a text.
+    pub fn push_str(&mut self, s: &str) -> Result<(), AllocError>
+        ensures ok { OnOk result (self.new ≡ self.old ++ units_of (chars s.now)) }
+        ensures err { OnErr result (AddsPrefix (units_of (chars s.now)) self.old self.new) }
+    {
+        if push_ascii(&mut self.units, s.as_bytes()) {
+            return Ok(());
+        }
+        self.push_characters(s)
+    }
+
     /// Adds a unit. A surrogate is added as it is.
+    #[inline(always)]
     pub fn push_unit(&mut self, unit: u16) -> Result<(), AllocError>
         ensures ok { OnOk result (self.new ≡ self.old ++ unit ∷ []) }
         ensures err { OnErr result (self.new ≡ self.old) }

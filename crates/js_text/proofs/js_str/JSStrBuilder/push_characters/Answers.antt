@@ -5,7 +5,7 @@ use Rattle.std.proofs.lemmas.Result.{err_from_is_err_and}
 use Rattle.std.specs.Str.{chars}
 use Rattle.js_text.specs.JsStr.{units_of, AddsPrefix}
 use Rattle.js_text.proofs.JsStrLemmas.{adds_first}
-use Rattle.js_text.proofs.js_str.JSStrBuilder.push_str.Goals as goal
+use Rattle.js_text.proofs.js_str.JSStrBuilder.push_characters.Goals as goal
 
 pub returns-in_err-push-clause-err : goal.returns-in_err-push-clause-err
 returns-in_err-push-clause-err c =

@@ -1,6 +1,6 @@
 use Rattle.std.proofs.Common.{◌≡◌, ◌++◌}
 use Rattle.js_text.specs.JsStr.{units_of}
-use Rattle.js_text.proofs.js_str.JSStrBuilder.push_str.Given as goal
+use Rattle.js_text.proofs.js_str.JSStrBuilder.push_characters.Given as goal
 
 -- The units of the characters so far were added.
 abbrev pub invariant-loop-c : goal.invariant-loop-c
