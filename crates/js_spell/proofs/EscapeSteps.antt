@@ -1,9 +1,10 @@
 -- The steps of reading escapes.
 use Rattle.std.proofs.Common.{◌≡◌, ℕ, ◌+◌, ◌*◌, ◌^◌, ◌<◌, ◌≤◌, false, List, [], ◌∷◌, ◌++◌, length, refl}
-use Rattle.std.proofs.Common.{sym, ◌∙◌}
+use Rattle.std.proofs.Common.{sym, ◌∙◌, true, slice_index}
 use Rattle.std.proofs.Common.{ap, subst, arith, append_assoc, length-append, Option, Some, None, inl, inr, ◌==◌}
 use Rattle.std.proofs.lemmas.Int.Digits.{digits_push, digits_value_push, digits_value-lt}
 use Rattle.std.proofs.Math.Nat.{pow-le-pow_right}
+use Rattle.std.proofs.lemmas.Bool.{eqb-true}
 use Rattle.std.specs.Char.{digit_value}
 use Rattle.std.specs.Str.Parse.{AllDigits, digits_value}
 use Rattle.js_text.specs.Characters.{begins}
@@ -15,10 +16,10 @@ use Rattle.js_grammar.proofs.NumberItems.{true_or_false}
 use Rattle.js_grammar.proofs.UnicodeEscapes.{digit_below, below_digit, all_hex_digits, some_hex_digits}
 use Rattle.js_grammar.proofs.UnicodeEscapes.{no_more_digits, one_more_digit, last_digit, braced_whole, braced_open}
 use Rattle.js_grammar.proofs.UnicodeEscapes.{braced_without_digit, braced_too_great, without_brace, behind_brace}
-use Rattle.js_grammar.proofs.NumberClasses.{contraposed, digit_is_ascii}
+use Rattle.js_grammar.proofs.NumberClasses.{contraposed, digit_is_ascii, all_below, below}
 use Rattle.js_source.specs.Source.{At, rest, Reads, BeginsWith, HasFirstByte}
 use Rattle.js_source.proofs.Places.{begins_with}
-use Rattle.js_spell.specs.Escape.{TakesDigit, TakesDigits, TakesCodePoint, ReadsUnicodeEscape}
+use Rattle.js_spell.specs.Escape.{TellsValues, TakesDigit, TakesDigits, TakesCodePoint, ReadsUnicodeEscape}
 
 -- a digit, or none
 pub no_digit_here : (radix c : ℕ) (at : At) → BeginsWith c (rest at) → (digit_value c < radix → ⊥)
@@ -256,3 +257,11 @@ pub plain_escape_read : (old mid new : At) (code_point : Option ℕ)
 plain_escape_read old mid new code_point none same read =
     rw (without_brace (rest old) none)
     (subst (λ (at : At). ReadsUnicodeEscape (hex_digits 4 (rest at)) at new code_point) same read)
+
+-- a table of the values of digits, by a test of each entry
+pub tells_values : (table : List ℕ) → all_below (λ b. slice_index table b == digit_value b) 256 ≡ true
+    → TellsValues table
+tells_values table e = record {
+  tells = λ b h. eqb-true (slice_index table b) (digit_value b)
+      (below (λ i. slice_index table i == digit_value i) 256 b e h);
+}

@@ -1,5 +1,5 @@
 -- The steps of reading escapes.
-use Rattle.std.specs.Prelude.{◌≡◌, ℕ, ◌<◌, ◌≤◌, Bool, true, false, not, List, [], ◌++◌, length, Option, Some, None}
+use Rattle.std.specs.Prelude.{◌≡◌, ℕ, ◌<◌, ◌≤◌, Bool, true, false, not, List, [], ◌++◌, length, Option, Some, None, slice_index}
 use Rattle.std.specs.Char.{digit_value}
 use Rattle.std.specs.Char.Escape.{encode_utf16}
 use Rattle.std.specs.Str.Parse.{AllDigits, digits_value}
@@ -12,6 +12,10 @@ use Rattle.js_grammar.specs.UnicodeEscape.{UnicodeEscape, digits_of_code_point, 
 use Rattle.js_spell.specs.declared.escape.Escaped.{Escaped}
 use Rattle.js_spell.specs.declared.escape.Escaped.TheVariants.{Nothing, CodePoint, Bad}
 use Rattle.js_source.specs.Source.{At, rest, Reads}
+
+-- A table of the values of digits: the entry of each byte is its value as one.
+pub record TellsValues (table : List ℕ) : Type 0 where
+  pub tells : (b : ℕ) → b < 256 → slice_index table b ≡ digit_value b
 
 -- a digit of the radix was taken, of this value, or none is next
 abbrev pub TakesDigit : ℕ → At → At → Option ℕ → Type 0

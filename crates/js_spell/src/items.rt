@@ -256,6 +256,7 @@ fn read_decoded(
 
 /// Reads the items behind the mark that begins a string or a part of a template, up to what ends them, and gives their
 /// value.
+#[inline(always)]
 pub(crate) fn read_value(
     alloc: Global,
     source: &mut Source<'_>,

@@ -5,7 +5,7 @@ ghost use Rattle.std.specs.Char.{digit_value};
 ghost use Rattle.js_kind.specs.Digits.{is_digit_of};
 ghost use Rattle.js_grammar.specs.UnicodeEscape.{hex_digits, braced_digits, unicode_escape, last_code_point};
 ghost use Rattle.js_source.specs.Source.{rest, IsPlaced};
-ghost use Rattle.js_spell.specs.Escape.{TakesDigit, ReadsUnicodeEscape};
+ghost use Rattle.js_spell.specs.Escape.{TellsValues, TakesDigit, ReadsUnicodeEscape};
 
 use js_source::Source;
 
@@ -26,6 +26,29 @@ pub(crate) fn take_digit(source: &mut Source<'_>, radix: u32) -> Option<u32>
     Some(value)
 }
 
+/// The value of each byte as a digit of any radix up to 36, and 36 for what is no digit.
+static DIGIT_VALUES: [u8; 256] = [
+    36, 36, 36, 36, 36, 36, 36, 36, 36, 36, 36, 36, 36, 36, 36, 36, 36, 36, 36, 36, 36, 36, 36, 36,
+    36, 36, 36, 36, 36, 36, 36, 36, 36, 36, 36, 36, 36, 36, 36, 36, 36, 36, 36, 36, 36, 36, 36, 36,
+    0, 1, 2, 3, 4, 5, 6, 7, 8, 9, 36, 36, 36, 36, 36, 36, 36, 10, 11, 12, 13, 14, 15, 16, 17, 18,
+    19, 20, 21, 22, 23, 24, 25, 26, 27, 28, 29, 30, 31, 32, 33, 34, 35, 36, 36, 36, 36, 36, 36, 10,
+    11, 12, 13, 14, 15, 16, 17, 18, 19, 20, 21, 22, 23, 24, 25, 26, 27, 28, 29, 30, 31, 32, 33, 34,
+    35, 36, 36, 36, 36, 36, 36, 36, 36, 36, 36, 36, 36, 36, 36, 36, 36, 36, 36, 36, 36, 36, 36, 36,
+    36, 36, 36, 36, 36, 36, 36, 36, 36, 36, 36, 36, 36, 36, 36, 36, 36, 36, 36, 36, 36, 36, 36, 36,
+    36, 36, 36, 36, 36, 36, 36, 36, 36, 36, 36, 36, 36, 36, 36, 36, 36, 36, 36, 36, 36, 36, 36, 36,
+    36, 36, 36, 36, 36, 36, 36, 36, 36, 36, 36, 36, 36, 36, 36, 36, 36, 36, 36, 36, 36, 36, 36, 36,
+    36, 36, 36, 36, 36, 36, 36, 36, 36, 36, 36, 36, 36, 36, 36, 36, 36, 36, 36, 36, 36, 36, 36, 36,
+    36, 36, 36, 36, 36, 36, 36, 36, 36, 36, 36, 36, 36, 36,
+];
+
+/// The table of the values of digits.
+#[inline(always)]
+fn digit_values() -> &'static [u8; 256]
+    ensures { TellsValues result.now }
+{
+    &DIGIT_VALUES
+}
+
 /// The value of the byte as a hexadecimal digit, if it is one.
 #[inline(always)]
 #[tactic(auto, unfolding(js_kind::specs::Digits::is_digit_of))]
@@ -34,12 +57,8 @@ fn hex_value(b: u8) -> Option<u32>
     ensures some { IfSome result (λ value. (is_digit_of 16 b ≡ true) × (digit_value b ≡ value)) }
     ensures value { IfSome result (λ value. value < 16) }
 {
-    match b {
-        b'0'..=b'9' => Some((b - b'0') as u32),
-        b'a'..=b'f' => Some((b - b'a') as u32 + 10),
-        b'A'..=b'F' => Some((b - b'A') as u32 + 10),
-        _ => None,
-    }
+    let value = u32::from(digit_values()[b as usize]);
+    if value < 16 { Some(value) } else { None }
 }
 
 /// Takes a hexadecimal digit, if one is next, and gives its value.
