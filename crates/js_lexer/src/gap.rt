@@ -119,6 +119,7 @@ impl Reader<'_> {
                 self.skip_line_feed(found);
                 Ok(true)
             }
+            Some(b'/') => self.skip_comment(found),
             Some(_) => self.skip_any_piece(found),
         }
     }

@@ -212,7 +212,8 @@ impl<'a, C: LexerConfig + Drop> Model for Lexer<'a, C> {
 }
 
 impl<'a, C: LexerConfig + Drop> Lexer<'a, C> {
-    /// A lexer at the start of the text. Its first reading counts as standing on a new line.
+    /// A lexer at the start of the text. Its first reading counts as standing on a new line. Where tokens are collected,
+    /// it takes room for all that there may be: one more than the text has bytes.
     pub fn new(
         alloc: Global,
         source_text: &'a str,
