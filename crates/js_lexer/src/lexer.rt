@@ -212,8 +212,8 @@ impl<'a, C: LexerConfig + Drop> Model for Lexer<'a, C> {
 }
 
 impl<'a, C: LexerConfig + Drop> Lexer<'a, C> {
-    /// A lexer at the start of the text. Its first reading counts as standing on a new line. Where tokens are collected,
-    /// it takes room for all that there may be: one more than the text has bytes.
+    /// A lexer at the start of the text. Its first reading counts as standing on a new line. Where tokens are
+    /// collected, it takes room for all that there may be: one more than the text has bytes.
     pub fn new(
         alloc: Global,
         source_text: &'a str,
@@ -766,9 +766,9 @@ impl<'a, C: LexerConfig + Drop> Lexer<'a, C> {
         has_spelling_if_some(source, &checkpoint.last)
     }
 
-    /// Goes back to the checkpoint: the lists are cut back to the lengths that they had, the last collected token is put
-    /// back, and so are diagnostics that were copied. Where the lists begin as they did at the checkpoint, the lexer is
-    /// then as it was there; copied diagnostics may be others by now. Comments that were there stay marked.
+    /// Goes back to the checkpoint: the lists are cut back to the lengths that they had, the last collected token is
+    /// put back, and so are diagnostics that were copied. Where the lists begin as they did at the checkpoint, the
+    /// lexer is then as it was there; copied diagnostics may be others by now. Comments that were there stay marked.
     pub fn rewind(&mut self, checkpoint: LexerCheckpoint)
         requires { CanRewind self.old checkpoint }
         ensures state { self.new ≡ rewound self.old checkpoint }
