@@ -17,8 +17,3 @@ pub use diagnostic::{CursorDiagnostic, FatalError};
 pub use element::Element;
 pub use fault::CursorFault;
 pub use predicate::Predicate;
-
-#[cfg(test)]
-mod json_tests;
-#[cfg(test)]
-mod tests;

@@ -7,14 +7,10 @@ mod comment;
 mod decoded;
 mod found;
 mod gap;
-#[cfg(test)]
-mod goal_tests;
 mod jsx;
 pub mod laws;
 mod lexeme;
 mod lexer;
-#[cfg(test)]
-mod list_tests;
 mod mark;
 mod pieces;
 mod plain;
@@ -34,8 +30,3 @@ pub use checkpoint::LexerCheckpoint;
 pub use lexer::{Lexer, NewFault};
 pub use regex::RegexToken;
 pub use token_text::{is_template, is_valued, text_span};
-
-#[cfg(test)]
-mod gap_tests;
-#[cfg(test)]
-mod tests;

@@ -14,8 +14,6 @@ mod row;
 mod row_list;
 mod session;
 mod steps;
-#[cfg(test)]
-mod tests;
 mod whole_source;
 
 pub use command::{Command, CommandList};

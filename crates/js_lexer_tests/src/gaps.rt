@@ -1,8 +1,8 @@
 //! Rows from outside: comments, irregular white space, and what is reported for the case of a module.
 
-use crate::lexer::Lexer;
-use crate::tests::{next, peek};
+use crate::readings::{next, peek};
 use js_kind::{Kind, NoTokensLexerConfig};
+use js_lexer::Lexer;
 use js_text::{Comment, Diagnostic, SourceType, Span};
 use std::alloc::{AllocError, Global};
 use std::fmt::Write;

@@ -1,6 +1,6 @@
 use Rattle.js_kind.specs.declared.kind.Kind.TheVariants.{Str}
 use Rattle.js_cursor.proofs.GoesOn.{expect_goes_on}
-use Rattle.js_cursor.proofs.json_tests.IsMemberPredicateBool.test.Goals as goal
+use Rattle.js_cursor_tests.proofs.json.IsMemberPredicateBool.test.Goals as goal
 
 pub returns-then-is_ok-clause-goes_on : goal.returns-then-is_ok-clause-goes_on
 returns-then-is_ok-clause-goes_on g c =

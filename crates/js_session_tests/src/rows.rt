@@ -3,10 +3,10 @@
 ghost use Rattle.std.specs.Prelude.{◌≡◌, ◌<◌};
 ghost use Rattle.js_session.specs.Report.{IsSliceOnPlaces};
 
-use crate::{Command, LexFault, Report, Row, RowList, Session, Steps, lex_all, lex_session};
 use js_kind::{
     Kind, LexerConfig, NoTokensLexerConfig, RuntimeLexerConfig, Token, TokensLexerConfig,
 };
+use js_session::{Command, LexFault, Report, Row, RowList, Session, Steps, lex_all, lex_session};
 use js_text::{Comment, JsText, SourceType};
 use std::alloc::{AllocError, Global};
 use std::marker::Brand;

@@ -2,10 +2,9 @@
 
 ghost use Rattle.std.specs.Prelude.{◌≡◌, true};
 
-use crate::checkpoint::LexerCheckpoint;
-use crate::lexer::Lexer;
-use crate::tests::{goes_back, lexer_of, next, push_diagnostic, push_token};
+use crate::readings::{goes_back, lexer_of, next, push_diagnostic, push_token};
 use js_kind::{Kind, LexerConfig, NoTokensLexerConfig, Token, TokenList, TokensLexerConfig};
+use js_lexer::{Lexer, LexerCheckpoint};
 use js_text::{CommentRange, SourceType, Span};
 use std::alloc::{AllocError, Global};
 use std::process::Abort;

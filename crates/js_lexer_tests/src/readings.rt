@@ -2,11 +2,10 @@
 
 ghost use Rattle.std.specs.Prelude.{◌≡◌, None, IfOk};
 
-use crate::checkpoint::LexerCheckpoint;
-use crate::lexer::Lexer;
 use js_kind::{
     Kind, LexerConfig, NoTokensLexerConfig, RuntimeLexerConfig, Token, TokensLexerConfig,
 };
+use js_lexer::{Lexer, LexerCheckpoint};
 use js_text::{Diagnostic, JsText, SourceType, TemplateValue};
 use std::alloc::{AllocError, Global};
 use std::fmt::Write;

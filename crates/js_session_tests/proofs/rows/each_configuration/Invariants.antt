@@ -1,4 +1,4 @@
-use Rattle.js_session.proofs.tests.each_configuration.Given as goal
+use Rattle.js_session_tests.proofs.rows.each_configuration.Given as goal
 
 -- The ledgers of the counters, one for each configuration.
 abbrev pub ghosts-run : goal.ghosts-run

@@ -2,8 +2,8 @@
 //! numbers, words) that a value holds. How deep values may nest is in its type: `Value<Value<Plain>>` holds plain
 //! values in lists in lists.
 
-use crate::tests::{TestCursor, cursor_over};
-use crate::{Cursor, Element, Predicate};
+use crate::calls::{TestCursor, cursor_over};
+use js_cursor::{Cursor, Element, Predicate};
 use js_kind::{Kind, LexerConfig, RuntimeLexerConfig};
 use js_text::Span;
 use std::alloc::{AllocError, Global};

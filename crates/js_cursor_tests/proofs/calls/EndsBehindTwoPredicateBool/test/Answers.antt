@@ -1,5 +1,5 @@
 use Rattle.js_cursor.proofs.GoesOn.{advance_goes_on, goes_on-trans}
-use Rattle.js_cursor.proofs.tests.EndsBehindTwoPredicateBool.test.Goals as goal
+use Rattle.js_cursor_tests.proofs.calls.EndsBehindTwoPredicateBool.test.Goals as goal
 
 pub returns-then-is_ok-2-clause-goes_on : goal.returns-then-is_ok-2-clause-goes_on
 returns-then-is_ok-2-clause-goes_on g c =

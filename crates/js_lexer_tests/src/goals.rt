@@ -2,10 +2,9 @@
 
 ghost use Rattle.std.specs.Prelude.{◌≡◌, None};
 
-use crate::lexer::Lexer;
-use crate::regex::RegexToken;
-use crate::tests::{lexer_of, push_token};
+use crate::readings::{lexer_of, push_token};
 use js_kind::{Kind, LexerConfig, NoTokensLexerConfig, Token, TokensLexerConfig};
+use js_lexer::{Lexer, RegexToken};
 use js_text::SourceType;
 use std::alloc::{AllocError, Global};
 use std::test::Fail;

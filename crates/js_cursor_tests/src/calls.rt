@@ -1,7 +1,7 @@
 //! What no contract says: rows from outside, and that each call can succeed.
 
-use crate::{Cursor, CursorDiagnostic, CursorFault, Element, ParserCheckpoint, Predicate};
 use bitflags::Flags;
+use js_cursor::{Cursor, CursorDiagnostic, CursorFault, Element, ParserCheckpoint, Predicate};
 use js_kind::{Kind, LexerConfig, RuntimeLexerConfig};
 use js_lexer::Lexer;
 use js_text::{SourceType, Span};

@@ -1,0 +1,8 @@
+//! Tests of js_cursor, by its public calls, and a small parser over it. They stand in a crate of their own, since a
+//! crate's functions are proved again with its tests.
+#![tactic(auto)]
+
+#[cfg(test)]
+mod calls;
+#[cfg(test)]
+mod json;
