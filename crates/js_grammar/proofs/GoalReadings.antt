@@ -10,16 +10,16 @@ use Rattle.js_text.specs.Ascii.{backslash, slash, hyphen_minus, less_than_sign}
 use Rattle.js_text.specs.Characters.{begins, before_first, from_first, is_identifier_part}
 use Rattle.js_text.specs.Characters.{is_line_terminator}
 use Rattle.js_text.proofs.TextLemmas.{before_from, from_first-cons, from_first-found}
-use Rattle.js_kind.specs.Kinds.{is_identifier_name, is_string_kind, is_template_kind, kind_text}
+use Rattle.js_kind.specs.Kinds.{is_string_kind, is_template_kind, kind_text}
 use Rattle.js_kind.specs.declared.kind.Kind.{Kind}
 use Rattle.js_kind.specs.declared.kind.Kind.TheVariants.{Eof, Ident, JSXText, LAngle, LCurly, RegExp, Str}
 use Rattle.js_grammar.specs.Angle.{angle_read, punctuator_read, right_angles, first_left_angle, first_right_angle}
 use Rattle.js_grammar.specs.Gap.{is_prefix}
 use Rattle.js_grammar.specs.GoalRead.{GoalRead}
-use Rattle.js_grammar.specs.Jsx.{begins_child, ends_jsx_name, ends_jsx_text, jsx_child_read, jsx_name_read, jsx_read}
-use Rattle.js_grammar.specs.Jsx.{jsx_string_before, jsx_string_read, jsx_text_before, jsx_text_read}
+use Rattle.js_grammar.specs.Jsx.{begins_child, ends_jsx_name, ends_jsx_text, jsx_child_read, jsx_name_read}
+use Rattle.js_grammar.specs.Jsx.{jsx_string_before, jsx_string_read, jsx_text_before}
 use Rattle.js_grammar.specs.ReLexed.{is_re_lexed}
-use Rattle.js_grammar.specs.RegularExpression.{behind_all, behind_body, behind_body_character, behind_bracket}
+use Rattle.js_grammar.specs.RegularExpression.{behind_all, behind_body, behind_body_character}
 use Rattle.js_grammar.specs.RegularExpression.{behind_class, behind_class_character, behind_non_terminator, behind_up_to}
 use Rattle.js_grammar.specs.RegularExpression.{ends_flags, expression_of_body, left_square_bracket, regular_expression}
 use Rattle.js_grammar.specs.RegularExpression.{regular_expression_read, right_square_bracket, unterminated_expression}

@@ -3,7 +3,7 @@ use Rattle.std.proofs.Common.{◌≡◌, ℕ, Bool, true, false, List, [], ◌�
 use Rattle.std.specs.Prelude.{codes}
 use Rattle.std.specs.Char.{encode_utf8}
 use Rattle.unicode_ident.proofs.Computing.{unicode_ident}
-use Rattle.js_text.specs.Ascii.{line_feed, carriage_return, backslash}
+use Rattle.js_text.specs.Ascii.{line_feed, carriage_return}
 use Rattle.js_text.specs.Characters.{is_identifier_part, is_line_terminator}
 use Rattle.js_text.specs.RegExpFlags.{flags_of_bits}
 use Rattle.js_text.specs.declared.diagnostic.Diagnostic.{Diagnostic}

@@ -1,7 +1,7 @@
 -- The spans of what is read: in order, and not empty but for the end of the source.
 use Rattle.std.proofs.Common.{◌≡◌, ◌≢◌, ℕ, ◌+◌, ◌<◌, ◌≤◌, Bool, true, false, List, [], ◌∷◌, ◌++◌, ◌==◌}
 use Rattle.std.proofs.Common.{length, drop, refl, sym, ◌∙◌, ap, subst, arith, zero, suc, append-nil, append_assoc, ◌⊎◌}
-use Rattle.std.proofs.Common.{inl, inr, Option, None, Some}
+use Rattle.std.proofs.Common.{inl, inr, Option, None}
 use Rattle.std.specs.Prelude.{codes, if◌then◌else◌, IfSome}
 use Rattle.std.proofs.lemmas.Str.{length-le-encodes, IsCharBoundary-start}
 use Rattle.std.specs.Str.{IsCharBoundary, IsUtf8}

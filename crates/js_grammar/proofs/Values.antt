@@ -1,7 +1,7 @@
 -- The values of what is read: as the kind and the span of its token say, or as its name stands for.
 use Rattle.std.proofs.Common.{◌≡◌, ◌≢◌, ℕ, ◌+◌, Bool, true, false, not, ◌==◌, List, [], ◌∷◌, ◌++◌, drop, refl}
 use Rattle.std.proofs.Common.{sym, ◌∙◌}
-use Rattle.std.proofs.Common.{ap, subst, Option, None, Some, inl, inr}
+use Rattle.std.proofs.Common.{ap, subst, Option, None, inl, inr}
 use Rattle.std.specs.Prelude.{codes, if◌then◌else◌, IfSome, unwrap_or}
 use Rattle.std.specs.List.{list_all}
 use Rattle.std.specs.Str.{IsCharBoundary, IsUtf8, encode_utf8_all}

@@ -1,5 +1,5 @@
 -- Parts of JSX: names with `-`, the text of children, and the strings of attributes.
-use Rattle.std.specs.Prelude.{ℕ, Bool, false, List, [], ◌∷◌, length, drop, ◌==◌, ◌||◌, not, Option, Some, None}
+use Rattle.std.specs.Prelude.{ℕ, Bool, List, [], ◌∷◌, ◌==◌, ◌||◌, not, Option, Some, None}
 use Rattle.std.specs.Prelude.{if◌then◌else◌}
 use Rattle.js_text.specs.Ascii.{less_than_sign, greater_than_sign, hyphen_minus}
 use Rattle.js_text.specs.Characters.{begins, from_first, is_identifier_part}
