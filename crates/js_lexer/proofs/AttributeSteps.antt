@@ -1,19 +1,17 @@
 -- The value of an attribute of JSX, behind a whole gap.
-use Rattle.std.proofs.Common.{◌≡◌, ℕ, ◌≤◌, false, List, [], ◌++◌, refl, sym, ◌∙◌, ap, subst, append_assoc}
-use Rattle.std.proofs.Common.{Option, None}
+use Rattle.std.proofs.Common.{◌≡◌, ℕ, ◌≤◌, false, List, ◌++◌, refl, sym, ◌∙◌, ap, subst, append_assoc}
+use Rattle.std.proofs.Common.{Option}
 use Rattle.std.specs.Str.{IsCharBoundary}
 use Rattle.js_text.specs.Characters.{begins, from_place}
 use Rattle.js_kind.specs.TokenParts.{TokenParts}
 use Rattle.js_kind.specs.declared.kind.Kind.{Kind}
-use Rattle.js_grammar.specs.Gap.{Piece, Pieces, WholeGap, whole_gap_piece}
-use Rattle.js_grammar.specs.Goals.{ReadsAttributeValue, ReadsBehindGap, ReadsFrom}
-use Rattle.js_grammar.specs.Goals.{ReadsHere, line_has_ended_behind, outcome_behind, read_outcome, read_token}
+use Rattle.js_grammar.specs.Goals.{ReadsFrom}
+use Rattle.js_grammar.specs.Goals.{line_has_ended_behind, read_outcome, read_token}
 use Rattle.js_grammar.specs.Goals.ReadsAttributeValue.{string as attribute_string, plain as attribute_plain}
 use Rattle.js_grammar.specs.Jsx.{jsx_string_read}
 use Rattle.js_grammar.specs.Outcome.{Outcome, gap_diagnostics, gap_findings, joined}
 use Rattle.js_grammar.specs.StringItems.{is_quote}
 use Rattle.js_grammar.specs.declared.goal.Goal.TheVariants.{JsxAttributeValue}
-use Rattle.js_grammar.proofs.GapLemmas.{all_pieces-nil, whole_gap_unique}
 use Rattle.js_grammar.proofs.GoalReadings.{attribute_is_read}
 use Rattle.js_grammar.proofs.GoalWays.{from_takes}
 use Rattle.js_source.specs.Source.{rest, IsPlaced}

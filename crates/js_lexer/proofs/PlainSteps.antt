@@ -36,7 +36,7 @@ use Rattle.js_lexer.specs.Gaps.{BeginsNoPiece}
 use Rattle.js_lexer.specs.Plain.{EndsGap, EndsGapInAscii, MeetsByte, PassesPieces}
 use Rattle.js_lexer.specs.Plain.{moved, after_ends, ends_told, PassesPlainGap, plain_lexeme, SpellsFor, SpellsPlainly}
 use Rattle.js_lexer.specs.Plain.{ReadsPlainToken}
-use Rattle.js_lexer.specs.Reader.{Leads, ReadsTokenHere, ReadsWithGap, MovesOn, lexeme_token}
+use Rattle.js_lexer.specs.Reader.{ReadsTokenHere, ReadsWithGap, MovesOn, lexeme_token}
 use Rattle.js_lexer.specs.Spellings.{ReadsPunctuator}
 use Rattle.js_lexer.specs.Tables.{TellsBlanks, TellsMarks, TellsStarts, is_name_start}
 use Rattle.js_lexer.specs.declared.found.GapFindings.{GapFindings}
@@ -429,24 +429,15 @@ pub string_begins : (b : ℕ) (cs : List ℕ) → b < 128 → HasFirstByte b cs 
 string_begins b [] small first is = absurd first
 string_begins b (c ∷ cs) small first is = ap is_quote (first.0 small) ∙ is
 
--- the place behind what was read so
-pub spelled_up_to : (r : Reader) (ended : Bool) (old new : At) (kind : Kind) (end : ℕ) → new.text ≡ old.text
-    → end ≡ new.place → SpellsFor r ended old new kind → SpellsFor r ended old (place_of old.text end) kind
-spelled_up_to r ended old new kind end text at spells =
-    subst (λ p. SpellsFor r ended old (place_of old.text p) kind) (sym at)
-    (subst (λ t. SpellsFor r ended old (place_of t new.place) kind) text spells)
-
 -- what was read from a source of its own, for the reader that goes behind it
-pub spelled_from : (r : Reader) (here new : At) (kind : Kind) (end : ℕ) → here ≡ r.source
-    → new ≡ place_of r.source.text end
+pub spelled_from : (r : Reader) (here new : At) (kind : Kind) → here ≡ r.source
     → (whole_gap_piece r.source_type r.line_has_ended (rest here) ≡ None
-    → SpellsFor r r.line_has_ended here (place_of here.text end) kind)
+    → SpellsFor r r.line_has_ended here new kind)
     → whole_gap_piece r.source_type r.line_has_ended (rest r.source) ≡ None
     → SpellsFor r r.line_has_ended r.source new kind
-spelled_from r here new kind end same is spells none =
-    subst (λ a. SpellsFor r r.line_has_ended r.source a kind) (sym is)
-    (subst (λ (a : At). SpellsFor r r.line_has_ended a (place_of a.text end) kind) same
-    (spells (subst (λ (a : At). whole_gap_piece r.source_type r.line_has_ended (rest a) ≡ None) (sym same) none)))
+spelled_from r here new kind same spells none =
+    subst (λ (a : At). SpellsFor r r.line_has_ended a new kind) same
+    (spells (subst (λ (a : At). whole_gap_piece r.source_type r.line_has_ended (rest a) ≡ None) (sym same) none))
 
 pub spelled_onward : (r : Reader) (new : At) (kind : Kind) → IsPlaced r.source → IsPlaced new
     → SpellsFor r r.line_has_ended r.source new kind → r.source.place ≤ new.place

@@ -1,19 +1,10 @@
 -- Laws of readings.
-use Rattle.std.proofs.Common.{◌≡◌, ◌≢◌, ℕ, ◌<◌, Bool, true, false, List, [], ◌++◌, refl, sym, ◌∙◌, ap, subst}
-use Rattle.std.specs.List.{flat_map}
+use Rattle.std.proofs.Common.{◌≡◌, ◌≢◌, ◌<◌, sym, ◌∙◌, ap, subst}
 use Rattle.std.specs.Str.{IsUtf8}
-use Rattle.js_text.specs.Characters.{from_place}
-use Rattle.js_text.specs.JsStr.{units_of}
-use Rattle.js_text.specs.declared.source_type.SourceType.{SourceType}
-use Rattle.js_text.specs.declared.value.RowValue.TheVariants.{Units}
-use Rattle.js_kind.specs.Kinds.{is_identifier_name, is_template_kind}
 use Rattle.js_kind.specs.TokenParts.{TokenParts}
-use Rattle.js_kind.specs.declared.kind.Kind.{Kind}
-use Rattle.js_kind.specs.declared.kind.Kind.TheVariants.{Eof, Str}
-use Rattle.js_grammar.specs.Goals.{GoalReads, line_has_ended_behind}
+use Rattle.js_kind.specs.declared.kind.Kind.TheVariants.{Eof}
+use Rattle.js_grammar.specs.Goals.{GoalReads}
 use Rattle.js_grammar.specs.Outcome.{Outcome}
-use Rattle.js_grammar.specs.Reads.{PlainReads, IsSpelled, is_plain}
-use Rattle.js_grammar.specs.Reads.PlainReads.{hashbang, spelled}
 use Rattle.js_grammar.specs.declared.goal.Goal.{Goal}
 use Rattle.js_grammar.specs.declared.goal.Goal.TheVariants.{Next}
 use Rattle.js_grammar.proofs.Unique.{goal_reads_unique}

@@ -1,13 +1,11 @@
 -- Names and strings that are read without a fault.
 use Rattle.std.proofs.Common.{◌≡◌, ℕ, Bool, true, false, List, [], ◌∷◌, ◌++◌, refl, sym, ◌∙◌, ap, subst}
 use Rattle.std.specs.Prelude.{Option, unwrap_or}
-use Rattle.std.specs.List.{flat_map}
 use Rattle.std.specs.Str.{IsUtf8, encode_utf8_all}
 use Rattle.js_text.specs.Characters.{from_place, begins}
 use Rattle.js_text.specs.JsStr.{units_of}
 use Rattle.js_text.specs.declared.diagnostic.Diagnostic.{Diagnostic}
 use Rattle.js_text.specs.declared.source_type.SourceType.{SourceType}
-use Rattle.js_text.specs.declared.value.RowValue.{RowValue}
 use Rattle.js_text.specs.declared.value.RowValue.TheVariants.{Units}
 use Rattle.js_kind.specs.Kinds.{is_identifier_name, is_template_kind, is_string_kind}
 use Rattle.js_kind.specs.TokenParts.{TokenParts}
@@ -15,22 +13,21 @@ use Rattle.js_kind.specs.declared.kind.Kind.{Kind}
 use Rattle.js_kind.specs.declared.kind.Kind.TheVariants.{PrivateIdentifier, NoSubstitutionTemplate, Str, TemplateHead}
 use Rattle.js_kind.specs.declared.kind.Kind.TheVariants.{Eof, HashbangComment}
 use Rattle.js_kind.proofs.NameKinds.{name_kind-is_identifier_name}
-use Rattle.js_grammar.specs.Gap.{Piece}
-use Rattle.js_grammar.specs.Goals.{GoalReads, ReadsPlainly, ReadsBehindGap, ReadsHere, spelled_reading}
+use Rattle.js_grammar.specs.Goals.{GoalReads, ReadsPlainly, ReadsHere}
 use Rattle.js_grammar.specs.Goals.{line_has_ended_behind}
 use Rattle.js_grammar.specs.Goals.ReadsHere.{spelled as spelled_here, recovers}
 use Rattle.js_grammar.specs.Goals.ReadsPlainly.{hashbang as hashbang_read, behind_gap}
 use Rattle.js_grammar.specs.Name.{has_escape, decoded}
 use Rattle.js_grammar.specs.Outcome.{Outcome, gap_diagnostics}
-use Rattle.js_grammar.specs.Quoted.{quoted_read, units_in}
-use Rattle.js_grammar.specs.Reads.{PlainReads, IsSpelled, is_plain}
+use Rattle.js_grammar.specs.Quoted.{units_in}
+use Rattle.js_grammar.specs.Reads.{PlainReads, is_plain}
 use Rattle.js_grammar.specs.Reads.PlainReads.{hashbang, spelled}
 use Rattle.js_grammar.specs.Recovery.{Reading}
-use Rattle.js_grammar.specs.Spelling.{Spelling, LongestSpelling, is_escaped, is_private_name, is_valued, text_slice}
+use Rattle.js_grammar.specs.Spelling.{Spelling, is_escaped, is_private_name, is_valued, text_slice}
 use Rattle.js_grammar.specs.Spelling.Spelling.{name, private_name, punctuator, number, string, template}
 use Rattle.js_grammar.specs.Spelling.Spelling.{end_of_source}
 use Rattle.js_grammar.specs.StringItems.{StringItem, StringItems, StringRead, IsString, contains_escape, is_quote}
-use Rattle.js_grammar.specs.StringItems.{string_items, string_text, string_units}
+use Rattle.js_grammar.specs.StringItems.{string_text, string_units}
 use Rattle.js_grammar.specs.Template.{IsTemplatePart}
 use Rattle.js_grammar.specs.Template.IsTemplatePart.{no_substitution, head}
 use Rattle.js_grammar.specs.Values.{IsValueOf, plain_value, decoded_value, decoded_units}

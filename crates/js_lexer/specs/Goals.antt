@@ -8,16 +8,13 @@ use Rattle.js_kind.specs.TokenParts.{TokenParts}
 use Rattle.js_kind.specs.declared.kind.Kind.{Kind}
 use Rattle.js_kind.specs.declared.kind.Kind.TheVariants.{LtEq, ShiftLeft, ShiftLeftEq, ShiftRight, ShiftRight3, Slash}
 use Rattle.js_kind.specs.declared.kind.Kind.TheVariants.{SlashEq}
-use Rattle.js_grammar.specs.declared.goal.Goal.{Goal}
 use Rattle.js_grammar.specs.declared.goal.Goal.TheVariants.{JsxIdentifier, RegularExpression}
-use Rattle.js_grammar.specs.Outcome.{Outcome}
 use Rattle.js_source.specs.Source.{rest, IsPlaced}
 use Rattle.js_grammar.specs.GoalRead.{GoalRead}
 use Rattle.js_grammar.specs.Goals.{read_token}
 use Rattle.js_grammar.specs.Jsx.{jsx_string_read}
 use Rattle.js_grammar.specs.StringItems.{is_quote}
-use Rattle.js_lexer.specs.Decoded.{Keeps, HasValue}
-use Rattle.js_lexer.specs.Lexer.{LexerState, IsRestored, ReadsAgain, ReadsOutcome, after_outcome}
+use Rattle.js_lexer.specs.Lexer.{LexerState, ReadsAgain}
 use Rattle.js_lexer.specs.Reader.{ReadsTokenHere, ReadsWithoutGap}
 use Rattle.js_lexer.specs.declared.reader.Reader.{Reader}
 use Rattle.js_lexer.specs.declared.regex.RegexToken.{RegexToken}

@@ -112,6 +112,7 @@ impl Reader<'_> {
     }
 
     /// Goes past the line end behind a line comment, which is not listed.
+    #[inline(always)]
     pub fn skip_end_of_line(&mut self, found: &mut GapFindings)
         requires placed { IsPlaced self.old.source }
         requires end { IsAtLineEnd (rest self.old.source) }
@@ -212,6 +213,7 @@ impl Reader<'_> {
     }
 
     /// Reads a comment, where one begins with the `/` that is next.
+    #[inline(always)]
     pub fn skip_comment(&mut self, found: &mut GapFindings) -> Result<bool, AllocError>
         requires placed { IsPlaced self.old.source }
         requires next { BeginsWith slash (rest self.old.source) }

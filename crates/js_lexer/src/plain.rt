@@ -19,7 +19,7 @@ use crate::punctuator::read_punctuator;
 use crate::reading::begins_ascii_name;
 use crate::tables::ByteTables;
 use js_kind::Kind;
-use js_source::{Source, SourcePosition};
+use js_source::Source;
 use js_spell::{
     read_plain_name, read_plain_number, read_plain_part, read_plain_private_name, read_plain_string,
 };
@@ -213,32 +213,6 @@ fn read_value(source: &mut Source<'_>, b: u8) -> Option<Kind>
     read_plain_private(source)
 }
 
-/// The kind of what was read so, if anything was, and the place behind it.
-#[derive(Clone, Copy)]
-pub(crate) struct PlainEnd {
-    pub kind: Option<Kind>,
-    pub end: SourcePosition,
-}
-
-/// Reads the string, the template or the private name without escapes, or the number without separators, that begins
-/// with the ASCII character `b`, which is next.
-#[inline(never)]
-fn read_plain_value(source: Source<'_>, b: u8) -> PlainEnd
-    requires placed { IsPlaced source }
-    requires ascii { b < 128 }
-    requires next { HasFirstByte b (rest source) }
-    ensures spells { (line_has_ended : Bool) → IfSome result.kind
-        (SpellsPlainly line_has_ended source.entry (place_of source.entry.text result.end)) }
-    ensures boundary { IsCharBoundary source.entry.text result.end }
-{
-    let mut source = source;
-    let kind = read_value(&mut source, b);
-    PlainEnd {
-        kind,
-        end: source.position(),
-    }
-}
-
 /// Reads the punctuator, the string, the template or the private name without escapes, or the number without
 /// separators, that begins with the ASCII character `b`, which is next.
 #[inline(always)]
@@ -255,10 +229,10 @@ pub(crate) fn read_plain_mark(source: &mut Source<'_>, b: u8) -> Option<Kind>
     if let Some(kind) = read_punctuator(source) {
         return Some(kind);
     }
-    let value = read_plain_value(behind.here(), b);
-    behind.set_position(value.end);
+    // A value is read from a copy, whose place can stay in a register.
+    let kind = read_value(&mut behind, b);
     *source = behind;
-    value.kind
+    kind
 }
 
 /// Reads the name that begins with the ASCII character `b`, which is next, where no escape stands in it.
@@ -276,7 +250,11 @@ pub(crate) fn read_name_plainly(source: &mut Source<'_>, b: u8) -> Option<Kind>
 
 /// Reads what `read_name_plainly` or `read_plain_mark` does.
 #[inline(always)]
-fn read_plain_spelling(source: &mut Source<'_>, starts: &[bool; 256], b: u8) -> Option<Kind>
+pub(crate) fn read_plain_spelling(
+    source: &mut Source<'_>,
+    starts: &[bool; 256],
+    b: u8,
+) -> Option<Kind>
     requires starts { TellsStarts starts.now }
     requires placed { IsPlaced source.old }
     requires ascii { b < 128 }
@@ -290,24 +268,4 @@ fn read_plain_spelling(source: &mut Source<'_>, starts: &[bool; 256], b: u8) -> 
         return read_name_plainly(source, b);
     }
     read_plain_mark(source, b)
-}
-
-/// Reads the same, and leaves the source where it was. It is called where speed matters less, and not inlined again.
-#[inline(never)]
-pub(crate) fn read_plain_here(source: Source<'_>, starts: &[bool; 256], b: u8) -> PlainEnd
-    requires starts { TellsStarts starts.now }
-    requires placed { IsPlaced source }
-    requires ascii { b < 128 }
-    requires next { HasFirstByte b (rest source) }
-    ensures spells { (r : Reader) (line_has_ended : Bool)
-        → whole_gap_piece r.source_type line_has_ended (rest source.entry) ≡ None
-        → IfSome result.kind (SpellsFor r line_has_ended source.entry (place_of source.entry.text result.end)) }
-    ensures boundary { IsCharBoundary source.entry.text result.end }
-{
-    let mut source = source;
-    let kind = read_plain_spelling(&mut source, starts, b);
-    PlainEnd {
-        kind,
-        end: source.position(),
-    }
 }

@@ -24,7 +24,7 @@ use crate::decoded::DecodedValues;
 use crate::found::GapFindings;
 use crate::lexeme::Lexeme;
 use crate::mark::advance_if_mark;
-use crate::plain::read_plain_here;
+use crate::plain::read_plain_spelling;
 use crate::punctuator::read_punctuator;
 use crate::reader::Reader;
 use crate::recover::recover;
@@ -410,10 +410,10 @@ impl Reader<'_> {
         if b >= 128 {
             return None;
         }
-        let read = read_plain_here(self.source.here(), &self.tables.starts, b);
-        let kind = read.kind?;
-        self.source.set_position(read.end);
-        let span = Span::new(start, self.source.offset());
+        let mut source = self.source.here();
+        let kind = read_plain_spelling(&mut source, &self.tables.starts, b)?;
+        let span = Span::new(start, source.offset());
+        self.source = source;
         Some(Token::new(kind, span, self.line_has_ended))
     }
 

@@ -1,4 +1,4 @@
-use Rattle.std.proofs.Common.{false, sym, subst}
+use Rattle.std.proofs.Common.{false, subst}
 use Rattle.std.proofs.lemmas.Result.{IfOk-weaker, on_err_weaker}
 use Rattle.js_lexer.specs.Reader.{MovesOn, ReadsTokenHere}
 use Rattle.js_lexer.specs.declared.reader.Reader.{Reader}

@@ -1,7 +1,5 @@
-use Rattle.std.proofs.Common.{◌≡◌, None, sym, ◌∙◌, ap, subst}
-use Rattle.js_grammar.specs.Gap.{whole_gap_piece}
-use Rattle.js_source.specs.Source.{At, rest}
-use Rattle.js_lexer.specs.Plain.{SpellsFor, plain_lexeme}
+use Rattle.std.proofs.Common.{◌∙◌, ap}
+use Rattle.js_lexer.specs.Plain.{plain_lexeme}
 use Rattle.js_lexer.specs.Reader.{lexeme_token}
 use Rattle.js_lexer.proofs.PlainSteps.{spelled_from, spelled_onward}
 use Rattle.js_lexer.proofs.reader.Reader.read_plainly.Goals as goal
@@ -10,21 +8,19 @@ pub new-span-requires : goal.new-span-requires
 new-span-requires c =
     let r = c.args.self.now in
     let spells =
-    spelled_from r c.here.result c.set_position.new.self c.in_ok-kind.kind c.read_plain_here-read.result.end
-    c.here.ensures.same c.set_position.ensures
-    (λ none. rw c.in_ok-kind.was at (c.read_plain_here-read.ensures.spells r r.line_has_ended none)) c.requires.gap in
+    spelled_from r c.here-source.result c.read_plain_spelling.new.source c.in_ok-kind.kind c.here-source.ensures.same
+    (λ none. rw c.in_ok-kind.was at (c.read_plain_spelling.ensures.spells r r.line_has_ended none)) c.requires.gap in
     rw (c.offset-start.ensures.place, c.offset.ensures.place)
-    (spelled_onward r c.set_position.new.self c.in_ok-kind.kind c.requires.placed c.offset.ensures.placed spells)
+    (spelled_onward r c.read_plain_spelling.new.source c.in_ok-kind.kind c.requires.placed c.offset.ensures.placed spells)
 
 pub new-requires : goal.new-requires
 new-requires c =
     let r = c.args.self.now in
     let spells =
-    spelled_from r c.here.result c.set_position.new.self c.in_ok-kind.kind c.read_plain_here-read.result.end
-    c.here.ensures.same c.set_position.ensures
-    (λ none. rw c.in_ok-kind.was at (c.read_plain_here-read.ensures.spells r r.line_has_ended none)) c.requires.gap in
+    spelled_from r c.here-source.result c.read_plain_spelling.new.source c.in_ok-kind.kind c.here-source.ensures.same
+    (λ none. rw c.in_ok-kind.was at (c.read_plain_spelling.ensures.spells r r.line_has_ended none)) c.requires.gap in
     rw (c.new-span.ensures, c.offset-start.ensures.place, c.offset.ensures.place)
-    (spelled_onward r c.set_position.new.self c.in_ok-kind.kind c.requires.placed c.offset.ensures.placed spells)
+    (spelled_onward r c.read_plain_spelling.new.source c.in_ok-kind.kind c.requires.placed c.offset.ensures.placed spells)
 
 pub returns-clause-some : goal.returns-clause-some
 returns-clause-some c =
@@ -33,9 +29,9 @@ returns-clause-some c =
     record {
       lexeme = lexeme;
       reads =
-          spelled_from r c.here.result c.set_position.new.self c.in_ok-kind.kind c.read_plain_here-read.result.end
-          c.here.ensures.same c.set_position.ensures
-          (λ none. rw c.in_ok-kind.was at (c.read_plain_here-read.ensures.spells r r.line_has_ended none))
+          spelled_from r c.here-source.result c.read_plain_spelling.new.source c.in_ok-kind.kind
+          c.here-source.ensures.same
+          (λ none. rw c.in_ok-kind.was at (c.read_plain_spelling.ensures.spells r r.line_has_ended none))
           c.requires.gap;
       token_is =
           c.new.ensures ∙ ap (λ s. lexeme_token s.start s.end lexeme) c.new-span.ensures

@@ -1,6 +1,6 @@
 use Rattle.std.proofs.lemmas.Result.{err_from_is_err_and}
 use Rattle.js_lexer.proofs.PlainSteps.{token_moves_on}
-use Rattle.js_lexer.proofs.lexer.read_here_and_collect.Goals as goal
+use Rattle.js_lexer.proofs.lexer.next.read_here_and_collect.Goals as goal
 
 pub returns-in_err-collect-clause-err : goal.returns-in_err-collect-clause-err
 returns-in_err-collect-clause-err c =

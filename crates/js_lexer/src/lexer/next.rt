@@ -1,0 +1,219 @@
+//! The reading of the next token: plain readings first, and behind them those of any form.
+
+ghost use Rattle.std.specs.Prelude.{◌≡◌, ◌++◌, true, None, IfOk, OnOk, OnErr, is_none};
+ghost use Rattle.js_grammar.specs.Gap.{whole_gap_piece};
+ghost use Rattle.js_source.specs.Source.{IsPlaced, rest};
+ghost use Rattle.js_trivia.specs.Trivia.{handle_token, without_ranges};
+ghost use Rattle.js_lexer.specs.Decoded.{Keeps, KeepsValues, HasValue};
+ghost use Rattle.js_lexer.specs.Plain.{MeetsByte, PassesPlainGap, ReadsPlainToken, SpellsPlainly};
+ghost use Rattle.js_lexer.specs.Tables.{is_name_start};
+ghost use Rattle.js_lexer.specs.Lexer.{here, ReadsNext, ReadsToken, IsRestored, collected};
+ghost use Rattle.js_lexer.specs.Reader.{ReadsTokenHere, MovesOn};
+
+use super::{Lexer, collect};
+use crate::decoded::DecodedValues;
+use crate::plain::{GapEnd, pass_plain_gap, read_name_plainly, read_plain_mark};
+use crate::reader::Reader;
+use js_grammar::Goal;
+use js_kind::{Kind, LexerConfig, Token, TokenList};
+use js_source::Source;
+use js_text::Span;
+use js_trivia::TriviaBuilder;
+use std::alloc::AllocError;
+
+/// Reads the token that stands here, where no gap does, and collects it. Where it cannot allocate, the reader may have
+/// moved on and reported.
+fn read_here_and_collect(
+    reader: &mut Reader<'_>,
+    decoded: &mut DecodedValues,
+    tokens: &mut TokenList,
+    collects: bool,
+) -> Result<Token, AllocError>
+    requires gap { whole_gap_piece reader.old.source_type reader.old.line_has_ended (rest reader.old.source) ≡ None }
+    requires placed { IsPlaced reader.old.source }
+    ensures ok { IfOk result (λ token. ReadsTokenHere reader.old token reader.new) }
+    ensures tokens { IfOk result (λ token. tokens.new ≡ tokens.old ++ collected collects token) }
+    ensures placed { OnOk result (IsPlaced reader.new.source) }
+    ensures value { IfOk result (λ token. HasValue reader.old.source.text decoded.new token) }
+    ensures kept { KeepsValues reader.old.source.text decoded.old decoded.new }
+    ensures err { OnErr result (MovesOn reader.old reader.new) }
+    ensures same { OnErr result (tokens.new ≡ tokens.old) }
+{
+    let token = reader.read_here(decoded)?;
+    collect(tokens, collects, &token)?;
+    Ok(token)
+}
+
+/// Tells the builder of a token before which it was told of nothing but line ends.
+#[inline(always)]
+fn tell_alone(trivia: &mut TriviaBuilder, token: &Token)
+    ensures { trivia.new ≡ handle_token token.now (without_ranges trivia.old) }
+{
+    trivia.handle_token_alone(*token);
+}
+
+impl<'a, C: LexerConfig + Drop> Lexer<'a, C> {
+    /// Reads the next token.
+    #[inline(always)]
+    pub fn next_token(&mut self) -> Result<Token, AllocError>
+        ensures ok { IfOk result (λ token. ReadsToken Goal.Next self.old token self.new) }
+        ensures err { OnErr result (IsRestored self.old self.new) }
+        ensures kept { Keeps self.old.decoded self.new.decoded }
+    {
+        let mut source = self.reader.source.here();
+        let mut line_has_ended = !self.has_read;
+        match pass_plain_gap(&mut source, &self.reader.tables, &mut line_has_ended) {
+            GapEnd::Name(b) => self.read_name_here(source, line_has_ended, b),
+            GapEnd::Mark(b) => self.read_mark_here(source, line_has_ended, b),
+            GapEnd::Other => self.read_behind_any_gap(),
+        }
+    }
+
+    /// Reads the name that begins with `b` behind a plain gap.
+    #[inline(always)]
+    fn read_name_here(
+        &mut self,
+        source: Source<'a>,
+        line_has_ended: bool,
+        b: u8,
+    ) -> Result<Token, AllocError>
+        requires meets { MeetsByte b (here self.old) (is_none self.old.last) source line_has_ended }
+        requires begun { is_name_start b ≡ true }
+        ensures ok { IfOk result (λ token. ReadsToken Goal.Next self.old token self.new) }
+        ensures err { OnErr result (IsRestored self.old self.new) }
+        ensures kept { Keeps self.old.decoded self.new.decoded }
+    {
+        let mut behind = source.here();
+        match read_name_plainly(&mut behind, b) {
+            Some(kind) => self.take_spelled(source, behind, kind, line_has_ended),
+            None => self.read_any_here(source, line_has_ended),
+        }
+    }
+
+    /// Reads the token that begins with `b` behind a plain gap, and is no name.
+    #[inline(always)]
+    fn read_mark_here(
+        &mut self,
+        source: Source<'a>,
+        line_has_ended: bool,
+        b: u8,
+    ) -> Result<Token, AllocError>
+        requires { MeetsByte b (here self.old) (is_none self.old.last) source line_has_ended }
+        ensures ok { IfOk result (λ token. ReadsToken Goal.Next self.old token self.new) }
+        ensures err { OnErr result (IsRestored self.old self.new) }
+        ensures kept { Keeps self.old.decoded self.new.decoded }
+    {
+        let mut behind = source.here();
+        match read_plain_mark(&mut behind, b) {
+            Some(kind) => self.take_spelled(source, behind, kind, line_has_ended),
+            None => self.read_any_here(source, line_has_ended),
+        }
+    }
+
+    /// Takes the token of the kind that was read from behind a plain gap up to the place of `behind`.
+    #[inline(always)]
+    fn take_spelled(
+        &mut self,
+        source: Source<'a>,
+        behind: Source<'a>,
+        kind: Kind,
+        line_has_ended: bool,
+    ) -> Result<Token, AllocError>
+        requires gap { PassesPlainGap (here self.old) (is_none self.old.last) source line_has_ended }
+        requires spells { SpellsPlainly line_has_ended source behind kind }
+        ensures ok { IfOk result (λ token. ReadsToken Goal.Next self.old token self.new) }
+        ensures err { OnErr result (IsRestored self.old self.new) }
+        ensures kept { Keeps self.old.decoded self.new.decoded }
+    {
+        let start = self.reader.source.offset_of(source.position());
+        let span = Span::new(start, behind.offset());
+        let token = Token::new(kind, span, line_has_ended);
+        self.take_plain(behind, token)?;
+        Ok(token)
+    }
+
+    /// Takes a token that was read behind a plain gap.
+    #[inline(always)]
+    fn take_plain(&mut self, source: Source<'a>, token: Token) -> Result<(), AllocError>
+        requires { ReadsPlainToken (here self.old) (is_none self.old.last) token source }
+        ensures ok { OnOk result (ReadsToken Goal.Next self.old token self.new) }
+        ensures err { OnErr result (IsRestored self.old self.new) }
+        ensures kept { Keeps self.old.decoded self.new.decoded }
+    {
+        collect(&mut self.tokens, self.config.tokens(), &token)?;
+        self.reader.source.set_position(source.position());
+        tell_alone(&mut self.found.trivia, &token);
+        self.has_read = true;
+        Ok(())
+    }
+
+    /// Reads the next token, of any form, where a plain gap stands before it.
+    #[inline(always)]
+    fn read_any_here(
+        &mut self,
+        source: Source<'a>,
+        line_has_ended: bool,
+    ) -> Result<Token, AllocError>
+        requires { PassesPlainGap (here self.old) (is_none self.old.last) source line_has_ended }
+        ensures ok { IfOk result (λ token. ReadsToken Goal.Next self.old token self.new) }
+        ensures err { OnErr result (IsRestored self.old self.new) }
+        ensures kept { Keeps self.old.decoded self.new.decoded }
+    {
+        self.read_here(source, line_has_ended)?;
+        Ok(self.found.trivia.previous_token())
+    }
+
+    /// Reads the next token behind a gap of any form.
+    #[inline(always)]
+    fn read_behind_any_gap(&mut self) -> Result<Token, AllocError>
+        ensures ok { IfOk result (λ token. ReadsToken Goal.Next self.old token self.new) }
+        ensures err { OnErr result (IsRestored self.old self.new) }
+        ensures kept { Keeps self.old.decoded self.new.decoded }
+    {
+        self.read_with_any_gap()?;
+        Ok(self.found.trivia.previous_token())
+    }
+
+    /// Reads the next token behind a gap of any form, which the builder of trivia has then as the last one.
+    #[inline(never)]
+    fn read_with_any_gap(&mut self) -> Result<(), AllocError>
+        ensures ok { OnOk result (ReadsNext self.old self.new) }
+        ensures err { OnErr result (IsRestored self.old self.new) }
+        ensures kept { Keeps self.old.decoded self.new.decoded }
+    {
+        self.read(Goal::Next)?;
+        Ok(())
+    }
+
+    /// Reads the next token, of any form, where a plain gap stands before it. The builder of trivia has it then as the
+    /// last one.
+    #[inline(never)]
+    fn read_here(&mut self, source: Source<'a>, line_has_ended: bool) -> Result<(), AllocError>
+        requires { PassesPlainGap (here self.old) (is_none self.old.last) source line_has_ended }
+        ensures ok { OnOk result (ReadsNext self.old self.new) }
+        ensures err { OnErr result (IsRestored self.old self.new) }
+        ensures kept { Keeps self.old.decoded self.new.decoded }
+    {
+        let place = self.reader.source.position();
+        let reported = self.reader.errors.len();
+        self.reader.source = source;
+        self.reader.line_has_ended = line_has_ended;
+        let read = read_here_and_collect(
+            &mut self.reader,
+            &mut self.decoded,
+            &mut self.tokens,
+            self.config.tokens(),
+        );
+        match read {
+            Ok(token) => {
+                tell_alone(&mut self.found.trivia, &token);
+                self.has_read = true;
+                Ok(())
+            }
+            Err(error) => {
+                self.reader.go_back(place, reported);
+                Err(error)
+            }
+        }
+    }
+}
