@@ -108,7 +108,8 @@ static FOUND: [(SourceType, &str, &str); 32] = [
     (
         SourceType::Module,
         "/* a leading */ a /* a trailing */ + /* b leading */ b /* b trailing */",
-        "0..15 SingleLineBlock Leading 16 1 0 None;18..34 SingleLineBlock Trailing 17 0 0 None;37..52 SingleLineBlock Leading 53 0 0 None;55..71 SingleLineBlock Trailing 54 0 0 None;",
+        "0..15 SingleLineBlock Leading 16 1 0 None;18..34 SingleLineBlock Trailing 17 0 0 None;\
+         37..52 SingleLineBlock Leading 53 0 0 None;55..71 SingleLineBlock Trailing 54 0 0 None;",
     ),
     (
         SourceType::Module,
@@ -217,13 +218,23 @@ static FOUND: [(SourceType, &str, &str); 32] = [
     ),
     (
         SourceType::Module,
-        "\n        /* Leading 1 */\n        // Leading 2\n        /* Leading 3 */ token /* Trailing 1 */ // Trailing 2\n        // Leading of EOF token\n        ",
-        "9..24 SingleLineBlock Leading 70 1 1 None;33..45 Line Leading 70 1 1 None;54..69 SingleLineBlock Leading 70 1 0 None;76..92 SingleLineBlock Trailing 75 0 0 None;93..106 Line Trailing 75 0 1 None;115..138 Line Leading 147 1 1 None;",
+        "\n        /* Leading 1 */\n        // Leading 2\
+         \n        /* Leading 3 */ token /* Trailing 1 */ // Trailing 2\n        // Leading of EOF token\n        ",
+        "9..24 SingleLineBlock Leading 70 1 1 None;33..45 Line Leading 70 1 1 None;\
+         54..69 SingleLineBlock Leading 70 1 0 None;76..92 SingleLineBlock Trailing 75 0 0 None;\
+         93..106 Line Trailing 75 0 1 None;115..138 Line Leading 147 1 1 None;",
     ),
     (
         SourceType::Module,
-        "// Cart totals for the shop page.\nimport { rates } from \"./rates.js\";\n\n/** One line of a cart. */\nexport class Line {\n  #price = 0;\n  constructor(price, count = 1) {\n    this.#price = price;\n    this.count = count;\n  }\n\n  get total() {\n    return this.#price * this.count; // in cents\n  }\n}\n\n/* @__PURE__ */ export const EMPTY = [];\n\nexport function sum(lines, code) {\n  let cents = 0;\n  for (const line of lines) cents += line.total;\n  const rate = rates?.[code] ?? 1_000;\n  if (cents >= 0x7fff_ffff || cents < 0) {\n    throw new RangeError('cart too large');\n  }\n  return { cents, text: `cents` };\n}\n",
-        "0..33 Line Leading 34 1 1 None;71..97 SingleLineBlock Leading 98 1 1 Jsdoc;273..284 Line Trailing 272 0 1 None;292..307 SingleLineBlock Leading 308 1 0 PureNotApplied;",
+        "// Cart totals for the shop page.\nimport { rates } from \"./rates.js\";\n\n/** One line of a cart. */\
+         \nexport class Line {\n  #price = 0;\n  constructor(price, count = 1) {\n    this.#price = price;\
+         \n    this.count = count;\n  }\n\n  get total() {\n    return this.#price * this.count; // in cents\n  }\n}\
+         \n\n/* @__PURE__ */ export const EMPTY = [];\n\nexport function sum(lines, code) {\n  let cents = 0;\
+         \n  for (const line of lines) cents += line.total;\n  const rate = rates?.[code] ?? 1_000;\
+         \n  if (cents >= 0x7fff_ffff || cents < 0) {\n    throw new RangeError('cart too large');\n  }\
+         \n  return { cents, text: `cents` };\n}\n",
+        "0..33 Line Leading 34 1 1 None;71..97 SingleLineBlock Leading 98 1 1 Jsdoc;\
+         273..284 Line Trailing 272 0 1 None;292..307 SingleLineBlock Leading 308 1 0 PureNotApplied;",
     ),
 ];
 
