@@ -7,8 +7,6 @@ mod chooser;
 mod fault;
 pub mod laws;
 mod notable;
-#[cfg(test)]
-mod tests;
 
 pub use auto::{Auto, auto_session};
 pub use chooser::GoalChooser;

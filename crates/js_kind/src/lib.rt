@@ -9,8 +9,6 @@ mod kind_rows;
 mod kind_text;
 mod packed;
 mod predicates;
-#[cfg(test)]
-mod tests;
 mod token;
 mod words;
 

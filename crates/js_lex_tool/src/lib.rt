@@ -11,8 +11,6 @@ mod read_all;
 mod report;
 pub mod status;
 mod std_streams;
-#[cfg(test)]
-mod tests;
 mod tool;
 mod units;
 mod words;

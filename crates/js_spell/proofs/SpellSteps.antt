@@ -1,11 +1,10 @@
 -- The steps of reading a whole string, or a part of a template.
 use Rattle.std.proofs.Common.{◌≡◌, ℕ, ◌+◌, ◌≤◌, Bool, true, false, ◌&&◌, ◌==◌, List, [], ◌∷◌, ◌++◌}
 use Rattle.std.proofs.Common.{length, take, drop, refl, sym, ◌∙◌, ap, arith, Option, Some, None, inl, inr}
-use Rattle.std.proofs.Common.{append_assoc, ltb, subst, ◌<◌}
+use Rattle.std.proofs.Common.{append_assoc, subst, ◌<◌}
 use Rattle.std.specs.Prelude.{IfNone, IfSome, codes, slice_index}
 use Rattle.std.specs.Char.{encode_utf8}
-use Rattle.std.proofs.lemmas.Bool.{eqb-true, eq-eqb, ltb-true, ltb-false}
-use Rattle.std.proofs.lemmas.Bool.Decides.{nat_tests}
+use Rattle.std.proofs.lemmas.Bool.{eqb-true, eq-eqb}
 use Rattle.js_text.specs.Ascii.{quotation_mark, apostrophe, grave_accent, dollar_sign}
 use Rattle.js_text.specs.Characters.{begins}
 use Rattle.js_text.specs.declared.diagnostic.Diagnostic.{Diagnostic}
@@ -26,7 +25,7 @@ use Rattle.js_grammar.proofs.Tests.{and_true}
 use Rattle.js_grammar.proofs.StringSteps.{string_terminated, string_unterminated, part_with_tail}
 use Rattle.js_grammar.proofs.StringSteps.{part_with_substitution, part_unterminated, template_value_bad}
 use Rattle.js_grammar.proofs.StringSteps.{template_value_good}
-use Rattle.js_source.specs.Source.{At, rest, Reads, ReadsTwo, IsPlaced, StepsPast, HasFirstByte}
+use Rattle.js_source.specs.Source.{At, rest, Reads, ReadsTwo, IsPlaced, StepsPast}
 use Rattle.js_spell.specs.Numeric.{BreaksOff}
 use Rattle.js_spell.specs.Strings.{in_template, item_of, quote_of, ReadsValue, value_of, spelt_value, Unterminated}
 use Rattle.js_spell.specs.Strings.{EndsString, EndsPart, Spells, SpellsString, is_elsewhere, TakesQuote}
@@ -345,25 +344,6 @@ substitution_left (c ∷ []) e = absurd (let none = and_none (c == 36) in let is
     and_none true = refl
     and_none false = refl
 substitution_left (c ∷ d ∷ cs) e = omega arith
-
--- the byte that is next tells whether a quote is
-pub quote_by_byte : (b : ℕ) (text : List ℕ) → HasFirstByte b text → is_quote b ≡ begins is_quote text
-quote_by_byte b [] first = absurd first
-quote_by_byte b (c ∷ cs) first =
-    elim (true_or_false (ltb b 128)) [
-      | inl low ↦ ap is_quote (sym (first.0 (ltb-true b 128 low)))
-      | inr wide ↦
-          elim (true_or_false (ltb c 128)) [
-            | inl low ↦ ap is_quote (sym (first.1 (ltb-true c 128 low)))
-            | inr far ↦ no_quote b (ltb-false b 128 wide) ∙ sym (no_quote c (ltb-false c 128 far))
-          ]
-    ]
-  where
-    no_quote : (d : ℕ) → 128 ≤ d → is_quote d ≡ false
-    no_quote d h = grind (arith, nat_tests)
-
-pub no_quote_at_end : (text : List ℕ) → text ≡ [] → false ≡ begins is_quote text
-no_quote_at_end text e = sym (ap (begins is_quote) e)
 
 -- A string without an escape that its quote ends.
 quote_is_no_escape : (literal : Literal) (cs : List ℕ) → escape_here literal (quote_of literal ∷ cs) ≡ false

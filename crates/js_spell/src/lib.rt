@@ -4,15 +4,9 @@
 mod angle;
 mod digits;
 mod escape;
-#[cfg(test)]
-mod goal_tests;
-#[cfg(test)]
-mod integer_tests;
 mod items;
 mod jsx;
 mod name;
-#[cfg(test)]
-mod name_tests;
 mod number;
 mod numeric;
 mod parts;
@@ -22,14 +16,14 @@ mod regular_expression;
 mod spelt;
 mod string;
 mod template;
-#[cfg(test)]
-mod tests;
 mod unicode_escape;
 
 pub use angle::read_right_angle;
 pub use escape::read_escape;
 pub use jsx::{read_jsx_child, read_jsx_identifier, read_jsx_string};
-pub use name::{read_name, read_plain_name, read_plain_private_name, read_private_name};
+pub use name::{
+    begins_name, read_name, read_plain_name, read_plain_private_name, read_private_name,
+};
 pub use number::{parse_big_int, parse_int};
 pub use numeric::read_number;
 pub use plain_number::read_plain_number;

@@ -482,7 +482,7 @@ pub fn read_plain_name(source: &mut Source<'_>, b: u8) -> Option<Kind>
 }
 
 /// Whether a name is next, good or at fault.
-pub(crate) fn begins_name(source: &Source<'_>) -> bool
+pub fn begins_name(source: &Source<'_>) -> bool
     ensures { result ≡ begins_name (rest source.now) }
 {
     match source.peek_char() {

@@ -12,8 +12,6 @@ mod reg_exp_flags;
 mod source_text;
 mod source_type;
 mod span;
-#[cfg(test)]
-mod tests;
 mod value;
 
 pub use characters::{

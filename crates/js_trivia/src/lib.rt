@@ -8,8 +8,6 @@ pub mod laws;
 mod lengths;
 mod marks;
 mod order;
-#[cfg(test)]
-mod tests;
 mod trivia_builder;
 
 pub use classes::classify;

@@ -1,4 +1,6 @@
-use super::*;
+//! Sources and places in them, and the search for bytes.
+
+use js_source::{SEARCH_BATCH_SIZE, SafeByteMatchTable, Source};
 
 const TEXT: &str = "aé\"";
 

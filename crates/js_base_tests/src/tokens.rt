@@ -1,11 +1,9 @@
 //! Tokens, their lists and the configurations.
 
-use crate::config::{
-    LexerConfig, NoTokensLexerConfig, NoTokensParserConfig, ParserConfig, RuntimeLexerConfig,
-    RuntimeParserConfig, TokensLexerConfig, TokensParserConfig,
+use js_kind::{
+    Kind, LexerConfig, NoTokensLexerConfig, NoTokensParserConfig, ParserConfig, RuntimeLexerConfig,
+    RuntimeParserConfig, Token, TokenList, TokensLexerConfig, TokensParserConfig,
 };
-use crate::kind::Kind;
-use crate::token::{Token, TokenList};
 use js_text::Span;
 use std::mem::size_of;
 use std::test::Fail;

@@ -1,7 +1,7 @@
 //! The values and the digits of integers.
 
-use crate::{parse_big_int, parse_int};
 use js_kind::Kind;
+use js_spell::{parse_big_int, parse_int};
 use std::test::Fail;
 
 #[test]

@@ -1,10 +1,12 @@
 ghost use Rattle.std.specs.Prelude.{◌<◌, ◌^◌, length};
 
-use super::*;
-use crate::tests::quote_is_next;
+use crate::literals::quote_is_next;
 use bitflags::Flags;
 use js_kind::Kind;
 use js_source::Source;
+use js_spell::{
+    read_jsx_child, read_jsx_identifier, read_jsx_string, read_regular_expression, read_right_angle,
+};
 use js_text::{Diagnostic, DiagnosticList, RegexInfo};
 use std::alloc::AllocError;
 use std::test::Fail;

@@ -3,9 +3,9 @@ ghost use Rattle.js_text.specs.Characters.{begins};
 ghost use Rattle.js_grammar.specs.StringItems.{is_quote};
 ghost use Rattle.js_source.specs.Source.{rest};
 
-use super::*;
 use js_kind::{Kind, Token};
 use js_source::Source;
+use js_spell::{Spelt, SpeltValue, read_number, read_string, read_template_part};
 use js_text::{DiagnosticList, JSStr};
 use std::alloc::AllocError;
 use std::test::Fail;
@@ -77,7 +77,7 @@ struct Literal {
 }
 
 /// Whether a quote is next.
-pub(crate) fn quote_is_next(source: &Source<'_>) -> bool
+pub fn quote_is_next(source: &Source<'_>) -> bool
     ensures { result ≡ begins is_quote (rest source.now) }
 {
     match source.peek_byte() {

@@ -1,7 +1,6 @@
 //! The kinds of the original, and which texts are words.
 
-use crate::keyword::{match_keyword, match_keyword_between};
-use crate::kind::Kind;
+use js_kind::{Kind, match_keyword, match_keyword_between};
 use std::test::Fail;
 
 /// The name and the text of each kind, in the order of their numbers.

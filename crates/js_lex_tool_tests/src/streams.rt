@@ -1,9 +1,8 @@
 //! Runs over readers and writers of the system's kind, which fail in mid-stream.
 
-use crate::status::{DONE, READ_FAILED, WRITE_FAILED};
-use crate::std_streams::{StdIn, StdOut};
-use crate::tests::run::strings_of;
-use crate::tool::lex_tool_run;
+use crate::run::strings_of;
+use js_lex_tool::status::{DONE, READ_FAILED, WRITE_FAILED};
+use js_lex_tool::{StdIn, StdOut, lex_tool_run};
 use std::alloc::{AllocError, Global};
 use std::io::{self, Read, Write};
 use std::test::Fail;

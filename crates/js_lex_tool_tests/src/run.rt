@@ -1,9 +1,7 @@
 //! Whole runs, over inputs and outputs in memory.
 
-use crate::memory_in::{MemoryIn, SureIn};
-use crate::memory_out::{MemoryOut, SureOut};
-use crate::status::{DONE, NO_MARK, NOT_UTF8, READ_FAILED, USAGE, WRITE_FAILED};
-use crate::tool::{lex_tool_run, lex_tool_run_sure};
+use js_lex_tool::status::{DONE, NO_MARK, NOT_UTF8, READ_FAILED, USAGE, WRITE_FAILED};
+use js_lex_tool::{MemoryIn, MemoryOut, SureIn, SureOut, lex_tool_run, lex_tool_run_sure};
 use std::alloc::{AllocError, Global};
 use std::test::Fail;
 

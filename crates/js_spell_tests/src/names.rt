@@ -1,7 +1,6 @@
-use crate::name::begins_name;
-use crate::{Spelt, SpeltValue, read_name, read_private_name};
 use js_kind::{Kind, Token};
 use js_source::Source;
+use js_spell::{Spelt, SpeltValue, begins_name, read_name, read_private_name};
 use js_text::DiagnosticList;
 use std::alloc::{AllocError, Global};
 use std::test::Fail;

@@ -2,8 +2,7 @@
 
 ghost use Rattle.std.specs.Prelude.{◌<◌, None};
 
-use crate::outside::{ByteIn, InAnswer};
-use crate::read_all::{MOST_BYTES, read_to_end};
+use js_lex_tool::{ByteIn, InAnswer, MOST_BYTES, read_to_end};
 use std::alloc::{AllocError, Global};
 use std::test::Fail;
 

@@ -1,12 +1,12 @@
 //! What no contract says: rows from outside, and that each call can succeed.
 
-use crate::{
+use bitflags::Flags;
+use js_text::{
     ByteList, Comment, CommentContent, CommentKind, CommentList, CommentPosition, Diagnostic,
     DiagnosticList, JSStrBuilder, RegExpFlags, SourceText, SourceType, Span, SpanList,
     is_identifier_part, is_identifier_start, is_irregular_whitespace, is_line_terminator,
     is_white_space,
 };
-use bitflags::Flags;
 use std::test::Fail;
 
 #[test]

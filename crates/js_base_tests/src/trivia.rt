@@ -3,9 +3,9 @@
 ghost use Rattle.std.specs.Prelude.{IsTrue};
 ghost use Rattle.js_trivia.specs.Trivia.{IsPlacedIn};
 
-use crate::{TriviaBuilder, classify};
 use js_kind::{Kind, Token};
 use js_text::{CommentContent, CommentKind, CommentPosition, CommentRange, Span};
+use js_trivia::{TriviaBuilder, classify};
 use std::test::Fail;
 
 /// What is between the marks of a comment, whether it is a block comment, and its class.
@@ -210,7 +210,9 @@ static CASES: [Case; 13] = [
         comments: &[(Leading, 21, true, true)],
     },
     Case {
-        source: "\n        /* Leading 1 */\n        // Leading 2\n        /* Leading 3 */ token /* Trailing 1 */ // Trailing 2\n        // Leading of EOF token\n        ",
+        source: "\n        /* Leading 1 */\n        // Leading 2\
+                 \n        /* Leading 3 */ token /* Trailing 1 */ // Trailing 2\
+                 \n        // Leading of EOF token\n        ",
         told: &[
             LineEnd,
             Comment(Block, 9, 24),

@@ -1,6 +1,6 @@
 //! The lines for the statuses, as they are displayed.
 
-use crate::status::status_line;
+use js_lex_tool::status_line;
 use std::test::Fail;
 
 #[test]

@@ -1,8 +1,6 @@
 //! Rows of sources whose goals are chosen.
 
-use crate::auto::auto_session;
-use crate::chooser::GoalChooser;
-use crate::fault::AutoFault;
+use js_auto::{AutoFault, GoalChooser, auto_session};
 use js_kind::{Kind, Token};
 use js_session::{Command, Row};
 use js_text::{RegExpFlags, SourceType, Span};

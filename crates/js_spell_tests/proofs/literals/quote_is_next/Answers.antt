@@ -1,7 +1,7 @@
 use Rattle.std.proofs.Common.{◌∙◌}
 use Rattle.js_source.specs.Source.{rest}
-use Rattle.js_spell.proofs.SpellSteps.{quote_by_byte, no_quote_at_end}
-use Rattle.js_spell.proofs.tests.quote_is_next.Goals as goal
+use Rattle.js_spell_tests.proofs.QuoteSteps.{quote_by_byte, no_quote_at_end}
+use Rattle.js_spell_tests.proofs.literals.quote_is_next.Goals as goal
 
 pub returns-in-Some : goal.returns-in-Some
 returns-in-Some c =

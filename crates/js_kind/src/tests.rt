@@ -1,4 +1,0 @@
-//! What no contract says: rows from outside, and that each call can succeed.
-
-mod kinds;
-mod tokens;

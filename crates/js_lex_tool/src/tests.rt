@@ -1,6 +1,0 @@
-//! What no clause says.
-
-mod buffers;
-mod run;
-mod status;
-mod streams;
