@@ -71,7 +71,7 @@ module _ (f : ℕ → Bool) where
       by_test false t = get_or-eq_default xs false (omega (arith, ltb-false b 256 t))
 
 abbrev pub is_start : ℕ → Bool
-is_start b = (is_ascii_alphabetic b || ((b == 36) || (b == 95))) || (b == 92)
+is_start b = is_ascii_alphabetic b || ((b == 36) || (b == 95))
 
 abbrev pub is_blank : ℕ → Bool
 is_blank b = (b == 9) || (b == 32)
@@ -80,7 +80,7 @@ pub tells_starts : (xs : List Bool) → tells is_start 0 xs ≡ true → length 
 tells_starts xs e n =
     record {
       ascii = ascii_alone is_start xs e n;
-      tells = λ b lt. entry_low is_start xs e n b lt ∙ ap (λ x. x || (b == 92)) (sym (start_in_ascii b lt));
+      tells = λ b lt. entry_low is_start xs e n b lt ∙ sym (start_in_ascii b lt);
     }
 
 white : (b : ℕ) → is_blank b ≡ true → is_white_space b ≡ true

@@ -7,7 +7,7 @@ use Rattle.std.proofs.lemmas.Bool.{ne_eqb, eqb-true, leb-true, leb-false}
 use Rattle.std.specs.Char.{is_ascii_digit}
 use Rattle.js_text.proofs.CharacterLemmas.{start_in_ascii}
 use Rattle.js_text.specs.Ascii.{grave_accent, number_sign}
-use Rattle.js_text.specs.Characters.{begins}
+use Rattle.js_text.specs.Characters.{begins, is_identifier_start}
 use Rattle.js_text.specs.declared.comment.Comment.{Comment}
 use Rattle.js_text.specs.declared.source_type.SourceType.{SourceType}
 use Rattle.js_kind.specs.TokenParts.{TokenParts, default_parts}
@@ -184,7 +184,8 @@ mark_ends table b ended cs tells is first =
     no_piece_ends b ended cs first (tells.tells b (small_of table b tells.ascii is) is)
 
 -- what the table of the starts of names tells
-pub starts_name : (table : List Bool) (b : ℕ) → TellsStarts table → matches_at table b ≡ true → is_name_start b ≡ true
+pub starts_name : (table : List Bool) (b : ℕ) → TellsStarts table → matches_at table b ≡ true
+    → is_identifier_start b ≡ true
 starts_name table b tells is = sym (tells.tells b (small_of table b tells.ascii is)) ∙ is
 
 -- the table of the starts of names tells as much
@@ -197,7 +198,7 @@ tells_ends table b ended cs tells is first = by_test (nat_le 128 b) refl
     by_test false e =
         let small = leb-false 128 b e in
         start_ends b ended cs small first
-        (ap (λ x. x || (b == 92)) (sym (start_in_ascii b small)) ∙ sym (tells.tells b small) ∙ is)
+        (sym (start_in_ascii b small) ∙ sym (tells.tells b small) ∙ is)
 
 pub and_false : (x : Bool) → (x && false) ≡ false
 and_false true = refl
@@ -286,10 +287,18 @@ punctuator_plainly r ended old new kind none reads =
     (punctuator_spelled r.source_type ended old new kind read) refl
 
 -- where an ASCII character of the class is next, a name begins
-pub name_begins : (b : ℕ) (cs : List ℕ) → b < 128 → HasFirstByte b cs → is_name_start b ≡ true
+pub name_begins : (b : ℕ) (cs : List ℕ) → b < 128 → HasFirstByte b cs → is_identifier_start b ≡ true
     → begins_name cs ≡ true
 name_begins b [] small first is = absurd first
-name_begins b (c ∷ cs) small first is = ap is_name_start (first.0 small) ∙ is
+name_begins b (c ∷ cs) small first is =
+    ap is_name_start (first.0 small) ∙ ap (λ x. x || (b == 92)) is
+
+-- and it is no `\`
+pub start_is_plain : (b : ℕ) → is_identifier_start b ≡ true → b ≡ 92 → ⊥
+start_is_plain b is same =
+    let small : b < 128 = omega (arith, same) in
+    let no : is_start 92 ≡ true = ap is_start (sym same) ∙ sym (start_in_ascii b small) ∙ is in
+    absurd (let both : false ≡ true = no in cc)
 
 -- the reading of a token behind such a gap
 pub behind_plain_gap : (previous : Option TokenParts) (r : Reader) (old : At) (had : Bool) (mid : At) (has : Bool)

@@ -1,5 +1,6 @@
 -- Readings that need the source alone.
 use Rattle.std.specs.Prelude.{◌≡◌, ◌<◌, ℕ, zero, suc, Bool, true, false, List, length, None}
+use Rattle.js_text.specs.Characters.{is_identifier_start}
 use Rattle.js_text.specs.declared.source_type.SourceType.{SourceType}
 use Rattle.js_grammar.specs.Gap.{whole_gap_piece}
 use Rattle.js_kind.specs.TokenParts.{TokenParts}
@@ -7,7 +8,6 @@ use Rattle.js_kind.specs.declared.kind.Kind.{Kind}
 use Rattle.js_source.specs.Source.{At, rest, IsPlaced, HasFirstByte}
 use Rattle.js_trivia.specs.Trivia.{Trivia, handle_newline}
 use Rattle.js_lexer.specs.Reader.{Leads, SkipsWholeGap, ReadsLexeme, ReadsTokenHere}
-use Rattle.js_lexer.specs.Tables.{is_name_start}
 use Rattle.js_lexer.specs.declared.found.GapFindings.{GapFindings}
 use Rattle.js_lexer.specs.declared.lexeme.Lexeme.{Lexeme}
 use Rattle.js_lexer.specs.declared.plain.GapEnd.{GapEnd}
@@ -67,7 +67,7 @@ pub record MeetsByte (b : ℕ) (old : At) (line_had_ended : Bool) (new : At) (li
 
 -- what ends a plain gap
 abbrev pub EndsAt : GapEnd → At → Bool → At → Bool → Type 0
-EndsAt (Name b) old had new has = MeetsByte b old had new has × (is_name_start b ≡ true)
+EndsAt (Name b) old had new has = MeetsByte b old had new has × (is_identifier_start b ≡ true)
 EndsAt (Mark b) old had new has = MeetsByte b old had new has
 EndsAt Other old had new has = Unit {0}
 

@@ -5,14 +5,16 @@
 ghost use Rattle.std.specs.Prelude.{◌≡◌, ◌<◌, Bool, true, None, IfSome, MatchBool};
 ghost use Rattle.std.specs.Str.{IsCharBoundary};
 ghost use Rattle.js_text.specs.Ascii.{grave_accent, line_feed, number_sign};
+ghost use Rattle.js_text.specs.Characters.{is_identifier_start};
 ghost use Rattle.js_grammar.specs.Gap.{whole_gap_piece};
 ghost use Rattle.js_grammar.specs.StringItems.{is_quote};
 ghost use Rattle.js_source.specs.Runs.{place_of};
 ghost use Rattle.js_source.specs.Source.{At, rest, IsPlaced, HasFirstByte};
 ghost use Rattle.js_source.specs.Search.{matches_at};
+ghost use Rattle.js_spell.specs.Name.{TellsParts};
 ghost use Rattle.js_lexer.specs.Plain.{EndsAt, EndsGapInAscii, GoesOnWithGap, PassesPieces, SpellsFor, SpellsPlainly};
 ghost use Rattle.js_lexer.specs.declared.reader.Reader.{Reader};
-ghost use Rattle.js_lexer.specs.Tables.{TellsStarts, TellsBlanks, TellsMarks, is_name_start};
+ghost use Rattle.js_lexer.specs.Tables.{TellsBlanks, TellsMarks};
 
 use crate::gap::skip_blanks;
 use crate::punctuator::read_punctuator;
@@ -21,7 +23,8 @@ use crate::tables::ByteTables;
 use js_kind::Kind;
 use js_source::Source;
 use js_spell::{
-    read_plain_name, read_plain_number, read_plain_part, read_plain_private_name, read_plain_string,
+    read_plain_name_by, read_plain_number, read_plain_part, read_plain_private_name,
+    read_plain_string,
 };
 
 /// Whether the byte `b`, which is next, is a `<` or a `-` that begins no comment.
@@ -120,7 +123,7 @@ fn pass_more(
 /// What ends a plain gap: the byte that is next behind it.
 #[derive(Clone, Copy)]
 pub(crate) enum GapEnd {
-    /// A character that begins a name, or a `\`.
+    /// An ASCII character that begins a name.
     Name(u8),
     /// Another ASCII character that begins no piece of a gap.
     Mark(u8),
@@ -237,25 +240,25 @@ pub(crate) fn read_plain_mark(source: &mut Source<'_>, b: u8) -> Option<Kind>
 
 /// Reads the name that begins with the ASCII character `b`, which is next, where no escape stands in it.
 #[inline(always)]
-pub(crate) fn read_name_plainly(source: &mut Source<'_>, b: u8) -> Option<Kind>
+pub(crate) fn read_name_plainly(source: &mut Source<'_>, parts: &[bool; 256], b: u8) -> Option<Kind>
+    requires parts { TellsParts parts.now }
     requires placed { IsPlaced source.old }
     requires ascii { b < 128 }
     requires next { HasFirstByte b (rest source.old) }
-    requires begun { is_name_start b ≡ true }
+    requires begun { is_identifier_start b ≡ true }
     ensures spells { (line_has_ended : Bool) → IfSome result (SpellsPlainly line_has_ended source.old source.new) }
     ensures text { source.new.text ≡ source.old.text }
 {
-    read_plain_name(source, b)
+    read_plain_name_by(source, parts, b)
 }
 
 /// Reads what `read_name_plainly` or `read_plain_mark` does.
 #[inline(always)]
 pub(crate) fn read_plain_spelling(
     source: &mut Source<'_>,
-    starts: &[bool; 256],
+    tables: &ByteTables,
     b: u8,
 ) -> Option<Kind>
-    requires starts { TellsStarts starts.now }
     requires placed { IsPlaced source.old }
     requires ascii { b < 128 }
     requires next { HasFirstByte b (rest source.old) }
@@ -264,8 +267,8 @@ pub(crate) fn read_plain_spelling(
         → IfSome result (SpellsFor r line_has_ended source.old source.new) }
     ensures text { source.new.text ≡ source.old.text }
 {
-    if begins_ascii_name(starts, b) {
-        return read_name_plainly(source, b);
+    if begins_ascii_name(&tables.starts, b) {
+        return read_name_plainly(source, &tables.parts, b);
     }
     read_plain_mark(source, b)
 }

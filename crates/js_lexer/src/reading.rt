@@ -4,7 +4,7 @@ ghost use Rattle.std.specs.Prelude.{◌≡◌, ◌≢◌, ◌<◌, ◌==◌, Boo
 ghost use Rattle.std.specs.Prelude.{OnOk};
 ghost use Rattle.std.specs.Prelude.{OnErr};
 ghost use Rattle.js_text.specs.Ascii.{number_sign, grave_accent};
-ghost use Rattle.js_text.specs.Characters.{begins};
+ghost use Rattle.js_text.specs.Characters.{begins, is_identifier_start};
 ghost use Rattle.js_grammar.specs.Gap.{whole_gap_piece};
 ghost use Rattle.js_grammar.specs.Goals.{line_has_ended_behind};
 ghost use Rattle.js_grammar.specs.Name.{begins_name};
@@ -36,12 +36,12 @@ use js_spell::{
 use js_text::{Span, is_identifier_start};
 use std::alloc::AllocError;
 
-/// Whether a name begins with the ASCII character, or with an escape of it.
+/// Whether a name begins with the ASCII character.
 #[inline(always)]
 pub(crate) fn begins_ascii_name(table: &[bool; 256], b: u8) -> bool
     requires table { TellsStarts table.now }
     requires ascii { b < 128 }
-    ensures { result ≡ is_name_start b }
+    ensures { result ≡ is_identifier_start b }
 {
     table[b as usize]
 }
@@ -370,7 +370,7 @@ impl Reader<'_> {
             Some(b) => b,
             None => return Ok(self.lexeme(Kind::Eof)),
         };
-        if b >= 128 {
+        if b >= 128 || b == b'\\' {
             return self.read_any(decoded);
         }
         if begins_ascii_name(&self.tables.starts, b) {
@@ -411,7 +411,7 @@ impl Reader<'_> {
             return None;
         }
         let mut source = self.source.here();
-        let kind = read_plain_spelling(&mut source, &self.tables.starts, b)?;
+        let kind = read_plain_spelling(&mut source, &self.tables, b)?;
         let span = Span::new(start, source.offset());
         self.source = source;
         Some(Token::new(kind, span, self.line_has_ended))

@@ -1,10 +1,12 @@
 //! Tables of bytes: the ASCII characters of a class, and where a search through a comment stops.
 
 ghost use Rattle.std.specs.Prelude.{◌≡◌, false};
+ghost use Rattle.js_spell.specs.Name.{TellsParts};
 ghost use Rattle.js_lexer.specs.Comments.{StopsAtLineEnds, StopsInBlocks, stopping_bytes};
 ghost use Rattle.js_lexer.specs.Tables.{TellsStarts, TellsBlanks, TellsMarks};
 
 use js_source::SafeByteMatchTable;
+use js_spell::name_parts;
 
 /// Tells of each byte, at its place, whether it is of a class.
 macro_rules! of_each_byte {
@@ -34,14 +36,13 @@ macro_rules! of_each_byte {
     };
 }
 
-/// Of ASCII characters, `begins_name` of the grammar.
-macro_rules! begins_name {
+/// Of ASCII characters, `is_identifier_start` of the grammar.
+macro_rules! is_identifier_start {
     ($byte:literal) => {
         (b'A' <= $byte && $byte <= b'Z')
             || (b'a' <= $byte && $byte <= b'z')
             || $byte == b'$'
             || $byte == b'_'
-            || $byte == b'\\'
     };
 }
 
@@ -59,8 +60,8 @@ macro_rules! is_mark {
     };
 }
 
-/// The ASCII characters that begin names, and `\`, which begins an escape.
-static STARTS: [bool; 256] = of_each_byte!(begins_name);
+/// The ASCII characters that begin names; not `\`, which begins an escape.
+static STARTS: [bool; 256] = of_each_byte!(is_identifier_start);
 
 /// TAB and SP.
 static BLANKS: [bool; 256] = of_each_byte!(is_blank);
@@ -68,7 +69,7 @@ static BLANKS: [bool; 256] = of_each_byte!(is_blank);
 /// The ASCII characters above SP but `-`, `/` and `<`: no piece of a gap begins with one.
 static MARKS: [bool; 256] = of_each_byte!(is_mark);
 
-/// The table of the ASCII characters that begin names, and of `\`.
+/// The table of the ASCII characters that begin names.
 #[inline(always)]
 pub(crate) fn starts() -> &'static [bool; 256]
     ensures { TellsStarts result.now }
@@ -99,9 +100,11 @@ pub(crate) struct ByteTables {
     pub line: SafeByteMatchTable,
     /// Stops at `*` too.
     pub block: SafeByteMatchTable,
-    /// The ASCII characters that begin names, and `\`. The tables stand here, and not where they are made, since a loop
-    /// over a table in a static takes its address anew at each byte.
+    /// The ASCII characters that begin names. The tables stand here, and not where they are made, since a loop over a
+    /// table in a static takes its address anew at every few bytes.
     pub starts: [bool; 256],
+    /// The ASCII characters that are parts of names.
+    pub parts: [bool; 256],
     /// TAB and SP.
     pub blanks: [bool; 256],
     /// The ASCII characters that begin no piece of a gap.
@@ -109,6 +112,7 @@ pub(crate) struct ByteTables {
     ghost line_ends: { StopsAtLineEnds line },
     ghost block_ends: { StopsInBlocks block },
     ghost name_starts: { TellsStarts starts },
+    ghost name_parts: { TellsParts parts },
     ghost gap_blanks: { TellsBlanks blanks },
     ghost gap_ends: { TellsMarks marks },
 }
@@ -134,6 +138,7 @@ impl ByteTables {
             line,
             block,
             starts: *starts(),
+            parts: *name_parts(),
             blanks: *blanks(),
             marks: *marks(),
         }

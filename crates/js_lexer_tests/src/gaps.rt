@@ -1,10 +1,10 @@
 //! Rows from outside: comments, irregular white space, and what is reported for the case of a module.
 
-use crate::readings::{next, peek};
-use js_kind::{Kind, NoTokensLexerConfig};
+use crate::script::{Script, next, peek, told};
+use js_kind::{Kind, LexerConfig, NoTokensLexerConfig};
 use js_lexer::Lexer;
 use js_text::{Comment, Diagnostic, SourceType, Span};
-use std::alloc::{AllocError, Global};
+use std::alloc::AllocError;
 use std::fmt::Write;
 use std::test::Fail;
 
@@ -38,33 +38,34 @@ fn push_deferred(text: &mut String, diagnostic: &Diagnostic) -> Result<(), Alloc
     }
 }
 
-/// What a lexer found in gaps, as text.
-fn found_text(alloc: Global, lexer: &Lexer<'_, NoTokensLexerConfig>) -> Result<String, AllocError> {
-    let mut text = String::new(alloc);
+/// Adds what a lexer found in gaps.
+fn push_found<C: LexerConfig + Drop>(
+    text: &mut String,
+    lexer: &Lexer<'_, C>,
+) -> Result<(), AllocError> {
     for comment in lexer.comments() {
-        push_comment(&mut text, comment)?;
+        push_comment(text, comment)?;
     }
     for diagnostic in lexer.deferred_module_errors() {
-        push_deferred(&mut text, diagnostic)?;
+        push_deferred(text, diagnostic)?;
     }
     for span in lexer.irregular_whitespaces() {
-        push_named(&mut text, "irregular", *span)?;
+        push_named(text, "irregular", *span)?;
     }
-    Ok(text)
+    Ok(())
 }
 
-/// What is found in the gaps of a source.
-fn found(alloc: Global, source: &str, source_type: SourceType) -> Result<String, Fail> {
-    let mut lexer = match Lexer::new(alloc, source, source_type, NoTokensLexerConfig) {
-        Ok(lexer) => lexer,
-        Err(_) => return Err(Fail::from("no lexer")),
-    };
-    for _ in 0..source.len() {
-        if !next(&mut lexer)?.kind().is_same(Kind::Eof) {
-            peek(&mut lexer)?;
+/// Reads all tokens, with peeks between them, and adds what was found in gaps.
+pub fn tell_gaps<C: LexerConfig + Drop>(
+    text: &mut String,
+    lexer: &mut Lexer<'_, C>,
+) -> Result<(), AllocError> {
+    for _ in 0..lexer.remaining().len() {
+        if !next(lexer)?.kind().is_same(Kind::Eof) {
+            peek(lexer)?;
         }
     }
-    Ok(found_text(alloc, &lexer)?)
+    push_found(text, lexer)
 }
 
 /// A source type, a source, and what is found in its gaps.
@@ -240,9 +241,15 @@ static FOUND: [(SourceType, &str, &str); 32] = [
 
 #[test]
 fn found_in_gaps(rt: HostRuntime) -> Result<(), Fail> {
-    for (source_type, source, expected) in FOUND.iter() {
-        let text = found(rt.alloc(), source, *source_type)?;
-        assert_eq!(rt; text.as_str(), *expected, "{source}");
+    for (source_type, source, expected) in FOUND {
+        let text = told(
+            rt.alloc(),
+            source_type,
+            source,
+            NoTokensLexerConfig,
+            Script::Gaps,
+        )?;
+        assert_eq!(rt; text.as_str(), expected, "{source}");
     }
     Ok(())
 }

@@ -3,6 +3,10 @@
 #![tactic(auto)]
 
 #[cfg(test)]
+mod cases;
+#[cfg(test)]
+mod checkpoints;
+#[cfg(test)]
 mod gaps;
 #[cfg(test)]
 mod goals;
@@ -10,3 +14,5 @@ mod goals;
 mod lists;
 #[cfg(test)]
 mod readings;
+#[cfg(test)]
+mod script;

@@ -2,62 +2,114 @@
 
 ghost use Rattle.std.specs.Prelude.{◌≡◌, true};
 
-use crate::readings::{goes_back, lexer_of, next, push_diagnostic, push_token};
-use js_kind::{Kind, LexerConfig, NoTokensLexerConfig, Token, TokenList, TokensLexerConfig};
-use js_lexer::{Lexer, LexerCheckpoint};
+use crate::script::{goes_back, next, push_diagnostics, push_token, push_tokens};
+use js_kind::{Kind, LexerConfig, Token, TokenList, TokensLexerConfig};
+use js_lexer::Lexer;
 use js_text::{CommentRange, SourceType, Span};
 use std::alloc::{AllocError, Global};
-use std::process::Abort;
+use std::fmt::Write;
 use std::test::Fail;
 
-/// These tokens, as text.
-fn told(alloc: Global, tokens: &[Token]) -> Result<String, AllocError> {
-    let mut text = String::new(alloc);
-    for token in tokens {
-        push_token(&mut text, token)?;
-    }
-    Ok(text)
-}
-
-/// The collected tokens of `a`, all but the last.
-fn finalizes<C: LexerConfig + Drop>(
-    rt: &impl Abort,
-    alloc: Global,
-    config: C,
-    expected: &str,
-) -> Result<(), Fail> {
-    let mut lexer = lexer_of(alloc, "a", SourceType::Module, config)?;
-    next(&mut lexer)?;
-    next(&mut lexer)?;
+/// Reads two tokens, and adds the collected ones, the last left out.
+pub fn finalize<C: LexerConfig + Drop>(
+    text: &mut String,
+    lexer: &mut Lexer<'_, C>,
+) -> Result<(), AllocError> {
+    next(lexer)?;
+    next(lexer)?;
     let tokens = lexer.finalize_tokens();
-    assert_eq!(rt; told(alloc, tokens.as_slice())?.as_str(), expected);
-    assert_eq!(rt; lexer.tokens().len(), 0);
-    Ok(())
+    push_tokens(text, tokens.as_slice())?;
+    let left = lexer.tokens().len();
+    write!(text, "{left}")
 }
 
-/// The last collected token of `a`, rewritten.
-fn rewrites<C: LexerConfig + Drop>(
-    rt: &impl Abort,
-    alloc: Global,
-    config: C,
-    expected: &str,
-) -> Result<(), Fail> {
-    let mut lexer = lexer_of(alloc, "a", SourceType::Module, config)?;
+/// Rewrites the last collected token, once before any was read, and adds all, and the last that was read.
+pub fn rewrite<C: LexerConfig + Drop>(
+    text: &mut String,
+    lexer: &mut Lexer<'_, C>,
+) -> Result<(), AllocError> {
     let rewritten = Token::new(Kind::Let, Span { start: 0, end: 1 }, false);
     lexer.rewrite_last_collected_token(rewritten);
-    next(&mut lexer)?;
+    next(lexer)?;
     lexer.rewrite_last_collected_token(rewritten);
-    assert_eq!(rt; told(alloc, lexer.tokens())?.as_str(), expected);
-    assert!(rt; lexer.last_token().kind().is_same(Kind::Ident));
-    Ok(())
+    push_tokens(text, lexer.tokens())?;
+    push_token(text, &lexer.last_token())
 }
 
-#[test]
-fn collected_tokens(rt: HostRuntime) -> Result<(), Fail> {
-    finalizes(&rt, rt.alloc(), TokensLexerConfig, "Ident 0..1 n;")?;
-    finalizes(&rt, rt.alloc(), NoTokensLexerConfig, "")?;
-    rewrites(&rt, rt.alloc(), TokensLexerConfig, "Let 0..1;")?;
-    rewrites(&rt, rt.alloc(), NoTokensLexerConfig, "")
+/// Reads a fault, takes it back, and goes back to a checkpoint that copied it. Adds whether there was one, whether
+/// there was another, and whether it could go back to a checkpoint that copied nothing, and to the other; and then all
+/// that is reported.
+pub fn recover<C: LexerConfig + Drop>(
+    text: &mut String,
+    lexer: &mut Lexer<'_, C>,
+) -> Result<(), AllocError> {
+    next(lexer)?;
+    let plain = lexer.checkpoint();
+    let recovery = lexer.checkpoint_with_error_recovery()?;
+    let first = lexer.pop_error().is_some();
+    let second = lexer.pop_error().is_some();
+    let plainly = lexer.can_rewind(&plain);
+    let is_back = goes_back(lexer, recovery);
+    write!(text, "{first} {second} {plainly} {is_back};")?;
+    push_diagnostics(text, lexer.errors())?;
+    push_token(text, &lexer.last_token())
+}
+
+/// The first comment alone.
+const FIRST: CommentRange = CommentRange { start: 0, end: 1 };
+
+/// Takes up the annotations of the first comment, if there is one.
+fn take_up<C: LexerConfig + Drop>(lexer: &mut Lexer<'_, C>) {
+    if lexer.comments().len() > 0 {
+        lexer.mark_pure_comments_applied(FIRST);
+        lexer.mark_no_side_effects_comments_applied(FIRST);
+    }
+}
+
+/// Adds a range.
+fn push_range(text: &mut String, range: Option<CommentRange>) -> Result<(), AllocError> {
+    match range {
+        Some(range) => {
+            let start = range.start;
+            let end = range.end;
+            write!(text, "{start}..{end};")
+        }
+        None => text.push_str("none;"),
+    }
+}
+
+/// Adds the class of the first comment, and the annotations before the last token: pure ones, and those without side
+/// effects.
+fn push_annotations<C: LexerConfig + Drop>(
+    text: &mut String,
+    lexer: &Lexer<'_, C>,
+) -> Result<(), AllocError> {
+    if let Some(comment) = lexer.comments().first() {
+        text.push_str(comment.content.name())?;
+    }
+    text.push_str(" ")?;
+    push_range(text, lexer.previous_token_pure_comments())?;
+    push_range(text, lexer.previous_token_no_side_effects_comments())
+}
+
+/// Takes up the annotation behind so many tokens, and goes back before that. Adds what is known of it before, behind
+/// the mark, and behind the way back.
+pub fn mark_comments<C: LexerConfig + Drop>(
+    text: &mut String,
+    lexer: &mut Lexer<'_, C>,
+    tokens: usize,
+) -> Result<(), AllocError> {
+    for _ in 0..tokens {
+        next(lexer)?;
+    }
+    push_annotations(text, lexer)?;
+    let checkpoint = lexer.checkpoint();
+    take_up(lexer);
+    push_annotations(text, lexer)?;
+    if goes_back(lexer, checkpoint) {
+        push_annotations(text, lexer)?;
+    }
+    Ok(())
 }
 
 /// Reads a token behind these, which are set, and tells all.
@@ -70,7 +122,9 @@ fn sets(
 {
     lexer.set_tokens(tokens);
     next(lexer)?;
-    told(alloc, lexer.tokens())
+    let mut text = String::new(alloc);
+    push_tokens(&mut text, lexer.tokens())?;
+    Ok(text)
 }
 
 #[test]
@@ -86,139 +140,4 @@ fn tokens_that_are_set(rt: HostRuntime) -> Result<(), Fail> {
         Err(_) => return Err(Fail::from("no lexer")),
     }
     Ok(())
-}
-
-/// Takes back the only fault, and goes back to a checkpoint that copied it. It tells whether there was one, whether
-/// there was another, and whether it could go back to a checkpoint that copied nothing, and to the other.
-fn recovers<C: LexerConfig + Drop>(
-    lexer: &mut Lexer<'_, C>,
-) -> Result<(bool, bool, bool, bool), AllocError> {
-    let plain = lexer.checkpoint();
-    let recovery = lexer.checkpoint_with_error_recovery()?;
-    let first = lexer.pop_error().is_some();
-    let second = lexer.pop_error().is_some();
-    let plainly = lexer.can_rewind(&plain);
-    let back = goes_back(lexer, recovery);
-    Ok((first, second, plainly, back))
-}
-
-/// What was reported, as text.
-fn reported<C: LexerConfig + Drop>(
-    alloc: Global,
-    lexer: &Lexer<'_, C>,
-) -> Result<String, AllocError> {
-    let mut text = String::new(alloc);
-    for diagnostic in lexer.errors() {
-        push_diagnostic(&mut text, diagnostic)?;
-    }
-    Ok(text)
-}
-
-/// The fault of `1x` comes back.
-fn recovers_a_fault<C: LexerConfig + Drop>(
-    rt: &impl Abort,
-    alloc: Global,
-    config: C,
-) -> Result<(), Fail> {
-    let mut lexer = lexer_of(alloc, "1x", SourceType::Module, config)?;
-    next(&mut lexer)?;
-    assert_eq!(rt; recovers(&mut lexer)?, (true, false, false, true));
-    assert_eq!(rt; reported(alloc, &lexer)?.as_str(), "InvalidNumberEnd 1..2;");
-    assert_eq!(rt; lexer.last_token().end(), 2);
-    Ok(())
-}
-
-#[test]
-fn faults_come_back(rt: HostRuntime) -> Result<(), Fail> {
-    recovers_a_fault(&rt, rt.alloc(), TokensLexerConfig)?;
-    recovers_a_fault(&rt, rt.alloc(), NoTokensLexerConfig)
-}
-
-/// The first comment alone.
-const FIRST: CommentRange = CommentRange { start: 0, end: 1 };
-
-/// Takes up the annotations of the first comment, if there is one.
-fn take_up<C: LexerConfig + Drop>(lexer: &mut Lexer<'_, C>) {
-    if lexer.comments().len() > 0 {
-        lexer.mark_pure_comments_applied(FIRST);
-        lexer.mark_no_side_effects_comments_applied(FIRST);
-    }
-}
-
-/// The class of the first comment, by its name.
-fn class<C: LexerConfig + Drop>(lexer: &Lexer<'_, C>) -> &'static str {
-    match lexer.comments().first() {
-        Some(comment) => comment.content.name(),
-        None => "",
-    }
-}
-
-/// Whether the range is that of the first comment alone.
-fn is_first(range: Option<CommentRange>) -> bool {
-    match range {
-        Some(range) => range.start == 0 && range.end == 1,
-        None => false,
-    }
-}
-
-/// Whether the annotations before the last token are the first comment: pure ones, and those without side effects.
-fn annotated<C: LexerConfig + Drop>(lexer: &Lexer<'_, C>) -> (bool, bool) {
-    (
-        is_first(lexer.previous_token_pure_comments()),
-        is_first(lexer.previous_token_no_side_effects_comments()),
-    )
-}
-
-/// Takes up the annotation, and goes back before that: the class before, behind the mark, and behind the way back.
-fn stays_marked<C: LexerConfig + Drop>(
-    lexer: &mut Lexer<'_, C>,
-) -> (&'static str, &'static str, &'static str) {
-    let before = class(lexer);
-    let checkpoint = lexer.checkpoint();
-    take_up(lexer);
-    let marked = class(lexer);
-    if goes_back(lexer, checkpoint) {
-        (before, marked, class(lexer))
-    } else {
-        (before, marked, "")
-    }
-}
-
-/// An annotation before the first token is taken up, and stays so.
-fn marks<C: LexerConfig + Drop>(rt: &impl Abort, alloc: Global, config: C) -> Result<(), Fail> {
-    let mut lexer = lexer_of(alloc, "/* @__PURE__ */ f", SourceType::Module, config)?;
-    next(&mut lexer)?;
-    assert_eq!(rt; annotated(&lexer), (true, false));
-    assert_eq!(rt;
-        stays_marked(&mut lexer),
-        ("PureNotApplied", "Pure", "Pure")
-    );
-    assert_eq!(rt; annotated(&lexer), (true, false));
-    Ok(())
-}
-
-/// So is one behind it.
-fn marks_behind<C: LexerConfig + Drop>(
-    rt: &impl Abort,
-    alloc: Global,
-    config: C,
-) -> Result<(), Fail> {
-    let source = "export /* #__NO_SIDE_EFFECTS__ */ class Foo {}";
-    let mut lexer = lexer_of(alloc, source, SourceType::Module, config)?;
-    next(&mut lexer)?;
-    next(&mut lexer)?;
-    assert_eq!(rt; annotated(&lexer), (false, true));
-    assert_eq!(rt;
-        stays_marked(&mut lexer),
-        ("NoSideEffectsNotApplied", "NoSideEffects", "NoSideEffects")
-    );
-    Ok(())
-}
-
-#[test]
-fn annotations(rt: HostRuntime) -> Result<(), Fail> {
-    marks(&rt, rt.alloc(), TokensLexerConfig)?;
-    marks(&rt, rt.alloc(), NoTokensLexerConfig)?;
-    marks_behind(&rt, rt.alloc(), TokensLexerConfig)?;
-    marks_behind(&rt, rt.alloc(), NoTokensLexerConfig)
 }

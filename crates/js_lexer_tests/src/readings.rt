@@ -1,95 +1,32 @@
-//! Rows from outside, and that each call can succeed.
+//! Rows from outside: tokens, and what is reported.
 
-ghost use Rattle.std.specs.Prelude.{◌≡◌, None, IfOk};
+ghost use Rattle.std.specs.Prelude.{◌≡◌, None};
 
-use js_kind::{
-    Kind, LexerConfig, NoTokensLexerConfig, RuntimeLexerConfig, Token, TokensLexerConfig,
-};
-use js_lexer::{Lexer, LexerCheckpoint};
-use js_text::{Diagnostic, JsText, SourceType, TemplateValue};
-use std::alloc::{AllocError, Global};
+use crate::script::{Script, next, push_diagnostics, push_token, told};
+use js_kind::{Kind, LexerConfig, NoTokensLexerConfig};
+use js_lexer::Lexer;
+use js_text::SourceType;
+use std::alloc::AllocError;
 use std::fmt::Write;
 use std::test::Fail;
 
-/// A lexer that has read nothing.
-pub(crate) fn lexer_of<C: LexerConfig + Drop>(
-    alloc: Global,
-    text: &str,
-    source_type: SourceType,
-    config: C,
-) -> Result<Lexer<'_, C>, Fail>
-    ensures { IfOk result (λ lexer. lexer.last ≡ None) }
-{
-    match Lexer::new(alloc, text, source_type, config) {
-        Ok(lexer) => Ok(lexer),
-        Err(_) => Err(Fail::from("no lexer")),
-    }
-}
-
-/// The next token. This and the two below promise nothing: tests compare what comes out, and without the facts of a
-/// reading they are proved sooner.
-pub(crate) fn next<C: LexerConfig + Drop>(lexer: &mut Lexer<'_, C>) -> Result<Token, AllocError> {
-    lexer.next_token()
-}
-
-/// What the next token will be.
-pub(crate) fn peek<C: LexerConfig + Drop>(lexer: &mut Lexer<'_, C>) -> Result<Token, AllocError> {
-    lexer.peek_token()
-}
-
-/// Goes back, if that is allowed, and tells.
-pub(crate) fn goes_back<C: LexerConfig + Drop>(
-    lexer: &mut Lexer<'_, C>,
-    checkpoint: LexerCheckpoint,
-) -> bool {
-    if !lexer.can_rewind(&checkpoint) {
-        return false;
-    }
-    lexer.rewind(checkpoint);
-    true
-}
-
-pub(crate) fn push_token(text: &mut String, token: &Token) -> Result<(), AllocError> {
-    let name = token.kind().name();
-    let start = token.start();
-    let end = token.end();
-    let newline = if token.is_on_new_line() { " n" } else { "" };
-    let escaped = if token.escaped() { " e" } else { "" };
-    let separator = if token.has_separator() { " s" } else { "" };
-    write!(text, "{name} {start}..{end}{newline}{escaped}{separator};")
-}
-
-pub(crate) fn push_diagnostic(
+/// Reads all tokens, and adds them and what they report.
+pub fn tell_tokens<C: LexerConfig + Drop>(
     text: &mut String,
-    diagnostic: &Diagnostic,
-) -> Result<(), AllocError> {
-    let name = diagnostic.name();
-    match diagnostic.span() {
-        Some(span) => {
-            let start = span.start;
-            let end = span.end;
-            write!(text, "{name} {start}..{end};")
-        }
-        None => write!(text, "{name};"),
-    }
-}
-
-/// All tokens of a source and what they report, as text.
-fn lexed(alloc: Global, source: &str, source_type: SourceType) -> Result<String, Fail> {
-    let mut lexer = lexer_of(alloc, source, source_type, NoTokensLexerConfig)?;
-    let mut text = String::new(alloc);
+    lexer: &mut Lexer<'_, C>,
+) -> Result<(), AllocError>
+    requires { lexer.old.last ≡ None }
+{
+    let length = lexer.remaining().len();
     let mut token = lexer.first_token()?;
-    push_token(&mut text, &token)?;
-    for _ in 0..source.len() {
+    push_token(text, &token)?;
+    for _ in 0..length {
         if !token.kind().is_same(Kind::Eof) {
-            token = next(&mut lexer)?;
-            push_token(&mut text, &token)?;
+            token = next(lexer)?;
+            push_token(text, &token)?;
         }
     }
-    for diagnostic in lexer.errors() {
-        push_diagnostic(&mut text, diagnostic)?;
-    }
-    Ok(text)
+    push_diagnostics(text, lexer.errors())
 }
 
 /// A source type, a source, its tokens and what is reported.
@@ -332,29 +269,33 @@ static READINGS: [(SourceType, &str, &str); 54] = [
 
 #[test]
 fn gaps_names_and_faults(rt: HostRuntime) -> Result<(), Fail> {
-    for (source_type, source, expected) in READINGS.iter() {
-        let text = lexed(rt.alloc(), source, *source_type)?;
-        assert_eq!(rt; text.as_str(), *expected, "{source}");
+    for (source_type, source, expected) in READINGS {
+        let config = NoTokensLexerConfig;
+        let text = told(rt.alloc(), source_type, source, config, Script::Tokens)?;
+        assert_eq!(rt; text.as_str(), expected, "{source}");
     }
     Ok(())
 }
 
-/// The kinds of the tokens of a source that has no gap: each token begins where the one before it ends.
-fn kinds(rt: &impl std::process::Abort, alloc: Global, source: &str) -> Result<String, Fail> {
-    let mut lexer = lexer_of(alloc, source, SourceType::Module, NoTokensLexerConfig)?;
-    let mut text = String::new(alloc);
+/// Adds the kinds of the tokens of a source that has no gap: each begins where the one before it ends.
+pub fn tell_kinds<C: LexerConfig + Drop>(
+    text: &mut String,
+    lexer: &mut Lexer<'_, C>,
+) -> Result<(), AllocError> {
     let mut end = 0;
-    for _ in 0..source.len() {
-        let token = next(&mut lexer)?;
-        assert_eq!(rt; token.start(), end, "{source}");
+    for _ in 0..lexer.remaining().len() {
+        if lexer.remaining().is_empty() {
+            return Ok(());
+        }
+        let token = next(lexer)?;
+        if token.start() != end {
+            text.push_str("gap ")?;
+        }
         end = token.end();
         let name = token.kind().name();
         write!(text, "{name} ")?;
-        if end as usize == source.len() {
-            return Ok(text);
-        }
     }
-    Ok(text)
+    Ok(())
 }
 
 /// A source without gaps, and the kinds of its tokens.
@@ -471,249 +412,16 @@ static PUNCTUATORS: [(&str, &str); 108] = [
 
 #[test]
 fn punctuators(rt: HostRuntime) -> Result<(), Fail> {
-    for (source, expected) in PUNCTUATORS.iter() {
-        assert_eq!(rt;
-            kinds(&rt, rt.alloc(), source)?.as_str(),
-            *expected,
-            "{source}"
-        );
+    for (source, expected) in PUNCTUATORS {
+        let config = NoTokensLexerConfig;
+        let text = told(
+            rt.alloc(),
+            SourceType::Module,
+            source,
+            config,
+            Script::Kinds,
+        )?;
+        assert_eq!(rt; text.as_str(), expected, "{source}");
     }
     Ok(())
-}
-
-/// Reads the first token, goes back before it, and reads it again. It tells where the token ends, each time.
-fn rereads<C: LexerConfig + Drop>(lexer: &mut Lexer<'_, C>) -> Result<(u32, u32), AllocError>
-    requires { lexer.old.last ≡ None }
-{
-    let fresh = lexer.checkpoint();
-    let first = lexer.first_token()?;
-    if !lexer.can_rewind(&fresh) {
-        return Ok((first.end(), 0));
-    }
-    lexer.rewind(fresh);
-    let again = lexer.first_token()?;
-    Ok((first.end(), again.end()))
-}
-
-/// A hashbang comment is read again, and not collected.
-fn rereads_a_hashbang<C: LexerConfig + Drop>(
-    rt: &impl std::process::Abort,
-    alloc: Global,
-    config: C,
-) -> Result<(), Fail> {
-    let mut lexer = lexer_of(alloc, "#!x\na", SourceType::Module, config)?;
-    assert_eq!(rt; lexer.remaining(), "#!x\na");
-    assert_eq!(rt; rereads(&mut lexer)?, (3, 3));
-    assert_eq!(rt; lexer.tokens().len(), 0);
-    Ok(())
-}
-
-/// Where the lexer stands, where its last token ends, and how much was reported.
-fn stand<C: LexerConfig + Drop>(lexer: &Lexer<'_, C>) -> (u32, u32, usize) {
-    (
-        lexer.offset(),
-        lexer.last_token().end(),
-        lexer.errors().len(),
-    )
-}
-
-/// Peeks at a token, reads it, and goes back before it. It tells whether both are the same, and how much was reported
-/// behind each.
-fn peeks_and_reads<C: LexerConfig + Drop>(
-    lexer: &mut Lexer<'_, C>,
-) -> Result<(bool, usize, usize), AllocError> {
-    let checkpoint = lexer.checkpoint();
-    let peeked = peek(lexer)?;
-    let behind_peek = lexer.errors().len();
-    let read = next(lexer)?;
-    let behind = lexer.errors().len();
-    let back = goes_back(lexer, checkpoint);
-    Ok((back && peeked.is_same(&read), behind_peek, behind))
-}
-
-/// A fault that is peeked at, or before which the lexer goes back, is not reported.
-fn goes_back_before_a_fault<C: LexerConfig + Drop>(
-    rt: &impl std::process::Abort,
-    alloc: Global,
-    config: C,
-) -> Result<(), Fail> {
-    let mut lexer = lexer_of(alloc, "a \u{1}b", SourceType::Module, config)?;
-    assert_eq!(rt; next(&mut lexer)?.end(), 1);
-    assert_eq!(rt; peeks_and_reads(&mut lexer)?, (true, 0, 1));
-    assert_eq!(rt; stand(&lexer), (1, 1, 0));
-    Ok(())
-}
-
-/// Reads a fault, and hands out what was reported.
-fn hands_out_errors<C: LexerConfig + Drop>(
-    rt: &impl std::process::Abort,
-    alloc: Global,
-    config: C,
-) -> Result<(), Fail> {
-    let mut lexer = lexer_of(alloc, "\u{1}", SourceType::Script, config)?;
-    assert_eq!(rt; next(&mut lexer)?.end(), 1);
-    assert_eq!(rt; lexer.take_errors().len(), 1);
-    assert_eq!(rt; lexer.errors().len(), 0);
-    Ok(())
-}
-
-/// Goes to the end behind the next token, reads the end, and hands out the tokens. It tells how many there were, and
-/// whether going back to before the end was allowed, before and behind that.
-fn hands_out<C: LexerConfig + Drop>(
-    lexer: &mut Lexer<'_, C>,
-) -> Result<(usize, bool, bool), AllocError> {
-    next(lexer)?;
-    let checkpoint = lexer.checkpoint();
-    lexer.advance_to_end();
-    next(lexer)?;
-    let before = lexer.can_rewind(&checkpoint);
-    let handed = lexer.take_tokens().len();
-    Ok((handed, before, lexer.can_rewind(&checkpoint)))
-}
-
-/// Behind tokens that were handed out, no way leads back before them.
-fn hands_out_tokens<C: LexerConfig + Drop>(
-    rt: &impl std::process::Abort,
-    alloc: Global,
-    config: C,
-    collected: usize,
-) -> Result<(), Fail> {
-    let mut lexer = lexer_of(alloc, "a b", SourceType::Script, config)?;
-    let expected = (collected, true, collected == 0);
-    assert_eq!(rt; hands_out(&mut lexer)?, expected);
-    assert_eq!(rt; lexer.remaining(), "");
-    assert_eq!(rt; lexer.tokens().len(), 0);
-    Ok(())
-}
-
-/// Whether the text is this stretch of the source.
-fn is_source(text: Option<JsText<'_>>, expected: &str) -> bool {
-    match text {
-        Some(JsText::Source(text)) => text == expected,
-        _ => false,
-    }
-}
-
-/// Whether the text is that of these units.
-fn is_decoded(text: Option<JsText<'_>>, expected: &[u16]) -> bool {
-    match text {
-        Some(JsText::Decoded(text)) => text.units() == expected,
-        _ => false,
-    }
-}
-
-/// Reads two tokens, and goes back before them, if that is allowed.
-fn reads_two<C: LexerConfig + Drop>(
-    lexer: &mut Lexer<'_, C>,
-) -> Result<(Token, Token, bool), AllocError> {
-    let fresh = lexer.checkpoint();
-    let first = next(lexer)?;
-    let second = next(lexer)?;
-    Ok((first, second, goes_back(lexer, fresh)))
-}
-
-/// The texts of a private name and of a name with an escape stay behind a way back.
-fn tells_texts<C: LexerConfig + Drop>(
-    rt: &impl std::process::Abort,
-    alloc: Global,
-    config: C,
-) -> Result<(), Fail> {
-    let mut lexer = lexer_of(alloc, "#a \\u0062", SourceType::Module, config)?;
-    let (private, escaped, back) = reads_two(&mut lexer)?;
-    assert!(rt; back);
-    assert!(rt; is_source(lexer.get_string(private), "a"));
-    assert!(rt; is_decoded(lexer.get_string(escaped), &[0x62]));
-    assert!(rt; is_decoded(lexer.get_js_string(escaped), &[0x62]));
-    Ok(())
-}
-
-/// Whether the value of a template is that of these units.
-fn is_decoded_part(value: Option<TemplateValue<'_>>, expected: &[u16]) -> bool {
-    match value {
-        Some(TemplateValue::Text(text)) => is_decoded(Some(text), expected),
-        _ => false,
-    }
-}
-
-/// Whether the value of a template is this stretch of the source.
-fn is_source_part(value: Option<TemplateValue<'_>>, expected: &str) -> bool {
-    match value {
-        Some(TemplateValue::Text(text)) => is_source(Some(text), expected),
-        _ => false,
-    }
-}
-
-/// Whether the value of a template is that of a bad escape.
-fn is_bad(value: Option<TemplateValue<'_>>) -> bool {
-    matches!(value, Some(TemplateValue::Bad))
-}
-
-/// A string without an escape and one with it have their texts, and are no templates.
-fn tells_strings<C: LexerConfig + Drop>(
-    rt: &impl std::process::Abort,
-    lexer: &mut Lexer<'_, C>,
-) -> Result<(), AllocError> {
-    let plain = next(lexer)?;
-    let escaped = next(lexer)?;
-    assert!(rt; is_source(lexer.get_string(plain), "ab"));
-    assert!(rt; is_decoded(lexer.get_string(escaped), &[0xD83D]));
-    assert!(rt; lexer.get_template_string(escaped).is_none());
-    Ok(())
-}
-
-/// A template without an escape, one with a line end that is changed, and one with a bad escape.
-fn tells_templates<C: LexerConfig + Drop>(
-    rt: &impl std::process::Abort,
-    lexer: &mut Lexer<'_, C>,
-) -> Result<(), AllocError> {
-    let plain = next(lexer)?;
-    let decoded = next(lexer)?;
-    let bad = next(lexer)?;
-    assert!(rt; is_source_part(lexer.get_template_string(plain), "c"));
-    assert!(rt; is_decoded_part(lexer.get_template_string(decoded), &[0x64, 0x0A]));
-    assert!(rt; lexer.get_string(decoded).is_none());
-    assert!(rt; is_bad(lexer.get_template_string(bad)));
-    Ok(())
-}
-
-/// Reads strings and templates, with escapes and without, and asks for their values.
-fn tells_values<C: LexerConfig + Drop>(
-    rt: &impl std::process::Abort,
-    alloc: Global,
-    config: C,
-) -> Result<(), Fail> {
-    let mut lexer = lexer_of(
-        alloc,
-        "'ab' '\\uD83D' `c` `d\r` `\\u` `e${",
-        SourceType::Module,
-        config,
-    )?;
-    tells_strings(rt, &mut lexer)?;
-    tells_templates(rt, &mut lexer)?;
-    let head = next(&mut lexer)?;
-    assert!(rt; is_source_part(lexer.get_template_string(head), "e"));
-    Ok(())
-}
-
-/// All of these at one configuration.
-fn checkpoints<C: LexerConfig + Copy + Drop>(
-    rt: &impl std::process::Abort,
-    alloc: Global,
-    config: C,
-    collected: usize,
-) -> Result<(), Fail> {
-    rereads_a_hashbang(rt, alloc, config)?;
-    goes_back_before_a_fault(rt, alloc, config)?;
-    hands_out_errors(rt, alloc, config)?;
-    tells_texts(rt, alloc, config)?;
-    tells_values(rt, alloc, config)?;
-    hands_out_tokens(rt, alloc, config, collected)
-}
-
-#[test]
-fn checkpoints_at_each_configuration(rt: HostRuntime) -> Result<(), Fail> {
-    checkpoints(&rt, rt.alloc(), NoTokensLexerConfig, 0)?;
-    checkpoints(&rt, rt.alloc(), TokensLexerConfig, 2)?;
-    checkpoints(&rt, rt.alloc(), RuntimeLexerConfig::new(true), 2)?;
-    checkpoints(&rt, rt.alloc(), RuntimeLexerConfig::new(false), 0)
 }

@@ -22,10 +22,12 @@ pub use angle::read_right_angle;
 pub use escape::read_escape;
 pub use jsx::{read_jsx_child, read_jsx_identifier, read_jsx_string};
 pub use name::{
-    begins_name, read_name, read_plain_name, read_plain_private_name, read_private_name,
+    begins_name, read_name, read_plain_name, read_plain_name_by, read_plain_private_name,
+    read_private_name,
 };
 pub use number::{parse_big_int, parse_int};
 pub use numeric::read_number;
+pub use parts::name_parts;
 pub use plain_number::read_plain_number;
 pub use regular_expression::read_regular_expression;
 pub use spelt::{Spelt, SpeltValue};

@@ -13,12 +13,12 @@ ghost use Rattle.js_source.specs.Source.{rest, IsPlaced, BeginsWith, HasFirstByt
 ghost use Rattle.js_spell.specs.Name.{class_of, PassesPlain, DecodesEscape, DecodesUnicode, ReadsEscape, ReadsItems};
 ghost use Rattle.js_spell.specs.Name.{PassesParts, ReadsToEnd, SpellsDecoded, SpellsName, ReportsNoName};
 ghost use Rattle.js_spell.specs.Name.{SpellsPlainName, MeetsEscape, SpellsPrivateName, SpellsPlainPrivateName};
-ghost use Rattle.js_spell.specs.Name.{MeetsNoPlainName};
+ghost use Rattle.js_spell.specs.Name.{MeetsNoPlainName, TellsParts};
 ghost use Rattle.js_spell.specs.Numeric.{BreaksOff};
 ghost use Rattle.js_spell.specs.declared.name.Position.TheVariants.{Later};
 ghost use Rattle.js_spell.specs.declared.spelt.SpeltValue.TheVariants.{Decoded};
 
-use crate::parts::parts;
+use crate::parts::name_parts;
 use crate::spelt::{Spelt, SpeltValue};
 use crate::unicode_escape::{read_hex_digits, read_unicode_escape};
 use js_kind::{Kind, Token, match_keyword, match_keyword_between};
@@ -100,7 +100,7 @@ fn pass_parts(source: &mut Source<'_>) -> Option<char>
     ensures fewer { length (rest source.new) ≤ length (rest source.old) }
     ensures placed { IsPlaced source.new }
 {
-    let b = source.pass_ascii(parts())?;
+    let b = source.pass_ascii(name_parts())?;
     if b < 128 {
         return None;
     }
@@ -406,8 +406,9 @@ fn end_of_parts(source: Source<'_>) -> SourcePosition
 /// Goes to the first character that is no part of a name, and gives the byte that is next; the usual way has ASCII
 /// characters alone.
 #[inline(always)]
-fn pass_to_end(source: &mut Source<'_>) -> Option<u8>
-    requires { IsPlaced source.old }
+fn pass_to_end(source: &mut Source<'_>, parts: &[bool; 256]) -> Option<u8>
+    requires placed { IsPlaced source.old }
+    requires parts { TellsParts parts.now }
     ensures text { source.new.text ≡ source.old.text }
     ensures rest { rest source.new ≡ from_first is_no_part (rest source.old) }
     ensures none { IfNone result (rest source.new ≡ []) }
@@ -415,7 +416,7 @@ fn pass_to_end(source: &mut Source<'_>) -> Option<u8>
     ensures onward { source.old.place ≤ source.new.place }
     ensures placed { IsPlaced source.new }
 {
-    let b = source.pass_ascii(parts())?;
+    let b = source.pass_ascii(parts)?;
     if b < 128 {
         return Some(b);
     }
@@ -427,7 +428,8 @@ fn pass_to_end(source: &mut Source<'_>) -> Option<u8>
 /// Passes the characters of the name that begins with the ASCII character `b`, up to its first escape or its end, and
 /// gives the byte that is next.
 #[inline(always)]
-fn pass_plain_from(source: &mut Source<'_>, b: u8) -> Option<u8>
+fn pass_plain_from(source: &mut Source<'_>, parts: &[bool; 256], b: u8) -> Option<u8>
+    requires parts { TellsParts parts.now }
     requires ascii { b < 128 }
     requires next { HasFirstByte b (rest source.old) }
     requires begun { begins_name (rest source.old) ≡ true }
@@ -440,7 +442,7 @@ fn pass_plain_from(source: &mut Source<'_>, b: u8) -> Option<u8>
     ensures placed { IsPlaced source.new }
 {
     source.next_ascii(b);
-    pass_to_end(source)
+    pass_to_end(source, parts)
 }
 
 /// Whether the byte that is next is the `\` of an escape.
@@ -453,6 +455,32 @@ fn is_backslash(next: Option<u8>) -> bool
         Some(b) => b == b'\\',
         None => false,
     }
+}
+
+/// Reads the name that is next and begins with the ASCII character `b`, which is no `\`, where no escape stands in it
+/// (ECMA-262 12.7). None: one does, and the source stands somewhere in the same text. The table is that of `name_parts`,
+/// handed in from where the caller has it: a loop over a static takes its address anew at every few bytes.
+#[inline(always)]
+pub fn read_plain_name_by(source: &mut Source<'_>, parts: &[bool; 256], b: u8) -> Option<Kind>
+    requires placed { IsPlaced source.old }
+    requires parts { TellsParts parts.now }
+    requires ascii { b < 128 }
+    requires next { HasFirstByte b (rest source.old) }
+    requires begun { begins_name (rest source.old) ≡ true }
+    requires plain { b ≡ backslash → ⊥ }
+    ensures some { IfSome result (SpellsPlainName source.old source.new) }
+    ensures none { IfNone result (MeetsEscape (rest source.old)) }
+    ensures text { source.new.text ≡ source.old.text }
+    ensures placed { IsPlaced source.new }
+{
+    let start = source.position();
+    let next = pass_plain_from(source, parts, b);
+    if is_backslash(next) {
+        return None;
+    }
+    let from = source.offset_of(start) as usize;
+    let to = source.offset() as usize;
+    Some(match_keyword_between(source.whole().as_bytes(), from, to))
 }
 
 /// Reads the name that is next and begins with the ASCII character `b`, where no escape stands in it (ECMA-262 12.7).
@@ -471,14 +499,7 @@ pub fn read_plain_name(source: &mut Source<'_>, b: u8) -> Option<Kind>
     if b == b'\\' {
         return None;
     }
-    let start = source.position();
-    let next = pass_plain_from(source, b);
-    if is_backslash(next) {
-        return None;
-    }
-    let from = source.offset_of(start) as usize;
-    let to = source.offset() as usize;
-    Some(match_keyword_between(source.whole().as_bytes(), from, to))
+    read_plain_name_by(source, name_parts(), b)
 }
 
 /// Whether a name is next, good or at fault.

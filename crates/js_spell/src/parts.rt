@@ -27,7 +27,7 @@ static PARTS: [bool; 256] = [
 
 /// The table of the ASCII characters that are parts of names.
 #[inline(always)]
-pub(crate) fn parts() -> &'static [bool; 256]
+pub fn name_parts() -> &'static [bool; 256]
     ensures { TellsParts result.now }
 {
     &PARTS

@@ -14,7 +14,7 @@ ghost use Rattle.js_spell.specs.Numeric.{FollowsInteger, HasPrefix};
 
 use crate::digits::{Digits, table_of};
 use crate::numeric::{Lead, Prefix, begins_digit, find_lead, take_exponent_mark, take_sign};
-use crate::parts::parts;
+use crate::parts::name_parts;
 use js_kind::Kind;
 use js_source::Source;
 
@@ -173,7 +173,7 @@ fn may_follow(b: u8) -> bool
     if b >= 128 {
         return false;
     }
-    !parts()[b as usize]
+    !name_parts()[b as usize]
 }
 
 /// Whether a number may end here, where no character past ASCII is next.

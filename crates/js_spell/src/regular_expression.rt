@@ -12,7 +12,7 @@ ghost use Rattle.js_spell.specs.RegularExpression.{PassesParts, StopIs, TellsCha
 ghost use Rattle.js_spell.specs.RegularExpression.{AddsLetter, BreaksLine, PassesClass, PassesBody, SpellsExpression};
 
 use crate::items::either;
-use crate::parts::parts;
+use crate::parts::name_parts;
 use bitflags::Flags;
 use js_source::Source;
 use js_text::{Diagnostic, DiagnosticList, RegExpFlags, RegexInfo, Span, is_line_terminator};
@@ -247,7 +247,7 @@ fn take_letter(source: &mut Source<'_>) -> Option<u8>
     ensures placed { IsPlaced source.new }
 {
     let b = source.peek_byte()?;
-    if !parts()[b as usize] {
+    if !name_parts()[b as usize] {
         return None;
     }
     source.next_char();

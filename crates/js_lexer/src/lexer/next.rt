@@ -1,12 +1,12 @@
 //! The reading of the next token: plain readings first, and behind them those of any form.
 
 ghost use Rattle.std.specs.Prelude.{◌≡◌, ◌++◌, true, None, IfOk, OnOk, OnErr, is_none};
+ghost use Rattle.js_text.specs.Characters.{is_identifier_start};
 ghost use Rattle.js_grammar.specs.Gap.{whole_gap_piece};
 ghost use Rattle.js_source.specs.Source.{IsPlaced, rest};
 ghost use Rattle.js_trivia.specs.Trivia.{handle_token, without_ranges};
 ghost use Rattle.js_lexer.specs.Decoded.{Keeps, KeepsValues, HasValue};
 ghost use Rattle.js_lexer.specs.Plain.{MeetsByte, PassesPlainGap, ReadsPlainToken, SpellsPlainly};
-ghost use Rattle.js_lexer.specs.Tables.{is_name_start};
 ghost use Rattle.js_lexer.specs.Lexer.{here, ReadsNext, ReadsToken, IsRestored, collected};
 ghost use Rattle.js_lexer.specs.Reader.{ReadsTokenHere, MovesOn};
 
@@ -78,13 +78,13 @@ impl<'a, C: LexerConfig + Drop> Lexer<'a, C> {
         b: u8,
     ) -> Result<Token, AllocError>
         requires meets { MeetsByte b (here self.old) (is_none self.old.last) source line_has_ended }
-        requires begun { is_name_start b ≡ true }
+        requires begun { is_identifier_start b ≡ true }
         ensures ok { IfOk result (λ token. ReadsToken Goal.Next self.old token self.new) }
         ensures err { OnErr result (IsRestored self.old self.new) }
         ensures kept { Keeps self.old.decoded self.new.decoded }
     {
         let mut behind = source.here();
-        match read_name_plainly(&mut behind, b) {
+        match read_name_plainly(&mut behind, &self.reader.tables.parts, b) {
             Some(kind) => self.take_spelled(source, behind, kind, line_has_ended),
             None => self.read_any_here(source, line_has_ended),
         }

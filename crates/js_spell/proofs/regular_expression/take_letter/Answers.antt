@@ -4,7 +4,7 @@ use Rattle.js_spell.proofs.regular_expression.take_letter.Goals as goal
 
 pub returns-clause-some : goal.returns-clause-some
 returns-clause-some c =
-    let low = low_letter c.parts.result.now c.in_ok-b.b c.parts.ensures c.if-not-parts-b.false in
+    let low = low_letter c.name_parts.result.now c.in_ok-b.b c.name_parts.ensures c.if-not-name_parts-b.false in
     letter_taken c.args.source.now c.next_char.new.self c.in_ok-b.b c.requires c.next_char.ensures.placed low
-    (sym (c.parts.ensures.tells c.in_ok-b.b low) ∙ c.if-not-parts-b.false) c.in_ok-b.ensures.some
+    (sym (c.name_parts.ensures.tells c.in_ok-b.b low) ∙ c.if-not-name_parts-b.false) c.in_ok-b.ensures.some
     c.next_char.ensures.past

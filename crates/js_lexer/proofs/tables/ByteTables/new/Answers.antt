@@ -16,6 +16,7 @@ invariant_of-result c =
       line_ends = subst StopsAtLineEnds (sym line) stops_at_three;
       block_ends = subst StopsInBlocks (sym block) stops_in_blocks;
       name_starts = c.starts.ensures;
+      name_parts = c.name_parts.ensures;
       gap_blanks = c.blanks.ensures;
       gap_ends = c.marks.ensures;
     }
