@@ -133,9 +133,9 @@ fn check<C: LexerConfig + Copy + Drop>(
     config: C,
     collects: bool,
 ) -> Result<(), Fail> {
-    for (source_type, source, script, collected, plain) in CASES {
-        let text = told(alloc, source_type, source, config, script)?;
-        let expected = if collects { collected } else { plain };
+    for (source_type, source, script, collected, plain) in CASES.iter() {
+        let text = told(alloc, *source_type, source, config, *script)?;
+        let expected = if collects { *collected } else { *plain };
         assert_eq!(rt; text.as_str(), expected, "{source}");
     }
     Ok(())

@@ -241,15 +241,15 @@ static FOUND: [(SourceType, &str, &str); 32] = [
 
 #[test]
 fn found_in_gaps(rt: HostRuntime) -> Result<(), Fail> {
-    for (source_type, source, expected) in FOUND {
+    for (source_type, source, expected) in FOUND.iter() {
         let text = told(
             rt.alloc(),
-            source_type,
+            *source_type,
             source,
             NoTokensLexerConfig,
             Script::Gaps,
         )?;
-        assert_eq!(rt; text.as_str(), expected, "{source}");
+        assert_eq!(rt; text.as_str(), *expected, "{source}");
     }
     Ok(())
 }

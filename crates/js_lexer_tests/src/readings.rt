@@ -269,10 +269,10 @@ static READINGS: [(SourceType, &str, &str); 54] = [
 
 #[test]
 fn gaps_names_and_faults(rt: HostRuntime) -> Result<(), Fail> {
-    for (source_type, source, expected) in READINGS {
+    for (source_type, source, expected) in READINGS.iter() {
         let config = NoTokensLexerConfig;
-        let text = told(rt.alloc(), source_type, source, config, Script::Tokens)?;
-        assert_eq!(rt; text.as_str(), expected, "{source}");
+        let text = told(rt.alloc(), *source_type, source, config, Script::Tokens)?;
+        assert_eq!(rt; text.as_str(), *expected, "{source}");
     }
     Ok(())
 }
@@ -412,7 +412,7 @@ static PUNCTUATORS: [(&str, &str); 108] = [
 
 #[test]
 fn punctuators(rt: HostRuntime) -> Result<(), Fail> {
-    for (source, expected) in PUNCTUATORS {
+    for (source, expected) in PUNCTUATORS.iter() {
         let config = NoTokensLexerConfig;
         let text = told(
             rt.alloc(),
@@ -421,7 +421,7 @@ fn punctuators(rt: HostRuntime) -> Result<(), Fail> {
             config,
             Script::Kinds,
         )?;
-        assert_eq!(rt; text.as_str(), expected, "{source}");
+        assert_eq!(rt; text.as_str(), *expected, "{source}");
     }
     Ok(())
 }
