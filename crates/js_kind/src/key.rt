@@ -1,6 +1,6 @@
 //! The key of a name: its first eight bytes in one number.
 
-ghost use Rattle.std.specs.Prelude.{◌≡◌, ◌≤◌, ◌<◌, ◌+◌, length, map, drop};
+ghost use Rattle.std.specs.Prelude.{◌≡◌, ◌≤◌, ◌<◌, ◌+◌, length, map};
 ghost use Rattle.std.specs.List.{slice_range, range_with_len};
 ghost use Rattle.js_kind.specs.Keywords.{key_of, mask};
 

@@ -3,7 +3,7 @@
 ghost use Rattle.std.specs.Prelude.{◌<◌, None};
 
 use js_lex_tool::{ByteIn, InAnswer, MOST_BYTES, read_to_end};
-use std::alloc::{AllocError, Global};
+use std::alloc::Global;
 use std::test::Fail;
 
 /// An input of zeros that records the size of each buffer that it is handed.

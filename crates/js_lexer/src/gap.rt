@@ -1,6 +1,6 @@
 //! Gaps between tokens: white space, line terminators and comments (ECMA-262 12.2 to 12.4, B.1.1).
 
-ghost use Rattle.std.specs.Prelude.{◌≡◌, ◌∷◌, ◌<◌, ◌≤◌, ℕ, List, Bool, length, true, false, Some, None, IfOk, OnOk};
+ghost use Rattle.std.specs.Prelude.{◌≡◌, ◌<◌, ◌≤◌, length, true, false, Some, None, IfOk, OnOk};
 ghost use Rattle.std.specs.Prelude.{OnErr, MatchBool};
 ghost use Rattle.js_text.specs.Ascii.{slash, less_than_sign, hyphen_minus};
 ghost use Rattle.js_text.specs.Characters.{is_white_space, is_line_terminator};

@@ -1,8 +1,6 @@
 //! Marks of ASCII characters, as `<!--`.
 
-ghost use Rattle.std.specs.Prelude.{◌≡◌, ◌<◌, ◌++◌, All, MatchBool, false};
-ghost use Rattle.js_grammar.specs.Gap.{is_prefix};
-ghost use Rattle.js_source.specs.Source.{rest};
+ghost use Rattle.std.specs.Prelude.{◌<◌, All, false};
 ghost use Rattle.js_lexer.specs.Gaps.{TakesMark};
 
 use js_source::Source;

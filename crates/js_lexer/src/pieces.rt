@@ -1,11 +1,11 @@
 //! The pieces of gaps, and what is told of each.
 
-ghost use Rattle.std.specs.Prelude.{◌≡◌, ◌∷◌, [], ◌<◌, ◌≤◌, ◌++◌, length, true, false, Some, None, IfOk, OnOk, OnErr};
+ghost use Rattle.std.specs.Prelude.{◌≡◌, [], ◌<◌, ◌++◌, true, false, Some, None, IfOk, OnOk, OnErr};
 ghost use Rattle.std.specs.Prelude.{if◌then◌else◌};
 ghost use Rattle.js_text.specs.Ascii.{slash, less_than_sign, hyphen_minus, line_feed};
 ghost use Rattle.js_text.specs.Characters.{begins, is_white_space, is_line_terminator, is_irregular_whitespace};
 ghost use Rattle.js_text.specs.Comment.{is_line_kind, opening_length};
-ghost use Rattle.js_grammar.specs.Gap.{piece, is_prefix};
+ghost use Rattle.js_grammar.specs.Gap.{is_prefix};
 ghost use Rattle.js_grammar.specs.Outcome.{html_deferred};
 ghost use Rattle.js_grammar.specs.PieceItems.{is_separator, listed_if};
 ghost use Rattle.js_source.specs.Source.{rest, BeginsWith, IsPlaced};

@@ -3,12 +3,10 @@
 //! readings of any form.
 
 ghost use Rattle.std.specs.Prelude.{◌≡◌, ◌<◌, Bool, true, None, IfSome, MatchBool};
-ghost use Rattle.std.specs.Str.{IsCharBoundary};
 ghost use Rattle.js_text.specs.Ascii.{grave_accent, line_feed, number_sign};
 ghost use Rattle.js_text.specs.Characters.{is_identifier_start};
 ghost use Rattle.js_grammar.specs.Gap.{whole_gap_piece};
 ghost use Rattle.js_grammar.specs.StringItems.{is_quote};
-ghost use Rattle.js_source.specs.Runs.{place_of};
 ghost use Rattle.js_source.specs.Source.{At, rest, IsPlaced, HasFirstByte};
 ghost use Rattle.js_source.specs.Search.{matches_at};
 ghost use Rattle.js_spell.specs.Name.{TellsParts};

@@ -1,6 +1,6 @@
 //! Readings of the first and the plain goal.
 
-ghost use Rattle.std.specs.Prelude.{◌≡◌, ◌≢◌, ◌<◌, ◌==◌, Bool, true, false, [], Option, None, IsTrue, IfOk, IfSome, IfNone};
+ghost use Rattle.std.specs.Prelude.{◌≡◌, ◌≢◌, ◌<◌, ◌==◌, true, false, [], Option, None, IfOk, IfSome, IfNone};
 ghost use Rattle.std.specs.Prelude.{OnOk};
 ghost use Rattle.std.specs.Prelude.{OnErr};
 ghost use Rattle.js_text.specs.Ascii.{number_sign, grave_accent};

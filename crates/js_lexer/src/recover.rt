@@ -1,6 +1,6 @@
 //! Reading on where nothing is spelled.
 
-ghost use Rattle.std.specs.Prelude.{◌≡◌, [], Bool, false, codes, length, IsSome};
+ghost use Rattle.std.specs.Prelude.{◌≡◌, [], false, codes, length, IsSome};
 ghost use Rattle.std.specs.List.{list_any};
 ghost use Rattle.js_text.specs.Characters.{begins, is_line_terminator};
 ghost use Rattle.js_grammar.specs.Gap.{is_prefix};

@@ -1,6 +1,6 @@
 //! Reading regular expressions from their `/` on (ECMA-262 12.9.5).
 
-ghost use Rattle.std.specs.Prelude.{◌≡◌, ◌==◌, true, IfOk, OnErr, Some};
+ghost use Rattle.std.specs.Prelude.{◌≡◌, ◌==◌, true, IfOk, OnErr};
 ghost use Rattle.std.specs.Str.{IsCharBoundary};
 ghost use Rattle.js_text.specs.Ascii.{slash};
 ghost use Rattle.js_text.specs.Characters.{begins, from_place};

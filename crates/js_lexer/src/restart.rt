@@ -1,8 +1,7 @@
 //! Reading a token again, from behind its first character on.
 
-ghost use Rattle.std.specs.Prelude.{◌≡◌, ◌≤◌, ◌∷◌, List, ℕ};
+ghost use Rattle.std.specs.Prelude.{◌≡◌, ◌≤◌};
 ghost use Rattle.std.specs.Str.{IsCharBoundary};
-ghost use Rattle.js_text.specs.Characters.{from_place};
 ghost use Rattle.js_grammar.specs.Goals.{read_token};
 ghost use Rattle.js_source.specs.Source.{IsPlaced, StepsPast};
 ghost use Rattle.js_source.specs.Runs.{place_of};

@@ -1,6 +1,6 @@
 -- What is read of goals beside the plain one: which tokens they read again, of which kinds, and what is known of them as
 -- regular expressions.
-use Rattle.std.proofs.Common.{◌≡◌, ℕ, Bool, true, false, not, ◌&&◌, ◌==◌, List, [], ◌∷◌, refl, sym, ◌∙◌, ap, subst, inl, inr}
+use Rattle.std.proofs.Common.{◌≡◌, ℕ, Bool, true, false, not, ◌==◌, List, [], ◌∷◌, refl, sym, ◌∙◌, ap, subst, inl, inr}
 use Rattle.std.proofs.Common.{Option, None, Some}
 use Rattle.std.specs.Prelude.{IfSome, if◌then◌else◌}
 use Rattle.std.specs.List.{list_all}
@@ -8,21 +8,21 @@ use Rattle.std.proofs.lemmas.Bool.{and_parts, eqb-true}
 use Rattle.js_text.specs.Ascii.{hyphen_minus, less_than_sign, slash}
 use Rattle.js_text.specs.Characters.{begins, from_first, from_place}
 use Rattle.js_text.specs.declared.source_type.SourceType.{SourceType}
-use Rattle.js_kind.specs.Kinds.{is_identifier_name, is_one_of, keywords, kind_text, number}
-use Rattle.js_kind.specs.TokenParts.{TokenParts, default_parts}
+use Rattle.js_kind.specs.Kinds.{is_identifier_name, is_one_of, keywords, kind_text}
+use Rattle.js_kind.specs.TokenParts.{TokenParts}
 use Rattle.js_kind.specs.declared.kind.Kind.{Kind}
-use Rattle.js_kind.specs.declared.kind.Kind.TheVariants.{Eof, Ident, JSXText, LAngle, LCurly, RAngle, RCurly, RegExp, Str}
+use Rattle.js_kind.specs.declared.kind.Kind.TheVariants.{Eof, Ident, RAngle, RCurly, RegExp}
 use Rattle.js_kind.specs.declared.kind.Kind.TheVariants.{TemplateMiddle, TemplateTail}
 use Rattle.js_kind.proofs.KindNumbers.{number_injective}
 use Rattle.js_kind.proofs.Members.{one_passes}
-use Rattle.js_grammar.specs.Angle.{angle_read, punctuator_read, right_angles, first_left_angle, first_right_angle}
+use Rattle.js_grammar.specs.Angle.{angle_read, right_angles, first_left_angle, first_right_angle}
 use Rattle.js_grammar.specs.Gap.{is_prefix}
 use Rattle.js_grammar.specs.GoalRead.{GoalRead}
 use Rattle.js_grammar.specs.Goals.{GoalReads, ReadsAgain, ReadsAngle, ReadsAttributeValue, ReadsFrom, ReadsPlainly}
 use Rattle.js_grammar.specs.Goals.ReadsAttributeValue.{string as attribute_string, plain as attribute_plain}
 use Rattle.js_grammar.specs.Goals.ReadsPlainly.{hashbang, behind_gap}
-use Rattle.js_grammar.specs.Jsx.{begins_child, jsx_child_read, jsx_name_read, jsx_read, jsx_string_before}
-use Rattle.js_grammar.specs.Jsx.{jsx_string_read, jsx_text_before, jsx_text_read, ends_jsx_text, ends_jsx_name}
+use Rattle.js_grammar.specs.Jsx.{begins_child, jsx_child_read, jsx_name_read, jsx_string_before}
+use Rattle.js_grammar.specs.Jsx.{jsx_string_read, jsx_text_before, ends_jsx_text}
 use Rattle.js_grammar.specs.Outcome.{Outcome}
 use Rattle.js_grammar.specs.Reads.{is_onward}
 use Rattle.js_grammar.specs.RegularExpression.{behind_body, regular_expression, regular_expression_read}

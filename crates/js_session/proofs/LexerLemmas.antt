@@ -1,20 +1,15 @@
 -- Lexers that have gone on, and what they may go back to.
-use Rattle.std.proofs.Common.{◌≡◌, ◌≤◌, take, List, [], ◌∷◌, length, refl, sym, ◌∙◌, subst, ap, arith, length-append}
+use Rattle.std.proofs.Common.{◌≡◌, List, [], ◌∷◌, refl, sym, ◌∙◌, subst, ap, arith}
 use Rattle.std.proofs.Common.{append-nil, append_assoc}
 use Rattle.std.proofs.Common.{Result, Ok, Err}
-use Rattle.std.specs.Prelude.{IfSome, OnErr}
-use Rattle.std.specs.Str.{IsCharBoundary}
-use Rattle.js_grammar.specs.Outcome.{Findings, FindingLengths, no_findings, joined, lengths_of, AreWithin}
-use Rattle.js_grammar.specs.GapItems.{token_before}
-use Rattle.js_grammar.specs.ReLexed.{HasSpelling}
+use Rattle.std.specs.Prelude.{OnErr}
+use Rattle.js_grammar.specs.Outcome.{Findings, no_findings, joined, lengths_of, AreWithin}
 use Rattle.js_kind.specs.TokenParts.{TokenParts}
-use Rattle.js_lexer.specs.Lexer.{LexerState, IsRestored, IsOnPlaces, Checkpoint, CanRewind, BeginsAlike, GoesOnFrom}
+use Rattle.js_lexer.specs.Lexer.{LexerState, IsRestored, BeginsAlike, GoesOnFrom}
 use Rattle.js_lexer.proofs.LexerSteps.{begins_alike-append}
 use Rattle.js_lexer.proofs.GoesOn.{has_token, within-joined}
 pub use Rattle.js_lexer.proofs.GoesOn.{can_rewind-on}
-use Rattle.js_trivia.specs.Trivia.{is_past, comment_starts, span_starts}
 use Rattle.js_session.specs.Marks.{IsAlike}
-use Rattle.std.proofs.lemmas.List.{take-append-le}
 
 pub begins_alike-refl : (ts : List TokenParts) → BeginsAlike ts ts
 begins_alike-refl ts = subst (BeginsAlike ts) (append-nil ts) (begins_alike-append ts [])

@@ -12,7 +12,7 @@ use Rattle.js_lexer.specs.Lexer.{LexerState, IsRestored, GoesOnFrom, after_outco
 use Rattle.js_lexer.specs.Lexer.{after_re_lex, is_hashbang}
 use Rattle.js_lexer.specs.Lexer.{put_back, BeginsAlike}
 use Rattle.js_lexer.proofs.LexerSteps.{begins_alike-append, begins_alike-replaced}
-use Rattle.js_session.specs.Live.{Live, with_outcome, with_re_lexed, last_live, place_behind_last}
+use Rattle.js_session.specs.Live.{Live, with_outcome, with_re_lexed, last_live}
 use Rattle.js_session.specs.Marks.{lexer_behind, IsAlike}
 use Rattle.js_session.specs.Report.{all_collected}
 

@@ -1,7 +1,6 @@
 -- What the calls of a session make of its state.
 use Rattle.std.proofs.Common.{◌≡◌, ℕ, ◌<◌, Bool, true, false, List, [], ◌∷◌, ◌++◌, length, take, refl, sym, ◌∙◌, ap}
 use Rattle.std.proofs.Common.{subst, arith, Option, Some, None, Result, Ok, Err}
-use Rattle.std.proofs.lemmas.Bool.{eqb-true}
 use Rattle.std.proofs.lemmas.List.{reverse-append, length-reverse}
 use Rattle.std.specs.List.{AllByRecursion}
 use Rattle.std.specs.Prelude.{reverse, OnOk, OnErr, IsSome, ◌↔◌, option_to_list, MatchBool}
@@ -10,18 +9,11 @@ use Rattle.js_text.specs.Lists.{with_last}
 use Rattle.js_grammar.specs.declared.goal.Goal.{Goal}
 use Rattle.js_grammar.specs.Goals.{GoalReads}
 use Rattle.js_grammar.specs.Outcome.{Outcome}
-use Rattle.js_grammar.specs.declared.goal.Goal.TheVariants.{First, Next as NextGoal, TemplateTail as TailGoal}
-use Rattle.js_grammar.specs.declared.goal.Goal.TheVariants.{RegularExpression, RightAngle, TypeScriptLeftAngle}
-use Rattle.js_grammar.specs.declared.goal.Goal.TheVariants.{TypeScriptRightAngle, JsxIdentifier, JsxChild}
-use Rattle.js_grammar.specs.declared.goal.Goal.TheVariants.{JsxAttributeValue}
-use Rattle.js_grammar.proofs.QuotedValues.{part_kind_is}
-use Rattle.js_kind.specs.TokenParts.{TokenParts}
-use Rattle.js_kind.specs.declared.kind.Kind.TheVariants.{RCurly, TemplateMiddle, TemplateTail}
-use Rattle.js_kind.proofs.KindNumbers.{number_injective}
+use Rattle.js_grammar.specs.declared.goal.Goal.TheVariants.{Next as NextGoal}
 use Rattle.js_lexer.specs.Lexer.{LexerState, IsRestored, CanRewind, GoesOnFrom, IsOnPlaces, after_outcome}
-use Rattle.js_lexer.specs.Lexer.{checkpoint_of, token_or_default, put_back, after_re_lex, is_hashbang}
+use Rattle.js_lexer.specs.Lexer.{checkpoint_of, token_or_default, put_back, after_re_lex}
 use Rattle.js_session.specs.declared.command.Command.{Command}
-use Rattle.js_session.specs.declared.command.Command.TheVariants.{Next, Peek, Mark, Rewind, Commit}
+use Rattle.js_session.specs.declared.command.Command.TheVariants.{Peek, Mark, Rewind, Commit}
 use Rattle.js_session.specs.declared.mark.SessionMark.{SessionMark}
 use Rattle.js_session.specs.declared.row.Row.{Row}
 use Rattle.js_session.specs.Live.{Live, with_outcome, with_re_lexed, outcome_of, last_live, after_mark}

@@ -1,6 +1,6 @@
 //! Why there is no report, and the tests for it.
 
-ghost use Rattle.std.specs.Prelude.{◌≡◌, ◌+◌, ◌<◌, length, cond, true, IfOk, IfErr, IfSome, IfNone};
+ghost use Rattle.std.specs.Prelude.{◌≡◌, ◌+◌, ◌<◌, cond, true, IfOk, IfErr, IfSome, IfNone};
 ghost use Rattle.std.specs.Prelude.{MatchOption};
 ghost use Rattle.js_session.specs.Effects.{opens_one, closes};
 ghost use Rattle.js_session.specs.Faults.{FirstWithoutMark, HasMarks, IsReadable, SourceCause, Cause};

@@ -1,13 +1,13 @@
 //! Rows that are read from a lexer.
 
-ghost use Rattle.std.specs.Prelude.{◌≡◌, ◌≤◌, true, [], length, drop, is_some, None, IfOk, OnOk, OnErr, MatchBool};
+ghost use Rattle.std.specs.Prelude.{◌≡◌, ◌≤◌, true, [], is_some, None, IfOk, OnOk, OnErr, MatchBool};
 ghost use Rattle.js_grammar.specs.Outcome.{AreWithin};
 ghost use Rattle.js_grammar.specs.Reads.{is_onward};
 ghost use Rattle.js_grammar.specs.Spelling.{text_start, text_end};
 ghost use Rattle.js_grammar.specs.Values.{plain_value};
 ghost use Rattle.js_kind.specs.Kinds.{is_template_kind};
 ghost use Rattle.js_lexer.specs.Decoded.{value_of};
-ghost use Rattle.js_lexer.specs.Lexer.{LexerState, ReadsToken, IsRestored, CanRewind, GoesOnFrom};
+ghost use Rattle.js_lexer.specs.Lexer.{ReadsToken, IsRestored, CanRewind, GoesOnFrom};
 ghost use Rattle.js_lexer.specs.Lexer.{IsOnPlaces, token_or_default};
 ghost use Rattle.js_session.specs.Report.{fits};
 ghost use Rattle.js_session.specs.RowReader.{RowReaderState, ReadsRow, AddsLive, AddsPeek, MayGoOn, IsUndone, GoesBack};

@@ -1,9 +1,8 @@
 //! Reading the punctuators that begin with `>`.
 
-ghost use Rattle.std.specs.Prelude.{◌≡◌, ◌==◌, ◌≤◌, if◌then◌else◌};
-ghost use Rattle.js_text.specs.Ascii.{equals_sign};
+ghost use Rattle.std.specs.Prelude.{◌≤◌};
 ghost use Rattle.js_text.specs.Characters.{begins};
-ghost use Rattle.js_source.specs.Source.{rest, IsPlaced};
+ghost use Rattle.js_source.specs.Source.{IsPlaced};
 ghost use Rattle.js_spell.specs.Goals.{SpellsAngle, TakesEquals};
 
 use js_kind::Kind;

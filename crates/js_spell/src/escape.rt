@@ -11,13 +11,12 @@ ghost use Rattle.js_grammar.specs.StringItems.{digit_escape, single_character, f
 ghost use Rattle.js_grammar.specs.UnicodeEscape.{hex_digits, unicode_escape, last_code_point};
 ghost use Rattle.js_source.specs.Source.{rest, IsPlaced};
 ghost use Rattle.js_spell.specs.Escape.{ReadsEscapeOf, ReadsEscape};
-ghost use Rattle.js_spell.specs.Numeric.{BreaksOff};
 
 use crate::unicode_escape::{read_hex_digits, read_unicode_escape, take_digit};
 use js_kind::Token;
 use js_source::Source;
 use js_text::{Diagnostic, DiagnosticList, JSStrBuilder, Span, is_line_terminator};
-use std::alloc::{AllocError, Global};
+use std::alloc::AllocError;
 
 /// What an escape stands for.
 #[derive(Clone, Copy, Debug)]

@@ -1,6 +1,6 @@
 //! Reading parts of JSX.
 
-ghost use Rattle.std.specs.Prelude.{◌≡◌, ◌==◌, ◌≤◌, true, length, IfOk, IfNone, IfSome, OnErr, []};
+ghost use Rattle.std.specs.Prelude.{◌≡◌, ◌==◌, ◌≤◌, true, IfOk, IfNone, IfSome, OnErr, []};
 ghost use Rattle.js_text.specs.Characters.{begins, from_first};
 ghost use Rattle.js_grammar.specs.Jsx.{begins_child, ends_jsx_name, jsx_child_read, jsx_text_read};
 ghost use Rattle.js_grammar.specs.StringItems.{is_quote};

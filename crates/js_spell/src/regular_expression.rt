@@ -1,9 +1,9 @@
 //! Reading regular expressions (ECMA-262 12.9.5).
 
-ghost use Rattle.std.specs.Prelude.{◌≡◌, ◌+◌, ◌≤◌, ◌<◌, ◌^◌, ◌++◌, List, ℕ, true, false, length, IfOk, OnErr, OnOk};
-ghost use Rattle.std.specs.Prelude.{IfNone, IfSome, ◌==◌, ◌||◌};
-ghost use Rattle.js_text.specs.Ascii.{backslash, slash};
-ghost use Rattle.js_text.specs.Characters.{begins, from_first, is_line_terminator};
+ghost use Rattle.std.specs.Prelude.{◌≡◌, ◌+◌, ◌≤◌, ◌<◌, ◌^◌, List, ℕ, true, false, IfOk, OnErr};
+ghost use Rattle.std.specs.Prelude.{IfNone, IfSome, ◌==◌};
+ghost use Rattle.js_text.specs.Ascii.{backslash};
+ghost use Rattle.js_text.specs.Characters.{begins, is_line_terminator};
 ghost use Rattle.js_grammar.specs.RegularExpression.{is_flag_character};
 ghost use Rattle.js_grammar.specs.RegularExpression.{regular_expression, with_flags_behind};
 ghost use Rattle.js_source.specs.Source.{rest, IsPlaced, BeginsWith};

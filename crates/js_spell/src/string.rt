@@ -1,7 +1,6 @@
 //! Reading strings (ECMA-262 12.9.4).
 
 ghost use Rattle.std.specs.Prelude.{◌≡◌, ◌<◌, ◌≤◌, true, false, IfOk, IfNone, IfSome, OnErr};
-ghost use Rattle.js_text.specs.Ascii.{quotation_mark};
 ghost use Rattle.js_text.specs.Characters.{begins};
 ghost use Rattle.js_grammar.specs.StringItems.{is_quote};
 ghost use Rattle.js_source.specs.Source.{rest, IsPlaced, Reads, HasFirstByte};

@@ -1,6 +1,6 @@
 //! Reading the parts of templates (ECMA-262 12.9.6).
 
-ghost use Rattle.std.specs.Prelude.{◌≡◌, ◌+◌, ◌≤◌, ◌==◌, true, false, IfOk, IfNone, IfSome, OnErr};
+ghost use Rattle.std.specs.Prelude.{◌≡◌, ◌+◌, ◌≤◌, ◌==◌, IfOk, IfNone, IfSome, OnErr};
 ghost use Rattle.js_source.specs.Source.{rest, IsPlaced};
 ghost use Rattle.js_grammar.specs.Template.{template_part_read};
 ghost use Rattle.js_spell.specs.Numeric.{BreaksOff};

@@ -1,5 +1,5 @@
 -- The byte that is next tells whether a quote is.
-use Rattle.std.proofs.Common.{◌≡◌, ℕ, ◌≤◌, true, false, ◌==◌, List, [], ◌∷◌, sym, ◌∙◌, ap, arith, inl, inr, ltb}
+use Rattle.std.proofs.Common.{◌≡◌, ℕ, ◌≤◌, false, List, [], ◌∷◌, sym, ◌∙◌, ap, arith, inl, inr, ltb}
 use Rattle.std.proofs.lemmas.Bool.{ltb-true, ltb-false}
 use Rattle.std.proofs.lemmas.Bool.Decides.{nat_tests}
 use Rattle.js_text.specs.Characters.{begins}

@@ -1,12 +1,12 @@
 //! The classes of comments by what is in them.
 
-ghost use Rattle.std.specs.Prelude.{◌≡◌, ◌<◌, ◌≤◌, ◌==◌, ◌||◌, false, codes, drop, length, IfNone, IfSome, MatchBool};
+ghost use Rattle.std.specs.Prelude.{◌≡◌, ◌<◌, ◌≤◌, ◌==◌, ◌||◌, false, length, IfNone, IfSome, MatchBool};
 ghost use Rattle.std.specs.Prelude.{if◌then◌else◌};
 ghost use Rattle.js_trivia.specs.Words.{BeginsNoWord};
 ghost use Rattle.js_text.specs.Characters.{begins};
 ghost use Rattle.js_grammar.specs.CommentClasses.{stays_leading, begins_with, is_licensed, is_blank, without_blanks};
 ghost use Rattle.js_grammar.specs.CommentClasses.{is_capital, is_beyond_ascii, is_empty, begins_with_either, is_hint_for};
-ghost use Rattle.js_grammar.specs.CommentClasses.{is_key_mark, may_mark_key, is_alone_with, ends_or_is_blank, is_word};
+ghost use Rattle.js_grammar.specs.CommentClasses.{is_key_mark, may_mark_key, ends_or_is_blank, is_word};
 ghost use Rattle.js_grammar.specs.CommentClasses.{is_for_coverage, is_for_whole_file, has_stars_alone, documentation_class};
 ghost use Rattle.js_grammar.specs.CommentClasses.{annotation_class, tool_class, worded_class, class_of};
 

@@ -2,8 +2,8 @@
 
 ghost use Rattle.std.specs.Prelude.{◌≡◌, ◌-◌, ◌^◌, ◌<◌, ◌≤◌, ◌↔◌, [], length, true, false, OnOk, OnErr, None};
 ghost use Rattle.std.specs.Prelude.{IsTrue, IfSome};
-ghost use Rattle.js_text.specs.Comment.{is_line_kind, HoldsMarks, content_span};
-ghost use Rattle.js_trivia.specs.Attachment.{trail_pending, after_comment};
+ghost use Rattle.js_text.specs.Comment.{is_line_kind};
+ghost use Rattle.js_trivia.specs.Attachment.{trail_pending};
 ghost use Rattle.js_grammar.specs.GapItems.{found_at};
 ghost use Rattle.js_trivia.specs.Marks.{IsRangeOf, mark_range, pure_applied, no_side_effects_applied};
 ghost use Rattle.js_trivia.specs.Trivia.{Trivia, no_trivia, held, IsNew, push_comment, note_class, add_comment};

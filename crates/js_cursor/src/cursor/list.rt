@@ -1,9 +1,9 @@
 //! Lists.
 
-ghost use Rattle.std.specs.Prelude.{◌≡◌, ◌≢◌, ◌≤◌, [], ◌∷◌, ◌++◌, true, false, IfOk, IfErr, OnOk, OnErr};
+ghost use Rattle.std.specs.Prelude.{◌≡◌, ◌≢◌, ◌≤◌, [], ◌∷◌, ◌++◌, true, false, IfOk, IfErr, OnOk};
 ghost use Rattle.js_text.specs.declared.span.Span.{Span};
 ghost use Rattle.js_kind.specs.Kinds.{is_one_of};
-ghost use Rattle.js_cursor.specs.Cursor.{Advances, IsAsBefore, is_at};
+ghost use Rattle.js_cursor.specs.Cursor.{Advances, is_at};
 ghost use Rattle.js_cursor.specs.Lists.{GetsStuck, IsRound, IsSeparatedRound, LeadingOn, OnStuck, Present, Rounds};
 ghost use Rattle.js_cursor.specs.Lists.{ReadsBreakableList, ReadsDelimitedList, ReadsNormalList, ReadsWhileSome};
 ghost use Rattle.js_cursor.specs.Lists.{StopsDelimitedList, StopsNormalList, ends_at, is_stuck_at};

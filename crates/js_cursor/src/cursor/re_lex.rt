@@ -4,9 +4,9 @@ ghost use Rattle.std.specs.Prelude.{◌≡◌, ◌&&◌, true, false, [], ◌∷
 ghost use Rattle.std.specs.Prelude.{if◌then◌else◌};
 ghost use Rattle.std.specs.Option.{is_some};
 ghost use Rattle.js_kind.specs.Kinds.{is_identifier_name, is_one_of, kind_text};
-ghost use Rattle.js_lexer.specs.Goals.{IsBehindName, IsBehindOne, expression_kinds, left_compounds, right_compounds};
+ghost use Rattle.js_lexer.specs.Goals.{expression_kinds, left_compounds, right_compounds};
 ghost use Rattle.js_lexer.specs.Lexer.{IsBehind};
-ghost use Rattle.js_cursor.specs.Cursor.{IsAsBefore, is_at, is_at_token_end};
+ghost use Rattle.js_cursor.specs.Cursor.{IsAsBefore, is_at_token_end};
 ghost use Rattle.js_cursor.specs.ReLex.{ReLexes, ReadsExpression, is_angle, is_at_hyphen, is_free, may_re_lex};
 
 use super::Cursor;

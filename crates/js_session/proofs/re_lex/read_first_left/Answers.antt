@@ -1,4 +1,4 @@
-use Rattle.std.proofs.Common.{refl, sym, ◌∙◌, ap}
+use Rattle.std.proofs.Common.{sym, ◌∙◌, ap}
 use Rattle.js_kind.specs.Kinds.{is_one_of}
 use Rattle.js_lexer.specs.Goals.{left_compounds}
 use Rattle.js_grammar.specs.Angle.{first_left_angle}

@@ -1,4 +1,4 @@
-use Rattle.std.proofs.Common.{refl, sym, ◌∙◌, ap}
+use Rattle.std.proofs.Common.{sym, ◌∙◌, ap}
 use Rattle.js_kind.specs.Kinds.{is_one_of}
 use Rattle.js_lexer.specs.Goals.{expression_kinds}
 use Rattle.js_session.proofs.re_lex.read_regex.Goals as goal

@@ -1,7 +1,5 @@
 use Rattle.js_kind.specs.Kinds.{is_template_kind}
 use Rattle.js_text.specs.Characters.{from_place}
-use Rattle.std.proofs.Common.{ap}
-use Rattle.std.specs.Prelude.{length}
 use Rattle.std.proofs.lemmas.Result.{IfOk-weaker, err_from_is_err_and}
 use Rattle.js_lexer.proofs.LexerSteps.{reading_goes_on}
 use Rattle.js_session.proofs.LexerLemmas.{goes_on-restored, on_err, within-after}

@@ -1,4 +1,4 @@
-use Rattle.std.proofs.Common.{refl, sym, subst, take, length}
+use Rattle.std.proofs.Common.{refl, sym, subst}
 use Rattle.std.proofs.Math.Seq.{take-length}
 use Rattle.std.proofs.lemmas.Result.{err_from_is_err_and, on_err_weaker}
 use Rattle.js_lexer.specs.Lexer.{GoesOnFrom}
