@@ -1,6 +1,7 @@
 //! The names and texts of kinds.
 
 ghost use Rattle.std.specs.Prelude.{◌≡◌, Some};
+ghost use Rattle.std.specs.Fmt.{styled_text};
 ghost use Rattle.js_kind.specs.Kinds.{kind_name, kind_text};
 
 use crate::kind::Kind;
@@ -24,6 +25,8 @@ impl Kind {
 
 impl fmt::Display for Kind {
     ghost output = { λ k. Some (kind_text k) };
+
+    ghost styled_output = { λ k s. Some (styled_text s (kind_text k)) };
 
     fn fmt<W: fmt::Write>(&self, f: &mut fmt::Formatter<W>) -> fmt::Result {
         self.to_str().fmt(f)

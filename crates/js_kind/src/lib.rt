@@ -17,7 +17,7 @@ pub use config::{
     RuntimeParserConfig, TokensLexerConfig, TokensParserConfig,
 };
 pub use keyword::{
-    identifier_name_is_ident_or_keyword, keyword_is_kind_of_name, keyword_of_text, match_keyword,
+    identifier_name_is_ident_or_keyword, keyword_is_kind_of_name, keyword_of_text,
     match_keyword_between,
 };
 pub use kind::Kind;

@@ -28,7 +28,7 @@ use Rattle.js_grammar.proofs.GoalWays.{goal_reads_span, goal_reads_places}
 use Rattle.js_lexer.specs.Lexer.{LexerState, IsOnPlaces, IsSound, IsRestored, collected, ReadsOutcome, ReadsToken}
 use Rattle.js_lexer.specs.Lexer.{Checkpoint, checkpoint_of, checkpoint_with_errors_of, put_back, put_errors_back}
 use Rattle.js_lexer.specs.Lexer.{rewound, BeginsAlike, GoesOnFrom, with_diagnostics, with_comments}
-use Rattle.js_lexer.specs.Lexer.{ReadsAgain, after_re_lex, last_read, token_or_default}
+use Rattle.js_lexer.specs.Lexer.{ReadsAgain, after_re_lex, last_read, token_or_default, range_before, trivia_before}
 use Rattle.js_lexer.specs.Reader.{ReadsGoal, ReadsWithGap, ReadsWithoutGap, AddsGap, MovesOn}
 use Rattle.js_lexer.specs.declared.found.GapFindings.{GapFindings}
 use Rattle.js_lexer.specs.declared.reader.Reader.{Reader}
@@ -37,13 +37,14 @@ use Rattle.js_trivia.specs.Attachment.{Attachment, between_gaps, after_token}
 use Rattle.js_trivia.specs.Trivia.{Trivia, HeldBefore, handle_token, held, is_past, comment_starts}
 use Rattle.js_source.specs.Source.{At}
 
--- the reader of a lexer, and what it has found, before a reading
-pub record IsReaderOf (l : LexerState) (r : Reader) (found : GapFindings) : Type 0 where
+-- the reader of a lexer, and what it has found, before a reading of the goal
+pub record IsReaderOf (goal : Goal) (l : LexerState) (r : Reader) (found : GapFindings) : Type 0 where
   pub source : r.source ≡ record { text = l.text; place = l.place }
   pub source_type : r.source_type ≡ l.source_type
   pub errors : r.errors ≡ l.findings.diagnostics
   pub deferred : found.deferred ≡ l.findings.deferred
-  pub between : IsBetweenGaps l.last l.place l.findings.comments l.findings.irregular found.trivia
+  pub between : IsBetweenGaps l.last l.place l.findings.comments l.findings.irregular
+      (range_before goal l.pure_comments) (range_before goal l.no_side_effects_comments) found.trivia
 
 -- a line has ended where no token was read yet
 pub no_token_yet : (has_read : Bool) (previous : TokenParts)
@@ -65,15 +66,16 @@ starts_before_end : (text : List ℕ) (last : Option TokenParts) → IfSome last
 starts_before_end text None h = omega arith
 starts_before_end text (Some token) h = h.ordered
 
--- the builder of a lexer, before a reading
-pub between_is : (here : At) (last : Option TokenParts) (s cleared : Trivia) (values : Values)
-    → IsSound here last s values → cleared ≡ record s { pure_comments = None; no_side_effects_comments = None }
-    → IsBetweenGaps last here.place s.attachment.attached s.irregular_whitespaces cleared
-between_is here last s cleared values sound e = record {
+-- the builder of a lexer, before a reading of the goal
+pub between_is : (goal : Goal) (here : At) (last : Option TokenParts) (s cleared : Trivia) (values : Values)
+    → IsSound here last s values → cleared ≡ trivia_before goal s
+    → IsBetweenGaps last here.place s.attachment.attached s.irregular_whitespaces
+    (range_before goal s.pure_comments) (range_before goal s.no_side_effects_comments) cleared
+between_is goal here last s cleared values sound e = record {
   attachment = ap (λ (u : Trivia). u.attachment) e ∙ sound.attachment;
   irregular = ap (λ (u : Trivia). u.irregular_whitespaces) e;
-  no_pure = ap (λ (u : Trivia). u.pure_comments) e;
-  no_side_effects = ap (λ (u : Trivia). u.no_side_effects_comments) e;
+  pure_is = ap (λ (u : Trivia). u.pure_comments) e;
+  no_side_effects_is = ap (λ (u : Trivia). u.no_side_effects_comments) e;
   held =
       subst (λ u. HeldBefore here.place u) (sym e)
       (let h = held_later (token_before last).start here.place s sound.held
@@ -96,22 +98,22 @@ state_of r found last values = record {
     comments = found.trivia.attachment.attached;
     irregular = found.trivia.irregular_whitespaces;
   };
-  pure_comments = None;
-  no_side_effects_comments = None;
+  pure_comments = found.trivia.pure_comments;
+  no_side_effects_comments = found.trivia.no_side_effects_comments;
   decoded = values;
 }
 
-pub reader_is : (r : Reader) (found : GapFindings) (last : Option TokenParts) (values : Values) (line_has_ended : Bool)
-    (cleared : Trivia) → IsSound r.source last found.trivia values
-    → cleared ≡ record found.trivia { pure_comments = None; no_side_effects_comments = None }
-    → IsReaderOf (state_of r found last values) (record r { line_has_ended = line_has_ended })
+pub reader_is : (goal : Goal) (r : Reader) (found : GapFindings) (last : Option TokenParts) (values : Values)
+    (line_has_ended : Bool) (cleared : Trivia) → IsSound r.source last found.trivia values
+    → cleared ≡ trivia_before goal found.trivia
+    → IsReaderOf goal (state_of r found last values) (record r { line_has_ended = line_has_ended })
     (record found { trivia = cleared })
-reader_is r found last values line_has_ended cleared sound e = record {
+reader_is goal r found last values line_has_ended cleared sound e = record {
   source = refl;
   source_type = refl;
   errors = refl;
   deferred = refl;
-  between = between_is r.source last found.trivia cleared values sound e;
+  between = between_is goal r.source last found.trivia cleared values sound e;
 }
 
 -- a lexer that went back is sound, with more values
@@ -154,18 +156,21 @@ read_spelling goal previous old token new r =
 
 -- what was told of the gap before it
 pub told_of : (goal : Goal) (l : LexerState) (old : Reader) (before : GapFindings) (token : TokenParts) (new : Reader)
-    (after : GapFindings) → IsReaderOf l old before → (r : ReadsWithGap goal l.last old before token new after)
+    (after : GapFindings) → IsReaderOf goal l old before → (r : ReadsWithGap goal l.last old before token new after)
     → AddsGap l.last l.source_type l.place r.read.outcome before after
 told_of goal l old before token new after is r =
     subst (λ (a : At). AddsGap l.last l.source_type a.place r.read.outcome before after) is.source
     (subst (λ t. AddsGap l.last t old.source.place r.read.outcome before after) is.source_type r.gap)
 
 pub held_now : (goal : Goal) (l : LexerState) (old : Reader) (before : GapFindings) (token : TokenParts) (new : Reader)
-    (after : GapFindings) → IsReaderOf l old before → (r : ReadsWithGap goal l.last old before token new after)
-    → handle_token token after.trivia ≡ behind_token l.findings.comments l.findings.irregular r.read.outcome
+    (after : GapFindings) → IsReaderOf goal l old before → (r : ReadsWithGap goal l.last old before token new after)
+    → handle_token token after.trivia
+    ≡ behind_token l.findings.comments l.findings.irregular (range_before goal l.pure_comments)
+    (range_before goal l.no_side_effects_comments) r.read.outcome
 held_now goal l old before token new after is r =
     ap (λ x. handle_token x after.trivia) r.read.token_is
-    ∙ told l.last l.source_type l.place l.findings.comments l.findings.irregular r.read.outcome before after is.between
+    ∙ told l.last l.source_type l.place l.findings.comments l.findings.irregular (range_before goal l.pure_comments)
+    (range_before goal l.no_side_effects_comments) r.read.outcome before after is.between
     (told_of goal l old before token new after is r)
 
 -- a lexer behind a token is sound
@@ -192,14 +197,17 @@ sound_behind goal previous old token new trivia values u are r attachment held =
 -- and so after a reading with a gap
 pub sound_after : (goal : Goal) (l : LexerState) (old : Reader) (before : GapFindings) (token : TokenParts)
     (new : Reader) (after : GapFindings) (trivia : Trivia) (values : Values) → IsUtf8 new.source.text
-    → AreValues old.source.text values → IsReaderOf l old before
+    → AreValues old.source.text values → IsReaderOf goal l old before
     → ReadsWithGap goal l.last old before token new after → trivia ≡ handle_token token after.trivia
     → IsSound new.source (Some trivia.attachment.previous) trivia values
 sound_after goal l old before token new after trivia values u are is r e =
-    let holds = behind_token l.findings.comments l.findings.irregular r.read.outcome in
+    let holds =
+    behind_token l.findings.comments l.findings.irregular (range_before goal l.pure_comments)
+    (range_before goal l.no_side_effects_comments) r.read.outcome in
     let now : trivia ≡ holds = e ∙ held_now goal l old before token new after is r in
     let held =
-    held_before_token l.last l.source_type l.place l.findings.comments l.findings.irregular r.read.outcome before after
+    held_before_token l.last l.source_type l.place l.findings.comments l.findings.irregular
+    (range_before goal l.pure_comments) (range_before goal l.no_side_effects_comments) r.read.outcome before after
     is.between (told_of goal l old before token new after is r) in
     subst (λ t. IsSound new.source (Some t) trivia values) (sym (told_last token after.trivia trivia e))
     (sound_behind goal l.last old token new trivia values u are r.read
@@ -210,7 +218,7 @@ sound_after goal l old before token new after trivia values u are is r e =
 
 -- a reading of a lexer's reader is one from the lexer's place
 goal_of_lexer : (l : LexerState) (r : Reader) (before : GapFindings) (new : Reader) (goal : Goal)
-    (token : TokenParts) → IsReaderOf l r before → (reads : ReadsGoal goal l.last r token new)
+    (token : TokenParts) → IsReaderOf goal l r before → (reads : ReadsGoal goal l.last r token new)
     → GoalReads l.text l.source_type goal l.last l.place reads.outcome
 goal_of_lexer l r before new goal token is reads =
     subst (λ (a : At). GoalReads a.text l.source_type goal l.last a.place reads.outcome) is.source
@@ -218,7 +226,7 @@ goal_of_lexer l r before new goal token is reads =
 
 -- what a reading gives
 pub reads_outcome : (l : LexerState) (r : Reader) (before : GapFindings) (new : Reader) (goal : Goal)
-    (token : TokenParts) → IsUtf8 l.text → IsReaderOf l r before → (reads : ReadsGoal goal l.last r token new)
+    (token : TokenParts) → IsUtf8 l.text → IsReaderOf goal l r before → (reads : ReadsGoal goal l.last r token new)
     → ReadsOutcome goal l reads.outcome
 reads_outcome l r before new goal token u is reads =
     let here = goal_of_lexer l r before new goal token is reads in
@@ -235,7 +243,7 @@ reads_outcome l r before new goal token u is reads =
 -- a reading, as contracts see it
 pub reads_token : (old new : LexerState) (r : Reader) (before : GapFindings) (reader : Reader) (after : GapFindings)
     (trivia : Trivia) (goal : Goal) (token : TokenParts) (values : Values)
-    → IsUtf8 old.text → IsReaderOf old r before
+    → IsUtf8 old.text → IsReaderOf goal old r before
     → ReadsWithGap goal old.last r before token reader after → trivia ≡ handle_token token after.trivia
     → Keeps old.decoded values → HasValue old.text values token
     → new ≡ record old {
@@ -257,7 +265,9 @@ pub reads_token : (old new : LexerState) (r : Reader) (before : GapFindings) (re
     → ReadsToken goal old token new
 reads_token old new r before reader after trivia goal token values u is with_gap told kept has e =
     let reads = with_gap.read in
-    let holds = behind_token old.findings.comments old.findings.irregular reads.outcome in
+    let holds =
+    behind_token old.findings.comments old.findings.irregular (range_before goal old.pure_comments)
+    (range_before goal old.no_side_effects_comments) reads.outcome in
     let now : trivia ≡ holds = told ∙ held_now goal old r before token reader after is with_gap in
     let errors : reader.errors ≡ old.findings.diagnostics ++ reads.outcome.findings.diagnostics =
     reads.errors ∙ ap (λ es. es ++ reads.outcome.findings.diagnostics) is.errors in

@@ -46,28 +46,28 @@ range_over is_noted gap before (line_end ∷ xs) index range =
 range_over is_noted gap before (comment found ∷ xs) index range =
     range_over is_noted gap (comment found ∷ before) xs (index + 1) (extend_if (is_noted found.content) index range)
 
--- what a builder holds behind a token, where it held these comments and this irregular white space, and no range
-abbrev pub behind_token : List Comment → List Span → Outcome → Trivia
-behind_token comments spans outcome = record {
+-- what a builder holds behind a token, where it held these comments, this irregular white space and these ranges
+abbrev pub behind_token : List Comment → List Span → Option CommentRange → Option CommentRange → Outcome → Trivia
+behind_token comments spans pure no_side_effects outcome = record {
   attachment = between_gaps (comments ++ outcome.findings.comments) false outcome.token;
   irregular_whitespaces = spans ++ outcome.findings.irregular;
-  pure_comments = range_of is_pure_not_applied (length comments) None outcome.findings.comments;
+  pure_comments = range_of is_pure_not_applied (length comments) pure outcome.findings.comments;
   no_side_effects_comments =
-      range_of is_no_side_effects_not_applied (length comments) None outcome.findings.comments;
+      range_of is_no_side_effects_not_applied (length comments) no_side_effects outcome.findings.comments;
 }
 
 -- a builder between two gaps, before a reading
 pub record IsBetweenGaps (previous : Option TokenParts) (place : ℕ) (comments : List Comment) (spans : List Span)
-    (s : Trivia) : Type 0 where
+    (pure no_side_effects : Option CommentRange) (s : Trivia) : Type 0 where
   pub attachment : s.attachment ≡ between_gaps comments (is_none previous) (token_before previous)
   pub irregular : s.irregular_whitespaces ≡ spans
-  pub no_pure : s.pure_comments ≡ None
-  pub no_side_effects : s.no_side_effects_comments ≡ None
+  pub pure_is : s.pure_comments ≡ pure
+  pub no_side_effects_is : s.no_side_effects_comments ≡ no_side_effects
   pub held : HeldBefore place s
 
 module _ (previous : Option TokenParts) (t : SourceType) (place : ℕ) (comments : List Comment) (spans : List Span)
-    (outcome : Outcome) (before after : GapFindings) (is : IsBetweenGaps previous place comments spans before.trivia)
-    (adds : AddsGap previous t place outcome before after) where
+    (pure no_side_effects : Option CommentRange) (outcome : Outcome) (before after : GapFindings)
+    (is : IsBetweenGaps previous place comments spans pure no_side_effects before.trivia) (adds : AddsGap previous t place outcome before after) where
   gap : Gap
   gap = gap_of (is_none previous) (token_before previous) place adds.pieces outcome.token
 
@@ -85,32 +85,33 @@ module _ (previous : Option TokenParts) (t : SourceType) (place : ℕ) (comments
 
   -- the comments of the gap are those of the outcome, and so is the rest
   same : after_gap (gap_of (is_none previous) (token_before previous) place adds.pieces outcome.token) before.trivia
-      ≡ behind_token comments spans outcome
+      ≡ behind_token comments spans pure no_side_effects outcome
   same =
       rw (
         attached_before,
         is.irregular,
-        is.no_pure,
-        is.no_side_effects,
+        is.pure_is,
+        is.no_side_effects_is,
         adds.comments,
         adds.irregular,
         ← range_over is_pure_not_applied
             (gap_of (is_none previous) (token_before previous) place adds.pieces outcome.token) []
-            (items_of place adds.pieces) (length comments) None,
+            (items_of place adds.pieces) (length comments) pure,
         ← range_over is_no_side_effects_not_applied
             (gap_of (is_none previous) (token_before previous) place adds.pieces outcome.token) []
-            (items_of place adds.pieces) (length comments) None,
+            (items_of place adds.pieces) (length comments) no_side_effects,
       ) refl
 
-  pub told : handle_token outcome.token after.trivia ≡ behind_token comments spans outcome
+  pub told : handle_token outcome.token after.trivia ≡ behind_token comments spans pure no_side_effects outcome
   told =
       ap (handle_token outcome.token) adds.trivia
       ∙ calls_for_pieces (is_none previous) (token_before previous) outcome.token place adds.pieces before.trivia may
       ∙ same
 
-  pub held_before_token : HeldBefore outcome.token.start (behind_token comments spans outcome)
+  pub held_before_token : HeldBefore outcome.token.start (behind_token comments spans pure no_side_effects outcome)
   held_before_token =
-      held_later (end_of place adds.pieces) outcome.token.start (behind_token comments spans outcome)
+      held_later (end_of place adds.pieces) outcome.token.start
+      (behind_token comments spans pure no_side_effects outcome)
       (subst (λ s. HeldBefore (end_of place adds.pieces) s) same
       (held_after_pieces (is_none previous) (token_before previous) outcome.token place adds.pieces before.trivia may))
       adds.up_to

@@ -17,7 +17,7 @@ use Rattle.js_grammar.specs.Reads.{is_plain}
 use Rattle.js_grammar.specs.ReLexed.{HasSpelling}
 use Rattle.js_grammar.specs.Values.{HasText}
 use Rattle.js_grammar.specs.declared.goal.Goal.{Goal}
-use Rattle.js_grammar.specs.declared.goal.Goal.TheVariants.{Next}
+use Rattle.js_grammar.specs.declared.goal.Goal.TheVariants.{Next, JsxChild}
 use Rattle.js_source.specs.Source.{At}
 use Rattle.js_trivia.specs.Attachment.{between_gaps}
 use Rattle.js_trivia.specs.Trivia.{Trivia, HeldBefore, extend_if, is_past, is_pure_not_applied}
@@ -116,17 +116,32 @@ range_of is_noted index range [] = range
 range_of is_noted index range (c ∷ cs) =
     range_of is_noted (index + 1) (extend_if (is_noted c.content) index range) cs
 
--- the lexer behind a token that was read, with what was found on the way
-abbrev pub after_outcome : LexerState → Outcome → LexerState
-after_outcome l outcome = record l {
+-- Where annotations are known to be as a reading of the goal begins: before a gap those of the gap before are
+-- forgotten. A child of JSX has no gap, and leaves them.
+abbrev pub range_before : Goal → Option CommentRange → Option CommentRange
+range_before JsxChild range = range
+range_before _ range = None
+
+-- what the builder of trivia holds as a reading of the goal begins
+abbrev pub trivia_before : Goal → Trivia → Trivia
+trivia_before goal s = record s {
+  pure_comments = range_before goal s.pure_comments;
+  no_side_effects_comments = range_before goal s.no_side_effects_comments;
+}
+
+-- the lexer behind a token of the goal that was read, with what was found on the way
+abbrev pub after_outcome : Goal → LexerState → Outcome → LexerState
+after_outcome goal l outcome = record l {
   place = outcome.token.end;
   last = Some outcome.token;
   tokens = l.tokens ++ collected l.collects outcome.token;
   findings = joined l.findings outcome.findings;
   pure_comments =
-      range_of is_pure_not_applied (length l.findings.comments) None outcome.findings.comments;
+      range_of is_pure_not_applied (length l.findings.comments) (range_before goal l.pure_comments)
+      outcome.findings.comments;
   no_side_effects_comments =
-      range_of is_no_side_effects_not_applied (length l.findings.comments) None outcome.findings.comments;
+      range_of is_no_side_effects_not_applied (length l.findings.comments)
+      (range_before goal l.no_side_effects_comments) outcome.findings.comments;
 }
 
 -- The lexer after a re-lex: its token stands in the place of the last one, and of the last collected one.
@@ -162,7 +177,7 @@ pub record ReadsToken (goal : Goal) (old : LexerState) (token : TokenParts) (new
   pub token_is : token ≡ outcome.token
   pub reads : ReadsOutcome goal old outcome
   pub agrees : is_plain goal ≡ true → AgreesWithGrammar old.text old.source_type goal old.last old.place outcome
-  pub after : IsRestored (after_outcome old outcome) new
+  pub after : IsRestored (after_outcome goal old outcome) new
   pub kept : Keeps old.decoded new.decoded
   pub has_value : HasValue old.text new.decoded token
 
@@ -284,3 +299,4 @@ pub record Peeks (old : LexerState) (token : TokenParts) (new : LexerState) : Ty
   pub token_is : token ≡ outcome.token
   pub reads : ReadsOutcome Next old outcome
   pub agrees : AgreesWithGrammar old.text old.source_type Next old.last old.place outcome
+  pub has_value : HasValue old.text new.decoded token

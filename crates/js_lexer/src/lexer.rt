@@ -18,6 +18,7 @@ ghost use Rattle.js_lexer.specs.Gaps.{Grows};
 ghost use Rattle.js_lexer.specs.Lexer.{LexerState, fresh, token_or_default, ReadsToken, IsRestored, IsOnPlaces, Peeks};
 ghost use Rattle.js_lexer.specs.Lexer.{checkpoint_of, CanRewind, rewound, GoesOnFrom, collected, is_hashbang, IsBehind};
 ghost use Rattle.js_lexer.specs.Lexer.{ReadsAgain, checkpoint_with_errors_of, with_comments, with_diagnostics};
+ghost use Rattle.js_lexer.specs.Lexer.{trivia_before};
 ghost use Rattle.js_lexer.specs.Reader.{ReadsWithGap, MovesOn};
 
 mod annotations;
@@ -88,7 +89,22 @@ fn replace_collected(tokens: &mut TokenList, collects: bool, token: Token)
     }
 }
 
-/// Reads a token of the first or the plain goal, and collects it. Where it cannot allocate, the reader may have moved
+/// Forgets the annotations of the gap before, as a reading begins that has a gap of its own: all but that of a child of
+/// JSX.
+#[inline(always)]
+fn begin_reading(trivia: &mut TriviaBuilder, goal: Goal)
+    ensures { trivia.new ≡ trivia_before goal trivia.old }
+{
+    match goal {
+        Goal::JsxChild => {}
+        _ => {
+            trivia.clear_pure_comments();
+            trivia.clear_no_side_effects_comments();
+        }
+    }
+}
+
+/// Reads a token of a goal that goes on, and collects it. Where it cannot allocate, the reader may have moved
 /// on and reported, and more may have been found.
 #[inline(always)]
 fn read_and_collect(
@@ -233,8 +249,7 @@ impl<'a, C: LexerConfig + Drop> Lexer<'a, C> {
         let reported = self.reader.errors.len();
         let deferred_before = self.found.deferred.len();
         let trivia_before = self.found.trivia.lengths();
-        self.found.trivia.clear_pure_comments();
-        self.found.trivia.clear_no_side_effects_comments();
+        begin_reading(&mut self.found.trivia, goal);
         self.reader.line_has_ended = !self.has_read;
         let read = read_and_collect(
             &mut self.reader,

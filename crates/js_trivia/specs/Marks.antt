@@ -1,15 +1,14 @@
 -- Ranges of comments, and the classes of those that a parser has taken up.
-use Rattle.std.specs.Prelude.{◌<◌, ◌≤◌, List, ◌++◌, length, map, take, drop, slice_range}
+use Rattle.std.specs.Prelude.{List, ◌++◌, length, map, take, drop, slice_range}
 use Rattle.js_text.specs.declared.comment.CommentContent.{CommentContent}
 use Rattle.js_text.specs.declared.comment.CommentContent.TheVariants as class
 use Rattle.js_text.specs.declared.comment.CommentRange.{CommentRange}
 use Rattle.js_text.specs.declared.comment.Comment.{Comment}
-use Rattle.js_trivia.specs.Trivia.{Trivia, held}
+use Rattle.js_trivia.specs.Trivia.{Trivia, IsRangeUpTo, held}
 
 -- the range has a comment in it, and ends within the list
-pub record IsRangeOf (comments : List Comment) (range : CommentRange) : Type 0 where
-  pub start : range.start < range.end
-  pub end : range.end ≤ length comments
+abbrev pub IsRangeOf : List Comment → CommentRange → Type 0
+IsRangeOf comments range = IsRangeUpTo (length comments) range
 
 -- the class of a comment once a parser has taken up its `@__PURE__`
 abbrev pub pure_applied : CommentContent → CommentContent

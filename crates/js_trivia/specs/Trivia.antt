@@ -1,6 +1,6 @@
 -- What a trivia builder holds, and what each call makes of it.
 use Rattle.std.specs.Prelude.{◌≡◌, ℕ, ◌+◌, ◌^◌, ◌<◌, ◌≤◌, Bool, true, false, ◌&&◌, eqb, nat_lt, List, [], ◌∷◌, ◌++◌}
-use Rattle.std.specs.Prelude.{map, length, take, Option, Some, None, if◌then◌else◌, ⊤, not, slice_range}
+use Rattle.std.specs.Prelude.{map, length, take, Option, Some, None, IfSome, if◌then◌else◌, ⊤, not, slice_range}
 use Rattle.std.specs.List.{position_from}
 use Rattle.js_kind.specs.TokenParts.{TokenParts}
 use Rattle.js_text.specs.declared.comment.CommentContent.{CommentContent}
@@ -61,6 +61,16 @@ is_pure_not_applied _ = false
 abbrev pub is_no_side_effects_not_applied : CommentContent → Bool
 is_no_side_effects_not_applied NoSideEffectsNotApplied = true
 is_no_side_effects_not_applied _ = false
+
+-- The range has a comment in it, and ends within so many comments.
+pub record IsRangeUpTo (count : ℕ) (range : CommentRange) : Type 0 where
+  pub start : range.start < range.end
+  pub end : range.end ≤ count
+
+-- Both ranges of annotations are such, where they are there.
+pub record AreRangesUpTo (count : ℕ) (pure no_side_effects : Option CommentRange) : Type 0 where
+  pub pure : IfSome pure (IsRangeUpTo count)
+  pub no_side_effects : IfSome no_side_effects (IsRangeUpTo count)
 
 -- The comment at an index begins a range, or the range ends after it; one that starts later becomes that comment alone.
 abbrev pub extend : ℕ → Option CommentRange → Option CommentRange
@@ -216,10 +226,11 @@ cut_to to s = record {
   no_side_effects_comments = to.no_side_effects;
 }
 
--- No list is shorter than this, and what stays starts before the place.
+-- No list is shorter than this, the ranges are of comments that stay, and what stays starts before the place.
 pub record CanCutBack (to : TriviaLengths) (place : ℕ) (s : Trivia) : Type 0 where
   pub comments : to.comments ≤ length (held s.attachment)
   pub irregular : to.irregular ≤ length s.irregular_whitespaces
+  pub ranges : AreRangesUpTo to.comments to.pure_range to.no_side_effects
   pub comments_before : is_past place (comment_starts (take to.comments (held s.attachment))) ≡ true
   pub irregular_before : is_past place (span_starts (take to.irregular s.irregular_whitespaces)) ≡ true
 

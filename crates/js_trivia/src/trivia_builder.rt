@@ -8,7 +8,8 @@ ghost use Rattle.js_grammar.specs.GapItems.{found_at};
 ghost use Rattle.js_trivia.specs.Marks.{IsRangeOf, mark_range, pure_applied, no_side_effects_applied};
 ghost use Rattle.js_trivia.specs.Trivia.{Trivia, no_trivia, held, IsNew, push_comment, note_class, add_comment};
 ghost use Rattle.js_trivia.specs.Trivia.{add_irregular, handle_newline, handle_token, lengths_of, cut_to, IsPlacedIn};
-ghost use Rattle.js_trivia.specs.Trivia.{class_in_text, found_in, CanCutBack, without_ranges};
+ghost use Rattle.js_trivia.specs.Trivia.{class_in_text, found_in, CanCutBack, without_ranges, IsRangeUpTo};
+ghost use Rattle.js_trivia.specs.Trivia.{AreRangesUpTo};
 
 use crate::attaching::{attach_each_pending, attach_pending, mark_last_pending};
 use crate::classes::{classify, stays_leading};
@@ -45,6 +46,23 @@ fn are_none(
     pure_comments.is_none() && no_side_effects_comments.is_none()
 }
 
+/// Whether the range, if there is one, has a comment in it and ends within so many.
+fn is_range_up_to(range: Option<CommentRange>, count: u32) -> bool
+    ensures { IsTrue result ↔ IfSome range (IsRangeUpTo count) }
+{
+    match range {
+        Some(CommentRange { start, end }) => start < end && end <= count,
+        None => true,
+    }
+}
+
+/// Whether both ranges are of comments that stay where a builder goes back there.
+fn are_ranges_up_to(to: &TriviaLengths) -> bool
+    ensures { IsTrue result ↔ AreRangesUpTo to.now.comments to.now.pure_range to.now.no_side_effects }
+{
+    is_range_up_to(to.pure_range, to.comments) && is_range_up_to(to.no_side_effects, to.comments)
+}
+
 /// Comments and irregular white space in the order of the text. Comments wait for the next token, until it is clear to
 /// which token they belong.
 #[derive(Drop)]
@@ -66,8 +84,8 @@ pub struct TriviaBuilder {
 }
 
 impl Model for TriviaBuilder {
-    ghost use Rattle.std.specs.Prelude.{◌≡◌, true, take, drop};
-    ghost use Rattle.js_trivia.specs.Trivia.{Trivia};
+    ghost use Rattle.std.specs.Prelude.{◌≡◌, true, take, drop, length};
+    ghost use Rattle.js_trivia.specs.Trivia.{Trivia, AreRangesUpTo};
     ghost use Rattle.js_trivia.specs.Builder.{IsInOrder, IsSettled};
 
     ghost Value = { Trivia };
@@ -87,7 +105,8 @@ impl Model for TriviaBuilder {
 
     ghost invariant = { λ b. IsInOrder b.processed b.comments.items b.irregular_whitespaces.items
         × (b.settled ≡ true → IsSettled b.processed b.comments.items b.saw_newline b.saw_newline_for_comment
-        b.pure_comments b.no_side_effects_comments) };
+        b.pure_comments b.no_side_effects_comments)
+        × AreRangesUpTo (length b.comments.items) b.pure_comments b.no_side_effects_comments };
 }
 
 impl TriviaBuilder {
@@ -115,13 +134,17 @@ impl TriviaBuilder {
         self.comments.as_slice()
     }
 
-    /// Hands out the comments, and leaves none, between two gaps.
+    /// Hands out the comments, and leaves none, and no range of them, between two gaps.
     pub fn take_comments(&mut self, alloc: Global) -> CommentList
         requires { self.old.attachment.pending ≡ [] }
         ensures comments { result ≡ self.old.attachment.attached }
-        ensures after { self.new ≡ record self.old { attachment = record self.old.attachment { attached = [] } } }
+        ensures after { self.new ≡ without_ranges (record self.old {
+            attachment = record self.old.attachment { attached = [] };
+        }) }
     {
         self.processed = 0;
+        self.clear_pure_comments();
+        self.clear_no_side_effects_comments();
         CommentList::from_vec(std::mem::replace(&mut self.comments, Vec::new(alloc)))
     }
 
@@ -149,14 +172,16 @@ impl TriviaBuilder {
 
     /// The comments of class `PureNotApplied` before the last token, from the first of them to the last.
     pub fn previous_token_pure_comments(&self) -> Option<CommentRange>
-        ensures { result ≡ self.now.pure_comments }
+        ensures range { result ≡ self.now.pure_comments }
+        ensures held { IfSome result (IsRangeOf (held self.now.attachment)) }
     {
         self.pure_comments
     }
 
     /// The comments of class `NoSideEffectsNotApplied` before the last token, from the first of them to the last.
     pub fn previous_token_no_side_effects_comments(&self) -> Option<CommentRange>
-        ensures { result ≡ self.now.no_side_effects_comments }
+        ensures range { result ≡ self.now.no_side_effects_comments }
+        ensures held { IfSome result (IsRangeOf (held self.now.attachment)) }
     {
         self.no_side_effects_comments
     }
@@ -298,7 +323,8 @@ impl TriviaBuilder {
 
     /// Notes the comment at an index in the range of its class, if it has one.
     fn note_class(&mut self, content: CommentContent, index: u32)
-        requires { index < 2 ^ 32 - 1 }
+        requires fits { index < 2 ^ 32 - 1 }
+        requires held { index < length (held self.old.attachment) }
         ensures { self.new ≡ note_class content index self.old }
     {
         match content {
@@ -407,7 +433,8 @@ impl TriviaBuilder {
     /// How far it has come, between two gaps.
     pub fn lengths(&self) -> TriviaLengths
         requires { self.now.attachment.pending ≡ [] }
-        ensures { result ≡ lengths_of self.now }
+        ensures lengths { result ≡ lengths_of self.now }
+        ensures ranges { AreRangesUpTo result.comments result.pure_range result.no_side_effects }
     {
         TriviaLengths {
             comments: self.processed as u32,
@@ -420,7 +447,8 @@ impl TriviaBuilder {
         }
     }
 
-    /// Whether it may go back there: no list is shorter than it was, and what stays starts before the place.
+    /// Whether it may go back there: no list is shorter than it was, the ranges are of comments that stay, and what stays
+    /// starts before the place.
     pub fn can_cut_back(&self, to: &TriviaLengths, place: u32) -> bool
         ensures { IsTrue result ↔ CanCutBack to.now place self.now }
     {
@@ -432,6 +460,9 @@ impl TriviaBuilder {
         if irregular > self.irregular_whitespaces.len() {
             return false;
         }
+        if !are_ranges_up_to(to) {
+            return false;
+        }
         if !is_past_comments(&self.comments[..comments], place) {
             return false;
         }
@@ -439,10 +470,11 @@ impl TriviaBuilder {
     }
 
     /// Goes back to where it was, if since then the lists only grew.
-    pub fn cut_back(&mut self, to: &TriviaLengths)
-        requires comments { to.now.comments ≤ length (held self.old.attachment) }
-        requires irregular { to.now.irregular ≤ length self.old.irregular_whitespaces }
-        ensures { self.new ≡ cut_to to.now self.old }
+    pub fn cut_back(&mut self, to: TriviaLengths)
+        requires comments { to.comments ≤ length (held self.old.attachment) }
+        requires irregular { to.irregular ≤ length self.old.irregular_whitespaces }
+        requires ranges { AreRangesUpTo to.comments to.pure_range to.no_side_effects }
+        ensures { self.new ≡ cut_to to self.old }
     {
         self.comments.truncate(to.comments as usize);
         self.irregular_whitespaces.truncate(to.irregular as usize);

@@ -12,40 +12,34 @@ use Rattle.js_lexer.proofs.lexer.Lexer.read.Goals as goal
 pub invariant_of-self : goal.invariant_of-self
 invariant_of-self g c =
     let first = no_token_yet c.self.inside.has_read c.self.inside.found.trivia.attachment.previous in
-    let cleared =
-    c.clear_no_side_effects_comments.ensures
-    ∙ ap (λ (s : Trivia). record s { no_side_effects_comments = None }) c.clear_pure_comments.ensures in
+    let cleared = c.begin_reading.ensures in
     let l = state_of c.self.inside.reader c.self.inside.found _ c.self.inside.decoded in
     sound_after c.args.goal l _ _ c.in-Ok.token c.read_and_collect-read.new.reader c.read_and_collect-read.new.found
     c.handle_token.new.self c.read_and_collect-read.new.decoded c.in-Ok.ensures.placed.utf8
     (c.in-Ok.ensures.kept.are_values c.self.invariant.are_values)
-    (reader_is c.self.inside.reader c.self.inside.found _ c.self.inside.decoded
-    (not c.self.inside.has_read) c.clear_no_side_effects_comments.new.self c.self.invariant cleared)
+    (reader_is c.args.goal c.self.inside.reader c.self.inside.found _ c.self.inside.decoded
+    (not c.self.inside.has_read) c.begin_reading.new.trivia c.self.invariant cleared)
     (c.in-Ok.ensures.ok _ first) c.handle_token.ensures
 
 pub cut_back-requires-clause-comments : goal.cut_back-requires-clause-comments
 cut_back-requires-clause-comments g c =
     let s = c.self.inside.found.trivia in
-    let cleared =
-    c.clear_no_side_effects_comments.ensures
-    ∙ ap (λ (s : Trivia). record s { no_side_effects_comments = None }) c.clear_pure_comments.ensures in
+    let cleared = c.begin_reading.ensures in
     let grown = c.read_and_collect-read.ensures.grown in
     let none : s.attachment.pending ≡ [] = ap (λ (a : Attachment). a.pending) c.self.invariant.attachment in
     let grew : GrewFrom s c.read_and_collect-read.new.found.trivia =
-    grew_by_calls s c.clear_no_side_effects_comments.new.self c.read_and_collect-read.new.found.trivia grown.items none
+    grew_by_calls s c.begin_reading.new.trivia c.read_and_collect-read.new.found.trivia grown.items none
     (ap (λ (s : Trivia). s.attachment) cleared) (ap (λ (s : Trivia). s.irregular_whitespaces) cleared) grown.trivia in
     rw c.lengths-trivia_before.ensures (long_enough s c.read_and_collect-read.new.found.trivia grew).0
 
 pub cut_back-requires-clause-irregular : goal.cut_back-requires-clause-irregular
 cut_back-requires-clause-irregular g c =
     let s = c.self.inside.found.trivia in
-    let cleared =
-    c.clear_no_side_effects_comments.ensures
-    ∙ ap (λ (s : Trivia). record s { no_side_effects_comments = None }) c.clear_pure_comments.ensures in
+    let cleared = c.begin_reading.ensures in
     let grown = c.read_and_collect-read.ensures.grown in
     let none : s.attachment.pending ≡ [] = ap (λ (a : Attachment). a.pending) c.self.invariant.attachment in
     let grew : GrewFrom s c.read_and_collect-read.new.found.trivia =
-    grew_by_calls s c.clear_no_side_effects_comments.new.self c.read_and_collect-read.new.found.trivia grown.items none
+    grew_by_calls s c.begin_reading.new.trivia c.read_and_collect-read.new.found.trivia grown.items none
     (ap (λ (s : Trivia). s.attachment) cleared) (ap (λ (s : Trivia). s.irregular_whitespaces) cleared) grown.trivia in
     rw c.lengths-trivia_before.ensures (long_enough s c.read_and_collect-read.new.found.trivia grew).1
 
@@ -53,13 +47,11 @@ pub invariant_of-self-in-Err : goal.invariant_of-self-in-Err
 invariant_of-self-in-Err g c =
     let s = c.self.inside.found.trivia in
     let now = c.read_and_collect-read.new.found.trivia in
-    let cleared =
-    c.clear_no_side_effects_comments.ensures
-    ∙ ap (λ (s : Trivia). record s { no_side_effects_comments = None }) c.clear_pure_comments.ensures in
+    let cleared = c.begin_reading.ensures in
     let grown = c.read_and_collect-read.ensures.grown in
     let none : s.attachment.pending ≡ [] = ap (λ (a : Attachment). a.pending) c.self.invariant.attachment in
     let grew : GrewFrom s now =
-    grew_by_calls s c.clear_no_side_effects_comments.new.self now grown.items none
+    grew_by_calls s c.begin_reading.new.trivia now grown.items none
     (ap (λ (s : Trivia). s.attachment) cleared) (ap (λ (s : Trivia). s.irregular_whitespaces) cleared) grown.trivia in
     let trivia : c.cut_back.new.self ≡ s =
     c.cut_back.ensures ∙ ap (λ to. cut_to to now) c.lengths-trivia_before.ensures ∙ back_after_calls s now none grew in
@@ -73,9 +65,7 @@ invariant_of-self-in-Err g c =
 pub returns-in-Ok-clause-ok : goal.returns-in-Ok-clause-ok
 returns-in-Ok-clause-ok g c =
     let first = no_token_yet c.self.inside.has_read c.self.inside.found.trivia.attachment.previous in
-    let cleared =
-    c.clear_no_side_effects_comments.ensures
-    ∙ ap (λ (s : Trivia). record s { no_side_effects_comments = None }) c.clear_pure_comments.ensures in
+    let cleared = c.begin_reading.ensures in
     let read = c.in-Ok.ensures.ok _ first in
     let tokens = rw c.tokens.ensures at c.in-Ok.ensures.tokens in
     rw (← c.self.view_is, tokens)
@@ -88,21 +78,19 @@ returns-in-Ok-clause-ok g c =
       errors = refl;
       deferred = refl;
       between =
-          between_is c.self.inside.reader.source _ c.self.inside.found.trivia
-          c.clear_no_side_effects_comments.new.self c.self.inside.decoded c.self.invariant cleared;
+          between_is c.args.goal c.self.inside.reader.source _ c.self.inside.found.trivia
+          c.begin_reading.new.trivia c.self.inside.decoded c.self.invariant cleared;
     } read c.handle_token.ensures (c.in-Ok.ensures.kept.kept c.self.invariant.are_values) c.in-Ok.ensures.value refl)
 
 pub returns-in-Err-clause-err : goal.returns-in-Err-clause-err
 returns-in-Err-clause-err g c =
     let s = c.self.inside.found.trivia in
     let now = c.read_and_collect-read.new.found.trivia in
-    let cleared =
-    c.clear_no_side_effects_comments.ensures
-    ∙ ap (λ (s : Trivia). record s { no_side_effects_comments = None }) c.clear_pure_comments.ensures in
+    let cleared = c.begin_reading.ensures in
     let grown = c.read_and_collect-read.ensures.grown in
     let none : s.attachment.pending ≡ [] = ap (λ (a : Attachment). a.pending) c.self.invariant.attachment in
     let grew : GrewFrom s now =
-    grew_by_calls s c.clear_no_side_effects_comments.new.self now grown.items none
+    grew_by_calls s c.begin_reading.new.trivia now grown.items none
     (ap (λ (s : Trivia). s.attachment) cleared) (ap (λ (s : Trivia). s.irregular_whitespaces) cleared) grown.trivia in
     let trivia : c.cut_back.new.self ≡ s =
     c.cut_back.ensures ∙ ap (λ to. cut_to to now) c.lengths-trivia_before.ensures ∙ back_after_calls s now none grew in

@@ -34,7 +34,7 @@ invariant_of-self g c =
     sound_after Next (state_of r c.self.inside.found last c.self.inside.decoded) (moved r r.source (is_none last))
     before c.in-Ok.token c.read_here_and_collect-read.new.reader (ends_told p.ends before) c.tell_alone.new.trivia
     c.read_here_and_collect-read.new.decoded c.in-Ok.ensures.placed.utf8 (kept.are_values c.self.invariant.are_values)
-    (reader_is r c.self.inside.found last c.self.inside.decoded (is_none last) cleared c.self.invariant refl)
+    (reader_is Next r c.self.inside.found last c.self.inside.decoded (is_none last) cleared c.self.invariant refl)
     (behind_plain_gap last r r.source (is_none last) c.args.source c.args.line_has_ended before c.in-Ok.token
     c.read_here_and_collect-read.new.reader (first_token last) p c.in-Ok.ensures.ok)
     (c.tell_alone.ensures ∙ ends_forgotten p.ends cleared c.in-Ok.token none)
@@ -87,7 +87,7 @@ returns-in-Ok-clause-ok g c =
             errors = refl;
             deferred = refl;
             between =
-                between_is r.source last c.self.inside.found.trivia cleared c.self.inside.decoded c.self.invariant refl;
+                between_is Next r.source last c.self.inside.found.trivia cleared c.self.inside.decoded c.self.invariant refl;
           }
           (behind_plain_gap last r r.source (is_none last) c.args.source c.args.line_has_ended before c.in-Ok.token
           c.read_here_and_collect-read.new.reader (first_token last) p c.in-Ok.ensures.ok)

@@ -42,7 +42,7 @@ invariant_of-self-2 g c =
     (sound_after Next (state_of r c.self.inside.found last c.self.inside.decoded) (moved r r.source (is_none last))
     before c.args.token new (ends_told p.gap.ends before) c.tell_alone.new.trivia c.self.inside.decoded
     (p.here r).placed.utf8 c.self.invariant.are_values
-    (reader_is r c.self.inside.found last c.self.inside.decoded (is_none last) cleared c.self.invariant refl)
+    (reader_is Next r c.self.inside.found last c.self.inside.decoded (is_none last) cleared c.self.invariant refl)
     (behind_plain_gap last r r.source (is_none last) p.mid p.line_has_ended before c.args.token new (first_token last)
     p.gap (p.here r))
     (c.tell_alone.ensures ∙ ends_forgotten p.gap.ends cleared c.args.token none))
@@ -71,7 +71,7 @@ returns-clause-ok g c =
       errors = refl;
       deferred = refl;
       between =
-          between_is r.source last c.self.inside.found.trivia cleared c.self.inside.decoded c.self.invariant refl;
+          between_is Next r.source last c.self.inside.found.trivia cleared c.self.inside.decoded c.self.invariant refl;
     }
     (behind_plain_gap last r r.source (is_none last) p.mid p.line_has_ended before c.args.token new
     (first_token last) p.gap (p.here r))
