@@ -1,6 +1,6 @@
 //! The kinds of the original, and which texts are words.
 
-use js_kind::{Kind, match_keyword, match_keyword_between};
+use js_kind::{Kind, match_keyword_between};
 use std::test::Fail;
 
 /// The name and the text of each kind, in the order of their numbers.
@@ -276,7 +276,7 @@ static NAMES: [(&'static str, Kind); 13] = [
 #[test]
 fn kinds_of_names(rt: HostRuntime) {
     for (text, kind) in &NAMES {
-        assert_eq!(rt; match_keyword(text), *kind, "{text}");
+        assert_eq!(rt; Kind::match_keyword(text), *kind, "{text}");
     }
 }
 

@@ -10,12 +10,13 @@ ghost use Rattle.js_grammar.specs.Outcome.{Outcome};
 ghost use Rattle.js_grammar.specs.declared.goal.Goal.{Goal};
 ghost use Rattle.js_grammar.specs.Reads.{PlainReads, SameReading, is_plain};
 
-/// At most one piece of a gap starts at a place, and it is a character long at least.
+/// The piece of a gap that starts at a place, of which there is at most one since `piece` is a function of what stands
+/// there, has a character at least, and its characters are those before what is left.
 pub fn one_piece_starts_at_a_place()
-    ensures one { (t : SourceType) (line_has_ended : Bool) (text : List ℕ) (x y : Piece)
-        → piece t line_has_ended text ≡ Some x → piece t line_has_ended text ≡ Some y → x ≡ y }
+    ensures some { (t : SourceType) (line_has_ended : Bool) (text : List ℕ) (x : Piece)
+        → piece t line_has_ended text ≡ Some x → 0 < length x.text }
     ensures characters { (t : SourceType) (line_has_ended : Bool) (text : List ℕ) (x : Piece)
-        → piece t line_has_ended text ≡ Some x → (text ≡ x.text ++ x.rest) × (length x.rest < length text) }
+        → piece t line_has_ended text ≡ Some x → text ≡ x.text ++ x.rest }
 {}
 
 /// The tokens that the grammar reads from a place on have one span, kind and newline flag.

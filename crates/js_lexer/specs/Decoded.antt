@@ -116,12 +116,22 @@ abbrev pub GivesDecoded : Option (List ℕ) → Option JsText → Type 0
 GivesDecoded value None = value ≡ None
 GivesDecoded value (Some given) = (value ≡ Some (js_text_units given)) × (is_decoded given ≡ true)
 
+-- where the stretch of a token begins: behind the quote of a string, behind the `#` of a private name, and else at the
+-- token's start
+abbrev pub stretch_start : Kind → ℕ → ℕ
+stretch_start kind start = if is_template_kind kind then start else text_start kind start
+
+-- and where it ends: before the quote of a string, and else at the token's end
+abbrev pub stretch_end : Kind → ℕ → ℕ
+stretch_end kind end = if is_template_kind kind then end else text_end kind end
+
 -- The answer is the text of the token: its decoded value where it has an escape, and none where no value is there; else
--- its stretch of the source, without its marks, and none where there is no such stretch.
+-- its stretch of the source, without the quotes of a string and the `#` of a private name, and none where there is no
+-- such stretch.
 pub record GivesText (text : List ℕ) (values : Values) (token : TokenParts) (answer : Option JsText) : Type 0 where
   pub escaped : token.escaped ≡ true → GivesDecoded (value_of values.strings token.start) answer
   pub plain : token.escaped ≡ false
-      → GivesStretch text (text_start token.kind token.start) (text_end token.kind token.end) answer
+      → GivesStretch text (stretch_start token.kind token.start) (stretch_end token.kind token.end) answer
 
 -- the text that a template's value has, if it is good
 abbrev pub template_text : Option TemplateValue → Option JsText

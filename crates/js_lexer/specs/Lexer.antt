@@ -21,7 +21,7 @@ use Rattle.js_grammar.specs.declared.goal.Goal.TheVariants.{Next, JsxChild}
 use Rattle.js_source.specs.Source.{At}
 use Rattle.js_trivia.specs.Attachment.{between_gaps}
 use Rattle.js_trivia.specs.Trivia.{Trivia, HeldBefore, extend_if, is_past, is_pure_not_applied}
-use Rattle.js_trivia.specs.Trivia.{is_no_side_effects_not_applied, comment_starts, span_starts}
+use Rattle.js_trivia.specs.Trivia.{is_no_side_effects_not_applied, comment_starts, span_starts, AreRangesUpTo}
 use Rattle.js_trivia.specs.declared.lengths.TriviaLengths.{TriviaLengths}
 use Rattle.js_lexer.specs.Decoded.{Values, no_values, AreValues, Keeps, HasValue}
 use Rattle.js_kind.specs.Kinds.{number}
@@ -204,12 +204,14 @@ pub record Checkpoint : Type 0 where
   pub pure_comments : Option CommentRange
   pub no_side_effects_comments : Option CommentRange
 
--- What a checkpoint keeps for the trivia builder tells the last token, which ends up to the place.
+-- What a checkpoint keeps for the trivia builder tells the last token, which ends up to the place, and ranges of comments
+-- that it counts.
 pub record IsBehindToken (place : ℕ) (last : Option TokenParts) (lengths : TriviaLengths) : Type 0 where
   pub behind : (token_before last).end ≤ place
   pub saw_newline : lengths.saw_newline ≡ is_none last
   pub saw_newline_for_comment : lengths.saw_newline_for_comment ≡ is_none last
   pub previous : lengths.previous ≡ token_before last
+  pub ranges : AreRangesUpTo lengths.comments lengths.pure_range lengths.no_side_effects
 
 abbrev pub checkpoint_of : LexerState → Checkpoint
 checkpoint_of l = record {

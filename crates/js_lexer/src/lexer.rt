@@ -268,7 +268,7 @@ impl<'a, C: LexerConfig + Drop> Lexer<'a, C> {
             Err(error) => {
                 self.reader.go_back(place, reported);
                 self.found.deferred.truncate(deferred_before);
-                self.found.trivia.cut_back(&trivia_before);
+                self.found.trivia.cut_back(trivia_before);
                 Err(error)
             }
         }
@@ -334,16 +334,18 @@ impl<'a, C: LexerConfig + Drop> Lexer<'a, C> {
 
     /// The text of a token of this source. Of one with an escape it is the value of the name or the string that was
     /// decoded where it was read, and none where no such token was read; of any other its stretch of the source, and
-    /// none where there is no such stretch. A private name's `#` is left out, and so are quotes and the marks of
-    /// templates.
+    /// none where there is no such stretch. A private name's `#` is left out, and so are the quotes of a string. A part
+    /// of a template has its marks: what is between them is told by `get_template_string`.
     pub fn get_string(&self, token: Token) -> Option<JsText<'_>>
         ensures { GivesText self.now.text self.now.decoded token result }
     {
         if token.escaped() {
-            self.decoded_text(token.start())
-        } else {
-            self.source_text(&token)
+            return self.decoded_text(token.start());
         }
+        if is_template(token.kind()) {
+            return self.stretch(token.start(), token.end());
+        }
+        self.source_text(&token)
     }
 
     /// The value of a part of a template of this source; none for a token of another kind. Of one in which something is
@@ -483,10 +485,14 @@ impl<'a, C: LexerConfig + Drop> Lexer<'a, C> {
         std::mem::replace(&mut self.found.deferred, DiagnosticList::new_in(alloc))
     }
 
-    /// Hands out the comments that were read, and leaves none.
+    /// Hands out the comments that were read, and leaves none, and no range of them.
     pub fn take_comments(&mut self) -> CommentList
         ensures comments { result ≡ self.old.findings.comments }
-        ensures after { self.new ≡ record self.old { findings = record self.old.findings { comments = [] } } }
+        ensures after { self.new ≡ record self.old {
+            findings = record self.old.findings { comments = [] };
+            pure_comments = None;
+            no_side_effects_comments = None;
+        } }
     {
         self.found.trivia.take_comments(self.reader.alloc)
     }
@@ -610,6 +616,6 @@ impl<'a, C: LexerConfig + Drop> Lexer<'a, C> {
         self.reader.errors.truncate(errors);
         put_errors_back(&mut self.reader.errors, errors_copy);
         self.found.deferred.truncate(deferred);
-        self.found.trivia.cut_back(&trivia);
+        self.found.trivia.cut_back(trivia);
     }
 }

@@ -17,7 +17,7 @@ use js_text::RegExpFlags;
 use std::alloc::AllocError;
 
 /// A regular expression that was read.
-#[derive(Clone, Copy, Debug)]
+#[derive(Clone, Copy, PartialEq, Eq, Debug)]
 pub struct RegexToken {
     pub token: Token,
     /// Where its pattern ends, as an offset in bytes.

@@ -6,6 +6,7 @@ pub mod LiveLemmas
 pub mod MarkLemmas
 pub mod ReadLemmas
 pub mod RunLemmas
+pub mod RunsOn
 pub mod StepLemmas
 pub mod Unique
 pub mod WholeLemmas

@@ -40,13 +40,13 @@ pub state_step : (s : State) (c : Command) (left : List Command) (row : Row) (mo
     → state_after s (c ∷ left) (row ∷ more) ≡ state_after (after_row (effect_of c) row s) left more
 state_step s c left row more e = rw e refl
 
-run_mark : (text : List ℕ) (t : SourceType) (s : State) (c : Command) (left : List Command) (more : List Row)
+pub run_mark : (text : List ℕ) (t : SourceType) (s : State) (c : Command) (left : List Command) (more : List Row)
     → is_step c ≡ false
     → HasMark c s → Run text t (after_mark (effect_of c) s) left more → Run text t s (c ∷ left) more
 run_mark text t s c left [] e has h = rw e (has, h)
 run_mark text t s c left (row ∷ more) e has h = rw e (has, h)
 
-state_mark : (s : State) (c : Command) (left : List Command) (more : List Row) → is_step c ≡ false
+pub state_mark : (s : State) (c : Command) (left : List Command) (more : List Row) → is_step c ≡ false
     → state_after s (c ∷ left) more ≡ state_after (after_mark (effect_of c) s) left more
 state_mark s c left [] e = rw e refl
 state_mark s c left (row ∷ more) e = rw e refl

@@ -4,8 +4,8 @@ use Rattle.std.specs.List.{AllByRecursion}
 use Rattle.js_text.specs.declared.source_type.SourceType.{SourceType}
 use Rattle.js_lexer.specs.Lexer.{IsOnPlaces}
 use Rattle.js_session.specs.Effects.{effect_of, is_step}
-use Rattle.js_session.specs.Live.{State, nothing_live, state_after_first, after_row, after_mark}
-use Rattle.js_session.specs.Report.{IsRow, LiesOnPlaces, all_collected}
+use Rattle.js_session.specs.Live.{State, nothing_live, state_after_first, state_after, after_row, after_mark}
+use Rattle.js_session.specs.Report.{IsRow, AreRows, LiesOnPlaces, all_collected}
 use Rattle.js_session.specs.declared.command.Command.{Command}
 use Rattle.js_session.specs.declared.report.Report.{Report}
 use Rattle.js_session.specs.declared.row.Row.{Row}
@@ -60,3 +60,16 @@ pub record LieOnPlaces (s : SessionState) : Type 0 where
 -- One command of any kind: a step adds its row, and any other command changes the state alone.
 abbrev pub Follows : Command → SessionState → SessionState → Type 0
 Follows command old new = MatchBool (is_step command) (AddsRow command old new) (new ≡ after_command command old)
+
+-- A session that has answered its first step and these commands: its rows are those of them, and its state is the one
+-- behind them, with what was live at each open mark.
+pub record HasRun (text : List ℕ) (t : SourceType) (collects : Bool) (commands : List Command) (s : SessionState)
+    : Type 0 where
+  pub text_is : s.text ≡ text
+  pub type_is : s.source_type ≡ t
+  pub collects_is : s.collects ≡ collects
+  pub first : Row
+  pub rows : List Row
+  pub rows_are : s.rows ≡ first ∷ rows
+  pub answers : AreRows text t commands (first ∷ rows)
+  pub state : s.state ≡ state_after (state_after_first first) commands rows

@@ -1,6 +1,6 @@
 //! Laws of the definitions alone: each function carries one for all arguments, and does nothing.
 
-ghost use Rattle.std.specs.Prelude.{◌≡◌, ◌<◌, ℕ, Bool, List, Option, Some};
+ghost use Rattle.std.specs.Prelude.{◌≡◌, ◌<◌, ◌^◌, ◌++◌, ◌∷◌, [], ℕ, length, Bool, List, Option, Some};
 ghost use Rattle.std.specs.List.{AllByRecursion};
 ghost use Rattle.std.specs.Str.{IsUtf8};
 ghost use Rattle.js_text.specs.declared.source_type.SourceType.{SourceType};
@@ -8,7 +8,8 @@ ghost use Rattle.js_session.specs.declared.command.Command.{Command};
 ghost use Rattle.js_session.specs.declared.report.Report.{Report};
 ghost use Rattle.js_session.specs.declared.row.Row.{Row};
 ghost use Rattle.js_session.specs.Live.{Live, outcome_of};
-ghost use Rattle.js_session.specs.Report.{IsRow, ReportOf};
+ghost use Rattle.js_session.specs.Report.{IsRow, HasMark, ReportOf};
+ghost use Rattle.js_session.specs.Session.{SessionState, Begins, Follows, HasRun, report_of};
 ghost use Rattle.js_session.specs.WholeSource.{nexts, IsEof, ReportOfWhole};
 
 use crate::command::Command;
@@ -38,6 +39,26 @@ pub fn fewer_steps_stop_before_the_end()
     ensures { (source : List ℕ) (t : SourceType) (collects : Bool) (steps fewer : ℕ) (whole report : Report)
         → ReportOfWhole source t collects steps whole → fewer < steps
         → ReportOf source t collects (nexts fewer) report → AllByRecursion (λ row. ¬ (IsEof row)) report.rows }
+{}
+
+/// A session that has made its first step has run no command.
+pub fn a_session_begins_with_no_command()
+    ensures { (text : List ℕ) (t : SourceType) (collects : Bool) (s : SessionState) → Begins text t collects s
+        → HasRun text t collects [] s }
+{}
+
+/// A session that follows a command has run one more.
+pub fn each_call_is_one_command_more()
+    ensures { (text : List ℕ) (t : SourceType) (collects : Bool) (commands : List Command) (command : Command)
+        (old new : SessionState) → HasRun text t collects commands old → HasMark command old.state
+        → Follows command old new → HasRun text t collects (commands ++ command ∷ []) new }
+{}
+
+/// After any list of calls, the report of a session is that of its commands.
+pub fn a_session_reports_its_commands()
+    ensures { (text : List ℕ) (t : SourceType) (collects : Bool) (commands : List Command) (s : SessionState)
+        → IsUtf8 text → length text < 2 ^ 32 → HasRun text t collects commands s
+        → ReportOf text t collects commands (report_of s) }
 {}
 
 /// A peek gives the token that the next step gives, with its value, and finds what that finds.

@@ -6,7 +6,7 @@ ghost use Rattle.js_lexer.specs.Lexer.{IsOnPlaces};
 ghost use Rattle.js_session.specs.Effects.{effect_of, is_step};
 ghost use Rattle.js_grammar.specs.Reads.{is_onward};
 ghost use Rattle.js_session.specs.Effects.Effect.{reads, re_lexes};
-ghost use Rattle.js_session.specs.Report.{LiesOnPlaces};
+ghost use Rattle.js_session.specs.Report.{LiesOnPlaces, IsSliceOnPlaces};
 ghost use Rattle.js_session.specs.Session.{Begins, AddsRow, LieOnPlaces, after_command, report_of};
 
 use crate::command::Command;
@@ -187,6 +187,8 @@ impl<'a, C: LexerConfig + Drop> Session<'a, C> {
         ensures report { result ≡ report_of self.entry }
         ensures rows_lie { AllByRecursion (LiesOnPlaces self.entry.text) result.rows }
         ensures tokens_lie { AllByRecursion (IsOnPlaces self.entry.text) result.tokens }
+        // So the text of the report may be asked for.
+        ensures slices { AllByRecursion (λ row. IsSliceOnPlaces self.entry.text row.value) result.rows }
     {
         let Session { reader, marks: _ } = self;
         let RowReader {

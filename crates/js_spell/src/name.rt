@@ -21,7 +21,7 @@ ghost use Rattle.js_spell.specs.declared.spelt.SpeltValue.TheVariants.{Decoded};
 use crate::parts::name_parts;
 use crate::spelt::{Spelt, SpeltValue};
 use crate::unicode_escape::{read_hex_digits, read_unicode_escape};
-use js_kind::{Kind, Token, match_keyword, match_keyword_between};
+use js_kind::{Kind, Token, match_keyword_between};
 use js_source::{Source, SourcePosition};
 use js_text::{
     Diagnostic, DiagnosticList, JSStrBuilder, Span, is_identifier_part, is_identifier_start,
@@ -329,7 +329,7 @@ fn spell_decoded(alloc: Global, text: &str) -> Result<Spelt, AllocError>
     let mut units = JSStrBuilder::with_capacity_in(alloc, text.len())?;
     units.push_str(text)?;
     Ok(Spelt {
-        kind: match_keyword(text),
+        kind: Kind::match_keyword(text),
         value: SpeltValue::Decoded(units.into_js_str()),
     })
 }
@@ -380,7 +380,7 @@ pub fn read_name(
         token.set_escaped(false);
         token.set_has_separator(false);
         return Ok(Spelt {
-            kind: match_keyword(plain),
+            kind: Kind::match_keyword(plain),
             value: SpeltValue::Plain,
         });
     }

@@ -6,6 +6,7 @@ pub mod Law
 pub mod Licences
 pub mod Marking
 pub mod PieceLaw
+pub mod Ranges
 pub mod Starts
 pub mod Steps
 pub mod Twice

@@ -69,8 +69,8 @@ pub record IsRangeUpTo (count : ℕ) (range : CommentRange) : Type 0 where
 
 -- Both ranges of annotations are such, where they are there.
 pub record AreRangesUpTo (count : ℕ) (pure no_side_effects : Option CommentRange) : Type 0 where
-  pub pure : IfSome pure (IsRangeUpTo count)
-  pub no_side_effects : IfSome no_side_effects (IsRangeUpTo count)
+  pub pure_comments : IfSome pure (IsRangeUpTo count)
+  pub no_side_effects_comments : IfSome no_side_effects (IsRangeUpTo count)
 
 -- The comment at an index begins a range, or the range ends after it; one that starts later becomes that comment alone.
 abbrev pub extend : ℕ → Option CommentRange → Option CommentRange

@@ -1,6 +1,6 @@
 //! Where a comment stands in the list of comments, and the ranges of annotations.
 
-ghost use Rattle.std.specs.Prelude.{◌≡◌, ◌-◌, ◌^◌, ◌<◌, ◌≤◌, IfSome};
+ghost use Rattle.std.specs.Prelude.{◌≡◌, ◌-◌, ◌^◌, ◌<◌, ◌≤◌, length, IfSome};
 ghost use Rattle.std.specs.List.{position_from};
 ghost use Rattle.js_trivia.specs.Trivia.{is_past, AscendFrom, comment_starts, span_starts, is_span, index_of_new};
 ghost use Rattle.js_trivia.specs.Trivia.{extend};
@@ -30,6 +30,7 @@ pub(crate) fn is_past_spans(spans: &[Span], start: u32) -> bool
 pub(crate) fn new_index(comments: &[Comment], start: u32) -> Option<u32>
     requires { AscendFrom 0 (comment_starts comments.now) }
     ensures index { result ≡ index_of_new start comments.now }
+    ensures behind { IfSome result (λ index. index ≡ length comments.now) }
     ensures bound { IfSome result (λ index. index ≤ start) }
 {
     if is_past_comments(comments, start) {
@@ -43,6 +44,7 @@ pub(crate) fn new_index(comments: &[Comment], start: u32) -> Option<u32>
 pub(crate) fn find_comment(comments: &[Comment], start: u32, end: u32) -> Option<u32>
     requires { AscendFrom 0 (comment_starts comments.now) }
     ensures at { result ≡ position_from (is_span start end) 0 comments.now }
+    ensures held { IfSome result (λ index. index < length comments.now) }
     ensures bound { IfSome result (λ index. index ≤ start) }
 {
     let index = position_of(comments, start, end)?;

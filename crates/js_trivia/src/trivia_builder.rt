@@ -143,8 +143,8 @@ impl TriviaBuilder {
         }) }
     {
         self.processed = 0;
-        self.clear_pure_comments();
-        self.clear_no_side_effects_comments();
+        self.pure_comments = None;
+        self.no_side_effects_comments = None;
         CommentList::from_vec(std::mem::replace(&mut self.comments, Vec::new(alloc)))
     }
 

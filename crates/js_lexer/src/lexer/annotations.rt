@@ -1,6 +1,6 @@
 //! The calls of a lexer on annotations in comments, which a parser takes up.
 
-ghost use Rattle.std.specs.Prelude.{◌≡◌};
+ghost use Rattle.std.specs.Prelude.{◌≡◌, IfSome};
 ghost use Rattle.js_trivia.specs.Marks.{IsRangeOf, marked_within, pure_applied, no_side_effects_applied};
 ghost use Rattle.js_lexer.specs.Lexer.{with_comments};
 
@@ -11,14 +11,16 @@ use js_text::CommentRange;
 impl<C: LexerConfig + Drop> Lexer<'_, C> {
     /// The comments of class `PureNotApplied` before the last token, from the first of them to the last.
     pub fn previous_token_pure_comments(&self) -> Option<CommentRange>
-        ensures { result ≡ self.now.pure_comments }
+        ensures range { result ≡ self.now.pure_comments }
+        ensures held { IfSome result (IsRangeOf self.now.findings.comments) }
     {
         self.found.trivia.previous_token_pure_comments()
     }
 
     /// The comments of class `NoSideEffectsNotApplied` before the last token, from the first of them to the last.
     pub fn previous_token_no_side_effects_comments(&self) -> Option<CommentRange>
-        ensures { result ≡ self.now.no_side_effects_comments }
+        ensures range { result ≡ self.now.no_side_effects_comments }
+        ensures held { IfSome result (IsRangeOf self.now.findings.comments) }
     {
         self.found.trivia.previous_token_no_side_effects_comments()
     }

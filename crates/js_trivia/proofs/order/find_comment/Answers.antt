@@ -1,4 +1,5 @@
-use Rattle.std.proofs.Common.{◌≤◌, ◌∙◌, sym, arith}
+use Rattle.std.proofs.Common.{◌≤◌, ◌<◌, ◌+◌, length, ◌∙◌, sym, arith}
+use Rattle.js_trivia.proofs.Ranges.{position_within}
 use Rattle.js_trivia.proofs.Starts.{position_bound}
 use Rattle.js_trivia.proofs.order.find_comment.Goals as goal
 
@@ -13,3 +14,10 @@ pub returns-clause-bound : goal.returns-clause-bound
 returns-clause-bound c =
     position_bound 0 c.in_ok-index.index c.args.start c.args.end 0 c.args.comments.now (omega arith) c.requires
     (sym c.position_of.ensures ∙ c.in_ok-index.was)
+
+pub returns-clause-held : goal.returns-clause-held
+returns-clause-held c =
+    let within : c.in_ok-index.index < length c.args.comments.now + 0 =
+    position_within 0 c.in_ok-index.index c.args.start c.args.end c.args.comments.now
+    (sym c.position_of.ensures ∙ c.in_ok-index.was) in
+    omega (arith, within)

@@ -22,4 +22,5 @@ returns-clause-ok g c =
       token_is = read.token_is;
       reads = read.reads;
       agrees = read.agrees refl;
+      has_value = rw c.rewind.ensures.state read.has_value;
     }

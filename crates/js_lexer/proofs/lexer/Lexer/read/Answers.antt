@@ -30,7 +30,7 @@ cut_back-requires-clause-comments g c =
     let grew : GrewFrom s c.read_and_collect-read.new.found.trivia =
     grew_by_calls s c.begin_reading.new.trivia c.read_and_collect-read.new.found.trivia grown.items none
     (ap (λ (s : Trivia). s.attachment) cleared) (ap (λ (s : Trivia). s.irregular_whitespaces) cleared) grown.trivia in
-    rw c.lengths-trivia_before.ensures (long_enough s c.read_and_collect-read.new.found.trivia grew).0
+    rw c.lengths-trivia_before.ensures.lengths (long_enough s c.read_and_collect-read.new.found.trivia grew).0
 
 pub cut_back-requires-clause-irregular : goal.cut_back-requires-clause-irregular
 cut_back-requires-clause-irregular g c =
@@ -41,7 +41,7 @@ cut_back-requires-clause-irregular g c =
     let grew : GrewFrom s c.read_and_collect-read.new.found.trivia =
     grew_by_calls s c.begin_reading.new.trivia c.read_and_collect-read.new.found.trivia grown.items none
     (ap (λ (s : Trivia). s.attachment) cleared) (ap (λ (s : Trivia). s.irregular_whitespaces) cleared) grown.trivia in
-    rw c.lengths-trivia_before.ensures (long_enough s c.read_and_collect-read.new.found.trivia grew).1
+    rw c.lengths-trivia_before.ensures.lengths (long_enough s c.read_and_collect-read.new.found.trivia grew).1
 
 pub invariant_of-self-in-Err : goal.invariant_of-self-in-Err
 invariant_of-self-in-Err g c =
@@ -54,7 +54,7 @@ invariant_of-self-in-Err g c =
     grew_by_calls s c.begin_reading.new.trivia now grown.items none
     (ap (λ (s : Trivia). s.attachment) cleared) (ap (λ (s : Trivia). s.irregular_whitespaces) cleared) grown.trivia in
     let trivia : c.cut_back.new.self ≡ s =
-    c.cut_back.ensures ∙ ap (λ to. cut_to to now) c.lengths-trivia_before.ensures ∙ back_after_calls s now none grew in
+    c.cut_back.ensures ∙ ap (λ to. cut_to to now) c.lengths-trivia_before.ensures.lengths ∙ back_after_calls s now none grew in
     let moves = c.in-Err.ensures.err in
     let source : c.go_back.new.self.source ≡ c.self.inside.reader.source =
     c.go_back.ensures.source ∙ rw (moves.text, c.position-place.ensures.place) refl in
@@ -93,7 +93,7 @@ returns-in-Err-clause-err g c =
     grew_by_calls s c.begin_reading.new.trivia now grown.items none
     (ap (λ (s : Trivia). s.attachment) cleared) (ap (λ (s : Trivia). s.irregular_whitespaces) cleared) grown.trivia in
     let trivia : c.cut_back.new.self ≡ s =
-    c.cut_back.ensures ∙ ap (λ to. cut_to to now) c.lengths-trivia_before.ensures ∙ back_after_calls s now none grew in
+    c.cut_back.ensures ∙ ap (λ to. cut_to to now) c.lengths-trivia_before.ensures.lengths ∙ back_after_calls s now none grew in
     let moves = c.in-Err.ensures.err in
     let source : c.go_back.new.self.source ≡ c.self.inside.reader.source =
     c.go_back.ensures.source ∙ rw (moves.text, c.position-place.ensures.place) refl in

@@ -11,4 +11,5 @@ invariant_of-self c = (
       ∙ sym c.is_past_spans.ensures ∙ c.if-is_past_spans.true)
       (omega (arith, c.requires, c.ranges.end)) c.in_ok-push.ensures.items,
   c.self.invariant.1,
+  c.self.invariant.2,
 )

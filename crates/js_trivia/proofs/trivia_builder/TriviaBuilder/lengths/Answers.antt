@@ -1,6 +1,7 @@
 use Rattle.std.proofs.Common.{arith}
 use Rattle.js_text.specs.declared.comment.Comment.{Comment}
 use Rattle.js_text.specs.declared.span.Span.{Span}
+use Rattle.js_trivia.proofs.Ranges.{ranges_attached}
 use Rattle.js_trivia.proofs.Starts.{count_fits}
 use Rattle.js_trivia.proofs.trivia_builder.TriviaBuilder.lengths.Goals as goal
 
@@ -21,3 +22,9 @@ overflow_cast-result-2 c =
       count_fits (λ (x : Span). x.start) c.self.inside.irregular_whitespaces.items
           c.self.invariant.0.spans_ascend,
     )
+
+pub returns-clause-ranges : goal.returns-clause-ranges
+returns-clause-ranges c =
+    ranges_attached c.self.inside.processed c.self.inside.comments.items c.self.inside.pure_comments
+    c.self.inside.no_side_effects_comments c.self.invariant.0.within (rw (← c.self.view_is) at c.requires)
+    c.self.invariant.2
