@@ -10,7 +10,7 @@ use std::test::Fail;
 /// A source, what is done with it, and what is told where tokens are collected, and where they are not.
 type Case = (SourceType, &'static str, Script, &'static str, &'static str);
 
-static CASES: [Case; 16] = [
+static CASES: [Case; 18] = [
     (
         SourceType::Module,
         "#!x\na",
@@ -50,8 +50,8 @@ static CASES: [Case; 16] = [
         SourceType::Module,
         "'ab' '\\uD83D' `c` `d\r` `\\u` `e${",
         Script::Values,
-        "source ab;none;decoded 55357;none;source c;source c;none;decoded 100 10;none;bad;source e;source e;",
-        "source ab;none;decoded 55357;none;source c;source c;none;decoded 100 10;none;bad;source e;source e;",
+        "source ab;none;decoded 55357;none;source `c`;source c;none;decoded 100 10;none;bad;source `e${;source e;",
+        "source ab;none;decoded 55357;none;source `c`;source c;none;decoded 100 10;none;bad;source `e${;source e;",
     ),
     (
         SourceType::Module,
@@ -87,6 +87,20 @@ static CASES: [Case; 16] = [
         Script::Mark(2),
         "NoSideEffectsNotApplied none;0..1;NoSideEffects none;0..1;NoSideEffects none;0..1;",
         "NoSideEffectsNotApplied none;0..1;NoSideEffects none;0..1;NoSideEffects none;0..1;",
+    ),
+    (
+        SourceType::Module,
+        "/* @__PURE__ */ >x<",
+        Script::KeepAnnotations,
+        "PureNotApplied 0..1;none;PureNotApplied 0..1;none;PureNotApplied none;none;",
+        "PureNotApplied 0..1;none;PureNotApplied 0..1;none;PureNotApplied none;none;",
+    ),
+    (
+        SourceType::Module,
+        "/* @__PURE__ */ f",
+        Script::HandOutComments,
+        "PureNotApplied 0..1;none;1 none;none;",
+        "PureNotApplied 0..1;none;1 none;none;",
     ),
     (
         SourceType::Module,

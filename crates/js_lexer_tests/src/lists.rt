@@ -2,7 +2,7 @@
 
 ghost use Rattle.std.specs.Prelude.{◌≡◌, true};
 
-use crate::script::{goes_back, next, push_diagnostics, push_token, push_tokens};
+use crate::script::{child, goes_back, next, push_diagnostics, push_token, push_tokens};
 use js_kind::{Kind, LexerConfig, Token, TokenList, TokensLexerConfig};
 use js_lexer::Lexer;
 use js_text::{CommentRange, SourceType, Span};
@@ -110,6 +110,32 @@ pub fn mark_comments<C: LexerConfig + Drop>(
         push_annotations(text, lexer)?;
     }
     Ok(())
+}
+
+/// Reads a token, a child of JSX and another token, and adds what is known of annotations behind each.
+pub fn keep_annotations<C: LexerConfig + Drop>(
+    text: &mut String,
+    lexer: &mut Lexer<'_, C>,
+) -> Result<(), AllocError> {
+    next(lexer)?;
+    push_annotations(text, lexer)?;
+    child(lexer)?;
+    push_annotations(text, lexer)?;
+    next(lexer)?;
+    push_annotations(text, lexer)
+}
+
+/// Hands out the comments before the first token, and adds how many there are, and what is known of annotations before
+/// and behind that.
+pub fn hand_out_comments<C: LexerConfig + Drop>(
+    text: &mut String,
+    lexer: &mut Lexer<'_, C>,
+) -> Result<(), AllocError> {
+    next(lexer)?;
+    push_annotations(text, lexer)?;
+    let count = lexer.take_comments().len();
+    write!(text, "{count}")?;
+    push_annotations(text, lexer)
 }
 
 /// Reads a token behind these, which are set, and tells all.

@@ -10,7 +10,9 @@ use crate::gaps::tell_gaps;
 use crate::goals::{
     cut_left_angle, read_child_and_value, read_jsx_name, read_regular_expression, read_right_angle,
 };
-use crate::lists::{finalize, mark_comments, recover, rewrite};
+use crate::lists::{
+    finalize, hand_out_comments, keep_annotations, mark_comments, recover, rewrite,
+};
 use crate::readings::{tell_kinds, tell_tokens};
 use js_kind::{LexerConfig, Token};
 use js_lexer::{Lexer, LexerCheckpoint};
@@ -48,6 +50,10 @@ pub enum Script {
     Recover,
     /// Annotations are marked behind so many tokens.
     Mark(usize),
+    /// Annotations are kept behind a child of JSX, and not behind the next token.
+    KeepAnnotations,
+    /// Comments are handed out, and with them the annotations among them.
+    HandOutComments,
     /// A `/` is read again as a regular expression.
     RegularExpression,
     /// A `>` is read again as a compound, which is cut.
@@ -75,10 +81,15 @@ pub fn lexer_of<C: LexerConfig + Drop>(
     }
 }
 
-/// The next token. This and the two below promise nothing: tests compare what comes out, and without the facts of a
+/// The next token. This and the three below promise nothing: tests compare what comes out, and without the facts of a
 /// reading they are proved sooner.
 pub fn next<C: LexerConfig + Drop>(lexer: &mut Lexer<'_, C>) -> Result<Token, AllocError> {
     lexer.next_token()
+}
+
+/// The next child of JSX.
+pub fn child<C: LexerConfig + Drop>(lexer: &mut Lexer<'_, C>) -> Result<Token, AllocError> {
+    lexer.next_jsx_child()
 }
 
 /// What the next token will be.
@@ -160,6 +171,8 @@ fn run<C: LexerConfig + Drop>(
         Script::Rewrite => Ok(rewrite(text, lexer)?),
         Script::Recover => Ok(recover(text, lexer)?),
         Script::Mark(tokens) => Ok(mark_comments(text, lexer, tokens)?),
+        Script::KeepAnnotations => Ok(keep_annotations(text, lexer)?),
+        Script::HandOutComments => Ok(hand_out_comments(text, lexer)?),
         Script::RegularExpression => read_regular_expression(text, lexer),
         Script::RightAngle => read_right_angle(text, lexer),
         Script::LeftAngle => cut_left_angle(text, lexer),
