@@ -8,6 +8,7 @@ use Rattle.js_text.specs.Lists.{with_last}
 use Rattle.js_text.specs.declared.source_type.SourceType.{SourceType}
 use Rattle.js_grammar.specs.Outcome.{Outcome, joined}
 use Rattle.js_kind.specs.TokenParts.{TokenParts}
+use Rattle.js_grammar.specs.declared.goal.Goal.{Goal}
 use Rattle.js_lexer.specs.Lexer.{LexerState, IsRestored, GoesOnFrom, after_outcome, collected, token_or_default}
 use Rattle.js_lexer.specs.Lexer.{after_re_lex, is_hashbang}
 use Rattle.js_lexer.specs.Lexer.{put_back, BeginsAlike}
@@ -59,10 +60,10 @@ goes_on-behind text t c now o = record {
 }
 
 -- A lexer that read an outcome from behind what was live is behind what is live with it.
-pub read_behind : (text : List ℕ) (t : SourceType) (c : Bool) (now : Live) (old new : LexerState) (o : Outcome)
-    → IsAlike (lexer_behind text t c now) old
-    → IsRestored (after_outcome old o) new → IsAlike (lexer_behind text t c (with_outcome now o)) new
-read_behind text t c now old new o behind after =
+pub read_behind : (text : List ℕ) (t : SourceType) (c : Bool) (goal : Goal) (now : Live) (old new : LexerState)
+    (o : Outcome) → IsAlike (lexer_behind text t c now) old
+    → IsRestored (after_outcome goal old o) new → IsAlike (lexer_behind text t c (with_outcome now o)) new
+read_behind text t c goal now old new o behind after =
     let last : last_live (with_outcome now o) ≡ Some o.token = last_or-push None now.tokens o.token in
     record {
       text = after.text ∙ behind.text;

@@ -71,9 +71,9 @@ in_order_lies r marks order h = record { rows = h.rows_lie; tokens = h.tokens_li
 
 -- what is live once a row was added
 added_restored : (goal : Goal) (command : Option Command) (old new : RowReaderState)
-    → (a : AddsLive goal command old new) → IsRestored (after_outcome old.lexer (outcome_of a.row)) new.lexer
+    → (a : AddsLive goal command old new) → IsRestored (after_outcome goal old.lexer (outcome_of a.row)) new.lexer
 added_restored goal command old new a =
-    subst (λ o. IsRestored (after_outcome old.lexer o) new.lexer) (sym a.reads.outcome_is) a.reads.reads.after
+    subst (λ o. IsRestored (after_outcome goal old.lexer o) new.lexer) (sym a.reads.outcome_is) a.reads.reads.after
 
 live_added : (goal : Goal) (command : Option Command) (old new : RowReaderState) → (a : AddsLive goal command old new)
     → live_now new ≡ with_outcome (live_now old) (outcome_of a.row)
@@ -92,7 +92,7 @@ order_added goal command old new marks h a =
     let live = live_added goal command old new a in
     order text t c new marks after.text after.source_type after.collects
     (subst (λ l. IsAlike (lexer_behind text t c l) new.lexer) (sym live)
-    (read_behind text t c (live_now old) old.lexer new.lexer (outcome_of a.row) h.behind after))
+    (read_behind text t c goal (live_now old) old.lexer new.lexer (outcome_of a.row) h.behind after))
     (subst (λ l. AreMarks text t c l marks) (sym live)
     (marks-outcome text t c (live_now old) (outcome_of a.row) marks h.are_marks))
     (subst (AllByRecursion (LiesOnPlaces text)) (sym a.rows)
