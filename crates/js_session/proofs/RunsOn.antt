@@ -23,49 +23,57 @@ runs_on : (text : List ℕ) (t : SourceType) (s : State) (commands more : List C
     → Run text t s commands rows → RunsOn text t s commands more rows later
 runs_on text t s [] more rows later none =
     subst (λ rs. RunsOn text t s [] more rs later) (sym none) (record { run = λ h. h; state = refl })
-runs_on text t s (c ∷ cs) more [] later h = by_step (is_step c) refl h
+runs_on text t s (c ∷ cs) more [] later h =
+    by_step (is_step c) refl (runs_on text t (after_mark (effect_of c) s) cs more [] later) h
   where
     by_step : (b : Bool) → is_step c ≡ b
+        → (Run text t (after_mark (effect_of c) s) cs [] → RunsOn text t (after_mark (effect_of c) s) cs more [] later)
         → MatchBool b ⊥ (HasMark c s × Run text t (after_mark (effect_of c) s) cs [])
         → RunsOn text t s (c ∷ cs) more [] later
-    by_step true e h = absurd h
-    by_step false e h =
-        let rest = runs_on text t (after_mark (effect_of c) s) cs more [] later h.1 in
+    by_step true e rest h = absurd h
+    by_step false e rest h =
+        let on = rest h.1 in
         let behind = state_mark s c cs [] e in
         record {
           run =
               λ k. run_mark text t s c (cs ++ more) later e h.0
-              (rest.run (subst (λ x. Run text t x more later) behind k));
+              (on.run (subst (λ x. Run text t x more later) behind k));
           state =
-              state_mark s c (cs ++ more) later e ∙ rest.state
+              state_mark s c (cs ++ more) later e ∙ on.state
               ∙ ap (λ x. state_after x more later) (sym behind);
         }
-runs_on text t s (c ∷ cs) more (row ∷ rows) later h = by_step (is_step c) refl h
+runs_on text t s (c ∷ cs) more (row ∷ rows) later h =
+    by_step (is_step c) refl (runs_on text t (after_row (effect_of c) row s) cs more rows later)
+    (runs_on text t (after_mark (effect_of c) s) cs more (row ∷ rows) later) h
   where
     by_step : (b : Bool) → is_step c ≡ b
+        → (Run text t (after_row (effect_of c) row s) cs rows
+        → RunsOn text t (after_row (effect_of c) row s) cs more rows later)
+        → (Run text t (after_mark (effect_of c) s) cs (row ∷ rows)
+        → RunsOn text t (after_mark (effect_of c) s) cs more (row ∷ rows) later)
         → MatchBool b (IsRow text t s.now (Some c) row × Run text t (after_row (effect_of c) row s) cs rows)
         (HasMark c s × Run text t (after_mark (effect_of c) s) cs (row ∷ rows))
         → RunsOn text t s (c ∷ cs) more (row ∷ rows) later
-    by_step true e h =
-        let rest = runs_on text t (after_row (effect_of c) row s) cs more rows later h.1 in
+    by_step true e rest all h =
+        let on = rest h.1 in
         let behind = state_step s c cs row rows e in
         record {
           run =
               λ k. run_step text t s c (cs ++ more) row (rows ++ later) e h.0
-              (rest.run (subst (λ x. Run text t x more later) behind k));
+              (on.run (subst (λ x. Run text t x more later) behind k));
           state =
-              state_step s c (cs ++ more) row (rows ++ later) e ∙ rest.state
+              state_step s c (cs ++ more) row (rows ++ later) e ∙ on.state
               ∙ ap (λ x. state_after x more later) (sym behind);
         }
-    by_step false e h =
-        let rest = runs_on text t (after_mark (effect_of c) s) cs more (row ∷ rows) later h.1 in
+    by_step false e rest all h =
+        let on = all h.1 in
         let behind = state_mark s c cs (row ∷ rows) e in
         record {
           run =
               λ k. run_mark text t s c (cs ++ more) ((row ∷ rows) ++ later) e h.0
-              (rest.run (subst (λ x. Run text t x more later) behind k));
+              (on.run (subst (λ x. Run text t x more later) behind k));
           state =
-              state_mark s c (cs ++ more) ((row ∷ rows) ++ later) e ∙ rest.state
+              state_mark s c (cs ++ more) ((row ∷ rows) ++ later) e ∙ on.state
               ∙ ap (λ x. state_after x more later) (sym behind);
         }
 
