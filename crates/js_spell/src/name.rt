@@ -573,8 +573,8 @@ fn report_no_name(source: &mut Source<'_>, errors: &mut DiagnosticList) -> Resul
 
 /// Reads what follows a `#` that was just read (ECMA-262 12.7): a name, good or at fault, or what is read where no name
 /// follows. The value leaves `#` out. What is to be reported is added to the list, and the flags of the token are set,
-/// whose start is where the `#` stands. After an error the source stands at its start or behind it in the same text, and
-/// what was reported is a beginning of what this reading reports.
+/// whose start is where the `#` stands. After an error the source stands at its start or behind it in the same text,
+/// and what was reported is a beginning of what this reading reports.
 pub fn read_private_name(
     alloc: Global,
     source: &mut Source<'_>,

@@ -8,8 +8,9 @@ ghost use Rattle.js_grammar.specs.RegularExpression.{is_flag_character};
 ghost use Rattle.js_grammar.specs.RegularExpression.{regular_expression, with_flags_behind};
 ghost use Rattle.js_source.specs.Source.{rest, IsPlaced, BeginsWith};
 ghost use Rattle.js_spell.specs.Breaks.{BreaksOff};
-ghost use Rattle.js_spell.specs.RegularExpression.{PassesParts, StopIs, TellsCharacters, marks, PassesBackslash, TakesLetter};
+ghost use Rattle.js_spell.specs.RegularExpression.{PassesParts, StopIs, TellsCharacters, marks, PassesBackslash};
 ghost use Rattle.js_spell.specs.RegularExpression.{AddsLetter, BreaksLine, PassesClass, PassesBody, SpellsExpression};
+ghost use Rattle.js_spell.specs.RegularExpression.{TakesLetter};
 
 use crate::items::either;
 use crate::parts::name_parts;

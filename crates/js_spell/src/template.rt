@@ -66,7 +66,8 @@ pub fn read_template_part(
     requires start { token.old.start + 1 ≡ source.old.place }
     ensures ok { IfOk result (Spells (template_part_read substitute tail token.old.start (rest source.old))
         source.old source.new errors.old errors.new token.old token.new) }
-    ensures err { OnErr result (BreaksOff (template_part_read substitute tail token.old.start (rest source.old)).diagnostics
+    ensures err { OnErr result (BreaksOff
+        (template_part_read substitute tail token.old.start (rest source.old)).diagnostics
         source.old source.new errors.old errors.new) }
     ensures token { OnErr result (token.new ≡ token.old) }
     ensures placed { IsPlaced source.new }
