@@ -6,7 +6,7 @@ use Rattle.js_session.specs.Faults.{IsReadable, HasMarks, Cause, FirstWithoutMar
 use Rattle.js_session.specs.declared.fault.LexFault.{LexFault}
 use Rattle.js_session.specs.declared.fault.LexFault.TheVariants.{Overlong, NotUtf8 as NotUtf8Fault}
 use Rattle.js_session.specs.declared.fault.LexFault.TheVariants.{NoMark as NoMarkFault, Memory}
-use Rattle.js_lex_tool.specs.Outside.{OutputState}
+use Rattle.js_lex_tool.specs.Outside.{InTime, OutputState}
 use Rattle.js_lex_tool.specs.ReportText.{report_text_of}
 use Rattle.js_lex_tool.specs.Run.{most_bytes, status_of, CountsFault, Answers, HasReport, IsRunOver, Writes}
 use Rattle.js_lex_tool.specs.Run.{listed_commands}
@@ -15,6 +15,7 @@ use Rattle.js_lex_tool.specs.Status.Status.{OutOfMemory, WriteFailed, NotUtf8, N
 use Rattle.js_lex_tool.specs.declared.tool.Ran.{Ran}
 use Rattle.js_lex_tool.specs.declared.tool.ToolOutcome.{ToolOutcome}
 use Rattle.js_lex_tool.specs.declared.words.CommandLine.{CommandLine}
+use Rattle.js_lex_tool.proofs.Courses.{InTime-refl}
 
 -- the outcome of a run that has no report
 abbrev pub without_run : ℕ → ToolOutcome
@@ -37,6 +38,7 @@ refusal line bytes output n is utf8 marks = record {
   ran = tt;
   text = tt;
   faults = record { rises = λ e. absurd (omega (arith, is, e)); stays = λ _. refl };
+  in_time = InTime-refl output.course;
   quiet = λ _ _. refl;
   memory = λ _. inl (Keeps-refl output.written);
 }
@@ -82,8 +84,9 @@ pub answers_at_report : (line : CommandLine) (bytes : List ℕ) (ran : Ran) (old
     (outcome : ToolOutcome) → IsReadable bytes → HasMarks (listed_commands line.commands) → IsRunOver line bytes ran
     → (outcome ≡ without_run 1) ⊎ (HasPassed NoMark outcome.status × (outcome.ran ≡ Some ran))
     → Writes (report_text_of bytes ran.report) old new outcome.status
-    → CountsFault WriteFailed outcome.status old.faults new.faults → Answers line bytes old new outcome
-answers_at_report line bytes ran old new outcome readable marks over (inl e) writes faults = record {
+    → CountsFault WriteFailed outcome.status old.faults new.faults → InTime old.course new.course
+    → Answers line bytes old new outcome
+answers_at_report line bytes ran old new outcome readable marks over (inl e) writes faults in_time = record {
   known = rw e (inl refl);
   utf8 = rw e (record { fails = λ h. absurd (omega (arith, h)); passes = λ h. absurd (omega (arith, h)) });
   marks = rw e (record { fails = λ h. absurd (omega (arith, h)); passes = λ h. absurd (omega (arith, h)) });
@@ -91,10 +94,11 @@ answers_at_report line bytes ran old new outcome readable marks over (inl e) wri
   ran = rw e tt;
   text = rw e tt;
   faults = faults;
+  in_time = in_time;
   quiet = rw e (λ _ other. absurd (other refl));
   memory = λ _. inr (ran.report, report_over line bytes ran over, writes.partly);
 }
-answers_at_report line bytes ran old new outcome readable marks over (inr has) writes faults =
+answers_at_report line bytes ran old new outcome readable marks over (inr has) writes faults in_time =
     let passed = has.0 in
     record {
       known = grind (arith, passed);
@@ -104,6 +108,7 @@ answers_at_report line bytes ran old new outcome readable marks over (inr has) w
       ran = rw has.1 over;
       text = rw has.1 writes;
       faults = faults;
+      in_time = in_time;
       quiet = λ other. absurd (other passed);
       memory = λ e. absurd (omega (arith, e, passed));
     }

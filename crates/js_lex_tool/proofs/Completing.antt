@@ -11,6 +11,7 @@ use Rattle.js_lex_tool.specs.Status.Status.{Done, OutOfMemory, Usage, ReadFailed
 use Rattle.js_lex_tool.specs.declared.tool.ToolOutcome.{ToolOutcome}
 use Rattle.js_lex_tool.specs.declared.words.CommandLine.{CommandLine}
 use Rattle.js_lex_tool.proofs.Answering.{without_run}
+use Rattle.js_lex_tool.proofs.Courses.{InTime-refl}
 
 -- What was taken of known bytes up to the end is all of them.
 pub all_taken : (bytes taken : List ℕ) (new : Option (List ℕ)) → Consumes (Some bytes) new taken → IsAtEnd new
@@ -102,5 +103,6 @@ runs_out (Some line) input output = runs_line (Some line) line input input outpu
   bounded = omega arith;
   long = λ other. absurd (other refl);
   faults = record { rises = λ e. absurd (omega (arith, e)); stays = λ _. refl };
+  in_time = InTime-refl input.course;
   ends = inl (record { known = inl refl; ran = refl; quiet = refl });
 })

@@ -1,5 +1,6 @@
 pub mod Answering
 pub mod Completing
 pub mod Counts
+pub mod Courses
 pub mod Pieces
 pub mod Stars

@@ -1,6 +1,8 @@
 pub mod Command
+pub mod Exit
 pub mod Memory
 pub mod Outside
+pub mod Program
 pub mod ReportText
 pub mod Run
 pub mod Status

@@ -8,7 +8,8 @@ use Rattle.js_lex_tool.specs.declared.outside.OutAnswer.{OutAnswer}
 use Rattle.js_lex_tool.specs.declared.outside.OutAnswer.TheVariants.{Took as TookOut, NoMemory, Failed as FailedOut}
 use Rattle.js_lex_tool.specs.declared.outside.FlushAnswer.{FlushAnswer}
 use Rattle.js_lex_tool.specs.declared.outside.FlushAnswer.TheVariants.{Done, Failed as FailedFlush}
-use Rattle.js_lex_tool.specs.Outside.{InputState, OutputState}
+use Rattle.js_lex_tool.specs.declared.outside.Course.{Course}
+use Rattle.js_lex_tool.specs.Outside.{InputState, OutputState, course_after, is_last_read, is_last_write, is_last_flush}
 
 -- The calls of an end in memory: the numbers of those that fail, the number of the next one, and how many failed.
 pub record Calls : Type 0 where
@@ -32,10 +33,11 @@ next_fails c = list_any (λ n. n == c.next) c.failing
 abbrev pub after_call : Calls → Calls
 after_call c = record c { next = one_more c.next; faults = if next_fails c then one_more c.faults else c.faults }
 
--- An input in memory that never fails: the bytes left, and the most that a read gives.
+-- An input in memory that never fails: the bytes left, the most that a read gives, and how far its calls have come.
 pub record SureSource : Type 0 where
   pub left : List ℕ
   pub piece : ℕ
+  pub course : Course
 
 -- An input in memory, and its calls.
 pub record MemorySource : Type 0 where
@@ -44,11 +46,11 @@ pub record MemorySource : Type 0 where
 
 -- what an input in memory tells that never fails
 abbrev pub sure_input : SureSource → InputState
-sure_input s = record { left = Some s.left; faults = 0 }
+sure_input s = record { left = Some s.left; faults = 0; course = Some s.course }
 
 -- what an input in memory tells
 abbrev pub memory_input : MemorySource → InputState
-memory_input s = record { left = Some s.input.left; faults = s.calls.faults }
+memory_input s = record (sure_input s.input) { faults = s.calls.faults }
 
 -- what a read with this room answers that doesn't fail: the end, or the least of the piece, the room and the bytes left
 abbrev pub sure_read : SureSource → ℕ → InAnswer
@@ -58,18 +60,27 @@ sure_read s room = if length s.left == 0 then End else Took (min s.piece (min ro
 abbrev pub read_answer : MemorySource → ℕ → InAnswer
 read_answer s room = if next_fails s.calls then Failed else sure_read s.input room
 
+-- the input after one more call
+abbrev pub source_after_call : SureSource → Bool → SureSource
+source_after_call s last = record s { course = course_after s.course last }
+
+-- the bytes left after a read with this answer
+abbrev pub left_after : List ℕ → InAnswer → List ℕ
+left_after left (Took n) = drop n left
+left_after left End = left
+left_after left Failed = left
+
 -- the input after a read with this answer
 abbrev pub after_read : SureSource → InAnswer → SureSource
-after_read s (Took n) = record s { left = drop n s.left }
-after_read s End = s
-after_read s Failed = s
+after_read s answer = source_after_call (record s { left = left_after s.left answer }) (is_last_read answer)
 
--- An output in memory that never fails: the bytes written, how many of them were flushed, and the most that a write
--- takes.
+-- An output in memory that never fails: the bytes written, how many of them were flushed, the most that a write takes,
+-- and how far its calls have come.
 pub record SureSink : Type 0 where
   pub written : List ℕ
   pub flushed : ℕ
   pub piece : ℕ
+  pub course : Course
 
 -- An output in memory, and its calls.
 pub record MemorySink : Type 0 where
@@ -78,7 +89,8 @@ pub record MemorySink : Type 0 where
 
 -- what an output in memory tells that never fails
 abbrev pub sure_output : SureSink → OutputState
-sure_output s = record { written = Some s.written; flushed = Some (take s.flushed s.written); faults = 0 }
+sure_output s =
+    record { written = Some s.written; flushed = Some (take s.flushed s.written); faults = 0; course = Some s.course }
 
 -- what an output in memory tells
 abbrev pub memory_output : MemorySink → OutputState
@@ -94,17 +106,30 @@ IsSureWrite s len FailedOut = ⊥
 abbrev pub IsWriteAnswer : MemorySink → ℕ → OutAnswer → Type 0
 IsWriteAnswer s len answer = MatchBool (next_fails s.calls) (answer ≡ FailedOut) (IsSureWrite s.output len answer)
 
+-- the output after one more call
+abbrev pub sink_after_call : SureSink → Bool → SureSink
+sink_after_call s last = record s { course = course_after s.course last }
+
+-- what was written after a write of the bytes with this answer
+abbrev pub written_after : List ℕ → List ℕ → OutAnswer → List ℕ
+written_after written bytes (TookOut n) = written ++ take n bytes
+written_after written bytes NoMemory = written
+written_after written bytes FailedOut = written
+
 -- the output after a write of the bytes with this answer
 abbrev pub after_write : SureSink → List ℕ → OutAnswer → SureSink
-after_write s bytes (TookOut n) = record s { written = s.written ++ take n bytes }
-after_write s bytes NoMemory = s
-after_write s bytes FailedOut = s
+after_write s bytes answer =
+    sink_after_call (record s { written = written_after s.written bytes answer }) (is_last_write answer)
 
 -- what a flush answers
 abbrev pub flush_answer : MemorySink → FlushAnswer
 flush_answer s = if next_fails s.calls then FailedFlush else Done
 
+-- how many bytes are flushed after a flush with this answer
+abbrev pub flushed_after : SureSink → FlushAnswer → ℕ
+flushed_after s Done = length s.written
+flushed_after s FailedFlush = s.flushed
+
 -- the output after a flush with this answer
 abbrev pub after_flush : SureSink → FlushAnswer → SureSink
-after_flush s Done = record s { flushed = length s.written }
-after_flush s FailedFlush = s
+after_flush s answer = sink_after_call (record s { flushed = flushed_after s answer }) (is_last_flush answer)

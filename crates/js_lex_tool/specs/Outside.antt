@@ -1,7 +1,11 @@
--- What reads, writes and flushes do to known bytes and to a count of faults.
-use Rattle.std.specs.Prelude.{◌≡◌, ℕ, ◌-◌, ◌^◌, ◌<◌, ◌≤◌, ◌⊎◌, List, length, take, ⊤}
+-- What reads, writes and flushes do to known bytes and to a count of faults, and which of them come too late.
+use Rattle.std.specs.Prelude.{◌≡◌, ◌≢◌, ℕ, ◌-◌, ◌^◌, ◌<◌, ◌≤◌, ◌⊎◌, ◌==◌, Bool, true, false, List, length, take, ⊤, Some}
+use Rattle.std.specs.Prelude.{Result, Ok, Err, if◌then◌else◌}
 use Rattle.std.specs.declared.option.Option.{Option}
 use Rattle.std.specs.Io.KnownBytes.{Appends, Consumes, Keeps, IsAtEnd}
+use Rattle.std.specs.Option.{option_map}
+use Rattle.js_lex_tool.specs.declared.outside.Course.{Course}
+use Rattle.js_lex_tool.specs.declared.outside.Course.TheVariants.{Open, Over, Late}
 use Rattle.js_lex_tool.specs.declared.outside.InAnswer.{InAnswer}
 use Rattle.js_lex_tool.specs.declared.outside.InAnswer.TheVariants.{Took, End, Failed}
 use Rattle.js_lex_tool.specs.declared.outside.OutAnswer.{OutAnswer}
@@ -9,17 +13,74 @@ use Rattle.js_lex_tool.specs.declared.outside.OutAnswer.TheVariants.{Took as Too
 use Rattle.js_lex_tool.specs.declared.outside.FlushAnswer.{FlushAnswer}
 use Rattle.js_lex_tool.specs.declared.outside.FlushAnswer.TheVariants.{Done, Failed as FailedFlush}
 
--- What an input tells: the bytes that are left, where it tells them; and how many of its calls have failed.
+-- What an input tells: the bytes that are left, where it tells them; how many of its calls have failed; and how far its
+-- calls have come, where it tells that.
 pub record InputState : Type 0 where
   pub left : Option (List ℕ)
   pub faults : ℕ
+  pub course : Option Course
 
--- What an output tells: the bytes that were written, and those of them that were flushed, where it tells them; and how
--- many of its calls have failed.
+-- What an output tells: the bytes that were written, and those of them that were flushed, where it tells them; how many
+-- of its calls have failed; and how far its calls have come, where it tells that.
 pub record OutputState : Type 0 where
   pub written : Option (List ℕ)
   pub flushed : Option (List ℕ)
   pub faults : ℕ
+  pub course : Option Course
+
+-- how far the calls have come after one more; `last` says that none may come after it
+abbrev pub course_after : Course → Bool → Course
+course_after Open last = if last then Over else Open
+course_after Over last = Late
+course_after Late last = Late
+
+-- a call moves the course on, where it is told
+abbrev pub MovesOn : Bool → Option Course → Option Course → Type 0
+MovesOn last old new = new ≡ option_map (λ c. course_after c last) old
+
+-- no call came after one that was the last
+abbrev pub InTime : Option Course → Option Course → Type 0
+InTime old new = old ≡ Some Open → new ≢ Some Late
+
+-- none of the calls was the last
+abbrev pub StaysOpen : Option Course → Option Course → Type 0
+StaysOpen old new = old ≡ Some Open → new ≡ Some Open
+
+-- the last of the calls, and no other, was one that none may come after
+abbrev pub Closes : Option Course → Option Course → Type 0
+Closes old new = old ≡ Some Open → new ≡ Some Over
+
+-- no read may come after one that has found the end or has failed
+abbrev pub is_last_read : InAnswer → Bool
+is_last_read (Took n) = false
+is_last_read End = true
+is_last_read Failed = true
+
+-- no call may come after a write that has failed
+abbrev pub is_last_write : OutAnswer → Bool
+is_last_write (TookOut n) = false
+is_last_write NoMemory = true
+is_last_write FailedOut = true
+
+-- no call may come after a flush that has failed
+abbrev pub is_last_flush : FlushAnswer → Bool
+is_last_flush Done = false
+is_last_flush FailedFlush = true
+
+-- what a read of the system comes to: no byte is the end, and an error a failure
+abbrev pub read_comes_to : {E : Type 0} → Result ℕ E → InAnswer
+read_comes_to (Ok n) = if n == 0 then End else Took n
+read_comes_to (Err e) = Failed
+
+-- what a write of the system comes to: no byte is a failure, as an error is
+abbrev pub write_comes_to : {E : Type 0} → Result ℕ E → OutAnswer
+write_comes_to (Ok n) = if n == 0 then FailedOut else TookOut n
+write_comes_to (Err e) = FailedOut
+
+-- what a flush of the system comes to
+abbrev pub flush_comes_to : {A E : Type 0} → Result A E → FlushAnswer
+flush_comes_to (Ok a) = Done
+flush_comes_to (Err e) = FailedFlush
 
 -- a count of faults has risen, or stands at the end of a `u64`
 abbrev pub Rises : ℕ → ℕ → Type 0

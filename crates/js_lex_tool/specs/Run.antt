@@ -13,7 +13,7 @@ use Rattle.js_session.specs.declared.fault.LexFault.TheVariants.{Overlong, NotUt
 use Rattle.js_session.specs.declared.fault.LexFault.TheVariants.{NoMark as NoMarkFault, Memory}
 use Rattle.js_session.specs.declared.report.Report.{Report}
 use Rattle.js_text.specs.declared.source_type.SourceType.{SourceType}
-use Rattle.js_lex_tool.specs.Outside.{InputState, OutputState, Rises, WritesAll, WritesPrefix}
+use Rattle.js_lex_tool.specs.Outside.{InputState, OutputState, Rises, WritesAll, WritesPrefix, InTime}
 use Rattle.js_lex_tool.specs.ReportText.{report_text_of}
 use Rattle.js_lex_tool.specs.Status.{Status, number, order, later_than, IsOneOf, HasPassed, Tests}
 use Rattle.js_lex_tool.specs.Status.Status.{Done, OutOfMemory, Usage, ReadFailed, WriteFailed, TooLong, NotUtf8, NoMark}
@@ -91,6 +91,8 @@ pub record Answers (line : CommandLine) (bytes : List ℕ) (old new : OutputStat
   pub ran : IfSome outcome.ran (IsRunOver line bytes)
   pub text : IfSome outcome.ran (λ ran. Writes (report_text_of bytes ran.report) old new outcome.status)
   pub faults : CountsFault WriteFailed outcome.status old.faults new.faults
+  -- no call came after a write or a flush that failed
+  pub in_time : InTime old.course new.course
   -- else nothing was written; a run that is out of memory may have begun to write
   pub quiet : (¬ (HasPassed NoMark outcome.status)) → outcome.status ≢ number OutOfMemory → new ≡ old
   pub memory : outcome.status ≡ number OutOfMemory → MayWrite line bytes old new
@@ -110,6 +112,8 @@ pub record RunsLine (line : CommandLine) (input input_new : InputState) (output 
   pub bounded : length bytes ≤ most_bytes + 1
   pub long : outcome.status ≢ number OutOfMemory → (outcome.status ≡ number TooLong) ↔ (length bytes ≡ most_bytes + 1)
   pub faults : CountsFault ReadFailed outcome.status input.faults input_new.faults
+  -- no read came after one that found the end, nor after one that failed
+  pub in_time : InTime input.course input_new.course
   -- it gave up while it read, or has read all bytes and answers
   pub ends : GivesUp output output_new outcome ⊎ (IsAtEnd input_new.left × Answers line bytes output output_new outcome)
 

@@ -1,6 +1,8 @@
 -- The statuses of the program: their numbers, their lines, and the order in which a run tests for them.
 use Rattle.std.specs.Prelude.{◌≡◌, ℕ, ◌==◌, ◌⊎◌, List, [], ◌∷◌, ◌++◌, codes, Option, option_map, find}
 use Rattle.std.specs.List.{after_first}
+use Rattle.std.specs.declared.io.ErrorKind.{ErrorKind}
+use Rattle.std.specs.declared.io.ErrorKind.TheVariants.{OutOfMemory as NoMemory}
 
 -- what the program can come to
 pub data Status : Type 0 where
@@ -25,6 +27,11 @@ number TooLong = 5
 number NotUtf8 = 6
 number NoMark = 7
 number NoArguments = 10
+
+-- the status of a program that was not given its words, by the kind of the error
+abbrev pub status_without_words : ErrorKind → Status
+status_without_words NoMemory = OutOfMemory
+status_without_words _ = NoArguments
 
 -- why a program with this usage stops with a status; it has no reason where it is done
 abbrev pub reason : List ℕ → Status → List ℕ

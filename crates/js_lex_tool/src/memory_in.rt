@@ -2,11 +2,11 @@
 
 ghost use Rattle.std.specs.Prelude.{◌≡◌, ◌≤◌, ◌<◌, length, take, Some, min};
 ghost use Rattle.js_lex_tool.specs.Memory.{no_calls, after_call, read_answer, sure_read, after_read, sure_input};
-ghost use Rattle.js_lex_tool.specs.Memory.{memory_input};
-ghost use Rattle.js_lex_tool.specs.Outside.{TakesAtMost, TakesBytes, CountsRead};
+ghost use Rattle.js_lex_tool.specs.Memory.{memory_input, source_after_call};
+ghost use Rattle.js_lex_tool.specs.Outside.{TakesAtMost, TakesBytes, CountsRead, MovesOn, is_last_read};
 
 use crate::calls::FailingCalls;
-use crate::outside::{ByteIn, InAnswer};
+use crate::outside::{ByteIn, Course, InAnswer};
 use std::marker::Model;
 
 /// An input over bytes in memory that never fails. A read gives at most `piece` bytes.
@@ -14,6 +14,7 @@ use std::marker::Model;
 pub struct SureIn<'b> {
     bytes: &'b [u8],
     piece: usize,
+    course: Course,
 }
 
 impl<'b> Model for SureIn<'b> {
@@ -22,7 +23,7 @@ impl<'b> Model for SureIn<'b> {
 
     ghost Value = { SureSource };
 
-    ghost view = { λ s. record { left = s.bytes.now; piece = s.piece } };
+    ghost view = { λ s. record { left = s.bytes.now; piece = s.piece; course = s.course } };
 
     ghost invariant = { λ s. 1 ≤ s.piece };
 }
@@ -31,9 +32,20 @@ impl<'b> SureIn<'b> {
     /// An input of these bytes, in reads of at most `piece` bytes.
     pub fn new(bytes: &'b [u8], piece: usize) -> SureIn<'b>
         requires { 1 ≤ piece }
-        ensures { result ≡ record { left = bytes.now; piece = piece } }
+        ensures { result ≡ record { left = bytes.now; piece = piece; course = Course.Open } }
     {
-        SureIn { bytes, piece }
+        SureIn {
+            bytes,
+            piece,
+            course: Course::Open,
+        }
+    }
+
+    /// Counts one more call.
+    fn count_call(&mut self, last: bool)
+        ensures { self.new ≡ source_after_call self.old last }
+    {
+        self.course = self.course.after(last);
     }
 }
 
@@ -55,14 +67,17 @@ impl ByteIn for SureIn<'_> {
         ensures bound { TakesAtMost result (length buf.old) }
         ensures bytes { TakesBytes result (Some self.old.left) (Some self.new.left) buf.new }
         ensures faults { CountsRead result 0 0 }
+        ensures course { MovesOn (is_last_read result) (Some self.old.course) (Some self.new.course) }
         ensures answer { result ≡ sure_read self.old (length buf.old) }
         ensures after { self.new ≡ after_read self.old result }
     {
         if self.bytes.is_empty() {
+            self.count_call(true);
             return InAnswer::End;
         }
         let count = copy_front(self.bytes, self.piece, buf);
         self.bytes = &self.bytes[count..];
+        self.count_call(false);
         InAnswer::Took(count)
     }
 }
@@ -86,7 +101,7 @@ impl<'b> MemoryIn<'b> {
     /// An input of these bytes, in reads of at most `piece` bytes. The reads whose numbers are in `failing` fail.
     pub fn new(bytes: &'b [u8], piece: usize, failing: &'b [u64]) -> MemoryIn<'b>
         requires { 1 ≤ piece }
-        ensures input { result.input ≡ record { left = bytes.now; piece = piece } }
+        ensures input { result.input ≡ record { left = bytes.now; piece = piece; course = Course.Open } }
         ensures calls { result.calls ≡ no_calls failing.now }
     {
         MemoryIn {
@@ -111,11 +126,13 @@ impl ByteIn for MemoryIn<'_> {
         ensures bound { TakesAtMost result (length buf.old) }
         ensures bytes { TakesBytes result (Some self.old.input.left) (Some self.new.input.left) buf.new }
         ensures faults { CountsRead result self.old.calls.faults self.new.calls.faults }
+        ensures course { MovesOn (is_last_read result) (Some self.old.input.course) (Some self.new.input.course) }
         ensures answer { result ≡ read_answer self.old (length buf.old) }
         ensures input { self.new.input ≡ after_read self.old.input result }
         ensures calls { self.new.calls ≡ after_call self.old.calls }
     {
         if self.calls.count_call() {
+            self.input.count_call(true);
             return InAnswer::Failed;
         }
         self.input.read(buf)

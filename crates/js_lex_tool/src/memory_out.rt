@@ -3,11 +3,12 @@
 ghost use Rattle.std.specs.Prelude.{◌≡◌, ◌≤◌, ◌<◌, [], length, Some};
 ghost use Rattle.std.specs.Io.KnownBytes.{Keeps};
 ghost use Rattle.js_lex_tool.specs.Memory.{no_calls, after_call, IsWriteAnswer, IsSureWrite, after_write, flush_answer};
-ghost use Rattle.js_lex_tool.specs.Memory.{after_flush, sure_output, memory_output};
-ghost use Rattle.js_lex_tool.specs.Outside.{GivesAtMost, GivesBytes, CountsWrite, Flushes, CountsFlush};
+ghost use Rattle.js_lex_tool.specs.Memory.{after_flush, sure_output, memory_output, sink_after_call};
+ghost use Rattle.js_lex_tool.specs.Outside.{GivesAtMost, GivesBytes, CountsWrite, Flushes, CountsFlush, MovesOn};
+ghost use Rattle.js_lex_tool.specs.Outside.{is_last_write, is_last_flush};
 
 use crate::calls::FailingCalls;
-use crate::outside::{ByteOut, FlushAnswer, OutAnswer};
+use crate::outside::{ByteOut, Course, FlushAnswer, OutAnswer};
 use std::alloc::Global;
 use std::marker::Model;
 
@@ -17,6 +18,7 @@ pub struct SureOut {
     bytes: Vec<u8>,
     flushed: usize,
     piece: usize,
+    course: Course,
 }
 
 impl Model for SureOut {
@@ -25,7 +27,8 @@ impl Model for SureOut {
 
     ghost Value = { SureSink };
 
-    ghost view = { λ s. record { written = s.bytes.items; flushed = s.flushed; piece = s.piece } };
+    ghost view = { λ s.
+        record { written = s.bytes.items; flushed = s.flushed; piece = s.piece; course = s.course } };
 
     ghost invariant = { λ s. 1 ≤ s.piece };
 }
@@ -34,13 +37,21 @@ impl SureOut {
     /// An empty output, in writes of at most `piece` bytes.
     pub fn new(alloc: Global, piece: usize) -> SureOut
         requires { 1 ≤ piece }
-        ensures { result ≡ record { written = []; flushed = 0; piece = piece } }
+        ensures { result ≡ record { written = []; flushed = 0; piece = piece; course = Course.Open } }
     {
         SureOut {
             bytes: Vec::new(alloc),
             flushed: 0,
             piece,
+            course: Course::Open,
         }
+    }
+
+    /// Counts one more call.
+    fn count_call(&mut self, last: bool)
+        ensures { self.new ≡ sink_after_call self.old last }
+    {
+        self.course = self.course.after(last);
     }
 
     /// The bytes that were written so far.
@@ -66,13 +77,20 @@ impl ByteOut for SureOut {
         ensures bound { GivesAtMost result (length bytes.now) }
         ensures bytes { GivesBytes result (Some self.old.written) (Some self.new.written) bytes.now }
         ensures faults { CountsWrite result 0 0 }
+        ensures course { MovesOn (is_last_write result) (Some self.old.course) (Some self.new.course) }
         ensures answer { IsSureWrite self.old (length bytes.now) result }
         ensures after { self.new ≡ after_write self.old bytes.now result }
     {
         let count = self.piece.min(bytes.len());
         match self.bytes.extend_from_slice(&bytes[..count]) {
-            Ok(()) => OutAnswer::Took(count),
-            Err(_) => OutAnswer::NoMemory,
+            Ok(()) => {
+                self.count_call(false);
+                OutAnswer::Took(count)
+            }
+            Err(_) => {
+                self.count_call(true);
+                OutAnswer::NoMemory
+            }
         }
     }
 
@@ -80,10 +98,12 @@ impl ByteOut for SureOut {
         ensures bytes { Keeps (Some self.old.written) (Some self.new.written) }
         ensures flushed { Flushes result (sure_output self.new) }
         ensures faults { CountsFlush result 0 0 }
+        ensures course { MovesOn (is_last_flush result) (Some self.old.course) (Some self.new.course) }
         ensures answer { result ≡ FlushAnswer.Done }
         ensures after { self.new ≡ after_flush self.old result }
     {
         self.flushed = self.bytes.len();
+        self.count_call(false);
         FlushAnswer::Done
     }
 }
@@ -108,7 +128,7 @@ impl<'b> MemoryOut<'b> {
     /// An empty output, in writes of at most `piece` bytes. The writes and flushes whose numbers are in `failing` fail.
     pub fn new(alloc: Global, piece: usize, failing: &'b [u64]) -> MemoryOut<'b>
         requires { 1 ≤ piece }
-        ensures output { result.output ≡ record { written = []; flushed = 0; piece = piece } }
+        ensures output { result.output ≡ record { written = []; flushed = 0; piece = piece; course = Course.Open } }
         ensures calls { result.calls ≡ no_calls failing.now }
     {
         MemoryOut {
@@ -147,11 +167,13 @@ impl ByteOut for MemoryOut<'_> {
         ensures bound { GivesAtMost result (length bytes.now) }
         ensures bytes { GivesBytes result (Some self.old.output.written) (Some self.new.output.written) bytes.now }
         ensures faults { CountsWrite result self.old.calls.faults self.new.calls.faults }
+        ensures course { MovesOn (is_last_write result) (Some self.old.output.course) (Some self.new.output.course) }
         ensures answer { IsWriteAnswer self.old (length bytes.now) result }
         ensures output { self.new.output ≡ after_write self.old.output bytes.now result }
         ensures calls { self.new.calls ≡ after_call self.old.calls }
     {
         if self.calls.count_call() {
+            self.output.count_call(true);
             return OutAnswer::Failed;
         }
         self.output.write(bytes)
@@ -161,11 +183,13 @@ impl ByteOut for MemoryOut<'_> {
         ensures bytes { Keeps (Some self.old.output.written) (Some self.new.output.written) }
         ensures flushed { Flushes result (memory_output self.new) }
         ensures faults { CountsFlush result self.old.calls.faults self.new.calls.faults }
+        ensures course { MovesOn (is_last_flush result) (Some self.old.output.course) (Some self.new.output.course) }
         ensures answer { result ≡ flush_answer self.old }
         ensures output { self.new.output ≡ after_flush self.old.output result }
         ensures calls { self.new.calls ≡ after_call self.old.calls }
     {
         if self.calls.count_call() {
+            self.output.count_call(true);
             return FlushAnswer::Failed;
         }
         self.output.flush()

@@ -1,9 +1,10 @@
 //! Where bytes come from and where they go.
 
-ghost use Rattle.std.specs.Prelude.{◌<◌, length};
+ghost use Rattle.std.specs.Prelude.{◌≡◌, ◌<◌, length};
 ghost use Rattle.std.specs.Io.KnownBytes.{Keeps};
 ghost use Rattle.js_lex_tool.specs.Outside.{InputState, OutputState, TakesAtMost, TakesBytes, CountsRead, GivesAtMost};
-ghost use Rattle.js_lex_tool.specs.Outside.{GivesBytes, CountsWrite, Flushes, CountsFlush};
+ghost use Rattle.js_lex_tool.specs.Outside.{GivesBytes, CountsWrite, Flushes, CountsFlush, MovesOn, course_after};
+ghost use Rattle.js_lex_tool.specs.Outside.{is_last_read, is_last_write, is_last_flush};
 
 /// What a read answers: how many bytes it put at the buffer's front, that none is left, or that it failed.
 #[derive(Clone, Copy, PartialEq, Eq, Debug)]
@@ -28,6 +29,31 @@ pub enum FlushAnswer {
     Failed,
 }
 
+/// How far the calls of an input or an output have come. No read may come after one that has found the end, and no call
+/// after one that has failed.
+#[derive(Clone, Copy, PartialEq, Eq, Debug)]
+pub enum Course {
+    /// A call may come.
+    Open,
+    /// None may come any more, and none has.
+    Over,
+    /// One has come all the same.
+    Late,
+}
+
+impl Course {
+    /// After one more call. `last`: none may come after it.
+    pub fn after(self, last: bool) -> Course
+        ensures { result ≡ course_after self last }
+    {
+        match self {
+            Course::Open if last => Course::Over,
+            Course::Open => Course::Open,
+            Course::Over | Course::Late => Course::Late,
+        }
+    }
+}
+
 /// An input of bytes. It counts its calls that answer `Failed`, and no others.
 pub trait ByteIn {
     ghost state: { Self → InputState };
@@ -37,7 +63,8 @@ pub trait ByteIn {
         requires { 0 < length buf.old }
         ensures bound { TakesAtMost result (length buf.old) }
         ensures bytes { TakesBytes result (state self.old).left (state self.new).left buf.new }
-        ensures faults { CountsRead result (state self.old).faults (state self.new).faults };
+        ensures faults { CountsRead result (state self.old).faults (state self.new).faults }
+        ensures course { MovesOn (is_last_read result) (state self.old).course (state self.new).course };
 }
 
 /// An output of bytes. It counts its calls that answer `Failed`, and no others.
@@ -49,11 +76,13 @@ pub trait ByteOut {
         requires { 0 < length bytes.now }
         ensures bound { GivesAtMost result (length bytes.now) }
         ensures bytes { GivesBytes result (state self.old).written (state self.new).written bytes.now }
-        ensures faults { CountsWrite result (state self.old).faults (state self.new).faults };
+        ensures faults { CountsWrite result (state self.old).faults (state self.new).faults }
+        ensures course { MovesOn (is_last_write result) (state self.old).course (state self.new).course };
 
     /// Hands on what was written and may still be held back.
     fn flush(&mut self) -> FlushAnswer
         ensures bytes { Keeps (state self.old).written (state self.new).written }
         ensures flushed { Flushes result (state self.new) }
-        ensures faults { CountsFlush result (state self.old).faults (state self.new).faults };
+        ensures faults { CountsFlush result (state self.old).faults (state self.new).faults }
+        ensures course { MovesOn (is_last_flush result) (state self.old).course (state self.new).course };
 }

@@ -2,7 +2,7 @@
 
 ghost use Rattle.std.specs.Prelude.{◌≡◌, ◌+◌, ◌-◌, ◌<◌, ◌≤◌, min, length, IfOk, OnOk, IsErrOf};
 ghost use Rattle.std.specs.Io.KnownBytes.{Consumes, IsAtEnd};
-ghost use Rattle.js_lex_tool.specs.Outside.{Rises, Takes};
+ghost use Rattle.js_lex_tool.specs.Outside.{Rises, Takes, InTime};
 
 use crate::outside::{ByteIn, InAnswer};
 use js_text::ByteList;
@@ -28,6 +28,7 @@ impl From<AllocError> for ReadFault {
 
 /// The most bytes that the program reads of an input.
 pub const MOST_BYTES: usize = 67_108_864;
+const _: () = prove!(MOST_BYTES == 67_108_864);
 
 /// The most bytes that one read asks for.
 const BUFFER: usize = 4096;
@@ -36,7 +37,7 @@ const BUFFER: usize = 4096;
 fn next_room(read: usize, most: usize) -> usize
     requires read { read ≤ most }
     requires most { most < usize.MAX }
-    ensures { result ≡ min BUFFER (most + 1 - read) }
+    ensures { result ≡ min 4096 (most + 1 - read) }
 {
     BUFFER.min(most + 1 - read)
 }
@@ -58,6 +59,8 @@ pub fn read_to_end<I: ByteIn>(
     ensures bounded { Takes (I.state input.old) (I.state input.new) (λ bytes. length bytes ≤ most + 1) }
     ensures fault { IsErrOf result ReadFault.Failed → Rises (I.state input.old).faults (I.state input.new).faults }
     ensures no_fault { (¬ (IsErrOf result ReadFault.Failed)) → (I.state input.new).faults ≡ (I.state input.old).faults }
+    // No read comes after one that has found the end, nor after one that has failed.
+    ensures in_time { InTime (I.state input.old).course (I.state input.new).course }
 {
     let mut source = ByteList::new_in(alloc);
     let mut buf = [0u8; BUFFER];

@@ -300,9 +300,8 @@ fn push_all_irregular(text: &mut String, spans: &[Span]) -> Result<(), AllocErro
     Ok(())
 }
 
-/// The text of a report: a line for each row, each live token, each collected one, each live diagnostic, each deferred
-/// one, each live comment, and each live stretch of irregular white space. No session reads regular expressions yet, so
-/// there is nothing of them.
+/// The text of a report: a line for each row, with what the row found, then one for each live token, each collected one,
+/// each live diagnostic, each deferred one, each live comment, and each live stretch of irregular white space.
 pub fn report_text(alloc: Global, source: &str, report: &Report) -> Result<String, AllocError>
     requires { AllByRecursion (λ row. IsSliceOnPlaces source.now row.value) report.now.rows }
     ensures { IfOk result (λ text. string_bytes text ≡ report_text_of source.now report.now) }

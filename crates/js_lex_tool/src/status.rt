@@ -1,10 +1,13 @@
 //! The statuses of a run, and the line that the program prints for each.
 
-ghost use Rattle.std.specs.Prelude.{◌≡◌, option_map};
+ghost use Rattle.std.specs.Prelude.{◌≡◌, ◌++◌, Some, OnOk, OnErr, codes, option_map};
+ghost use Rattle.js_lex_tool.specs.Outside.{WritesAll, StaysOpen, Closes};
 ghost use Rattle.js_lex_tool.specs.Status.{js_lex, js_lex_usage, line_for, reason_for};
 
+use crate::outside::ByteOut;
+use crate::write_all::{WriteFault, write_all};
+use std::fmt;
 use std::marker::Model;
-use thiserror::Error;
 
 /// The text was written and flushed.
 pub const DONE: u8 = 0;
@@ -25,9 +28,15 @@ pub const NO_MARK: u8 = 7;
 /// The program was not given its arguments. No run comes to this.
 pub const NO_ARGUMENTS: u8 = 10;
 
+/// The name of `js_lex`.
+pub const PROGRAM: &str = "js_lex";
+
+/// What `js_lex` prints where its arguments are not valid.
+pub const USAGE_LINE: &str =
+    "usage: js_lex module|script|unambiguous tokens|no-tokens all|auto|COMMAND[*N].. or js_lex gen N";
+
 /// The line that tells why a program stops before it is done, without its line end.
-#[derive(Debug, Drop, Error)]
-#[error("{program}: {reason}")]
+#[derive(Debug, Drop)]
 pub struct StatusLine {
     program: &'static str,
     reason: &'static str,
@@ -40,6 +49,37 @@ impl Model for StatusLine {
     ghost Value = { List ℕ };
 
     ghost view = { λ line. line_of line.program.now line.reason.now };
+}
+
+impl fmt::Display for StatusLine {
+    ghost output = { λ line. Some line };
+
+    fn fmt<W: fmt::Write>(&self, f: &mut fmt::Formatter<W>) -> fmt::Result {
+        let program = self.program;
+        let reason = self.reason;
+        write!(f, "{program}: {reason}")
+    }
+}
+
+/// Writes two texts, one behind the other.
+fn write_both<E: ByteOut>(first: &str, second: &str, output: &mut E) -> Result<(), WriteFault>
+    ensures all { OnOk result (WritesAll (E.state output.old) (E.state output.new) (first.now ++ second.now)) }
+    ensures stays_open { OnOk result (StaysOpen (E.state output.old).course (E.state output.new).course) }
+    ensures closes { OnErr result (Closes (E.state output.old).course (E.state output.new).course) }
+{
+    write_all(output, first.as_bytes())?;
+    write_all(output, second.as_bytes())
+}
+
+impl StatusLine {
+    /// Writes the line and its line end. It asks for no memory, since there may be none.
+    pub fn write_to<E: ByteOut>(&self, output: &mut E) -> Result<(), WriteFault>
+        ensures all { OnOk result (WritesAll (E.state output.old) (E.state output.new) (self.now ++ codes "\n")) }
+        ensures closes { OnErr result (Closes (E.state output.old).course (E.state output.new).course) }
+    {
+        write_both(self.program, ": ", output)?;
+        write_both(self.reason, "\n", output)
+    }
 }
 
 /// Why a program with this usage stops with a status. None: it is done, or no program stops with this status.
@@ -73,9 +113,5 @@ pub fn line_for(program: &'static str, usage: &'static str, status: u8) -> Optio
 pub fn status_line(status: u8) -> Option<StatusLine>
     ensures { result ≡ line_for js_lex js_lex_usage status }
 {
-    line_for(
-        "js_lex",
-        "usage: js_lex module|script|unambiguous tokens|no-tokens all|auto|COMMAND[*N].. or js_lex gen N",
-        status,
-    )
+    line_for(PROGRAM, USAGE_LINE, status)
 }

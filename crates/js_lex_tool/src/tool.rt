@@ -6,6 +6,7 @@ ghost use Rattle.std.specs.Str.{IsUtf8};
 ghost use Rattle.js_session.specs.Faults.{IsReadable, HasMarks, SourceCause, Cause};
 ghost use Rattle.js_session.specs.Report.{IsSliceOnPlaces, ReportOf};
 ghost use Rattle.js_lex_tool.specs.Memory.{sure_input, sure_output};
+ghost use Rattle.js_lex_tool.specs.Outside.{InTime};
 ghost use Rattle.js_lex_tool.specs.ReportText.{report_text_of};
 ghost use Rattle.js_lex_tool.specs.Run.{most_bytes, status_of, CountsFault, Writes, Answers, RunsLine, RunsTool};
 ghost use Rattle.js_lex_tool.specs.Run.{CanRun, AreMeant, listed_commands};
@@ -95,6 +96,7 @@ fn write_report<O: ByteOut>(alloc: Global, ran: Ran, output: &mut O) -> ToolOutc
     ensures text { Writes (report_text_of ran.source ran.report)
         (O.state output.old) (O.state output.new) result.status }
     ensures faults { CountsFault WriteFailed result.status (O.state output.old).faults (O.state output.new).faults }
+    ensures in_time { InTime (O.state output.old).course (O.state output.new).course }
 {
     let text = match text_of(alloc, &ran) {
         Ok(text) => text,

@@ -1,7 +1,7 @@
 //! Writing a text to an output.
 
 ghost use Rattle.std.specs.Prelude.{◌≡◌, OnOk, OnErr, IsErrOf};
-ghost use Rattle.js_lex_tool.specs.Outside.{Rises, WritesAll, WritesPrefix};
+ghost use Rattle.js_lex_tool.specs.Outside.{Rises, WritesAll, WritesPrefix, StaysOpen, Closes};
 
 use crate::outside::{ByteOut, FlushAnswer, OutAnswer};
 
@@ -19,6 +19,9 @@ pub fn write_all<O: ByteOut>(output: &mut O, text: &[u8]) -> Result<(), WriteFau
     ensures fault { IsErrOf result WriteFault.Failed → Rises (O.state output.old).faults (O.state output.new).faults }
     ensures no_fault { (¬ (IsErrOf result WriteFault.Failed))
         → (O.state output.new).faults ≡ (O.state output.old).faults }
+    // No call comes after one that has failed.
+    ensures stays_open { OnOk result (StaysOpen (O.state output.old).course (O.state output.new).course) }
+    ensures closes { OnErr result (Closes (O.state output.old).course (O.state output.new).course) }
 {
     let mut at = 0;
     while at < text.len() {

@@ -15,7 +15,7 @@ struct RecordingIn {
 }
 
 impl ByteIn for RecordingIn {
-    ghost state = { λ s. record { left = None; faults = s.faults } };
+    ghost state = { λ s. record { left = None; faults = s.faults; course = None } };
 
     fn read(&mut self, buf: &mut [u8]) -> InAnswer {
         if self.sizes.push(buf.len()).is_err() {

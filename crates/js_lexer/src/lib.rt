@@ -1,4 +1,4 @@
-//! The lexer: readings of the plain goal, peeks and checkpoints (ECMA-262 12).
+//! The lexer: readings of each goal, tokens that are read again, peeks and checkpoints (ECMA-262 12, B.1.1, JSX).
 #![tactic(auto)]
 
 mod angle;

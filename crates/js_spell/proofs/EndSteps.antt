@@ -1,6 +1,6 @@
 -- What follows a number.
 use Rattle.std.proofs.Common.{◌≡◌, ℕ, Bool, true, false, List, [], ◌∷◌, ◌++◌, drop, refl, sym, ◌∙◌, ap, inl, inr}
-use Rattle.std.proofs.Common.{append_assoc}
+use Rattle.std.proofs.Common.{append_assoc, append-nil, arith, ◌≤◌}
 use Rattle.js_text.specs.Characters.{begins, before_first}
 use Rattle.js_text.specs.declared.diagnostic.Diagnostic.{Diagnostic}
 use Rattle.js_text.specs.declared.diagnostic.Diagnostic.TheVariants.{InvalidNumberEnd}
@@ -8,11 +8,14 @@ use Rattle.js_source.specs.Source.{At, rest, IsPlaced, BeginsWith, StepsPast}
 use Rattle.js_grammar.specs.Outcome.{place_behind}
 use Rattle.js_grammar.specs.Number.{may_not_follow_number}
 use Rattle.js_grammar.specs.NumberReads.{is_no_start, invalid_end, invalid_number_end, number_items, items_text}
-use Rattle.js_grammar.specs.NumberReads.{missing_digits}
+use Rattle.js_grammar.specs.NumberReads.{missing_digits, Items, NumberRead, number_read}
+use Rattle.js_grammar.proofs.NumberItems.{true_or_false}
 use Rattle.js_grammar.proofs.NumberSteps.{read_well, read_badly}
 use Rattle.js_kind.specs.declared.kind.Kind.{Kind}
 use Rattle.js_kind.specs.declared.kind.Kind.TheVariants.{Eof}
+use Rattle.js_spell.specs.Breaks.{BreaksOff}
 use Rattle.js_spell.specs.Numeric.{ReadsBadEnd, ReadsCut, ReadsNumber}
+use Rattle.js_spell.proofs.BreakSteps.{broken_before, broken_behind}
 use Rattle.js_spell.proofs.NumericSteps.{leads_to}
 
 split : (c : ℕ) (cs : List ℕ) → BeginsWith c cs → cs ≡ c ∷ drop 1 cs
@@ -85,3 +88,53 @@ bad_number_read old mid new before during after g kind h k cut end =
   where
     clash : (cs : List ℕ) → begins may_not_follow_number cs ≡ true → begins may_not_follow_number cs ≡ false → ⊥
     clash cs a b = cc
+
+-- What is reported of a number begins with what is reported of its items.
+reports_of_number : (place : ℕ) (text : List ℕ) → (later : List Diagnostic)
+    × ((number_read place text).diagnostics ≡ missing_digits place (number_items text).items ++ later)
+reports_of_number place text =
+    let number = number_items text in
+    let first = missing_digits place number.items in
+    elim (true_or_false (begins may_not_follow_number number.rest)) [
+      | inl bad ↦ (
+        invalid_number_end (place_behind place (items_text number.items)) number.rest ∷ [],
+        ap (λ (read : NumberRead). read.diagnostics) (read_badly place number bad),
+      )
+      | inr good ↦
+          ([], ap (λ (read : NumberRead). read.diagnostics) (read_well place number good) ∙ sym (append-nil first))
+    ]
+
+-- The items of a number broke off.
+pub number_broken : (old new : At) (before after : List Diagnostic)
+    → BreaksOff (missing_digits old.place (number_items (rest old)).items) old new before after
+    → BreaksOff (number_read old.place (rest old)).diagnostics old new before after
+number_broken old new before after broken =
+    let found = reports_of_number old.place (rest old) in
+    broken_before (number_read old.place (rest old)).diagnostics
+    (missing_digits old.place (number_items (rest old)).items) found.0 old new before after found.1 broken
+
+-- where items were read, the source stands no further back
+cut_onward : (old new : At) (before after : List Diagnostic) (f g : Bool) (kind : Kind) (number : Items)
+    → IsPlaced old → IsPlaced new → ReadsCut old new before after f g kind number → old.place ≤ new.place
+cut_onward old new before after f g kind number h k cut =
+    elim cut.here [
+      | inl none ↦
+          omega (
+            arith,
+            leads_to old new (rest old) h k cut.text
+                (sym (append-nil (rest old)) ∙ ap (λ t. rest old ++ t) (sym none)),
+          )
+      | inr here ↦ omega (arith, leads_to old new (items_text number.items) h k cut.text here)
+    ]
+
+-- Its items were read, and then its end broke off, which has reported nothing.
+pub number_end_broken : (old mid new : At) (before during after : List Diagnostic) (g : Bool) (kind : Kind)
+    → IsPlaced old → IsPlaced mid
+    → ReadsCut old mid before during false g kind (number_items (rest old)) → BreaksOff [] mid new during after
+    → BreaksOff (number_read old.place (rest old)).diagnostics old new before after
+number_end_broken old mid new before during after g kind h k cut broken =
+    let told = missing_digits old.place (number_items (rest old)).items in
+    number_broken old new before after
+    (broken_behind told [] told old mid new before during after cut.text
+    (cut_onward old mid before during false g kind (number_items (rest old)) h k cut) cut.reports
+    (sym (append-nil told)) broken)

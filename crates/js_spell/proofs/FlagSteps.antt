@@ -1,7 +1,7 @@
 -- The flags of regular expressions, as they are read.
-use Rattle.std.proofs.Common.{◌≡◌, ℕ, ◌+◌, ◌<◌, Bool, true, false, not, ◌||◌, ◌==◌, List, [], ◌∷◌, ◌++◌, drop}
+use Rattle.std.proofs.Common.{◌≡◌, ℕ, ◌+◌, ◌<◌, ◌≤◌, Bool, true, false, not, ◌||◌, ◌==◌, List, [], ◌∷◌, ◌++◌, drop}
 use Rattle.std.proofs.Common.{refl, sym, ◌∙◌, ap, arith, Some, inl, inr, ltb, append_assoc, append-nil}
-use Rattle.std.specs.Prelude.{◌^◌, OnErr, Result, Ok, Err}
+use Rattle.std.specs.Prelude.{◌^◌}
 use Rattle.std.proofs.lemmas.Bool.{lt-ltb, ltb-true, ltb-false}
 use Rattle.js_text.specs.Ascii.{slash}
 use Rattle.js_text.specs.Characters.{before_first, begins, from_first, is_identifier_part, is_line_terminator}
@@ -24,8 +24,9 @@ use Rattle.js_grammar.proofs.NumberItems.{true_or_false}
 use Rattle.js_source.specs.Search.{matches_at}
 use Rattle.js_text.specs.RegExpFlags.{flag_bits, flags_of_bits}
 use Rattle.js_spell.specs.Name.{TellsParts}
-use Rattle.js_spell.specs.Numeric.{BreaksOff}
+use Rattle.js_spell.specs.Breaks.{BreaksOff}
 use Rattle.js_spell.specs.RegularExpression.{AddsLetter, BreaksLine, PassesBody, SpellsExpression, TakesLetter}
+use Rattle.js_spell.proofs.BreakSteps.{broken_first, broken_later}
 use Rattle.js_spell.proofs.ExpressionSteps.{place_left_is}
 use Rattle.js_spell.proofs.NumericSteps.{leads_to}
 
@@ -39,12 +40,13 @@ pub record ReadsLetters (old now : At) (before after : List Diagnostic) (flags :
   pub text : now.text ≡ old.text
   pub left : from_first ends_flags (rest old) ≡ from_first ends_flags (rest now)
   pub flags_are : with_letters no_flags (letters_left old) ≡ with_letters flags (letters_left now)
-  pub reports : before ++ flag_reports no_flags old.place (letters_left old)
-      ≡ after ++ flag_reports flags now.place (letters_left now)
-  pub faulty : is_any (flag_reports no_flags old.place (letters_left old))
-      ≡ (flags_error || is_any (flag_reports flags now.place (letters_left now)))
   pub more : List Diagnostic
   pub reported : after ≡ before ++ more
+  pub reports : flag_reports no_flags old.place (letters_left old)
+      ≡ more ++ flag_reports flags now.place (letters_left now)
+  pub faulty : is_any (flag_reports no_flags old.place (letters_left old))
+      ≡ (flags_error || is_any (flag_reports flags now.place (letters_left now)))
+  pub onward : old.place ≤ now.place
 
 pub no_letters : (s : At) (before : List Diagnostic) (flags : RegExpFlags) → flags ≡ no_flags
     → ReadsLetters s s before before flags false
@@ -52,10 +54,11 @@ no_letters s before flags none = record {
   text = refl;
   left = refl;
   flags_are = ap (λ f. with_letters f (letters_left s)) (sym none);
-  reports = ap (λ f. before ++ flag_reports f s.place (letters_left s)) (sym none);
-  faulty = ap (λ f. is_any (flag_reports f s.place (letters_left s))) (sym none);
   more = [];
   reported = sym (append-nil before);
+  reports = ap (λ f. flag_reports f s.place (letters_left s)) (sym none);
+  faulty = ap (λ f. is_any (flag_reports f s.place (letters_left s))) (sym none);
+  onward = omega arith;
 }
 
 any_of_two : (ds es : List Diagnostic) → is_any (ds ++ es) ≡ (is_any ds || is_any es)
@@ -86,18 +89,18 @@ one_letter old now next before between after flags more_flags flags_error is_fau
       left = h.left ∙ ap (from_first ends_flags) here ∙ past goes_on;
       flags_are = h.flags_are ∙ ap (with_letters flags) letters
           ∙ ap (λ f. with_letters f (letters_left next)) (sym adds.flags);
-      reports = h.reports ∙ ap (λ ds. between ++ ds) reports
-          ∙ sym (append_assoc between (letter_reports flags now.place b)
-          (flag_reports more_flags next.place (letters_left next)))
-          ∙ ap (λ ds. ds ++ flag_reports more_flags next.place (letters_left next)) (sym adds.reports);
+      more = h.more ++ letter_reports flags now.place b;
+      reported = adds.reports ∙ ap (λ ds. ds ++ letter_reports flags now.place b) h.reported
+          ∙ append_assoc before h.more (letter_reports flags now.place b);
+      reports = h.reports ∙ ap (λ ds. h.more ++ ds) reports
+          ∙ sym (append_assoc h.more (letter_reports flags now.place b)
+          (flag_reports more_flags next.place (letters_left next)));
       faulty = h.faulty ∙ ap (λ ds. flags_error || is_any ds) reports
           ∙ ap (λ c. flags_error || c)
           (any_of_two (letter_reports flags now.place b) (flag_reports more_flags next.place (letters_left next))
           ∙ ap (λ c. c || is_any (flag_reports more_flags next.place (letters_left next))) (sym adds.faulty))
           ∙ or_assoc flags_error is_faulty (is_any (flag_reports more_flags next.place (letters_left next)));
-      more = h.more ++ letter_reports flags now.place b;
-      reported = adds.reports ∙ ap (λ ds. ds ++ letter_reports flags now.place b) h.reported
-          ∙ append_assoc before h.more (letter_reports flags now.place b);
+      onward = omega (arith, h.onward, taken.place);
     }
   where
     first : ends_flags b ≡ false → before_first ends_flags (b ∷ rest next) ≡ b ∷ letters_left next
@@ -134,8 +137,9 @@ flags_read pattern_end old new before after flags flags_error info behind h ends
     record {
       text = h.text;
       left = h.left ∙ none.1;
-      reports = sym (append-nil after) ∙ ap (λ ds. after ++ ds) (sym no_more) ∙ sym h.reports
-          ∙ ap (λ ds. before ++ ds) (sym at);
+      reports = h.reported
+          ∙ ap (λ ds. before ++ ds)
+          (sym (append-nil h.more) ∙ ap (λ ds. h.more ++ ds) (sym no_more) ∙ sym h.reports ∙ sym at);
       info_is =
           ap (λ e. Some (info_of (with_letters no_flags (letters_left old)) e)) faulty
           ∙ ap (λ f. Some (info_of f flags_error)) are ∙ ap Some (sym info_is);
@@ -173,15 +177,18 @@ pub bits_are_none : (flags : RegExpFlags) → flag_bits flags ≡ 0 → flags �
 bits_are_none flags e = ap flags_of_bits e
 
 -- a reading of letters that breaks off
-pub letters_broken : {T E : Type 0} (r : Result T E) (old now new : At) (before between after : List Diagnostic)
-    (flags : RegExpFlags) (flags_error : Bool) (b : ℕ) → ReadsLetters old now before between flags flags_error
-    → TakesLetter now new b → after ≡ between → OnErr r (BreaksOff old new before after)
-letters_broken r old now new before between after flags flags_error b h taken same =
-    on_err r (record { text = taken.read.text ∙ h.text; more = h.more; reports = same ∙ h.reported })
-  where
-    on_err : {T E : Type 0} (r : Result T E) → {P : Type 0} → P → OnErr r P
-    on_err (Ok x) p = tt
-    on_err (Err e) p = p
+pub letters_broken : (pattern_end : ℕ) (old now new : At) (before between after : List Diagnostic)
+    (flags : RegExpFlags) (flags_error : Bool) (b : ℕ) → pattern_end + 1 ≡ old.place
+    → ReadsLetters old now before between flags flags_error → TakesLetter now new b → after ≡ between
+    → BreaksOff (with_flags_behind pattern_end (rest old)).diagnostics old new before after
+letters_broken pattern_end old now new before between after flags flags_error b behind h taken same = record {
+  text = taken.read.text ∙ h.text;
+  more = h.more;
+  reports = same ∙ h.reported;
+  onward = omega (arith, h.onward, taken.place);
+  rest_of = flag_reports flags now.place (letters_left now);
+  beginning = sym h.reports ∙ ap (λ p. flag_reports no_flags p (letters_left old)) (sym behind);
+}
 
 -- the `/` that ends a pattern
 pub slash_passed : (old mid new : At) (pattern_end : ℕ) → pattern_end ≡ mid.place → IsPlaced mid → IsPlaced new
@@ -193,6 +200,26 @@ slash_passed old mid new pattern_end is h g passed past =
     leads_to mid new (slash ∷ []) h g step.0 (here ∙ ap (λ t. slash ∷ t) (sym step.1)) in
     omega (arith, is, way, one_byte slash (omega arith))
 
+-- what is read of a body that a `/` ends is what is read of the flags behind it
+closed_read : (start : ℕ) (old mid behind : At) (pattern_end : ℕ) → IsPlaced old → IsPlaced mid
+    → start + 1 ≡ old.place → pattern_end ≡ mid.place → PassesBody old mid true → StepsPast mid behind
+    → (behind.text ≡ mid.text)
+    × (regular_expression start (rest old) ≡ with_flags_behind pattern_end (rest behind))
+closed_read start old mid behind pattern_end h g begun ends passed past =
+    let here = first_is slash (rest mid) passed.1 in
+    let step = past slash (drop 1 (rest mid)) here in
+    let closed : begins (λ c. c == slash) (behind_body (rest old)) ≡ true =
+    ap (begins (λ c. c == slash)) passed.0 ∙ passed.1 in
+    let end : place_left (start + 1) (rest old) (behind_body (rest old)) ≡ pattern_end =
+    ap (place_left (start + 1) (rest old)) passed.0 ∙ ap (λ n. place_left n (rest old) (rest mid)) begun
+    ∙ place_left_is old mid h g passed.2.text passed.2.onward ∙ sym ends in (
+      step.0,
+      expression_terminated start (rest old) (behind_body (rest old)) closed
+          ∙ ap (λ n. with_flags_behind n (drop 1 (behind_body (rest old)))) end
+          ∙ ap (λ t. with_flags_behind pattern_end (drop 1 t)) passed.0
+          ∙ ap (with_flags_behind pattern_end) (sym step.1),
+    )
+
 -- A body that a `/` ends, and the flags behind it.
 pub expression_closed : (start : ℕ) (old mid behind new : At) (before after : List Diagnostic) (info : RegexInfo)
     (pattern_end : ℕ) → IsPlaced old → IsPlaced mid → start + 1 ≡ old.place → pattern_end ≡ mid.place
@@ -200,24 +227,34 @@ pub expression_closed : (start : ℕ) (old mid behind new : At) (before after : 
     → SpellsExpression (with_flags_behind pattern_end (rest behind)) behind new before after info
     → SpellsExpression (regular_expression start (rest old)) old new before after info
 expression_closed start old mid behind new before after info pattern_end h g begun ends passed past flags =
-    let here = first_is slash (rest mid) passed.1 in
-    let step = past slash (drop 1 (rest mid)) here in
-    let closed : begins (λ c. c == slash) (behind_body (rest old)) ≡ true =
-    ap (begins (λ c. c == slash)) passed.0 ∙ passed.1 in
-    let end : place_left (start + 1) (rest old) (behind_body (rest old)) ≡ pattern_end =
-    ap (place_left (start + 1) (rest old)) passed.0 ∙ ap (λ n. place_left n (rest old) (rest mid)) begun
-    ∙ place_left_is old mid h g passed.2.text passed.2.onward ∙ sym ends in
-    let read : regular_expression start (rest old) ≡ with_flags_behind pattern_end (rest behind) =
-    expression_terminated start (rest old) (behind_body (rest old)) closed
-    ∙ ap (λ n. with_flags_behind n (drop 1 (behind_body (rest old)))) end
-    ∙ ap (λ t. with_flags_behind pattern_end (drop 1 t)) passed.0
-    ∙ ap (with_flags_behind pattern_end) (sym step.1) in
+    let read = closed_read start old mid behind pattern_end h g begun ends passed past in
     record {
-      text = flags.text ∙ step.0 ∙ passed.2.text;
-      left = ap (λ r. r.rest) read ∙ flags.left;
-      reports = flags.reports ∙ ap (λ r. before ++ r.diagnostics) (sym read);
-      info_is = ap (λ r. r.regex) read ∙ flags.info_is;
+      text = flags.text ∙ read.0 ∙ passed.2.text;
+      left = ap (λ r. r.rest) read.1 ∙ flags.left;
+      reports = flags.reports ∙ ap (λ r. before ++ r.diagnostics) (sym read.1);
+      info_is = ap (λ r. r.regex) read.1 ∙ flags.info_is;
     }
+
+-- Flags that broke off, behind a body that a `/` ends.
+pub flags_broken : (start : ℕ) (old mid behind new : At) (before after : List Diagnostic) (pattern_end : ℕ)
+    → IsPlaced old → IsPlaced mid → start + 1 ≡ old.place → pattern_end ≡ mid.place
+    → PassesBody old mid true → StepsPast mid behind → mid.place ≤ behind.place
+    → BreaksOff (with_flags_behind pattern_end (rest behind)).diagnostics behind new before after
+    → BreaksOff (regular_expression start (rest old)).diagnostics old new before after
+flags_broken start old mid behind new before after pattern_end h g begun ends passed past onward broken =
+    let read = closed_read start old mid behind pattern_end h g begun ends passed past in
+    rw read.1
+    (broken_later (with_flags_behind pattern_end (rest behind)).diagnostics old behind new before after
+    (read.0 ∙ passed.2.text) (omega (arith, passed.2.onward, onward)) broken)
+
+-- The report that a body has no end broke off.
+pub body_broken : (start : ℕ) (old mid new : At) (before after : List Diagnostic) → PassesBody old mid false
+    → BreaksOff [] mid new before after
+    → BreaksOff (regular_expression start (rest old)).diagnostics old new before after
+body_broken start old mid new before after passed broken =
+    let told = (regular_expression start (rest old)).diagnostics in
+    broken_first told old new before after
+    (broken_later [] old mid new before after passed.1.text passed.1.onward broken)
 
 -- A body that has no end.
 pub expression_broken : (start : ℕ) (old mid new : At) (before after : List Diagnostic) (info : RegexInfo)

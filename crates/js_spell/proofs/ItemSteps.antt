@@ -31,12 +31,15 @@ use Rattle.js_spell.specs.Escape.{ReadsEscape}
 use Rattle.js_spell.specs.Strings.{in_template, item_of, plain_here, escape_here, PassesCharacters}
 use Rattle.js_spell.specs.Strings.{ReadsItems, ReadsOneItem, ReadsValue, value_of, spelt_value, MarkIs}
 use Rattle.js_spell.specs.Strings.{is_end}
-use Rattle.js_spell.specs.Strings.{decoded_value}
+use Rattle.js_spell.specs.Breaks.{BreaksOff}
+use Rattle.js_spell.specs.Strings.{decoded_value, items_told}
 use Rattle.js_spell.specs.declared.items.Mark.{Mark}
 use Rattle.js_spell.specs.declared.items.Mark.TheVariants.{Escape, CarriageReturn, End}
 use Rattle.js_spell.specs.declared.plain.Literal.{Literal}
 use Rattle.js_spell.specs.declared.plain.Literal.TheVariants.{DoubleQuoted, SingleQuoted, Template}
+use Rattle.js_spell.specs.declared.spelt.SpeltValue.{SpeltValue}
 use Rattle.js_spell.specs.declared.spelt.SpeltValue.TheVariants.{Plain}
+use Rattle.js_spell.proofs.BreakSteps.{broken_behind}
 use Rattle.js_spell.proofs.NumericSteps.{leads_to}
 use Rattle.js_spell.proofs.PlainSteps.{heads_of, escape_item_here, no_item_here, escaped_item_here}
 
@@ -130,6 +133,47 @@ items_then literal start old mid new us vs ws before between after first_bad sec
           list_any-append (λ (item : StringItem). is_bad_escape item.fault) first.items second.items
           ∙ ap (λ b. b || contains_bad_escape second.items) first.bad ∙ ap (λ b. first_bad || b) second.bad;
     }
+
+-- Items were read, and then those behind them broke off.
+pub items_broken : (literal : Literal) (start : ℕ) (old mid new : At) (us vs : List ℕ)
+    (before between after : List Diagnostic) (bad : Bool) → IsPlaced old → IsPlaced mid
+    → ReadsItems literal start old mid us vs before between bad
+    → BreaksOff (items_told literal start mid) mid new between after
+    → BreaksOff (items_told literal start old) old new before after
+items_broken literal start old mid new us vs before between after bad h g read broken =
+    let t = in_template literal in
+    let more = all_items (item_of literal) (rest mid) in
+    let first = item_reports t start old.place read.items in
+    let place = leads_to old mid (string_text read.items) h g read.text read.here in
+    let told : items_told literal start old ≡ first ++ items_told literal start mid =
+    ap (λ (found : StringItems). item_reports t start old.place found.items) read.found
+    ∙ item_reports-append t start old.place read.items more.items
+    ∙ ap (λ p. first ++ item_reports t start p more.items) (sym place) in
+    broken_behind (items_told literal start old) (items_told literal start mid) first old mid new before between after
+    read.text (omega (arith, place)) read.reports told broken
+
+-- Characters that stand for themselves were passed, and then the items behind them broke off.
+pub plain_broken : (literal : Literal) (start : ℕ) (old mid new : At) (before after : List Diagnostic)
+    → IsPlaced old → IsPlaced mid → PassesCharacters literal old mid
+    → BreaksOff (items_told literal start mid) mid new before after
+    → BreaksOff (items_told literal start old) old new before after
+plain_broken literal start old mid new before after h g plain broken =
+    let us = units_of (string_text plain.plain.items) in
+    items_broken literal start old mid new [] us before before after false h g
+    (plain_items_read literal start old mid [] us before plain refl) broken
+
+-- All items were read, and then what ends them broke off, which has reported nothing.
+pub end_broken : (literal : Literal) (start : ℕ) (old mid new : At) (before between after : List Diagnostic)
+    (value : SpeltValue) → IsPlaced old → IsPlaced mid → ReadsValue literal start old mid before between value
+    → BreaksOff [] mid new between after → BreaksOff (items_told literal start old) old new before after
+end_broken literal start old mid new before between after value h g read broken =
+    let t = in_template literal in
+    let first = item_reports t start old.place read.items in
+    let place = leads_to old mid (string_text read.items) h g read.text read.here in
+    broken_behind (items_told literal start old) [] first old mid new before between after read.text
+    (omega (arith, place)) read.reports
+    (ap (λ (found : StringItems). item_reports t start old.place found.items) read.found ∙ sym (append-nil first))
+    broken
 
 -- one item
 pub one_item_read : (literal : Literal) (start : ℕ) (old new : At) (us vs : List ℕ) (before after : List Diagnostic)

@@ -10,12 +10,14 @@ use Rattle.js_source.specs.Runs.{IsRun, PassesRun}
 use Rattle.js_grammar.specs.Number.{Item, whole, are_digits}
 use Rattle.js_kind.specs.Digits.{is_digit_of}
 use Rattle.js_grammar.specs.NumberReads.{contains_separator, plain_digits, legacy_items, items-cons, last_item}
-use Rattle.js_grammar.specs.NumberReads.{behind_digits}
+use Rattle.js_grammar.specs.NumberReads.{behind_digits, missing_digits}
 use Rattle.js_grammar.proofs.NumberCuts.{plain_digits_append, octal_digits}
 use Rattle.js_grammar.proofs.NumberSteps.{legacy_octal_items, legacy_decimal_items}
 use Rattle.js_kind.specs.declared.kind.Kind.{Kind}
 use Rattle.js_kind.specs.declared.kind.Kind.TheVariants.{Octal}
 use Rattle.js_spell.specs.Numeric.{TellsDigits, PassesPlainDigits, ReadsEnd}
+use Rattle.js_spell.specs.Breaks.{BreaksOff}
+use Rattle.js_spell.proofs.NumericSteps.{items_broken}
 use Rattle.js_spell.proofs.NumericSteps.{any_append, no_separator, stops_digits, items_append, whole_item_read}
 
 -- digits of a table
@@ -126,3 +128,18 @@ legacy_decimal_read old mid new before after f g kind p q passed end =
       left = end.left;
       kind_is = end.kind_is;
     })
+
+pub legacy_broken : (old mid new : At) (before after : List Diagnostic) → IsPlaced old → IsPlaced mid
+    → PassesPlainDigits old false mid
+    → BreaksOff (missing_digits mid.place (behind_digits (rest mid)).items) mid new before after
+    → BreaksOff (missing_digits old.place (legacy_items (rest old)).items) old new before after
+legacy_broken old mid new before after p q passed broken =
+    let some : are_digits 8 (plain_digits (rest old)).text ≡ false =
+    ap (λ (i : Item). are_digits 8 i.text) passed.item ∙ passed.octal in
+    let found : legacy_items (rest old) ≡ items-cons (whole passed.characters (rest mid)) (behind_digits (rest mid)) =
+    legacy_decimal_items (rest old) some ∙ ap (λ (i : Item). items-cons i (behind_digits i.rest)) passed.item in
+    rw found
+    (items_broken old mid new before before after false false (whole passed.characters (rest mid) ∷ [])
+    (behind_digits (rest mid)).items p q
+    (whole_item_read old mid before false passed.characters (rest mid) passed.text passed.here passed.separator)
+    broken)

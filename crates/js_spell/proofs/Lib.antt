@@ -1,3 +1,4 @@
+pub mod BreakSteps
 pub mod DecodeSteps
 pub mod EndSteps
 pub mod EscapeSteps

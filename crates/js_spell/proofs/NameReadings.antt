@@ -26,7 +26,7 @@ use Rattle.js_source.specs.Source.{At, rest, IsPlaced, StepsPast, Reads, HasFirs
 use Rattle.js_grammar.specs.Name.{NameItem, NameFault, CutsInto, items_text, items_value, items_report, item_report}
 use Rattle.js_grammar.specs.Name.{fault_report, plain_item, is_no_part, name_item, escape_item, name_read}
 use Rattle.js_grammar.specs.Outcome.{place_behind}
-use Rattle.js_grammar.proofs.NameCuts.{read_of_cut, nothing_reported}
+use Rattle.js_grammar.proofs.NameCuts.{read_of_cut, nothing_reported, items_cut, cut_items}
 use Rattle.js_grammar.proofs.NameItems.{escape_takes}
 use Rattle.js_grammar.proofs.NameLaws.{plain_parts, plain_values, ended}
 use Rattle.js_grammar.proofs.NameLemmas.{parts_end}
@@ -49,7 +49,10 @@ use Rattle.js_kind.specs.declared.kind.Kind.{Kind}
 use Rattle.js_kind.specs.declared.kind.Kind.TheVariants.{PrivateIdentifier}
 use Rattle.js_spell.specs.Name.{SpellsPlainName, SpellsPlainPrivateName}
 use Rattle.js_grammar.specs.Name.{begins_name}
-use Rattle.js_grammar.specs.Name.{named}
+use Rattle.js_grammar.specs.Name.{named, name_items, items_read}
+use Rattle.js_spell.specs.Breaks.{BreaksOff}
+use Rattle.js_spell.specs.Name.{items_told}
+use Rattle.js_spell.proofs.BreakSteps.{broken_behind, unreported}
 
 one_byte : length (encode_utf8_all (backslash ∷ [])) ≡ 1
 unfolding encode_utf8
@@ -119,6 +122,12 @@ module _ (position : Position) (old mid new : At) (decoding : Decoding)
   pub escape_onward : IsPlaced mid → IsPlaced new → mid.place ≤ new.place
   escape_onward h k =
       omega (arith, leads_to mid new behind_first.0 h k decodes.text behind_first.1)
+
+  -- what is wrong with it was not reported
+  pub escape_unreported : (before after : List Diagnostic) → IsPlaced old → IsPlaced mid → IsPlaced new
+      → after ≡ before → BreaksOff [] old new before after
+  escape_unreported before after h m k e =
+      unreported [] old new before after (decodes.text ∙ step.0) (omega (arith, behind_mark h m, escape_onward m k)) e
 
   pub escape_read : (before after : List Diagnostic) (c : Option ℕ) → IsPlaced old → IsPlaced new
       → value_of_decoding decoding ≡ option_to_list c
@@ -267,6 +276,39 @@ then_read from old to mid last new before during after was between now first_has
           ∙ ap (λ q. first_has || q) b.escapes;
     }
 
+-- Items were read, and then those behind them broke off.
+pub items_broken : (from : Position) (old : At) (to : Position) (mid new : At)
+    (before during after : List Diagnostic) (was between : List ℕ) (has_escape : Bool) → IsPlaced old → IsPlaced mid
+    → ReadsItems from old to mid before during was between has_escape
+    → BreaksOff (items_told to mid) mid new during after → BreaksOff (items_told from old) old new before after
+items_broken from old to mid new before during after was between has_escape h k read broken =
+    let items = read.items in
+    let more = name_items (class_of to) (rest mid) in
+    let cut = items_cut (class_of to) (rest mid) in
+    let place = leads_to old mid (items_text items) h k read.goes_on.text read.goes_on.here in
+    let told : items_told from old ≡ items_report old.place items ++ items_told to mid =
+    ap (items_report old.place)
+    (cut_items (class_of from) (rest old) (items ++ more) cut.rest (read.goes_on.go_on more cut.rest cut.cut))
+    ∙ reports_append old.place items more
+    ∙ ap (λ p. items_report old.place items ++ items_report p more) (sym place) in
+    broken_behind (items_told from old) (items_told to mid) (items_report old.place items) old mid new before during
+    after read.goes_on.text (omega (arith, place)) read.reports told broken
+
+-- An escape was read, and then what is behind it broke off.
+pub escape_broken : (position : Position) (old mid new : At) (before during after : List Diagnostic) (c : Option ℕ)
+    → IsPlaced old → IsPlaced mid → ReadsEscape position old mid before during c
+    → BreaksOff (items_told Later mid) mid new during after → BreaksOff (items_told position old) old new before after
+escape_broken position old mid new before during after c h k read broken =
+    let items = read.item ∷ [] in
+    items_broken position old Later mid new before during after [] (encode_utf8_all (items_value items))
+    (list_any (λ (item : NameItem). item.is_escape) items) h k (record {
+      items = items;
+      goes_on = read.goes_on;
+      reports = read.reports ∙ ap (λ ds. before ++ ds) (sym (append-nil (item_report old.place read.item)));
+      value = refl;
+      escapes = refl;
+    }) broken
+
 -- parts that stand for themselves, behind what was read
 pub parts_added : (from : Position) (old mid new : At) (before after : List Diagnostic) (was between now : List ℕ)
     (has_escape : Bool)
@@ -385,6 +427,21 @@ escaped_spelled old mid new before after was now to plain spelt h k passes spell
           subst (λ b. HasValue b characters spelt.value) (sym escaped)
           (decodes.value ∙ ap (λ ys. Decoded (units_of ys)) (sym same));
     }
+
+-- A name broke off, behind its plain beginning.
+reports_of_name : (place : ℕ) (text : List ℕ)
+    → (name_read place text).diagnostics ≡ items_report place (name_items is_identifier_start text)
+unfolding items_read
+reports_of_name place text = refl
+
+pub name_broken : (old mid new : At) (before after : List Diagnostic) (to : Position) → IsPlaced old → IsPlaced mid
+    → PassesPlain old to mid → BreaksOff (items_told to mid) mid new before after
+    → BreaksOff (name_read old.place (rest old)).diagnostics old new before after
+name_broken old mid new before after to h k passes broken =
+    let xs = passes.characters in
+    rw (reports_of_name old.place (rest old))
+    (items_broken First old to mid new before before after [] (encode_utf8_all xs) false h k
+    (plain_read First old to mid before [] (encode_utf8_all xs) xs passes.goes_on refl) broken)
 
 -- no name follows a `#`
 pub character_reported : (old new : At) (before after : List Diagnostic) (c : ℕ) (sp : Span) → IsPlaced old

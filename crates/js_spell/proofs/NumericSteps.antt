@@ -4,7 +4,7 @@ use Rattle.std.proofs.Common.{length, drop, length-append, refl, sym, ◌∙◌,
 use Rattle.std.proofs.Common.{append_assoc, add-zero}
 use Rattle.std.proofs.lemmas.List.{append-nil}
 use Rattle.std.specs.List.{list_any}
-use Rattle.std.specs.Prelude.{codes, IfOk, Result, Ok, Err, OnErr}
+use Rattle.std.specs.Prelude.{codes, IfOk, Result, Ok, Err}
 use Rattle.std.proofs.lemmas.Bool.{ltb-true, ltb-false, eqb-true}
 use Rattle.std.proofs.lemmas.Bool.Decides.{nat_tests}
 use Rattle.std.proofs.Math.ListN.{get_or-eq_default}
@@ -34,7 +34,9 @@ use Rattle.js_grammar.specs.NumberReads.{point_items, behind_digits, decimal_ite
 use Rattle.js_grammar.proofs.NumberClasses.{all_below, below, digit_is_ascii, digit_more, is_exponent}
 use Rattle.js_grammar.proofs.NumberItems.{stopped, true_or_false}
 use Rattle.js_spell.specs.Numeric.{TellsDigits, radix_of_digits, prepend, item_behind, passed_separator, PassesDigits}
-use Rattle.js_spell.specs.Numeric.{PassesGroups, ReadsRun, BreaksOff, ReadsItems, ReadsPart, ReadsInteger, ReadsEnd}
+use Rattle.js_spell.specs.Breaks.{BreaksOff}
+use Rattle.js_spell.proofs.BreakSteps.{broken_behind, broken_first, unreported}
+use Rattle.js_spell.specs.Numeric.{PassesGroups, ReadsRun, ReadsItems, ReadsPart, ReadsInteger, ReadsEnd}
 use Rattle.js_spell.specs.Numeric.{TakesExponentMark, TakesSign}
 use Rattle.js_spell.specs.declared.digits.Digits.{Digits}
 use Rattle.js_spell.specs.declared.digits.Digits.TheVariants.{Binary, Octal, Decimal, Hex}
@@ -381,14 +383,13 @@ run_broken_read radix old new reports more before after digit groups h g e =
       whole_run = ap (λ (i : Item). i.lacks_digit) item;
     }
 
--- a text is the same, and nothing was reported
-pub on_err : {T E : Type 0} (r : Result T E) (P : Type 0) → P → OnErr r P
-on_err (Ok x) P p = tt
-on_err (Err e) P p = p
-
-pub breaks_off : (old new : At) (before after : List Diagnostic) → new.text ≡ old.text → after ≡ before
-    → BreaksOff old new before after
-breaks_off old new before after text e = record { text = text; more = []; reports = e ∙ sym (append-nil before) }
+-- a run in which a digit is missing, where that was not reported
+pub run_unreported : (radix : ℕ) (old new : At) (before after : List Diagnostic) (f g : Bool) (passed : Passed)
+    → IsPlaced old → IsPlaced new → PassesGroups radix old passed new f g → after ≡ before
+    → BreaksOff [] old new before after
+run_unreported radix old new before after f g passed h k groups e =
+    unreported [] old new before after groups.text
+    (omega (arith, leads_to old new groups.characters h k groups.text groups.here)) e
 
 -- the mark of an exponent
 pub exponent_marks : (is_exponent_mark 101 ≡ true) × (is_exponent_mark 69 ≡ true)
@@ -550,21 +551,17 @@ exponent_read old marked signed new before after f g is_whole without kind h k t
     rw (found, exponent_items_of taken.mark (sign_of (rest marked)) (rest marked), sign.left)
     (record { items = all; left = digits.left; kind_is = sign.kind_is })
 
-pub breaks_later : (old mid new : At) (before during after : List Diagnostic) → mid.text ≡ old.text → during ≡ before
-    → BreaksOff mid new during after → BreaksOff old new before after
-breaks_later old mid new before during after text e off =
-    record { text = off.text ∙ text; more = off.more; reports = off.reports ∙ ap (λ t. t ++ off.more) e }
-
-pub breaks_behind : (old mid new : At) (before during after : List Diagnostic) (f g : Bool) (items : List Item)
-    → ReadsItems old mid before during f g items
-    → BreaksOff mid new during after → BreaksOff old new before after
-breaks_behind old mid new before during after f g items read off = record {
-  text = off.text ∙ read.text;
-  more = missing_digits old.place items ++ off.more;
-  reports =
-      off.reports ∙ ap (λ t. t ++ off.more) read.reports
-      ∙ append_assoc before (missing_digits old.place items) off.more;
-}
+-- Items were read, and then those behind them broke off.
+pub items_broken : (old mid new : At) (before during after : List Diagnostic) (f g : Bool) (xs ys : List Item)
+    → IsPlaced old → IsPlaced mid → ReadsItems old mid before during f g xs
+    → BreaksOff (missing_digits mid.place ys) mid new during after
+    → BreaksOff (missing_digits old.place (xs ++ ys)) old new before after
+items_broken old mid new before during after f g xs ys h k read broken =
+    let place = leads_to old mid (items_text xs) h k read.text read.here in
+    broken_behind (missing_digits old.place (xs ++ ys)) (missing_digits mid.place ys) (missing_digits old.place xs) old
+    mid new before during after read.text (omega (arith, place)) read.reports
+    (missing_digits-append old.place xs ys
+    ∙ ap (λ p. missing_digits old.place xs ++ missing_digits p ys) (sym place)) broken
 
 point_items_of : (cs : List ℕ) → point_items (full_stop ∷ cs)
     ≡ record (items-cons (whole (codes ".") cs) (fraction_items cs)) { kind = Float }
@@ -587,6 +584,17 @@ fraction_read old mid new before during after f g h is_whole kind p q digit digi
       left = later.left;
     })
 
+pub fraction_broken : (old mid new : At) (before during after : List Diagnostic) (f g is_whole : Bool)
+    → IsPlaced old → IsPlaced mid
+    → begins (is_digit_of 10) (rest old) ≡ true → ReadsRun 10 old mid before during f g is_whole
+    → BreaksOff [] mid new during after
+    → BreaksOff (missing_digits old.place (fraction_items (rest old)).items) old new before after
+fraction_broken old mid new before during after f g is_whole p q digit digits broken =
+    let more = (exponent_or Float (run 10 (rest old)).rest).items in
+    rw (fraction_there (rest old) digit)
+    (items_broken old mid new before during after f g (run 10 (rest old) ∷ []) more p q digits.items
+    (broken_first (missing_digits mid.place more) mid new during after broken))
+
 pub no_fraction_read : (old new : At) (before after : List Diagnostic) (f g : Bool) (kind : Kind)
     → begins (is_digit_of 10) (rest old) ≡ false
     → ReadsEnd old new before after f g kind (exponent_or Float (rest old))
@@ -606,6 +614,24 @@ point_read old mid new before after f g p q read part =
       left = part.left;
       kind_is = refl;
     })
+
+pub point_broken : (old mid new : At) (before after : List Diagnostic) → IsPlaced old → IsPlaced mid
+    → Reads old mid full_stop
+    → BreaksOff (missing_digits mid.place (fraction_items (rest mid)).items) mid new before after
+    → BreaksOff (missing_digits old.place (point_items (rest old)).items) old new before after
+point_broken old mid new before after p q read broken =
+    let first = whole_item_read old mid before false (codes ".") (rest mid) read.text read.here refl in
+    rw (read.here, point_items_of (rest mid))
+    (items_broken old mid new before before after false false (whole (codes ".") (rest mid) ∷ [])
+    (fraction_items (rest mid)).items p q first broken)
+
+pub behind_point_broken : (old mid new : At) (before after : List Diagnostic) → IsPlaced old → IsPlaced mid
+    → Reads old mid full_stop
+    → BreaksOff (missing_digits mid.place (fraction_items (rest mid)).items) mid new before after
+    → BreaksOff (missing_digits old.place (behind_digits (rest old)).items) old new before after
+behind_point_broken old mid new before after p q read broken =
+    rw (behind_digits_point (rest old) (ap (begins (λ c. c == full_stop)) read.here))
+    (point_broken old mid new before after p q read broken)
 
 pub behind_point_read : (old mid new : At) (before after : List Diagnostic) (f g : Bool) → IsPlaced old → IsPlaced mid
     → Reads old mid full_stop
@@ -669,6 +695,22 @@ decimal_read old mid new before during after f g h kind p q first end =
       left = later.left;
       kind_is = later.kind_is;
     })
+
+pub decimal_broken : (old mid new : At) (before during after : List Diagnostic) (f g : Bool)
+    → IsPlaced old → IsPlaced mid → ReadsInteger old mid before during f g
+    → begins (λ c. c == 110) (rest mid) ≡ false
+    → BreaksOff (missing_digits mid.place (behind_digits (rest mid)).items) mid new during after
+    → BreaksOff (missing_digits old.place (decimal_items (rest old)).items) old new before after
+decimal_broken old mid new before during after f g p q first none broken =
+    let left = (integer (rest old)).rest in
+    let more = suffix_or DecimalBigInt (behind_digits left) left in
+    let found : more ≡ behind_digits (rest mid) =
+    ap (λ t. suffix_or DecimalBigInt (behind_digits t) t) first.left
+    ∙ suffix_missing DecimalBigInt (behind_digits (rest mid)) (rest mid) none in
+    rw (decimal_items_of (rest old))
+    (items_broken old mid new before during after f g (integer (rest old) ∷ []) more.items p q first.items
+    (subst (λ (number : Items). BreaksOff (missing_digits mid.place number.items) mid new during after) (sym found)
+    broken))
 
 pub suffix_read : (old new : At) (reports : List Diagnostic) (flag : Bool) (big : Kind) (without : Items)
     → Reads old new 110

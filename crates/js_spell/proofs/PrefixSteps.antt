@@ -17,6 +17,8 @@ use Rattle.js_kind.specs.declared.kind.Kind.TheVariants.{Eof, Float}
 use Rattle.js_spell.specs.Numeric.{ReadsRun, ReadsEnd, ReadsCut, ReadsPart, HasPrefix, base_of_prefix}
 use Rattle.js_spell.specs.Numeric.{behind_base}
 use Rattle.js_spell.specs.declared.numeric.Prefix.{Prefix}
+use Rattle.js_spell.specs.Breaks.{BreaksOff}
+use Rattle.js_spell.proofs.NumericSteps.{point_broken}
 use Rattle.js_spell.proofs.NumericSteps.{leads_to, point_read, items_append, no_items_read, suffix_read, no_suffix_read}
 
 -- what ends at its end
@@ -121,6 +123,14 @@ pointed_read old mid new before after f g h k read part =
     rw (number_point (rest old) (ap (begins (λ c. c == full_stop)) read.here))
     (cut_of_end old new before after f g Float (point_items (rest old))
     (point_read old mid new before after f g h k read part))
+
+pub pointed_broken : (old mid new : At) (before after : List Diagnostic) → IsPlaced old → IsPlaced mid
+    → Reads old mid full_stop
+    → BreaksOff (missing_digits mid.place (fraction_items (rest mid)).items) mid new before after
+    → BreaksOff (missing_digits old.place (number_items (rest old)).items) old new before after
+pointed_broken old mid new before after h k read broken =
+    rw (number_point (rest old) (ap (begins (λ c. c == full_stop)) read.here))
+    (point_broken old mid new before after h k read broken)
 
 -- a number of a lead
 pub led_read : (old new : At) (before after : List Diagnostic) (f g : Bool) (kind : Kind) (number : Items)

@@ -1,7 +1,7 @@
 -- The steps of reading a whole string, or a part of a template.
 use Rattle.std.proofs.Common.{◌≡◌, ℕ, ◌+◌, ◌≤◌, Bool, true, false, ◌&&◌, ◌==◌, List, [], ◌∷◌, ◌++◌}
 use Rattle.std.proofs.Common.{length, take, drop, refl, sym, ◌∙◌, ap, arith, Option, Some, None, inl, inr}
-use Rattle.std.proofs.Common.{append_assoc, subst, ◌<◌}
+use Rattle.std.proofs.Common.{append_assoc, append-nil, subst, ◌<◌}
 use Rattle.std.specs.Prelude.{IfNone, IfSome, codes, slice_index}
 use Rattle.std.specs.Char.{encode_utf8}
 use Rattle.std.proofs.lemmas.Bool.{eqb-true, eq-eqb}
@@ -14,7 +14,7 @@ use Rattle.js_kind.specs.declared.kind.Kind.{Kind}
 use Rattle.js_kind.specs.declared.kind.Kind.TheVariants.{Str, Undetermined}
 use Rattle.js_grammar.specs.Gap.{is_prefix}
 use Rattle.js_grammar.specs.Outcome.{place_behind}
-use Rattle.js_grammar.specs.StringItems.{StringItem, StringValue, string_text, string_units}
+use Rattle.js_grammar.specs.StringItems.{StringItem, StringItems, StringRead, StringValue, string_text, string_units}
 use Rattle.js_grammar.specs.StringItems.{contains_escape, contains_bad_escape, item_reports, stretch, is_quote}
 use Rattle.js_grammar.specs.StringItems.{all_items, string_items, string_read, string_of_items}
 use Rattle.js_grammar.specs.StringItems.{terminated_string, unterminated}
@@ -26,10 +26,10 @@ use Rattle.js_grammar.proofs.StringSteps.{string_terminated, string_unterminated
 use Rattle.js_grammar.proofs.StringSteps.{part_with_substitution, part_unterminated, template_value_bad}
 use Rattle.js_grammar.proofs.StringSteps.{template_value_good}
 use Rattle.js_source.specs.Source.{At, rest, Reads, ReadsTwo, IsPlaced, StepsPast}
-use Rattle.js_spell.specs.Numeric.{BreaksOff}
+use Rattle.js_spell.specs.Breaks.{BreaksOff}
 use Rattle.js_spell.specs.Strings.{in_template, item_of, quote_of, ReadsValue, value_of, spelt_value, Unterminated}
 use Rattle.js_spell.specs.Strings.{EndsString, EndsPart, Spells, SpellsString, is_elsewhere, TakesQuote}
-use Rattle.js_spell.specs.Strings.{escape_here, plain_here, PassesCharacters}
+use Rattle.js_spell.specs.Strings.{escape_here, plain_here, PassesCharacters, items_told, string_reports}
 use Rattle.js_spell.specs.declared.plain.Literal.{Literal}
 use Rattle.js_spell.specs.declared.plain.Literal.TheVariants.{DoubleQuoted, SingleQuoted, Template}
 use Rattle.js_spell.specs.declared.spelt.Spelt.{Spelt}
@@ -37,6 +37,7 @@ use Rattle.js_spell.specs.declared.spelt.SpeltValue.{SpeltValue}
 use Rattle.js_spell.specs.declared.spelt.SpeltValue.TheVariants.{Plain}
 use Rattle.js_spell.specs.declared.template.PartEnd.TheVariants.{Tail, Substitution, Missing}
 use Rattle.js_spell.proofs.NumericSteps.{leads_to}
+use Rattle.js_spell.proofs.BreakSteps.{broken_before, broken_later}
 use Rattle.js_spell.proofs.ItemSteps.{plain_value_read}
 
 -- the quote that is next
@@ -81,15 +82,6 @@ reports_missing found start old mid new before after same none some reported =
       left = ap (λ a. drop 1 (rest a)) (sym same) ∙ left.1;
       reports = reported;
     }
-
-pub breaks_off_then : (old mid new : At) (before between after added : List Diagnostic) → mid.text ≡ old.text
-    → between ≡ before ++ added → BreaksOff mid new between after → BreaksOff old new before after
-breaks_off_then old mid new before between after added text e broken = record {
-  text = broken.text ∙ text;
-  more = added ++ broken.more;
-  reports =
-      broken.reports ∙ ap (λ ds. ds ++ broken.more) e ∙ append_assoc before added broken.more;
-}
 
 -- what was read of items that a mark ends
 pub closed_spells : (t : Bool) (start place : ℕ) (old new : At) (before after : List Diagnostic) (was now : TokenParts)
@@ -217,6 +209,44 @@ place_of_items start old mid literal h g e quote =
     leads_to old mid (quote_of literal ∷ []) h g quote.read.text quote.read.here ∙ behind_quote literal old.place
     ∙ ap (λ p. p + 1) (sym e)
 
+-- What is reported of a string begins with what is reported of its items.
+reports_of_string : (quote start : ℕ) (found : StringItems)
+    → (later : List Diagnostic)
+    × ((string_of_items quote start found).diagnostics ≡ item_reports false start (start + 1) found.items ++ later)
+reports_of_string quote start found =
+    let items = item_reports false start (start + 1) found.items in
+    let end = place_behind (start + 1) (string_text found.items ++ take 1 found.rest) in
+    elim (true_or_false (begins (λ c. c == quote) found.rest)) [
+      | inl is ↦ (
+        [],
+        ap (λ (read : StringRead). read.diagnostics) (string_terminated quote start found is) ∙ sym (append-nil items),
+      )
+      | inr none ↦ (
+        UnterminatedString (stretch start end) ∷ [],
+        ap (λ (read : StringRead). read.diagnostics) (string_unterminated quote start found none),
+      )
+    ]
+
+-- The items of a string broke off, behind its quote.
+pub string_broken : (start : ℕ) (old mid new : At) (before after : List Diagnostic) (literal : Literal)
+    → IsPlaced old → IsPlaced mid → start ≡ old.place → TakesQuote old mid literal
+    → BreaksOff (items_told literal start mid) mid new before after
+    → BreaksOff (string_reports start (rest old)) old new before after
+string_broken start old mid new before after literal h g e taken broken =
+    let q = quote_of literal in
+    let all = all_items (item_of literal) (rest mid) in
+    let found = reports_of_string q start (string_items q (rest mid)) in
+    let at = place_of_items start old mid literal h g e taken in
+    let told : string_reports start (rest old) ≡ items_told literal start mid ++ found.0 =
+    ap (string_reports start) taken.read.here ∙ found.1
+    ∙ ap (λ (xs : StringItems). item_reports false start (start + 1) xs.items ++ found.0)
+    (sym (items_of_string literal (rest mid) taken.string))
+    ∙ ap (λ t. item_reports t start (start + 1) all.items ++ found.0) (sym taken.string)
+    ∙ ap (λ p. item_reports (in_template literal) start p all.items ++ found.0) (sym at) in
+    broken_before (string_reports start (rest old)) (items_told literal start mid) found.0 old new before after told
+    (broken_later (items_told literal start mid) old mid new before after taken.read.text
+    (omega (arith, at, e)) broken)
+
 pub string_closed : (start : ℕ) (old mid here new : At) (before between after : List Diagnostic)
     (was now : TokenParts) (spelt : Spelt) (literal : Literal) (value : SpeltValue) (quote : ℕ)
     → IsPlaced old → IsPlaced mid → start ≡ old.place → TakesQuote old mid literal
@@ -283,6 +313,39 @@ string_open start old mid here new before between after was now spelt literal va
           (read.reports ∙ ap (λ t. before ++ item_reports t start mid.place read.items) taken.string)
           missing flags parts);
     }
+
+-- What is reported of a part of a template begins with what is reported of its items.
+reports_of_part : (substitute tail : Kind) (start : ℕ) (found : StringItems)
+    → (later : List Diagnostic)
+    × ((part_of_items substitute tail start found).diagnostics
+    ≡ item_reports true start (start + 1) found.items ++ later)
+reports_of_part substitute tail start found =
+    let items = item_reports true start (start + 1) found.items in
+    let end = place_behind (start + 1) (string_text found.items ++ take 1 found.rest) in
+    let told = λ (read : StringRead). read.diagnostics in
+    elim (true_or_false (begins (λ c. c == grave_accent) found.rest)) [
+      | inl is ↦ ([], ap told (part_with_tail substitute tail start found is) ∙ sym (append-nil items))
+      | inr none ↦ (
+          elim (true_or_false (is_prefix (codes "${") found.rest)) [
+            | inl is ↦
+                ([], ap told (part_with_substitution substitute tail start found none is) ∙ sym (append-nil items))
+            | inr not_begun ↦ (
+              UnterminatedString (stretch start end) ∷ [],
+              ap told (part_unterminated substitute tail start found none not_begun),
+            )
+          ])
+    ]
+
+-- The items of a part of a template broke off.
+pub part_broken : (substitute tail : Kind) (start : ℕ) (old new : At) (before after : List Diagnostic)
+    → start + 1 ≡ old.place → BreaksOff (items_told Template start old) old new before after
+    → BreaksOff (template_part_read substitute tail start (rest old)).diagnostics old new before after
+part_broken substitute tail start old new before after e broken =
+    let all = template_items (rest old) in
+    let found = reports_of_part substitute tail start all in
+    broken_before (template_part_read substitute tail start (rest old)).diagnostics (items_told Template start old)
+    found.0 old new before after
+    (found.1 ∙ ap (λ p. item_reports true start p all.items ++ found.0) e) broken
 
 -- a part of a template
 pub part_closed : (substitute tail : Kind) (start : ℕ) (old here new : At) (before between after : List Diagnostic)

@@ -1,6 +1,7 @@
 -- What readers of angles and of parts of JSX give, and their steps.
 use Rattle.std.specs.Prelude.{◌≡◌, ℕ, ◌<◌, Bool, true, false, not, List, [], ◌∷◌, ◌++◌, ◌==◌, Some, None}
 use Rattle.std.specs.Prelude.{if◌then◌else◌, drop}
+use Rattle.std.specs.Option.{option_map_or}
 use Rattle.js_text.specs.Ascii.{apostrophe, equals_sign, greater_than_sign, quotation_mark}
 use Rattle.js_text.specs.Characters.{begins}
 use Rattle.js_text.specs.declared.diagnostic.Diagnostic.{Diagnostic}
@@ -70,3 +71,7 @@ pub record SpellsJsxString (old new : At) (before after : List Diagnostic) (kind
   pub found : GoalRead
   pub read : jsx_string_read old.place (rest old) ≡ Some found
   pub spells : SpellsGoal found old new before after kind
+
+-- what is reported of the string of an attribute that the text begins with, at the start
+abbrev pub jsx_string_reports : ℕ → List ℕ → List Diagnostic
+jsx_string_reports start text = option_map_or (λ (read : GoalRead). read.diagnostics) (jsx_string_read start text) []

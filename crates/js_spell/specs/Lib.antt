@@ -1,3 +1,4 @@
+pub mod Breaks
 pub mod Escape
 pub mod Goals
 pub mod Integer

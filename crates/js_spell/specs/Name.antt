@@ -9,7 +9,7 @@ use Rattle.js_text.specs.JsStr.{units_of}
 use Rattle.js_text.specs.declared.diagnostic.Diagnostic.{Diagnostic}
 use Rattle.js_grammar.specs.Name.{NameItem, NameFault, CutsInto, items_text, items_value, items_report, item_report}
 use Rattle.js_grammar.specs.Name.{is_no_part, plain_item, escape_item, item_of_escape, latin_small_letter_u, name_read}
-use Rattle.js_grammar.specs.Name.{private_read, name_item, no_private_name, unnamed}
+use Rattle.js_grammar.specs.Name.{private_read, name_item, name_items, no_private_name, unnamed}
 use Rattle.js_grammar.specs.Name.NameFault.{bad_escape, not_allowed}
 use Rattle.js_grammar.specs.UnicodeEscape.{unicode_escape}
 use Rattle.js_kind.specs.Keywords.{name_kind}
@@ -42,6 +42,10 @@ pub record GoesOn (from : Position) (old : At) (items : List NameItem) (to : Pos
   pub here : rest old ≡ items_text items ++ rest new
   pub go_on : (more : List NameItem) (left : List ℕ) → CutsInto (class_of to) (rest new) more left
       → CutsInto (class_of from) (rest old) (items ++ more) left
+
+-- what is reported of all items of a name that are next
+abbrev pub items_told : Position → At → List Diagnostic
+items_told position at = items_report at.place (name_items (class_of position) (rest at))
 
 -- The characters of a name up to its first escape, or its end, were passed.
 pub record PassesPlain (old : At) (to : Position) (new : At) : Type 0 where

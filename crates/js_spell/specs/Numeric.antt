@@ -101,12 +101,6 @@ pub record ReadsRun (radix : ℕ) (old new : At) (before after : List Diagnostic
   pub left : (run radix (rest old)).rest ≡ rest new
   pub whole_run : (run radix (rest old)).lacks_digit ≡ not is_whole
 
--- Reading broke off for lack of memory, somewhere in the same text.
-pub record BreaksOff (old new : At) (before after : List Diagnostic) : Type 0 where
-  pub text : new.text ≡ old.text
-  pub more : List Diagnostic
-  pub reports : after ≡ before ++ more
-
 -- The integer of a decimal number was read.
 pub record ReadsInteger (old new : At) (before after : List Diagnostic) (flag_before flag_after : Bool) : Type 0 where
   pub items : ReadsItems old new before after flag_before flag_after (integer (rest old) ∷ [])

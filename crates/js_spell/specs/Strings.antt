@@ -122,6 +122,11 @@ value_of DoubleQuoted items = units (string_units items)
 value_of SingleQuoted items = units (string_units items)
 value_of Template items = template_value items
 
+-- what is reported of all items that are next, in a token that begins at the start
+abbrev pub items_told : Literal → ℕ → At → List Diagnostic
+items_told literal start at =
+    item_reports (in_template literal) start at.place (all_items (item_of literal) (rest at)).items
+
 -- where the value is, by the escaped flag of its token
 abbrev pub spelt_value : Bool → StringValue → SpeltValue
 spelt_value false value = Plain
@@ -198,6 +203,11 @@ is_end End = true
 -- the value of a literal with these units and an escape, by whether a bad one is in it
 abbrev pub decoded_value : Literal → Bool → List ℕ → SpeltValue
 decoded_value literal has_bad us = if has_bad && in_template literal then Bad else Decoded us
+
+-- what is reported of the string that the text begins with, at the start
+abbrev pub string_reports : ℕ → List ℕ → List Diagnostic
+string_reports start [] = []
+string_reports start (quote ∷ behind) = (string_read quote start behind).diagnostics
 
 -- The string that is next was read, good or at fault.
 pub record SpellsString (start : ℕ) (old new : At) (before after : List Diagnostic) (was now : TokenParts)

@@ -6,9 +6,10 @@ ghost use Rattle.js_text.specs.Ascii.{backslash, carriage_return};
 ghost use Rattle.js_text.specs.Characters.{begins};
 ghost use Rattle.js_text.specs.declared.diagnostic.Diagnostic.{Diagnostic};
 ghost use Rattle.js_source.specs.Source.{rest, IsPlaced};
-ghost use Rattle.js_spell.specs.Numeric.{BreaksOff};
+ghost use Rattle.js_spell.specs.Breaks.{BreaksOff};
 ghost use Rattle.js_spell.specs.Strings.{plain_here, ReadsItems, ReadsOneItem, ReadsMarkedItem, ReadsValue};
 ghost use Rattle.js_spell.specs.Strings.{MarkIs, PassesCharacters, escape_here, is_end, item_of, decoded_value};
+ghost use Rattle.js_spell.specs.Strings.{items_told};
 ghost use Rattle.std.specs.Prelude.{MatchOption};
 ghost use Rattle.std.specs.Str.{IsCharBoundary};
 ghost use Rattle.js_text.specs.declared.diagnostic.Diagnostic.TheVariants.{InvalidEscapeSequence};
@@ -71,7 +72,7 @@ fn read_escape_item(
     requires escape { begins (λ c. c == backslash) (rest source.old) ≡ true }
     ensures ok { IfOk result (λ is_good. ReadsOneItem literal token.now.start source.old source.new
         text.old text.new errors.old errors.new (not is_good)) }
-    ensures err { OnErr result (BreaksOff source.old source.new errors.old errors.new) }
+    ensures err { OnErr result (BreaksOff [] source.old source.new errors.old errors.new) }
     ensures onward { source.old.place ≤ source.new.place }
     ensures placed { IsPlaced source.new }
 {
@@ -159,7 +160,7 @@ fn read_marked_item(
     requires marked { plain_here literal (rest source.old) ≡ false }
     ensures ok { IfOk result (ReadsMarkedItem literal token.now.start source.old source.new
         text.old text.new errors.old errors.new) }
-    ensures err { OnErr result (BreaksOff source.old source.new errors.old errors.new) }
+    ensures err { OnErr result (BreaksOff [] source.old source.new errors.old errors.new) }
     ensures onward { source.old.place ≤ source.new.place }
     ensures placed { IsPlaced source.new }
 {
@@ -198,7 +199,8 @@ fn read_items(
     ensures ok { IfOk result (ReadsItems literal token.now.start source.old source.new
         text.old text.new errors.old errors.new) }
     ensures ended { IfOk result (λ _. item_of literal (rest source.new) ≡ None) }
-    ensures err { OnErr result (BreaksOff source.old source.new errors.old errors.new) }
+    ensures err { OnErr result (BreaksOff (items_told literal token.now.start source.old)
+        source.old source.new errors.old errors.new) }
     ensures onward { source.old.place ≤ source.new.place }
     ensures placed { IsPlaced source.new }
 {
@@ -243,7 +245,8 @@ fn read_decoded(
     requires escaped { escape_here literal (rest source.old) ≡ true }
     ensures ok { IfOk result (ReadsValue literal token.now.start (place_of source.old.text from) source.new
         errors.old errors.new) }
-    ensures err { OnErr result (BreaksOff source.old source.new errors.old errors.new) }
+    ensures err { OnErr result (BreaksOff (items_told literal token.now.start source.old)
+        source.old source.new errors.old errors.new) }
     ensures onward { source.old.place ≤ source.new.place }
     ensures placed { IsPlaced source.new }
 {
@@ -267,7 +270,8 @@ pub(crate) fn read_value(
     requires placed { IsPlaced source.old }
     requires start { token.now.start ≤ source.old.place }
     ensures ok { IfOk result (ReadsValue literal token.now.start source.old source.new errors.old errors.new) }
-    ensures err { OnErr result (BreaksOff source.old source.new errors.old errors.new) }
+    ensures err { OnErr result (BreaksOff (items_told literal token.now.start source.old)
+        source.old source.new errors.old errors.new) }
     ensures onward { source.old.place ≤ source.new.place }
     ensures placed { IsPlaced source.new }
 {

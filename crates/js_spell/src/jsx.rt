@@ -6,8 +6,8 @@ ghost use Rattle.js_grammar.specs.Jsx.{begins_child, ends_jsx_name, jsx_child_re
 ghost use Rattle.js_grammar.specs.StringItems.{is_quote};
 ghost use Rattle.js_source.specs.Source.{rest, IsPlaced};
 ghost use Rattle.js_spell.specs.Goals.{SpellsGoal, SpellsJsxName, SpellsJsxString, StopsAt, TakesJsxQuote, TellsText};
-ghost use Rattle.js_spell.specs.Goals.{ends_of};
-ghost use Rattle.js_spell.specs.Numeric.{BreaksOff};
+ghost use Rattle.js_spell.specs.Goals.{ends_of, jsx_string_reports};
+ghost use Rattle.js_spell.specs.Breaks.{BreaksOff};
 
 use crate::escape::report_unterminated;
 use crate::name::skip_parts;
@@ -164,7 +164,7 @@ fn read_jsx_text(source: &mut Source<'_>, errors: &mut DiagnosticList) -> Result
     requires { IsPlaced source.old }
     ensures ok { IfOk result (SpellsGoal (jsx_text_read source.old.place (rest source.old)) source.old source.new
         errors.old errors.new) }
-    ensures err { OnErr result (BreaksOff source.old source.new errors.old errors.new) }
+    ensures err { OnErr result (BreaksOff [] source.old source.new errors.old errors.new) }
     ensures placed { IsPlaced source.new }
 {
     let b = match pass_text(source, Text::Child) {
@@ -190,7 +190,8 @@ pub fn read_jsx_child(
     requires { IsPlaced source.old }
     ensures ok { IfOk result (SpellsGoal (jsx_child_read source.old.place (rest source.old)) source.old source.new
         errors.old errors.new) }
-    ensures err { OnErr result (BreaksOff source.old source.new errors.old errors.new) }
+    ensures err { OnErr result (BreaksOff (jsx_child_read source.old.place (rest source.old)).diagnostics
+        source.old source.new errors.old errors.new) }
     ensures placed { IsPlaced source.new }
 {
     if source.advance_if_ascii_eq(b'<') {
@@ -226,7 +227,8 @@ pub fn read_jsx_string(
     requires placed { IsPlaced source.old }
     requires quote { begins is_quote (rest source.old) ≡ true }
     ensures ok { IfOk result (SpellsJsxString source.old source.new errors.old errors.new) }
-    ensures err { OnErr result (BreaksOff source.old source.new errors.old errors.new) }
+    ensures err { OnErr result (BreaksOff (jsx_string_reports source.old.place (rest source.old))
+        source.old source.new errors.old errors.new) }
     ensures placed { IsPlaced source.new }
 {
     let start = source.offset();

@@ -7,14 +7,14 @@ ghost use Rattle.std.specs.Str.{chars, IsCharBoundary};
 ghost use Rattle.js_text.specs.Ascii.{backslash};
 ghost use Rattle.js_text.specs.Characters.{begins, from_place, from_first, is_identifier_part, is_identifier_start};
 ghost use Rattle.js_text.specs.JsStr.{units_of};
-ghost use Rattle.js_grammar.specs.Name.{begins_name, is_no_part, low_surrogate_escape};
+ghost use Rattle.js_grammar.specs.Name.{begins_name, is_no_part, low_surrogate_escape, name_read, private_read};
 ghost use Rattle.js_kind.specs.Keywords.{name_kind};
 ghost use Rattle.js_source.specs.Source.{rest, IsPlaced, BeginsWith, HasFirstByte};
 ghost use Rattle.js_spell.specs.Name.{class_of, PassesPlain, DecodesEscape, DecodesUnicode, ReadsEscape, ReadsItems};
 ghost use Rattle.js_spell.specs.Name.{PassesParts, ReadsToEnd, SpellsDecoded, SpellsName, ReportsNoName};
 ghost use Rattle.js_spell.specs.Name.{SpellsPlainName, MeetsEscape, SpellsPrivateName, SpellsPlainPrivateName};
-ghost use Rattle.js_spell.specs.Name.{MeetsNoPlainName, TellsParts};
-ghost use Rattle.js_spell.specs.Numeric.{BreaksOff};
+ghost use Rattle.js_spell.specs.Name.{MeetsNoPlainName, TellsParts, items_told};
+ghost use Rattle.js_spell.specs.Breaks.{BreaksOff};
 ghost use Rattle.js_spell.specs.declared.name.Position.TheVariants.{Later};
 ghost use Rattle.js_spell.specs.declared.spelt.SpeltValue.TheVariants.{Decoded};
 
@@ -224,7 +224,7 @@ fn read_escape(
     requires placed { IsPlaced source.old }
     requires begun { begins (λ c. c == backslash) (rest source.old) ≡ true }
     ensures ok { IfOk result (λ c. ReadsEscape position source.old source.new errors.old errors.new c) }
-    ensures err { OnErr result (BreaksOff source.old source.new errors.old errors.new) }
+    ensures err { OnErr result (BreaksOff [] source.old source.new errors.old errors.new) }
     ensures placed { IsPlaced source.new }
 {
     source.next_char();
@@ -257,7 +257,8 @@ fn read_escape_into(
     ensures ok { OnOk result (ReadsItems position source.old Later source.new errors.old errors.new
         (string_bytes decoded.old) (string_bytes decoded.new) true) }
     ensures fewer { OnOk result (length (rest source.new) < length (rest source.old)) }
-    ensures err { OnErr result (BreaksOff source.old source.new errors.old errors.new) }
+    ensures err { OnErr result (BreaksOff (items_told position source.old)
+        source.old source.new errors.old errors.new) }
     ensures placed { IsPlaced source.new }
 {
     if let Some(c) = read_escape(source, errors, position)? {
@@ -270,6 +271,7 @@ fn read_escape_into(
 fn read_parts_into(source: &mut Source<'_>, decoded: &mut String) -> Result<(), AllocError>
     requires { IsPlaced source.old }
     ensures text { source.new.text ≡ source.old.text }
+    ensures onward { source.old.place ≤ source.new.place }
     ensures ok { OnOk result (PassesParts source.old source.new (string_bytes decoded.old) (string_bytes decoded.new)) }
     ensures placed { IsPlaced source.new }
 {
@@ -287,7 +289,7 @@ fn read_rest_into(
     requires { IsPlaced source.old }
     ensures ok { OnOk result ((has_escape : Bool) × ReadsToEnd Later source.old source.new errors.old errors.new
         (string_bytes decoded.old) (string_bytes decoded.new) has_escape) }
-    ensures err { OnErr result (BreaksOff source.old source.new errors.old errors.new) }
+    ensures err { OnErr result (BreaksOff (items_told Later source.old) source.old source.new errors.old errors.new) }
     ensures placed { IsPlaced source.new }
 {
     'parts: loop {
@@ -311,7 +313,8 @@ fn decode_name(
     requires begun { begins (λ c. c == backslash) (rest source.old) ≡ true }
     ensures ok { IfOk result (λ text. ReadsToEnd position source.old source.new errors.old errors.new
         plain.now (string_bytes text) true) }
-    ensures err { OnErr result (BreaksOff source.old source.new errors.old errors.new) }
+    ensures err { OnErr result (BreaksOff (items_told position source.old)
+        source.old source.new errors.old errors.new) }
     ensures placed { IsPlaced source.new }
 {
     let mut decoded = String::with_capacity(alloc, plain.len() + MORE_BYTES)?;
@@ -347,7 +350,8 @@ fn read_escaped_name(
     requires begun { begins (λ c. c == backslash) (rest source.old) ≡ true }
     ensures ok { IfOk result (λ spelt.
         SpellsDecoded position source.old source.new errors.old errors.new plain.now spelt) }
-    ensures err { OnErr result (BreaksOff source.old source.new errors.old errors.new) }
+    ensures err { OnErr result (BreaksOff (items_told position source.old)
+        source.old source.new errors.old errors.new) }
     ensures placed { IsPlaced source.new }
 {
     let text = decode_name(alloc, source, errors, position, plain)?;
@@ -356,8 +360,8 @@ fn read_escaped_name(
 
 /// Reads the name that is next, good or at fault (ECMA-262 12.7): its kind is that of the word that it stands for. What
 /// is to be reported is added to the list, and the flags of the token are set, whose start is where the name begins. A
-/// name without escapes asks for no memory, and its value stays in the source. After an error the source stands
-/// somewhere in the same text, and the list has only grown.
+/// name without escapes asks for no memory, and its value stays in the source. After an error the source stands at its
+/// start or behind it in the same text, and what was reported is a beginning of what the reading of the name reports.
 #[inline(always)]
 pub fn read_name(
     alloc: Global,
@@ -369,7 +373,8 @@ pub fn read_name(
     requires begun { begins_name (rest source.old) ≡ true }
     ensures ok { IfOk result (λ spelt.
         SpellsName source.old source.new errors.old errors.new token.old token.new spelt) }
-    ensures err { OnErr result (BreaksOff source.old source.new errors.old errors.new) }
+    ensures err { OnErr result (BreaksOff (name_read source.old.place (rest source.old)).diagnostics
+        source.old source.new errors.old errors.new) }
     ensures token { OnErr result (token.new ≡ token.old) }
     ensures placed { IsPlaced source.new }
 {
@@ -546,6 +551,7 @@ pub fn read_plain_private_name(source: &mut Source<'_>) -> Option<Kind>
 fn report_no_name(source: &mut Source<'_>, errors: &mut DiagnosticList) -> Result<Kind, AllocError>
     requires { IsPlaced source.old }
     ensures text { source.new.text ≡ source.old.text }
+    ensures onward { source.old.place ≤ source.new.place }
     ensures ok { IfOk result (λ kind. ReportsNoName source.old errors.old errors.new kind) }
     ensures err { OnErr result (errors.new ≡ errors.old) }
     ensures placed { IsPlaced source.new }
@@ -567,8 +573,8 @@ fn report_no_name(source: &mut Source<'_>, errors: &mut DiagnosticList) -> Resul
 
 /// Reads what follows a `#` that was just read (ECMA-262 12.7): a name, good or at fault, or what is read where no name
 /// follows. The value leaves `#` out. What is to be reported is added to the list, and the flags of the token are set,
-/// whose start is where the `#` stands. After an error the source stands somewhere in the same text, and the list has
-/// only grown.
+/// whose start is where the `#` stands. After an error the source stands at its start or behind it in the same text,
+/// and what was reported is a beginning of what this reading reports.
 pub fn read_private_name(
     alloc: Global,
     source: &mut Source<'_>,
@@ -578,7 +584,8 @@ pub fn read_private_name(
     requires { IsPlaced source.old }
     ensures ok { IfOk result (λ spelt.
         SpellsPrivateName source.old source.new errors.old errors.new token.old token.new spelt) }
-    ensures err { OnErr result (BreaksOff source.old source.new errors.old errors.new) }
+    ensures err { OnErr result (BreaksOff (private_read source.old.place (rest source.old)).diagnostics
+        source.old source.new errors.old errors.new) }
     ensures token { OnErr result (token.new ≡ token.old) }
     ensures placed { IsPlaced source.new }
 {

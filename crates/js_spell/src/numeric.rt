@@ -6,10 +6,12 @@ ghost use Rattle.js_text.specs.Characters.{begins, before_first};
 ghost use Rattle.js_grammar.specs.Number.{is_exponent_mark, may_not_follow_number};
 ghost use Rattle.js_kind.specs.Digits.{is_digit_of};
 ghost use Rattle.js_grammar.specs.NumberReads.{missing_digit, exponent_or, fraction_items, behind_digits};
-ghost use Rattle.js_grammar.specs.NumberReads.{decimal_items, legacy_items, number_items, is_no_start};
+ghost use Rattle.js_grammar.specs.NumberReads.{decimal_items, legacy_items, number_items, is_no_start, missing_digits};
+ghost use Rattle.js_grammar.specs.NumberReads.{number_read};
 ghost use Rattle.js_source.specs.Source.{rest, IsPlaced};
 ghost use Rattle.js_spell.specs.Numeric.{radix_of_digits, PassesDigits, PassesPlainDigits, PassesGroups, end_of};
-ghost use Rattle.js_spell.specs.Numeric.{ReadsRun, BreaksOff, ReadsPart, ReadsInteger, ReadsEnd, ReadsCut, ReadsBadEnd};
+ghost use Rattle.js_spell.specs.Breaks.{BreaksOff};
+ghost use Rattle.js_spell.specs.Numeric.{ReadsRun, ReadsPart, ReadsInteger, ReadsEnd, ReadsCut, ReadsBadEnd};
 ghost use Rattle.js_spell.specs.Numeric.{ReadsNumber, SpellsNumber, LeadsWith, Leads, base_of_prefix, behind_base};
 ghost use Rattle.js_spell.specs.Numeric.{TakesExponentMark};
 ghost use Rattle.js_spell.specs.Numeric.{TakesSign};
@@ -146,7 +148,7 @@ fn read_run(
     requires { IsPlaced source.old }
     ensures ok { IfOk result (ReadsRun
         (radix_of_digits digits) source.old source.new errors.old errors.new has_separator.old has_separator.new) }
-    ensures err { OnErr result (BreaksOff source.old source.new errors.old errors.new) }
+    ensures err { OnErr result (BreaksOff [] source.old source.new errors.old errors.new) }
     ensures placed { IsPlaced source.new }
 {
     if !begins_digit(source, digits) {
@@ -165,6 +167,7 @@ fn read_run(
 pub(crate) fn take_exponent_mark(source: &mut Source<'_>) -> bool
     ensures cases { MatchBool result (TakesExponentMark source.old source.new)
         ((begins is_exponent_mark (rest source.old) ≡ false) × (source.new ≡ source.old)) }
+    ensures onward { source.old.place ≤ source.new.place }
     ensures placed { IsPlaced source.new }
 {
     if source.advance_if_ascii_eq(b'e') {
@@ -177,6 +180,7 @@ pub(crate) fn take_exponent_mark(source: &mut Source<'_>) -> bool
 #[inline(always)]
 pub(crate) fn take_sign(source: &mut Source<'_>) -> Kind
     ensures sign { TakesSign source.old source.new result }
+    ensures onward { source.old.place ≤ source.new.place }
     ensures placed { IsPlaced source.new }
 {
     if source.advance_if_ascii_eq(b'-') {
@@ -196,7 +200,7 @@ fn read_exponent_or(
     requires { IsPlaced source.old }
     ensures ok { IfOk result (λ kind. ReadsEnd source.old source.new errors.old errors.new
         has_separator.old has_separator.new kind (exponent_or without (rest source.old))) }
-    ensures err { OnErr result (BreaksOff source.old source.new errors.old errors.new) }
+    ensures err { OnErr result (BreaksOff [] source.old source.new errors.old errors.new) }
     ensures placed { IsPlaced source.new }
 {
     if !take_exponent_mark(source) {
@@ -216,7 +220,8 @@ fn read_fraction(
     requires { IsPlaced source.old }
     ensures ok { OnOk result (ReadsPart source.old source.new errors.old errors.new
         has_separator.old has_separator.new (fraction_items (rest source.old))) }
-    ensures err { OnErr result (BreaksOff source.old source.new errors.old errors.new) }
+    ensures err { OnErr result (BreaksOff (missing_digits source.old.place (fraction_items (rest source.old)).items)
+        source.old source.new errors.old errors.new) }
     ensures placed { IsPlaced source.new }
 {
     if !begins_digit(source, Digits::Decimal) {
@@ -237,7 +242,8 @@ fn read_behind_digits(
     requires { IsPlaced source.old }
     ensures ok { IfOk result (λ kind. ReadsEnd source.old source.new errors.old errors.new
         has_separator.old has_separator.new kind (behind_digits (rest source.old))) }
-    ensures err { OnErr result (BreaksOff source.old source.new errors.old errors.new) }
+    ensures err { OnErr result (BreaksOff (missing_digits source.old.place (behind_digits (rest source.old)).items)
+        source.old source.new errors.old errors.new) }
     ensures placed { IsPlaced source.new }
 {
     if source.advance_if_ascii_eq(b'.') {
@@ -256,7 +262,7 @@ fn read_integer(
     requires { IsPlaced source.old }
     ensures ok { OnOk result (ReadsInteger source.old source.new errors.old errors.new
         has_separator.old has_separator.new) }
-    ensures err { OnErr result (BreaksOff source.old source.new errors.old errors.new) }
+    ensures err { OnErr result (BreaksOff [] source.old source.new errors.old errors.new) }
     ensures placed { IsPlaced source.new }
 {
     if source.advance_if_ascii_eq(b'0') {
@@ -275,7 +281,8 @@ fn read_decimal(
     requires { IsPlaced source.old }
     ensures ok { IfOk result (λ kind. ReadsEnd source.old source.new errors.old errors.new
         has_separator.old has_separator.new kind (decimal_items (rest source.old))) }
-    ensures err { OnErr result (BreaksOff source.old source.new errors.old errors.new) }
+    ensures err { OnErr result (BreaksOff (missing_digits source.old.place (decimal_items (rest source.old)).items)
+        source.old source.new errors.old errors.new) }
     ensures placed { IsPlaced source.new }
 {
     read_integer(source, errors, has_separator)?;
@@ -307,7 +314,8 @@ fn read_legacy(
     requires { IsPlaced source.old }
     ensures ok { IfOk result (λ kind. ReadsEnd source.old source.new errors.old errors.new
         has_separator.old has_separator.new kind (legacy_items (rest source.old))) }
-    ensures err { OnErr result (BreaksOff source.old source.new errors.old errors.new) }
+    ensures err { OnErr result (BreaksOff (missing_digits source.old.place (legacy_items (rest source.old)).items)
+        source.old source.new errors.old errors.new) }
     ensures placed { IsPlaced source.new }
 {
     if pass_plain_digits(source) {
@@ -327,7 +335,7 @@ fn read_behind_prefix(
     requires { IsPlaced source.old }
     ensures ok { IfOk result (λ kind. ReadsCut source.old source.new errors.old errors.new
         has_separator.old has_separator.new kind (behind_base (base_of_prefix prefix) (rest source.old))) }
-    ensures err { OnErr result (BreaksOff source.old source.new errors.old errors.new) }
+    ensures err { OnErr result (BreaksOff [] source.old source.new errors.old errors.new) }
     ensures placed { IsPlaced source.new }
 {
     let is_whole = read_run(source, errors, has_separator, prefix.digits())?;
@@ -390,7 +398,8 @@ fn read_items(
     requires { IsPlaced source.old }
     ensures ok { IfOk result (λ kind. ReadsCut source.old source.new errors.old errors.new
         has_separator.old has_separator.new kind (number_items (rest source.old))) }
-    ensures err { OnErr result (BreaksOff source.old source.new errors.old errors.new) }
+    ensures err { OnErr result (BreaksOff (missing_digits source.old.place (number_items (rest source.old)).items)
+        source.old source.new errors.old errors.new) }
     ensures placed { IsPlaced source.new }
 {
     if source.advance_if_ascii_eq(b'.') {
@@ -439,7 +448,7 @@ fn may_not_follow(c: char) -> bool
 fn read_bad_end(source: &mut Source<'_>, errors: &mut DiagnosticList) -> Result<bool, AllocError>
     requires { IsPlaced source.old }
     ensures ok { IfOk result (λ is_bad. ReadsBadEnd source.old source.new errors.old errors.new is_bad) }
-    ensures err { OnErr result (BreaksOff source.old source.new errors.old errors.new) }
+    ensures err { OnErr result (BreaksOff [] source.old source.new errors.old errors.new) }
     ensures placed { IsPlaced source.new }
 {
     match source.peek_char() {
@@ -467,7 +476,8 @@ fn read_numeral(source: &mut Source<'_>, errors: &mut DiagnosticList) -> Result<
     requires { IsPlaced source.old }
     ensures ok { IfOk result (λ numeral.
         ReadsNumber source.old source.new errors.old errors.new numeral.kind numeral.has_separator) }
-    ensures err { OnErr result (BreaksOff source.old source.new errors.old errors.new) }
+    ensures err { OnErr result (BreaksOff (number_read source.old.place (rest source.old)).diagnostics
+        source.old source.new errors.old errors.new) }
     ensures placed { IsPlaced source.new }
 {
     let mut has_separator = false;
@@ -496,7 +506,8 @@ pub fn read_number(
     requires { IsPlaced source.old }
     ensures ok { IfOk result (λ spelt.
         SpellsNumber source.old source.new errors.old errors.new token.old token.new spelt) }
-    ensures err { OnErr result (BreaksOff source.old source.new errors.old errors.new) }
+    ensures err { OnErr result (BreaksOff (number_read source.old.place (rest source.old)).diagnostics
+        source.old source.new errors.old errors.new) }
     ensures token { OnErr result (token.new ≡ token.old) }
     ensures placed { IsPlaced source.new }
 {

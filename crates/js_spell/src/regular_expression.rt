@@ -1,15 +1,16 @@
 //! Reading regular expressions (ECMA-262 12.9.5).
 
-ghost use Rattle.std.specs.Prelude.{◌≡◌, ◌+◌, ◌≤◌, ◌<◌, ◌^◌, List, ℕ, true, false, IfOk, OnErr};
+ghost use Rattle.std.specs.Prelude.{◌≡◌, ◌+◌, ◌≤◌, ◌<◌, ◌^◌, [], List, ℕ, true, false, IfOk, OnErr};
 ghost use Rattle.std.specs.Prelude.{IfNone, IfSome, ◌==◌};
 ghost use Rattle.js_text.specs.Ascii.{backslash};
 ghost use Rattle.js_text.specs.Characters.{begins, is_line_terminator};
 ghost use Rattle.js_grammar.specs.RegularExpression.{is_flag_character};
 ghost use Rattle.js_grammar.specs.RegularExpression.{regular_expression, with_flags_behind};
 ghost use Rattle.js_source.specs.Source.{rest, IsPlaced, BeginsWith};
-ghost use Rattle.js_spell.specs.Numeric.{BreaksOff};
-ghost use Rattle.js_spell.specs.RegularExpression.{PassesParts, StopIs, TellsCharacters, marks, PassesBackslash, TakesLetter};
+ghost use Rattle.js_spell.specs.Breaks.{BreaksOff};
+ghost use Rattle.js_spell.specs.RegularExpression.{PassesParts, StopIs, TellsCharacters, marks, PassesBackslash};
 ghost use Rattle.js_spell.specs.RegularExpression.{AddsLetter, BreaksLine, PassesClass, PassesBody, SpellsExpression};
+ghost use Rattle.js_spell.specs.RegularExpression.{TakesLetter};
 
 use crate::items::either;
 use crate::parts::name_parts;
@@ -293,7 +294,8 @@ fn read_flags(
     requires behind { pattern_end + 1 ≡ source.old.place }
     ensures ok { IfOk result (SpellsExpression (with_flags_behind pattern_end (rest source.old)) source.old source.new
         errors.old errors.new) }
-    ensures err { OnErr result (BreaksOff source.old source.new errors.old errors.new) }
+    ensures err { OnErr result (BreaksOff (with_flags_behind pattern_end (rest source.old)).diagnostics
+        source.old source.new errors.old errors.new) }
     ensures placed { IsPlaced source.new }
 {
     let mut flags = RegExpFlags::empty();
@@ -321,7 +323,7 @@ fn report_unterminated(
     requires placed { IsPlaced source.old }
     requires start { start ≤ source.old.place }
     ensures ok { IfOk result (BreaksLine start source.old source.new errors.old errors.new) }
-    ensures err { OnErr result (BreaksOff source.old source.new errors.old errors.new) }
+    ensures err { OnErr result (BreaksOff [] source.old source.new errors.old errors.new) }
     ensures placed { IsPlaced source.new }
 {
     source.next_char();
@@ -347,7 +349,8 @@ pub fn read_regular_expression(
     requires start { start + 1 ≡ source.old.place }
     ensures ok { IfOk result (SpellsExpression (regular_expression start (rest source.old)) source.old source.new
         errors.old errors.new) }
-    ensures err { OnErr result (BreaksOff source.old source.new errors.old errors.new) }
+    ensures err { OnErr result (BreaksOff (regular_expression start (rest source.old)).diagnostics
+        source.old source.new errors.old errors.new) }
     ensures placed { IsPlaced source.new }
 {
     if !pass_body(source) {

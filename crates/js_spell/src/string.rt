@@ -1,11 +1,11 @@
 //! Reading strings (ECMA-262 12.9.4).
 
-ghost use Rattle.std.specs.Prelude.{◌≡◌, ◌<◌, ◌≤◌, true, false, IfOk, IfNone, IfSome, OnErr};
+ghost use Rattle.std.specs.Prelude.{◌≡◌, ◌<◌, ◌≤◌, [], true, false, IfOk, IfNone, IfSome, OnErr};
 ghost use Rattle.js_text.specs.Characters.{begins};
 ghost use Rattle.js_grammar.specs.StringItems.{is_quote};
 ghost use Rattle.js_source.specs.Source.{rest, IsPlaced, Reads, HasFirstByte};
-ghost use Rattle.js_spell.specs.Numeric.{BreaksOff};
-ghost use Rattle.js_spell.specs.Strings.{in_template, quote_of, TakesQuote, EndsString, SpellsString};
+ghost use Rattle.js_spell.specs.Breaks.{BreaksOff};
+ghost use Rattle.js_spell.specs.Strings.{in_template, quote_of, TakesQuote, EndsString, SpellsString, string_reports};
 ghost use Rattle.js_spell.specs.Strings.{SpellsPlainString, MeetsNoQuote};
 
 use crate::escape::report_unterminated;
@@ -53,7 +53,7 @@ fn end_string(
     requires placed { IsPlaced source.old }
     requires start { start ≤ source.old.place }
     ensures ok { IfOk result (EndsString quote start source.old source.new errors.old errors.new) }
-    ensures err { OnErr result (BreaksOff source.old source.new errors.old errors.new) }
+    ensures err { OnErr result (BreaksOff [] source.old source.new errors.old errors.new) }
     ensures placed { IsPlaced source.new }
 {
     if source.advance_if_ascii_eq(quote) {
@@ -78,7 +78,8 @@ pub fn read_string(
     requires start { token.old.start ≡ source.old.place }
     ensures ok { IfOk result (SpellsString token.old.start
         source.old source.new errors.old errors.new token.old token.new) }
-    ensures err { OnErr result (BreaksOff source.old source.new errors.old errors.new) }
+    ensures err { OnErr result (BreaksOff (string_reports token.old.start (rest source.old))
+        source.old source.new errors.old errors.new) }
     ensures token { OnErr result (token.new ≡ token.old) }
     ensures placed { IsPlaced source.new }
 {

@@ -1,9 +1,9 @@
 //! Reading the parts of templates (ECMA-262 12.9.6).
 
-ghost use Rattle.std.specs.Prelude.{◌≡◌, ◌+◌, ◌≤◌, ◌==◌, IfOk, IfNone, IfSome, OnErr};
+ghost use Rattle.std.specs.Prelude.{◌≡◌, ◌+◌, ◌≤◌, ◌==◌, [], IfOk, IfNone, IfSome, OnErr};
 ghost use Rattle.js_source.specs.Source.{rest, IsPlaced};
 ghost use Rattle.js_grammar.specs.Template.{template_part_read};
-ghost use Rattle.js_spell.specs.Numeric.{BreaksOff};
+ghost use Rattle.js_spell.specs.Breaks.{BreaksOff};
 ghost use Rattle.js_spell.specs.Strings.{EndsPart, Spells, SpellsPlainPart, MeetsNoPartEnd};
 
 use crate::escape::report_unterminated;
@@ -35,7 +35,7 @@ fn end_part(
     requires placed { IsPlaced source.old }
     requires start { start ≤ source.old.place }
     ensures ok { IfOk result (EndsPart start source.old source.new errors.old errors.new) }
-    ensures err { OnErr result (BreaksOff source.old source.new errors.old errors.new) }
+    ensures err { OnErr result (BreaksOff [] source.old source.new errors.old errors.new) }
     ensures placed { IsPlaced source.new }
 {
     if source.advance_if_ascii_eq(b'`') {
@@ -66,7 +66,9 @@ pub fn read_template_part(
     requires start { token.old.start + 1 ≡ source.old.place }
     ensures ok { IfOk result (Spells (template_part_read substitute tail token.old.start (rest source.old))
         source.old source.new errors.old errors.new token.old token.new) }
-    ensures err { OnErr result (BreaksOff source.old source.new errors.old errors.new) }
+    ensures err { OnErr result (BreaksOff
+        (template_part_read substitute tail token.old.start (rest source.old)).diagnostics
+        source.old source.new errors.old errors.new) }
     ensures token { OnErr result (token.new ≡ token.old) }
     ensures placed { IsPlaced source.new }
 {

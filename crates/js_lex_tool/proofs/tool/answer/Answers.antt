@@ -28,3 +28,4 @@ returns g c =
     answers_at_report c.args.line c.args.source ran _ _ c.write_report.result ok.0 ok.1
     (record { source = refl; source_type = refl; tokens = refl; commands = commands; report = report })
     c.write_report.ensures.outcome c.write_report.ensures.text c.write_report.ensures.faults
+    c.write_report.ensures.in_time

@@ -1,3 +1,4 @@
+use Rattle.js_lex_tool.proofs.Courses.{stays_open}
 use Rattle.js_lex_tool.proofs.Pieces.{appends_more}
 use Rattle.std.proofs.Common.{arith, rules}
 use Rattle.std.proofs.lemmas.Grind.{common_steps}
@@ -7,4 +8,5 @@ pub loop-at-preserved : goal.loop-at-preserved
 loop-at-preserved g c =
     let before = c.loop-at.invariant.0 in
     let piece = c.in-Took.ensures.bytes in
-    (appends_more _ _ _ c.args.text.now _ _ _ (grind (arith, common_steps)) before piece, search rules, search rules)
+    (appends_more _ _ _ c.args.text.now _ _ _ (grind (arith, common_steps)) before piece, search rules, search rules,
+    λ is_open. stays_open _ _ (c.loop-at.invariant.3 is_open) c.in-Took.ensures.course)

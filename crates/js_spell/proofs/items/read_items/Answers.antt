@@ -1,5 +1,7 @@
-use Rattle.std.proofs.Common.{arith}
-use Rattle.js_spell.proofs.ItemSteps.{one_more_turn, turn_shortens}
+use Rattle.std.proofs.Common.{arith, refl}
+use Rattle.js_spell.specs.Strings.{items_told}
+use Rattle.js_spell.proofs.BreakSteps.{broken_first, on_err, unreported}
+use Rattle.js_spell.proofs.ItemSteps.{items_broken, one_more_turn, turn_shortens}
 use Rattle.js_spell.proofs.items.read_items.Goals as goal
 
 pub items-smaller : goal.items-smaller
@@ -32,3 +34,29 @@ items-preserved c =
           );
       placed = c.copy_characters.ensures.placed;
     }
+
+pub returns-in_err-is_good-clause-err : goal.returns-in_err-is_good-clause-err
+returns-in_err-is_good-clause-err c =
+    let start = c.args.token.now.start in
+    on_err c.from_residual.result _
+    (items_broken c.args.literal start c.args.source.now c.items.source c.read_marked_item.new.source c.args.text.now
+    c.items.text c.args.errors.now c.items.errors c.read_marked_item.new.errors c.items.has_bad c.requires.placed
+    c.items.invariant.placed c.items.invariant.read
+    (broken_first (items_told c.args.literal start c.items.source) c.items.source c.read_marked_item.new.source
+    c.items.errors c.read_marked_item.new.errors c.in_err-is_good.ensures.err))
+
+pub returns-in_err-copy_characters-clause-err : goal.returns-in_err-copy_characters-clause-err
+returns-in_err-copy_characters-clause-err c =
+    let start = c.args.token.now.start in
+    let mid = c.read_marked_item.new.source in
+    let new = c.copy_characters.new.source in
+    let one = rw c.in-Some.is at c.in_ok-is_good.ensures.ok in
+    on_err c.from_residual-in_err-copy_characters.result _
+    (items_broken c.args.literal start c.args.source.now c.items.source new c.args.text.now c.items.text
+    c.args.errors.now c.items.errors c.read_marked_item.new.errors c.items.has_bad c.requires.placed
+    c.items.invariant.placed c.items.invariant.read
+    (items_broken c.args.literal start c.items.source mid new c.items.text c.read_marked_item.new.text c.items.errors
+    c.read_marked_item.new.errors c.read_marked_item.new.errors _ c.items.invariant.placed
+    c.read_marked_item.ensures.placed one.read
+    (unreported (items_told c.args.literal start mid) mid new c.read_marked_item.new.errors
+    c.read_marked_item.new.errors c.copy_characters.ensures.same_text c.copy_characters.ensures.onward refl)))

@@ -1,5 +1,7 @@
 use Rattle.std.proofs.Common.{arith, sym}
 use Rattle.js_source.specs.Source.{rest}
+use Rattle.std.proofs.lemmas.Result.{on_err_weaker}
+use Rattle.js_spell.proofs.ItemSteps.{plain_broken}
 use Rattle.js_spell.proofs.ItemSteps.{plain_value_read, passes_onward, mark_end, mark_not_end, match_option}
 use Rattle.js_spell.proofs.items.read_value.Goals as goal
 
@@ -43,3 +45,11 @@ returns-clause-onward c =
       passes_onward c.args.literal c.args.source.now c.pass_characters-next.new.source c.requires.placed
           c.pass_characters-next.ensures.placed c.pass_characters-next.ensures.passes,
     )
+
+pub returns-clause-err : goal.returns-clause-err
+returns-clause-err c =
+    let mid = c.pass_characters-next.new.source in
+    on_err_weaker c.read_decoded.result
+    (λ broken. plain_broken c.args.literal c.args.token.now.start c.args.source.now mid c.read_decoded.new.source
+    c.args.errors.now c.read_decoded.new.errors c.requires.placed c.pass_characters-next.ensures.placed
+    c.pass_characters-next.ensures.passes broken) c.read_decoded.ensures.err

@@ -1,3 +1,9 @@
+use Rattle.std.proofs.Common.{subst, ◌∙◌, []}
+use Rattle.std.proofs.lemmas.Result.{on_err_weaker}
+use Rattle.js_grammar.specs.Jsx.{jsx_child_read}
+use Rattle.js_source.specs.Source.{At, rest}
+use Rattle.js_spell.specs.Breaks.{BreaksOff}
+use Rattle.js_spell.proofs.BreakSteps.{broken_first}
 use Rattle.js_spell.proofs.JsxSteps.{child_of_text}
 use Rattle.js_spell.proofs.jsx.read_jsx_child.Goals as goal
 
@@ -8,3 +14,15 @@ returns-clause-ok c =
     child_of_text c.read_jsx_text.result c.args.source.now c.advance_if_ascii_eq.new.self
     c.advance_if_ascii_eq-2.new.self c.read_jsx_text.new.source c.args.errors.now c.read_jsx_text.new.errors angle.0
     angle.1 bracket.0 bracket.1 c.read_jsx_text.ensures.ok
+
+pub returns-clause-err : goal.returns-clause-err
+returns-clause-err c =
+    let old = c.args.source.now in
+    let new = c.read_jsx_text.new.source in
+    let after = c.read_jsx_text.new.errors in
+    let angle = c.if-advance_if_ascii_eq.ensures.cases in
+    let bracket = c.if-advance_if_ascii_eq-2.ensures.cases in
+    on_err_weaker c.read_jsx_text.result
+    (λ broken. broken_first (jsx_child_read old.place (rest old)).diagnostics old new c.args.errors.now after
+    (subst (λ (at : At). BreaksOff [] at new c.args.errors.now after) (bracket.1 ∙ angle.1) broken))
+    c.read_jsx_text.ensures.err

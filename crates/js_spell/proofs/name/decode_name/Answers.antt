@@ -2,7 +2,8 @@ use Rattle.std.proofs.Common.{ap, ◌∙◌, ◌++◌, subst, true}
 use Rattle.std.specs.Prelude.{string_bytes}
 use Rattle.js_spell.specs.Name.{ReadsItems}
 use Rattle.js_spell.specs.declared.name.Position.TheVariants.{Later}
-use Rattle.js_spell.proofs.NameReadings.{name_decoded}
+use Rattle.js_spell.proofs.BreakSteps.{on_err}
+use Rattle.js_spell.proofs.NameReadings.{items_broken, name_decoded}
 use Rattle.js_spell.proofs.name.decode_name.Goals as goal
 
 pub returns-clause-ok : goal.returns-clause-ok
@@ -19,3 +20,11 @@ returns-clause-ok c =
     c.read_escape_into.new.errors bytes (string_bytes c.read_escape_into.new.decoded) true)
     start c.in_ok-read_escape_into.ensures.ok)
     more.1
+
+pub returns-in_err-read_rest_into-clause-err : goal.returns-in_err-read_rest_into-clause-err
+returns-in_err-read_rest_into-clause-err c =
+    on_err c.from_residual-in_err-read_rest_into.result _
+    (items_broken c.args.position c.args.source.now Later c.read_escape_into.new.source c.read_rest_into.new.source
+    c.args.errors.now c.read_escape_into.new.errors c.read_rest_into.new.errors (string_bytes c.push_str.new.self)
+    (string_bytes c.read_escape_into.new.decoded) true c.requires.placed c.read_escape_into.ensures.placed
+    c.in_ok-read_escape_into.ensures.ok c.in_err-read_rest_into.ensures.err)

@@ -1,5 +1,6 @@
 use Rattle.std.proofs.Common.{◌∙◌, arith}
-use Rattle.js_spell.proofs.NameReadings.{bad_read, not_allowed_read, escape_onward, span_is}
+use Rattle.js_spell.proofs.BreakSteps.{on_err}
+use Rattle.js_spell.proofs.NameReadings.{bad_read, not_allowed_read, escape_onward, escape_unreported, span_is}
 use Rattle.js_spell.proofs.NameReadings.{character_read}
 use Rattle.js_spell.proofs.name.read_escape.Goals as goal
 
@@ -39,3 +40,19 @@ returns-in_ok-push-in-Bad-clause-ok c =
     c.decode_escape-decoding.ensures.placed c.in-Bad.is
     (c.new-span.ensures ∙ span_is c.offset-start.ensures.place c.offset-end.ensures.place)
     c.in_ok-push-in-Bad.ensures.ok
+
+pub returns-in_err-push-in-NotAllowed-clause-err : goal.returns-in_err-push-in-NotAllowed-clause-err
+returns-in_err-push-in-NotAllowed-clause-err c =
+    on_err c.from_residual.result _
+    (escape_unreported c.args.position c.args.source.now c.next_char.new.self c.decode_escape-decoding.new.source
+    c.decode_escape-decoding.result c.requires.begun c.next_char.ensures.past c.decode_escape-decoding.ensures.decodes
+    c.args.errors.now c.push.new.self c.requires.placed c.next_char.ensures.placed
+    c.decode_escape-decoding.ensures.placed c.in_err-push-in-NotAllowed.ensures.err)
+
+pub returns-in_err-push-in-Bad-clause-err : goal.returns-in_err-push-in-Bad-clause-err
+returns-in_err-push-in-Bad-clause-err c =
+    on_err c.from_residual-in_err-push-in-Bad.result _
+    (escape_unreported c.args.position c.args.source.now c.next_char.new.self c.decode_escape-decoding.new.source
+    c.decode_escape-decoding.result c.requires.begun c.next_char.ensures.past c.decode_escape-decoding.ensures.decodes
+    c.args.errors.now c.push-in-Bad.new.self c.requires.placed c.next_char.ensures.placed
+    c.decode_escape-decoding.ensures.placed c.in_err-push-in-Bad.ensures.err)

@@ -1,7 +1,8 @@
 use Rattle.std.proofs.Common.{refl, sym, ap, ◌∙◌, false}
 use Rattle.js_kind.specs.TokenParts.{TokenParts}
 use Rattle.js_spell.specs.declared.spelt.SpeltValue.TheVariants.{Plain}
-use Rattle.js_spell.proofs.NameReadings.{plain_spelled, escaped_spelled}
+use Rattle.js_spell.proofs.BreakSteps.{on_err}
+use Rattle.js_spell.proofs.NameReadings.{name_broken, plain_spelled, escaped_spelled}
 use Rattle.js_spell.proofs.name.read_name.Goals as goal
 
 pub returns-then-not-begins_ascii-clause-ok : goal.returns-then-not-begins_ascii-clause-ok
@@ -24,3 +25,10 @@ returns-clause-ok c =
     c.in_ok-spelt.ensures.ok
     (c.set_has_separator-2.ensures
     ∙ ap (λ (t : TokenParts). record t { has_separator = false }) c.set_escaped-2.ensures)
+
+pub returns-in_err-spelt-clause-err : goal.returns-in_err-spelt-clause-err
+returns-in_err-spelt-clause-err c =
+    on_err c.from_residual.result _
+    (name_broken c.args.source.now c.pass_plain-position.new.source c.read_escaped_name.new.source c.args.errors.now
+    c.read_escaped_name.new.errors c.pass_plain-position.result c.requires.placed c.pass_plain-position.ensures.placed
+    c.pass_plain-position.ensures.passes c.in_err-spelt.ensures.err)

@@ -1,4 +1,5 @@
-use Rattle.js_spell.proofs.LegacySteps.{legacy_octal_read, legacy_decimal_read}
+use Rattle.std.proofs.lemmas.Result.{on_err_weaker}
+use Rattle.js_spell.proofs.LegacySteps.{legacy_octal_read, legacy_broken, legacy_decimal_read}
 use Rattle.js_spell.proofs.NumericSteps.{if_ok_map}
 use Rattle.js_spell.proofs.numeric.read_legacy.Goals as goal
 
@@ -16,3 +17,10 @@ returns-clause-ok c =
     c.read_behind_digits.new.errors c.args.has_separator.now c.read_behind_digits.new.has_separator kind c.requires
     c.pass_plain_digits.ensures.placed c.if-pass_plain_digits.ensures.passes end)
     c.read_behind_digits.ensures.ok
+
+pub returns-clause-err : goal.returns-clause-err
+returns-clause-err c =
+    on_err_weaker c.read_behind_digits.result
+    (λ broken. legacy_broken c.args.source.now c.pass_plain_digits.new.source c.read_behind_digits.new.source
+    c.args.errors.now c.read_behind_digits.new.errors c.requires c.pass_plain_digits.ensures.placed
+    c.if-pass_plain_digits.ensures.passes broken) c.read_behind_digits.ensures.err

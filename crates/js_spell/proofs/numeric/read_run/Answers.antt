@@ -1,6 +1,8 @@
 use Rattle.std.proofs.Common.{sym}
 use Rattle.js_spell.specs.Numeric.{radix_of_digits}
-use Rattle.js_spell.proofs.NumericSteps.{run_missing_read, run_whole_read, run_broken_read, on_err, breaks_off}
+use Rattle.js_spell.specs.declared.numeric.Passed.TheVariants.{Broken}
+use Rattle.js_spell.proofs.BreakSteps.{on_err}
+use Rattle.js_spell.proofs.NumericSteps.{run_missing_read, run_whole_read, run_broken_read, run_unreported}
 use Rattle.js_spell.proofs.numeric.read_run.Goals as goal
 
 pub returns-then-not-begins_digit-clause-ok : goal.returns-then-not-begins_digit-clause-ok
@@ -13,9 +15,10 @@ returns-then-not-begins_digit-clause-ok c =
 pub returns-in_err-report_missing_digit-2-clause-err : goal.returns-in_err-report_missing_digit-2-clause-err
 returns-in_err-report_missing_digit-2-clause-err c =
     on_err c.from_residual-in_err-report_missing_digit-2.result _
-    (breaks_off c.args.source.now c.pass_groups-is_whole.new.source c.args.errors.now
-    c.report_missing_digit-then-not-is_whole.new.errors
-    c.if-not-is_whole.ensures.passes.text c.in_err-report_missing_digit-2.ensures.err)
+    (run_unreported (radix_of_digits c.args.digits) c.args.source.now c.pass_groups-is_whole.new.source
+    c.args.errors.now c.report_missing_digit-then-not-is_whole.new.errors c.args.has_separator.now
+    c.pass_groups-is_whole.new.has_separator Broken c.requires c.pass_groups-is_whole.ensures.placed
+    c.if-not-is_whole.ensures.passes c.in_err-report_missing_digit-2.ensures.err)
 
 pub returns-in_ok-report_missing_digit-2-clause-ok : goal.returns-in_ok-report_missing_digit-2-clause-ok
 returns-in_ok-report_missing_digit-2-clause-ok c =

@@ -5,6 +5,7 @@ use Rattle.js_text.specs.Characters.{begins}
 use Rattle.js_spell.specs.RegularExpression.{AddsLetter}
 use Rattle.js_spell.proofs.FlagSteps.{ReadsLetters, flags_read, letter_place, letters_broken, no_letters, one_letter}
 use Rattle.js_spell.proofs.FlagSteps.{bits_are_none}
+use Rattle.js_spell.proofs.BreakSteps.{on_err}
 use Rattle.js_spell.proofs.regular_expression.read_flags.Goals as goal
 
 pub letters-init : goal.letters-init
@@ -23,9 +24,10 @@ add_letter-requires c =
 
 pub returns-in_err-is_faulty-clause-err : goal.returns-in_err-is_faulty-clause-err
 returns-in_err-is_faulty-clause-err c =
-    letters_broken c.from_residual.result c.args.source.now c.letters.source c.take_letter.new.source c.args.errors.now
-    c.letters.errors c.add_letter.new.errors c.letters.flags c.letters.flags_error c.in-Some.letter
-    c.letters.invariant.reads c.in-Some.ensures.some c.in_err-is_faulty.ensures.err
+    on_err c.from_residual.result _
+    (letters_broken c.args.pattern_end c.args.source.now c.letters.source c.take_letter.new.source c.args.errors.now
+    c.letters.errors c.add_letter.new.errors c.letters.flags c.letters.flags_error c.in-Some.letter c.requires.behind
+    c.letters.invariant.reads c.in-Some.ensures.some c.in_err-is_faulty.ensures.err)
 
 pub letters-preserved : goal.letters-preserved
 letters-preserved c =

@@ -1,6 +1,8 @@
 use Rattle.std.proofs.Common.{arith, subst, true, false}
 use Rattle.js_spell.specs.Strings.{EndsString}
-use Rattle.js_spell.proofs.SpellSteps.{place_of_items, string_closed, string_open}
+use Rattle.js_spell.proofs.BreakSteps.{on_err}
+use Rattle.js_spell.proofs.ItemSteps.{end_broken}
+use Rattle.js_spell.proofs.SpellSteps.{place_of_items, string_broken, string_closed, string_open}
 use Rattle.js_spell.proofs.string.read_string.Goals as goal
 
 pub read_value-requires-clause-start : goal.read_value-requires-clause-start
@@ -54,3 +56,22 @@ returns-clause-ok c =
     c.quote_of.result c.requires.placed c.take_quote-literal.ensures.placed c.end_string.ensures.placed c.requires.start
     c.take_quote-literal.ensures.quote c.in_ok-value.ensures.ok c.quote_of.ensures ends c.spell-2.ensures.flags
     c.spell-2.ensures.parts
+
+pub returns-in_err-value-clause-err : goal.returns-in_err-value-clause-err
+returns-in_err-value-clause-err c =
+    on_err c.from_residual.result _
+    (string_broken c.args.token.now.start c.args.source.now c.take_quote-literal.new.source c.read_value.new.source
+    c.args.errors.now c.read_value.new.errors c.take_quote-literal.result c.requires.placed
+    c.take_quote-literal.ensures.placed c.requires.start c.take_quote-literal.ensures.quote c.in_err-value.ensures.err)
+
+pub returns-in_err-is_closed-clause-err : goal.returns-in_err-is_closed-clause-err
+returns-in_err-is_closed-clause-err c =
+    let mid = c.take_quote-literal.new.source in
+    let new = c.end_string.new.source in
+    on_err c.from_residual-in_err-is_closed.result _
+    (string_broken c.args.token.now.start c.args.source.now mid new c.args.errors.now c.end_string.new.errors
+    c.take_quote-literal.result c.requires.placed c.take_quote-literal.ensures.placed c.requires.start
+    c.take_quote-literal.ensures.quote
+    (end_broken c.take_quote-literal.result c.args.token.now.start mid c.read_value.new.source new c.args.errors.now
+    c.read_value.new.errors c.end_string.new.errors c.in_ok-value.value c.take_quote-literal.ensures.placed
+    c.read_value.ensures.placed c.in_ok-value.ensures.ok c.in_err-is_closed.ensures.err))

@@ -2,7 +2,10 @@ use Rattle.std.proofs.Common.{subst}
 use Rattle.js_spell.specs.Strings.{EndsPart}
 use Rattle.js_spell.specs.declared.template.PartEnd.{PartEnd}
 use Rattle.js_spell.specs.declared.template.PartEnd.TheVariants.{Tail, Substitution, Missing}
-use Rattle.js_spell.proofs.SpellSteps.{part_closed, part_substituted, part_open}
+use Rattle.js_spell.specs.declared.plain.Literal.TheVariants.{Template}
+use Rattle.js_spell.proofs.BreakSteps.{on_err}
+use Rattle.js_spell.proofs.ItemSteps.{end_broken}
+use Rattle.js_spell.proofs.SpellSteps.{part_broken, part_closed, part_substituted, part_open}
 use Rattle.js_spell.proofs.template.read_template_part.Goals as goal
 
 pub returns-in-Tail-clause-ok : goal.returns-in-Tail-clause-ok
@@ -49,3 +52,19 @@ returns-in-Missing-clause-ok c =
     after c.args.token.now c.spell-in-Missing.new.token c.spell-in-Missing.result c.in_ok-value.value c.requires.placed
     c.end_part.ensures.placed c.requires.start c.in_ok-value.ensures.ok ends c.spell-in-Missing.ensures.flags
     c.spell-in-Missing.ensures.parts
+
+pub returns-in_err-value-clause-err : goal.returns-in_err-value-clause-err
+returns-in_err-value-clause-err c =
+    on_err c.from_residual.result _
+    (part_broken c.args.substitute c.args.tail c.args.token.now.start c.args.source.now c.read_value.new.source
+    c.args.errors.now c.read_value.new.errors c.requires.start c.in_err-value.ensures.err)
+
+pub returns-in_err-end_part-clause-err : goal.returns-in_err-end_part-clause-err
+returns-in_err-end_part-clause-err c =
+    let new = c.end_part.new.source in
+    on_err c.from_residual-in_err-end_part.result _
+    (part_broken c.args.substitute c.args.tail c.args.token.now.start c.args.source.now new c.args.errors.now
+    c.end_part.new.errors c.requires.start
+    (end_broken Template c.args.token.now.start c.args.source.now c.read_value.new.source new c.args.errors.now
+    c.read_value.new.errors c.end_part.new.errors c.in_ok-value.value c.requires.placed c.read_value.ensures.placed
+    c.in_ok-value.ensures.ok c.in_err-end_part.ensures.err))
