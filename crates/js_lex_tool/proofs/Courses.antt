@@ -1,7 +1,7 @@
 -- How far calls have come.
 use Rattle.std.proofs.Common.{◌≡◌, ◌≢◌, true, false, Some, refl}
 use Rattle.std.specs.declared.option.Option.{Option}
-use Rattle.js_lex_tool.specs.Outside.{MovesOn, InTime, StaysOpen, Closes, course_after}
+use Rattle.js_lex_tool.specs.Outside.{MovesOn, InTime}
 use Rattle.js_lex_tool.specs.declared.outside.Course.{Course}
 use Rattle.js_lex_tool.specs.declared.outside.Course.TheVariants.{Open, Over, Late}
 

@@ -489,9 +489,9 @@ impl<'a, C: LexerConfig + Drop> Lexer<'a, C> {
     pub fn take_comments(&mut self) -> CommentList
         ensures comments { result ≡ self.old.findings.comments }
         ensures after { self.new ≡ record self.old {
-            findings = record self.old.findings { comments = [] };
-            pure_comments = None;
-            no_side_effects_comments = None;
+          findings = record self.old.findings { comments = [] };
+          pure_comments = None;
+          no_side_effects_comments = None;
         } }
     {
         self.found.trivia.take_comments(self.reader.alloc)

@@ -139,7 +139,7 @@ impl TriviaBuilder {
         requires { self.old.attachment.pending ≡ [] }
         ensures comments { result ≡ self.old.attachment.attached }
         ensures after { self.new ≡ without_ranges (record self.old {
-            attachment = record self.old.attachment { attached = [] };
+          attachment = record self.old.attachment { attached = [] };
         }) }
     {
         self.processed = 0;

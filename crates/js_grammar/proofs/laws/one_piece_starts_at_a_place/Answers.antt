@@ -1,4 +1,4 @@
-use Rattle.std.proofs.Common.{◌<◌, length, ap, arith, length-append}
+use Rattle.std.proofs.Common.{length, ap, arith, length-append}
 use Rattle.js_grammar.proofs.GapLemmas.{piece_takes, piece_text}
 use Rattle.js_grammar.proofs.laws.one_piece_starts_at_a_place.Goals as goal
 

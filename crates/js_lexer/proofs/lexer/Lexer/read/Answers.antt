@@ -1,4 +1,4 @@
-use Rattle.std.proofs.Common.{◌≡◌, ◌∙◌, refl, ap, subst, None, [], take, not}
+use Rattle.std.proofs.Common.{◌≡◌, ◌∙◌, refl, ap, subst, [], take, not}
 use Rattle.std.specs.Str.{IsUtf8}
 use Rattle.js_source.specs.Source.{At}
 use Rattle.js_trivia.specs.Attachment.{Attachment}
