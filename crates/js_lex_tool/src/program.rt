@@ -52,5 +52,11 @@ pub fn lex_main(rt: &HostRuntime) -> ExitCode {
     let mut input = StdIn::new(rt.reader());
     let mut output = StdOut::new(io::writer(rt));
     let mut errors = StdOut::new(rt.stderr());
-    lex_program(rt.alloc(), program_words(rt), &mut input, &mut output, &mut errors)
+    lex_program(
+        rt.alloc(),
+        program_words(rt),
+        &mut input,
+        &mut output,
+        &mut errors,
+    )
 }

@@ -28,6 +28,7 @@ impl From<AllocError> for ReadFault {
 
 /// The most bytes that the program reads of an input.
 pub const MOST_BYTES: usize = 67_108_864;
+
 const _: () = prove!(MOST_BYTES == 67_108_864);
 
 /// The most bytes that one read asks for.

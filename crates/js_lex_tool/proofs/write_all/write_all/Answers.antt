@@ -7,6 +7,9 @@ use Rattle.js_lex_tool.proofs.write_all.write_all.Goals as goal
 pub loop-at-preserved : goal.loop-at-preserved
 loop-at-preserved g c =
     let before = c.loop-at.invariant.0 in
-    let piece = c.in-Took.ensures.bytes in
-    (appends_more _ _ _ c.args.text.now _ _ _ (grind (arith, common_steps)) before piece, search rules, search rules,
-    λ is_open. stays_open _ _ (c.loop-at.invariant.3 is_open) c.in-Took.ensures.course)
+    let piece = c.in-Took.ensures.bytes in (
+      appends_more _ _ _ c.args.text.now _ _ _ (grind (arith, common_steps)) before piece,
+      search rules,
+      search rules,
+      λ is_open. stays_open _ _ (c.loop-at.invariant.3 is_open) c.in-Took.ensures.course,
+    )
