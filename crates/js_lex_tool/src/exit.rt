@@ -9,8 +9,8 @@ use crate::outside::ByteOut;
 use crate::status::line_for;
 use std::process::ExitCode;
 
-/// Ends a program of this name, whose usage is this, with a status: the status is its exit code, and its line is written
-/// to `errors`.
+/// Ends a program of this name, whose usage is this, with a status: the status is its exit code, and its line is
+/// written to `errors`.
 pub fn end_program<E: ByteOut>(
     program: &'static str,
     usage: &'static str,

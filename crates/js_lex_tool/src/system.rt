@@ -1,9 +1,9 @@
 //! One call of a reader or a writer of the system.
 //!
-//! std tells of such a call which bytes it took or gave, and nothing of its errors. So each trait here has a relation of
-//! its own between the reader or writer before one call, what the call was handed, what it came to, and the reader or
-//! writer after it. What is generic over the trait knows the relation by that call alone: where it says that the relation
-//! holds of its own answer, it has made one call, and hands on what that came to.
+//! std tells of such a call which bytes it took or gave, and nothing of its errors. So each trait here has a relation
+//! of its own between the reader or writer before one call, what the call was handed, what it came to, and the reader
+//! or writer after it. What is generic over the trait knows the relation by that call alone: where it says that the
+//! relation holds of its own answer, it has made one call, and hands on what that came to.
 
 ghost use Rattle.std.specs.Prelude.{ℕ, List, length, ⊤};
 ghost use Rattle.std.specs.Io.{ReadsAtMost, WritesAtMost};

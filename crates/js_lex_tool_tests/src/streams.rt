@@ -4,8 +4,9 @@
 use crate::run::strings_of;
 use js_lex_tool::status::{DONE, READ_FAILED, WRITE_FAILED};
 use js_lex_tool::write_all::write_all;
-use js_lex_tool::{ByteIn, ByteOut, FlushAnswer, InAnswer, OutAnswer, StdIn, StdOut};
-use js_lex_tool::{lex_tool_run, read_to_end};
+use js_lex_tool::{
+    ByteIn, ByteOut, FlushAnswer, InAnswer, OutAnswer, StdIn, StdOut, lex_tool_run, read_to_end,
+};
 use std::alloc::{AllocError, Global};
 use std::io::{self, Read, Write};
 use std::test::Fail;
