@@ -5,4 +5,6 @@
 #[cfg(test)]
 mod chosen;
 #[cfg(test)]
+mod driven;
+#[cfg(test)]
 mod rows;
