@@ -1,216 +1,250 @@
--- A lexer is driven on by the goals that are chosen, and less is left of its text.
-use Rattle.std.proofs.Common.{◌≡◌, ◌+◌, ◌-◌, ◌*◌, ◌^◌, ◌<◌, ◌≤◌, true, false, cond, List, [], ◌∷◌}
-use Rattle.std.proofs.Common.{◌++◌, length, refl, sym, ◌∙◌, ap, subst, arith, Some, None, Result, Ok, Err}
+-- A lexer that is driven makes the steps of a session.
+use Rattle.std.proofs.Common.{◌≡◌, suc, ◌+◌, add-zero, true, List, [], ◌∷◌, ◌++◌, length, refl, sym, ◌∙◌, ap, subst}
+use Rattle.std.proofs.Common.{Option, Some, None, Result, Ok, Err}
 use Rattle.std.proofs.lemmas.Bool.{eqb-true}
-use Rattle.std.specs.Prelude.{OnOk}
-use Rattle.std.specs.Str.{IsUtf8, IsCharBoundary}
+use Rattle.std.proofs.lemmas.List.{length-append}
+use Rattle.std.specs.List.{AllByRecursion, last_or}
+use Rattle.std.specs.Prelude.{◌==◌, MatchBool, OnOk}
+use Rattle.std.specs.Str.{IsUtf8}
 use Rattle.js_text.specs.Lists.{with_last}
-use Rattle.js_kind.specs.Kinds.{is_one_of}
+use Rattle.js_text.specs.declared.reg_exp_flags.RegexInfo.{RegexInfo}
+use Rattle.js_kind.specs.Kinds.{is_one_of, number}
 use Rattle.js_kind.specs.TokenParts.{TokenParts}
+use Rattle.js_kind.specs.declared.kind.Kind.{Kind}
 use Rattle.js_kind.specs.declared.kind.Kind.TheVariants.{RCurly}
 use Rattle.js_kind.proofs.KindNumbers.{number_injective}
-use Rattle.js_kind.proofs.Members.{one_passes}
-use Rattle.js_grammar.specs.Goals.{GoalReads}
-use Rattle.js_grammar.specs.ReLexed.{is_re_lexed}
 use Rattle.js_grammar.specs.declared.goal.Goal.{Goal}
 use Rattle.js_grammar.specs.declared.goal.Goal.TheVariants.{Next as NextGoal, RegularExpression}
 use Rattle.js_grammar.specs.declared.goal.Goal.TheVariants.{TemplateTail as TailGoal}
-use Rattle.js_lexer.specs.Goals.{expression_kinds}
-use Rattle.js_lexer.specs.Lexer.{IsBehind, LexerState, IsOnPlaces, ReadsAgain, ReadsToken, token_or_default}
-use Rattle.js_lexer.proofs.AgainSteps.{kinds_begin}
+use Rattle.js_lexer.specs.Goals.{ReadsRegex, expression_kinds, info_of}
+use Rattle.js_lexer.specs.Lexer.{IsBehind, IsOnPlaces, LexerState, ReadsAgain, ReadsToken, token_or_default}
+use Rattle.js_session.specs.Effects.{effect_of}
+use Rattle.js_session.specs.Effects.Effect.{re_lexes}
+use Rattle.js_session.specs.Live.{State}
+use Rattle.js_session.specs.Marks.{IsInOrder, live_now, state_of}
+use Rattle.js_session.specs.Report.{LiesOnPlaces, all_collected, fits}
+use Rattle.js_session.specs.RowReader.{AddsAgain, AddsLive, AddsNotTaken, RowReaderState}
+use Rattle.js_session.specs.Session.{AddsRow, SessionState}
 use Rattle.js_session.specs.declared.command.Command.{Command}
 use Rattle.js_session.specs.declared.command.Command.TheVariants.{Next, Regex, TemplateTail}
-use Rattle.js_session.proofs.AgainLemmas.{expression_again}
-use Rattle.js_session.proofs.LiveLemmas.{last_or-push}
-use Rattle.js_session.proofs.WholeLemmas.{reads_onward}
+use Rattle.js_lexer.specs.declared.regex.RegexToken.{RegexToken}
+use Rattle.js_session.proofs.AgainLemmas.{part_again}
+use Rattle.js_session.proofs.LiveLemmas.{same_live}
+use Rattle.js_session.proofs.StepLemmas.{in_order_lies, on_adds_row, order_added, order_re_lexed, re_lex_adds_row, seen}
 use Rattle.js_auto.specs.Choice.{Chooser, chooser_of}
-use Rattle.js_auto.proofs.AutoLemmas.{curly_again, expression_not_again, last_put, not_end, one_at_most, part_not_again}
 use Rattle.js_auto.proofs.ChosenLemmas.{Chosen, chosen_by}
 use Rattle.js_auto.proofs.ChosenLemmas.Chosen.{reads, reads_expression, reads_part}
-use Rattle.js_bench.specs.Drive.{Drives, DrivesOn, DrivesTo, left}
+use Rattle.js_bench.specs.Drive.{Drives, DrivesTo, MakesStep}
+use Rattle.js_bench.proofs.RowLemmas.{row_of, row_read, row_read_again}
 
--- how much is left behind a last token
-left_is : (l : LexerState) (token : TokenParts) → l.last ≡ Some token
-    → left l ≡ 2 * (length l.text - token.start) + cond (is_re_lexed token.kind) 1 0
-left_is l token is =
-    ap (λ o. 2 * (length l.text - (token_or_default o).start) + cond (is_re_lexed (token_or_default o).kind) 1 0) is
+pub same_state : (a b : State) → a.now ≡ b.now → a.marks ≡ b.marks → a ≡ b
+same_state a b e1 e2 = rw (e1, e2) refl
 
--- a lexer behind a token that was read
-abbrev pub drives_behind : (old new : LexerState) (goal : Goal) (token : TokenParts) (tokens : List TokenParts)
-    (c : Chooser) → IsUtf8 old.text → ReadsToken goal old token new → c ≡ chooser_of (tokens ++ token ∷ [])
-    → Drives new c
-drives_behind old new goal token tokens c u r told = record {
-  utf8 = subst IsUtf8 (sym r.after.text) u;
-  tokens = tokens ++ token ∷ [];
-  told = told;
-  last = token;
-  is_last = last_or-push None tokens token;
-  lexer_last = r.after.last ∙ ap Some (sym r.token_is);
-  place = r.after.place ∙ ap (λ t. t.end) (sym r.token_is);
-  lies =
-      subst (λ t. IsOnPlaces t token) (sym r.after.text)
-      (subst (IsOnPlaces old.text) (sym r.token_is) r.reads.places);
-  some_text = λ other. subst (λ t. t.start < t.end) (sym r.token_is)
-      (r.reads.some_text (λ is. other (ap (λ t. t.kind) r.token_is ∙ is)));
+pub same_session : (a b : SessionState) → a.text ≡ b.text → a.source_type ≡ b.source_type → a.collects ≡ b.collects
+    → a.rows ≡ b.rows → a.state ≡ b.state → a ≡ b
+same_session a b e1 e2 e3 e4 e5 = rw (e1, e2, e3, e4, e5) refl
+
+-- what reads the rows of a session with this lexer
+abbrev pub reader_of : SessionState → LexerState → RowReaderState
+reader_of s l = record { lexer = l; rows = s.rows; tokens = s.state.now.tokens }
+
+-- a session without a mark is that of its reader
+seen_is : (s : SessionState) (l : LexerState) (c : Chooser) → Drives s l c → seen (reader_of s l) [] ≡ s
+seen_is s l c h =
+    let reader = reader_of s l in
+    let now : live_now reader ≡ s.state.now = same_live (live_now reader) s.state.now refl h.findings in
+    same_session (seen reader []) s h.text h.source_type h.collects refl
+    (same_state (state_of (live_now reader) []) s.state now (sym h.unmarked))
+
+reader_in_order : (s : SessionState) (l : LexerState) (c : Chooser) → Drives s l c → IsInOrder (reader_of s l) []
+reader_in_order s l c h = record {
+  behind = record {
+    text = refl;
+    source_type = refl;
+    collects = refl;
+    place = h.place;
+    last = h.last;
+    tokens = h.tokens ∙ ap (λ b. all_collected b s.state.now.tokens) (sym h.collects);
+    findings = refl;
+  };
+  are_marks = tt;
+  rows_lie = subst (λ x. AllByRecursion (LiesOnPlaces x) s.rows) (sym h.text) h.places.rows;
+  tokens_lie = subst (λ x. AllByRecursion (IsOnPlaces x) s.state.now.tokens) (sym h.text) h.places.tokens;
 }
 
-left_at_most : (l : LexerState) → left l ≤ 2 * length l.text + 1
-left_at_most l =
-    let few = one_at_most (is_re_lexed (token_or_default l.last).kind) in omega (arith, few)
-
--- Behind the first token of a text of fewer than 2 ^ 32 bytes there is room to count one token for each step.
-pub few_left : (old new : LexerState) (goal : Goal) (token : TokenParts) → length old.text < 2 ^ 32
-    → ReadsToken goal old token new → 1 + left new < 2 ^ 34
-few_left old new goal token short r = omega (arith, left_at_most new, ap length r.after.text, short)
-
-pub drives_next : (old new : LexerState) (c d : Chooser) (token : TokenParts)
-    → (to : DrivesTo Next old c) → ReadsToken NextGoal old token new
-    → d ≡ chooser_of (to.drives.tokens ++ token ∷ []) → DrivesOn old new d
-drives_next old new c d token to r told = by_choice (chosen_by to.drives.tokens Next to.chosen)
-  where
-    by_choice : Chosen to.drives.tokens Next → DrivesOn old new d
-    by_choice (reads is other) =
-        let b : IsCharBoundary old.text old.place =
-        subst (IsCharBoundary old.text) (sym to.drives.place) to.drives.lies.end in
-        let on : old.place ≤ r.outcome.token.start =
-        reads_onward old.text old.source_type NextGoal old.last old.place r.outcome refl to.drives.utf8 b r.reads.reads in
-        let start : r.outcome.token.start ≡ token.start = ap (λ t. t.start) (sym r.token_is) in
-        let longer = to.drives.some_text (not_end to.drives.last.kind (other to.drives.last to.drives.is_last)) in
-        let few = one_at_most (is_re_lexed token.kind) in
-        let drives = drives_behind old new NextGoal token to.drives.tokens d to.drives.utf8 r told in
-        let within : token.start ≤ length new.text = drives.lies.start.0 in
-        let was = left_is old to.drives.last to.drives.lexer_last in
-        let is_left = left_is new token drives.lexer_last in
-        let text : length new.text ≡ length old.text = ap length r.after.text in
-        record {
-          drives = drives;
-          less = omega (arith, was, is_left, few, longer, on, start, within, text, to.drives.place);
-        }
-    by_choice (reads_expression is _ _ _) = absurd (cc)
-    by_choice (reads_part is _ _ _) = absurd (cc)
-
--- a lexer behind a token that was read again
-abbrev pub drives_again : (old new : LexerState) (c d : Chooser) (goal : Goal) (token : TokenParts)
-    → (drives : Drives old c) → ReadsAgain goal old token new → d ≡ chooser_of (with_last drives.tokens token)
-    → Drives new d
-drives_again old new c d goal token drives r told = record {
-  utf8 = subst IsUtf8 (sym r.after.text) drives.utf8;
-  tokens = with_last drives.tokens token;
+-- a reader that is in order stands for its session
+pub drives_seen : (r : RowReaderState) (c : Chooser) → IsUtf8 r.lexer.text → IsInOrder r [] → c ≡ chooser_of r.tokens
+    → Drives (seen r []) r.lexer c
+drives_seen r c u in_order told = record {
+  text = refl;
+  source_type = refl;
+  collects = refl;
+  place = in_order.behind.place;
+  last = in_order.behind.last;
+  tokens = in_order.behind.tokens;
+  findings = refl;
   told = told;
-  last = token;
-  is_last = last_put drives.tokens drives.last token drives.is_last;
-  lexer_last = r.after.last ∙ ap Some (sym r.token_is);
-  place = r.after.place ∙ ap (λ t. t.end) (sym r.token_is);
-  lies =
-      subst (λ t. IsOnPlaces t token) (sym r.after.text)
-      (subst (IsOnPlaces old.text) (sym r.token_is) r.reads.places);
-  some_text = λ other. subst (λ t. t.start < t.end) (sym r.token_is)
-      (r.reads.some_text (λ is. other (ap (λ t. t.kind) r.token_is ∙ is)));
+  unmarked = refl;
+  utf8 = u;
+  places = in_order_lies r [] [] in_order;
 }
 
--- Less is left where a token was read again that may not be read again.
-less_again : (old new : LexerState) (last token : TokenParts) → old.last ≡ Some last → new.last ≡ Some token
-    → new.text ≡ old.text → token.start ≡ last.start → is_re_lexed last.kind ≡ true → is_re_lexed token.kind ≡ false
-    → left new < left old
-less_again old new last token was is text start before after =
-    let l = left_is old last was ∙ ap (λ b. 2 * (length old.text - last.start) + cond b 1 0) before in
-    let n = left_is new token is ∙ ap (λ b. 2 * (length new.text - token.start) + cond b 1 0) after in
-    omega (arith, l, n, start, ap length text)
+-- A token that was read on.
+step_next : (old new : LexerState) (c d : Chooser) (token : TokenParts) → ReadsToken NextGoal old token new
+    → ((tokens : List TokenParts) → c ≡ chooser_of tokens → d ≡ chooser_of (tokens ++ token ∷ []))
+    → MakesStep Next 1 old c new d
+step_next old new c d token r told s h =
+    let u : IsUtf8 old.text = subst IsUtf8 (sym h.text) h.utf8 in
+    let before = reader_of s old in
+    let row = row_of (Some Next) old token None r.outcome.value new in
+    let after : RowReaderState =
+    record { lexer = new; rows = s.rows ++ row ∷ []; tokens = s.state.now.tokens ++ token ∷ [] } in
+    let adds : AddsLive NextGoal (Some Next) before after =
+    record { row = row; reads = row_read NextGoal (Some Next) old new token refl u r; rows = refl; tokens = refl } in
+    let in_order = reader_in_order s old c h in
+    record {
+      session = seen after [];
+      adds =
+          subst (λ x. AddsRow Next x (seen after [])) (seen_is s old c h)
+          (on_adds_row NextGoal Next before after [] refl in_order adds);
+      drives =
+          drives_seen after d (subst IsUtf8 (sym r.after.text) u)
+          (order_added NextGoal (Some Next) before after [] in_order adds) (told s.state.now.tokens h.told);
+      more_are = length-append s.state.now.tokens (token ∷ []);
+    }
 
--- the goal that reads a token again, from the token that the lexer is behind
-reads_from : (old new : LexerState) (goal : Goal) (token last : TokenParts) → old.last ≡ Some last
-    → (r : ReadsAgain goal old token new) → GoalReads old.text old.source_type goal (Some last) old.place r.outcome
-reads_from old new goal token last is r =
-    subst (λ o. GoalReads old.text old.source_type goal o old.place r.outcome) is r.reads.reads
+length-with_last : (tokens : List TokenParts) (token : TokenParts) → length (with_last tokens token) ≡ length tokens
+length-with_last [] token = refl
+length-with_last (t ∷ []) token = refl
+length-with_last (t ∷ u ∷ us) token = ap (λ n. suc n) (length-with_last (u ∷ us) token)
 
-pub drives_expression : (old new : LexerState) (c d : Chooser) (token : TokenParts) → (to : DrivesTo Regex old c)
-    → ReadsAgain RegularExpression old token new → d ≡ chooser_of (with_last to.drives.tokens token)
-    → DrivesOn old new d
-drives_expression old new c d token to r told = by_choice (chosen_by to.drives.tokens Regex to.chosen)
+-- A token that was read again, where the last one fits.
+step_again : (goal : Goal) (command : Command) (old new : LexerState) (c d : Chooser) (token : TokenParts)
+    (regex : Option RegexInfo) → effect_of command ≡ re_lexes goal
+    → fits old.text goal (token_or_default old.last) ≡ true
+    → (r : ReadsAgain goal old token new) → r.outcome.regex ≡ regex
+    → ((tokens : List TokenParts) → c ≡ chooser_of tokens → d ≡ chooser_of (with_last tokens token))
+    → MakesStep command 0 old c new d
+step_again goal command old new c d token regex effect fit r known told s h =
+    let u : IsUtf8 old.text = subst IsUtf8 (sym h.text) h.utf8 in
+    let before = reader_of s old in
+    let row = row_of (Some command) old token regex r.outcome.value new in
+    let after : RowReaderState =
+    record { lexer = new; rows = s.rows ++ row ∷ []; tokens = with_last s.state.now.tokens token } in
+    let again : AddsAgain goal (Some command) before after =
+    record {
+      row = row;
+      reads = row_read_again goal (Some command) old new token regex u r known;
+      rows = refl;
+      tokens = refl;
+    } in
+    let adds : MatchBool (fits old.text goal (token_or_default old.last)) (AddsAgain goal (Some command) before after)
+    (AddsNotTaken (Some command) before after) =
+    subst (λ b. MatchBool b (AddsAgain goal (Some command) before after) (AddsNotTaken (Some command) before after))
+    (sym fit) again in
+    let in_order = reader_in_order s old c h in
+    record {
+      session = seen after [];
+      adds =
+          subst (λ x. AddsRow command x (seen after [])) (seen_is s old c h)
+          (re_lex_adds_row goal command before after [] effect in_order adds);
+      drives =
+          drives_seen after d (subst IsUtf8 (sym r.after.text) u)
+          (order_re_lexed goal (Some command) before after [] in_order adds) (told s.state.now.tokens h.told);
+      more_are = length-with_last s.state.now.tokens token ∙ sym (add-zero (length s.state.now.tokens));
+    }
+
+-- the last token of the lexer, by the last live one
+last_is : (s : SessionState) (l : LexerState) (c : Chooser) (last : TokenParts) → Drives s l c
+    → last_or None s.state.now.tokens ≡ Some last → l.last ≡ Some last
+last_is s l c last h at = h.last ∙ at
+
+-- the lexer is behind its last token
+behind_last : (s : SessionState) (l : LexerState) (c : Chooser) (last : TokenParts) (kind : Kind) → Drives s l c
+    → last_or None s.state.now.tokens ≡ Some last → last.kind ≡ kind → IsBehind kind l
+behind_last s l c last kind h at is = record {
+  token = last;
+  last = last_is s l c last h at;
+  kind_is = is;
+  place = h.place ∙ ap (λ o. (token_or_default o).end) at;
+}
+
+-- The last token, where a regular expression is chosen, begins one, and the lexer is behind it.
+pub begins_expression : (l : LexerState) (c : Chooser) → DrivesTo Regex l c
+    → fits l.text RegularExpression (token_or_default l.last) ≡ true
+begins_expression l c to = by_choice (chosen_by to.session.state.now.tokens Regex to.chosen)
   where
-    by_choice : Chosen to.drives.tokens Regex → DrivesOn old new d
+    by_choice : Chosen to.session.state.now.tokens Regex
+        → fits l.text RegularExpression (token_or_default l.last) ≡ true
     by_choice (reads is _) = absurd (cc)
     by_choice (reads_expression is last at fit) =
-        let same : last ≡ to.drives.last = let both : Some last ≡ Some to.drives.last = sym at ∙ to.drives.is_last in cc in
-        let read = reads_from old new RegularExpression token to.drives.last to.drives.lexer_last r in
-        let kind =
-        ap (λ t. t.kind) r.token_is
-        ∙ expression_again old.text old.source_type (Some to.drives.last) old.place r.outcome read in
-        let before : is_re_lexed to.drives.last.kind ≡ true =
-        one_passes is_re_lexed expression_kinds to.drives.last.kind kinds_begin.expressions.again
-        (subst (λ t. is_one_of expression_kinds t.kind ≡ true) same fit) in
-        let drives = drives_again old new c d RegularExpression token to.drives r told in
-        record {
-          drives = drives;
-          less =
-              less_again old new to.drives.last token to.drives.lexer_last drives.lexer_last r.after.text
-              (ap (λ t. t.start) r.token_is ∙ ap (λ x. x.token.start) read.outcome_is) before
-              (ap is_re_lexed kind ∙ expression_not_again);
-        }
+        ap (λ o. is_one_of expression_kinds (token_or_default o).kind) (last_is to.session l c last to.drives at) ∙ fit
     by_choice (reads_part is _ _ _) = absurd (cc)
 
-pub drives_part : (old new : LexerState) (c d : Chooser) (token : TokenParts) → (to : DrivesTo TemplateTail old c)
-    → ReadsAgain TailGoal old token new → d ≡ chooser_of (with_last to.drives.tokens token) → DrivesOn old new d
-drives_part old new c d token to r told = by_choice (chosen_by to.drives.tokens TemplateTail to.chosen)
+pub behind_slash : (l : LexerState) (c : Chooser) (kind : Kind) → DrivesTo Regex l c
+    → kind ≡ (token_or_default l.last).kind → IsBehind kind l
+behind_slash l c kind to is = by_choice (chosen_by to.session.state.now.tokens Regex to.chosen)
   where
-    by_choice : Chosen to.drives.tokens TemplateTail → DrivesOn old new d
+    by_choice : Chosen to.session.state.now.tokens Regex → IsBehind kind l
+    by_choice (reads is _) = absurd (cc)
+    by_choice (reads_expression _ last at fit) =
+        behind_last to.session l c last kind to.drives at
+        (sym (is ∙ ap (λ o. (token_or_default o).kind) (last_is to.session l c last to.drives at)))
+    by_choice (reads_part is _ _ _) = absurd (cc)
+
+-- The last token, where a part of a template is chosen, is a `}`, and the lexer is behind it.
+pub ends_substitution : (l : LexerState) (c : Chooser) → DrivesTo TemplateTail l c
+    → fits l.text TailGoal (token_or_default l.last) ≡ true
+ends_substitution l c to = by_choice (chosen_by to.session.state.now.tokens TemplateTail to.chosen)
+  where
+    by_choice : Chosen to.session.state.now.tokens TemplateTail
+        → fits l.text TailGoal (token_or_default l.last) ≡ true
     by_choice (reads is _) = absurd (cc)
     by_choice (reads_expression is _ _ _) = absurd (cc)
     by_choice (reads_part is last at fit) =
-        let same : last ≡ to.drives.last = let both : Some last ≡ Some to.drives.last = sym at ∙ to.drives.is_last in cc in
-        let read = reads_from old new TailGoal token to.drives.last to.drives.lexer_last r in
-        let curly : last.kind ≡ RCurly = number_injective last.kind RCurly (eqb-true _ _ fit) in
-        let before : is_re_lexed to.drives.last.kind ≡ true =
-        ap (λ t. is_re_lexed t.kind) (sym same) ∙ (ap is_re_lexed curly ∙ curly_again) in
-        let drives = drives_again old new c d TailGoal token to.drives r told in
-        record {
-          drives = drives;
-          less =
-              less_again old new to.drives.last token to.drives.lexer_last drives.lexer_last r.after.text
-              (ap (λ t. t.start) r.token_is ∙ ap (λ x. x.token.start) read.outcome_is) before
-              (ap (λ t. is_re_lexed t.kind) r.token_is ∙ part_not_again old.text old.source_type to.drives.last old.place r.outcome read);
-        }
+        ap (λ o. number (token_or_default o).kind == number RCurly) (last_is to.session l c last to.drives at) ∙ fit
+
+pub behind_brace : (l : LexerState) (c : Chooser) → DrivesTo TemplateTail l c → IsBehind RCurly l
+behind_brace l c to = by_choice (chosen_by to.session.state.now.tokens TemplateTail to.chosen)
+  where
+    by_choice : Chosen to.session.state.now.tokens TemplateTail → IsBehind RCurly l
+    by_choice (reads is _) = absurd (cc)
+    by_choice (reads_expression is _ _ _) = absurd (cc)
+    by_choice (reads_part is last at fit) =
+        behind_last to.session l c last RCurly to.drives at (number_injective last.kind RCurly (eqb-true _ _ fit))
 
 -- No other command is chosen.
 pub no_other : (c : Command) (l : LexerState) (chooser : Chooser) → DrivesTo c l chooser → ¬ (c ≡ Next) → ¬ (c ≡ Regex)
     → ¬ (c ≡ TemplateTail) → ⊥
-no_other c l chooser to no_next no_regex no_tail = by_choice (chosen_by to.drives.tokens c to.chosen)
+no_other c l chooser to no_next no_regex no_tail = by_choice (chosen_by to.session.state.now.tokens c to.chosen)
   where
-    by_choice : Chosen to.drives.tokens c → ⊥
+    by_choice : Chosen to.session.state.now.tokens c → ⊥
     by_choice (reads is _) = no_next is
     by_choice (reads_expression is _ _ _) = no_regex is
     by_choice (reads_part is _ _ _) = no_tail is
 
--- The last token, where a regular expression is chosen, begins one.
-pub begins_expression : (l : LexerState) (chooser : Chooser) → DrivesTo Regex l chooser
-    → is_one_of expression_kinds (token_or_default l.last).kind ≡ true
-begins_expression l chooser to = by_choice (chosen_by to.drives.tokens Regex to.chosen)
-  where
-    by_choice : Chosen to.drives.tokens Regex → is_one_of expression_kinds (token_or_default l.last).kind ≡ true
-    by_choice (reads is _) = absurd (cc)
-    by_choice (reads_expression is last at fit) =
-        let same : last ≡ to.drives.last = let both : Some last ≡ Some to.drives.last = sym at ∙ to.drives.is_last in cc in
-        ap (λ o. is_one_of expression_kinds (token_or_default o).kind) to.drives.lexer_last
-        ∙ (ap (λ t. is_one_of expression_kinds t.kind) (sym same) ∙ fit)
-    by_choice (reads_part is _ _ _) = absurd (cc)
+-- a token that was read on, where the chooser was told it
+pub told_next : {T E : Type 0} (result : Result T E) (old new : LexerState) (c d : Chooser) (token : TokenParts)
+    → ReadsToken NextGoal old token new
+    → ((tokens : List TokenParts) → c ≡ chooser_of tokens → OnOk result (d ≡ chooser_of (tokens ++ token ∷ [])))
+    → OnOk result (MakesStep Next 1 old c new d)
+told_next (Ok x) old new c d token r told = step_next old new c d token r told
+told_next (Err e) old new c d token r told = tt
 
--- The last token, where a part of a template is chosen, is a `}`, and the lexer is behind it.
-pub behind_brace : (l : LexerState) (chooser : Chooser) → DrivesTo TemplateTail l chooser → IsBehind RCurly l
-behind_brace l chooser to = by_choice (chosen_by to.drives.tokens TemplateTail to.chosen)
-  where
-    by_choice : Chosen to.drives.tokens TemplateTail → IsBehind RCurly l
-    by_choice (reads is _) = absurd (cc)
-    by_choice (reads_expression is _ _ _) = absurd (cc)
-    by_choice (reads_part is last at fit) =
-        let same : last ≡ to.drives.last = let both : Some last ≡ Some to.drives.last = sym at ∙ to.drives.is_last in cc in
-        record {
-          token = to.drives.last;
-          last = to.drives.lexer_last;
-          kind_is = ap (λ t. t.kind) (sym same) ∙ number_injective last.kind RCurly (eqb-true _ _ fit);
-          place = to.drives.place;
-        }
+-- a token that was read again, as a regular expression
+pub step_expression : (old new : LexerState) (c d : Chooser) (found : RegexToken) → DrivesTo Regex old c
+    → ReadsRegex old found new
+    → ((tokens : List TokenParts) → c ≡ chooser_of tokens → d ≡ chooser_of (with_last tokens found.token))
+    → MakesStep Regex 0 old c new d
+step_expression old new c d found to r told =
+    step_again RegularExpression Regex old new c d found.token (Some (info_of found)) refl
+    (begins_expression old c to) r.again r.info told
 
--- What follows where a call does not fail.
-pub on_ok : {T E : Type 0} {P Q : Type 0} (r : Result T E) → OnOk r P → (P → Q) → OnOk r Q
-on_ok (Ok x) p f = f p
-on_ok (Err e) p f = p
+-- a token that was read again, as a part of a template
+pub step_part : (old new : LexerState) (c d : Chooser) (token : TokenParts) → DrivesTo TemplateTail old c
+    → ReadsAgain TailGoal old token new
+    → ((tokens : List TokenParts) → c ≡ chooser_of tokens → d ≡ chooser_of (with_last tokens token))
+    → MakesStep TemplateTail 0 old c new d
+step_part old new c d token to r told =
+    step_again TailGoal TemplateTail old new c d token None refl (ends_substitution old c to) r
+    (part_again old.text old.source_type old.last old.place r.outcome r.reads.reads).0 told

@@ -1,2 +1,4 @@
 pub mod DriveLemmas
+pub mod PassLemmas
 pub mod Passes
+pub mod RowLemmas

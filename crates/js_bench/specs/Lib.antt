@@ -1,3 +1,4 @@
+pub mod Counts
 pub mod Drive
 pub mod Run
 pub mod Words

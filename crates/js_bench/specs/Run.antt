@@ -1,14 +1,16 @@
 -- What a run of the program comes to.
-use Rattle.std.specs.Prelude.{◌≡◌, ℕ, ◌+◌, ◌≤◌, ◌⊎◌, ◌↔◌, List, ◌∷◌, [], ◌++◌, length, codes, Option, None}
-use Rattle.std.specs.Prelude.{IfSome}
+use Rattle.std.specs.Prelude.{◌≡◌, ℕ, ◌+◌, ◌<◌, ◌≤◌, ◌⊎◌, ◌↔◌, Bool, List, ◌∷◌, [], ◌++◌, length, codes, Option, None}
+use Rattle.std.specs.Prelude.{IfSome, replicate}
 use Rattle.std.specs.Fmt.{decimal}
 use Rattle.std.specs.Io.KnownBytes.{Consumes, IsAtEnd, Keeps}
 use Rattle.std.specs.List.{flat_map}
 use Rattle.std.specs.Str.{IsUtf8}
+use Rattle.js_text.specs.declared.source_type.SourceType.{SourceType}
 use Rattle.js_lex_tool.specs.Outside.{InputState, OutputState, WritesAll, WritesPrefix}
 use Rattle.js_lex_tool.specs.Run.{CountsFault, most_bytes}
 use Rattle.js_lex_tool.specs.Status.{number, IsOneOf, Tests}
 use Rattle.js_lex_tool.specs.Status.Status.{Done, OutOfMemory, Usage, ReadFailed, WriteFailed, TooLong, NotUtf8}
+use Rattle.js_bench.specs.Counts.{IsPassOver}
 use Rattle.js_bench.specs.declared.pass.PassCounts.{PassCounts}
 use Rattle.js_bench.specs.declared.words.BenchLine.{BenchLine}
 
@@ -18,24 +20,29 @@ pass_line counts =
     codes "tokens " ++ decimal counts.tokens ++ codes " comments " ++ decimal counts.comments
     ++ codes " diagnostics " ++ decimal counts.diagnostics ++ codes "\n"
 
--- a text that has a line for each of so many passes
-pub record HasPasses (passes : ℕ) (text : List ℕ) : Type 0 where
-  pub counts : List PassCounts
-  pub many : length counts ≡ passes
-  pub lines : text ≡ flat_map pass_line counts
+-- A text that has the line of a pass over a source so many times. The counts are those of a report, so that each line is
+-- the same.
+pub record HasPasses (source : List ℕ) (t : SourceType) (collects : Bool) (passes : ℕ) (text : List ℕ) : Type 0 where
+  pub counts : PassCounts
+  pub counted : 0 < passes → IsPassOver source t collects counts
+  pub lines : text ≡ flat_map pass_line (replicate passes counts)
+
+-- The text of a run of a line over a source.
+abbrev pub HasLines : BenchLine → List ℕ → List ℕ → Type 0
+HasLines line source text = HasPasses source line.source_type line.tokens line.passes text
 
 -- What was written of the lines of the passes: all of them, flushed, where the run is done, and else a beginning.
-abbrev pub WritesPasses : ℕ → OutputState → OutputState → ℕ → Type 0
-WritesPasses passes old new n =
-    (n ≡ number Done → (text : List ℕ) × HasPasses passes text × WritesAll old new text)
-    × (Keeps old.written new.written ⊎ ((text : List ℕ) × HasPasses passes text × WritesPrefix old new text))
+abbrev pub WritesPasses : BenchLine → List ℕ → OutputState → OutputState → ℕ → Type 0
+WritesPasses line source old new n =
+    (n ≡ number Done → (text : List ℕ) × HasLines line source text × WritesAll old new text)
+    × (Keeps old.written new.written ⊎ ((text : List ℕ) × HasLines line source text × WritesPrefix old new text))
 
 -- What a run of a line comes to that has read its input to its end, by the bytes that it read.
 pub record AnswersBench (line : BenchLine) (bytes : List ℕ) (old new : OutputState) (n : ℕ) : Type 0 where
   pub known : IsOneOf (OutOfMemory ∷ NotUtf8 ∷ WriteFailed ∷ Done ∷ []) n
   pub utf8 : Tests NotUtf8 n (¬ (IsUtf8 bytes)) (IsUtf8 bytes)
   pub quiet : n ≡ number NotUtf8 → new ≡ old
-  pub text : WritesPasses line.passes old new n
+  pub text : WritesPasses line bytes old new n
   pub faults : CountsFault WriteFailed n old.faults new.faults
 
 -- a run that gave up before its input was read to its end, and has written nothing

@@ -2,7 +2,7 @@
 
 ghost use Rattle.std.specs.Prelude.{◌≡◌, ◌≤◌, ◌<◌, ◌^◌, ◌++◌, length, string_bytes, IfOk, OnOk};
 ghost use Rattle.js_lex_tool.specs.Run.{most_bytes};
-ghost use Rattle.js_bench.specs.Run.{AnswersBench, HasPasses, RunsBench, pass_line};
+ghost use Rattle.js_bench.specs.Run.{AnswersBench, HasLines, RunsBench, pass_line};
 ghost use Rattle.js_bench.specs.Words.{bench_line_of};
 
 use crate::pass::{PassCounts, count_pass};
@@ -30,7 +30,7 @@ fn push_pass(text: &mut String, counts: &PassCounts) -> Result<(), AllocError>
 /// The text of a run over the source: a line for each pass.
 fn bench_text(alloc: Global, source: &str, line: &BenchLine) -> Result<String, AllocError>
     requires { length source.now < 2 ^ 32 }
-    ensures { IfOk result (λ text. HasPasses line.now.passes (string_bytes text)) }
+    ensures { IfOk result (λ text. HasLines line.now source.now (string_bytes text)) }
 {
     let mut text = String::new(alloc);
     'passes: for _ in 0..line.passes {

@@ -1,8 +1,10 @@
 //! One pass over a source: its tokens are read by the goals that are chosen, and no rows are made of them.
 
-ghost use Rattle.std.specs.Prelude.{◌≡◌, ◌<◌, ◌≤◌, ◌^◌, length, None, OnOk, IfOk};
+ghost use Rattle.std.specs.Prelude.{◌≡◌, ◌<◌, ◌≤◌, ◌^◌, length, OnOk, IfOk};
 ghost use Rattle.std.specs.Str.{IsUtf8};
-ghost use Rattle.js_bench.specs.Drive.{DrivesOn, DrivesTo};
+ghost use Rattle.js_lexer.specs.Lexer.{fresh};
+ghost use Rattle.js_bench.specs.Counts.{IsPassOver};
+ghost use Rattle.js_bench.specs.Drive.{DrivesTo, MakesStep};
 
 use js_auto::GoalChooser;
 use js_kind::{LexerConfig, NoTokensLexerConfig, TokensLexerConfig};
@@ -26,7 +28,7 @@ fn read_next<C: LexerConfig + Drop>(
     chooser: &mut GoalChooser,
 ) -> Result<(), AllocError>
     requires { DrivesTo Command.Next lexer.old chooser.old }
-    ensures { OnOk result (DrivesOn lexer.old lexer.new chooser.new) }
+    ensures { OnOk result (MakesStep Command.Next 1 lexer.old chooser.old lexer.new chooser.new) }
 {
     let token = lexer.next_token()?;
     chooser.read(&token)
@@ -38,7 +40,7 @@ fn read_expression<C: LexerConfig + Drop>(
     chooser: &mut GoalChooser,
 ) -> Result<(), AllocError>
     requires { DrivesTo Command.Regex lexer.old chooser.old }
-    ensures { OnOk result (DrivesOn lexer.old lexer.new chooser.new) }
+    ensures { OnOk result (MakesStep Command.Regex 0 lexer.old chooser.old lexer.new chooser.new) }
 {
     let kind = lexer.last_token().kind();
     let found = lexer.next_regex(kind)?;
@@ -52,7 +54,7 @@ fn read_part<C: LexerConfig + Drop>(
     chooser: &mut GoalChooser,
 ) -> Result<(), AllocError>
     requires { DrivesTo Command.TemplateTail lexer.old chooser.old }
-    ensures { OnOk result (DrivesOn lexer.old lexer.new chooser.new) }
+    ensures { OnOk result (MakesStep Command.TemplateTail 0 lexer.old chooser.old lexer.new chooser.new) }
 {
     let token = lexer.next_template_substitution_tail()?;
     chooser.read_again(&token);
@@ -67,7 +69,8 @@ fn read_chosen<C: LexerConfig + Drop>(
     command: Command,
 ) -> Result<u64, AllocError>
     requires { DrivesTo command lexer.old chooser.old }
-    ensures driven { OnOk result (DrivesOn lexer.old lexer.new chooser.new) }
+    ensures driven { IfOk result (λ more.
+        MakesStep command more lexer.old chooser.old lexer.new chooser.new) }
     ensures one_at_most { IfOk result (λ more. more ≤ 1) }
 {
     match command {
@@ -87,14 +90,15 @@ fn read_chosen<C: LexerConfig + Drop>(
     }
 }
 
-/// A pass with a lexer that has read nothing.
+/// A pass with a lexer that has read nothing: it counts what is live in the report of a session whose goals are chosen.
 fn pass_with<C: LexerConfig + Drop>(
     alloc: Global,
     mut lexer: Lexer<'_, C>,
 ) -> Result<PassCounts, AllocError>
-    requires unread { lexer.last ≡ None }
+    requires unread { lexer ≡ fresh lexer.text lexer.source_type lexer.collects }
     requires utf8 { IsUtf8 lexer.text }
     requires short { length lexer.text < 2 ^ 32 }
+    ensures { IfOk result (IsPassOver lexer.entry.text lexer.entry.source_type lexer.entry.collects) }
 {
     let mut chooser = GoalChooser::new(alloc);
     let first = lexer.first_token()?;
@@ -118,9 +122,8 @@ fn lexer_over<'a, C: LexerConfig + Drop>(
     config: C,
 ) -> Result<Lexer<'a, C>, AllocError>
     requires { length text.now < 2 ^ 32 }
-    ensures unread { IfOk result (λ lexer. lexer.last ≡ None) }
-    ensures utf8 { IfOk result (λ lexer. IsUtf8 lexer.text) }
-    ensures short { IfOk result (λ lexer. length lexer.text < 2 ^ 32) }
+    ensures unread { IfOk result (λ lexer. lexer ≡ fresh text.now source_type (C.collects config)) }
+    ensures utf8 { IsUtf8 text.now }
 {
     match Lexer::new(alloc, text, source_type, config) {
         Ok(lexer) => Ok(lexer),
@@ -128,7 +131,7 @@ fn lexer_over<'a, C: LexerConfig + Drop>(
     }
 }
 
-/// One pass over the text.
+/// One pass over the text, with a lexer that collects its tokens, or does not.
 pub fn count_pass(
     alloc: Global,
     text: &str,
@@ -136,6 +139,7 @@ pub fn count_pass(
     tokens: bool,
 ) -> Result<PassCounts, AllocError>
     requires { length text.now < 2 ^ 32 }
+    ensures { IfOk result (IsPassOver text.now source_type tokens) }
 {
     if tokens {
         pass_with(

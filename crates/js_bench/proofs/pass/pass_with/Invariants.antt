@@ -1,10 +1,10 @@
-use Rattle.std.proofs.Common.{◌+◌, ◌<◌, ◌^◌}
-use Rattle.js_bench.specs.Drive.{Drives, left}
+use Rattle.js_bench.proofs.PassLemmas.{Passes, left}
 use Rattle.js_bench.proofs.pass.pass_with.Given as goal
 
--- The lexer is driven, and less of its text is left after each step, by one at least for each token that was counted.
+-- The steps so far were chosen, and the tokens that are live behind them were counted.
 abbrev pub invariant-tokens : goal.invariant-tokens
-invariant-tokens g l = record { drives : Drives l.lexer l.chooser; few : l.tokens + left l.lexer < 2 ^ 34 }
+invariant-tokens g l =
+    Passes l.fn.lexer.text l.fn.lexer.source_type l.fn.lexer.collects l.tokens l.lexer l.chooser
 
 abbrev pub decreases-tokens : goal.decreases-tokens
 decreases-tokens g l = left l.lexer
