@@ -35,8 +35,8 @@ pub one_more : (source : List ℕ) (t : SourceType) (collects : Bool) (passes : 
     (counts : PassCounts) → HasPasses source t collects passes text → IsPassOver source t collects counts
     → new ≡ text ++ pass_line counts → HasPasses source t collects (passes + 1) new
 one_more source t collects passes text new counts h is more =
-    let same = same_lines passes h.counts counts (λ some. same_counts source t collects h.counts counts (h.counted some) is)
-    in
+    let one = λ (some : 0 < passes). same_counts source t collects h.counts counts (h.counted some) is in
+    let same = same_lines passes h.counts counts one in
     record {
       counts = counts;
       counted = λ some. is;

@@ -24,8 +24,7 @@ pass_line counts =
     codes "tokens " ++ decimal counts.tokens ++ codes " comments " ++ decimal counts.comments
     ++ codes " diagnostics " ++ decimal counts.diagnostics ++ codes "\n"
 
--- A text that has the line of a pass over a source so many times. The counts are those of a report, so that each line is
--- the same.
+-- A text that has the line of a pass over a source so many times, with the counts of the one report there is.
 pub record HasPasses (source : List ℕ) (t : SourceType) (collects : Bool) (passes : ℕ) (text : List ℕ) : Type 0 where
   pub counts : PassCounts
   pub counted : 0 < passes → IsPassOver source t collects counts
