@@ -1,5 +1,6 @@
 pub mod Checkpoint
 pub mod Cursor
+pub mod Diagnostic
 pub mod Expect
 pub mod ListSteps
 pub mod Lists

@@ -1,14 +1,15 @@
 //! The cursor: its lexer, the current token, and what its parser reports.
 
-ghost use Rattle.std.specs.Prelude.{◌≡◌, ◌≤◌, ◌↔◌, [], None, IsTrue, IfOk, OnOk, OnErr, slice_range};
+ghost use Rattle.std.specs.Prelude.{◌≡◌, ◌≤◌, ◌<◌, ◌↔◌, [], None, IsTrue, IfOk, OnOk, OnErr, MatchOption, slice_range};
 ghost use Rattle.std.specs.Option.{is_some};
-ghost use Rattle.js_lexer.specs.Decoded.{GivesTemplate, GivesText};
+ghost use Rattle.js_lexer.specs.Decoded.{GivesTemplate, GivesText, IsStretch};
 ghost use Rattle.js_lexer.specs.Lexer.{IsOnPlaces, ReadsToken};
 ghost use Rattle.js_cursor.specs.Cursor.{IsFresh, allows_semicolon, is_at, is_at_token_end, span_of, with_error};
 ghost use Rattle.js_cursor.specs.Cursor.{with_fatal_error};
 
 mod advance;
 mod expect;
+mod lexing;
 mod list;
 mod re_lex;
 mod rest;
@@ -108,6 +109,24 @@ impl<'a, C: LexerConfig + Drop> Cursor<'a, C> {
         Span::new(start, self.previous_end)
     }
 
+    /// Where the token before the current one ended, as an offset in bytes; 0 before the first advance.
+    pub fn previous_end(&self) -> u32
+        ensures { result ≡ self.now.previous_end }
+    {
+        self.previous_end
+    }
+
+    /// From `start`, an offset in bytes, to where the token before the current one ended. None: it ended before.
+    pub fn span_from(&self, start: u32) -> Option<Span>
+        ensures { MatchOption result (self.now.previous_end < start)
+            (λ span. span ≡ record { start = start; end = self.now.previous_end }) }
+    {
+        if start > self.previous_end {
+            return None;
+        }
+        Some(Span::new(start, self.previous_end))
+    }
+
     /// The current token.
     pub fn cur_token(&self) -> Token
         ensures token { result ≡ self.now.token }
@@ -125,7 +144,7 @@ impl<'a, C: LexerConfig + Drop> Cursor<'a, C> {
     }
 
     /// Where the current token stands, in bytes.
-    fn cur_span(&self) -> Span
+    pub fn cur_span(&self) -> Span
         ensures { result ≡ span_of self.now.token }
     {
         self.token.span()
@@ -144,6 +163,24 @@ impl<'a, C: LexerConfig + Drop> Cursor<'a, C> {
         ensures { result.now ≡ slice_range self.now.lexer.text token.now.start token.now.end }
     {
         &self.source_text[token.start() as usize..token.end() as usize]
+    }
+
+    /// The stretch of the source that a span is. None: its ends are no places of the source, or not in order.
+    pub fn text(&self, span: Span) -> Option<&'a str>
+        ensures { MatchOption result (IsStretch self.now.lexer.text span.start span.end → ⊥)
+            (λ text. IsStretch self.now.lexer.text span.start span.end
+            × (text.now ≡ slice_range self.now.lexer.text span.start span.end)) }
+    {
+        if span.start > span.end {
+            return None;
+        }
+        if !self.source_text.is_char_boundary(span.start as usize) {
+            return None;
+        }
+        if !self.source_text.is_char_boundary(span.end as usize) {
+            return None;
+        }
+        Some(&self.source_text[span.start as usize..span.end as usize])
     }
 
     /// The text of the current token, as `Lexer::get_string` gives it.
@@ -215,6 +252,23 @@ impl<'a, C: LexerConfig + Drop> Cursor<'a, C> {
         ensures { result.now ≡ self.now.lexer }
     {
         &self.lexer
+    }
+
+    /// Hands out the lexer, with what it collected and found: the parse is done. What the parser reported is told by
+    /// `errors` and `fatal_error` before.
+    pub fn finish(self) -> Lexer<'a, C>
+        ensures { result ≡ self.entry.lexer }
+    {
+        let Cursor { lexer, .. } = self;
+        lexer
+    }
+
+    /// Says whether what is read from now on stands in an ambient context, and gives what was said before.
+    pub fn set_ambient(&mut self, ambient: bool) -> bool
+        ensures before { result ≡ self.old.ambient }
+        ensures after { self.new ≡ record self.old { ambient = ambient } }
+    {
+        std::mem::replace(&mut self.ambient, ambient)
     }
 
     /// Reports an error, which does not stop the parser. Where there is no memory for it, nothing changes.

@@ -1,5 +1,8 @@
 //! What a parser reports.
 
+ghost use Rattle.std.specs.Prelude.{◌≡◌};
+ghost use Rattle.js_cursor.specs.Diagnostic.{cursor_diagnostic_name, cursor_diagnostic_span};
+
 use js_kind::Kind;
 use js_text::Span;
 
@@ -50,6 +53,47 @@ pub enum CursorDiagnostic {
     RestLast {
         span: Span,
     },
+    /// A fault that the parser alone knows, by a number of its own.
+    Parser {
+        code: u32,
+        span: Span,
+    },
+}
+
+impl CursorDiagnostic {
+    /// The name of the diagnostic: that of its variant.
+    pub fn name(&self) -> &'static str
+        ensures { result.now ≡ cursor_diagnostic_name self.now }
+    {
+        match self {
+            CursorDiagnostic::EscapedKeyword { .. } => "EscapedKeyword",
+            CursorDiagnostic::AutoSemicolonInsertion { .. } => "AutoSemicolonInsertion",
+            CursorDiagnostic::ExpectToken { .. } => "ExpectToken",
+            CursorDiagnostic::ExpectClosing { .. } => "ExpectClosing",
+            CursorDiagnostic::ExpectConditionalAlternative { .. } => "ExpectConditionalAlternative",
+            CursorDiagnostic::ExpectClosingOrSeparator { .. } => "ExpectClosingOrSeparator",
+            CursorDiagnostic::RestElementTrailingComma { .. } => "RestElementTrailingComma",
+            CursorDiagnostic::RestLast { .. } => "RestLast",
+            CursorDiagnostic::Parser { .. } => "Parser",
+        }
+    }
+
+    /// Where the fault is, in bytes.
+    pub fn span(&self) -> Span
+        ensures { result ≡ cursor_diagnostic_span self.now }
+    {
+        match self {
+            CursorDiagnostic::EscapedKeyword { span }
+            | CursorDiagnostic::AutoSemicolonInsertion { span }
+            | CursorDiagnostic::ExpectToken { span, .. }
+            | CursorDiagnostic::ExpectClosing { span, .. }
+            | CursorDiagnostic::ExpectConditionalAlternative { span, .. }
+            | CursorDiagnostic::ExpectClosingOrSeparator { span, .. }
+            | CursorDiagnostic::RestElementTrailingComma { span }
+            | CursorDiagnostic::RestLast { span }
+            | CursorDiagnostic::Parser { span, .. } => *span,
+        }
+    }
 }
 
 /// The error that stops a parser, and how many errors its lexer had reported by then.

@@ -6,3 +6,5 @@
 mod calls;
 #[cfg(test)]
 mod json;
+#[cfg(test)]
+mod lexing;
