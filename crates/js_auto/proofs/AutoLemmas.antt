@@ -1,39 +1,37 @@
 -- A session whose goals are chosen: each step reads on, or reads a token again that is then read no more.
 use Rattle.std.proofs.Common.{◌≡◌, ℕ, ◌+◌, ◌-◌, ◌*◌, ◌<◌, ◌≤◌, Bool, true, false, cond, List, [], ◌∷◌, ◌++◌, length}
 use Rattle.std.proofs.Common.{refl, sym, ◌∙◌, ap, subst, arith, append-nil, append_assoc, Some, None}
-use Rattle.std.proofs.lemmas.Bool.{eqb-true}
 use Rattle.std.proofs.lemmas.Str.{IsCharBoundary-start}
 use Rattle.std.specs.List.{last_or}
-use Rattle.std.specs.Prelude.{◌^◌, ◌==◌, MatchBool}
+use Rattle.std.specs.Prelude.{◌^◌, MatchBool}
 use Rattle.std.specs.Str.{IsUtf8, IsCharBoundary}
+use Rattle.js_text.specs.Characters.{from_place}
 use Rattle.js_text.specs.Lists.{with_last}
 use Rattle.js_text.specs.declared.source_type.SourceType.{SourceType}
-use Rattle.js_kind.specs.Kinds.{is_one_of, number}
+use Rattle.js_kind.specs.Kinds.{is_one_of}
 use Rattle.js_kind.specs.Predicates.{is_eof}
 use Rattle.js_kind.specs.TokenParts.{TokenParts}
 use Rattle.js_kind.specs.declared.kind.Kind.{Kind}
-use Rattle.js_kind.specs.declared.kind.Kind.TheVariants.{Eof, RCurly, RegExp, TemplateMiddle}
+use Rattle.js_kind.specs.declared.kind.Kind.TheVariants.{Eof, RegExp, TemplateMiddle}
 use Rattle.js_kind.specs.declared.kind.Kind.TheVariants.{TemplateTail as TailKind, Undetermined}
-use Rattle.js_kind.proofs.KindNumbers.{number_injective}
-use Rattle.js_kind.proofs.Members.{one_passes}
-use Rattle.js_grammar.specs.Goals.{GoalReads}
+use Rattle.js_grammar.specs.Goals.{GoalReads, next_part}
 use Rattle.js_grammar.specs.Outcome.{Outcome}
-use Rattle.js_grammar.specs.ReLexed.{is_re_lexed}
+use Rattle.js_grammar.specs.ReLexed.{again_kinds, fits, is_re_lexed}
+use Rattle.js_grammar.specs.UnicodeEscape.{right_curly_bracket}
 use Rattle.js_grammar.specs.declared.goal.Goal.{Goal}
 use Rattle.js_grammar.specs.declared.goal.Goal.TheVariants.{First, Next as NextGoal, RegularExpression}
 use Rattle.js_grammar.specs.declared.goal.Goal.TheVariants.{TemplateTail as TailGoal}
+use Rattle.js_grammar.proofs.AgainKinds.{again_is_re_lexed}
 use Rattle.js_grammar.proofs.GoalWays.{goal_reads_span}
 use Rattle.js_grammar.proofs.QuotedValues.{part_kind_is}
-use Rattle.js_lexer.specs.Goals.{expression_kinds}
 use Rattle.js_lexer.specs.Lexer.{IsOnPlaces, token_or_default}
-use Rattle.js_lexer.proofs.AgainSteps.{kinds_begin}
 use Rattle.js_session.specs.declared.command.Command.{Command}
 use Rattle.js_session.specs.declared.command.Command.TheVariants.{Next}
 use Rattle.js_session.specs.declared.row.Row.{Row}
 use Rattle.js_session.specs.Effects.{effect_of}
 use Rattle.js_session.specs.Effects.Effect.{re_lexes}
 use Rattle.js_session.specs.Live.{State, after_row, last_live, live, nothing_live, outcome_of, state_after_first}
-use Rattle.js_session.specs.Report.{AreRows, IsNotTaken, IsReLexed, IsRow, all_collected, fits}
+use Rattle.js_session.specs.Report.{AreRows, IsNotTaken, IsReLexed, IsRow, all_collected}
 use Rattle.js_session.specs.Session.{AddsRow, Begins, SessionState, report_of}
 use Rattle.js_session.proofs.AgainLemmas.{expression_again}
 use Rattle.js_session.proofs.LiveLemmas.{last_or-push, last_or-with_last}
@@ -139,10 +137,6 @@ pub expression_not_again : is_re_lexed RegExp ≡ false
 unfolding is_re_lexed
 expression_not_again = refl
 
-pub curly_again : is_re_lexed RCurly ≡ true
-unfolding is_re_lexed
-curly_again = refl
-
 record PartsAreRead : Type 0 where
   pub middle : is_re_lexed TemplateMiddle ≡ false
   pub tail : is_re_lexed TailKind ≡ false
@@ -156,9 +150,13 @@ parts_are_read = record { middle = refl; tail = refl; none = refl }
 pub part_not_again : (text : List ℕ) (t : SourceType) (last : TokenParts) (place : ℕ) (o : Outcome)
     → GoalReads text t TailGoal (Some last) place o → is_re_lexed o.token.kind ≡ false
 part_not_again text t last place o read =
-    ap (λ x. is_re_lexed x.token.kind) read.outcome_is
-    ∙ part_kind_is (λ kind. is_re_lexed kind ≡ false) TemplateMiddle TailKind parts_are_read.middle
-    parts_are_read.tail parts_are_read.none last.start read.behind
+    ap (λ x. is_re_lexed x.token.kind) read.outcome_is ∙ kind (from_place text last.start) read.behind read.here
+  where
+    kind : (here behind : List ℕ) → here ≡ right_curly_bracket ∷ behind → is_re_lexed (next_part here).kind ≡ false
+    kind here behind e =
+        subst (λ h. is_re_lexed (next_part h).kind ≡ false) (sym e)
+        (part_kind_is (λ kind. is_re_lexed kind ≡ false) TemplateMiddle TailKind parts_are_read.middle
+        parts_are_read.tail parts_are_read.none right_curly_bracket behind)
 
 -- a row that fits was read again
 re_lexed : (old : SessionState) (goal : Goal) (row : Row) (last : TokenParts)
@@ -171,7 +169,7 @@ re_lexed old goal row last is gives fit =
     (ap (λ o. fits old.text goal (token_or_default o)) is ∙ fit) gives
 
 expression_read_again : (old : SessionState) (row : Row) (last : TokenParts) → IsUtf8 old.text
-    → last_or None old.state.now.tokens ≡ Some last → is_one_of expression_kinds last.kind ≡ true
+    → last_or None old.state.now.tokens ≡ Some last → is_one_of (again_kinds RegularExpression) last.kind ≡ true
     → IsReLexed old.text old.source_type old.state.now RegularExpression row → IsReadAgain old.text last row
 expression_read_again old row last u is fit r =
     let place = (token_or_default (last_live old.state.now)).start in
@@ -183,24 +181,23 @@ expression_read_again old row last u is fit r =
     record {
       taken = r.taken;
       start = ap (λ x. x.token.start) read.outcome_is;
-      was = one_passes is_re_lexed expression_kinds last.kind kinds_begin.expressions.again fit;
+      was = again_is_re_lexed RegularExpression last.kind fit;
       is = ap is_re_lexed kind ∙ expression_not_again;
       some_text = span.some_text;
     }
 
 part_read_again : (old : SessionState) (row : Row) (last : TokenParts) → IsUtf8 old.text
-    → last_or None old.state.now.tokens ≡ Some last → (number last.kind == number RCurly) ≡ true
+    → last_or None old.state.now.tokens ≡ Some last → is_one_of (again_kinds TailGoal) last.kind ≡ true
     → IsReLexed old.text old.source_type old.state.now TailGoal row → IsReadAgain old.text last row
 part_read_again old row last u is fit r =
     let place = (token_or_default (last_live old.state.now)).start in
     let read : GoalReads old.text old.source_type TailGoal (Some last) place (outcome_of row) =
     subst (λ o. GoalReads old.text old.source_type TailGoal o place (outcome_of row)) is r.reads in
-    let curly : last.kind ≡ RCurly = number_injective last.kind RCurly (eqb-true _ _ fit) in
     let span = goal_reads_span old.text old.source_type TailGoal (Some last) place (outcome_of row) u read in
     record {
       taken = r.taken;
       start = ap (λ x. x.token.start) read.outcome_is;
-      was = ap is_re_lexed curly ∙ curly_again;
+      was = again_is_re_lexed TailGoal last.kind fit;
       is = part_not_again old.text old.source_type last (token_or_default (last_live old.state.now)).start (outcome_of row) read;
       some_text = span.some_text;
     }

@@ -1,17 +1,17 @@
 -- What a chooser keeps of the tokens that it was told.
 use Rattle.std.proofs.Common.{◌≡◌, List, [], ◌∷◌, ◌++◌, refl, sym, ◌∙◌, ap, subst}
-use Rattle.std.proofs.Common.{Some, None, true, false, Bool, ◌&&◌, ◌==◌, Option}
+use Rattle.std.proofs.Common.{Some, None, true, false, Bool, ◌&&◌, Option}
 use Rattle.std.specs.Prelude.{IsSome, is_some, option_map, if◌then◌else◌}
 use Rattle.std.specs.List.{last_or}
-use Rattle.std.proofs.lemmas.Bool.{eqb-true}
 use Rattle.js_text.specs.Lists.{with_last}
-use Rattle.js_kind.specs.Kinds.{is_one_of, number}
+use Rattle.js_kind.specs.Kinds.{is_one_of}
 use Rattle.js_kind.specs.Predicates.{is_eof}
 use Rattle.js_kind.specs.TokenParts.{TokenParts}
 use Rattle.js_kind.specs.declared.kind.Kind.{Kind}
 use Rattle.js_kind.specs.declared.kind.Kind.TheVariants.{RCurly}
-use Rattle.js_kind.proofs.KindNumbers.{number_injective}
-use Rattle.js_lexer.specs.Goals.{expression_kinds}
+use Rattle.js_grammar.specs.ReLexed.{again_kinds}
+use Rattle.js_grammar.specs.declared.goal.Goal.TheVariants.{RegularExpression, TemplateTail as TailGoal}
+use Rattle.js_grammar.proofs.AgainKinds.{only_one}
 use Rattle.js_session.specs.declared.command.Command.TheVariants.{Next, Regex, TemplateTail}
 use Rattle.js_session.proofs.LiveLemmas.{last_or-push, last_or-with_last}
 use Rattle.js_auto.specs.declared.brace.Brace.{Brace}
@@ -106,24 +106,24 @@ told_again tokens t old kind told some is =
 pub part_behind : (stack : List Brace) (before : Option Kind) (kind : Kind)
     → choice_behind stack before (Some kind) ≡ Some TemplateTail → kind ≡ RCurly
 part_behind stack before kind chosen =
-    by_tests (is_eof kind) (number kind == number RCurly) _ (begins_expression before kind) refl chosen
+    by_tests (is_eof kind) (is_one_of (again_kinds TailGoal) kind) _ (begins_expression before kind) refl chosen
   where
-    by_tests : (end curly inside regex : Bool) → (number kind == number RCurly) ≡ curly
+    by_tests : (end curly inside regex : Bool) → is_one_of (again_kinds TailGoal) kind ≡ curly
         → (if end then None else if curly && inside then Some TemplateTail else if regex then Some Regex else Some Next)
         ≡ Some TemplateTail → kind ≡ RCurly
-    by_tests end true inside regex is e = number_injective kind RCurly (eqb-true _ _ is)
+    by_tests end true inside regex is e = only_one kind RCurly is
     by_tests true false inside regex is e = absurd (cc)
     by_tests false false inside true is e = absurd (cc)
     by_tests false false inside false is e = absurd (cc)
 
 pub expression_behind : (stack : List Brace) (before : Option Kind) (kind : Kind)
-    → choice_behind stack before (Some kind) ≡ Some Regex → is_one_of expression_kinds kind ≡ true
+    → choice_behind stack before (Some kind) ≡ Some Regex → is_one_of (again_kinds RegularExpression) kind ≡ true
 expression_behind stack before kind chosen =
-    by_tests (is_eof kind) (ends_substitution stack kind) (is_one_of expression_kinds kind) _ refl chosen
+    by_tests (is_eof kind) (ends_substitution stack kind) (is_one_of (again_kinds RegularExpression) kind) _ refl chosen
   where
-    by_tests : (end tail slash begins : Bool) → is_one_of expression_kinds kind ≡ slash
+    by_tests : (end tail slash begins : Bool) → is_one_of (again_kinds RegularExpression) kind ≡ slash
         → (if end then None else if tail then Some TemplateTail else if slash && begins then Some Regex else Some Next)
-        ≡ Some Regex → is_one_of expression_kinds kind ≡ true
+        ≡ Some Regex → is_one_of (again_kinds RegularExpression) kind ≡ true
     by_tests end tail true begins is e = is
     by_tests true tail false begins is e = absurd (cc)
     by_tests false true false begins is e = absurd (cc)

@@ -3,14 +3,14 @@ use Rattle.std.proofs.Common.{◌≡◌, ℕ, zero, suc, Bool, true, false, List
 use Rattle.std.proofs.Common.{Option, Some, None}
 use Rattle.std.proofs.lemmas.Bool.{and_parts}
 use Rattle.std.specs.List.{last_or}
-use Rattle.std.specs.Prelude.{◌==◌, MatchBool, option_map, slice_get, if◌then◌else◌}
+use Rattle.std.specs.Prelude.{MatchBool, option_map, slice_get, if◌then◌else◌}
 use Rattle.std.specs.Str.{IsUtf8}
 use Rattle.js_text.specs.declared.source_type.SourceType.{SourceType}
-use Rattle.js_kind.specs.Kinds.{is_one_of, number}
+use Rattle.js_kind.specs.Kinds.{is_one_of}
 use Rattle.js_kind.specs.Predicates.{is_eof}
 use Rattle.js_kind.specs.TokenParts.{TokenParts}
-use Rattle.js_kind.specs.declared.kind.Kind.TheVariants.{RCurly}
-use Rattle.js_lexer.specs.Goals.{expression_kinds}
+use Rattle.js_grammar.specs.ReLexed.{again_kinds}
+use Rattle.js_grammar.specs.declared.goal.Goal.TheVariants.{RegularExpression, TemplateTail as TailGoal}
 use Rattle.js_session.specs.declared.command.Command.{Command}
 use Rattle.js_session.specs.declared.command.Command.TheVariants.{Next, Regex, TemplateTail}
 use Rattle.js_session.specs.declared.report.Report.{Report}
@@ -33,9 +33,9 @@ GoesOn tokens = (last : TokenParts) → last_or None tokens ≡ Some last → is
 pub data Chosen (tokens : List TokenParts) (c : Command) : Type 0 where
   reads : c ≡ Next → GoesOn tokens → Chosen tokens c
   reads_expression : c ≡ Regex → (last : TokenParts) → last_or None tokens ≡ Some last
-      → is_one_of expression_kinds last.kind ≡ true → Chosen tokens c
+      → is_one_of (again_kinds RegularExpression) last.kind ≡ true → Chosen tokens c
   reads_part : c ≡ TemplateTail → (last : TokenParts) → last_or None tokens ≡ Some last
-      → (number last.kind == number RCurly) ≡ true → Chosen tokens c
+      → is_one_of (again_kinds TailGoal) last.kind ≡ true → Chosen tokens c
 
 same_token : (a b : TokenParts) → Some a ≡ Some b → a ≡ b
 same_token a b e = cc
@@ -50,10 +50,12 @@ chosen_by tokens c e = by_last (last_or None tokens) refl e
         → Chosen tokens c
     by_tests true tail regex last is e1 e2 e3 e = absurd cc
     by_tests false true regex last is e1 e2 e3 e =
-        let both = and_parts (number last.kind == number RCurly) (is_in_substitution (braces (but_last tokens))) e2 in
+        let both =
+        and_parts (is_one_of (again_kinds TailGoal) last.kind) (is_in_substitution (braces (but_last tokens))) e2 in
         reads_part (cc) last is both.0
     by_tests false false true last is e1 e2 e3 e =
-        let both = and_parts (is_one_of expression_kinds last.kind) _ e3 in reads_expression (cc) last is both.0
+        let both = and_parts (is_one_of (again_kinds RegularExpression) last.kind) _ e3 in
+        reads_expression (cc) last is both.0
     by_tests false false false last is e1 e2 e3 e =
         let is_next : c ≡ Next = cc in
         let no_end : GoesOn tokens =

@@ -10,7 +10,8 @@ use Rattle.js_kind.specs.declared.kind.Kind.{Kind}
 use Rattle.js_kind.specs.declared.kind.Kind.TheVariants.{Eof, LCurly, RCurly, TemplateHead, TemplateTail}
 use Rattle.js_kind.specs.declared.kind.TheConstants.Kind.{VARIANTS}
 use Rattle.js_kind.proofs.KindNumbers.{kind_at_number}
-use Rattle.js_lexer.specs.Goals.{expression_kinds}
+use Rattle.js_grammar.specs.ReLexed.{again_kinds}
+use Rattle.js_grammar.specs.declared.goal.Goal.TheVariants.{RegularExpression}
 use Rattle.js_session.specs.declared.command.Command.TheVariants.{Next}
 use Rattle.js_auto.specs.declared.brace.Brace.{Brace}
 use Rattle.js_auto.specs.declared.brace.BraceEffect.TheVariants.{Leaves}
@@ -36,6 +37,10 @@ tells_notable table all =
           in cc;
     }
 
+-- the kinds of tokens that are read again as regular expressions
+abbrev slashes : List Kind
+slashes = again_kinds RegularExpression
+
 -- what is known of a kind that is not notable
 record IsPlain (kind : Kind) : Type 0 where
   eof : (number kind == number Eof) ≡ false
@@ -43,7 +48,7 @@ record IsPlain (kind : Kind) : Type 0 where
   right_curly : (number kind == number RCurly) ≡ false
   head : (number kind == number TemplateHead) ≡ false
   tail : (number kind == number TemplateTail) ≡ false
-  slashes : is_one_of expression_kinds kind ≡ false
+  again : is_one_of slashes kind ≡ false
 
 -- A kind that is none of a list is not the first of them, and none of the others.
 not_first : (kind other : Kind) (kinds : List Kind) → is_one_of (other ∷ kinds) kind ≡ false
@@ -52,18 +57,18 @@ not_first kind other kinds none = or_parts (number kind == number other) (is_one
 
 is_plain : (kind : Kind) → is_one_of notable_kinds kind ≡ false → IsPlain kind
 is_plain kind none =
-    let eof = not_first kind Eof (LCurly ∷ RCurly ∷ TemplateHead ∷ TemplateTail ∷ expression_kinds) none in
-    let left = not_first kind LCurly (RCurly ∷ TemplateHead ∷ TemplateTail ∷ expression_kinds) eof.1 in
-    let right = not_first kind RCurly (TemplateHead ∷ TemplateTail ∷ expression_kinds) left.1 in
-    let head = not_first kind TemplateHead (TemplateTail ∷ expression_kinds) right.1 in
-    let tail = not_first kind TemplateTail expression_kinds head.1 in
+    let eof = not_first kind Eof (LCurly ∷ RCurly ∷ TemplateHead ∷ TemplateTail ∷ slashes) none in
+    let left = not_first kind LCurly (RCurly ∷ TemplateHead ∷ TemplateTail ∷ slashes) eof.1 in
+    let right = not_first kind RCurly (TemplateHead ∷ TemplateTail ∷ slashes) left.1 in
+    let head = not_first kind TemplateHead (TemplateTail ∷ slashes) right.1 in
+    let tail = not_first kind TemplateTail slashes head.1 in
     record {
       eof = eof.0;
       left_curly = left.0;
       right_curly = right.0;
       head = head.0;
       tail = tail.0;
-      slashes = tail.1;
+      again = tail.1;
     }
 
 no_effect : (kind : Kind) → IsPlain kind → effect_of kind ≡ Leaves
@@ -82,7 +87,7 @@ leaves_chooser c plain = ap (λ stack. record c { stack = stack }) (sym (leaves_
 reads_behind : (stack : List Brace) (before : Option Kind) (kind : Kind) → IsPlain kind
     → choice_behind stack before (Some kind) ≡ Some Next
 unfolding is_eof
-reads_behind stack before kind is = rw (is.eof, is.right_curly, is.slashes) refl
+reads_behind stack before kind is = rw (is.eof, is.right_curly, is.again) refl
 
 -- Behind such a token the next one is read.
 pub reads_on : (stack : List Brace) (before last : Option Kind) → is_notable last ≡ false

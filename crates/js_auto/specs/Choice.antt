@@ -1,14 +1,15 @@
 -- Which command comes next, by the tokens so far.
-use Rattle.std.specs.Prelude.{Bool, false, not, ◌&&◌, ◌==◌, List, [], ◌∷◌, Option, Some, None, option_map}
+use Rattle.std.specs.Prelude.{Bool, false, not, ◌&&◌, List, [], ◌∷◌, Option, Some, None, option_map}
 use Rattle.std.specs.Prelude.{if◌then◌else◌}
 use Rattle.std.specs.List.{last_or}
-use Rattle.js_kind.specs.Kinds.{is_one_of, number}
+use Rattle.js_kind.specs.Kinds.{is_one_of}
 use Rattle.js_kind.specs.Predicates.{is_eof}
 use Rattle.js_kind.specs.TokenParts.{TokenParts}
 use Rattle.js_kind.specs.declared.kind.Kind.{Kind}
-use Rattle.js_kind.specs.declared.kind.Kind.TheVariants.{JSXText, RAngle, RCurly}
+use Rattle.js_kind.specs.declared.kind.Kind.TheVariants.{JSXText, RAngle}
+use Rattle.js_grammar.specs.ReLexed.{again_kinds}
 use Rattle.js_grammar.specs.TokensAround.{can_end_expression}
-use Rattle.js_lexer.specs.Goals.{expression_kinds}
+use Rattle.js_grammar.specs.declared.goal.Goal.TheVariants.{RegularExpression, TemplateTail as TailGoal}
 use Rattle.js_session.specs.declared.command.Command.{Command}
 use Rattle.js_session.specs.declared.command.Command.TheVariants.{Next, Regex, TemplateTail}
 use Rattle.js_auto.specs.declared.brace.Brace.{Brace}
@@ -25,11 +26,11 @@ ends_operand (Some kind) = can_end_expression kind && not (ends_only_jsx kind)
 
 -- a `}` ends the substitution of a template, where these braces are open before it
 abbrev pub ends_substitution : List Brace → Kind → Bool
-ends_substitution stack kind = (number kind == number RCurly) && is_in_substitution stack
+ends_substitution stack kind = is_one_of (again_kinds TailGoal) kind && is_in_substitution stack
 
 -- a `/` or `/=` begins a regular expression behind a token of the kind, if there is one
 abbrev pub begins_expression : Option Kind → Kind → Bool
-begins_expression before kind = is_one_of expression_kinds kind && not (ends_operand before)
+begins_expression before kind = is_one_of (again_kinds RegularExpression) kind && not (ends_operand before)
 
 -- The command behind a last token of the kind, where these braces are open before it and the token before it is of this
 -- kind, if there is one. None: no command follows. Where there is no token yet, one is read.

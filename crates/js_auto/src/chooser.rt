@@ -1,17 +1,18 @@
 //! The choice of goals, token by token.
 
-ghost use Rattle.std.specs.Prelude.{◌≡◌, ◌==◌, List, [], ◌∷◌, ◌++◌, drop, OnOk, OnErr, Some};
+ghost use Rattle.std.specs.Prelude.{◌≡◌, List, [], ◌∷◌, ◌++◌, drop, OnOk, OnErr, Some};
 ghost use Rattle.std.specs.Prelude.{IfSome, true};
 ghost use Rattle.js_text.specs.Lists.{with_last};
-ghost use Rattle.js_kind.specs.Kinds.{is_one_of, number};
+ghost use Rattle.js_kind.specs.Kinds.{is_one_of};
 ghost use Rattle.js_kind.specs.TokenParts.{TokenParts};
+ghost use Rattle.js_grammar.specs.ReLexed.{again_kinds};
 ghost use Rattle.js_auto.specs.Braces.{effect_of, after_effect, open_behind, without_plain, is_in_substitution};
-ghost use Rattle.js_lexer.specs.Goals.{expression_kinds};
 ghost use Rattle.js_auto.specs.Choice.{begins_expression, choice, chooser_of, ends_only_jsx, ends_operand};
 ghost use Rattle.js_auto.specs.Choice.{choice_behind, ends_substitution};
 
 use crate::brace::{Brace, BraceEffect, effect_of};
 use crate::notable::is_notable;
+use js_grammar::Goal;
 use js_kind::{Kind, Token};
 use js_session::Command;
 use js_text::ItemList;
@@ -67,25 +68,11 @@ fn ends_operand(before: Option<Kind>) -> bool
     }
 }
 
-/// Whether the token is a `}`.
-fn is_right_curly(kind: Kind) -> bool
-    ensures { result ≡ (number kind == number Kind.RCurly) }
-{
-    matches!(kind, Kind::RCurly)
-}
-
-/// Whether the token is a `/` or a `/=`.
-fn is_slash(kind: Kind) -> bool
-    ensures { result ≡ is_one_of expression_kinds kind }
-{
-    matches!(kind, Kind::Slash | Kind::SlashEq)
-}
-
 /// Whether a token of the kind begins a regular expression behind the token before, if there is one.
 fn begins_expression(before: Option<Kind>, kind: Kind) -> bool
     ensures { result ≡ begins_expression before kind }
 {
-    is_slash(kind) && !ends_operand(before)
+    Goal::RegularExpression.reads_again(kind) && !ends_operand(before)
 }
 
 impl GoalChooser {
@@ -195,7 +182,7 @@ impl GoalChooser {
     fn ends_substitution(&self, kind: Kind) -> bool
         ensures { result ≡ ends_substitution self.now.stack kind }
     {
-        is_right_curly(kind) && self.is_in_substitution()
+        Goal::TemplateTail.reads_again(kind) && self.is_in_substitution()
     }
 
     /// The command behind the last token, which is of this kind.
@@ -222,7 +209,7 @@ impl GoalChooser {
         // A token that is to be read again is of a kind that can be.
         ensures part { result ≡ Some Command.TemplateTail → self.now.last ≡ Some Kind.RCurly }
         ensures expression { result ≡ Some Command.Regex → IfSome self.now.last (λ kind.
-            is_one_of expression_kinds kind ≡ true) }
+            is_one_of (again_kinds Goal.RegularExpression) kind ≡ true) }
     {
         if !self.is_last_notable {
             return Some(Command::Next);

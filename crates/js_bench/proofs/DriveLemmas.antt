@@ -1,28 +1,25 @@
 -- A lexer that is driven makes the steps of a session.
 use Rattle.std.proofs.Common.{◌≡◌, suc, add-zero, true, List, [], ◌∷◌, ◌++◌, length, refl, sym, ◌∙◌, ap, subst}
 use Rattle.std.proofs.Common.{Option, Some, None, Result, Ok, Err}
-use Rattle.std.proofs.lemmas.Bool.{eqb-true}
 use Rattle.std.proofs.lemmas.List.{length-append}
 use Rattle.std.specs.List.{AllByRecursion, last_or}
-use Rattle.std.specs.Prelude.{◌==◌, MatchBool, OnOk}
+use Rattle.std.specs.Prelude.{MatchBool, OnOk}
 use Rattle.std.specs.Str.{IsUtf8}
 use Rattle.js_text.specs.Lists.{with_last}
 use Rattle.js_text.specs.declared.reg_exp_flags.RegexInfo.{RegexInfo}
-use Rattle.js_kind.specs.Kinds.{is_one_of, number}
+use Rattle.js_kind.specs.Kinds.{is_one_of}
 use Rattle.js_kind.specs.TokenParts.{TokenParts}
-use Rattle.js_kind.specs.declared.kind.Kind.{Kind}
-use Rattle.js_kind.specs.declared.kind.Kind.TheVariants.{RCurly}
-use Rattle.js_kind.proofs.KindNumbers.{number_injective}
+use Rattle.js_grammar.specs.ReLexed.{again_kinds, fits}
 use Rattle.js_grammar.specs.declared.goal.Goal.{Goal}
 use Rattle.js_grammar.specs.declared.goal.Goal.TheVariants.{Next as NextGoal, RegularExpression}
 use Rattle.js_grammar.specs.declared.goal.Goal.TheVariants.{TemplateTail as TailGoal}
-use Rattle.js_lexer.specs.Goals.{ReadsRegex, expression_kinds, info_of}
-use Rattle.js_lexer.specs.Lexer.{IsBehind, IsOnPlaces, LexerState, ReadsAgain, ReadsToken, token_or_default}
+use Rattle.js_lexer.specs.Goals.{ReadsRegex, info_of}
+use Rattle.js_lexer.specs.Lexer.{IsBehindFor, IsOnPlaces, LexerState, ReadsAgain, ReadsToken, token_or_default}
 use Rattle.js_session.specs.Effects.{effect_of}
 use Rattle.js_session.specs.Effects.Effect.{re_lexes}
 use Rattle.js_session.specs.Live.{State}
 use Rattle.js_session.specs.Marks.{IsInOrder, live_now, state_of}
-use Rattle.js_session.specs.Report.{LiesOnPlaces, all_collected, fits}
+use Rattle.js_session.specs.Report.{LiesOnPlaces, all_collected}
 use Rattle.js_session.specs.RowReader.{AddsAgain, AddsLive, AddsNotTaken, RowReaderState}
 use Rattle.js_session.specs.Session.{AddsRow, SessionState}
 use Rattle.js_session.specs.declared.command.Command.{Command}
@@ -35,7 +32,7 @@ use Rattle.js_auto.specs.Choice.{Chooser, chooser_of}
 use Rattle.js_auto.proofs.ChosenLemmas.{Chosen, chosen_by}
 use Rattle.js_auto.proofs.ChosenLemmas.Chosen.{reads, reads_expression, reads_part}
 use Rattle.js_bench.specs.Drive.{Drives, DrivesTo, MakesStep}
-use Rattle.js_bench.proofs.RowLemmas.{row_of, row_read, row_read_again}
+use Rattle.js_bench.proofs.RowLemmas.{row_made, row_read, row_read_again}
 
 pub same_state : (a b : State) → a.now ≡ b.now → a.marks ≡ b.marks → a ≡ b
 same_state a b e1 e2 = rw (e1, e2) refl
@@ -96,7 +93,7 @@ step_next : (old new : LexerState) (c d : Chooser) (token : TokenParts) → Read
 step_next old new c d token r told s h =
     let u : IsUtf8 old.text = subst IsUtf8 (sym h.text) h.utf8 in
     let before = reader_of s old in
-    let row = row_of (Some Next) old token None r.outcome.value new in
+    let row = row_made (Some Next) old token None r.outcome.value new in
     let after : RowReaderState =
     record { lexer = new; rows = s.rows ++ row ∷ []; tokens = s.state.now.tokens ++ token ∷ [] } in
     let adds : AddsLive NextGoal (Some Next) before after =
@@ -128,7 +125,7 @@ step_again : (goal : Goal) (command : Command) (old new : LexerState) (c d : Cho
 step_again goal command old new c d token regex effect fit r known told s h =
     let u : IsUtf8 old.text = subst IsUtf8 (sym h.text) h.utf8 in
     let before = reader_of s old in
-    let row = row_of (Some command) old token regex r.outcome.value new in
+    let row = row_made (Some command) old token regex r.outcome.value new in
     let after : RowReaderState =
     record { lexer = new; rows = s.rows ++ row ∷ []; tokens = with_last s.state.now.tokens token } in
     let again : AddsAgain goal (Some command) before after =
@@ -159,13 +156,13 @@ last_is : (s : SessionState) (l : LexerState) (c : Chooser) (last : TokenParts) 
     → last_or None s.state.now.tokens ≡ Some last → l.last ≡ Some last
 last_is s l c last h at = h.last ∙ at
 
--- the lexer is behind its last token
-behind_last : (s : SessionState) (l : LexerState) (c : Chooser) (last : TokenParts) (kind : Kind) → Drives s l c
-    → last_or None s.state.now.tokens ≡ Some last → last.kind ≡ kind → IsBehind kind l
-behind_last s l c last kind h at is = record {
+-- the lexer is behind its last token, which the goal may read again
+behind_last : (goal : Goal) (s : SessionState) (l : LexerState) (c : Chooser) (last : TokenParts) → Drives s l c
+    → last_or None s.state.now.tokens ≡ Some last → is_one_of (again_kinds goal) last.kind ≡ true → IsBehindFor goal l
+behind_last goal s l c last h at fit = record {
   token = last;
   last = last_is s l c last h at;
-  kind_is = is;
+  kind_is = fit;
   place = h.place ∙ ap (λ o. (token_or_default o).end) at;
 }
 
@@ -178,18 +175,16 @@ begins_expression l c to = by_choice (chosen_by to.session.state.now.tokens Rege
         → fits l.text RegularExpression (token_or_default l.last) ≡ true
     by_choice (reads is _) = absurd (cc)
     by_choice (reads_expression is last at fit) =
-        ap (λ o. is_one_of expression_kinds (token_or_default o).kind) (last_is to.session l c last to.drives at) ∙ fit
+        ap (λ o. fits l.text RegularExpression (token_or_default o)) (last_is to.session l c last to.drives at) ∙ fit
     by_choice (reads_part is _ _ _) = absurd (cc)
 
-pub behind_slash : (l : LexerState) (c : Chooser) (kind : Kind) → DrivesTo Regex l c
-    → kind ≡ (token_or_default l.last).kind → IsBehind kind l
-behind_slash l c kind to is = by_choice (chosen_by to.session.state.now.tokens Regex to.chosen)
+pub behind_slash : (l : LexerState) (c : Chooser) → DrivesTo Regex l c → IsBehindFor RegularExpression l
+behind_slash l c to = by_choice (chosen_by to.session.state.now.tokens Regex to.chosen)
   where
-    by_choice : Chosen to.session.state.now.tokens Regex → IsBehind kind l
+    by_choice : Chosen to.session.state.now.tokens Regex → IsBehindFor RegularExpression l
     by_choice (reads is _) = absurd (cc)
     by_choice (reads_expression _ last at fit) =
-        behind_last to.session l c last kind to.drives at
-        (sym (is ∙ ap (λ o. (token_or_default o).kind) (last_is to.session l c last to.drives at)))
+        behind_last RegularExpression to.session l c last to.drives at fit
     by_choice (reads_part is _ _ _) = absurd (cc)
 
 -- The last token, where a part of a template is chosen, is a `}`, and the lexer is behind it.
@@ -202,16 +197,16 @@ ends_substitution l c to = by_choice (chosen_by to.session.state.now.tokens Temp
     by_choice (reads is _) = absurd (cc)
     by_choice (reads_expression is _ _ _) = absurd (cc)
     by_choice (reads_part is last at fit) =
-        ap (λ o. number (token_or_default o).kind == number RCurly) (last_is to.session l c last to.drives at) ∙ fit
+        ap (λ o. fits l.text TailGoal (token_or_default o)) (last_is to.session l c last to.drives at) ∙ fit
 
-pub behind_brace : (l : LexerState) (c : Chooser) → DrivesTo TemplateTail l c → IsBehind RCurly l
+pub behind_brace : (l : LexerState) (c : Chooser) → DrivesTo TemplateTail l c → IsBehindFor TailGoal l
 behind_brace l c to = by_choice (chosen_by to.session.state.now.tokens TemplateTail to.chosen)
   where
-    by_choice : Chosen to.session.state.now.tokens TemplateTail → IsBehind RCurly l
+    by_choice : Chosen to.session.state.now.tokens TemplateTail → IsBehindFor TailGoal l
     by_choice (reads is _) = absurd (cc)
     by_choice (reads_expression is _ _ _) = absurd (cc)
     by_choice (reads_part is last at fit) =
-        behind_last to.session l c last RCurly to.drives at (number_injective last.kind RCurly (eqb-true _ _ fit))
+        behind_last TailGoal to.session l c last to.drives at fit
 
 -- No other command is chosen.
 pub no_other : (c : Command) (l : LexerState) (chooser : Chooser) → DrivesTo c l chooser → ¬ (c ≡ Next) → ¬ (c ≡ Regex)

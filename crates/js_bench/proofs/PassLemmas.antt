@@ -23,7 +23,7 @@ use Rattle.js_bench.specs.Counts.{IsPassOver, counts_of}
 use Rattle.js_bench.specs.Drive.{Drives, DrivesTo, MakesStep}
 use Rattle.js_bench.specs.declared.pass.PassCounts.{PassCounts}
 use Rattle.js_bench.proofs.DriveLemmas.{drives_seen, same_session, same_state}
-use Rattle.js_bench.proofs.RowLemmas.{row_of, row_read}
+use Rattle.js_bench.proofs.RowLemmas.{row_made, row_read}
 
 -- How much is left of the text of a lexer from the start of its last token on. It counts twice, and once more where the
 -- token may be read again.
@@ -75,7 +75,7 @@ pub passes_start : (text : List ℕ) (t : SourceType) (collects : Bool) (new : L
     → c ≡ chooser_of (token ∷ []) → Passes text t collects 1 new c
 passes_start text t collects new c token u short r told =
     let old = fresh text t collects in
-    let row = row_of None old token None r.outcome.value new in
+    let row = row_made None old token None r.outcome.value new in
     let reads = row_read First None old new token refl u r in
     let before : RowReaderState = record { lexer = old; rows = []; tokens = [] } in
     let after : RowReaderState = record { lexer = new; rows = row ∷ []; tokens = token ∷ [] } in

@@ -15,6 +15,7 @@ use Rattle.js_grammar.specs.declared.goal.Goal.{Goal}
 use Rattle.js_grammar.proofs.Values.{goal_reads_value}
 use Rattle.js_lexer.specs.Decoded.{HasValue, IsKeptAs, Values}
 use Rattle.js_lexer.specs.Lexer.{LexerState, ReadsAgain, ReadsOutcome, ReadsToken}
+use Rattle.js_session.specs.Live.{row_of}
 use Rattle.js_session.specs.RowReader.{HoldsKept, HoldsPart, HoldsUnits, HoldsValue, ReadsRow}
 use Rattle.js_session.specs.RowReader.{ReadsRowAgain}
 use Rattle.js_session.specs.declared.command.Command.{Command}
@@ -22,21 +23,15 @@ use Rattle.js_session.specs.declared.row.Row.{Row}
 use Rattle.js_session.proofs.ReadLemmas.{made_row, made_row_again}
 
 -- the row of a token with this value: what was found since is the row's
-abbrev pub row_of : Option Command → LexerState → TokenParts → Option RegexInfo → RowValue → LexerState → Row
-row_of command old token regex value new =
-    let found = found_since (lengths_of old.findings) new.findings in
-    record {
-      command = command;
-      place = old.place;
-      taken = true;
+abbrev pub row_made : Option Command → LexerState → TokenParts → Option RegexInfo → RowValue → LexerState → Row
+row_made command old token regex value new =
+    row_of command old.place true
+    (record {
       token = token;
       value = value;
       regex = regex;
-      diagnostics = found.diagnostics;
-      deferred = found.deferred;
-      comments = found.comments;
-      irregular = found.irregular;
-    }
+      findings = found_since (lengths_of old.findings) new.findings;
+    })
 
 -- a value that is kept is held
 holds_kept : (template : Bool) (decoded : Values) (start : ℕ) (here : List ℕ) (value : RowValue)
@@ -62,10 +57,10 @@ holds_value goal old decoded token o u reads same has =
 -- The row of a token that was read on.
 pub row_read : (goal : Goal) (command : Option Command) (old new : LexerState) (token : TokenParts)
     → is_onward goal ≡ true → IsUtf8 old.text → (r : ReadsToken goal old token new)
-    → ReadsRow goal command old (row_of command old token None r.outcome.value new) new
+    → ReadsRow goal command old (row_made command old token None r.outcome.value new) new
 row_read goal command old new token onward u r =
     made_row goal command old new (lengths_of old.findings) old.place token onward u r refl refl
-    (row_of command old token None r.outcome.value new)
+    (row_made command old token None r.outcome.value new)
     (record {
       value = holds_value goal old new.decoded token r.outcome u r.reads r.token_is r.has_value;
       row_is = refl;
@@ -74,10 +69,10 @@ row_read goal command old new token onward u r =
 -- The row of a token that was read again, of which this is known as a regular expression.
 pub row_read_again : (goal : Goal) (command : Option Command) (old new : LexerState) (token : TokenParts)
     (regex : Option RegexInfo) → IsUtf8 old.text → (r : ReadsAgain goal old token new) → r.outcome.regex ≡ regex
-    → ReadsRowAgain goal command old (row_of command old token regex r.outcome.value new) new
+    → ReadsRowAgain goal command old (row_made command old token regex r.outcome.value new) new
 row_read_again goal command old new token regex u r known =
     made_row_again goal command old new (lengths_of old.findings) old.place (record { token = token; regex = regex }) u
-    (record { reads = r; regex = known }) refl refl (row_of command old token regex r.outcome.value new)
+    (record { reads = r; regex = known }) refl refl (row_made command old token regex r.outcome.value new)
     (record {
       value = holds_value goal old new.decoded token r.outcome u r.reads r.token_is r.has_value;
       row_is = refl;

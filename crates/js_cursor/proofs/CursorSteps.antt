@@ -1,30 +1,29 @@
 -- The steps of a cursor.
-use Rattle.std.proofs.Common.{◌≡◌, ◌≢◌, ◌<◌, ◌≤◌, ◌==◌, ℕ, Bool, true, false, not, List, [], ◌∷◌, ◌++◌}
+use Rattle.std.proofs.Common.{◌≡◌, ◌≢◌, ◌<◌, ◌≤◌, ◌==◌, ℕ, Bool, true, false, List, [], ◌∷◌, ◌++◌}
 use Rattle.std.proofs.Common.{length, take, drop}
 use Rattle.std.proofs.Common.{Option, Some, None, refl, sym, ◌∙◌, ap, subst, arith, append-nil, length-append}
-use Rattle.std.specs.Prelude.{◌&&◌, ◌↔◌, if◌then◌else◌, is_none, IsTrue}
-use Rattle.std.specs.List.{list_all}
+use Rattle.std.specs.Prelude.{◌&&◌, ◌||◌, ◌↔◌, if◌then◌else◌, is_none, IsTrue}
 use Rattle.std.specs.Option.{is_some}
 use Rattle.std.proofs.lemmas.Bool.{and_parts, eq-eqb, eqb-true}
 use Rattle.std.proofs.lemmas.Bool.Decides.{same_from_decides}
 use Rattle.std.proofs.Math.Seq.{take-append_seam}
 use Rattle.js_text.specs.declared.diagnostic.Diagnostic.{Diagnostic}
 use Rattle.js_kind.proofs.KindNumbers.{number_injective}
-use Rattle.js_kind.proofs.Members.{one_passes}
 use Rattle.js_kind.specs.Kinds.{number, is_name_kind, is_one_of}
 use Rattle.js_kind.specs.TokenParts.{TokenParts}
 use Rattle.js_kind.specs.declared.kind.Kind.{Kind}
 use Rattle.js_kind.specs.declared.kind.Kind.TheVariants.{Eof}
+use Rattle.js_grammar.specs.ReLexed.{again_kinds}
 use Rattle.js_grammar.specs.declared.goal.Goal.{Goal}
 use Rattle.js_lexer.specs.Decoded as of_values
 use Rattle.js_lexer.specs.Lexer as of_state
-use Rattle.js_lexer.specs.Lexer.{IsBehind}
+use Rattle.js_lexer.specs.Lexer.{IsBehindFor}
 use Rattle.js_lexer.proofs.GoesOn as of_lexer
 use Rattle.js_cursor.specs.Checkpoint.{CanRewind, CursorCheckpoint, GoesOnFrom, checkpoint_with_errors_of, rewound}
 use Rattle.js_cursor.specs.Checkpoint.{with_diagnostics}
-use Rattle.js_cursor.specs.Cursor.{Advances, CursorState, HasByte, IsAsBefore, IsFresh, IsOnToken, is_at_token_end}
+use Rattle.js_cursor.specs.Cursor.{Advances, CursorState, HasByte, IsAsBefore, IsFresh, IsOnToken, is_at}
 use Rattle.js_cursor.specs.Cursor.{noting_escape, span_of, with_error}
-use Rattle.js_cursor.specs.ReLex.{is_angle, is_free}
+use Rattle.js_cursor.specs.ReLex.{is_angle, is_free, may_re_lex}
 use Rattle.js_cursor.specs.declared.diagnostic.CursorDiagnostic.{CursorDiagnostic}
 use Rattle.js_cursor.specs.declared.diagnostic.CursorDiagnostic.TheVariants.{EscapedKeyword}
 
@@ -69,29 +68,26 @@ back_from kind old noted read new errors noted_is before errors_are new_is =
           ∙ ap (λ es. record old { lexer = read.lexer; errors = es }) errors_back;
     })
 
--- the lexer stands behind a token that may be read again
-pub is_behind : (kind : Kind) (c : CursorState) → c.lexer.last ≡ Some c.token → c.token.kind ≡ kind
-    → is_free c ≡ true → IsBehind kind c.lexer
-is_behind kind c last is free =
+-- the lexer stands behind a token that the goal may read again
+pub is_behind : (goal : Goal) (c : CursorState) → c.lexer.last ≡ Some c.token
+    → is_one_of (again_kinds goal) c.token.kind ≡ true → is_free c ≡ true → IsBehindFor goal c.lexer
+is_behind goal c last is free =
     record { token = c.token; last = last; kind_is = is; place = eqb-true _ _ (and_parts _ _ free).1 }
 
 none_is : {A : Type 0} (o : Option A) → is_some o ≡ false → is_none o ≡ true
 none_is None e = refl
 none_is (Some x) e = absurd (cc)
 
-is_false : (b : Bool) → not b ≡ true → b ≡ false
-is_false true e = absurd (cc)
-is_false false e = refl
+all_hold : (a b c : Bool) → a ≡ true → c ≡ true → true ≡ (a && (b || c))
+all_hold true true c first last = refl
+all_hold true false c first last = sym last
+all_hold false b c first last = absurd (cc)
 
--- what a re-lex of a compound answers
-pub angle_taken : (angle : Kind) (compounds : List Kind) (c : CursorState) (taken : Bool)
-    → list_all (λ kind. not (number kind == number angle)) compounds ≡ true → is_some c.fatal ≡ false
-    → is_one_of compounds c.token.kind ≡ true → taken ≡ is_at_token_end c → taken ≡ is_angle angle compounds c
-angle_taken angle compounds c taken others no_fatal is e =
-    let none = none_is c.fatal no_fatal in
-    let other = is_false (number c.token.kind == number angle)
-    (one_passes (λ kind. not (number kind == number angle)) compounds c.token.kind others is) in
-    rw (none, other, is) e
+-- what a re-lex of a compound answers where it was read again
+pub angle_taken : (angle : Kind) (goal : Goal) (c : CursorState) → is_some c.fatal ≡ false → may_re_lex goal c ≡ true
+    → true ≡ is_angle angle goal c
+angle_taken angle goal c no_fatal may =
+    all_hold (is_none c.fatal) (is_at angle c) (may_re_lex goal c) (none_is c.fatal no_fatal) may
 
 -- a token that has a byte was passed
 pub goes_past_byte : (kind : Kind) (old new : CursorState) → Advances kind old new → HasByte old.token

@@ -1,5 +1,5 @@
 -- What a cursor does is going on from where it was.
-use Rattle.std.proofs.Common.{◌≡◌, Bool, true, false, List, [], ◌∷◌, ◌++◌, refl, sym, ◌∙◌, ap, subst, append_assoc}
+use Rattle.std.proofs.Common.{Bool, true, false, List, [], ◌∷◌, ◌++◌, refl, sym, ◌∙◌, ap, subst, append_assoc}
 use Rattle.std.proofs.Common.{append-nil}
 use Rattle.std.specs.declared.alloc.AllocError.{AllocError}
 use Rattle.std.specs.Prelude.{Result, Ok, Err, OnOk, OnErr, ◌&&◌, if◌then◌else◌}
@@ -7,12 +7,13 @@ use Rattle.std.specs.Option.{is_some}
 use Rattle.js_kind.specs.Kinds.{is_name_kind}
 use Rattle.js_kind.specs.TokenParts.{TokenParts}
 use Rattle.js_kind.specs.declared.kind.Kind.{Kind}
-use Rattle.js_grammar.specs.Outcome.{Findings, joined, no_findings}
+use Rattle.js_grammar.specs.Outcome.{joined, no_findings}
 use Rattle.js_grammar.specs.declared.goal.Goal.{Goal}
 use Rattle.js_grammar.specs.declared.goal.Goal.TheVariants.{Next}
 use Rattle.js_lexer.specs.Decoded.{Keeps, Values}
 use Rattle.js_lexer.specs.Lexer.{BeginsAlike, IsRestored, LexerState}
 use Rattle.js_lexer.specs.Lexer as of_lexer
+use Rattle.js_lexer.proofs.FindingLaws.{joined-assoc, joined-none}
 use Rattle.js_lexer.proofs.GoesOn.{has_token}
 use Rattle.js_lexer.proofs.LexerSteps.{begins_alike-append, reading_goes_on, re_lexing_goes_on}
 use Rattle.js_cursor.specs.Checkpoint.{GoesOnFrom, without_fatal_error}
@@ -35,20 +36,6 @@ begins_alike-trans (t ∷ u ∷ ts) (n ∷ o ∷ ns) (m ∷ ms) h k =
 pub begins_alike-refl : (ts : List TokenParts) → BeginsAlike ts ts
 begins_alike-refl ts = subst (BeginsAlike ts) (append-nil ts) (begins_alike-append ts [])
 
-joined_assoc : (a b c : Findings) → joined (joined a b) c ≡ joined a (joined b c)
-joined_assoc a b c =
-    rw (
-      append_assoc a.diagnostics b.diagnostics c.diagnostics,
-      append_assoc a.deferred b.deferred c.deferred,
-      append_assoc a.comments b.comments c.comments,
-      append_assoc a.irregular b.irregular c.irregular,
-    )
-    refl
-
-pub joined-nothing : (a : Findings) → joined a no_findings ≡ a
-joined-nothing a =
-    rw (append-nil a.diagnostics, append-nil a.deferred, append-nil a.comments, append-nil a.irregular) refl
-
 pub keeps-trans : (a b c : Values) → Keeps a b → Keeps b c → Keeps a c
 keeps-trans a b c h k = record {
   strings = λ start value e. k.strings start value (h.strings start value e);
@@ -66,7 +53,7 @@ lexer_goes_on-trans a b c h k = record {
   collects = k.collects ∙ h.collects;
   tokens = begins_alike-trans a.tokens b.tokens c.tokens h.tokens k.tokens;
   findings = joined h.findings k.findings;
-  goes_on = k.goes_on ∙ ap (λ f. joined f k.findings) h.goes_on ∙ joined_assoc a.findings h.findings k.findings;
+  goes_on = k.goes_on ∙ ap (λ f. joined f k.findings) h.goes_on ∙ joined-assoc a.findings h.findings k.findings;
 }
 
 restored_goes_on : (old new : LexerState) → IsRestored old new → of_lexer.GoesOnFrom old new
@@ -76,7 +63,7 @@ restored_goes_on old new r = record {
   collects = r.collects;
   tokens = subst (BeginsAlike old.tokens) (sym r.tokens) (begins_alike-refl old.tokens);
   findings = no_findings;
-  goes_on = r.findings ∙ sym (joined-nothing old.findings);
+  goes_on = r.findings ∙ sym (joined-none old.findings);
 }
 
 pub goes_on-trans : (a b c : CursorState) → GoesOnFrom a b → GoesOnFrom b c → GoesOnFrom a c
@@ -105,7 +92,7 @@ goes_on-refl c = record {
     collects = refl;
     tokens = begins_alike-refl c.lexer.tokens;
     findings = no_findings;
-    goes_on = sym (joined-nothing c.lexer.findings);
+    goes_on = sym (joined-none c.lexer.findings);
   };
   decoded = keeps-refl c.lexer.decoded;
   ambient = refl;

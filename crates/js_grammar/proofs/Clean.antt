@@ -1,5 +1,5 @@
 -- A reading reports nothing exactly where the grammar reads a token, and then it is this one.
-use Rattle.std.proofs.Common.{◌≡◌, ◌≢◌, ℕ, ◌+◌, Bool, true, false, List, [], ◌∷◌, ◌++◌, ◌==◌, ◌&&◌}
+use Rattle.std.proofs.Common.{◌≡◌, ◌≢◌, ℕ, Bool, true, false, List, [], ◌∷◌, ◌++◌, ◌==◌, ◌&&◌, ◌||◌}
 use Rattle.std.proofs.Common.{drop, refl, sym, ◌∙◌, ap, subst, Option, Some, None}
 use Rattle.std.specs.Prelude.{codes, if◌then◌else◌, IfSome}
 use Rattle.unicode_ident.proofs.Computing.{unicode_ident}
@@ -14,13 +14,15 @@ use Rattle.js_grammar.specs.Gap.{is_prefix, is_reported, LongestGap}
 use Rattle.js_grammar.specs.Goals.{ReadsHere, ReadsPlainly, GoalReads, AgreesWithGrammar, line_has_ended_behind}
 use Rattle.js_grammar.specs.Goals.ReadsHere.{spelled as spelled_here, recovers}
 use Rattle.js_grammar.specs.Goals.ReadsPlainly.{hashbang as hashbang_read, behind_gap}
-use Rattle.js_grammar.specs.Name.{begins_name, private_read}
+use Rattle.js_grammar.specs.Name.{begins_name, private_reading}
 use Rattle.js_grammar.specs.Number.{begins_number}
 use Rattle.js_grammar.specs.Outcome.{Outcome, gap_diagnostics}
 use Rattle.js_grammar.specs.Quoted.{begins_quoted}
 use Rattle.js_grammar.specs.Reads.{PlainReads, is_plain}
 use Rattle.js_grammar.specs.Reads.PlainReads.{hashbang, spelled}
-use Rattle.js_grammar.specs.Recovery.{Reading, recovered, private_reading, recovered_character, is_control_or_wide}
+use Rattle.js_grammar.specs.Recovery.{recovered, recovered_character, is_control_or_wide}
+use Rattle.js_grammar.specs.Reading.{Reading, moved_diagnostics}
+use Rattle.js_text.specs.declared.diagnostic.Diagnostic.{Diagnostic}
 use Rattle.js_grammar.specs.Spelling.{LongestSpelling, NothingSpelled}
 use Rattle.js_grammar.specs.declared.goal.Goal.{Goal}
 use Rattle.js_grammar.specs.declared.goal.Goal.TheVariants.{First, Next, TemplateTail as TailGoal}
@@ -74,44 +76,48 @@ reports_if : (b : Bool) (x y : Option Reading) → (b ≡ true → Reports x) �
 reports_if true x y h k = h refl
 reports_if false x y h k = k
 
-recovered_reports : (t : SourceType) (line_has_ended : Bool) (place : ℕ) (here : List ℕ)
-    → NothingSpelled t line_has_ended here → Reports (recovered line_has_ended place here)
-recovered_reports t line_has_ended place here nothing =
+recovered_reports : (t : SourceType) (line_has_ended : Bool) (here : List ℕ)
+    → NothingSpelled t line_has_ended here → Reports (recovered here)
+recovered_reports t line_has_ended here nothing =
     reports_if (is_prefix (codes "/*") here) _ _ (λ _ e. cc) (
     reports_if (begins_name here) _ _
-    (λ begun. faulty_name_reports t line_has_ended place here begun nothing) (
+    (λ begun. faulty_name_reports t line_has_ended here begun nothing) (
     reports_if (begins (λ c. c == number_sign) here) _ _
     (λ begun. private_reports (first_is number_sign here begun)) (
     reports_if (begins_number here) _ _
-    (λ begun. faulty_number_reports t line_has_ended place here begun nothing) (
+    (λ begun. faulty_number_reports t line_has_ended here begun nothing) (
     reports_if (begins begins_quoted here) _ _
-    (λ begun. faulty_quoted_reports t line_has_ended place here begun nothing) (
+    (λ begun. faulty_quoted_reports t line_has_ended here begun nothing) (
     reports_if (begins (λ c. c == 0xFFFD) here) _ _ (λ _ e. cc) (character here))))))
   where
-    private_reports : here ≡ number_sign ∷ drop 1 here
-        → (private_reading line_has_ended (private_read (place + 1) (drop 1 here))).diagnostics ≢ []
+    private_reports : here ≡ number_sign ∷ drop 1 here → (private_reading here).diagnostics ≢ []
     private_reports e =
-        faulty_private_reports t line_has_ended (place + 1) (drop 1 here) (subst
-        (NothingSpelled t line_has_ended) e nothing)
+        subst (λ h. (private_reading h).diagnostics ≢ []) (sym e)
+        (faulty_private_reports t line_has_ended (drop 1 here) (subst (NothingSpelled t line_has_ended) e nothing))
 
-    character : (here : List ℕ) → Reports (recovered_character line_has_ended place here)
+    character : (here : List ℕ) → Reports (recovered_character here)
     character [] = tt
     character (c ∷ cs) = reports_if (is_control_or_wide c) _ None (λ _ e. cc) tt
 
-pub recovery_reports : (t : SourceType) (line_has_ended : Bool) (place : ℕ) (here : List ℕ) (r : Reading)
-    → NothingSpelled t line_has_ended here
-    → recovered line_has_ended place here ≡ Some r → r.diagnostics ≢ []
-recovery_reports t line_has_ended place here r nothing e =
-    subst Reports e (recovered_reports t line_has_ended place here nothing)
+pub recovery_reports : (t : SourceType) (line_has_ended : Bool) (here : List ℕ) (r : Reading)
+    → NothingSpelled t line_has_ended here → recovered here ≡ Some r → r.diagnostics ≢ []
+recovery_reports t line_has_ended here r nothing e =
+    subst Reports e (recovered_reports t line_has_ended here nothing)
 
 -- what is read behind a gap without a report is spelled
-spelled_clean : (t : SourceType) (line_has_ended : Bool) (place : ℕ) (here : List ℕ) (r : Reading)
-    → ReadsHere t line_has_ended place here r → r.diagnostics ≡ []
-    → (r.is_on_new_line ≡ line_has_ended) × (xs : List ℕ) × LongestSpelling t line_has_ended here xs r.rest r.kind
-spelled_clean t line_has_ended place here r (spelled_here xs spelling is) clean =
-    (ap (λ x. x.is_on_new_line) is, xs, spelling)
-spelled_clean t line_has_ended place here r (recovers nothing e) clean =
-    absurd (recovery_reports t line_has_ended place here r nothing e clean)
+spelled_clean : (t : SourceType) (line_has_ended : Bool) (here : List ℕ) (r : Reading)
+    → ReadsHere t line_has_ended here r → r.diagnostics ≡ []
+    → (r.line_ended ≡ false) × (xs : List ℕ) × LongestSpelling t line_has_ended here xs r.rest r.kind
+spelled_clean t line_has_ended here r (spelled_here xs spelling is) clean =
+    (ap (λ x. x.line_ended) is, xs, spelling)
+spelled_clean t line_has_ended here r (recovers nothing e) clean =
+    absurd (recovery_reports t line_has_ended here r nothing e clean)
+
+-- what is moved is no less
+pub none_moved : (place : ℕ) (diagnostics : List Diagnostic) → moved_diagnostics place diagnostics ≡ []
+    → diagnostics ≡ []
+none_moved place [] e = refl
+none_moved place (d ∷ ds) e = absurd (cc)
 
 -- A reading that reports nothing is the grammar's.
 pub clean_reads : (text : List ℕ) (t : SourceType) (goal : Goal) (before : Option TokenParts) (place : ℕ) (o : Outcome)
@@ -121,16 +127,16 @@ clean_reads text t goal before place o (hashbang_read begins read) clean =
     hashbang begins read.is_hashbang read.is_on_new_line
 clean_reads text t goal before place o (behind_gap begins read) clean =
     let both =
-    append_nil (gap_diagnostics place read.pieces) read.reading.diagnostics
+    append_nil (gap_diagnostics place read.pieces) (moved_diagnostics o.token.start read.reading.diagnostics)
     (sym (ap (λ x. x.findings.diagnostics) read.outcome_is) ∙ clean) in
     let parts =
-    spelled_clean t read.line_has_ended o.token.start
-    (from_place text o.token.start) read.reading read.here both.1 in
+    spelled_clean t read.line_has_ended (from_place text o.token.start) read.reading read.here
+    (none_moved o.token.start read.reading.diagnostics both.1) in
     let gap =
     longest_of_whole t (line_has_ended_behind before) (from_place text place) read.pieces read.line_has_ended
     (from_place text o.token.start) place read.gap both.0 in
     let newline : o.token.is_on_new_line ≡ read.line_has_ended =
-    ap (λ x. x.token.is_on_new_line) read.outcome_is ∙ parts.0 in
+    ap (λ x. x.token.is_on_new_line) read.outcome_is ∙ ap (λ b. b || read.line_has_ended) parts.0 in
     let kind : o.token.kind ≡ read.reading.kind = ap (λ x. x.token.kind) read.outcome_is in
     let here = from_place text o.token.start in
     let end = from_place text o.token.end in
@@ -147,10 +153,10 @@ clean_reads text t goal before place o (behind_gap begins read) clean =
     }
 
 -- where something is spelled, what is read there reports nothing
-here_clean : (t : SourceType) (line_has_ended : Bool) (place : ℕ) (here : List ℕ) (r : Reading)
-    → ReadsHere t line_has_ended place here r → (NothingSpelled t line_has_ended here → ⊥) → r.diagnostics ≡ []
-here_clean t line_has_ended place here r (spelled_here xs spelling is) some = ap (λ x. x.diagnostics) is
-here_clean t line_has_ended place here r (recovers nothing e) some = absurd (some nothing)
+here_clean : (t : SourceType) (line_has_ended : Bool) (here : List ℕ) (r : Reading)
+    → ReadsHere t line_has_ended here r → (NothingSpelled t line_has_ended here → ⊥) → r.diagnostics ≡ []
+here_clean t line_has_ended here r (spelled_here xs spelling is) some = ap (λ x. x.diagnostics) is
+here_clean t line_has_ended here r (recovers nothing e) some = absurd (some nothing)
 
 -- Where the grammar reads a token, nothing is reported.
 pub reads_clean : (text : List ℕ) (t : SourceType) (goal : Goal) (before : Option TokenParts) (place : ℕ) (o : Outcome)
@@ -182,8 +188,9 @@ reads_clean text t goal before place o token (behind_gap begins read) (spelled o
     (subst (NothingSpelled t read.line_has_ended) (sym same.2) nothing) in
     moved is.spelled (from_place text token.end) token.kind is.spelling.here is.spelling.spelling in
     ap (λ x. x.findings.diagnostics) read.outcome_is
-    ∙ ap (λ ds. ds ++ read.reading.diagnostics) none
-    ∙ here_clean t read.line_has_ended o.token.start (from_place text o.token.start) read.reading read.here some
+    ∙ ap (λ ds. ds ++ moved_diagnostics o.token.start read.reading.diagnostics) none
+    ∙ ap (moved_diagnostics o.token.start)
+    (here_clean t read.line_has_ended (from_place text o.token.start) read.reading read.here some)
 
 plainly_agrees : (text : List ℕ) (t : SourceType) (goal : Goal) (before : Option TokenParts) (place : ℕ)
     (o : Outcome)

@@ -8,9 +8,10 @@ use Rattle.js_kind.specs.declared.kind.Kind.TheVariants.{Eof, Ident, PrivateIden
 use Rattle.js_kind.proofs.Members.{one_passes, is_later}
 use Rattle.js_grammar.specs.Name.{has_escape}
 use Rattle.js_grammar.specs.Punctuators.{Punctuator, punctuators, IsIn}
-use Rattle.js_grammar.specs.Spelling.{is_named, is_private_name, is_quoted, is_valued, is_escaped}
+use Rattle.js_grammar.specs.Spelling.{is_escaped}
+use Rattle.js_grammar.specs.TokenText.{is_named, is_private_name, is_quoted, is_valued}
 use Rattle.js_grammar.specs.Spelling.{value_of}
-use Rattle.js_grammar.specs.Values.{plain_value}
+use Rattle.js_grammar.specs.TokenText.{plain_value}
 use Rattle.js_grammar.proofs.PunctuatorLemmas.{passes_at}
 use Rattle.js_grammar.proofs.Tests.{and_true}
 
@@ -71,9 +72,9 @@ none_of_them kind e =
     record { no_name = names.0; no_private_name = names.1; no_quoted = both.1 }
 
 -- such a token has no value, and no escape
-pub has_no_value : (kind : Kind) (xs ys : List ℕ) (start end : ℕ) → is_valued kind ≡ false
-    → value_of kind xs ys start end ≡ Nothing
-has_no_value kind xs ys start end e =
+pub has_no_value : (kind : Kind) (xs ys : List ℕ) (end : ℕ) → is_valued kind ≡ false
+    → value_of kind xs ys end ≡ Nothing
+has_no_value kind xs ys end e =
     let none = none_of_them kind e in rw (none.no_name, none.no_private_name, none.no_quoted) refl
 
 pub has_no_plain_value : (kind : Kind) (start end : ℕ) → is_valued kind ≡ false

@@ -1,9 +1,9 @@
 -- The text of a token that may be read again is the spelling of its kind.
-use Rattle.std.proofs.Common.{◌≡◌, ℕ, ◌+◌, Bool, true, false, not, ◌==◌, List, [], ◌∷◌, ◌++◌, drop, refl, sym, ◌∙◌, ap}
+use Rattle.std.proofs.Common.{◌≡◌, ℕ, Bool, true, false, not, ◌==◌, List, [], ◌∷◌, ◌++◌, drop, refl, sym, ◌∙◌, ap}
 use Rattle.std.proofs.Common.{subst, Option, None}
 use Rattle.std.specs.Prelude.{codes, IfSome}
 use Rattle.std.specs.List.{list_all}
-use Rattle.std.specs.Str.{bytes_eq, encode_utf8_all}
+use Rattle.std.specs.Str.{bytes_eq}
 use Rattle.js_text.specs.Ascii.{number_sign}
 use Rattle.js_text.specs.Characters.{begins, from_place}
 use Rattle.js_text.specs.declared.source_type.SourceType.{SourceType}
@@ -19,13 +19,16 @@ use Rattle.js_grammar.specs.Gap.{is_prefix}
 use Rattle.js_grammar.specs.Goals.{ReadsHere, ReadsPlainly, GoalReads, next_part}
 use Rattle.js_grammar.specs.Goals.ReadsHere.{spelled, recovers}
 use Rattle.js_grammar.specs.Goals.ReadsPlainly.{hashbang, behind_gap}
-use Rattle.js_grammar.specs.Name.{name_read, private_read, no_private_name, begins_name}
+use Rattle.js_grammar.specs.Name.{name_reading, items_reading, private_reading, private_name_of, no_private_name}
+use Rattle.js_grammar.specs.Name.{begins_name}
+use Rattle.js_grammar.specs.UnicodeEscape.{right_curly_bracket}
 use Rattle.js_grammar.specs.Number.{begins_number}
 use Rattle.js_grammar.specs.Outcome.{Outcome}
 use Rattle.js_grammar.specs.Punctuators.{Punctuator, punctuators, IsIn}
-use Rattle.js_grammar.specs.Quoted.{begins_quoted, quoted_read}
+use Rattle.js_grammar.specs.Quoted.{begins_quoted, quoted_reading}
 use Rattle.js_grammar.specs.ReLexed.{is_re_lexed, HasSpelling}
-use Rattle.js_grammar.specs.Recovery.{Reading, recovered, recovered_character, is_control_or_wide}
+use Rattle.js_grammar.specs.Recovery.{recovered, recovered_character, is_control_or_wide}
+use Rattle.js_grammar.specs.Reading.{Reading}
 use Rattle.js_grammar.specs.Spelling.{Spelling}
 use Rattle.js_grammar.specs.Spelling.Spelling.{name, private_name, punctuator, number, string, template}
 use Rattle.js_grammar.specs.Spelling.Spelling.{end_of_source}
@@ -123,45 +126,49 @@ spelled_text t line_has_ended xs ys kind (end_of_source none at_end kind_is) aga
 abbrev IsReadOnce : Reading → Type 0
 IsReadOnce r = is_re_lexed r.kind ≡ false
 
-private_is_read_once : (place : ℕ) (cs : List ℕ) → is_re_lexed (private_read place cs).kind ≡ false
-private_is_read_once place cs =
-    elim (true_or_false (begins_name cs))
-    [ inl begun ↦ rw begun read_once.private | inr none ↦ rw none (unnamed cs) ]
+private_is_read_once : (here : List ℕ) → is_re_lexed (private_reading here).kind ≡ false
+unfolding private_name_of
+private_is_read_once here =
+    elim (true_or_false (begins_name (drop 1 here)))
+    [ inl begun ↦ rw begun read_once.private | inr none ↦ rw none (unnamed (drop 1 here)) ]
   where
-    unnamed : (cs : List ℕ) → is_re_lexed (no_private_name place cs).kind ≡ false
+    unnamed : (cs : List ℕ) → is_re_lexed (no_private_name here cs).kind ≡ false
     unnamed [] = read_once.undetermined
     unnamed (c ∷ cs) = read_once.end
 
-quoted_is_read_once : (place : ℕ) (here : List ℕ) → begins begins_quoted here ≡ true
-    → is_re_lexed (quoted_read place here).kind ≡ false
-quoted_is_read_once place [] begun = absurd (cc)
-quoted_is_read_once place (c ∷ cs) begun =
-    quoted_kind_is (λ kind. is_re_lexed kind ≡ false) read_once.string read_once.undetermined
-    read_once.no_substitution read_once.head place c cs
+named_is_read_once : (here : List ℕ) → is_re_lexed (name_reading here).kind ≡ false
+unfolding items_reading
+named_is_read_once here = name_is_read_once _ (name_kind-is_identifier_name _)
 
-recovered_once : (line_has_ended : Bool) (place : ℕ) (here : List ℕ)
-    → IfSome (recovered line_has_ended place here) IsReadOnce
-recovered_once line_has_ended place here =
+quoted_is_read_once : (here : List ℕ) → begins begins_quoted here ≡ true
+    → is_re_lexed (quoted_reading here).kind ≡ false
+quoted_is_read_once [] begun = absurd (cc)
+quoted_is_read_once (c ∷ cs) begun =
+    quoted_kind_is (λ kind. is_re_lexed kind ≡ false) read_once.string read_once.undetermined
+    read_once.no_substitution read_once.head c cs
+
+recovered_once : (here : List ℕ) → IfSome (recovered here) IsReadOnce
+recovered_once here =
     each_recovery IsReadOnce (is_prefix (codes "/*") here) _ _ (λ _. read_once.end)
     (each_recovery IsReadOnce (begins_name here) _ _
-    (λ _. name_is_read_once _ (name_kind-is_identifier_name (encode_utf8_all (name_read place here).decoded)))
+    (λ _. named_is_read_once here)
     (each_recovery IsReadOnce (begins (λ c. c == number_sign) here) _ _
-    (λ _. private_is_read_once (place + 1) (drop 1 here))
+    (λ _. private_is_read_once here)
     (each_recovery IsReadOnce (begins_number here) _ _
-    (λ begun. (unmarked_parts _ (number_characters place here begun).unmarked).1)
-    (each_recovery IsReadOnce (begins begins_quoted here) _ _ (λ begun. quoted_is_read_once place here begun)
+    (λ begun. (unmarked_parts _ (number_characters here begun).unmarked).1)
+    (each_recovery IsReadOnce (begins begins_quoted here) _ _ (λ begun. quoted_is_read_once here begun)
     (each_recovery IsReadOnce (begins (λ c. c == 0xFFFD) here) _ _ (λ _. read_once.end) (character here))))))
   where
-    character : (xs : List ℕ) → IfSome (recovered_character line_has_ended place xs) IsReadOnce
+    character : (xs : List ℕ) → IfSome (recovered_character xs) IsReadOnce
     character [] = tt
     character (c ∷ cs) = each_recovery IsReadOnce (is_control_or_wide c) _ None (λ _. read_once.undetermined) tt
 
-here_text : (t : SourceType) (line_has_ended : Bool) (place : ℕ) (here : List ℕ) (r : Reading)
-    → ReadsHere t line_has_ended place here r → is_re_lexed r.kind ≡ true → here ≡ kind_text r.kind ++ r.rest
-here_text t line_has_ended place here r (spelled xs spelling is) again =
+here_text : (t : SourceType) (line_has_ended : Bool) (here : List ℕ) (r : Reading)
+    → ReadsHere t line_has_ended here r → is_re_lexed r.kind ≡ true → here ≡ kind_text r.kind ++ r.rest
+here_text t line_has_ended here r (spelled xs spelling is) again =
     spelling.here ∙ ap (λ us. us ++ r.rest) (spelled_text t line_has_ended xs r.rest r.kind spelling.spelling again)
-here_text t line_has_ended place here r (recovers nothing e) again =
-    absent r.kind (subst (λ found. IfSome found IsReadOnce) e (recovered_once line_has_ended place here)) again
+here_text t line_has_ended here r (recovers nothing e) again =
+    absent r.kind (subst (λ found. IfSome found IsReadOnce) e (recovered_once here)) again
 
 plainly_spelled : (text : List ℕ) (t : SourceType) (goal : Goal) (before : Option TokenParts) (place : ℕ) (o : Outcome)
     → ReadsPlainly text t goal before place o → HasSpelling text o.token
@@ -169,15 +176,15 @@ plainly_spelled text t goal before place o (hashbang begun read) again =
     absent o.token.kind (ap is_re_lexed read.is_hashbang.kind ∙ read_once.hashbang) again
 plainly_spelled text t goal before place o (behind_gap begun read) again =
     let kind : o.token.kind ≡ read.reading.kind = ap (λ x. x.token.kind) read.outcome_is in
-    here_text t read.line_has_ended o.token.start (from_place text o.token.start) read.reading read.here
+    here_text t read.line_has_ended (from_place text o.token.start) read.reading read.here
     (ap is_re_lexed (sym kind) ∙ again)
     ∙ ap (λ k. kind_text k ++ read.reading.rest) (sym kind)
     ∙ ap (λ left. kind_text o.token.kind ++ left) read.rest
 
-part_is_read_once : (start : ℕ) (behind : List ℕ) → is_re_lexed (next_part start behind).kind ≡ false
-part_is_read_once start behind =
+part_is_read_once : (opening : ℕ) (behind : List ℕ) → is_re_lexed (next_part (opening ∷ behind)).kind ≡ false
+part_is_read_once opening behind =
     part_kind_is (λ kind. is_re_lexed kind ≡ false) TemplateMiddle TemplateTail read_once.middle read_once.tail
-    read_once.undetermined start behind
+    read_once.undetermined opening behind
 
 -- A token that was read and may be read again has the spelling of its kind.
 pub goal_reads_spelling : (text : List ℕ) (t : SourceType) (goal : Goal) (before : Option TokenParts) (place : ℕ)
@@ -188,5 +195,6 @@ goal_reads_spelling text t goal before place o reads = by_way (ways text t goal 
     by_way (plainly goal reads) = plainly_spelled text t goal before place o reads
     by_way (part_on start reads) = λ again.
         absent o.token.kind
-        (ap is_re_lexed (ap (λ x. x.token.kind) reads.outcome_is) ∙ part_is_read_once start reads.behind) again
+        (ap is_re_lexed (ap (λ x. x.token.kind) reads.outcome_is) ∙ ap (λ h. is_re_lexed (next_part h).kind) reads.here
+        ∙ part_is_read_once right_curly_bracket reads.behind) again
     by_way (alone took) = took.spelling

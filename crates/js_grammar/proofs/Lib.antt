@@ -1,3 +1,4 @@
+pub mod AgainKinds
 pub mod Clean
 pub mod EscapeCases
 pub mod Flags
@@ -5,7 +6,10 @@ pub mod GapLemmas
 pub mod GoalReadings
 pub mod GoalRows
 pub mod GoalWays
+pub mod HereReadings
 pub mod KindTexts
+pub mod Marks
+pub mod Moved
 pub mod NameCuts
 pub mod NameItems
 pub mod NameLaws
@@ -31,6 +35,7 @@ pub mod PunctuatorLeaves
 pub mod PunctuatorLemmas
 pub mod QuotedReadings
 pub mod QuotedValues
+pub mod ReadingLemmas
 pub mod Reported
 pub mod Spans
 pub mod SpellingClasses

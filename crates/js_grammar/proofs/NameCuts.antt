@@ -1,17 +1,50 @@
 -- A text is cut into the items of a name in one way.
-use Rattle.std.proofs.Common.{◌≡◌, ◌≢◌, ℕ, zero, suc, ◌-◌, ◌<◌, Bool, true, false, ◌||◌, ◌==◌, List, [], ◌∷◌, ◌++◌}
+use Rattle.std.proofs.Common.{◌≡◌, ◌≢◌, ℕ, zero, suc, ◌+◌, ◌-◌, ◌<◌, Bool, true, false, ◌||◌, ◌==◌, List, [], ◌∷◌, ◌++◌}
 use Rattle.std.proofs.Common.{length}
 use Rattle.std.proofs.Common.{drop, refl, sym, ◌∙◌, ap, subst, arith, Option, Some, None, append_assoc}
 use Rattle.std.specs.List.{list_any}
 use Rattle.std.proofs.Math.Seq.{drop-append_seam}
-use Rattle.js_text.specs.Ascii.{backslash}
+use Rattle.js_text.specs.Ascii.{backslash, number_sign}
 use Rattle.js_text.specs.Characters.{is_identifier_start, is_identifier_part}
 use Rattle.js_grammar.specs.Name.{NameItem, NameFault, name_item, items_at, name_items, CutsInto, items_text}
 use Rattle.js_grammar.specs.Name.{items_value}
-use Rattle.js_grammar.specs.Name.{has_fault, has_escape, continues_name, items_report, items_read, name_read}
+use Rattle.js_grammar.specs.Name.{has_fault, has_escape, continues_name, items_report, items_reading, name_reading}
+use Rattle.js_grammar.specs.Name.{contains_escape, name_value, behind_items, private_name_of}
 use Rattle.js_grammar.specs.Name.{escape_item, plain_item, fault_report}
-use Rattle.js_grammar.specs.Outcome.{place_behind}
+use Rattle.js_grammar.specs.Reading.{Reading, place_behind}
 use Rattle.js_grammar.proofs.NameItems.{item_takes, item_anywhere}
+use Rattle.js_grammar.proofs.ReadingLemmas.{taken_is}
+use Rattle.js_kind.specs.Keywords.{name_kind}
+use Rattle.js_kind.specs.declared.kind.Kind.TheVariants.{PrivateIdentifier}
+use Rattle.std.specs.Str.{encode_utf8_all}
+
+-- what is read of a name of these items, where this is left behind it
+abbrev pub name_of : List NameItem → List ℕ → Reading
+name_of items rest = record {
+  taken = items_text items;
+  rest = rest;
+  kind = name_kind (encode_utf8_all (items_value items));
+  line_ended = false;
+  escaped = contains_escape items;
+  has_separator = false;
+  value = name_value (contains_escape items) (items_value items) 0 (length (encode_utf8_all (items_text items)));
+  regex = None;
+  diagnostics = items_report 0 items;
+}
+
+-- and of a private name
+abbrev pub private_of : List NameItem → List ℕ → Reading
+private_of items rest = record {
+  taken = number_sign ∷ items_text items;
+  rest = rest;
+  kind = PrivateIdentifier;
+  line_ended = false;
+  escaped = contains_escape items;
+  has_separator = false;
+  value = name_value (contains_escape items) (items_value items) 1 (1 + length (encode_utf8_all (items_text items)));
+  regex = None;
+  diagnostics = items_report 1 items;
+}
 
 -- the items that are found are what the text is cut into
 step_over : (n : ℕ) (c : ℕ) (cs : List ℕ) → 0 < n → drop n (c ∷ cs) ≡ drop (n - 1) cs
@@ -92,27 +125,30 @@ cut_text allowed text (item ∷ items) rest cut =
     ∙ sym (append_assoc item.text (items_text items) rest)
 
 -- What is read of a text that is cut so.
-pub read_of_cut : (place : ℕ) (text : List ℕ) (items : List NameItem) (rest : List ℕ)
+pub read_of_cut : (text : List ℕ) (items : List NameItem) (rest : List ℕ)
+    → CutsInto is_identifier_start text items rest → name_reading text ≡ name_of items rest
+unfolding items_reading
+read_of_cut text items rest cut =
+    let here = cut_text is_identifier_start text items rest cut in
+    let left : behind_items items text ≡ rest =
+    ap (behind_items items) here ∙ drop-append_seam (items_text items) rest in
+    ap (λ xs. items_reading xs text) (cut_items is_identifier_start text items rest cut)
+    ∙ rw (left, taken_is text (items_text items) rest here) refl
+
+-- and of a private name, behind its `#`
+pub private_of_cut : (text : List ℕ) (items : List NameItem) (rest : List ℕ)
     → CutsInto is_identifier_start text items rest
-    → name_read place text ≡ record {
-      rest = rest;
-      has_escape = list_any (λ item. item.is_escape) items;
-      decoded = items_value items;
-      diagnostics = items_report place items;
-    }
-unfolding items_read
-read_of_cut place text items rest cut =
-    let left = ap (drop (length (items_text items))) (cut_text is_identifier_start text items rest cut)
-    ∙ drop-append_seam (items_text items) rest in
-    ap (λ xs. items_read place xs text) (cut_items is_identifier_start text items rest cut)
-    ∙ ap
-    (λ r. record {
-      rest = r;
-      has_escape = list_any (λ item. item.is_escape) items;
-      decoded = items_value items;
-      diagnostics = items_report place items;
-    })
-    left
+    → private_name_of (name_items is_identifier_start text) (number_sign ∷ text) ≡ private_of items rest
+unfolding private_name_of
+private_of_cut text items rest cut =
+    let here = cut_text is_identifier_start text items rest cut in
+    let left : behind_items items text ≡ rest =
+    ap (behind_items items) here ∙ drop-append_seam (items_text items) rest in
+    ap (λ xs. private_name_of xs (number_sign ∷ text)) (cut_items is_identifier_start text items rest cut)
+    ∙ rw (
+      left,
+      taken_is (number_sign ∷ text) (number_sign ∷ items_text items) rest (ap (λ t. number_sign ∷ t) here),
+    ) refl
 
 -- no further item is where nothing goes on with a name
 pub no_item : (ys : List ℕ) → continues_name ys ≡ false → name_item is_identifier_part ys ≡ None

@@ -1,16 +1,24 @@
 -- What is read of a name is what its characters say, and a name is read without a fault exactly where it has none.
-use Rattle.std.proofs.Common.{◌≡◌, ◌≢◌, ℕ, Bool, true, false, ◌==◌, List, [], ◌∷◌, ◌++◌, length, refl, sym}
+use Rattle.js_grammar.specs.Name.{items_reading}
+use Rattle.std.proofs.Common.{◌≡◌, ◌≢◌, ℕ, ◌+◌, Bool, true, false, ◌==◌, List, [], ◌∷◌, ◌++◌, length, refl, sym}
 use Rattle.std.proofs.Common.{◌∙◌, ap, subst, arith, Some, None, inl, inr}
 use Rattle.std.specs.Prelude.{map}
 use Rattle.std.specs.List.{list_any}
 use Rattle.std.proofs.lemmas.Bool.{eqb-true}
 use Rattle.std.proofs.lemmas.List.{append_cancel_right, append-nil, length-append}
-use Rattle.js_text.specs.Ascii.{backslash}
+use Rattle.std.specs.Str.{encode_utf8_all}
+use Rattle.js_text.specs.Ascii.{backslash, number_sign}
+use Rattle.js_text.specs.declared.value.RowValue.TheVariants.{Slice}
+use Rattle.js_kind.specs.Keywords.{name_kind}
+use Rattle.js_kind.specs.declared.kind.Kind.TheVariants.{PrivateIdentifier}
 use Rattle.js_text.specs.Characters.{begins, before_first, from_first, is_identifier_start, is_identifier_part}
 use Rattle.js_grammar.specs.Name.{NameItem, name_item, name_items, CutsInto, items_text, items_value, has_fault}
-use Rattle.js_grammar.specs.Name.{has_escape, decoded, begins_name, continues_name, IsName, NameRead, name_read}
+use Rattle.js_grammar.specs.Name.{has_escape, decoded, begins_name, continues_name, IsName, name_reading, name_value}
+use Rattle.js_grammar.specs.Name.{contains_escape, private_name_of}
+use Rattle.js_grammar.specs.Reading.{Reading, before_rest}
 use Rattle.js_grammar.specs.Name.{items_report, is_no_part, plain_item, escape_item}
-use Rattle.js_grammar.proofs.NameCuts.{items_cut, cut_items, cut_text, read_of_cut, no_item, nothing_continues}
+use Rattle.js_grammar.proofs.NameCuts.{name_of, items_cut, cut_items, cut_text, read_of_cut, private_of_cut, no_item}
+use Rattle.js_grammar.proofs.NameCuts.{nothing_continues}
 use Rattle.js_grammar.proofs.NameCuts.{cut_anywhere, none_behind, escapes_of_cut, plain_items, nothing_reported}
 use Rattle.js_grammar.proofs.NameCuts.{reports_nothing}
 use Rattle.js_grammar.proofs.NameItems.{backslash_is_no_name, item_takes}
@@ -18,23 +26,67 @@ use Rattle.js_grammar.proofs.NameLemmas.{parts_end}
 use Rattle.js_grammar.proofs.NumberItems.{true_or_false}
 
 -- what is read of a name without a fault
-abbrev pub good_name : List ℕ → List ℕ → NameRead
-good_name xs ys = record { rest = ys; has_escape = has_escape xs; decoded = decoded xs; diagnostics = [] }
+abbrev pub good_name : List ℕ → List ℕ → Reading
+good_name xs ys = record {
+  taken = xs;
+  rest = ys;
+  kind = name_kind (encode_utf8_all (decoded xs));
+  line_ended = false;
+  escaped = has_escape xs;
+  has_separator = false;
+  value = name_value (has_escape xs) (decoded xs) 0 (length (encode_utf8_all xs));
+  regex = None;
+  diagnostics = [];
+}
 
--- A name is read as such where what follows does not go on with it.
-pub name_is_read : (place : ℕ) (xs ys : List ℕ) → IsName xs → continues_name ys ≡ false
-    → name_read place (xs ++ ys) ≡ good_name xs ys
-name_is_read place xs ys is end =
+-- and of a private name
+abbrev pub good_private_name : List ℕ → List ℕ → Reading
+good_private_name xs ys = record {
+  taken = number_sign ∷ xs;
+  rest = ys;
+  kind = PrivateIdentifier;
+  line_ended = false;
+  escaped = has_escape xs;
+  has_separator = false;
+  value = name_value (has_escape xs) (decoded xs) 1 (1 + length (encode_utf8_all xs));
+  regex = None;
+  diagnostics = [];
+}
+
+-- The items of a name, where what follows does not go on with it.
+pub name_is_cut : (xs ys : List ℕ) → IsName xs → continues_name ys ≡ false
+    → CutsInto is_identifier_start (xs ++ ys) (name_items is_identifier_start xs) ys
+name_is_cut xs ys is end =
     let items = name_items is_identifier_start xs in
     let found = items_cut is_identifier_start xs in
     let some : items ≢ [] = λ none. is.some (sym is.whole ∙ ap items_text none) in
     let moved =
     cut_anywhere is_identifier_start xs items found.rest ys found.cut some is.good (no_item ys end) in
-    let cut : CutsInto is_identifier_start (xs ++ ys) items ys =
-    subst (λ t. CutsInto is_identifier_start (t ++ ys) items ys) is.whole moved in
-    let escapes = sym (escapes_of_cut is_identifier_start (xs ++ ys) items ys cut) ∙ ap has_escape is.whole in
-    read_of_cut place (xs ++ ys) items ys cut
-    ∙ rw (escapes, nothing_reported place items is.good) refl
+    subst (λ t. CutsInto is_identifier_start (t ++ ys) items ys) is.whole moved
+
+-- its items tell where escapes are
+name_escapes : (xs ys : List ℕ) → IsName xs → continues_name ys ≡ false
+    → contains_escape (name_items is_identifier_start xs) ≡ has_escape xs
+name_escapes xs ys is end =
+    sym (escapes_of_cut is_identifier_start (xs ++ ys) (name_items is_identifier_start xs) ys
+    (name_is_cut xs ys is end))
+    ∙ ap has_escape is.whole
+
+-- A name is read as such where what follows does not go on with it.
+pub name_is_read : (xs ys : List ℕ) → IsName xs → continues_name ys ≡ false
+    → name_reading (xs ++ ys) ≡ good_name xs ys
+name_is_read xs ys is end =
+    let items = name_items is_identifier_start xs in
+    read_of_cut (xs ++ ys) items ys (name_is_cut xs ys is end)
+    ∙ rw (name_escapes xs ys is end, nothing_reported 0 items is.good, is.whole) refl
+
+-- and so is a private name
+pub private_name_is_read : (xs ys : List ℕ) → IsName xs → continues_name ys ≡ false
+    → private_name_of (name_items is_identifier_start (xs ++ ys)) (number_sign ∷ (xs ++ ys)) ≡ good_private_name xs ys
+private_name_is_read xs ys is end =
+    let items = name_items is_identifier_start xs in
+    private_of_cut (xs ++ ys) items ys (name_is_cut xs ys is end)
+    ∙ rw (name_escapes xs ys is end, nothing_reported 1 items is.good, is.whole) refl
 
 -- xs is a name that the text begins with, and ys follow it.
 pub record BeginsWithName (text xs ys : List ℕ) : Type 0 where
@@ -86,18 +138,24 @@ name_of_cut text items rest cut some good =
         omega (arith, takes.some, ap length none, length-append item.text (items_text items))
 
 -- What is read without a fault is a name.
-pub clean_is_name : (place : ℕ) (text : List ℕ) → begins_name text ≡ true → (name_read place text).diagnostics ≡ []
-    → (xs : List ℕ) × BeginsWithName text xs (name_read place text).rest
+pub clean_is_name : (place : ℕ) (text : List ℕ) → begins_name text ≡ true
+    → items_report place (name_items is_identifier_start text) ≡ []
+    → (xs : List ℕ) × BeginsWithName text xs (name_reading text).rest
 clean_is_name place text begun clean =
     let items = name_items is_identifier_start text in
     let found = items_cut is_identifier_start text in
-    let read = read_of_cut place text items found.rest found.cut in
-    let none : items_report place items ≡ [] = ap (λ (r : NameRead). r.diagnostics) (sym read) ∙ clean in (
+    let read = read_of_cut text items found.rest found.cut in (
       items_text items,
-      subst (λ ys. BeginsWithName text (items_text items) ys) (ap (λ (r : NameRead). r.rest) (sym read))
+      subst (λ ys. BeginsWithName text (items_text items) ys) (ap (λ (r : Reading). r.rest) (sym read))
           (name_of_cut text items found.rest found.cut (some_items text items found.rest begun found.cut)
-          (reports_nothing place items none)),
+          (reports_nothing place items clean)),
     )
+
+-- what is reported of a name is what is reported of its items
+pub name_report : (text : List ℕ)
+    → (name_reading text).diagnostics ≡ items_report 0 (name_items is_identifier_start text)
+unfolding items_reading
+name_report text = refl
 
 -- A text begins with one name at most. So this is the longest.
 pub record SameName (xs ys us vs : List ℕ) : Type 0 where
@@ -108,25 +166,25 @@ pub one_name : (text xs ys us vs : List ℕ) → BeginsWithName text xs ys → B
     → SameName xs ys us vs
 one_name text xs ys us vs a b =
     let same : good_name xs ys ≡ good_name us vs =
-    sym (name_is_read 0 xs ys a.name a.follows) ∙ ap (name_read 0) (sym a.here ∙ b.here)
-    ∙ name_is_read 0 us vs b.name b.follows in
-    let left : ys ≡ vs = ap (λ (r : NameRead). r.rest) same in
+    sym (name_is_read xs ys a.name a.follows) ∙ ap name_reading (sym a.here ∙ b.here)
+    ∙ name_is_read us vs b.name b.follows in
+    let left : ys ≡ vs = ap (λ (r : Reading). r.rest) same in
     record {
       characters = append_cancel_right xs us ys (sym a.here ∙ b.here ∙ ap (λ t. us ++ t) (sym left));
       rest = left;
     }
 
 -- What is read of a name has characters.
-pub name_characters : (place : ℕ) (text : List ℕ) → begins_name text ≡ true
-    → (xs : List ℕ) × (xs ≢ []) × (text ≡ xs ++ (name_read place text).rest)
-name_characters place text begun =
+pub name_characters : (text : List ℕ) → begins_name text ≡ true
+    → (xs : List ℕ) × (xs ≢ []) × (text ≡ xs ++ (name_reading text).rest)
+name_characters text begun =
     let items = name_items is_identifier_start text in
     let found = items_cut is_identifier_start text in
-    let read = read_of_cut place text items found.rest found.cut in (
+    let read = read_of_cut text items found.rest found.cut in (
       items_text items,
       some_text items found.cut,
       cut_text is_identifier_start text items found.rest found.cut
-          ∙ ap (λ (r : NameRead). items_text items ++ r.rest) (sym read),
+          ∙ ap (λ (r : Reading). items_text items ++ r.rest) (sym read),
     )
   where
     some_text : (items : List NameItem)
@@ -137,19 +195,29 @@ name_characters place text begun =
         let takes = item_takes is_identifier_start text item cut.0 in
         omega (arith, takes.some, ap length none, length-append item.text (items_text items))
 
+-- and what was taken of a private name is what stands before what is left of the name
+pub private_taken : (cs : List ℕ) → (private_name_of (name_items is_identifier_start cs) (number_sign ∷ cs)).taken
+    ≡ before_rest (number_sign ∷ cs) (private_name_of (name_items is_identifier_start cs) (number_sign ∷ cs)).rest
+unfolding private_name_of
+private_taken cs = refl
+
+pub same_rest : (cs : List ℕ)
+    → (name_reading cs).rest ≡ (private_name_of (name_items is_identifier_start cs) (number_sign ∷ cs)).rest
+unfolding private_name_of items_reading
+same_rest cs = refl
+
 -- Only a name with an escape has a fault.
-pub name_has_fault_only_escaped : (place : ℕ) (text : List ℕ) → (name_read place text).diagnostics ≢ []
-    → (name_read place text).has_escape ≡ true
+pub name_has_fault_only_escaped : (place : ℕ) (text : List ℕ)
+    → items_report place (name_items is_identifier_start text) ≢ []
+    → contains_escape (name_items is_identifier_start text) ≡ true
 name_has_fault_only_escaped place text faults =
     let items = name_items is_identifier_start text in
     let found = items_cut is_identifier_start text in
-    let read = read_of_cut place text items found.rest found.cut in
-    elim (true_or_false (list_any (λ item. item.is_escape) items)) [
-      | inl some ↦ ap (λ (r : NameRead). r.has_escape) read ∙ some
+    elim (true_or_false (contains_escape items)) [
+      | inl some ↦ some
       | inr none ↦ (
           let plain = plain_items is_identifier_start text items found.rest found.cut none in
-          absurd
-          (faults (ap (λ (r : NameRead). r.diagnostics) read ∙ nothing_reported place items plain.0)))
+          absurd (faults (nothing_reported place items plain.0)))
     ]
 
 -- A name without escapes stands for itself.
@@ -210,17 +278,28 @@ ended [] no_part no_mark = refl
 ended (c ∷ cs) no_part no_mark = rw (no_mark, no_part) refl
 
 -- what is read of a name that has no escape
-abbrev pub plain_name_read : ℕ → List ℕ → NameRead
-plain_name_read c cs = record {
-  rest = from_first is_no_part cs;
-  has_escape = false;
-  decoded = c ∷ before_first is_no_part cs;
+abbrev pub plain_name_reading : List ℕ → List ℕ → Reading
+plain_name_reading xs rest = record {
+  taken = xs;
+  rest = rest;
+  kind = name_kind (encode_utf8_all xs);
+  line_ended = false;
+  escaped = false;
+  has_separator = false;
+  value = Slice (record { start = 0; end = length (encode_utf8_all xs) });
+  regex = None;
   diagnostics = [];
 }
 
+of_plain_items : (items : List NameItem) (xs rest : List ℕ) → items_text items ≡ xs → items_value items ≡ xs
+    → contains_escape items ≡ false → has_fault items ≡ false → name_of items rest ≡ plain_name_reading xs rest
+of_plain_items items xs rest text value escapes good =
+    rw (text, value, escapes, nothing_reported 0 items good) refl
+
 -- A name of characters that stand for themselves.
 pub record PlainName (c : ℕ) (cs : List ℕ) : Type 0 where
-  pub read : (place : ℕ) → name_read place (c ∷ cs) ≡ plain_name_read c cs
+  pub read : name_reading (c ∷ cs)
+      ≡ plain_name_reading (c ∷ before_first is_no_part cs) (from_first is_no_part cs)
   pub name : BeginsWithName (c ∷ cs) (c ∷ before_first is_no_part cs) (from_first is_no_part cs)
   pub value : decoded (c ∷ before_first is_no_part cs) ≡ c ∷ before_first is_no_part cs
 
@@ -242,8 +321,8 @@ plain_name c cs is end =
     let name : BeginsWithName (c ∷ cs) (c ∷ parts) rest =
     subst (λ xs. BeginsWithName (c ∷ cs) xs rest) values.text begun in
     record {
-      read = λ place. read_of_cut place (c ∷ cs) items rest cut
-          ∙ rw (values.value, values.escapes, nothing_reported place items values.good) refl;
+      read = read_of_cut (c ∷ cs) items rest cut
+          ∙ of_plain_items items (c ∷ parts) rest values.text values.value values.escapes values.good;
       name = name;
       value = plain_decoded (c ∷ parts) name.name
           (sym (ap has_escape values.text)

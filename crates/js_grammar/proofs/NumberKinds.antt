@@ -3,7 +3,7 @@ use Rattle.std.proofs.Common.{◌≡◌, ℕ, Bool, false, true, List, refl, inl
 use Rattle.std.proofs.Common.{subst}
 use Rattle.js_kind.specs.Kinds.{is_identifier_name, is_number_kind, is_string_kind, is_template_kind}
 use Rattle.js_grammar.specs.ReLexed.{is_re_lexed}
-use Rattle.js_grammar.specs.Spelling.{is_valued, is_private_name}
+use Rattle.js_grammar.specs.TokenText.{is_valued, is_private_name}
 use Rattle.js_kind.specs.declared.kind.Kind.{Kind}
 use Rattle.js_grammar.specs.Number.{Base, base_of, IsExponent, IsNumber, Sign, sign_kind}
 use Rattle.js_grammar.specs.Number.Sign.{no_sign, plus, minus}

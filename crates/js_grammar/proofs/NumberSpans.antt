@@ -13,7 +13,8 @@ use Rattle.js_grammar.specs.NumberReads.{Items, items_text, sign_of, exponent_it
 use Rattle.js_grammar.specs.NumberReads.{point_items, behind_digits, suffix_or, decimal_items, plain_digits}
 use Rattle.js_grammar.specs.NumberReads.{legacy_items, behind_prefix, zero_items, base_at, number_items, no_items}
 use Rattle.js_grammar.specs.NumberReads.{items-cons}
-use Rattle.js_grammar.specs.NumberReads.{NumberRead, number_read}
+use Rattle.js_grammar.specs.NumberReads.{number_reading}
+use Rattle.js_grammar.specs.Reading.{Reading, before_rest}
 use Rattle.js_grammar.proofs.NumberClasses.{digit_may_not_follow}
 use Rattle.js_grammar.proofs.NumberItems.{true_or_false, run_text, integer_text}
 use Rattle.js_grammar.proofs.NumberKinds.{is_marked, base_kinds, sign_is_number}
@@ -27,7 +28,7 @@ use Rattle.js_grammar.proofs.NumberWhole.{plain_text}
 use Rattle.js_kind.specs.Digits.{is_digit_of}
 use Rattle.js_kind.specs.Kinds.{is_identifier_name, is_string_kind, is_template_kind}
 use Rattle.js_grammar.specs.ReLexed.{is_re_lexed}
-use Rattle.js_grammar.specs.Spelling.{is_private_name}
+use Rattle.js_grammar.specs.TokenText.{is_private_name}
 use Rattle.js_kind.specs.declared.kind.Kind.{Kind}
 use Rattle.js_kind.specs.declared.kind.Kind.TheVariants.{Eof, Decimal, DecimalBigInt, Float, Octal}
 
@@ -210,19 +211,19 @@ some_characters (c ∷ cs) begun follows cut none =
     ]
 
 -- What is read of a number is the rest of the source, or some characters; and it is of no kind of names.
-pub record ReadsCharacters (here : List ℕ) (read : NumberRead) : Type 0 where
+pub record ReadsCharacters (here : List ℕ) (read : Reading) : Type 0 where
   pub leaves : ((read.kind ≡ Eof) × (read.rest ≡ [])) ⊎ ((xs : List ℕ) × (xs ≢ []) × (here ≡ xs ++ read.rest))
   pub unmarked : is_marked read.kind ≡ false
 
-pub number_characters : (place : ℕ) (here : List ℕ) → begins_number here ≡ true
-    → ReadsCharacters here (number_read place here)
-number_characters place here begun =
+pub number_characters : (here : List ℕ) → begins_number here ≡ true
+    → ReadsCharacters here (number_reading here)
+number_characters here begun =
     let number = number_items here in
     elim (true_or_false (begins may_not_follow_number number.rest)) [
       | inl bad ↦
-          rw (read_badly place number bad) (record { leaves = inl (refl, refl); unmarked = unnamed.4 })
+          rw (read_badly here number bad) (record { leaves = inl (refl, refl); unmarked = unnamed.4 })
       | inr well ↦
-          rw (read_well place number well)
+          rw (read_well here number well)
           (elim (number_reaches here) [
             | inl broken ↦
                 (record { leaves = inl broken; unmarked = ap is_marked broken.0 ∙ unnamed.4 })
@@ -231,4 +232,13 @@ number_characters place here begun =
               unmarked = cut.unmarked;
             })
           ])
+    ]
+
+-- What was taken of a number is what stands before what is left.
+pub number_taken : (here : List ℕ) → (number_reading here).taken ≡ before_rest here (number_reading here).rest
+number_taken here =
+    let number = number_items here in
+    elim (true_or_false (begins may_not_follow_number number.rest)) [
+      | inl bad ↦ rw (read_badly here number bad) refl
+      | inr well ↦ rw (read_well here number well) refl
     ]

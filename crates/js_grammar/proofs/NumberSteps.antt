@@ -9,7 +9,7 @@ use Rattle.js_grammar.specs.Number.{is_exponent_mark, may_not_follow_number, lat
 use Rattle.js_grammar.specs.NumberReads.{Items, no_items, items-cons, last_item, sign_of, exponent_items, exponent_or}
 use Rattle.js_grammar.specs.NumberReads.{fraction_items, point_items, behind_digits, suffix_or, decimal_items}
 use Rattle.js_grammar.specs.NumberReads.{plain_digits, legacy_items, behind_prefix, zero_items, base_at, number_items}
-use Rattle.js_grammar.specs.NumberReads.{items_read, well_ended, badly_ended}
+use Rattle.js_grammar.specs.NumberReads.{items_reading, well_ended, badly_ended}
 use Rattle.js_kind.specs.declared.kind.Kind.{Kind}
 use Rattle.js_kind.specs.declared.kind.Kind.TheVariants.{Eof, Decimal, Float, Octal}
 
@@ -143,12 +143,12 @@ unfolding number_items
 number_decimal text e zero = if_false _ _ _ e ∙ if_false _ _ _ zero
 
 -- what is read of it
-pub read_well : (place : ℕ) (number : Items) → begins may_not_follow_number number.rest ≡ false
-    → items_read place number ≡ well_ended place number
-unfolding items_read
-read_well place number e = if_false _ _ _ e
+pub read_well : (text : List ℕ) (number : Items) → begins may_not_follow_number number.rest ≡ false
+    → items_reading text number ≡ well_ended text number
+unfolding items_reading
+read_well text number e = if_false _ _ _ e
 
-pub read_badly : (place : ℕ) (number : Items) → begins may_not_follow_number number.rest ≡ true
-    → items_read place number ≡ badly_ended place number
-unfolding items_read
-read_badly place number e = if_true _ _ _ e
+pub read_badly : (text : List ℕ) (number : Items) → begins may_not_follow_number number.rest ≡ true
+    → items_reading text number ≡ badly_ended text number
+unfolding items_reading
+read_badly text number e = if_true _ _ _ e

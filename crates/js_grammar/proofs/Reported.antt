@@ -14,7 +14,8 @@ use Rattle.js_text.specs.declared.source_type.SourceType.{SourceType}
 use Rattle.js_grammar.specs.Gap.{is_prefix, is_reported, Cut, cut_behind, Piece, piece, whole_gap_piece}
 use Rattle.js_grammar.specs.Gap.{has_html_comments, line_comment, Pieces, LongestGap, WholeGap}
 use Rattle.js_grammar.specs.Gap.PieceKind.{multi_line_comment, html_open_comment, reported_comment}
-use Rattle.js_grammar.specs.Outcome.{piece_diagnostics, gap_diagnostics, place_behind}
+use Rattle.js_grammar.specs.Outcome.{piece_diagnostics, gap_diagnostics}
+use Rattle.js_grammar.specs.Reading.{place_behind}
 use Rattle.js_grammar.proofs.GapLemmas.{unreported, reported, none_behind, piece_text}
 use Rattle.js_grammar.proofs.PieceLemmas.{piece-angle}
 use Rattle.js_grammar.proofs.Tests.{and_true, and_false, prefix_is}

@@ -1,6 +1,6 @@
 -- What begins a string or a template begins nothing else, and when one is escaped.
 use Rattle.std.proofs.Common.{◌≡◌, ℕ, zero, suc, ◌<◌, Bool, true, false, ◌||◌, ◌==◌, List, [], ◌∷◌, ◌++◌}
-use Rattle.std.proofs.Common.{length, drop}
+use Rattle.std.proofs.Common.{length}
 use Rattle.std.proofs.Common.{refl, sym, ◌∙◌, ap, arith, subst, Option, Some, None, inl, inr}
 use Rattle.std.specs.List.{list_any}
 use Rattle.std.proofs.lemmas.Bool.{eqb-true}
@@ -25,7 +25,7 @@ use Rattle.js_grammar.specs.Template.{template_item, template_items, ends_part, 
 use Rattle.js_grammar.specs.Gap.{is_prefix}
 use Rattle.js_grammar.specs.Quoted.{begins_quoted, is_backslash, is_backslash_or_return}
 use Rattle.js_grammar.specs.Spelling.{begins_named}
-use Rattle.js_grammar.specs.Template.{IsTemplatePart, IsPart, template_part_read}
+use Rattle.js_grammar.specs.Template.{IsTemplatePart, IsPart, template_part_reading}
 use Rattle.js_grammar.specs.Template.IsTemplatePart.{no_substitution, head}
 use Rattle.js_kind.specs.declared.kind.Kind.{Kind}
 use Rattle.std.specs.Prelude.{codes}
@@ -277,32 +277,33 @@ part_is_escaped closing xs ys part none =
     ∙ ap (λ b. list_any is_backslash_or_return text || b) none ∙ or_false (list_any is_backslash_or_return text))
 
 -- What is read where a template begins is that template, or its first part, and nothing is reported.
-pub record ReadsTemplate (start : ℕ) (text xs ys : List ℕ) (kind : Kind) : Type 0 where
+pub record ReadsTemplate (text xs ys : List ℕ) (kind : Kind) : Type 0 where
   pub items : List StringItem
-  pub read : template_part_read TemplateHead NoSubstitutionTemplate start text ≡ good_part kind items ys
+  pub read : template_part_reading TemplateHead NoSubstitutionTemplate (grave_accent ∷ text)
+      ≡ good_part kind xs items ys
   pub escaped : contains_escape items ≡ list_any is_backslash_or_return xs
 
-pub template_read_as : (start : ℕ) (text xs ys : List ℕ) (kind : Kind)
-    → BeginsWithTemplate (grave_accent ∷ text) xs ys kind → ReadsTemplate start text xs ys kind
-template_read_as start text xs ys kind begun = by_part begun.part
+pub template_read_as : (text xs ys : List ℕ) (kind : Kind)
+    → BeginsWithTemplate (grave_accent ∷ text) xs ys kind → ReadsTemplate text xs ys kind
+template_read_as text xs ys kind begun = by_part begun.part
   where
-    by_part : IsTemplatePart xs ys kind → ReadsTemplate start text xs ys kind
+    by_part : IsTemplatePart xs ys kind → ReadsTemplate text xs ys kind
     by_part (no_substitution part e) = record {
       items = part.items;
       read =
-          ap (λ cs. template_part_read TemplateHead NoSubstitutionTemplate start (drop 1 cs))
+          ap (template_part_reading TemplateHead NoSubstitutionTemplate)
           (begun.here ∙ part_here grave_accent (codes "`") xs ys part)
-          ∙ tail_is_read TemplateHead NoSubstitutionTemplate start grave_accent xs ys part
-          ∙ ap (λ k. good_part k part.items ys) (sym e);
+          ∙ tail_is_read TemplateHead NoSubstitutionTemplate grave_accent xs ys part
+          ∙ ap (λ k. good_part k xs part.items ys) (sym e);
       escaped = part_is_escaped (codes "`") xs ys part refl;
     }
     by_part (head part e) = record {
       items = part.items;
       read =
-          ap (λ cs. template_part_read TemplateHead NoSubstitutionTemplate start (drop 1 cs))
+          ap (template_part_reading TemplateHead NoSubstitutionTemplate)
           (begun.here ∙ part_here grave_accent (codes "${") xs ys part)
-          ∙ substitution_is_read TemplateHead NoSubstitutionTemplate start grave_accent xs ys part
-          ∙ ap (λ k. good_part k part.items ys) (sym e);
+          ∙ substitution_is_read TemplateHead NoSubstitutionTemplate grave_accent xs ys part
+          ∙ ap (λ k. good_part k xs part.items ys) (sym e);
       escaped = part_is_escaped (codes "${") xs ys part refl;
     }
 

@@ -1,5 +1,8 @@
 -- Laws of strings and templates: each is what is read without a fault, and nothing else.
-use Rattle.std.proofs.Common.{◌≡◌, ℕ, zero, suc, ◌+◌, ◌<◌, true, false, ◌&&◌, ◌==◌, List, [], ◌∷◌}
+use Rattle.std.specs.Str.{encode_utf8_all}
+use Rattle.std.proofs.Common.{None}
+use Rattle.js_grammar.proofs.ReadingLemmas.{taken_is}
+use Rattle.std.proofs.Common.{◌≡◌, ℕ, zero, suc, ◌<◌, true, false, ◌&&◌, ◌==◌, List, [], ◌∷◌}
 use Rattle.std.proofs.Common.{◌++◌}
 use Rattle.std.proofs.Common.{length, drop, refl, sym, ◌∙◌, ap, arith, Option, inl, inr, append_assoc}
 use Rattle.std.proofs.Common.{subst}
@@ -7,11 +10,11 @@ use Rattle.std.proofs.lemmas.Bool.{eq-eqb}
 use Rattle.js_text.specs.Characters.{begins}
 use Rattle.js_text.specs.declared.diagnostic.Diagnostic.{Diagnostic}
 use Rattle.js_kind.specs.declared.kind.Kind.TheVariants.{Str}
-use Rattle.js_grammar.specs.Outcome.{place_behind}
+use Rattle.js_grammar.specs.Reading.{Reading, place_behind}
 use Rattle.js_grammar.specs.StringItems.{Fault, StringItem, StringItems, items_up_to, string_text}
 use Rattle.js_grammar.specs.StringItems.{string_units}
-use Rattle.js_grammar.specs.StringItems.{contains_escape, is_good, are_good, fault_reports, item_reports, StringRead}
-use Rattle.js_grammar.specs.StringItems.{string_items, string_item, string_read, string_of_items, is_quote, IsString}
+use Rattle.js_grammar.specs.StringItems.{contains_escape, is_good, are_good, fault_reports, item_reports, quoted_value}
+use Rattle.js_grammar.specs.StringItems.{string_items, string_item, string_reading, string_of_items, is_quote, IsString}
 use Rattle.js_grammar.specs.StringItems.Fault.{no_fault, bad_escape, unfinished_escape}
 use Rattle.js_grammar.specs.StringItems.StringValue.{units}
 use Rattle.js_grammar.specs.Template.{template_items, template_item}
@@ -57,31 +60,38 @@ clean_ones start place (x ∷ xs) e =
     one bad_escape more end e = absurd (cc)
     one unfinished_escape more end e = absurd (cc)
 
--- what is read of a good string, with its items and what follows it
-abbrev pub good_string : List StringItem → List ℕ → StringRead
-good_string items ys = record {
-  kind = Str;
-  rest = ys;
-  escaped = contains_escape items;
-  value = units (string_units items);
-  diagnostics = [];
-}
-
--- A string is read as such.
-pub string_is_read : (start : ℕ) (xs ys : List ℕ) (string : IsString xs ys)
-    → string_read string.quote start (string_text string.items ++ (string.quote ∷ ys)) ≡ good_string string.items ys
-string_is_read start xs ys string =
-    ap (string_of_items string.quote start) string.found
-    ∙ string_terminated string.quote start (record { items = string.items; rest = string.quote ∷ ys })
-    (eq-eqb string.quote string.quote refl)
-    ∙ ap (λ ds. record (good_string string.items ys) { diagnostics = ds })
-    (good_ones false start (start + 1) string.items string.good)
-
 pub string_here : (xs ys : List ℕ) (string : IsString xs ys)
     → xs ++ ys ≡ string.quote ∷ (string_text string.items ++ (string.quote ∷ ys))
 string_here xs ys string =
     ap (λ cs. cs ++ ys) string.here
     ∙ ap (λ cs. string.quote ∷ cs) (append_assoc (string_text string.items) (string.quote ∷ []) ys)
+
+-- what is read of a good string of these characters, with its items and what follows it
+abbrev pub good_string : List ℕ → List StringItem → List ℕ → Reading
+good_string xs items ys = record {
+  taken = xs;
+  rest = ys;
+  kind = Str;
+  line_ended = false;
+  escaped = contains_escape items;
+  has_separator = false;
+  value = quoted_value (contains_escape items) (units (string_units items)) Str (length (encode_utf8_all xs));
+  regex = None;
+  diagnostics = [];
+}
+
+-- A string is read as such.
+pub string_is_read : (xs ys : List ℕ) (string : IsString xs ys)
+    → string_reading string.quote (string_text string.items ++ (string.quote ∷ ys)) ≡ good_string xs string.items ys
+string_is_read xs ys string =
+    let text = string.quote ∷ (string_text string.items ++ (string.quote ∷ ys)) in
+    ap (string_of_items string.quote text) string.found
+    ∙ string_terminated string.quote text (record { items = string.items; rest = string.quote ∷ ys })
+    (eq-eqb string.quote string.quote refl)
+    ∙ rw (
+      taken_is text xs ys (sym (string_here xs ys string)),
+      good_ones false 0 1 string.items string.good,
+    ) refl
 
 pub not_empty : {A : Type 0} (ds : List Diagnostic) (d : Diagnostic) → ds ++ (d ∷ []) ≡ [] → A
 not_empty [] d e = absurd (cc)
@@ -93,18 +103,18 @@ pub record BeginsWithString (text xs ys : List ℕ) : Type 0 where
   pub string : IsString xs ys
 
 -- What is read without a fault is a string.
-pub clean_is_string : (quote start : ℕ) (text : List ℕ) → is_quote quote ≡ true
-    → (string_read quote start text).diagnostics ≡ []
-    → (xs : List ℕ) × BeginsWithString (quote ∷ text) xs (string_read quote start text).rest
-clean_is_string quote start text is clean =
+pub clean_is_string : (quote : ℕ) (text : List ℕ) → is_quote quote ≡ true
+    → (string_reading quote text).diagnostics ≡ []
+    → (xs : List ℕ) × BeginsWithString (quote ∷ text) xs (string_reading quote text).rest
+clean_is_string quote text is clean =
     let found = string_items quote text in
     elim (true_or_false (begins (λ c. c == quote) found.rest)) [
       | inr none ↦ (
-          let read = string_unterminated quote start found none in
-          not_empty (item_reports false start (start + 1) found.items) _
-          (ap (λ (r : StringRead). r.diagnostics) (sym read) ∙ clean))
+          let read = string_unterminated quote (quote ∷ text) found none in
+          not_empty (item_reports false 0 1 found.items) _
+          (ap (λ (r : Reading). r.diagnostics) (sym read) ∙ clean))
       | inl closed ↦ (
-          let read = string_terminated quote start found closed in
+          let read = string_terminated quote (quote ∷ text) found closed in
           let left = first_is quote found.rest closed in
           let ys = drop 1 found.rest in
           let xs = quote ∷ (string_text found.items ++ (quote ∷ [])) in
@@ -113,9 +123,9 @@ clean_is_string quote start text is clean =
           let again : string_items quote (string_text found.items ++ (quote ∷ ys))
           ≡ record { items = found.items; rest = quote ∷ ys } =
           ap (string_items quote) (sym whole) ∙ ap (λ cs. record { items = found.items; rest = cs }) left in
-          let good = clean_ones start (start + 1) found.items
-          (ap (λ (r : StringRead). r.diagnostics) (sym read) ∙ clean) in
-          let rest_is : (string_read quote start text).rest ≡ ys = ap (λ (r : StringRead). r.rest) read in (
+          let good = clean_ones 0 1 found.items
+          (ap (λ (r : Reading). r.diagnostics) (sym read) ∙ clean) in
+          let rest_is : (string_reading quote text).rest ≡ ys = ap (λ (r : Reading). r.rest) read in (
             xs,
             subst (λ left. BeginsWithString (quote ∷ text) xs left) (sym rest_is)
                 (record {
@@ -155,12 +165,12 @@ one_string text xs ys us vs a b =
     first (c ∷ cs) = c
 
 -- What is read where a string begins is that string, and nothing is reported.
-pub string_read_here : (quote start : ℕ) (text xs ys : List ℕ) (begun : BeginsWithString (quote ∷ text) xs ys)
-    → string_read quote start text ≡ good_string begun.string.items ys
-string_read_here quote start text xs ys begun =
+pub string_read_here : (quote : ℕ) (text xs ys : List ℕ) (begun : BeginsWithString (quote ∷ text) xs ys)
+    → string_reading quote text ≡ good_string xs begun.string.items ys
+string_read_here quote text xs ys begun =
     let same = begun.here ∙ string_here xs ys begun.string in
-    ap (λ c. string_read c start text) (ap first same)
-    ∙ ap (string_read begun.string.quote start) (ap (drop 1) same) ∙ string_is_read start xs ys begun.string
+    ap (λ c. string_reading c text) (ap first same)
+    ∙ ap (string_reading begun.string.quote) (ap (drop 1) same) ∙ string_is_read xs ys begun.string
   where
     first : List ℕ → ℕ
     first [] = 0

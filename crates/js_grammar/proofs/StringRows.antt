@@ -1,4 +1,7 @@
 -- Strings and templates as they are read, one by one: the definitions compute to what stands here.
+use Rattle.js_grammar.specs.Reading.{Reading, read_up_to, size_of}
+use Rattle.js_grammar.specs.StringItems.{quoted_value}
+use Rattle.js_text.specs.Ascii.{grave_accent}
 use Rattle.std.proofs.Common.{◌≡◌, ℕ, Bool, true, false, List, [], ◌∷◌, ◌++◌, refl}
 use Rattle.std.specs.Prelude.{codes}
 use Rattle.std.specs.Char.{encode_utf8}
@@ -12,21 +15,41 @@ use Rattle.js_kind.specs.declared.kind.Kind.TheVariants.{Str, Undetermined, NoSu
 use Rattle.js_kind.specs.declared.kind.Kind.TheVariants.{TemplateMiddle, TemplateTail}
 use Rattle.js_grammar.specs.UnicodeEscape.{four_digits, digits_of_code_point, braced_digits, unicode_escape}
 use Rattle.js_grammar.specs.StringItems.{StringValue, line_continuation, octal_escape, digit_in_template}
-use Rattle.js_grammar.specs.StringItems.{single_character, digit_escape, escape, stretch, string_of_items, string_read}
-use Rattle.js_grammar.specs.StringItems.StringValue.{no_value, units, bad_value}
-use Rattle.js_grammar.specs.Template.{carriage_return_item, template_value, part_of_items, template_part_read}
+use Rattle.js_grammar.specs.StringItems.{single_character, digit_escape, escape, stretch, string_of_items}
+use Rattle.js_grammar.specs.StringItems.{string_reading}
+use Rattle.js_grammar.specs.StringItems.StringValue.{units, bad_value}
+use Rattle.js_grammar.specs.Template.{carriage_return_item, template_value, part_of_items, template_part_reading}
 
--- what is read of a string at the start of a source, where the text follows its quote
+-- a token of the kind, up to where this is left of the text, whose items have the value
+abbrev quoted : Kind → List ℕ → List ℕ → Bool → StringValue → List Diagnostic → Reading
+quoted k text left escaped value reported = record (read_up_to k text left) {
+  escaped = escaped;
+  value = quoted_value escaped value k (size_of (read_up_to k text left));
+  diagnostics = reported;
+}
+
+-- a token that its mark does not end, up to where this is left of the text
+abbrev broken : List ℕ → List ℕ → List Diagnostic → Reading
+broken text left reported = record (read_up_to Undetermined text left) { diagnostics = reported }
+
+-- what is read of a string, where the text follows its quote
 abbrev StringIs : ℕ → List ℕ → Kind → List ℕ → Bool → StringValue → List Diagnostic → Type 0
 StringIs quote text k left escaped value reported =
-    string_read quote 0 text
-    ≡ record { kind = k; rest = left; escaped = escaped; value = value; diagnostics = reported }
+    string_reading quote text ≡ quoted k (quote ∷ text) left escaped value reported
 
--- what is read of a template there, where the text follows its backquote
+abbrev IsBrokenString : ℕ → List ℕ → List ℕ → List Diagnostic → Type 0
+IsBrokenString quote text left reported = string_reading quote text ≡ broken (quote ∷ text) left reported
+
+-- what is read of a template, where the text follows its backquote
 abbrev TemplateIs : List ℕ → Kind → List ℕ → Bool → StringValue → List Diagnostic → Type 0
 TemplateIs text k left escaped value reported =
-    template_part_read TemplateHead NoSubstitutionTemplate 0 text
-    ≡ record { kind = k; rest = left; escaped = escaped; value = value; diagnostics = reported }
+    template_part_reading TemplateHead NoSubstitutionTemplate (grave_accent ∷ text)
+    ≡ quoted k (grave_accent ∷ text) left escaped value reported
+
+abbrev IsBrokenTemplate : List ℕ → List ℕ → List Diagnostic → Type 0
+IsBrokenTemplate text left reported =
+    template_part_reading TemplateHead NoSubstitutionTemplate (grave_accent ∷ text)
+    ≡ broken (grave_accent ∷ text) left reported
 
 -- good strings
 strings :
@@ -52,23 +75,23 @@ strings = (refl, refl, refl, refl, refl, refl, refl, refl, refl, refl, refl, ref
 
 -- strings at fault
 broken_strings :
-    StringIs quotation_mark (codes "\\") Undetermined [] false no_value
+    IsBrokenString quotation_mark (codes "\\") []
     (UnterminatedString (stretch 0 2) ∷ UnterminatedString (stretch 0 2) ∷ [])
     × StringIs quotation_mark (codes "\\uD83D\\u\"") Str [] true (units (0xD83D ∷ []))
     (InvalidEscapeSequence (stretch 7 9) ∷ [])
     × StringIs quotation_mark (codes "\\u{110000}\"") Str [] true (units (codes "}"))
     (InvalidEscapeSequence (stretch 1 10) ∷ [])
-    × StringIs quotation_mark (codes "ab" ++ (line_feed ∷ [])) Undetermined [] false no_value
+    × IsBrokenString quotation_mark (codes "ab" ++ (line_feed ∷ [])) []
     (UnterminatedString (stretch 0 4) ∷ [])
-    × StringIs quotation_mark (codes "ab" ++ (carriage_return ∷ line_feed ∷ [])) Undetermined (line_feed ∷ []) false
-    no_value (UnterminatedString (stretch 0 4) ∷ [])
+    × IsBrokenString quotation_mark (codes "ab" ++ (carriage_return ∷ line_feed ∷ [])) (line_feed ∷ [])
+    (UnterminatedString (stretch 0 4) ∷ [])
     × StringIs quotation_mark (codes "\\xg\\x4\"") Str [] true (units (codes "g"))
     (InvalidEscapeSequence (stretch 1 3) ∷ InvalidEscapeSequence (stretch 4 7) ∷ [])
     × StringIs quotation_mark (codes "\\u{}\"") Str [] true (units (codes "}"))
     (InvalidEscapeSequence (stretch 1 4) ∷ [])
     × StringIs quotation_mark (codes "\\u{12\"") Str [] true (units [])
     (InvalidEscapeSequence (stretch 1 6) ∷ [])
-    × StringIs quotation_mark [] Undetermined [] false no_value (UnterminatedString (stretch 0 1) ∷ [])
+    × IsBrokenString quotation_mark [] [] (UnterminatedString (stretch 0 1) ∷ [])
 unfolding is_digit_of is_line_terminator encode_utf8 four_digits digits_of_code_point braced_digits unicode_escape
     line_continuation octal_escape digit_in_template single_character digit_escape escape string_of_items
 broken_strings = (refl, refl, refl, refl, refl, refl, refl, refl, refl)
@@ -80,10 +103,10 @@ templates :
     × TemplateIs (codes "a$b$`") NoSubstitutionTemplate [] false (units (codes "a$b$")) []
     × TemplateIs (codes "\\`\\${`") NoSubstitutionTemplate [] true (units (codes "`${")) []
     × TemplateIs (codes "a" ++ (carriage_return ∷ line_feed ∷ codes "\\u`")) NoSubstitutionTemplate [] true bad_value []
-    × TemplateIs (codes "a") Undetermined [] false no_value (UnterminatedString (stretch 0 2) ∷ [])
-    × TemplateIs (codes "\\") Undetermined [] false no_value
+    × IsBrokenTemplate (codes "a") [] (UnterminatedString (stretch 0 2) ∷ [])
+    × IsBrokenTemplate (codes "\\") []
     (UnterminatedString (stretch 0 2) ∷ UnterminatedString (stretch 0 2) ∷ [])
-    × TemplateIs [] Undetermined [] false no_value (UnterminatedString (stretch 0 1) ∷ [])
+    × IsBrokenTemplate [] [] (UnterminatedString (stretch 0 1) ∷ [])
     × TemplateIs (codes "\\0`") NoSubstitutionTemplate [] true (units (0x00 ∷ [])) []
     × TemplateIs (codes "\\00`") NoSubstitutionTemplate [] true bad_value []
     × TemplateIs (codes "\\7`") NoSubstitutionTemplate [] true bad_value []
@@ -92,16 +115,10 @@ templates :
     × TemplateIs (carriage_return ∷ carriage_return ∷ line_feed ∷ codes "`") NoSubstitutionTemplate [] true
     (units (line_feed ∷ line_feed ∷ [])) []
     × TemplateIs (backslash ∷ carriage_return ∷ line_feed ∷ codes "`") NoSubstitutionTemplate [] true (units []) []
-    × (template_part_read TemplateMiddle TemplateTail 5 (codes "c`")
-    ≡ record { kind = TemplateTail; rest = []; escaped = false; value = units (codes "c"); diagnostics = [] })
-    × (template_part_read TemplateMiddle TemplateTail 0 []
-    ≡ record {
-      kind = Undetermined;
-      rest = [];
-      escaped = false;
-      value = no_value;
-      diagnostics = UnterminatedString (stretch 0 1) ∷ [];
-    })
+    × (template_part_reading TemplateMiddle TemplateTail (codes "}c`")
+    ≡ quoted TemplateTail (codes "}c`") [] false (units (codes "c")) [])
+    × (template_part_reading TemplateMiddle TemplateTail (codes "}")
+    ≡ broken (codes "}") [] (UnterminatedString (stretch 0 1) ∷ []))
 unfolding is_digit_of is_line_terminator encode_utf8 four_digits digits_of_code_point braced_digits unicode_escape
     line_continuation octal_escape digit_in_template single_character digit_escape escape carriage_return_item
     template_value part_of_items

@@ -8,11 +8,11 @@ use Rattle.std.specs.Prelude.{codes}
 use Rattle.std.proofs.lemmas.Bool.{eqb-true}
 use Rattle.js_text.specs.Ascii.{line_feed, carriage_return, backslash, grave_accent}
 use Rattle.js_text.specs.Characters.{begins}
-use Rattle.js_grammar.specs.Outcome.{place_behind}
+use Rattle.js_grammar.specs.Reading.{Reading, place_behind}
 use Rattle.js_grammar.specs.StringItems.{Fault, StringItem, StringItems, plain_item, escape, ends_string, string_item}
 use Rattle.js_grammar.specs.StringItems.{no_item, items_before, items_up_to, all_items, string_text, string_units}
 use Rattle.js_grammar.specs.StringItems.{are_good, contains_bad_escape, fault_reports, item_reports}
-use Rattle.js_grammar.specs.StringItems.{is_good, is_bad_escape, StringRead, string_of_items, terminated_string}
+use Rattle.js_grammar.specs.StringItems.{is_good, is_bad_escape, string_of_items, terminated_string}
 use Rattle.js_grammar.specs.StringItems.{unterminated}
 use Rattle.js_grammar.specs.StringItems.Fault.{no_fault, bad_escape, unfinished_escape}
 use Rattle.js_grammar.specs.StringItems.StringValue.{units, bad_value}
@@ -269,43 +269,44 @@ unfolding template_value
 template_value_good items e = rw e refl
 
 -- what is read of a string, by what stands behind its items
-pub string_terminated : (quote start : ℕ) (found : StringItems) → begins (λ c. c == quote) found.rest ≡ true
-    → string_of_items quote start found ≡ terminated_string start found
+pub string_terminated : (quote : ℕ) (text : List ℕ) (found : StringItems) → begins (λ c. c == quote) found.rest ≡ true
+    → string_of_items quote text found ≡ terminated_string text found
 unfolding string_of_items
-string_terminated quote start found e = rw e refl
+string_terminated quote text found e = rw e refl
 
-pub string_unterminated : (quote start : ℕ) (found : StringItems) → begins (λ c. c == quote) found.rest ≡ false
-    → string_of_items quote start found ≡ unterminated false start found
+pub string_unterminated : (quote : ℕ) (text : List ℕ) (found : StringItems)
+    → begins (λ c. c == quote) found.rest ≡ false
+    → string_of_items quote text found ≡ unterminated false text found
 unfolding string_of_items
-string_unterminated quote start found e = rw e refl
+string_unterminated quote text found e = rw e refl
 
 -- and of a part of a template
-pub part_with_tail : (substitute tail : Kind) (start : ℕ) (found : StringItems)
+pub part_with_tail : (substitute tail : Kind) (text : List ℕ) (found : StringItems)
     → begins (λ c. c == grave_accent) found.rest ≡ true
-    → part_of_items substitute tail start found ≡ terminated_part tail start found (drop 1 found.rest)
+    → part_of_items substitute tail text found ≡ terminated_part tail text found (drop 1 found.rest)
 unfolding part_of_items
-part_with_tail substitute tail start found e = rw e refl
+part_with_tail substitute tail text found e = rw e refl
 
-pub part_with_substitution : (substitute tail : Kind) (start : ℕ) (found : StringItems)
+pub part_with_substitution : (substitute tail : Kind) (text : List ℕ) (found : StringItems)
     → begins (λ c. c == grave_accent) found.rest ≡ false → is_prefix (codes "${") found.rest ≡ true
-    → part_of_items substitute tail start found ≡ terminated_part substitute start found (drop 2 found.rest)
+    → part_of_items substitute tail text found ≡ terminated_part substitute text found (drop 2 found.rest)
 unfolding part_of_items
-part_with_substitution substitute tail start found e p = if_not _ _ _ e ∙ if_so _ _ _ p
+part_with_substitution substitute tail text found e p = if_not _ _ _ e ∙ if_so _ _ _ p
   where
-    if_so : (b : Bool) (x y : StringRead) → b ≡ true → cond b x y ≡ x
+    if_so : (b : Bool) (x y : Reading) → b ≡ true → cond b x y ≡ x
     if_so true x y e = refl
     if_so false x y e = absurd (cc)
 
-    if_not : (b : Bool) (x y : StringRead) → b ≡ false → cond b x y ≡ y
+    if_not : (b : Bool) (x y : Reading) → b ≡ false → cond b x y ≡ y
     if_not true x y e = absurd (cc)
     if_not false x y e = refl
 
-pub part_unterminated : (substitute tail : Kind) (start : ℕ) (found : StringItems)
+pub part_unterminated : (substitute tail : Kind) (text : List ℕ) (found : StringItems)
     → begins (λ c. c == grave_accent) found.rest ≡ false → is_prefix (codes "${") found.rest ≡ false
-    → part_of_items substitute tail start found ≡ unterminated true start found
+    → part_of_items substitute tail text found ≡ unterminated true text found
 unfolding part_of_items
-part_unterminated substitute tail start found e p = if_not _ _ _ e ∙ if_not _ _ _ p
+part_unterminated substitute tail text found e p = if_not _ _ _ e ∙ if_not _ _ _ p
   where
-    if_not : (b : Bool) (x y : StringRead) → b ≡ false → cond b x y ≡ y
+    if_not : (b : Bool) (x y : Reading) → b ≡ false → cond b x y ≡ y
     if_not true x y e = absurd (cc)
     if_not false x y e = refl

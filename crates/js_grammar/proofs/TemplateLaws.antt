@@ -1,5 +1,8 @@
 -- Laws of templates: a part is what is read without a fault, and nothing else.
-use Rattle.std.proofs.Common.{◌≡◌, ℕ, zero, suc, ◌+◌, ◌<◌, true, false, ◌==◌, List, [], ◌∷◌, ◌++◌, length, drop}
+use Rattle.std.specs.Str.{encode_utf8_all}
+use Rattle.std.proofs.Common.{None}
+use Rattle.js_grammar.proofs.ReadingLemmas.{taken_is}
+use Rattle.std.proofs.Common.{◌≡◌, ℕ, zero, suc, ◌<◌, true, false, ◌==◌, List, [], ◌∷◌, ◌++◌, length, drop}
 use Rattle.std.proofs.Common.{refl, sym, ◌∙◌, ap, arith, inl, inr, append_assoc, subst}
 use Rattle.std.specs.Prelude.{codes}
 use Rattle.js_text.specs.Ascii.{grave_accent}
@@ -7,11 +10,11 @@ use Rattle.js_text.specs.Characters.{begins}
 use Rattle.js_kind.specs.declared.kind.Kind.{Kind}
 use Rattle.js_kind.specs.declared.kind.Kind.TheVariants.{NoSubstitutionTemplate, TemplateHead}
 use Rattle.js_grammar.specs.Gap.{is_prefix}
-use Rattle.js_grammar.specs.Outcome.{place_behind}
+use Rattle.js_grammar.specs.Reading.{Reading, place_behind}
 use Rattle.js_grammar.specs.StringItems.{Fault, StringItem, StringItems, items_up_to, string_text, contains_escape}
-use Rattle.js_grammar.specs.StringItems.{fault_reports, item_reports, StringRead}
+use Rattle.js_grammar.specs.StringItems.{fault_reports, item_reports, quoted_value}
 use Rattle.js_grammar.specs.StringItems.Fault.{no_fault, bad_escape, unfinished_escape}
-use Rattle.js_grammar.specs.Template.{template_items, template_item, template_value, template_part_read, IsPart}
+use Rattle.js_grammar.specs.Template.{template_items, template_item, template_value, template_part_reading, IsPart}
 use Rattle.js_grammar.specs.Template.{IsTemplatePart, part_of_items}
 use Rattle.js_grammar.specs.Template.IsTemplatePart.{no_substitution, head}
 use Rattle.js_grammar.proofs.EscapeCases.{first_is}
@@ -53,54 +56,63 @@ finished start place (suc most) text h =
     silent start place end bad_escape h = refl
     silent start place end unfinished_escape h = absurd (h refl)
 
-pub finished_items : (start : ℕ) (text : List ℕ) → 0 < length (template_items text).rest
-    → item_reports true start (start + 1) (template_items text).items ≡ []
-finished_items start text h = finished start (start + 1) (length text) text h
+pub finished_items : (text : List ℕ) → 0 < length (template_items text).rest
+    → item_reports true 0 1 (template_items text).items ≡ []
+finished_items text h = finished 0 1 (length text) text h
 
--- what is read of a part of a template without a fault
-abbrev pub good_part : Kind → List StringItem → List ℕ → StringRead
-good_part kind items ys = record {
-  kind = kind;
+-- what is read of a part of a template of these characters without a fault
+abbrev pub good_part : Kind → List ℕ → List StringItem → List ℕ → Reading
+good_part kind xs items ys = record {
+  taken = xs;
   rest = ys;
+  kind = kind;
+  line_ended = false;
   escaped = contains_escape items;
-  value = template_value items;
+  has_separator = false;
+  value = quoted_value (contains_escape items) (template_value items) kind (length (encode_utf8_all xs));
+  regex = None;
   diagnostics = [];
 }
 
-part_reports : (start : ℕ) (opening : ℕ) (closing xs ys : List ℕ) (part : IsPart opening closing xs ys)
-    → 0 < length (closing ++ ys) → item_reports true start (start + 1) part.items ≡ []
-part_reports start opening closing xs ys part h =
+part_reports : (opening : ℕ) (closing xs ys : List ℕ) (part : IsPart opening closing xs ys)
+    → 0 < length (closing ++ ys) → item_reports true 0 1 part.items ≡ []
+part_reports opening closing xs ys part h =
     let text = string_text part.items ++ (closing ++ ys) in
-    ap (λ (found : StringItems). item_reports true start (start + 1) found.items) (sym part.found)
-    ∙ finished_items start text
+    ap (λ (found : StringItems). item_reports true 0 1 found.items) (sym part.found)
+    ∙ finished_items text
     (subst (λ n. 0 < n) (sym (ap (λ (found : StringItems). length found.rest) part.found)) h)
-
--- A part is read as such.
-pub tail_is_read : (substitute tail : Kind) (start : ℕ) (opening : ℕ) (xs ys : List ℕ)
-    (part : IsPart opening (codes "`") xs ys)
-    → template_part_read substitute tail start (string_text part.items ++ (codes "`" ++ ys))
-    ≡ good_part tail part.items ys
-tail_is_read substitute tail start opening xs ys part =
-    ap (part_of_items substitute tail start) part.found
-    ∙ part_with_tail substitute tail start (record { items = part.items; rest = codes "`" ++ ys }) refl
-    ∙ ap (λ ds. record (good_part tail part.items ys) { diagnostics = ds })
-    (part_reports start opening (codes "`") xs ys part (omega arith))
-
-pub substitution_is_read : (substitute tail : Kind) (start : ℕ) (opening : ℕ) (xs ys : List ℕ)
-    (part : IsPart opening (codes "${") xs ys)
-    → template_part_read substitute tail start (string_text part.items ++ (codes "${" ++ ys))
-    ≡ good_part substitute part.items ys
-substitution_is_read substitute tail start opening xs ys part =
-    ap (part_of_items substitute tail start) part.found
-    ∙ part_with_substitution substitute tail start (record { items = part.items; rest = codes "${" ++ ys }) refl refl
-    ∙ ap (λ ds. record (good_part substitute part.items ys) { diagnostics = ds })
-    (part_reports start opening (codes "${") xs ys part (omega arith))
 
 pub part_here : (opening : ℕ) (closing xs ys : List ℕ) (part : IsPart opening closing xs ys)
     → xs ++ ys ≡ opening ∷ (string_text part.items ++ (closing ++ ys))
 part_here opening closing xs ys part =
     ap (λ cs. cs ++ ys) part.here
     ∙ ap (λ cs. opening ∷ cs) (append_assoc (string_text part.items) closing ys)
+
+-- A part is read as such.
+pub tail_is_read : (substitute tail : Kind) (opening : ℕ) (xs ys : List ℕ) (part : IsPart opening (codes "`") xs ys)
+    → template_part_reading substitute tail (opening ∷ (string_text part.items ++ (codes "`" ++ ys)))
+    ≡ good_part tail xs part.items ys
+tail_is_read substitute tail opening xs ys part =
+    let text = opening ∷ (string_text part.items ++ (codes "`" ++ ys)) in
+    ap (part_of_items substitute tail text) part.found
+    ∙ part_with_tail substitute tail text (record { items = part.items; rest = codes "`" ++ ys }) refl
+    ∙ rw (
+      taken_is text xs ys (sym (part_here opening (codes "`") xs ys part)),
+      part_reports opening (codes "`") xs ys part (omega arith),
+    ) refl
+
+pub substitution_is_read : (substitute tail : Kind) (opening : ℕ) (xs ys : List ℕ)
+    (part : IsPart opening (codes "${") xs ys)
+    → template_part_reading substitute tail (opening ∷ (string_text part.items ++ (codes "${" ++ ys)))
+    ≡ good_part substitute xs part.items ys
+substitution_is_read substitute tail opening xs ys part =
+    let text = opening ∷ (string_text part.items ++ (codes "${" ++ ys)) in
+    ap (part_of_items substitute tail text) part.found
+    ∙ part_with_substitution substitute tail text (record { items = part.items; rest = codes "${" ++ ys }) refl refl
+    ∙ rw (
+      taken_is text xs ys (sym (part_here opening (codes "${") xs ys part)),
+      part_reports opening (codes "${") xs ys part (omega arith),
+    ) refl
 
 -- xs is a template or the first part of one that the text begins with, and ys follow it
 pub record BeginsWithTemplate (text xs ys : List ℕ) (kind : Kind) : Type 0 where
@@ -124,30 +136,31 @@ found_part opening closing text ys left =
     )
 
 -- What is read without a fault is a template, or the first part of one.
-pub clean_is_template : (start : ℕ) (text : List ℕ)
-    → (template_part_read TemplateHead NoSubstitutionTemplate start text).diagnostics ≡ []
+pub clean_is_template : (text : List ℕ)
+    → (template_part_reading TemplateHead NoSubstitutionTemplate (grave_accent ∷ text)).diagnostics ≡ []
     → (xs : List ℕ) × BeginsWithTemplate (grave_accent ∷ text) xs
-    (template_part_read TemplateHead NoSubstitutionTemplate start text).rest
-    (template_part_read TemplateHead NoSubstitutionTemplate start text).kind
-clean_is_template start text clean =
+    (template_part_reading TemplateHead NoSubstitutionTemplate (grave_accent ∷ text)).rest
+    (template_part_reading TemplateHead NoSubstitutionTemplate (grave_accent ∷ text)).kind
+clean_is_template text clean =
     let found = template_items text in
+    let whole = grave_accent ∷ text in
     elim (true_or_false (begins (λ c. c == grave_accent) found.rest)) [
       | inl tail ↦ (
-          let read = part_with_tail TemplateHead NoSubstitutionTemplate start found tail in
+          let read = part_with_tail TemplateHead NoSubstitutionTemplate whole found tail in
           let part = found_part grave_accent (codes "`") text (drop 1 found.rest) (first_is grave_accent found.rest
           tail) in
           (part.0, rw read (record { here = part.1; part = no_substitution part.2 refl })))
       | inr none ↦
           elim (true_or_false (is_prefix (codes "${") found.rest)) [
             | inl begun ↦ (
-                let read = part_with_substitution TemplateHead NoSubstitutionTemplate start found none begun in
+                let read = part_with_substitution TemplateHead NoSubstitutionTemplate whole found none begun in
                 let part = found_part grave_accent (codes "${") text (drop 2 found.rest)
                 (prefix_is (codes "${") found.rest begun) in
                 (part.0, rw read (record { here = part.1; part = head part.2 refl })))
             | inr other ↦ (
-                let read = part_unterminated TemplateHead NoSubstitutionTemplate start found none other in
-                not_empty (item_reports true start (start + 1) found.items) _
-                (ap (λ (r : StringRead). r.diagnostics) (sym read) ∙ clean))
+                let read = part_unterminated TemplateHead NoSubstitutionTemplate whole found none other in
+                not_empty (item_reports true 0 1 found.items) _
+                (ap (λ (r : Reading). r.diagnostics) (sym read) ∙ clean))
           ]
     ]
 

@@ -14,32 +14,30 @@ use Rattle.js_kind.specs.TokenParts.{TokenParts}
 use Rattle.js_kind.proofs.KindNumbers.{number_injective}
 use Rattle.js_kind.specs.declared.kind.Kind.{Kind}
 use Rattle.js_grammar.specs.Goals.{ReadsHere, ReadsBehindGap, ReadsHashbang, ReadsPlainly, ReadsPart, GoalReads}
-use Rattle.js_grammar.specs.Goals.{spelled_reading, outcome_behind}
+use Rattle.js_grammar.specs.Goals.{spelled_reading, with_gap}
 use Rattle.js_grammar.specs.Goals.{token_alone, line_has_ended_behind}
 use Rattle.js_grammar.specs.Goals.ReadsHere.{spelled as spelled_here, recovers}
 use Rattle.js_grammar.specs.Goals.ReadsPlainly.{hashbang as hashbang_read, behind_gap}
 use Rattle.js_grammar.specs.Hashbang.{IsHashbang}
 use Rattle.js_grammar.specs.Name.{begins_name}
 use Rattle.js_grammar.specs.Number.{begins_number}
-use Rattle.js_grammar.specs.Outcome.{Outcome, gap_findings, joined}
+use Rattle.js_grammar.specs.Outcome.{Outcome, outcome_at}
 use Rattle.js_grammar.specs.declared.goal.Goal.{Goal}
 use Rattle.js_grammar.specs.declared.goal.Goal.TheVariants.{First, Next, TemplateTail as TailGoal}
 use Rattle.js_grammar.specs.declared.goal.Goal.TheVariants.{RegularExpression, RightAngle, TypeScriptLeftAngle}
 use Rattle.js_grammar.specs.declared.goal.Goal.TheVariants.{TypeScriptRightAngle, JsxIdentifier, JsxChild}
 use Rattle.js_grammar.specs.declared.goal.Goal.TheVariants.{JsxAttributeValue}
-use Rattle.js_grammar.specs.Angle.{angle_read, right_angles, first_left_angle, first_right_angle}
-use Rattle.js_grammar.specs.Gap.{Piece}
-use Rattle.js_grammar.specs.GoalRead.{GoalRead}
+use Rattle.js_grammar.specs.Angle.{angle_reading, right_angles, first_left_angle, first_right_angle}
 use Rattle.js_grammar.specs.Goals.{ReadsAgain, ReadsAngle, ReadsAttributeString, ReadsAttributeValue, ReadsExpression}
-use Rattle.js_grammar.specs.Goals.{ReadsFrom, ReadsJsxName, ReadsOn, read_outcome}
+use Rattle.js_grammar.specs.Goals.{ReadsFrom, ReadsJsxName, ReadsOn}
 use Rattle.js_grammar.specs.Goals.ReadsAttributeValue.{string as attribute_string, plain}
-use Rattle.js_grammar.specs.Jsx.{jsx_child_read, jsx_name_read, jsx_string_before, jsx_string_read}
-use Rattle.js_grammar.specs.RegularExpression.{regular_expression_read}
-use Rattle.js_grammar.specs.Goals.{next_part, part_outcome}
+use Rattle.js_grammar.specs.Jsx.{jsx_child_reading, jsx_name_reading, jsx_string_before, jsx_string_reading}
+use Rattle.js_grammar.specs.RegularExpression.{regular_expression_reading}
+use Rattle.std.proofs.lemmas.List.{append_cancel_right}
 use Rattle.js_grammar.specs.Punctuators.{Punctuator, punctuators, IsIn}
 use Rattle.js_grammar.specs.Reads.{IsSpelled, PlainReads, SameReading}
 use Rattle.js_grammar.specs.Reads.PlainReads.{hashbang, spelled}
-use Rattle.js_grammar.specs.Recovery.{Reading}
+use Rattle.js_grammar.specs.Reading.{Reading}
 use Rattle.js_grammar.specs.Spelling.{Spelling, LongestSpelling}
 use Rattle.js_grammar.specs.Spelling.Spelling.{name, private_name, punctuator, number as number_spelled, string}
 use Rattle.js_grammar.specs.Spelling.Spelling.{template, end_of_source}
@@ -237,18 +235,18 @@ plain_reads_unique text t goal line_has_ended place a b utf8 (spelled x h) (spel
     spelled_unique text t line_has_ended place a b utf8 h g
 
 -- what is read behind one gap is one
-reading_unique : (t : SourceType) (line_has_ended : Bool) (place : ℕ) (here : List ℕ) (r s : Reading)
-    → ReadsHere t line_has_ended place here r → ReadsHere t line_has_ended place here s → r ≡ s
-reading_unique t line_has_ended place here r s (spelled_here xs a e) (spelled_here us b f) =
+pub reading_unique : (t : SourceType) (line_has_ended : Bool) (here : List ℕ) (r s : Reading)
+    → ReadsHere t line_has_ended here r → ReadsHere t line_has_ended here s → r ≡ s
+reading_unique t line_has_ended here r s (spelled_here xs a e) (spelled_here us b f) =
     let same = longest_unique t line_has_ended here xs r.rest us s.rest r.kind s.kind a b in
-    e ∙ ap (λ zs. spelled_reading line_has_ended place zs r.rest r.kind) same.0
-    ∙ ap (λ zs. spelled_reading line_has_ended place us zs r.kind) same.1
-    ∙ ap (spelled_reading line_has_ended place us s.rest) same.2 ∙ sym f
-reading_unique t line_has_ended place here r s (spelled_here xs a e) (recovers nothing f) =
+    e ∙ ap (λ zs. spelled_reading zs r.rest r.kind) same.0
+    ∙ ap (λ zs. spelled_reading us zs r.kind) same.1
+    ∙ ap (spelled_reading us s.rest) same.2 ∙ sym f
+reading_unique t line_has_ended here r s (spelled_here xs a e) (recovers nothing f) =
     absurd (nothing xs r.rest r.kind a.here a.spelling)
-reading_unique t line_has_ended place here r s (recovers nothing e) (spelled_here us b f) =
+reading_unique t line_has_ended here r s (recovers nothing e) (spelled_here us b f) =
     absurd (nothing us s.rest s.kind b.here b.spelling)
-reading_unique t line_has_ended place here r s (recovers nothing e) (recovers nothing' f) =
+reading_unique t line_has_ended here r s (recovers nothing e) (recovers nothing' f) =
     let same : Some r ≡ Some s = sym e ∙ f in cc
 
 behind_gap_unique : (text : List ℕ) (t : SourceType) (before : Option TokenParts) (place : ℕ) (a b : Outcome)
@@ -260,18 +258,18 @@ behind_gap_unique text t before place a b utf8 h g =
     g.line_has_ended
     (from_place text a.token.start) (from_place text b.token.start) h.gap g.gap in
     let start : a.token.start ≡ b.token.start = place_unique text _ _ utf8 h.start g.start gaps.2 in
-    let there : ReadsHere t h.line_has_ended a.token.start (from_place text a.token.start) g.reading =
-    subst (λ e. ReadsHere t e a.token.start (from_place text a.token.start) g.reading) (sym gaps.1)
-    (subst (λ p. ReadsHere t g.line_has_ended p (from_place text p) g.reading) (sym start) g.here) in
+    let there : ReadsHere t h.line_has_ended (from_place text a.token.start) g.reading =
+    subst (λ e. ReadsHere t e (from_place text a.token.start) g.reading) (sym gaps.1)
+    (subst (λ p. ReadsHere t g.line_has_ended (from_place text p) g.reading) (sym start) g.here) in
     let reading : h.reading ≡ g.reading =
-    reading_unique t h.line_has_ended a.token.start
-    (from_place text a.token.start) h.reading g.reading h.here there in
-    let end : a.token.end ≡ b.token.end =
-    place_unique text _ _ utf8 h.end g.end (sym h.rest ∙ ap (λ r. r.rest) reading ∙ g.rest) in
-    h.outcome_is ∙ ap (λ ps. outcome_behind t before place ps a.token.start a.token.end h.reading) gaps.0
-    ∙ ap (λ p. outcome_behind t before place g.pieces p a.token.end h.reading) start
-    ∙ ap (λ p. outcome_behind t before place g.pieces b.token.start p h.reading) end
-    ∙ ap (outcome_behind t before place g.pieces b.token.start b.token.end) reading ∙ sym g.outcome_is
+    reading_unique t h.line_has_ended (from_place text a.token.start) h.reading g.reading h.here there in
+    let same : outcome_at h.line_has_ended a.token.start h.reading
+    ≡ outcome_at g.line_has_ended b.token.start g.reading =
+    ap (λ e. outcome_at e a.token.start h.reading) gaps.1
+    ∙ ap (λ p. outcome_at g.line_has_ended p h.reading) start
+    ∙ ap (outcome_at g.line_has_ended b.token.start) reading in
+    h.outcome_is ∙ ap (λ ps. with_gap t before place ps (outcome_at h.line_has_ended a.token.start h.reading)) gaps.0
+    ∙ ap (with_gap t before place g.pieces) same ∙ sym g.outcome_is
 
 hashbang_outcome_unique : (text : List ℕ) (line_has_ended : Bool) (a b : Outcome) → IsUtf8 text
     → ReadsHashbang text line_has_ended a → ReadsHashbang text line_has_ended b → a ≡ b
@@ -305,23 +303,15 @@ plainly_unique text t goal before place a b utf8 (behind_gap x h) (behind_gap y 
 part_unique : (text : List ℕ) (start : ℕ) (a b : Outcome) → IsUtf8 text → ReadsPart text start a
     → ReadsPart text start b → a ≡ b
 part_unique text start a b utf8 h g =
-    let behind : h.behind ≡ g.behind = ap (drop 1) (sym h.here ∙ g.here) in
-    let read = ap (next_part start) behind in
-    let end : a.token.end ≡ b.token.end =
-    place_unique text a.token.end b.token.end utf8 h.end g.end (sym h.rest ∙ ap (λ r. r.rest) read ∙ g.rest) in
-    h.outcome_is ∙ ap (λ p. part_outcome start p (next_part start h.behind)) end
-    ∙ ap (part_outcome start b.token.end) read ∙ sym g.outcome_is
+    h.outcome_is ∙ sym g.outcome_is
 
 -- a token without an escape is one
-from_unique : (text : List ℕ) (line_has_ended : Bool) (start : ℕ) (read : Option GoalRead) (a b : Outcome) → IsUtf8 text
+from_unique : (text : List ℕ) (line_has_ended : Bool) (start : ℕ) (read : Option Reading) (a b : Outcome) → IsUtf8 text
     → ReadsFrom text line_has_ended start read a → ReadsFrom text line_has_ended start read b → a ≡ b
 from_unique text line_has_ended start read a b utf8 h g =
     let both : Some h.found ≡ Some g.found = sym h.read_is ∙ g.read_is in
     let found : h.found ≡ g.found = cc in
-    let end : a.token.end ≡ b.token.end =
-    place_unique text a.token.end b.token.end utf8 h.end g.end (sym h.rest ∙ ap (λ r. r.rest) found ∙ g.rest) in
-    h.outcome_is ∙ ap (λ p. read_outcome line_has_ended start p h.found) end
-    ∙ ap (read_outcome line_has_ended start b.token.end) found ∙ sym g.outcome_is
+    h.outcome_is ∙ ap (outcome_at line_has_ended start) found ∙ sym g.outcome_is
 
 again_unique : (reads : ℕ → Outcome → Type 0) → ((start : ℕ) (a b : Outcome) → reads start a → reads start b → a ≡ b)
     → (before : Option TokenParts) (a b : Outcome) → ReadsAgain reads before a → ReadsAgain reads before b → a ≡ b
@@ -332,13 +322,17 @@ angle_unique : (text : List ℕ) (kinds : List Kind) (before : Option TokenParts
     → ReadsAgain (ReadsAngle text kinds) before a → ReadsAgain (ReadsAngle text kinds) before b → a ≡ b
 angle_unique text kinds before a b utf8 h g =
     again_unique (ReadsAngle text kinds)
-    (λ start c d. from_unique text false start (angle_read kinds (from_place text start)) c d utf8) before a b h g
+    (λ start c d. from_unique text false start (angle_reading kinds (from_place text start)) c d utf8) before a b h g
 
 jsx_name_unique : (text : List ℕ) (before : Option TokenParts) (a b : Outcome) → IsUtf8 text
     → ReadsOn (ReadsJsxName text) before a → ReadsOn (ReadsJsxName text) before b → a ≡ b
 jsx_name_unique text None a b utf8 h g = absurd h
 jsx_name_unique text (Some token) a b utf8 h g =
-    from_unique text false token.start (jsx_name_read (from_place text token.end)) a b utf8 h.reads g.reads
+    let part : h.part ≡ g.part = append_cancel_right h.part g.part (from_place text token.end) (sym h.here ∙ g.here) in
+    from_unique text false token.start (jsx_name_reading g.part (from_place text token.end)) a b utf8
+    (subst (λ part. ReadsFrom text false token.start (jsx_name_reading part (from_place text token.end)) a) part
+    h.reads)
+    g.reads
 
 -- the value of an attribute begins at one place
 attribute_string_unique : (text : List ℕ) (t : SourceType) (before : Option TokenParts) (place : ℕ) (a b : Outcome)
@@ -352,35 +346,29 @@ attribute_string_unique text t before place a b utf8 h g =
     let start : a.token.start ≡ b.token.start =
     place_unique text _ _ utf8 h.reads.begins g.reads.begins gaps.2 in
     let there : ReadsFrom text h.line_has_ended a.token.start
-    (jsx_string_read a.token.start (from_place text a.token.start)) g.string =
-    subst (λ e. ReadsFrom text e a.token.start (jsx_string_read a.token.start (from_place text a.token.start)) g.string)
+    (jsx_string_reading (from_place text a.token.start)) g.string =
+    subst (λ e. ReadsFrom text e a.token.start (jsx_string_reading (from_place text a.token.start)) g.string)
     (sym gaps.1)
-    (subst (λ p. ReadsFrom text g.line_has_ended p (jsx_string_read p (from_place text p)) g.string) (sym start)
+    (subst (λ p. ReadsFrom text g.line_has_ended p (jsx_string_reading (from_place text p)) g.string) (sym start)
     g.reads) in
     let string : h.string ≡ g.string =
-    from_unique text h.line_has_ended a.token.start (jsx_string_read a.token.start (from_place text a.token.start))
+    from_unique text h.line_has_ended a.token.start (jsx_string_reading (from_place text a.token.start))
     h.string g.string utf8 h.reads there in
-    h.outcome_is
-    ∙ ap
-    (λ (ps : List Piece). record h.string {
-      findings = joined (gap_findings t before place ps h.string.token) h.string.findings;
-    }) gaps.0
-    ∙ ap
-    (λ (o : Outcome). record o { findings = joined (gap_findings t before place g.pieces o.token) o.findings }) string
-    ∙ sym g.outcome_is
+    h.outcome_is ∙ ap (λ ps. with_gap t before place ps h.string) gaps.0
+    ∙ ap (with_gap t before place g.pieces) string ∙ sym g.outcome_is
 
 -- a string of an attribute begins with a quote
-string_begins : (start : ℕ) (here : List ℕ) (found : GoalRead) → jsx_string_read start here ≡ Some found
+string_begins : (here : List ℕ) (found : Reading) → jsx_string_reading here ≡ Some found
     → begins is_quote here ≡ true
-string_begins start [] found e = absurd (cc)
-string_begins start (c ∷ cs) found e =
+string_begins [] found e = absurd (cc)
+string_begins (c ∷ cs) found e =
     elim (true_or_false (is_quote c)) [
       | inl is ↦ is
       | inr none ↦ absurd (let no : None ≡ Some found = sym (ap (pick c cs) none) ∙ e in cc)
     ]
   where
-    pick : ℕ → List ℕ → Bool → Option GoalRead
-    pick c cs b = if b then Some (jsx_string_before start (c ∷ cs) (from_first (λ d. d == c) cs)) else None
+    pick : ℕ → List ℕ → Bool → Option Reading
+    pick c cs b = if b then Some (jsx_string_before (c ∷ cs) (from_first (λ d. d == c) cs)) else None
 
 no_string_there : (text : List ℕ) (t : SourceType) (before : Option TokenParts) (place : ℕ) (a b : Outcome)
     → IsUtf8 text → ReadsAttributeString text t before place a
@@ -390,7 +378,7 @@ no_string_there text t before place a b utf8 h none g =
     whole_gap_unique t (line_has_ended_behind before) (from_place text place) h.pieces g.pieces h.line_has_ended
     g.line_has_ended
     (from_place text a.token.start) (from_place text b.token.start) h.gap g.gap in
-    let begun = string_begins a.token.start (from_place text a.token.start) h.reads.found h.reads.read_is in
+    let begun = string_begins (from_place text a.token.start) h.reads.found h.reads.read_is in
     absurd (let no : true ≡ false = sym begun ∙ ap (begins is_quote) gaps.2 ∙ none in cc)
 
 attribute_unique : (text : List ℕ) (t : SourceType) (before : Option TokenParts) (place : ℕ) (a b : Outcome) → IsUtf8 text
@@ -414,7 +402,7 @@ goal_reads_unique text t TailGoal before place a b utf8 h g =
     again_unique (ReadsPart text) (λ start c d. part_unique text start c d utf8) before a b h g
 goal_reads_unique text t RegularExpression before place a b utf8 h g =
     again_unique (ReadsExpression text)
-    (λ start c d. from_unique text false start (regular_expression_read start (from_place text start)) c d utf8)
+    (λ start c d. from_unique text false start (regular_expression_reading (from_place text start)) c d utf8)
     before a b h g
 goal_reads_unique text t RightAngle before place a b utf8 h g = angle_unique text right_angles before a b utf8 h g
 goal_reads_unique text t TypeScriptLeftAngle before place a b utf8 h g =
@@ -423,7 +411,7 @@ goal_reads_unique text t TypeScriptRightAngle before place a b utf8 h g =
     angle_unique text first_right_angle before a b utf8 h g
 goal_reads_unique text t JsxIdentifier before place a b utf8 h g = jsx_name_unique text before a b utf8 h g
 goal_reads_unique text t JsxChild before place a b utf8 h g =
-    from_unique text (line_has_ended_behind before) place (Some (jsx_child_read place (from_place text place))) a b utf8
+    from_unique text (line_has_ended_behind before) place (Some (jsx_child_reading (from_place text place))) a b utf8
     h g
 goal_reads_unique text t JsxAttributeValue before place a b utf8 h g =
     attribute_unique text t before place a b utf8 h g

@@ -5,7 +5,7 @@ use Rattle.js_kind.specs.declared.kind.Kind.{Kind}
 use Rattle.js_kind.specs.declared.kind.Kind.TheVariants.{GtEq, LAngle, RAngle, ShiftRight, ShiftRight3, ShiftRight3Eq}
 use Rattle.js_kind.specs.declared.kind.Kind.TheVariants.{ShiftRightEq}
 use Rattle.js_grammar.specs.Gap.{is_prefix}
-use Rattle.js_grammar.specs.GoalRead.{GoalRead}
+use Rattle.js_grammar.specs.Reading.{Reading, read_up_to}
 
 -- the punctuators that begin with `>`, the longest first
 abbrev pub right_angles : List Kind
@@ -20,12 +20,12 @@ abbrev pub first_right_angle : List Kind
 first_right_angle = RAngle ∷ []
 
 -- a punctuator of this kind, where the text begins with it
-abbrev pub punctuator_read : Kind → List ℕ → GoalRead
-punctuator_read kind text =
-    record { kind = kind; rest = drop (length (kind_text kind)) text; regex = None; diagnostics = [] }
+abbrev pub punctuator_reading : Kind → List ℕ → Reading
+punctuator_reading kind text = read_up_to kind text (drop (length (kind_text kind)) text)
 
 -- The first punctuator of the list that the text begins with.
-abbrev pub angle_read : List Kind → List ℕ → Option GoalRead
-angle_read [] text = None
-angle_read (kind ∷ kinds) text =
-    if is_prefix (kind_text kind) text then Some (punctuator_read kind text) else angle_read kinds text
+abbrev pub angle_reading : List Kind → List ℕ → Option Reading
+angle_reading [] text = None
+angle_reading (kind ∷ kinds) text =
+    if is_prefix (kind_text kind) text then Some (punctuator_reading kind text)
+    else angle_reading kinds text

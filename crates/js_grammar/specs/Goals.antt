@@ -1,74 +1,57 @@
 -- What a reading of each goal gives.
 use Rattle.std.specs.Prelude.{◌≡◌, ℕ, ◌≤◌, Bool, true, false, List, [], ◌∷◌, Option, Some, None, is_none, ◌↔◌}
-use Rattle.std.specs.Prelude.{if◌then◌else◌}
-use Rattle.std.specs.Str.{IsCharBoundary}
+use Rattle.std.specs.Prelude.{◌++◌, length}
+use Rattle.std.specs.Str.{IsCharBoundary, encode_utf8_all}
 use Rattle.js_text.specs.Characters.{begins, from_place}
 use Rattle.js_text.specs.declared.source_type.SourceType.{SourceType}
 use Rattle.js_text.specs.declared.value.RowValue.TheVariants.{Nothing}
-use Rattle.js_grammar.specs.Angle.{angle_read, right_angles, first_left_angle, first_right_angle}
+use Rattle.js_grammar.specs.Angle.{angle_reading, right_angles, first_left_angle, first_right_angle}
 use Rattle.js_grammar.specs.Gap.{Piece, WholeGap}
-use Rattle.js_grammar.specs.GoalRead.{GoalRead}
-use Rattle.js_grammar.specs.Jsx.{jsx_name_read, jsx_child_read, jsx_string_read}
-use Rattle.js_grammar.specs.RegularExpression.{regular_expression_read}
+use Rattle.js_grammar.specs.Jsx.{jsx_name_reading, jsx_child_reading, jsx_string_reading}
+use Rattle.js_grammar.specs.RegularExpression.{regular_expression_reading}
 use Rattle.js_grammar.specs.Hashbang.{begins_hashbang, IsHashbang}
-use Rattle.js_grammar.specs.Outcome.{Outcome, place_behind, joined, reports, no_findings, gap_findings}
+use Rattle.js_grammar.specs.Outcome.{Outcome, joined, no_findings, gap_findings, outcome_at}
 use Rattle.js_grammar.specs.Reads.{PlainReads}
-use Rattle.js_grammar.specs.Recovery.{Reading, recovered}
+use Rattle.js_grammar.specs.Reading.{Reading}
+use Rattle.js_grammar.specs.Recovery.{recovered}
 use Rattle.js_grammar.specs.Spelling.{LongestSpelling, NothingSpelled, is_escaped, has_separator, value_of}
 use Rattle.js_grammar.specs.declared.goal.Goal.{Goal}
 use Rattle.js_grammar.specs.declared.goal.Goal.TheVariants.{First, Next, TemplateTail as TailGoal}
 use Rattle.js_grammar.specs.declared.goal.Goal.TheVariants.{RegularExpression, RightAngle, TypeScriptLeftAngle}
 use Rattle.js_grammar.specs.declared.goal.Goal.TheVariants.{TypeScriptRightAngle, JsxIdentifier, JsxChild}
 use Rattle.js_grammar.specs.declared.goal.Goal.TheVariants.{JsxAttributeValue}
-use Rattle.js_grammar.specs.Quoted.{row_value}
-use Rattle.js_grammar.specs.StringItems.{StringRead, is_quote}
-use Rattle.js_grammar.specs.Template.{template_part_read}
+use Rattle.js_grammar.specs.StringItems.{is_quote}
+use Rattle.js_grammar.specs.Template.{template_part_reading}
 use Rattle.js_grammar.specs.UnicodeEscape.{right_curly_bracket}
-use Rattle.js_grammar.specs.Values.{plain_value}
 use Rattle.js_kind.specs.TokenParts.{TokenParts}
 use Rattle.js_kind.specs.declared.kind.Kind.{Kind}
 use Rattle.js_kind.specs.declared.kind.Kind.TheVariants.{TemplateMiddle, TemplateTail}
 
--- what is read where these characters are spelled at the place, with this kind, and this is left behind them
-abbrev pub spelled_reading : Bool → ℕ → List ℕ → List ℕ → Kind → Reading
-spelled_reading line_has_ended place xs rest kind = record {
-  kind = kind;
+-- what is read where these characters are spelled, with this kind, and this is left behind them
+abbrev pub spelled_reading : List ℕ → List ℕ → Kind → Reading
+spelled_reading xs rest kind = record {
+  taken = xs;
   rest = rest;
-  is_on_new_line = line_has_ended;
+  kind = kind;
+  line_ended = false;
   escaped = is_escaped kind xs;
   has_separator = has_separator kind xs;
-  value = value_of kind xs rest place (place_behind place xs);
+  value = value_of kind xs rest (length (encode_utf8_all xs));
+  regex = None;
   diagnostics = [];
 }
 
--- From a place where a gap has ended: the longest spelling, which reports nothing, or else what is read to recover.
-pub data ReadsHere (t : SourceType) (line_has_ended : Bool) (place : ℕ) (here : List ℕ)
-    (reading : Reading) : Type 0 where
+-- Where a gap has ended: the longest spelling, which reports nothing, or else what is read to recover.
+pub data ReadsHere (t : SourceType) (line_has_ended : Bool) (here : List ℕ) (reading : Reading) : Type 0 where
   spelled : (xs : List ℕ) → LongestSpelling t line_has_ended here xs reading.rest reading.kind
-      → reading ≡ spelled_reading line_has_ended place xs reading.rest reading.kind
-      → ReadsHere t line_has_ended place here reading
-  recovers : NothingSpelled t line_has_ended here → recovered line_has_ended place here ≡ Some reading
-      → ReadsHere t line_has_ended place here reading
+      → reading ≡ spelled_reading xs reading.rest reading.kind → ReadsHere t line_has_ended here reading
+  recovers : NothingSpelled t line_has_ended here → recovered here ≡ Some reading
+      → ReadsHere t line_has_ended here reading
 
--- the token from start to end of what was read
-abbrev pub token_of : ℕ → ℕ → Reading → TokenParts
-token_of start end reading = record {
-  start = start;
-  end = end;
-  kind = reading.kind;
-  is_on_new_line = reading.is_on_new_line;
-  escaped = reading.escaped;
-  has_separator = reading.has_separator;
-}
-
--- a whole gap of these pieces at the place, and what was read behind it, from start to end
-abbrev pub outcome_behind : SourceType → Option TokenParts → ℕ → List Piece → ℕ → ℕ → Reading → Outcome
-outcome_behind t before place pieces start end reading = record {
-  token = token_of start end reading;
-  value = reading.value;
-  regex = None;
-  findings = joined (gap_findings t before place pieces (token_of start end reading)) (reports reading.diagnostics);
-}
+-- an outcome, with a whole gap of these pieces at the place before its token
+abbrev pub with_gap : SourceType → Option TokenParts → ℕ → List Piece → Outcome → Outcome
+with_gap t before place pieces outcome =
+    record outcome { findings = joined (gap_findings t before place pieces outcome.token) outcome.findings }
 
 -- A line has ended before the first token of a lexer, and before no other.
 abbrev pub line_has_ended_behind : Option TokenParts → Bool
@@ -84,9 +67,10 @@ pub record ReadsBehindGap (text : List ℕ) (t : SourceType) (before : Option To
   pub start : IsCharBoundary text outcome.token.start
   pub end : IsCharBoundary text outcome.token.end
   pub reading : Reading
-  pub here : ReadsHere t line_has_ended outcome.token.start (from_place text outcome.token.start) reading
+  pub here : ReadsHere t line_has_ended (from_place text outcome.token.start) reading
   pub rest : reading.rest ≡ from_place text outcome.token.end
-  pub outcome_is : outcome ≡ outcome_behind t before place pieces outcome.token.start outcome.token.end reading
+  pub outcome_is : outcome
+      ≡ with_gap t before place pieces (outcome_at line_has_ended outcome.token.start reading)
 
 -- a token that is read with nothing beside it
 abbrev pub token_alone : TokenParts → Outcome
@@ -109,25 +93,9 @@ pub data ReadsPlainly (text : List ℕ) (t : SourceType) (goal : Goal) (before :
       → ReadsBehindGap text t before place outcome
       → ReadsPlainly text t goal before place outcome
 
--- what is read of a part of a template behind the `}` that begins it, at the start
-abbrev pub next_part : ℕ → List ℕ → StringRead
-next_part start behind = template_part_read TemplateMiddle TemplateTail start behind
-
--- the outcome of a part of a template from start to end, of which this was read
-abbrev pub part_outcome : ℕ → ℕ → StringRead → Outcome
-part_outcome start end read = record {
-  token = record {
-    start = start;
-    end = end;
-    kind = read.kind;
-    is_on_new_line = false;
-    escaped = read.escaped;
-    has_separator = false;
-  };
-  value = if read.escaped then row_value read.value else plain_value read.kind start end;
-  regex = None;
-  findings = reports read.diagnostics;
-}
+-- what is read of a part of a template from the `}` on that begins it
+abbrev pub next_part : List ℕ → Reading
+next_part here = template_part_reading TemplateMiddle TemplateTail here
 
 -- The next part of a template, from the `}` on that stands at the start: no gap is before it.
 pub record ReadsPart (text : List ℕ) (start : ℕ) (outcome : Outcome) : Type 0 where
@@ -135,58 +103,40 @@ pub record ReadsPart (text : List ℕ) (start : ℕ) (outcome : Outcome) : Type 
   pub behind : List ℕ
   pub here : from_place text start ≡ right_curly_bracket ∷ behind
   pub end : IsCharBoundary text outcome.token.end
-  pub rest : (next_part start behind).rest ≡ from_place text outcome.token.end
-  pub outcome_is : outcome ≡ part_outcome start outcome.token.end (next_part start behind)
+  pub rest : (next_part (from_place text start)).rest ≡ from_place text outcome.token.end
+  pub outcome_is : outcome ≡ outcome_at false start (next_part (from_place text start))
 
 -- A token is read again, from its start.
 abbrev pub ReadsAgain : (ℕ → Outcome → Type 0) → Option TokenParts → Outcome → Type 0
 ReadsAgain reads None outcome = ⊥
 ReadsAgain reads (Some token) outcome = reads token.start outcome
 
--- the token from start to end of which this was read
-abbrev pub read_token : Bool → ℕ → ℕ → Kind → TokenParts
-read_token line_has_ended start end kind = record {
-  start = start;
-  end = end;
-  kind = kind;
-  is_on_new_line = line_has_ended;
-  escaped = false;
-  has_separator = false;
-}
-
--- its outcome
-abbrev pub read_outcome : Bool → ℕ → ℕ → GoalRead → Outcome
-read_outcome line_has_ended start end read = record {
-  token = read_token line_has_ended start end read.kind;
-  value = plain_value read.kind start end;
-  regex = read.regex;
-  findings = reports read.diagnostics;
-}
-
 -- A token from the start on, of which this was read, if there is one.
-pub record ReadsFrom (text : List ℕ) (line_has_ended : Bool) (start : ℕ) (read : Option GoalRead) (outcome : Outcome)
+pub record ReadsFrom (text : List ℕ) (line_has_ended : Bool) (start : ℕ) (read : Option Reading) (outcome : Outcome)
     : Type 0 where
   pub begins : IsCharBoundary text start
-  pub found : GoalRead
+  pub found : Reading
   pub read_is : read ≡ Some found
   pub end : IsCharBoundary text outcome.token.end
   pub rest : found.rest ≡ from_place text outcome.token.end
-  pub outcome_is : outcome ≡ read_outcome line_has_ended start outcome.token.end found
+  pub outcome_is : outcome ≡ outcome_at line_has_ended start found
 
 -- The regular expression that begins at the start.
 abbrev pub ReadsExpression : List ℕ → ℕ → Outcome → Type 0
 ReadsExpression text start outcome =
-    ReadsFrom text false start (regular_expression_read start (from_place text start)) outcome
+    ReadsFrom text false start (regular_expression_reading (from_place text start)) outcome
 
 -- The first of these punctuators that the start begins with.
 abbrev pub ReadsAngle : List ℕ → List Kind → ℕ → Outcome → Type 0
-ReadsAngle text kinds start outcome = ReadsFrom text false start (angle_read kinds (from_place text start)) outcome
+ReadsAngle text kinds start outcome = ReadsFrom text false start (angle_reading kinds (from_place text start)) outcome
 
 -- The name of JSX that goes on behind a name.
 pub record ReadsJsxName (text : List ℕ) (name : TokenParts) (outcome : Outcome) : Type 0 where
   pub ordered : name.start ≤ name.end
   pub name_end : IsCharBoundary text name.end
-  pub reads : ReadsFrom text false name.start (jsx_name_read (from_place text name.end)) outcome
+  pub part : List ℕ
+  pub here : from_place text name.start ≡ part ++ from_place text name.end
+  pub reads : ReadsFrom text false name.start (jsx_name_reading part (from_place text name.end)) outcome
 
 -- The string of an attribute, behind a whole gap; `before` is the token before the gap, if there is one.
 pub record ReadsAttributeString (text : List ℕ) (t : SourceType) (before : Option TokenParts) (place : ℕ)
@@ -197,9 +147,8 @@ pub record ReadsAttributeString (text : List ℕ) (t : SourceType) (before : Opt
       (from_place text outcome.token.start)
   pub string : Outcome
   pub reads : ReadsFrom text line_has_ended outcome.token.start
-      (jsx_string_read outcome.token.start (from_place text outcome.token.start)) string
-  pub outcome_is : outcome
-      ≡ record string { findings = joined (gap_findings t before place pieces string.token) string.findings }
+      (jsx_string_reading (from_place text outcome.token.start)) string
+  pub outcome_is : outcome ≡ with_gap t before place pieces string
 
 -- The value of an attribute: a string, where a quote stands behind the whole gap, or a token of the plain goal.
 pub data ReadsAttributeValue (text : List ℕ) (t : SourceType) (before : Option TokenParts) (place : ℕ)
@@ -227,7 +176,7 @@ GoalReads text t TypeScriptRightAngle before place outcome =
     ReadsAgain (ReadsAngle text first_right_angle) before outcome
 GoalReads text t JsxIdentifier before place outcome = ReadsOn (ReadsJsxName text) before outcome
 GoalReads text t JsxChild before place outcome =
-    ReadsFrom text (line_has_ended_behind before) place (Some (jsx_child_read place (from_place text place))) outcome
+    ReadsFrom text (line_has_ended_behind before) place (Some (jsx_child_reading (from_place text place))) outcome
 GoalReads text t JsxAttributeValue before place outcome = ReadsAttributeValue text t before place outcome
 
 -- What the grammar says of a reading of the first or the plain goal: it has no diagnostic exactly where the grammar

@@ -3,7 +3,6 @@ pub mod Attach
 pub mod CommentClasses
 pub mod Gap
 pub mod GapItems
-pub mod GoalRead
 pub mod Goals
 pub mod Hashbang
 pub mod Jsx
@@ -16,11 +15,14 @@ pub mod Punctuators
 pub mod Quoted
 pub mod ReLexed
 pub mod Reads
+pub mod Reading
+pub mod Readings
 pub mod Recovery
 pub mod RegularExpression
 pub mod Spelling
 pub mod StringItems
 pub mod Template
+pub mod TokenText
 pub mod TokensAround
 pub mod UnicodeEscape
 pub mod Values

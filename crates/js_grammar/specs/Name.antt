@@ -4,15 +4,20 @@ use Rattle.std.specs.Prelude.{◌==◌, ◌&&◌, ◌||◌, not, Option, Some, N
 use Rattle.std.specs.Char.Utf16.{is_high_surrogate, is_low_surrogate}
 use Rattle.std.specs.List.{list_any, flat_map}
 use Rattle.std.specs.Option.{option_map_or}
+use Rattle.std.specs.Str.{encode_utf8_all}
 use Rattle.js_text.specs.Ascii.{backslash}
 use Rattle.js_text.specs.Characters.{begins, is_identifier_start, is_identifier_part}
+use Rattle.js_text.specs.JsStr.{units_of}
 use Rattle.js_text.specs.declared.diagnostic.Diagnostic.{Diagnostic}
 use Rattle.js_text.specs.declared.diagnostic.Diagnostic.TheVariants.{InvalidCharacter, UnexpectedEnd}
 use Rattle.js_text.specs.declared.diagnostic.Diagnostic.TheVariants.{UnicodeEscapeSequence}
+use Rattle.js_text.specs.declared.value.RowValue.{RowValue}
+use Rattle.js_text.specs.declared.value.RowValue.TheVariants.{Slice, Units}
 use Rattle.js_grammar.specs.Gap.{is_prefix}
 use Rattle.js_grammar.specs.NumberReads.{empty_span}
-use Rattle.js_grammar.specs.Outcome.{place_behind}
+use Rattle.js_grammar.specs.Reading.{Reading, read_up_to, place_behind}
 use Rattle.js_grammar.specs.UnicodeEscape.{UnicodeEscape, unicode_escape, four_digits, left_curly_bracket}
+use Rattle.js_kind.specs.Keywords.{name_kind}
 use Rattle.js_kind.specs.declared.kind.Kind.{Kind}
 use Rattle.js_kind.specs.declared.kind.Kind.TheVariants.{Eof, PrivateIdentifier, Undetermined}
 
@@ -170,61 +175,53 @@ abbrev pub items_report : ℕ → List NameItem → List Diagnostic
 items_report place [] = []
 items_report place (item ∷ items) = item_report place item ++ items_report (place_behind place item.text) items
 
--- What is read of a name: what is left of the text behind it, its escaped flag, the characters that it stands for, and
--- what is reported.
-pub record NameRead : Type 0 where
-  pub rest : List ℕ
-  pub has_escape : Bool
-  pub decoded : List ℕ
-  pub diagnostics : List Diagnostic
+-- The value of a name from start to end, without a `#`, that stands for these characters: its stretch of the source, or
+-- where it has an escape, its characters as UTF-16 units.
+abbrev pub name_value : Bool → List ℕ → ℕ → ℕ → RowValue
+name_value escaped cs start end =
+    if escaped then Units (units_of cs) else Slice (record { start = start; end = end })
 
--- what is read of items that begin at the place, where the text begins with them
-unfoldable pub items_read : ℕ → List NameItem → List ℕ → NameRead
-items_read place items text = record {
-  rest = drop (length (items_text items)) text;
-  has_escape = list_any (λ item. item.is_escape) items;
-  decoded = items_value items;
-  diagnostics = items_report place items;
-}
+-- an escape is among items
+abbrev pub contains_escape : List NameItem → Bool
+contains_escape items = list_any (λ item. item.is_escape) items
 
--- What is read of the name that begins at a place of the source, where this text is left of the source.
-abbrev pub name_read : ℕ → List ℕ → NameRead
-name_read place text = items_read place (name_items is_identifier_start text) text
+-- what is left of a text that begins with items
+abbrev pub behind_items : List NameItem → List ℕ → List ℕ
+behind_items items text = drop (length (items_text items)) text
 
--- What is read behind a `#`: a name's reading, with the kind of the token.
-pub record PrivateRead : Type 0 where
-  pub kind : Kind
-  pub rest : List ℕ
-  pub has_escape : Bool
-  pub decoded : List ℕ
-  pub diagnostics : List Diagnostic
+-- what is read of items, where the text begins with them
+unfoldable pub items_reading : List NameItem → List ℕ → Reading
+items_reading items text =
+    record (read_up_to (name_kind (encode_utf8_all (items_value items))) text (behind_items items text)) {
+      escaped = contains_escape items;
+      value = name_value (contains_escape items) (items_value items) 0 (length (encode_utf8_all (items_text items)));
+      diagnostics = items_report 0 items;
+    }
 
--- a private name of this name
-abbrev pub named : NameRead → PrivateRead
-named read = record {
-  kind = PrivateIdentifier;
-  rest = read.rest;
-  has_escape = read.has_escape;
-  decoded = read.decoded;
-  diagnostics = read.diagnostics;
+-- What is read of the name that the text begins with.
+abbrev pub name_reading : List ℕ → Reading
+name_reading text = items_reading (name_items is_identifier_start text) text
+
+-- a private name of these items, which stand behind the `#` that the text begins with
+unfoldable pub private_name_of : List NameItem → List ℕ → Reading
+private_name_of items text = record (read_up_to PrivateIdentifier text (behind_items items (drop 1 text))) {
+  escaped = contains_escape items;
+  value = name_value (contains_escape items) (items_value items) 1 (1 + length (encode_utf8_all (items_text items)));
+  diagnostics = items_report 1 items;
 }
 
 -- a `#` that no name follows: all that is left of the source belongs to the token
-abbrev pub unnamed : Kind → Diagnostic → PrivateRead
-unnamed kind diagnostic = record {
-  kind = kind;
-  rest = [];
-  has_escape = false;
-  decoded = [];
-  diagnostics = diagnostic ∷ [];
-}
+abbrev pub unnamed : Kind → List ℕ → Diagnostic → Reading
+unnamed kind text diagnostic = record (read_up_to kind text []) { diagnostics = diagnostic ∷ [] }
 
--- what is read behind a `#` that no name follows
-abbrev pub no_private_name : ℕ → List ℕ → PrivateRead
-no_private_name place [] = unnamed Undetermined (UnexpectedEnd (empty_span place))
-no_private_name place (c ∷ cs) =
-    unnamed Eof (InvalidCharacter c (record { start = place; end = place_behind place (c ∷ []) }))
+-- what is read of a `#` that this follows, and no name
+abbrev pub no_private_name : List ℕ → List ℕ → Reading
+no_private_name text [] = unnamed Undetermined text (UnexpectedEnd (empty_span 1))
+no_private_name text (c ∷ cs) =
+    unnamed Eof text (InvalidCharacter c (record { start = 1; end = place_behind 1 (c ∷ []) }))
 
--- What is read behind a `#`, at a place of the source where this text is left of it.
-abbrev pub private_read : ℕ → List ℕ → PrivateRead
-private_read place text = if begins_name text then named (name_read place text) else no_private_name place text
+-- What is read of the `#` that the text begins with, and what follows it.
+abbrev pub private_reading : List ℕ → Reading
+private_reading text =
+    if begins_name (drop 1 text) then private_name_of (name_items is_identifier_start (drop 1 text)) text
+    else no_private_name text (drop 1 text)

@@ -12,7 +12,7 @@ use Rattle.js_kind.specs.Digits.{is_digit_of}
 use Rattle.js_grammar.specs.Number.{sign_kind, is_exponent_mark, digit_zero, latin_small_letter_n}
 use Rattle.js_grammar.specs.Number.{may_not_follow_number}
 use Rattle.js_grammar.specs.Number.Sign.{no_sign, plus, minus}
-use Rattle.js_grammar.specs.Outcome.{place_behind}
+use Rattle.js_grammar.specs.Reading.{Reading, read_up_to, place_behind}
 use Rattle.js_kind.specs.declared.kind.Kind.{Kind}
 use Rattle.js_kind.specs.declared.kind.Kind.TheVariants.{Eof, Decimal, Float, Octal, DecimalBigInt}
 
@@ -152,37 +152,27 @@ abbrev pub invalid_number_end : ℕ → List ℕ → Diagnostic
 invalid_number_end place text =
     InvalidNumberEnd (record { start = place; end = place_behind place (invalid_end text) })
 
--- What is read of a number: its kind, what is left of the text behind it, its separator flag, and what is reported.
-pub record NumberRead : Type 0 where
-  pub kind : Kind
-  pub rest : List ℕ
-  pub has_separator : Bool
-  pub diagnostics : List Diagnostic
-
--- what is read of items that begin at a place and end well
-abbrev pub well_ended : ℕ → Items → NumberRead
-well_ended place number = record {
-  kind = number.kind;
-  rest = number.rest;
+-- what is read of items that begin the text and end well
+abbrev pub well_ended : List ℕ → Items → Reading
+well_ended text number = record (read_up_to number.kind text number.rest) {
   has_separator = contains_separator (items_text number.items);
-  diagnostics = missing_digits place number.items;
+  diagnostics = missing_digits 0 number.items;
 }
 
 -- and of items that a text follows which may not: the token goes on to the end of the source
-abbrev pub badly_ended : ℕ → Items → NumberRead
-badly_ended place number = record (well_ended place number) {
-  kind = Eof;
-  rest = [];
+abbrev pub badly_ended : List ℕ → Items → Reading
+badly_ended text number = record (read_up_to Eof text []) {
+  has_separator = contains_separator (items_text number.items);
   diagnostics =
-      missing_digits place number.items
-      ++ invalid_number_end (place_behind place (items_text number.items)) number.rest ∷ [];
+      missing_digits 0 number.items
+      ++ invalid_number_end (place_behind 0 (items_text number.items)) number.rest ∷ [];
 }
 
--- what is read of items that begin at a place
-unfoldable pub items_read : ℕ → Items → NumberRead
-items_read place number =
-    if begins may_not_follow_number number.rest then badly_ended place number else well_ended place number
+-- what is read of items that begin the text
+unfoldable pub items_reading : List ℕ → Items → Reading
+items_reading text number =
+    if begins may_not_follow_number number.rest then badly_ended text number else well_ended text number
 
--- What is read of the number that begins at a place of the source, where this text is left of the source.
-abbrev pub number_read : ℕ → List ℕ → NumberRead
-number_read place text = items_read place (number_items text)
+-- What is read of the number that the text begins with.
+abbrev pub number_reading : List ℕ → Reading
+number_reading text = items_reading text (number_items text)

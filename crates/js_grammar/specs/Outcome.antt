@@ -1,7 +1,7 @@
 -- What a reading gives: a token with its value, and what it adds to the lists of a lexer.
 use Rattle.std.specs.Prelude.{ℕ, ◌+◌, ◌≤◌, List, [], ◌∷◌, ◌++◌, length, take, drop, Option, is_none}
-use Rattle.std.specs.Prelude.{if◌then◌else◌}
-use Rattle.std.specs.Str.{encode_utf8_all}
+use Rattle.std.specs.Prelude.{Bool, ◌||◌, if◌then◌else◌}
+use Rattle.std.specs.Option.{option_map}
 use Rattle.js_text.specs.declared.comment.Comment.{Comment}
 use Rattle.js_text.specs.declared.diagnostic.Diagnostic.{Diagnostic}
 use Rattle.js_text.specs.declared.diagnostic.Diagnostic.TheVariants.{HtmlCommentInModule}
@@ -16,6 +16,7 @@ use Rattle.js_grammar.specs.Gap.PieceKind.{white_space, line_terminator, single_
 use Rattle.js_grammar.specs.Gap.PieceKind.{html_open_comment, html_close_comment, reported_comment}
 use Rattle.js_grammar.specs.GapItems.{token_before, irregular_of}
 use Rattle.js_grammar.specs.PieceItems.{gap_of, items_of}
+use Rattle.js_grammar.specs.Reading.{Reading, size_of, place_behind, reported_at, moved_value, moved_regex}
 use Rattle.js_kind.specs.TokenParts.{TokenParts}
 
 -- What readings find beside their tokens: what they report, what they report for the case that the source is a module,
@@ -89,9 +90,21 @@ pub record Outcome : Type 0 where
   pub regex : Option RegexInfo
   pub findings : Findings
 
--- the place behind these characters, which begin at the place
-abbrev pub place_behind : ℕ → List ℕ → ℕ
-place_behind place xs = place + length (encode_utf8_all xs)
+-- what was read at the place, where the flag tells whether a line has ended before it
+abbrev pub outcome_at : Bool → ℕ → Reading → Outcome
+outcome_at line_has_ended place reading = record {
+  token = record {
+    start = place;
+    end = place + size_of reading;
+    kind = reading.kind;
+    is_on_new_line = reading.line_ended || line_has_ended;
+    escaped = reading.escaped;
+    has_separator = reading.has_separator;
+  };
+  value = moved_value place reading.value;
+  regex = option_map (moved_regex place) reading.regex;
+  findings = reports (reported_at place reading);
+}
 
 -- What is reported of a piece that begins at the place: a comment that a module may not have, over its four characters.
 abbrev pub piece_diagnostics : ℕ → PieceKind → List Diagnostic

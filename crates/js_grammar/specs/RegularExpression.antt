@@ -10,8 +10,7 @@ use Rattle.js_text.specs.declared.diagnostic.Diagnostic.{Diagnostic}
 use Rattle.js_text.specs.declared.diagnostic.Diagnostic.TheVariants.{RegExpFlag, RegExpFlagTwice, UnterminatedRegExp}
 use Rattle.js_text.specs.declared.reg_exp_flags.RegExpFlags.{RegExpFlags}
 use Rattle.js_kind.specs.declared.kind.Kind.TheVariants.{RegExp}
-use Rattle.js_grammar.specs.GoalRead.{GoalRead, place_left}
-use Rattle.js_grammar.specs.Outcome.{place_behind}
+use Rattle.js_grammar.specs.Reading.{Reading, read_up_to, place_behind, size_of}
 use Rattle.js_grammar.specs.StringItems.{stretch}
 
 abbrev pub left_square_bracket : ℕ
@@ -108,14 +107,14 @@ abbrev pub is_any : List Diagnostic → Bool
 is_any [] = false
 is_any (d ∷ ds) = true
 
--- what is read of a regular expression whose pattern ends at the place, where the text is what follows the `/` there
-abbrev pub with_flags_behind : ℕ → List ℕ → GoalRead
-with_flags_behind pattern_end text =
-    let letters = before_first ends_flags text in
+-- what is read of a regular expression that the text begins with, where this is left behind its body, from its last `/`
+-- on
+abbrev pub with_flags_behind : List ℕ → List ℕ → Reading
+with_flags_behind text left =
+    let letters = before_first ends_flags (drop 1 left) in
+    let pattern_end = size_of (read_up_to RegExp text left) in
     let reports = flag_reports no_flags (pattern_end + 1) letters in
-    record {
-      kind = RegExp;
-      rest = from_first ends_flags text;
+    record (read_up_to RegExp text (from_first ends_flags (drop 1 left))) {
       regex = Some (record {
         pattern_end = pattern_end;
         flags = with_letters no_flags letters;
@@ -124,29 +123,26 @@ with_flags_behind pattern_end text =
       diagnostics = reports;
     }
 
--- What is read where a line or the source ends before the body does: the rest of the source. It is reported from the
--- start to behind the character that ends the line.
-abbrev pub unterminated_expression : ℕ → List ℕ → GoalRead
-unterminated_expression start text = record {
-  kind = RegExp;
-  rest = [];
-  regex = Some (record { pattern_end = place_behind (start + 1) text; flags = no_flags; flags_error = false });
+-- What is read where a line or the source ends before the body does: the rest of the source. It is reported up to
+-- behind the character that ends the line.
+abbrev pub unterminated_expression : List ℕ → Reading
+unterminated_expression text = record (read_up_to RegExp text []) {
+  regex = Some (record { pattern_end = place_behind 0 text; flags = no_flags; flags_error = false });
   diagnostics =
-      UnterminatedRegExp (stretch start (place_left (start + 1) text (drop 1 (from_first is_line_terminator text))))
-      ∷ [];
+      UnterminatedRegExp
+      (stretch 0 (size_of (read_up_to RegExp text (drop 1 (from_first is_line_terminator (drop 1 text)))))) ∷ [];
 }
 
 -- what is read, by what is left of the text behind the body
-unfoldable pub expression_of_body : ℕ → List ℕ → List ℕ → GoalRead
-expression_of_body start text left =
-    if begins (λ c. c == slash) left then with_flags_behind (place_left (start + 1) text left) (drop 1 left)
-    else unterminated_expression start text
+unfoldable pub expression_of_body : List ℕ → List ℕ → Reading
+expression_of_body text left =
+    if begins (λ c. c == slash) left then with_flags_behind text left else unterminated_expression text
 
--- What is read of a regular expression that begins at the start, where the text is what follows its `/`.
-abbrev pub regular_expression : ℕ → List ℕ → GoalRead
-regular_expression start text = expression_of_body start text (behind_body text)
+-- What is read of a regular expression, where the text is what follows its `/`.
+abbrev pub regular_expression : List ℕ → Reading
+regular_expression text = expression_of_body (slash ∷ text) (behind_body text)
 
 -- and from its `/` on
-abbrev pub regular_expression_read : ℕ → List ℕ → Option GoalRead
-regular_expression_read start [] = None
-regular_expression_read start (c ∷ cs) = if c == slash then Some (regular_expression start cs) else None
+abbrev pub regular_expression_reading : List ℕ → Option Reading
+regular_expression_reading [] = None
+regular_expression_reading (c ∷ cs) = if c == slash then Some (regular_expression cs) else None

@@ -1,6 +1,6 @@
 -- The items of strings and templates, characters and escapes (ECMA-262 12.9.4, 12.9.6 and B.1.1), and what is read of
 -- a string, good or at fault. An item has a place for its fault, so that both are said of the same items.
-use Rattle.std.specs.Prelude.{◌≡◌, ℕ, zero, suc, ◌+◌, Bool, true, false, List, [], ◌∷◌, ◌++◌, length, take, drop, ◌==◌}
+use Rattle.std.specs.Prelude.{◌≡◌, ℕ, zero, suc, Bool, true, false, List, [], ◌∷◌, ◌++◌, length, take, drop, ◌==◌}
 use Rattle.std.specs.Prelude.{◌&&◌, ◌||◌, not, nat_le, Option, Some, None, if◌then◌else◌}
 use Rattle.std.specs.Char.{digit_value}
 use Rattle.std.specs.Char.Escape.{encode_utf16}
@@ -11,11 +11,14 @@ use Rattle.js_text.specs.Characters.{begins, before_first, is_line_terminator}
 use Rattle.js_text.specs.declared.diagnostic.Diagnostic.{Diagnostic}
 use Rattle.js_text.specs.declared.diagnostic.Diagnostic.TheVariants.{UnterminatedString, InvalidEscapeSequence}
 use Rattle.js_text.specs.declared.span.Span.{Span}
+use Rattle.js_text.specs.declared.value.RowValue.{RowValue}
+use Rattle.js_text.specs.declared.value.RowValue.TheVariants.{Nothing, Units, Bad}
+use Rattle.js_grammar.specs.TokenText.{text_slice}
 use Rattle.js_kind.specs.Digits.{is_digit_of}
 use Rattle.js_kind.specs.declared.kind.Kind.{Kind}
 use Rattle.js_kind.specs.declared.kind.Kind.TheVariants.{Undetermined, Str}
 use Rattle.js_grammar.specs.Number.{digit_zero, latin_small_letter_n}
-use Rattle.js_grammar.specs.Outcome.{place_behind}
+use Rattle.js_grammar.specs.Reading.{Reading, read_up_to, place_behind, size_of}
 use Rattle.js_grammar.specs.UnicodeEscape.{UnicodeEscape, hex_digits, unicode_escape}
 
 abbrev pub backspace : ℕ
@@ -252,52 +255,48 @@ pub data StringValue : Type 0 where
   units : List ℕ → StringValue
   bad_value : StringValue
 
--- What is read of a string or of a part of a template: its kind, what is left of the text behind it, its escaped flag,
--- its value, and what is reported.
-pub record StringRead : Type 0 where
-  pub kind : Kind
-  pub rest : List ℕ
-  pub escaped : Bool
-  pub value : StringValue
-  pub diagnostics : List Diagnostic
+-- what the value of items is as that of a token
+abbrev pub row_value : StringValue → RowValue
+row_value no_value = Nothing
+row_value (units us) = Units us
+row_value bad_value = Bad
+
+-- The value of a string or a part of a template of so many bytes: what stands between its marks, or where something in
+-- it is escaped, what its items stand for.
+abbrev pub quoted_value : Bool → StringValue → Kind → ℕ → RowValue
+quoted_value escaped value kind size = if escaped then row_value value else text_slice kind 0 size
 
 -- What is read where the mark that ends it is missing: the character that stands there belongs to the token, if there
--- is
--- one. The token begins at the start, with a mark of one byte.
-abbrev pub unterminated : Bool → ℕ → StringItems → StringRead
-unterminated in_template start found = record {
-  kind = Undetermined;
-  rest = drop 1 found.rest;
-  escaped = false;
-  value = no_value;
+-- is one. The text begins with a mark of one byte.
+abbrev pub unterminated : Bool → List ℕ → StringItems → Reading
+unterminated in_template text found = record (read_up_to Undetermined text (drop 1 found.rest)) {
   diagnostics =
-      item_reports in_template start (start + 1) found.items
-      ++ UnterminatedString
-      (stretch start (place_behind (start + 1) (string_text found.items ++ take 1 found.rest))) ∷ [];
+      item_reports in_template 0 1 found.items
+      ++ UnterminatedString (stretch 0 (place_behind 1 (string_text found.items ++ take 1 found.rest))) ∷ [];
 }
 
 -- what is read of a string that its quote ends
-abbrev pub terminated_string : ℕ → StringItems → StringRead
-terminated_string start found = record {
-  kind = Str;
-  rest = drop 1 found.rest;
+abbrev pub terminated_string : List ℕ → StringItems → Reading
+terminated_string text found = record (read_up_to Str text (drop 1 found.rest)) {
   escaped = contains_escape found.items;
-  value = units (string_units found.items);
-  diagnostics = item_reports false start (start + 1) found.items;
+  value =
+      quoted_value (contains_escape found.items) (units (string_units found.items)) Str
+      (size_of (read_up_to Str text (drop 1 found.rest)));
+  diagnostics = item_reports false 0 1 found.items;
 }
 
 -- the items behind the quote of a string
 abbrev pub string_items : ℕ → List ℕ → StringItems
 string_items quote text = all_items (string_item quote) text
 
--- what is read of items, by what stands behind them
-unfoldable pub string_of_items : ℕ → ℕ → StringItems → StringRead
-string_of_items quote start found =
-    if begins (λ c. c == quote) found.rest then terminated_string start found else unterminated false start found
+-- what is read of items behind the quote that the text begins with, by what stands behind them
+unfoldable pub string_of_items : ℕ → List ℕ → StringItems → Reading
+string_of_items quote text found =
+    if begins (λ c. c == quote) found.rest then terminated_string text found else unterminated false text found
 
--- What is read of a string that begins with this quote at the start, where the text is what follows the quote.
-abbrev pub string_read : ℕ → ℕ → List ℕ → StringRead
-string_read quote start text = string_of_items quote start (string_items quote text)
+-- What is read of a string with this quote, where the text is what follows the quote.
+abbrev pub string_reading : ℕ → List ℕ → Reading
+string_reading quote text = string_of_items quote (quote ∷ text) (string_items quote text)
 
 -- The characters xs are a string where ys follow them: a quote, all items that follow it, without fault, and the same
 -- quote.

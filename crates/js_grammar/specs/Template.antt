@@ -1,5 +1,5 @@
 -- Templates (ECMA-262 12.9.6): their items, and what is read of a part of one, good or at fault.
-use Rattle.std.specs.Prelude.{◌≡◌, ℕ, ◌+◌, Bool, true, List, [], ◌∷◌, ◌++◌, drop, ◌==◌, ◌||◌, codes, Option}
+use Rattle.std.specs.Prelude.{◌≡◌, ℕ, Bool, true, List, [], ◌∷◌, ◌++◌, drop, ◌==◌, ◌||◌, codes, Option}
 use Rattle.std.specs.Prelude.{Some, None}
 use Rattle.std.specs.Prelude.{if◌then◌else◌}
 use Rattle.js_text.specs.Ascii.{line_feed, carriage_return, backslash, grave_accent}
@@ -9,8 +9,9 @@ use Rattle.js_kind.specs.declared.kind.Kind.TheVariants.{NoSubstitutionTemplate,
 use Rattle.js_grammar.specs.Gap.{is_prefix}
 use Rattle.js_grammar.specs.StringItems.{StringItem, contains_bad_escape, plain_item, escape, StringItems, all_items}
 use Rattle.js_grammar.specs.StringItems.{string_text}
-use Rattle.js_grammar.specs.StringItems.{string_units, contains_escape, item_reports, StringValue, StringRead}
-use Rattle.js_grammar.specs.StringItems.{unterminated}
+use Rattle.js_grammar.specs.Reading.{Reading, read_up_to, size_of}
+use Rattle.js_grammar.specs.StringItems.{string_units, contains_escape, item_reports, StringValue}
+use Rattle.js_grammar.specs.StringItems.{unterminated, quoted_value}
 use Rattle.js_grammar.specs.StringItems.Fault.{no_fault}
 use Rattle.js_grammar.specs.StringItems.StringValue.{units, bad_value}
 
@@ -46,28 +47,27 @@ template_items text = all_items template_item text
 unfoldable pub template_value : List StringItem → StringValue
 template_value items = if contains_bad_escape items then bad_value else units (string_units items)
 
--- What is read of a part that a mark ends, of which this is left behind the mark; the part begins at the start.
-abbrev pub terminated_part : Kind → ℕ → StringItems → List ℕ → StringRead
-terminated_part kind start found rest = record {
-  kind = kind;
-  rest = rest;
+-- What is read of a part that a mark ends, of which this is left behind the mark.
+abbrev pub terminated_part : Kind → List ℕ → StringItems → List ℕ → Reading
+terminated_part kind text found rest = record (read_up_to kind text rest) {
   escaped = contains_escape found.items;
-  value = template_value found.items;
-  diagnostics = item_reports true start (start + 1) found.items;
+  value =
+      quoted_value (contains_escape found.items) (template_value found.items) kind
+      (size_of (read_up_to kind text rest));
+  diagnostics = item_reports true 0 1 found.items;
 }
 
--- what is read of items, by what stands behind them
-unfoldable pub part_of_items : Kind → Kind → ℕ → StringItems → StringRead
-part_of_items substitute tail start found =
-    if begins (λ c. c == grave_accent) found.rest then terminated_part tail start found (drop 1 found.rest)
-    else if is_prefix (codes "${") found.rest then terminated_part substitute start found (drop 2 found.rest)
-    else unterminated true start found
+-- what is read of items behind the mark that the text begins with, by what stands behind them
+unfoldable pub part_of_items : Kind → Kind → List ℕ → StringItems → Reading
+part_of_items substitute tail text found =
+    if begins (λ c. c == grave_accent) found.rest then terminated_part tail text found (drop 1 found.rest)
+    else if is_prefix (codes "${") found.rest then terminated_part substitute text found (drop 2 found.rest)
+    else unterminated true text found
 
 -- What is read of a part of a template: of the kind `substitute` where a `${` ends it, and `tail` where a backquote
--- does.
--- It begins at the start with a mark of one byte, and the text is what follows that.
-abbrev pub template_part_read : Kind → Kind → ℕ → List ℕ → StringRead
-template_part_read substitute tail start text = part_of_items substitute tail start (template_items text)
+-- does. The text begins with the mark of one byte that begins the part.
+abbrev pub template_part_reading : Kind → Kind → List ℕ → Reading
+template_part_reading substitute tail text = part_of_items substitute tail text (template_items (drop 1 text))
 
 -- The mark `opening`, all items that follow it, and then the mark `closing` are the characters xs, where ys follow
 -- them.

@@ -6,34 +6,27 @@ use Rattle.js_text.specs.Ascii.{number_sign}
 use Rattle.js_text.specs.Characters.{begins, from_place}
 use Rattle.js_text.specs.JsStr.{units_of}
 use Rattle.js_text.specs.declared.value.RowValue.{RowValue}
-use Rattle.js_text.specs.declared.value.RowValue.TheVariants.{Nothing, Units, Bad}
-use Rattle.js_grammar.specs.Name.{name_read, private_read}
-use Rattle.js_grammar.specs.Quoted.{quoted_read, units_in}
-use Rattle.js_grammar.specs.Spelling.{is_valued, text_start, text_end, text_slice}
+use Rattle.js_text.specs.declared.value.RowValue.TheVariants.{Units, Bad}
+use Rattle.js_grammar.specs.Name.{decoded}
+use Rattle.js_grammar.specs.Quoted.{quoted_reading, units_in}
+use Rattle.js_grammar.specs.TokenText.{plain_value, text_start, text_end}
 use Rattle.js_grammar.specs.StringItems.{is_quote}
 use Rattle.js_kind.specs.Kinds.{is_template_kind}
 use Rattle.js_kind.specs.TokenParts.{TokenParts}
 use Rattle.js_kind.specs.declared.kind.Kind.{Kind}
 
--- The value of a token without an escape: of a name, a string or a part of a template its text as it stands in the
--- source; of another token none.
-abbrev pub plain_value : Kind → ℕ → ℕ → RowValue
-plain_value kind start end = if is_valued kind then text_slice kind start end else Nothing
-
 -- the characters that the name which begins the text stands for, as UTF-16 units
 abbrev pub name_units : List ℕ → List ℕ
-name_units here =
-    units_of
-    (if begins (λ c. c == number_sign) here then (private_read 0 (drop 1 here)).decoded else (name_read 0 here).decoded)
+name_units here = units_of (if begins (λ c. c == number_sign) here then decoded (drop 1 here) else decoded here)
 
--- the units that the name or the string which begins the text stands for
+-- the units that the name or the string with an escape which begins the text stands for
 abbrev pub decoded_units : List ℕ → List ℕ
 decoded_units here =
-    if begins is_quote here then unwrap_or (units_in (quoted_read 0 here).value) [] else name_units here
+    if begins is_quote here then unwrap_or (units_in (quoted_reading here).value) [] else name_units here
 
--- the units that the part of a template which begins the text stands for; none, where it has a bad escape
+-- the units that the part of a template with an escape which begins the text stands for; none, where it has a bad one
 abbrev pub template_units : List ℕ → Option (List ℕ)
-template_units here = units_in (quoted_read 0 here).value
+template_units here = units_in (quoted_reading here).value
 
 -- the value of a part of a template with these units
 abbrev pub template_row_value : Option (List ℕ) → RowValue

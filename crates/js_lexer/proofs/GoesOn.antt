@@ -1,15 +1,16 @@
 -- What a lexer that has gone on may go back to.
-use Rattle.std.proofs.Common.{◌≡◌, ◌≤◌, take, List, [], ◌∷◌, length, sym, ◌∙◌, subst, ap, arith, length-append}
+use Rattle.std.proofs.Common.{◌≡◌, ◌≤◌, take, List, [], ◌∷◌, length, sym, ◌∙◌, subst, ap, arith}
 use Rattle.std.specs.Prelude.{IfSome}
 use Rattle.std.specs.Str.{IsCharBoundary}
 use Rattle.std.proofs.lemmas.List.{take-append-le}
 use Rattle.js_grammar.specs.GapItems.{token_before}
-use Rattle.js_grammar.specs.Outcome.{Findings, FindingLengths, joined, AreWithin}
+use Rattle.js_grammar.specs.Outcome.{AreWithin}
 use Rattle.js_grammar.specs.ReLexed.{HasSpelling}
 use Rattle.js_kind.specs.TokenParts.{TokenParts}
 use Rattle.js_trivia.specs.Trivia.{is_past, comment_starts, span_starts}
 use Rattle.js_lexer.specs.Lexer.{LexerState, IsOnPlaces, Checkpoint, CanRewind, BeginsAlike, GoesOnFrom}
 use Rattle.js_lexer.specs.Lexer.{checkpoint_of, asked_lengths}
+use Rattle.js_lexer.proofs.FindingLaws.{within-joined}
 
 -- a list that begins as one with a token has a token
 pub has_token : (t : TokenParts) (ts : List TokenParts) → BeginsAlike (t ∷ ts) [] → ⊥
@@ -21,14 +22,6 @@ begins_alike-length [] b h = omega arith
 begins_alike-length (t ∷ ts) [] h = absurd (has_token t ts h)
 begins_alike-length (t ∷ []) (n ∷ ns) h = omega arith
 begins_alike-length (t ∷ u ∷ ts) (n ∷ ns) h = let rest = begins_alike-length (u ∷ ts) ns h.1 in omega (arith, rest)
-
-pub within-joined : (lengths : FindingLengths) (a b : Findings) → AreWithin lengths a → AreWithin lengths (joined a b)
-within-joined lengths a b h = record {
-  diagnostics = omega (arith, h.diagnostics, length-append a.diagnostics b.diagnostics);
-  deferred = omega (arith, h.deferred, length-append a.deferred b.deferred);
-  comments = omega (arith, h.comments, length-append a.comments b.comments);
-  irregular = omega (arith, h.irregular, length-append a.irregular b.irregular);
-}
 
 -- a lexer that has gone on may go back to where it could go before
 pub can_rewind-on : (old new : LexerState) (c : Checkpoint) → CanRewind old c → GoesOnFrom old new → CanRewind new c

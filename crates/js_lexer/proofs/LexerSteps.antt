@@ -12,12 +12,14 @@ use Rattle.js_text.specs.Lists.{with_last}
 use Rattle.js_kind.specs.TokenParts.{TokenParts, default_parts}
 use Rattle.js_grammar.specs.GapItems.{token_before}
 use Rattle.js_grammar.specs.Goals.{GoalReads, line_has_ended_behind}
-use Rattle.js_grammar.specs.Outcome.{Outcome, Findings, joined, lengths_of, cut_to}
+use Rattle.js_grammar.specs.Outcome.{Outcome, lengths_of, cut_to}
 use Rattle.js_grammar.specs.declared.goal.Goal.{Goal}
+use Rattle.js_grammar.specs.declared.goal.Goal.TheVariants.{TemplateTail}
+use Rattle.js_grammar.proofs.AgainKinds.{again_is_re_lexed, only_one}
 use Rattle.js_grammar.proofs.Clean.{agrees_with_grammar}
-use Rattle.js_grammar.specs.ReLexed.{is_re_lexed, HasSpelling}
+use Rattle.js_grammar.specs.ReLexed.{again_kinds, HasSpelling}
 use Rattle.js_grammar.specs.UnicodeEscape.{right_curly_bracket}
-use Rattle.js_kind.specs.Kinds.{kind_text}
+use Rattle.js_kind.specs.Kinds.{is_one_of, kind_text}
 use Rattle.js_kind.specs.declared.kind.Kind.TheVariants.{RCurly}
 use Rattle.js_text.specs.declared.comment.Comment.{Comment}
 use Rattle.js_text.specs.declared.diagnostic.Diagnostic.{Diagnostic}
@@ -27,11 +29,12 @@ use Rattle.js_lexer.specs.Decoded.{Values, AreValues, Keeps, HasValue}
 use Rattle.js_grammar.proofs.GoalWays.{goal_reads_span, goal_reads_places}
 use Rattle.js_lexer.specs.Lexer.{LexerState, IsOnPlaces, IsSound, IsRestored, collected, ReadsOutcome, ReadsToken}
 use Rattle.js_lexer.specs.Lexer.{Checkpoint, checkpoint_of, checkpoint_with_errors_of, put_back, put_errors_back}
-use Rattle.js_lexer.specs.Lexer.{rewound, BeginsAlike, GoesOnFrom, with_diagnostics, with_comments}
+use Rattle.js_lexer.specs.Lexer.{rewound, BeginsAlike, GoesOnFrom, findings_in, with_diagnostics, with_comments}
 use Rattle.js_lexer.specs.Lexer.{ReadsAgain, after_re_lex, last_read, token_or_default, range_before, trivia_before}
 use Rattle.js_lexer.specs.Reader.{ReadsGoal, ReadsWithGap, ReadsWithoutGap, AddsGap, MovesOn}
 use Rattle.js_lexer.specs.declared.found.GapFindings.{GapFindings}
 use Rattle.js_lexer.specs.declared.reader.Reader.{Reader}
+use Rattle.js_lexer.proofs.FindingLaws.{cut_to-joined, cut_to-recovered}
 use Rattle.js_lexer.proofs.TriviaLaws.{IsBetweenGaps, behind_token, told, held_before_token, held_later}
 use Rattle.js_trivia.specs.Attachment.{Attachment, between_gaps, after_token}
 use Rattle.js_trivia.specs.Trivia.{Trivia, HeldBefore, handle_token, held, is_past, comment_starts}
@@ -92,12 +95,7 @@ state_of r found last values = record {
   place = r.source.place;
   last = last;
   tokens = [];
-  findings = record {
-    diagnostics = r.errors;
-    deferred = found.deferred;
-    comments = found.trivia.attachment.attached;
-    irregular = found.trivia.irregular_whitespaces;
-  };
+  findings = findings_in r found;
   pure_comments = found.trivia.pure_comments;
   no_side_effects_comments = found.trivia.no_side_effects_comments;
   decoded = values;
@@ -252,12 +250,7 @@ pub reads_token : (old new : LexerState) (r : Reader) (before : GapFindings) (re
       place = reader.source.place;
       last = Some trivia.attachment.previous;
       tokens = old.tokens ++ collected old.collects token;
-      findings = record {
-        diagnostics = reader.errors;
-        deferred = after.deferred;
-        comments = trivia.attachment.attached;
-        irregular = trivia.irregular_whitespaces;
-      };
+      findings = findings_in reader (record after { trivia = trivia });
       pure_comments = trivia.pure_comments;
       no_side_effects_comments = trivia.no_side_effects_comments;
       decoded = values;
@@ -396,12 +389,11 @@ reads_again old new r goal token reader comments last values u source source_typ
 
 -- the `}` that a lexer stands behind, and what follows it
 pub curly_here : (text : List ℕ) (last : Option TokenParts) (token : TokenParts) (place : ℕ) → last ≡ Some token
-    → token.kind ≡ RCurly → place ≡ token.end → IfSome last (HasSpelling text)
+    → is_one_of (again_kinds TemplateTail) token.kind ≡ true → place ≡ token.end → IfSome last (HasSpelling text)
     → from_place text token.start ≡ right_curly_bracket ∷ from_place text place
-unfolding is_re_lexed
-curly_here text last token place is kind at spelled =
-    subst (λ o. IfSome o (HasSpelling text)) is spelled (ap is_re_lexed kind)
-    ∙ ap (λ k. kind_text k ++ from_place text token.end) kind
+curly_here text last token place is kind_is at spelled =
+    subst (λ o. IfSome o (HasSpelling text)) is spelled (again_is_re_lexed TemplateTail token.kind kind_is)
+    ∙ ap (λ k. kind_text k ++ from_place text token.end) (only_one token.kind RCurly kind_is)
     ∙ ap (λ n. right_curly_bracket ∷ from_place text n) (sym at)
 
 -- a reading has moved its reader on
@@ -417,17 +409,6 @@ reads_moves_on goal previous old token new r = record {
 -- a list that has only grown, cut back
 pub cut_back : {A : Type 0} (xs more ys : List A) → ys ≡ xs ++ more → take (length xs) ys ≡ xs
 cut_back xs more ys e = ap (take (length xs)) e ∙ take-append_seam xs more
-
--- findings that have only grown, cut back
-pub cut_to-joined : (old more : Findings) → cut_to (lengths_of old) (joined old more) ≡ old
-cut_to-joined old more =
-    rw (
-      take-append_seam old.diagnostics more.diagnostics,
-      take-append_seam old.deferred more.deferred,
-      take-append_seam old.comments more.comments,
-      take-append_seam old.irregular more.irregular,
-    )
-    refl
 
 -- the front of a list that begins alike, with the last token in its place
 pub put_back_last : (old now : List TokenParts) → BeginsAlike old now
@@ -474,18 +455,6 @@ rewound_is old now new c e g r = record {
   pure_comments = ap (λ x. x.pure_comments) r ∙ ap (λ x. x.pure_comments) e;
   no_side_effects_comments = ap (λ x. x.no_side_effects_comments) r ∙ ap (λ x. x.no_side_effects_comments) e;
 }
-
--- findings that have only grown but for diagnostics, cut back, with the diagnostics put back
-cut_to-recovered : (old more : Findings) (left : List Diagnostic)
-    → put_errors_back (Some old.diagnostics) (cut_to (lengths_of old) (joined (record old { diagnostics = left }) more))
-    ≡ old
-cut_to-recovered old more left =
-    rw (
-      take-append_seam old.deferred more.deferred,
-      take-append_seam old.comments more.comments,
-      take-append_seam old.irregular more.irregular,
-    )
-    refl
 
 -- and so does going back to one with a copy of what was reported, whatever is left of that
 pub recovered_is : (old now new : LexerState) (left : List Diagnostic) (c : Checkpoint)

@@ -17,6 +17,7 @@ use Rattle.js_grammar.specs.Gap.{is_prefix, is_reported, piece, whole_gap_piece,
 use Rattle.js_grammar.specs.Goals.{line_has_ended_behind}
 use Rattle.js_grammar.specs.Name.{begins_name}
 use Rattle.js_grammar.specs.Number.{begins_number}
+use Rattle.js_grammar.specs.Reading.{reported_at}
 use Rattle.js_grammar.specs.StringItems.{is_quote}
 use Rattle.js_grammar.specs.declared.goal.Goal.TheVariants.{Next}
 use Rattle.js_grammar.proofs.Flags.{punctuator_unflagged}
@@ -29,14 +30,13 @@ use Rattle.js_source.specs.Search.{matches_at}
 use Rattle.js_spell.specs.Name.{SpellsPlainName, SpellsPlainPrivateName}
 use Rattle.js_spell.specs.Numeric.{SpellsPlainNumber}
 use Rattle.js_spell.specs.Strings.{SpellsPlainString, SpellsPlainPart}
-use Rattle.js_spell.specs.declared.spelt.SpeltValue.TheVariants.{Plain}
 use Rattle.js_trivia.specs.Attachment.{after_newline, after_token}
 use Rattle.js_trivia.specs.Trivia.{Trivia, handle_token}
 use Rattle.js_lexer.specs.Gaps.{BeginsNoPiece}
 use Rattle.js_lexer.specs.Plain.{EndsGap, EndsGapInAscii, MeetsByte, PassesPieces}
-use Rattle.js_lexer.specs.Plain.{moved, after_ends, ends_told, PassesPlainGap, plain_lexeme, SpellsFor, SpellsPlainly}
+use Rattle.js_lexer.specs.Plain.{moved, after_ends, ends_told, PassesPlainGap, SpellsFor, SpellsPlainly}
 use Rattle.js_lexer.specs.Plain.{ReadsPlainToken}
-use Rattle.js_lexer.specs.Reader.{ReadsTokenHere, ReadsWithGap, MovesOn, lexeme_token}
+use Rattle.js_lexer.specs.Reader.{ReadsTokenHere, ReadsWithGap, MovesOn, lexeme_token, plain_lexeme}
 use Rattle.js_lexer.specs.Spellings.{ReadsPunctuator}
 use Rattle.js_lexer.specs.Tables.{TellsBlanks, TellsMarks, TellsStarts, is_name_start}
 use Rattle.js_lexer.specs.declared.found.GapFindings.{GapFindings}
@@ -45,11 +45,11 @@ use Rattle.js_lexer.proofs.GapSteps.{blanks_lead, line_feed_skipped, no_gap_left
 use Rattle.js_lexer.proofs.FastSteps.{begins_none}
 use Rattle.js_lexer.proofs.PartSteps.{is_start}
 use Rattle.js_lexer.proofs.NumberSteps.{digit_begins}
-use Rattle.js_lexer.proofs.NameSteps.{lexeme_of_name, lexeme_of_private}
-use Rattle.js_lexer.proofs.QuotedSteps.{lexeme_of_string, lexeme_of_template, behind_backquote}
-use Rattle.js_lexer.proofs.ReadingSteps.{lexeme_spelled, lexeme_onward, lexeme_of_number}
+use Rattle.js_lexer.proofs.ReadingSteps.{lexeme_spelled, lexeme_onward}
 use Rattle.js_lexer.proofs.ReadingSteps.{goal_behind, token_behind}
 use Rattle.js_lexer.proofs.SpellingSteps.{punctuator_spelled}
+use Rattle.js_lexer.proofs.SpeltSteps.{behind_mark, lexeme_as, lexeme_of_number, name_here, private_here}
+use Rattle.js_lexer.proofs.SpeltSteps.{string_here, template_here}
 use Rattle.js_lexer.proofs.WholeSteps.{whole_at_once}
 
 -- nothing was passed yet
@@ -263,15 +263,8 @@ angle_alone b first second ended (c ∷ cs) is here two = by_test (second == 33)
 pub name_plainly : (ended : Bool) (old new : At) (kind : Kind) → begins_name (rest old) ≡ true
     → SpellsPlainName old new kind → SpellsPlainly ended old new kind
 name_plainly ended old new kind begun spells r =
-    let name = spells r.errors (record {
-      start = 0;
-      end = 0;
-      kind = kind;
-      is_on_new_line = false;
-      escaped = false;
-      has_separator = false;
-    }) in
-    lexeme_of_name (moved r old ended) (moved r new ended) kind false name.decoded begun name.read name.kind refl
+    let here = moved r old ended in
+    lexeme_as here (moved r new ended) (name_here here begun) refl refl (spells r.errors default_parts) refl
 
 -- a punctuator
 pub punctuator_plainly : (r : Reader) (ended : Bool) (old new : At) (kind : Kind)
@@ -354,7 +347,7 @@ pub token_moves_on : (old : Reader) (token : TokenParts) (new : Reader) → Read
 token_moves_on old token new r = record {
   text = r.reads.text;
   source_type = r.reads.source_type;
-  more = r.reads.reading.diagnostics;
+  more = reported_at old.source.place r.reads.reading;
   errors = r.reads.errors;
 }
 
@@ -392,40 +385,37 @@ pub gap_ends : (r : Reader) (before : GapFindings) (old : At) (had : Bool) (new 
     → PassesPlainGap old had new has → EndsGap has (rest new)
 gap_ends r before old had new has gap t = (gap.skips (record r { source_type = t }) before).longest
 
--- the token that a plain reading is told with
-abbrev pub token_at : ℕ → TokenParts
-token_at start = record default_parts { start = start }
-
 -- a string without an escape
 pub string_plainly : (ended : Bool) (old new : At) (kind : Kind) → begins is_quote (rest old) ≡ true
     → SpellsPlainString old new kind → SpellsPlainly ended old new kind
 string_plainly ended old new kind begun spells r =
-    lexeme_of_string (moved r old ended) (moved r new ended) old.place (token_at old.place)
-    (record (token_at old.place) { escaped = false; has_separator = false }) (record { kind = kind; value = Plain })
-    begun refl (spells r.errors (token_at old.place) refl) refl
+    let here = moved r old ended in
+    lexeme_as here (moved r new ended) (string_here here begun) refl refl (spells r.errors default_parts) refl
 
 -- a template, or its first part, without an escape
 pub template_plainly : (ended : Bool) (old mid new : At) (kind : Kind) → IsPlaced old → IsPlaced mid
     → Reads old mid grave_accent → SpellsPlainPart TemplateHead NoSubstitutionTemplate mid new kind
     → SpellsPlainly ended old new kind
 template_plainly ended old mid new kind h g reads spells r =
-    lexeme_of_template (moved r old ended) (moved r new ended) mid old.place (token_at old.place)
-    (record (token_at old.place) { escaped = false; has_separator = false }) (record { kind = kind; value = Plain })
-    reads refl (spells r.errors (token_at old.place) (behind_backquote old mid h g reads)) refl
+    let here = moved r old ended in
+    let behind = behind_mark grave_accent old mid (omega arith) h g reads in
+    lexeme_as here (moved r new ended) (template_here here mid reads) refl reads.text
+    (spells grave_accent old.place behind r.errors default_parts) refl
 
 -- a private name without an escape
 pub private_plainly : (ended : Bool) (old mid new : At) (kind : Kind) → IsPlaced old → IsPlaced mid
     → Reads old mid number_sign → SpellsPlainPrivateName mid new kind → SpellsPlainly ended old new kind
 private_plainly ended old mid new kind h g reads spells r =
-    let name = spells r.errors (token_at old.place) in
-    lexeme_of_private (moved r old ended) (moved r new ended) mid kind false name.decoded h g reads name.read refl
+    let here = moved r old ended in
+    let behind = behind_mark number_sign old mid (omega arith) h g reads in
+    lexeme_as here (moved r new ended) (private_here here mid reads) refl reads.text
+    (spells old.place behind r.errors default_parts) refl
 
 -- a number without a separator
 pub number_plainly : (ended : Bool) (old new : At) (kind : Kind) → begins_number (rest old) ≡ true
     → SpellsPlainNumber old new kind → SpellsPlainly ended old new kind
 number_plainly ended old new kind begun spells r =
-    lexeme_of_number (moved r old ended) (moved r new ended) kind false begun
-    (spells r.errors (token_at old.place)).read refl
+    lexeme_of_number (moved r old ended) (moved r new ended) begun refl (spells r.errors default_parts) refl
 
 -- where a digit is next, a number begins
 pub number_begins : (b : ℕ) (cs : List ℕ) → HasFirstByte b cs → is_ascii_digit b ≡ true → begins_number cs ≡ true

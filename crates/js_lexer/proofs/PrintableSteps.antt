@@ -17,7 +17,8 @@ use Rattle.js_grammar.specs.Name.{begins_name}
 use Rattle.js_grammar.specs.Number.{begins_number}
 use Rattle.js_grammar.specs.Spelling.{begins_named}
 use Rattle.js_grammar.specs.Punctuators.{NoPunctuator, before_no_digit, slash as slash_alone, left_angle}
-use Rattle.js_grammar.specs.Recovery.{Reading, recovered, is_control_or_wide}
+use Rattle.js_grammar.specs.Recovery.{recovered, is_control_or_wide}
+use Rattle.js_grammar.specs.Reading.{Reading}
 use Rattle.js_grammar.proofs.GapLemmas.{none_behind}
 use Rattle.js_grammar.proofs.NumberBegins.{digit_begins_number}
 use Rattle.js_grammar.proofs.PieceLemmas.{piece-white}
@@ -94,11 +95,11 @@ some_of true x y h = refl
 some_of false x y h = h refl
 
 -- Where nothing that is spelled begins behind a whole gap, something is read to recover.
-pub recovers_some : (t : SourceType) (line_has_ended : Bool) (place : ℕ) (here : List ℕ)
+pub recovers_some : (t : SourceType) (line_has_ended : Bool) (here : List ℕ)
     → whole_gap_piece t line_has_ended here ≡ None → NothingHere t line_has_ended here
-    → IsSome (recovered line_has_ended place here)
-recovers_some t line_has_ended place [] gap n = absurd (n.some refl)
-recovers_some t line_has_ended place (c ∷ cs) gap n =
+    → IsSome (recovered here)
+recovers_some t line_has_ended [] gap n = absurd (n.some refl)
+recovers_some t line_has_ended (c ∷ cs) gap n =
     some_of (is_prefix (codes "/*") (c ∷ cs)) _ _ (λ no_comment.
     some_of (begins_name (c ∷ cs)) _ _ (λ no_name.
     some_of (c == number_sign) _ _ (λ no_mark.

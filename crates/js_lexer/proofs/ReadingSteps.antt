@@ -19,36 +19,33 @@ use Rattle.js_text.specs.declared.diagnostic.Diagnostic.{Diagnostic}
 use Rattle.js_grammar.specs.Gap.{Piece, WholeGap, is_prefix, is_reported, line_comment, whole_gap_piece, Pieces}
 use Rattle.js_grammar.specs.Gap.PieceKind.{reported_comment}
 use Rattle.js_grammar.specs.PieceItems.{piece_length}
-use Rattle.js_grammar.specs.Goals.{ReadsHere, spelled_reading, outcome_behind, token_alone}
+use Rattle.js_grammar.specs.Goals.{ReadsHere, spelled_reading, token_alone, with_gap}
 use Rattle.js_grammar.specs.Goals.{line_has_ended_behind, ReadsBehindGap, ReadsPlainly, GoalReads}
 use Rattle.js_grammar.specs.Goals.ReadsHere.{spelled, recovers}
 use Rattle.js_grammar.specs.Goals.ReadsPlainly.{hashbang, behind_gap}
 use Rattle.js_grammar.specs.Hashbang.{begins_hashbang}
-use Rattle.js_grammar.specs.Number.{begins_number}
-use Rattle.js_grammar.specs.NumberReads.{NumberRead, number_read}
-use Rattle.js_grammar.specs.Recovery.{faulty, number_reading}
-use Rattle.js_grammar.specs.Spelling.{NothingSpelled, has_separator}
+use Rattle.js_grammar.specs.Recovery.{faulty}
+use Rattle.js_grammar.specs.Spelling.{NothingSpelled}
 use Rattle.js_grammar.specs.declared.goal.Goal.{Goal}
 use Rattle.js_grammar.specs.declared.goal.Goal.TheVariants.{First, Next, TemplateTail}
 use Rattle.js_grammar.specs.declared.goal.Goal.TheVariants.{RegularExpression, RightAngle, TypeScriptLeftAngle}
 use Rattle.js_grammar.specs.declared.goal.Goal.TheVariants.{TypeScriptRightAngle, JsxIdentifier, JsxChild}
 use Rattle.js_grammar.specs.declared.goal.Goal.TheVariants.{JsxAttributeValue}
-use Rattle.js_grammar.specs.Outcome.{Outcome, Findings, gap_findings, gap_deferred, joined, reports, place_behind}
+use Rattle.js_grammar.specs.Outcome.{Outcome, outcome_at, Findings, gap_findings, gap_deferred, joined, reports}
+use Rattle.js_grammar.specs.Reading.{place_behind, reported_at, size_of}
 use Rattle.js_grammar.specs.Reads.{is_plain}
 use Rattle.js_grammar.proofs.Flags.{IsUnflagged, has_no_escape}
 use Rattle.js_grammar.proofs.PieceLemmas.{from_first-hashbang}
-use Rattle.js_grammar.proofs.NumberReadings.{number_reads_here}
 use Rattle.js_grammar.proofs.SpellingClasses.{nothing_spelled}
-use Rattle.js_spell.specs.Numeric.{ReadsNumber}
-use Rattle.js_grammar.proofs.Spans.{here_span}
+use Rattle.js_grammar.proofs.Spans.{here_is_taken, taken_end, taken_span}
 use Rattle.js_grammar.proofs.Tests.{prefix_of, prefix_is, and_true}
 use Rattle.js_grammar.proofs.GapLemmas.{reported, unreported, piece_takes}
 use Rattle.js_grammar.proofs.Reported.{piece_texts, whole_gap_piece_text, place_behind-append}
 use Rattle.js_trivia.specs.Pieces.{HaveBytes, end_of}
 use Rattle.js_lexer.specs.Gaps.{TakesMark}
-use Rattle.js_lexer.specs.Reader.{StaysWithin, SkipsWholeGap, ReadsLexeme, ReadsBehind, IsHashbangRead}
+use Rattle.js_lexer.specs.Reader.{lexeme_of, StaysWithin, SkipsWholeGap, ReadsLexeme, ReadsBehind, IsHashbangRead}
 use Rattle.js_lexer.specs.Reader.{ReadsTokenHere, lexeme_token, ReadsWithGap, ReadsWithoutGap, AddsGap, NothingHere, MovesOn, IsUnmoved}
-use Rattle.js_lexer.specs.Plain.{plain_lexeme}
+use Rattle.js_lexer.specs.Reader.{plain_lexeme}
 use Rattle.js_lexer.specs.Spellings.{Spells, Recovers}
 use Rattle.js_lexer.specs.declared.found.GapFindings.{GapFindings}
 use Rattle.js_lexer.specs.declared.lexeme.Lexeme.{Lexeme}
@@ -63,7 +60,7 @@ pub lexeme_spelled : (old new : Reader) (k : Kind) (l : Lexeme) → StaysWithin 
 lexeme_spelled old new k l within plain s is = record {
   text = s.text;
   source_type = within.source_type;
-  reading = spelled_reading old.line_has_ended old.source.place s.spelled (rest new.source) k;
+  reading = spelled_reading s.spelled (rest new.source) k;
   here = spelled s.spelled s.spelling refl;
   behind = refl;
   lexeme_is =
@@ -87,43 +84,22 @@ pub lexeme_recovered : (old new : Reader) (r : Recovered) → Recovers old.line_
 lexeme_recovered old new r rec nothing source_type errors = record {
   text = rec.text;
   source_type = source_type;
-  reading = faulty r.kind (rest new.source) r.is_on_new_line r.diagnostic;
+  reading = record (faulty r.kind (rest old.source) (rest new.source) rec.fault) { line_ended = rec.line_ended };
   here = recovers (nothing_here old.source_type old.line_has_ended (rest old.source) nothing) rec.recovery;
   behind = refl;
-  lexeme_is = refl;
-  errors = errors;
+  lexeme_is = rw rec.line refl;
+  errors = errors ∙ ap (λ d. old.errors ++ d ∷ []) rec.reported;
 }
 
--- what was read of a number
-pub lexeme_of_number : (old new : Reader) (kind : Kind) (has_separator : Bool) → begins_number (rest old.source) ≡ true
-    → ReadsNumber old.source new.source old.errors new.errors kind has_separator → new.source_type ≡ old.source_type
-    → ReadsLexeme old
-    (record {
-      kind = kind;
-      is_on_new_line = old.line_has_ended;
-      escaped = false;
-      has_separator = has_separator;
-    }) new
-lexeme_of_number old new kind has_separator begun read source_type = record {
-  text = read.text;
-  source_type = source_type;
-  reading = number_reading old.line_has_ended (number_read old.source.place (rest old.source));
-  here =
-      number_reads_here old.source_type old.line_has_ended old.source.place (rest old.source) begun;
-  behind = ap (λ r. r.rest) read.read;
-  lexeme_is = rw read.read refl;
-  errors = read.reports ∙ ap (λ (r : NumberRead). old.errors ++ r.diagnostics) (sym read.read);
-}
-
--- what was read leads on
+-- What was read leads on: by its size.
 pub lexeme_onward : (old new : Reader) (l : Lexeme) → IsPlaced old.source → IsPlaced new.source → ReadsLexeme old l new
     → old.source.place ≤ new.source.place
 lexeme_onward old new l h g r =
     let there : IsCharBoundary old.source.text new.source.place =
     subst (λ (u : List ℕ). IsCharBoundary u new.source.place) r.text g.boundary in
-    (here_span old.source.text old.source_type old.line_has_ended old.source.place new.source.place r.reading h.utf8
-    h.boundary there
-    (r.behind ∙ ap (λ u. from_place u new.source.place) r.text) r.here).0
+    (taken_span old.source.text old.source.place new.source.place r.reading h.utf8 h.boundary there
+    (r.behind ∙ ap (λ u. from_place u new.source.place) r.text)
+    (here_is_taken old.source_type old.line_has_ended (rest old.source) r.reading r.here)).0
 
 -- the pieces of a gap have bytes
 some_bytes : (xs : List ℕ) → 1 ≤ length xs → 1 ≤ length (encode_utf8_all xs)
@@ -214,6 +190,16 @@ gap_told previous old before mid after outcome ds f h gap start found =
       trivia = gap.skips.adds.trivia;
     }
 
+-- the place behind the token that was read here
+pub token_end : {mid new : Reader} {token : TokenParts} → IsPlaced mid.source → (there : ReadsTokenHere mid token new)
+    → new.source.place ≡ mid.source.place + size_of there.reads.reading
+token_end {mid} {new} h there =
+    let read = there.reads in
+    taken_end mid.source.text mid.source.place new.source.place read.reading h.utf8 h.boundary
+    (subst (λ (u : List ℕ). IsCharBoundary u new.source.place) read.text there.placed.boundary)
+    (read.behind ∙ ap (λ u. from_place u new.source.place) read.text)
+    (here_is_taken mid.source_type mid.line_has_ended (rest mid.source) read.reading read.here)
+
 -- the token that stands behind a whole gap
 abbrev pub token_behind : (previous : Option TokenParts) (old : Reader) (before : GapFindings) (mid : Reader)
     (after : GapFindings) (new : Reader) (token : TokenParts) → IsPlaced old.source → IsPlaced mid.source
@@ -224,37 +210,43 @@ token_behind previous old before mid after new token f h first gap there =
     let read = there.reads in
     let text : new.source.text ≡ old.source.text = read.text ∙ gap.skips.text in
     let start = mid.source.place in
-    let end = new.source.place in
+    let end = token_end h there in
     let pieces = gap.skips.pieces in
     let t = old.source_type in
-    let outcome = outcome_behind t previous old.source.place pieces start end read.reading in
+    let outcome =
+    with_gap t previous old.source.place pieces (outcome_at mid.line_has_ended start read.reading) in
     record {
       text = text;
       source_type = read.source_type ∙ gap.skips.source_type;
       end = ap (λ x. x.end) (sym there.token_is);
       outcome = outcome;
-      token_is = there.token_is ∙ ap (lexeme_token start end) read.lexeme_is;
+      token_is =
+          there.token_is ∙ ap (lexeme_token start new.source.place) read.lexeme_is
+          ∙ ap (λ n. lexeme_token start n (lexeme_of mid.line_has_ended read.reading)) end;
       reads = record {
         pieces = pieces;
         line_has_ended = mid.line_has_ended;
         gap = gap_to previous old before mid after first gap;
         start = subst (λ (u : List ℕ). IsCharBoundary u start) gap.skips.text h.boundary;
-        end = subst (λ (u : List ℕ). IsCharBoundary u end) text there.placed.boundary;
+        end =
+            subst (IsCharBoundary old.source.text) end
+            (subst (λ (u : List ℕ). IsCharBoundary u new.source.place) text there.placed.boundary);
         reading = read.reading;
         here =
             subst
-            (λ s. ReadsHere s mid.line_has_ended start (from_place old.source.text start) read.reading)
+            (λ s. ReadsHere s mid.line_has_ended (from_place old.source.text start) read.reading)
             gap.skips.source_type
             (subst
-            (λ (u : List ℕ). ReadsHere mid.source_type mid.line_has_ended start (from_place u start) read.reading)
+            (λ (u : List ℕ). ReadsHere mid.source_type mid.line_has_ended (from_place u start) read.reading)
             gap.skips.text read.here);
-        rest = read.behind ∙ ap (λ u. from_place u end) text;
+        rest =
+            read.behind ∙ ap (λ u. from_place u new.source.place) text ∙ ap (from_place old.source.text) end;
         outcome_is = refl;
       };
-      gap = gap_told previous old before mid after outcome read.reading.diagnostics f h gap refl refl;
+      gap = gap_told previous old before mid after outcome (reported_at start read.reading) f h gap refl refl;
       errors =
-          read.errors ∙ ap (λ ds. ds ++ read.reading.diagnostics) gap.skips.errors
-          ∙ append_assoc old.errors _ read.reading.diagnostics;
+          read.errors ∙ ap (λ ds. ds ++ reported_at start read.reading) gap.skips.errors
+          ∙ append_assoc old.errors _ (reported_at start read.reading);
     }
 
 begins_at_start : (text : List ℕ) (place : ℕ) → place ≡ 0
@@ -398,17 +390,19 @@ lexeme_from old mid new l same r = record {
   reading = r.reading;
   here = moved same.stays.source_type same.stays.line_has_ended same.source r.here;
   behind = r.behind;
-  lexeme_is = r.lexeme_is;
-  errors = r.errors ∙ ap (λ es. es ++ r.reading.diagnostics) same.stays.errors;
+  lexeme_is = r.lexeme_is ∙ ap (λ b. lexeme_of b r.reading) same.stays.line_has_ended;
+  errors =
+      r.errors ∙ ap (λ es. es ++ reported_at mid.source.place r.reading) same.stays.errors
+      ∙ ap (λ (a : At). old.errors ++ reported_at a.place r.reading) same.source;
 }
   where
     moved : mid.source_type ≡ old.source_type → mid.line_has_ended ≡ old.line_has_ended → mid.source ≡ old.source
-        → ReadsHere mid.source_type mid.line_has_ended mid.source.place (rest mid.source) r.reading
-        → ReadsHere old.source_type old.line_has_ended old.source.place (rest old.source) r.reading
+        → ReadsHere mid.source_type mid.line_has_ended (rest mid.source) r.reading
+        → ReadsHere old.source_type old.line_has_ended (rest old.source) r.reading
     moved e f g h =
-        subst (λ t. ReadsHere t old.line_has_ended old.source.place (rest old.source) r.reading) e
-        (subst (λ b. ReadsHere mid.source_type b old.source.place (rest old.source) r.reading) f
-        (subst (λ (a : At). ReadsHere mid.source_type mid.line_has_ended a.place (rest a) r.reading) g h))
+        subst (λ t. ReadsHere t old.line_has_ended (rest old.source) r.reading) e
+        (subst (λ b. ReadsHere mid.source_type b (rest old.source) r.reading) f
+        (subst (λ (a : At). ReadsHere mid.source_type mid.line_has_ended (rest a) r.reading) g h))
 
 pub moves_on_from : (old mid new : Reader) → IsUnmoved old mid → MovesOn mid new → MovesOn old new
 moves_on_from old mid new same m = record {

@@ -22,21 +22,23 @@ use Rattle.js_grammar.specs.Outcome.{Outcome, gap_diagnostics}
 use Rattle.js_grammar.specs.Quoted.{units_in}
 use Rattle.js_grammar.specs.Reads.{PlainReads, is_plain}
 use Rattle.js_grammar.specs.Reads.PlainReads.{hashbang, spelled}
-use Rattle.js_grammar.specs.Recovery.{Reading}
-use Rattle.js_grammar.specs.Spelling.{Spelling, is_escaped, is_private_name, is_valued, text_slice}
+use Rattle.js_grammar.specs.Reading.{Reading, reported_at}
+use Rattle.js_grammar.specs.Spelling.{Spelling, is_escaped}
+use Rattle.js_grammar.specs.TokenText.{is_private_name, is_valued, text_slice}
 use Rattle.js_grammar.specs.Spelling.Spelling.{name, private_name, punctuator, number, string, template}
 use Rattle.js_grammar.specs.Spelling.Spelling.{end_of_source}
-use Rattle.js_grammar.specs.StringItems.{StringItem, StringItems, StringRead, IsString, contains_escape, is_quote}
+use Rattle.js_grammar.specs.StringItems.{StringItem, StringItems, IsString, contains_escape, is_quote}
 use Rattle.js_grammar.specs.StringItems.{string_text, string_units}
 use Rattle.js_grammar.specs.Template.{IsTemplatePart}
 use Rattle.js_grammar.specs.Template.IsTemplatePart.{no_substitution, head}
-use Rattle.js_grammar.specs.Values.{IsValueOf, plain_value, decoded_value, decoded_units}
+use Rattle.js_grammar.specs.Values.{IsValueOf, decoded_value, decoded_units}
+use Rattle.js_grammar.specs.TokenText.{plain_value}
 use Rattle.js_grammar.specs.declared.goal.Goal.{Goal}
 use Rattle.js_grammar.specs.declared.goal.Goal.TheVariants.{First, Next, TemplateTail}
 use Rattle.js_grammar.specs.declared.goal.Goal.TheVariants.{RegularExpression, RightAngle, TypeScriptLeftAngle}
 use Rattle.js_grammar.specs.declared.goal.Goal.TheVariants.{TypeScriptRightAngle, JsxIdentifier, JsxChild}
 use Rattle.js_grammar.specs.declared.goal.Goal.TheVariants.{JsxAttributeValue}
-use Rattle.js_grammar.proofs.Clean.{recovery_reports}
+use Rattle.js_grammar.proofs.Clean.{none_moved, recovery_reports}
 use Rattle.js_grammar.proofs.Flags.{none_of_them, punctuator_unflagged, end_unflagged}
 use Rattle.js_grammar.proofs.NumberKinds.{number_kind, unmarked_parts}
 use Rattle.js_grammar.proofs.QuotedValues.{string_read_at}
@@ -148,9 +150,9 @@ record StringHere (here : List ℕ) (r : Reading) : Type 0 where
   pub is_string : IsString characters r.rest
   pub escape : r.escaped ≡ contains_escape is_string.items
 
-string_here_read : (t : SourceType) (line_has_ended : Bool) (place : ℕ) (here : List ℕ) (r : Reading)
-    → ReadsHere t line_has_ended place here r → r.diagnostics ≡ [] → r.kind ≡ Str → StringHere here r
-string_here_read t line_has_ended place here r (spelled_here xs spelling is) clean kind =
+string_here_read : (t : SourceType) (line_has_ended : Bool) (here : List ℕ) (r : Reading)
+    → ReadsHere t line_has_ended here r → r.diagnostics ≡ [] → r.kind ≡ Str → StringHere here r
+string_here_read t line_has_ended here r (spelled_here xs spelling is) clean kind =
     let found = spelled_string t line_has_ended xs r.rest r.kind spelling.spelling kind in
     record {
       characters = xs;
@@ -160,8 +162,8 @@ string_here_read t line_has_ended place here r (spelled_here xs spelling is) cle
           ap (λ (x : Reading). x.escaped) is ∙ ap (λ k. is_escaped k xs) kind ∙ string_escape xs
           ∙ sym (string_is_escaped xs r.rest found);
     }
-string_here_read t line_has_ended place here r (recovers nothing e) clean kind =
-    absurd (recovery_reports t line_has_ended place here r nothing e clean)
+string_here_read t line_has_ended here r (recovers nothing e) clean kind =
+    absurd (recovery_reports t line_has_ended here r nothing e clean)
 
 behind_is_nil : (xs ys : List Diagnostic) → xs ++ ys ≡ [] → ys ≡ []
 behind_is_nil [] ys e = e
@@ -172,11 +174,13 @@ units_are : (items : List StringItem) → string_units items ≡ units_of_items 
 units_are [] = refl
 units_are (x ∷ xs) = ap (λ us. x.units ++ us) (units_are xs)
 
--- what a string stands for
-string_stands_for : (xs ys : List ℕ) (is : IsString xs ys) → decoded_units (xs ++ ys) ≡ units_of_items is.items
-string_stands_for xs ys is =
+-- what a string with an escape stands for
+string_stands_for : (xs ys : List ℕ) (is : IsString xs ys) → contains_escape is.items ≡ true
+    → decoded_units (xs ++ ys) ≡ units_of_items is.items
+string_stands_for xs ys is escaped =
     rw (quote_first xs ys (string_begins xs ys is))
-    (ap (λ (r : StringRead). unwrap_or (units_in r.value) []) (string_read_at 0 xs ys is) ∙ units_are is.items)
+    (ap (λ (r : Reading). unwrap_or (units_in r.value) []) (string_read_at xs ys is)
+    ∙ rw escaped (units_are is.items))
   where
     quote_first : (xs ys : List ℕ) → begins is_quote xs ≡ true → begins is_quote (xs ++ ys) ≡ true
     quote_first [] ys e = absurd (cc)
@@ -202,6 +206,9 @@ string_value text o ys r value kind escaped rest found =
     subst (IsString found.characters) rest found.is_string in
     let here : from_place text o.token.start ≡ found.characters ++ from_place text o.token.end =
     found.here_is ∙ ap (λ zs. found.characters ++ zs) rest in
+    let items_escaped =
+    string_is_escaped found.characters (from_place text o.token.end) moved
+    ∙ sym (string_is_escaped found.characters r.rest found.is_string) ∙ sym found.escape ∙ sym escaped in
     record {
       characters = found.characters;
       here = here;
@@ -210,14 +217,12 @@ string_value text o ys r value kind escaped rest found =
           value.decoded is ∙ ap (λ k. decoded_value k (from_place text o.token.start)) kind
           ∙ decoded_string (from_place text o.token.start)
           ∙ ap (λ zs. Units (decoded_units zs)) here
-          ∙ ap Units (string_stands_for found.characters (from_place text o.token.end) moved);
+          ∙ ap Units
+          (string_stands_for found.characters (from_place text o.token.end) moved (items_escaped ∙ is));
       plain_value = λ none. (
         value.plain none ∙ ap (λ k. plain_value k o.token.start o.token.end) kind
             ∙ plain_string o.token.start o.token.end,
-        string_stands_for_itself found.characters (from_place text o.token.end) moved
-            (string_is_escaped found.characters (from_place text o.token.end) moved
-            ∙ sym (string_is_escaped found.characters r.rest found.is_string)
-            ∙ sym found.escape ∙ sym escaped ∙ none),
+        string_stands_for_itself found.characters (from_place text o.token.end) moved (items_escaped ∙ none),
       );
     }
   where
@@ -234,10 +239,11 @@ plainly_string text t goal before place o value (hashbang_read begun read) clean
     absurd (let no : HashbangComment ≡ Str = sym read.is_hashbang.kind ∙ kind in cc)
 plainly_string text t goal before place o value (behind_gap begun read) clean kind =
     let quiet : read.reading.diagnostics ≡ [] =
-    behind_is_nil (gap_diagnostics place read.pieces) read.reading.diagnostics
-    (sym (ap (λ (x : Outcome). x.findings.diagnostics) read.outcome_is) ∙ clean) in
+    none_moved o.token.start read.reading.diagnostics
+    (behind_is_nil (gap_diagnostics place read.pieces) (reported_at o.token.start read.reading)
+    (sym (ap (λ (x : Outcome). x.findings.diagnostics) read.outcome_is) ∙ clean)) in
     let found =
-    string_here_read t read.line_has_ended o.token.start (from_place text o.token.start) read.reading read.here quiet
+    string_here_read t read.line_has_ended (from_place text o.token.start) read.reading read.here quiet
     (ap (λ (x : Outcome). x.token.kind) (sym read.outcome_is) ∙ kind) in
     string_value text o [] read.reading value kind (ap (λ (x : Outcome). x.token.escaped) read.outcome_is) read.rest
     found

@@ -5,7 +5,8 @@ use Rattle.js_text.specs.declared.diagnostic.Diagnostic.{Diagnostic}
 use Rattle.js_text.specs.declared.source_type.SourceType.{SourceType}
 use Rattle.js_grammar.specs.Gap.{Piece}
 use Rattle.js_grammar.specs.GapItems.{Item}
-use Rattle.js_grammar.specs.Outcome.{piece_deferred, gap_deferred, place_behind}
+use Rattle.js_grammar.specs.Outcome.{piece_deferred, gap_deferred}
+use Rattle.js_grammar.specs.Reading.{place_behind}
 use Rattle.js_grammar.specs.PieceItems.{piece_length, is_line_comment, items_of_kind, items_from}
 use Rattle.js_grammar.proofs.Reported.{piece_texts, place_behind-append}
 use Rattle.js_trivia.specs.Trivia.{Trivia, call, calls}

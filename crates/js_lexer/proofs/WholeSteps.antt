@@ -12,7 +12,8 @@ use Rattle.js_text.proofs.TextLemmas.{place_past, length-from_first, before_from
 use Rattle.js_source.specs.Source.{At, rest, IsPlaced}
 use Rattle.js_grammar.specs.Gap.{Piece, piece, is_prefix, line_comment, is_reported, whole_gap_piece, Pieces}
 use Rattle.js_grammar.specs.Gap.PieceKind.{reported_comment}
-use Rattle.js_grammar.specs.Outcome.{gap_diagnostics, place_behind}
+use Rattle.js_grammar.specs.Outcome.{gap_diagnostics}
+use Rattle.js_grammar.specs.Reading.{place_behind}
 use Rattle.js_grammar.specs.PieceItems.{piece_length}
 use Rattle.js_grammar.proofs.GapLemmas.{reported, unreported}
 use Rattle.js_grammar.proofs.PieceLemmas.{from_first-html_open, longest_gap_leaves}

@@ -9,7 +9,7 @@ use Rattle.js_text.specs.JsText.{js_text_units, is_decoded}
 use Rattle.js_text.specs.declared.js_text.JsText.{JsText}
 use Rattle.js_text.specs.declared.js_text.TemplateValue.{TemplateValue}
 use Rattle.js_text.specs.declared.js_text.TemplateValue.TheVariants.{Text, Bad as BadPart}
-use Rattle.js_grammar.specs.Spelling.{text_start, text_end}
+use Rattle.js_grammar.specs.TokenText.{text_start, text_end}
 use Rattle.js_grammar.specs.Values.{decoded_units, template_units}
 use Rattle.js_kind.specs.Kinds.{is_template_kind}
 use Rattle.js_kind.specs.TokenParts.{TokenParts}

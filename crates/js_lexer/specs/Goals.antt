@@ -1,21 +1,17 @@
 -- Readings of goals beside the plain one.
-use Rattle.std.specs.Prelude.{◌≡◌, ℕ, ◌==◌, true, false, List, [], ◌∷◌, ◌++◌, length, Option, Some, None}
+use Rattle.std.specs.Prelude.{◌≡◌, ℕ, ◌==◌, true, false, ◌++◌, Option, Some, None}
 use Rattle.js_text.specs.Ascii.{hyphen_minus}
 use Rattle.js_text.specs.Characters.{begins, from_place}
 use Rattle.js_text.specs.declared.reg_exp_flags.RegexInfo.{RegexInfo}
-use Rattle.js_kind.specs.Kinds.{is_identifier_name, is_one_of, kind_text}
+use Rattle.js_kind.specs.Kinds.{is_identifier_name}
 use Rattle.js_kind.specs.TokenParts.{TokenParts}
-use Rattle.js_kind.specs.declared.kind.Kind.{Kind}
-use Rattle.js_kind.specs.declared.kind.Kind.TheVariants.{LtEq, ShiftLeft, ShiftLeftEq, ShiftRight, ShiftRight3, Slash}
-use Rattle.js_kind.specs.declared.kind.Kind.TheVariants.{SlashEq}
 use Rattle.js_grammar.specs.declared.goal.Goal.TheVariants.{JsxIdentifier, RegularExpression}
 use Rattle.js_source.specs.Source.{rest, IsPlaced}
-use Rattle.js_grammar.specs.GoalRead.{GoalRead}
-use Rattle.js_grammar.specs.Goals.{read_token}
-use Rattle.js_grammar.specs.Jsx.{jsx_string_read}
+use Rattle.js_grammar.specs.Jsx.{jsx_string_reading}
+use Rattle.js_grammar.specs.Reading.{Reading, reported_at}
 use Rattle.js_grammar.specs.StringItems.{is_quote}
 use Rattle.js_lexer.specs.Lexer.{LexerState, ReadsAgain}
-use Rattle.js_lexer.specs.Reader.{ReadsTokenHere, ReadsWithoutGap}
+use Rattle.js_lexer.specs.Reader.{ReadsTokenHere, ReadsWithoutGap, read_token}
 use Rattle.js_lexer.specs.declared.reader.Reader.{Reader}
 use Rattle.js_lexer.specs.declared.regex.RegexToken.{RegexToken}
 
@@ -40,37 +36,17 @@ ReadsNameOn start old (Some token) new =
 pub record ReadsStringHere (old : Reader) (token : TokenParts) (new : Reader) : Type 0 where
   pub text : new.source.text ≡ old.source.text
   pub source_type : new.source_type ≡ old.source_type
-  pub found : GoalRead
-  pub read : jsx_string_read old.source.place (rest old.source) ≡ Some found
+  pub found : Reading
+  pub read : jsx_string_reading (rest old.source) ≡ Some found
   pub token_is : token ≡ read_token old.line_has_ended old.source.place new.source.place found.kind
   pub left : found.rest ≡ rest new.source
   pub placed : IsPlaced new.source
-  pub errors : new.errors ≡ old.errors ++ found.diagnostics
+  pub errors : new.errors ≡ old.errors ++ reported_at old.source.place found
 
 -- The value of an attribute was read where the reader stood: a string, or the token that is there.
 pub data ReadsAttributeHere (old : Reader) (token : TokenParts) (new : Reader) : Type 0 where
   string : ReadsStringHere old token new → ReadsAttributeHere old token new
   plain : begins is_quote (rest old.source) ≡ false → ReadsTokenHere old token new → ReadsAttributeHere old token new
-
--- the kinds of tokens behind which a regular expression may be read
-abbrev pub expression_kinds : List Kind
-expression_kinds = Slash ∷ SlashEq ∷ []
-
--- the compounds that begin with `<`
-abbrev pub left_compounds : List Kind
-left_compounds = ShiftLeft ∷ LtEq ∷ ShiftLeftEq ∷ []
-
--- the compounds that begin with `>`
-abbrev pub right_compounds : List Kind
-right_compounds = ShiftRight ∷ ShiftRight3 ∷ []
-
--- The lexer stands behind its last token, whose kind is one of these and has so many bytes.
-pub record IsBehindOne (kinds : List Kind) (bytes : ℕ) (l : LexerState) : Type 0 where
-  pub token : TokenParts
-  pub last : l.last ≡ Some token
-  pub kind_is : is_one_of kinds token.kind ≡ true
-  pub bytes_are : bytes ≡ length (kind_text token.kind)
-  pub place : l.place ≡ token.end
 
 -- The lexer stands behind its last token, a name that begins at the start.
 pub record IsBehindName (start : ℕ) (l : LexerState) : Type 0 where

@@ -7,7 +7,7 @@ use Rattle.js_text.specs.JsStr.{units_of}
 use Rattle.js_text.specs.declared.value.RowValue.TheVariants.{Units}
 use Rattle.js_grammar.specs.Name.{IsName, decoded}
 use Rattle.js_grammar.specs.Outcome.{Outcome}
-use Rattle.js_grammar.specs.Spelling.{text_slice}
+use Rattle.js_grammar.specs.TokenText.{text_slice}
 use Rattle.js_grammar.specs.StringItems.{StringItem, IsString, string_text}
 use Rattle.js_kind.specs.Keywords.{name_kind}
 use Rattle.js_kind.specs.TokenParts.{TokenParts}

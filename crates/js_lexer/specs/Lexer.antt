@@ -14,7 +14,7 @@ use Rattle.js_grammar.specs.Goals.{GoalReads, AgreesWithGrammar}
 use Rattle.js_grammar.specs.Outcome.{Findings, FindingLengths, no_findings, joined, lengths_of, cut_to}
 use Rattle.js_grammar.specs.Outcome.{AreWithin, Outcome}
 use Rattle.js_grammar.specs.Reads.{is_plain}
-use Rattle.js_grammar.specs.ReLexed.{HasSpelling}
+use Rattle.js_grammar.specs.ReLexed.{HasSpelling, again_kinds}
 use Rattle.js_grammar.specs.Values.{HasText}
 use Rattle.js_grammar.specs.declared.goal.Goal.{Goal}
 use Rattle.js_grammar.specs.declared.goal.Goal.TheVariants.{Next, JsxChild}
@@ -24,7 +24,11 @@ use Rattle.js_trivia.specs.Trivia.{Trivia, HeldBefore, extend_if, is_past, is_pu
 use Rattle.js_trivia.specs.Trivia.{is_no_side_effects_not_applied, comment_starts, span_starts, AreRangesUpTo}
 use Rattle.js_trivia.specs.declared.lengths.TriviaLengths.{TriviaLengths}
 use Rattle.js_lexer.specs.Decoded.{Values, no_values, AreValues, Keeps, HasValue}
-use Rattle.js_kind.specs.Kinds.{number}
+use Rattle.js_lexer.specs.declared.found.GapFindings.{GapFindings}
+use Rattle.js_lexer.specs.declared.found.GapLengths.{GapLengths}
+use Rattle.js_lexer.specs.declared.reader.Reader.{Reader}
+use Rattle.js_lexer.specs.declared.reader.ReadingStart.{ReadingStart}
+use Rattle.js_kind.specs.Kinds.{is_one_of, number}
 use Rattle.js_kind.specs.TokenParts.{TokenParts, default_parts}
 use Rattle.js_kind.specs.declared.kind.Kind.{Kind}
 use Rattle.js_kind.specs.declared.kind.Kind.TheVariants.{Eof, HashbangComment}
@@ -48,6 +52,39 @@ pub record LexerState : Type 0 where
 abbrev pub last_read : Bool → TokenParts → Option TokenParts
 last_read false previous = None
 last_read true previous = Some previous
+
+-- what a lexer has found, by its reader and by gaps
+abbrev pub findings_in : Reader → GapFindings → Findings
+findings_in reader found = record {
+  diagnostics = reader.errors;
+  deferred = found.deferred;
+  comments = found.trivia.attachment.attached;
+  irregular = found.trivia.irregular_whitespaces;
+}
+
+-- how much that was
+abbrev pub lengths_in : ReadingStart → GapLengths → FindingLengths
+lengths_in start found = record {
+  diagnostics = start.reported;
+  deferred = found.deferred;
+  comments = found.trivia.comments;
+  irregular = found.trivia.irregular;
+}
+
+-- the lexer of these parts
+abbrev pub lexer_of : Bool → Reader → GapFindings → Bool → List TokenParts → Values → LexerState
+lexer_of collects reader found has_read tokens decoded = record {
+  text = reader.source.text;
+  source_type = reader.source_type;
+  collects = collects;
+  place = reader.source.place;
+  last = last_read has_read found.trivia.attachment.previous;
+  tokens = tokens;
+  findings = findings_in reader found;
+  pure_comments = found.trivia.pure_comments;
+  no_side_effects_comments = found.trivia.no_side_effects_comments;
+  decoded = decoded;
+}
 
 -- a lexer that has read nothing
 abbrev pub fresh : List ℕ → SourceType → Bool → LexerState
@@ -185,12 +222,16 @@ pub record ReadsToken (goal : Goal) (old : LexerState) (token : TokenParts) (new
 abbrev pub ReadsNext : LexerState → LexerState → Type 0
 ReadsNext old new = (token : TokenParts) × ReadsToken Next old token new
 
--- The lexer stands behind its last token, which is of this kind.
-pub record IsBehind (kind : Kind) (l : LexerState) : Type 0 where
+-- The lexer stands behind its last token, which the goal may read again.
+pub record IsBehindFor (goal : Goal) (l : LexerState) : Type 0 where
   pub token : TokenParts
   pub last : l.last ≡ Some token
-  pub kind_is : token.kind ≡ kind
+  pub kind_is : is_one_of (again_kinds goal) token.kind ≡ true
   pub place : l.place ≡ token.end
+
+-- the kind of the last token, and the kind of the default token before the first
+abbrev pub kind_of_last : LexerState → Kind
+kind_of_last l = (token_or_default l.last).kind
 
 -- A checkpoint: the place, the last token, the last collected one, how long the lists were, a copy of what was reported
 -- if one was made, and where the annotations before the last token were.

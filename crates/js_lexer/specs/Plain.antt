@@ -7,9 +7,8 @@ use Rattle.js_kind.specs.TokenParts.{TokenParts}
 use Rattle.js_kind.specs.declared.kind.Kind.{Kind}
 use Rattle.js_source.specs.Source.{At, rest, IsPlaced, HasFirstByte}
 use Rattle.js_trivia.specs.Trivia.{Trivia, handle_newline}
-use Rattle.js_lexer.specs.Reader.{Leads, SkipsWholeGap, ReadsLexeme, ReadsTokenHere}
+use Rattle.js_lexer.specs.Reader.{plain_lexeme, Leads, SkipsWholeGap, ReadsLexeme, ReadsTokenHere}
 use Rattle.js_lexer.specs.declared.found.GapFindings.{GapFindings}
-use Rattle.js_lexer.specs.declared.lexeme.Lexeme.{Lexeme}
 use Rattle.js_lexer.specs.declared.plain.GapEnd.{GapEnd}
 use Rattle.js_lexer.specs.declared.plain.GapEnd.TheVariants.{Name, Mark, Other}
 use Rattle.js_lexer.specs.declared.reader.Reader.{Reader}
@@ -70,11 +69,6 @@ abbrev pub EndsAt : GapEnd → At → Bool → At → Bool → Type 0
 EndsAt (Name b) old had new has = MeetsByte b old had new has × (is_identifier_start b ≡ true)
 EndsAt (Mark b) old had new has = MeetsByte b old had new has
 EndsAt Other old had new has = Unit {0}
-
--- what was read of the kind, without a flag
-abbrev pub plain_lexeme : Kind → Bool → Lexeme
-plain_lexeme kind line_has_ended =
-    record { kind = kind; is_on_new_line = line_has_ended; escaped = false; has_separator = false }
 
 -- What stands behind a gap was read, good and without a flag, where the reader stands there.
 abbrev pub SpellsFor : Reader → Bool → At → At → Kind → Type 0

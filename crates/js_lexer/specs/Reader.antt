@@ -1,6 +1,6 @@
 -- What the steps of a reading do to the reader that they work on.
 use Rattle.std.specs.Prelude.{◌≡◌, ◌≢◌, ℕ, ◌+◌, ◌<◌, ◌≤◌, Bool, true, false, List, [], ◌++◌, length, Option, Some, None}
-use Rattle.std.specs.Prelude.{is_none, if◌then◌else◌}
+use Rattle.std.specs.Prelude.{is_none, ◌||◌, if◌then◌else◌}
 use Rattle.js_text.specs.Characters.{begins, from_first, is_line_terminator}
 use Rattle.js_text.specs.Comment.{opening_length}
 use Rattle.js_text.specs.declared.comment.CommentKind.{CommentKind}
@@ -18,11 +18,12 @@ use Rattle.js_grammar.specs.Outcome.{Outcome, reports, gap_diagnostics}
 use Rattle.js_grammar.specs.PieceItems.{found_comment, gap_of, items_of}
 use Rattle.js_grammar.specs.Punctuators.{NoPunctuator}
 use Rattle.js_grammar.specs.Quoted.{begins_quoted}
-use Rattle.js_grammar.specs.Recovery.{Reading}
+use Rattle.js_grammar.specs.Reading.{Reading, reported_at}
 use Rattle.js_grammar.specs.Spelling.{begins_named}
 use Rattle.js_grammar.specs.declared.goal.Goal.{Goal}
 use Rattle.js_grammar.specs.declared.goal.Goal.TheVariants.{First}
 use Rattle.js_kind.specs.TokenParts.{TokenParts}
+use Rattle.js_kind.specs.declared.kind.Kind.{Kind}
 use Rattle.js_trivia.specs.Pieces.{HaveBytes, end_of}
 use Rattle.js_trivia.specs.Trivia.{add_comment, calls}
 use Rattle.js_lexer.specs.Gaps.{AddsPieces, opening_mark, piece_kind}
@@ -143,11 +144,11 @@ pub record MovesOn (old new : Reader) : Type 0 where
   pub more : List Diagnostic
   pub errors : new.errors ≡ old.errors ++ more
 
--- the kind and the flags of a reading
-abbrev pub lexeme_of : Reading → Lexeme
-lexeme_of reading = record {
+-- the kind and the flags of a reading, where the flag tells whether a line has ended before it
+abbrev pub lexeme_of : Bool → Reading → Lexeme
+lexeme_of line_has_ended reading = record {
   kind = reading.kind;
-  is_on_new_line = reading.is_on_new_line;
+  is_on_new_line = reading.line_ended || line_has_ended;
   escaped = reading.escaped;
   has_separator = reading.has_separator;
 }
@@ -157,10 +158,10 @@ pub record ReadsLexeme (old : Reader) (lexeme : Lexeme) (new : Reader) : Type 0 
   pub text : new.source.text ≡ old.source.text
   pub source_type : new.source_type ≡ old.source_type
   pub reading : Reading
-  pub here : ReadsHere old.source_type old.line_has_ended old.source.place (rest old.source) reading
+  pub here : ReadsHere old.source_type old.line_has_ended (rest old.source) reading
   pub behind : reading.rest ≡ rest new.source
-  pub lexeme_is : lexeme ≡ lexeme_of reading
-  pub errors : new.errors ≡ old.errors ++ reading.diagnostics
+  pub lexeme_is : lexeme ≡ lexeme_of old.line_has_ended reading
+  pub errors : new.errors ≡ old.errors ++ reported_at old.source.place reading
 
 -- the token of a lexeme from start to end
 abbrev pub lexeme_token : ℕ → ℕ → Lexeme → TokenParts
@@ -172,6 +173,15 @@ lexeme_token start end l = record {
   escaped = l.escaped;
   has_separator = l.has_separator;
 }
+
+-- what was read of the kind, without a flag
+abbrev pub plain_lexeme : Kind → Bool → Lexeme
+plain_lexeme kind line_has_ended =
+    record { kind = kind; is_on_new_line = line_has_ended; escaped = false; has_separator = false }
+
+-- the token of the kind from start to end, without another flag
+abbrev pub read_token : Bool → ℕ → ℕ → Kind → TokenParts
+read_token line_has_ended start end kind = lexeme_token start end (plain_lexeme kind line_has_ended)
 
 -- The token of the lexeme that stands where the reader stood was read.
 pub record ReadsTokenHere (old : Reader) (token : TokenParts) (new : Reader) : Type 0 where

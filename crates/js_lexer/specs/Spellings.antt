@@ -1,7 +1,9 @@
 -- What the readers of one spelling do to the source.
-use Rattle.std.specs.Prelude.{◌≡◌, ℕ, ◌≤◌, Bool, List, Option, Some, None}
+use Rattle.std.specs.Prelude.{◌≡◌, ℕ, ◌≤◌, ◌||◌, Bool, List, Option, Some, None}
+use Rattle.js_text.specs.declared.diagnostic.Diagnostic.{Diagnostic}
 use Rattle.js_text.specs.declared.source_type.SourceType.{SourceType}
 use Rattle.js_grammar.specs.Punctuators.{LongestPunctuator, NoPunctuator}
+use Rattle.js_grammar.specs.Reading.{moved_diagnostic}
 use Rattle.js_grammar.specs.Recovery.{faulty, recovered}
 use Rattle.js_grammar.specs.Spelling.{LongestSpelling}
 use Rattle.js_kind.specs.declared.kind.Kind.{Kind}
@@ -23,6 +25,10 @@ ReadsPunctuator t line_has_ended old new None = (new ≡ old) × NoPunctuator t 
 -- What was read where nothing is spelled, up to the new place.
 pub record Recovers (line_has_ended : Bool) (old : At) (r : Recovered) (new : At) : Type 0 where
   pub text : new.text ≡ old.text
-  pub recovery : recovered line_has_ended old.place (rest old)
-      ≡ Some (faulty r.kind (rest new) r.is_on_new_line r.diagnostic)
+  pub line_ended : Bool
+  pub fault : Diagnostic
+  pub recovery : recovered (rest old)
+      ≡ Some (record (faulty r.kind (rest old) (rest new) fault) { line_ended = line_ended })
+  pub line : r.is_on_new_line ≡ (line_ended || line_has_ended)
+  pub reported : r.diagnostic ≡ moved_diagnostic old.place fault
   pub onward : old.place ≤ new.place

@@ -8,48 +8,43 @@ ghost use Rattle.js_kind.specs.Kinds.{kind_text};
 ghost use Rattle.js_grammar.specs.ReLexed.{is_re_lexed, HasSpelling};
 ghost use Rattle.js_lexer.specs.Lexer.{IsOnPlaces, put_back, asked_lengths};
 
+use crate::found::GapLengths;
+use crate::reader::ReadingStart;
+use js_grammar::is_re_lexed;
 use js_kind::{Kind, Token, TokenList};
-use js_source::{Source, SourcePosition};
+use js_source::Source;
 use js_text::DiagnosticList;
-use js_trivia::TriviaLengths;
 use std::marker::Model;
 
 /// Where a lexer stood, its last token, and how long its lists were. One that is made for error recovery has a copy of
 /// what was reported, since the parser may take some of it back; no other list is copied.
 #[derive(Drop)]
 pub struct LexerCheckpoint {
-    pub(crate) position: SourcePosition,
+    pub(crate) start: ReadingStart,
+    pub(crate) found: GapLengths,
     pub(crate) last: Option<Token>,
     pub(crate) last_collected: Option<Token>,
     pub(crate) tokens: usize,
-    pub(crate) errors: usize,
     pub(crate) errors_copy: Option<DiagnosticList>,
-    pub(crate) deferred: usize,
-    pub(crate) trivia: TriviaLengths,
 }
 
 impl Model for LexerCheckpoint {
-    ghost use Rattle.js_lexer.specs.Lexer.{Checkpoint, IsBehindToken};
+    ghost use Rattle.js_lexer.specs.Lexer.{Checkpoint, IsBehindToken, lengths_in};
 
     ghost Value = { Checkpoint };
 
     ghost view = { λ c. record {
-      place = c.position;
+      place = c.start.position;
       last = c.last;
       last_collected = c.last_collected;
       tokens = c.tokens;
-      lengths = record {
-        diagnostics = c.errors;
-        deferred = c.deferred;
-        comments = c.trivia.comments;
-        irregular = c.trivia.irregular;
-      };
+      lengths = lengths_in c.start c.found;
       errors = c.errors_copy;
-      pure_comments = c.trivia.pure_range;
-      no_side_effects_comments = c.trivia.no_side_effects;
+      pure_comments = c.found.trivia.pure_range;
+      no_side_effects_comments = c.found.trivia.no_side_effects;
     } };
 
-    ghost invariant = { λ c. IsBehindToken c.position c.last c.trivia };
+    ghost invariant = { λ c. IsBehindToken c.start.position c.last c.found.trivia };
 }
 
 impl LexerCheckpoint {
@@ -60,7 +55,7 @@ impl LexerCheckpoint {
         if self.errors_copy.is_some() {
             0
         } else {
-            self.errors
+            self.start.reported
         }
     }
 }
@@ -93,25 +88,6 @@ pub(crate) fn is_on_places_if_some(source: &Source<'_>, token: &Option<Token>) -
         Some(token) => is_on_places(source, token),
         None => true,
     }
-}
-
-/// Whether tokens of the kind may be read again.
-#[tactic(auto, unfolding(js_grammar::specs::ReLexed::is_re_lexed))]
-fn is_re_lexed(kind: Kind) -> bool
-    ensures { result ≡ is_re_lexed kind }
-{
-    matches!(
-        kind,
-        Kind::RCurly
-            | Kind::Slash
-            | Kind::SlashEq
-            | Kind::RAngle
-            | Kind::ShiftLeft
-            | Kind::LtEq
-            | Kind::ShiftLeftEq
-            | Kind::ShiftRight
-            | Kind::ShiftRight3
-    )
 }
 
 /// Whether the spelling of the kind stands from the offset to the other, both places of the text, in order.

@@ -8,17 +8,19 @@ ghost use Rattle.js_text.specs.Lists.{with_last};
 ghost use Rattle.js_text.specs.declared.comment.Comment.{Comment};
 ghost use Rattle.js_text.specs.declared.diagnostic.Diagnostic.{Diagnostic};
 ghost use Rattle.js_grammar.specs.Goals.{line_has_ended_behind};
-ghost use Rattle.js_grammar.specs.Spelling.{text_start, text_end};
+ghost use Rattle.js_grammar.specs.Outcome.{AreWithin, found_since, no_findings};
+ghost use Rattle.js_grammar.specs.TokenText.{text_start, text_end};
 ghost use Rattle.js_grammar.specs.Reads.{is_onward};
 ghost use Rattle.js_kind.specs.TokenParts.{TokenParts};
 ghost use Rattle.js_source.specs.Source.{IsPlaced};
+ghost use Rattle.js_trivia.specs.Trivia.{handle_token};
 ghost use Rattle.js_lexer.specs.Decoded.{Keeps, KeepsValues, HasValue, value_of, GivesDecoded, GivesPart, GivesText};
 ghost use Rattle.js_lexer.specs.Decoded.{GivesTemplate, GivesStretch};
 ghost use Rattle.js_lexer.specs.Gaps.{Grows};
 ghost use Rattle.js_lexer.specs.Lexer.{LexerState, fresh, token_or_default, ReadsToken, IsRestored, IsOnPlaces, Peeks};
-ghost use Rattle.js_lexer.specs.Lexer.{checkpoint_of, CanRewind, rewound, GoesOnFrom, collected, is_hashbang, IsBehind};
-ghost use Rattle.js_lexer.specs.Lexer.{ReadsAgain, checkpoint_with_errors_of, with_comments, with_diagnostics};
-ghost use Rattle.js_lexer.specs.Lexer.{trivia_before};
+ghost use Rattle.js_lexer.specs.Lexer.{checkpoint_of, CanRewind, rewound, GoesOnFrom, collected, is_hashbang};
+ghost use Rattle.js_lexer.specs.Lexer.{IsBehindFor, ReadsAgain, checkpoint_with_errors_of, trivia_before};
+ghost use Rattle.js_lexer.specs.Lexer.{with_comments, with_diagnostics};
 ghost use Rattle.js_lexer.specs.Reader.{ReadsWithGap, MovesOn};
 
 mod annotations;
@@ -31,6 +33,7 @@ use crate::checkpoint::{
     put_errors_back,
 };
 use crate::decoded::DecodedValues;
+use crate::findings::{Findings, items_from};
 use crate::found::GapFindings;
 use crate::reader::Reader;
 use crate::tables::ByteTables;
@@ -80,13 +83,16 @@ fn collect(tokens: &mut TokenList, collects: bool, token: &Token) -> Result<(), 
     tokens.push(*token)
 }
 
-/// Puts the token in the place of the last collected one, where tokens are collected.
-fn replace_collected(tokens: &mut TokenList, collects: bool, token: Token)
-    ensures { tokens.new ≡ (if collects then with_last tokens.old token else tokens.old) }
+/// Takes a token in the place of the last one, and of the last collected one, where tokens are collected.
+#[inline(always)]
+fn take_again(trivia: &mut TriviaBuilder, tokens: &mut TokenList, collects: bool, token: Token)
+    ensures last { trivia.new ≡ handle_token token trivia.old }
+    ensures collected { tokens.new ≡ (if collects then with_last tokens.old token else tokens.old) }
 {
     if collects {
         tokens.replace_last(token);
     }
+    trivia.handle_token(token);
 }
 
 /// Forgets the annotations of the gap before, as a reading begins that has a gap of its own: all but that of a child of
@@ -162,27 +168,11 @@ pub struct Lexer<'a, C: LexerConfig + Drop> {
 }
 
 impl<'a, C: LexerConfig + Drop> Model for Lexer<'a, C> {
-    ghost use Rattle.js_lexer.specs.Lexer.{LexerState, IsSound, last_read};
+    ghost use Rattle.js_lexer.specs.Lexer.{LexerState, IsSound, last_read, lexer_of};
 
     ghost Value = { LexerState };
 
-    ghost view = { λ l. record {
-      text = l.reader.source.text;
-      source_type = l.reader.source_type;
-      collects = C.collects l.config;
-      place = l.reader.source.place;
-      last = last_read l.has_read l.found.trivia.attachment.previous;
-      tokens = l.tokens;
-      findings = record {
-        diagnostics = l.reader.errors;
-        deferred = l.found.deferred;
-        comments = l.found.trivia.attachment.attached;
-        irregular = l.found.trivia.irregular_whitespaces;
-      };
-      pure_comments = l.found.trivia.pure_comments;
-      no_side_effects_comments = l.found.trivia.no_side_effects_comments;
-      decoded = l.decoded;
-    } };
+    ghost view = { λ l. lexer_of (C.collects l.config) l.reader l.found l.has_read l.tokens l.decoded };
 
     ghost invariant = { λ l. IsSound l.reader.source (last_read l.has_read l.found.trivia.attachment.previous)
         l.found.trivia l.decoded };
@@ -216,10 +206,7 @@ impl<'a, C: LexerConfig + Drop> Lexer<'a, C> {
                 errors: DiagnosticList::new_in(alloc),
                 alloc,
             },
-            found: GapFindings {
-                trivia: TriviaBuilder::new_in(alloc),
-                deferred: DiagnosticList::new_in(alloc),
-            },
+            found: GapFindings::new_in(alloc),
             config,
             has_read: false,
             tokens,
@@ -245,10 +232,8 @@ impl<'a, C: LexerConfig + Drop> Lexer<'a, C> {
         ensures err { OnErr result (IsRestored self.old self.new) }
         ensures kept { Keeps self.old.decoded self.new.decoded }
     {
-        let place = self.reader.source.position();
-        let reported = self.reader.errors.len();
-        let deferred_before = self.found.deferred.len();
-        let trivia_before = self.found.trivia.lengths();
+        let start = self.reader.start();
+        let found_before = self.found.lengths();
         begin_reading(&mut self.found.trivia, goal);
         self.reader.line_has_ended = !self.has_read;
         let read = read_and_collect(
@@ -266,9 +251,8 @@ impl<'a, C: LexerConfig + Drop> Lexer<'a, C> {
                 Ok(token)
             }
             Err(error) => {
-                self.reader.go_back(place, reported);
-                self.found.deferred.truncate(deferred_before);
-                self.found.trivia.cut_back(trivia_before);
+                self.reader.go_back(start);
+                self.found.cut_back(found_before);
                 Err(error)
             }
         }
@@ -277,23 +261,21 @@ impl<'a, C: LexerConfig + Drop> Lexer<'a, C> {
     /// Reads on a template behind the `}` that was the last token and that ends a substitution (ECMA-262 12.9.6). The
     /// token that is read begins with this `}`, and stands in its place.
     pub fn next_template_substitution_tail(&mut self) -> Result<Token, AllocError>
-        requires { IsBehind Kind.RCurly self.old }
+        requires { IsBehindFor Goal.TemplateTail self.old }
         ensures ok { IfOk result (λ token. ReadsAgain Goal.TemplateTail self.old token self.new) }
         ensures err { OnErr result (IsRestored self.old self.new) }
         ensures kept { Keeps self.old.decoded self.new.decoded }
     {
-        let start = self.last_token().start();
-        let place = self.reader.source.position();
-        let reported = self.reader.errors.len();
-        match self.reader.read_next_part(start, &mut self.decoded) {
+        let offset = self.last_token().start();
+        let start = self.reader.start();
+        match self.reader.read_next_part(offset, &mut self.decoded) {
             Ok(token) => {
-                replace_collected(&mut self.tokens, self.config.tokens(), token);
-                self.found.trivia.handle_token(token);
-                self.has_read = true;
+                let collects = self.config.tokens();
+                take_again(&mut self.found.trivia, &mut self.tokens, collects, token);
                 Ok(token)
             }
             Err(error) => {
-                self.reader.go_back(place, reported);
+                self.reader.go_back(start);
                 Err(error)
             }
         }
@@ -507,6 +489,23 @@ impl<'a, C: LexerConfig + Drop> Lexer<'a, C> {
             .take_irregular_whitespaces(self.reader.alloc)
     }
 
+    /// Hands out what was found, and leaves nothing, and no range of comments.
+    pub fn take_findings(&mut self) -> Findings
+        ensures findings { result ≡ self.old.findings }
+        ensures after { self.new ≡ record self.old {
+          findings = no_findings;
+          pure_comments = None;
+          no_side_effects_comments = None;
+        } }
+    {
+        Findings {
+            diagnostics: self.take_errors(),
+            deferred: self.take_deferred_module_errors(),
+            comments: self.take_comments(),
+            irregular: self.take_irregular_whitespaces(),
+        }
+    }
+
     /// The tokens that were collected.
     pub fn tokens(&self) -> &[Token]
         ensures { result.now ≡ self.now.tokens }
@@ -528,14 +527,12 @@ impl<'a, C: LexerConfig + Drop> Lexer<'a, C> {
         ensures open { CanRewind self.now result }
     {
         LexerCheckpoint {
-            position: self.reader.source.position(),
+            start: self.reader.start(),
+            found: self.found.lengths(),
             last: self.last(),
             last_collected: last_of(self.tokens.as_slice()),
             tokens: self.tokens.len(),
-            errors: self.reader.errors.len(),
             errors_copy: None,
-            deferred: self.found.deferred.len(),
-            trivia: self.found.trivia.lengths(),
         }
     }
 
@@ -551,6 +548,27 @@ impl<'a, C: LexerConfig + Drop> Lexer<'a, C> {
         Ok(checkpoint)
     }
 
+    /// Copies of what was found since the checkpoint.
+    pub fn findings_since(
+        &self,
+        alloc: Global,
+        checkpoint: &LexerCheckpoint,
+    ) -> Result<Findings, AllocError>
+        requires { AreWithin checkpoint.now.lengths self.now.findings }
+        ensures { IfOk result (λ found. found ≡ found_since checkpoint.now.lengths self.now.findings) }
+    {
+        let reported = checkpoint.start.reported;
+        let found = &checkpoint.found;
+        let comments = found.trivia.comments as usize;
+        let irregular = found.trivia.irregular as usize;
+        Ok(Findings {
+            diagnostics: items_from(alloc, self.errors(), reported)?,
+            deferred: items_from(alloc, self.deferred_module_errors(), found.deferred)?,
+            comments: items_from(alloc, self.comments(), comments)?,
+            irregular: items_from(alloc, self.irregular_whitespaces(), irregular)?,
+        })
+    }
+
     /// Whether the lexer may go back to the checkpoint: its places are places of this text, in order, its last token
     /// has the spelling of its kind if it may be read again, no list is shorter than it was, copied diagnostics left
     /// out, and the comments and the irregular white space that stay start before that token.
@@ -563,19 +581,11 @@ impl<'a, C: LexerConfig + Drop> Lexer<'a, C> {
         if checkpoint.asked_errors() > self.reader.errors.len() {
             return false;
         }
-        if checkpoint.deferred > self.found.deferred.len() {
-            return false;
-        }
-        let trivia = &checkpoint.trivia;
-        if !self
-            .found
-            .trivia
-            .can_cut_back(trivia, trivia.previous.start())
-        {
+        if !self.found.can_cut_back(&checkpoint.found) {
             return false;
         }
         let source = &self.reader.source;
-        if !is_place(source, source.offset_of(checkpoint.position)) {
+        if !is_place(source, source.offset_of(checkpoint.start.position)) {
             return false;
         }
         if !is_on_places_if_some(source, &checkpoint.last) {
@@ -600,22 +610,18 @@ impl<'a, C: LexerConfig + Drop> Lexer<'a, C> {
             → IsRestored (with_comments marked earlier) self.new }
     {
         let LexerCheckpoint {
-            position,
+            start,
+            found,
             last,
             last_collected,
             tokens,
-            errors,
             errors_copy,
-            deferred,
-            trivia,
         } = checkpoint;
-        self.reader.source.set_position(position);
         self.has_read = last.is_some();
         self.tokens.truncate(tokens);
         put_back(&mut self.tokens, last_collected);
-        self.reader.errors.truncate(errors);
+        self.reader.go_back(start);
         put_errors_back(&mut self.reader.errors, errors_copy);
-        self.found.deferred.truncate(deferred);
-        self.found.trivia.cut_back(trivia);
+        self.found.cut_back(found);
     }
 }

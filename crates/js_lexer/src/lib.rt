@@ -5,6 +5,7 @@ mod angle;
 mod checkpoint;
 mod comment;
 mod decoded;
+mod findings;
 mod found;
 mod gap;
 mod jsx;
@@ -27,6 +28,7 @@ mod tables;
 mod token_text;
 
 pub use checkpoint::LexerCheckpoint;
+pub use findings::Findings;
 pub use lexer::{Lexer, NewFault};
 pub use regex::RegexToken;
 pub use token_text::{is_template, is_valued, text_span};

@@ -33,7 +33,7 @@ fn skip_to_end(source: &mut Source<'_>, tables: &ByteTables) -> bool
 
 /// Reads a character that begins nothing; from a U+FFFD, which stands for bytes that were no text, up to the end.
 fn recover_character(source: &mut Source<'_>, line_has_ended: bool) -> Recovered
-    requires some { IsSome (recovered line_has_ended source.old.place (rest source.old)) }
+    requires some { IsSome (recovered (rest source.old)) }
     requires comment { is_prefix (codes "/*") (rest source.old) ≡ false }
     requires no_named { begins begins_named (rest source.old) ≡ false }
     requires no_number { begins_number (rest source.old) ≡ false }
@@ -69,7 +69,7 @@ pub(crate) fn recover(
     tables: &ByteTables,
     line_has_ended: bool,
 ) -> Recovered
-    requires some { IsSome (recovered line_has_ended source.old.place (rest source.old)) }
+    requires some { IsSome (recovered (rest source.old)) }
     requires no_named { begins begins_named (rest source.old) ≡ false }
     requires no_number { begins_number (rest source.old) ≡ false }
     requires no_quoted { begins begins_quoted (rest source.old) ≡ false }
@@ -81,7 +81,7 @@ pub(crate) fn recover(
         let span = Span::new(start, source.offset());
         return Recovered {
             kind: Kind::Eof,
-            is_on_new_line: either(line_has_ended, has_line_end),
+            is_on_new_line: either(has_line_end, line_has_ended),
             diagnostic: Diagnostic::UnterminatedMultiLineComment { span },
         };
     }

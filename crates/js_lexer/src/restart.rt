@@ -2,9 +2,9 @@
 
 ghost use Rattle.std.specs.Prelude.{◌≡◌, ◌≤◌};
 ghost use Rattle.std.specs.Str.{IsCharBoundary};
-ghost use Rattle.js_grammar.specs.Goals.{read_token};
 ghost use Rattle.js_source.specs.Source.{IsPlaced, StepsPast};
 ghost use Rattle.js_source.specs.Runs.{place_of};
+ghost use Rattle.js_lexer.specs.Reader.{read_token};
 
 use js_kind::{Kind, Token};
 use js_source::Source;

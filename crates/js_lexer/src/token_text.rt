@@ -1,14 +1,15 @@
 //! Where the texts of tokens are, between their marks.
 
 ghost use Rattle.std.specs.Prelude.{◌≡◌, ◌<◌, ◌≤◌, ◌^◌, MatchOption};
-ghost use Rattle.js_grammar.specs.Spelling.{is_private_name, is_quoted, is_valued, closing_length, text_start, text_end};
+ghost use Rattle.js_grammar.specs.TokenText.{is_private_name, is_quoted, is_valued, closing_length, text_start};
+ghost use Rattle.js_grammar.specs.TokenText.{text_end};
 ghost use Rattle.js_kind.specs.Kinds.{is_string_kind, is_template_kind};
 
 use js_kind::{Kind, Token};
 use js_text::Span;
 
 /// Whether the kind is that of private names.
-#[tactic(auto, unfolding(js_grammar::specs::Spelling::is_private_name))]
+#[tactic(auto, unfolding(js_grammar::specs::TokenText::is_private_name))]
 fn is_private_name(kind: Kind) -> bool
     ensures { result ≡ is_private_name kind }
 {

@@ -4,30 +4,33 @@ use Rattle.std.proofs.Common.{◌≡◌, ℕ, Bool, true, false, not, ◌==◌, 
 use Rattle.std.proofs.Common.{Option, None, Some}
 use Rattle.std.specs.Prelude.{IfSome, if◌then◌else◌}
 use Rattle.std.specs.List.{list_all}
-use Rattle.std.proofs.lemmas.Bool.{and_parts, eqb-true}
+use Rattle.std.specs.Option.{option_map}
+use Rattle.std.proofs.lemmas.Bool.{and_parts}
 use Rattle.js_text.specs.Ascii.{hyphen_minus, less_than_sign, slash}
 use Rattle.js_text.specs.Characters.{begins, from_first, from_place}
 use Rattle.js_text.specs.declared.source_type.SourceType.{SourceType}
 use Rattle.js_kind.specs.Kinds.{is_identifier_name, is_one_of, keywords, kind_text}
 use Rattle.js_kind.specs.TokenParts.{TokenParts}
 use Rattle.js_kind.specs.declared.kind.Kind.{Kind}
-use Rattle.js_kind.specs.declared.kind.Kind.TheVariants.{Eof, Ident, RAngle, RCurly, RegExp}
+use Rattle.js_kind.specs.declared.kind.Kind.TheVariants.{Eof, Ident, RegExp}
 use Rattle.js_kind.specs.declared.kind.Kind.TheVariants.{TemplateMiddle, TemplateTail}
-use Rattle.js_kind.proofs.KindNumbers.{number_injective}
 use Rattle.js_kind.proofs.Members.{one_passes}
-use Rattle.js_grammar.specs.Angle.{angle_read, right_angles, first_left_angle, first_right_angle}
+use Rattle.js_grammar.specs.Angle.{angle_reading, right_angles, first_left_angle, first_right_angle}
 use Rattle.js_grammar.specs.Gap.{is_prefix}
-use Rattle.js_grammar.specs.GoalRead.{GoalRead}
-use Rattle.js_grammar.specs.Goals.{GoalReads, ReadsAgain, ReadsAngle, ReadsAttributeValue, ReadsFrom, ReadsPlainly}
+use Rattle.js_grammar.specs.Reading.{Reading, moved_regex}
+use Rattle.js_grammar.specs.Goals.{GoalReads, ReadsAgain, ReadsAngle, ReadsAttributeValue, ReadsBehindGap, ReadsFrom}
+use Rattle.js_grammar.specs.Goals.{ReadsPlainly, next_part}
 use Rattle.js_grammar.specs.Goals.ReadsAttributeValue.{string as attribute_string, plain as attribute_plain}
 use Rattle.js_grammar.specs.Goals.ReadsPlainly.{hashbang, behind_gap}
-use Rattle.js_grammar.specs.Jsx.{begins_child, jsx_child_read, jsx_name_read, jsx_string_before}
-use Rattle.js_grammar.specs.Jsx.{jsx_string_read, jsx_text_before, ends_jsx_text}
+use Rattle.js_grammar.specs.Jsx.{begins_child, jsx_child_reading, jsx_name_reading, jsx_string_before}
+use Rattle.js_grammar.specs.Jsx.{jsx_string_reading, jsx_text_before, ends_jsx_text}
 use Rattle.js_grammar.specs.Outcome.{Outcome}
+use Rattle.js_grammar.specs.ReLexed.{again_kinds, fits}
 use Rattle.js_grammar.specs.Reads.{is_onward}
-use Rattle.js_grammar.specs.RegularExpression.{behind_body, regular_expression, regular_expression_read}
+use Rattle.js_grammar.specs.RegularExpression.{behind_body, regular_expression, regular_expression_reading}
 use Rattle.js_grammar.specs.StringItems.{is_quote}
-use Rattle.js_grammar.specs.UnicodeEscape.{left_curly_bracket}
+use Rattle.js_grammar.specs.Template.{template_items}
+use Rattle.js_grammar.specs.UnicodeEscape.{left_curly_bracket, right_curly_bracket}
 use Rattle.js_grammar.specs.declared.goal.Goal.{Goal}
 use Rattle.js_grammar.specs.declared.goal.Goal.TheVariants.{First, Next as NextGoal, TemplateTail as TailGoal}
 use Rattle.js_grammar.specs.declared.goal.Goal.TheVariants.{RegularExpression, RightAngle, TypeScriptLeftAngle}
@@ -35,28 +38,28 @@ use Rattle.js_grammar.specs.declared.goal.Goal.TheVariants.{TypeScriptRightAngle
 use Rattle.js_grammar.specs.declared.goal.Goal.TheVariants.{JsxAttributeValue}
 use Rattle.js_grammar.proofs.GoalReadings.{expression_terminated, expression_unterminated}
 use Rattle.js_grammar.proofs.NumberItems.{true_or_false}
-use Rattle.js_grammar.proofs.QuotedValues.{part_kind_is}
-use Rattle.js_lexer.specs.Goals.{IsBehindName, expression_kinds, left_compounds, right_compounds}
-use Rattle.js_lexer.specs.Lexer.{LexerState, is_hashbang, token_or_default}
-use Rattle.js_session.specs.Report.{fits}
+use Rattle.js_grammar.proofs.QuotedValues.{part_flags, part_kind_is}
+use Rattle.js_grammar.proofs.Values.{here_no_regex}
+use Rattle.js_lexer.specs.Goals.{IsBehindName}
+use Rattle.js_lexer.specs.Lexer.{IsBehindFor, LexerState, is_hashbang, kind_of_last, token_or_default}
 
 -- what was read is no hashbang comment, and no regular expression
-pub record IsPlainRead (r : GoalRead) : Type 0 where
+pub record IsPlainRead (r : Reading) : Type 0 where
   pub no_regex : r.regex ≡ None
   pub no_hashbang : is_hashbang r.kind ≡ false
 
-found_is : (P : GoalRead → Type 0) (read : Option GoalRead) (found : GoalRead) → read ≡ Some found → IfSome read P
+found_is : (P : Reading → Type 0) (read : Option Reading) (found : Reading) → read ≡ Some found → IfSome read P
     → P found
 found_is P read found e is = subst (λ r. IfSome r P) e is
 
 abbrev pub no_hashbangs : Kind → Bool
 no_hashbangs kind = not (is_hashbang kind)
 
-by_reading : (P : GoalRead → Type 0) (b : Bool) (x y : GoalRead) → P x → P y → P (if b then x else y)
+by_reading : (P : Reading → Type 0) (b : Bool) (x y : Reading) → P x → P y → P (if b then x else y)
 by_reading P true x y h k = h
 by_reading P false x y h k = k
 
-by_found : (P : GoalRead → Type 0) (b : Bool) (x y : Option GoalRead) → IfSome x P → IfSome y P
+by_found : (P : Reading → Type 0) (b : Bool) (x y : Option Reading) → IfSome x P → IfSome y P
     → IfSome (if b then x else y) P
 by_found P true x y h k = h
 by_found P false x y h k = k
@@ -69,61 +72,61 @@ none_of kind e = by_flag (is_hashbang kind) e
     by_flag false e = refl
 
 angle_plain : (kinds : List Kind) (text : List ℕ) → list_all no_hashbangs kinds ≡ true
-    → IfSome (angle_read kinds text) IsPlainRead
+    → IfSome (angle_reading kinds text) IsPlainRead
 angle_plain [] text all = tt
 angle_plain (k ∷ ks) text all =
     let both = and_parts (no_hashbangs k) (list_all no_hashbangs ks) all in
     by_found IsPlainRead (is_prefix (kind_text k) text) _ _
     (record { no_regex = refl; no_hashbang = none_of k both.0 }) (angle_plain ks text both.1)
 
-name_plain : (text : List ℕ) → IfSome (jsx_name_read text) IsPlainRead
-name_plain text =
+name_plain : (part text : List ℕ) → IfSome (jsx_name_reading part text) IsPlainRead
+name_plain part text =
     by_found IsPlainRead (begins (λ c. c == hyphen_minus) text) _ None
     (record { no_regex = refl; no_hashbang = refl }) tt
 
-text_plain : (place : ℕ) (text left : List ℕ) → IsPlainRead (jsx_text_before place text left)
-text_plain place text [] = record { no_regex = refl; no_hashbang = refl }
-text_plain place text (c ∷ cs) =
+text_plain : (text left : List ℕ) → IsPlainRead (jsx_text_before text left)
+text_plain text [] = record { no_regex = refl; no_hashbang = refl }
+text_plain text (c ∷ cs) =
     by_reading IsPlainRead (begins_child c) _ _ (record { no_regex = refl; no_hashbang = refl })
     (record { no_regex = refl; no_hashbang = refl })
 
-child_plain : (place : ℕ) (text : List ℕ) → IsPlainRead (jsx_child_read place text)
-child_plain place [] = record { no_regex = refl; no_hashbang = refl }
-child_plain place (c ∷ cs) =
+child_plain : (text : List ℕ) → IsPlainRead (jsx_child_reading text)
+child_plain [] = record { no_regex = refl; no_hashbang = refl }
+child_plain (c ∷ cs) =
     by_reading IsPlainRead (c == less_than_sign) _ _ (record { no_regex = refl; no_hashbang = refl })
     (by_reading IsPlainRead (c == left_curly_bracket) _ _ (record { no_regex = refl; no_hashbang = refl })
-    (text_plain place (c ∷ cs) (from_first ends_jsx_text (c ∷ cs))))
+    (text_plain (c ∷ cs) (from_first ends_jsx_text (c ∷ cs))))
 
-string_plain : (start : ℕ) (text : List ℕ) → IfSome (jsx_string_read start text) IsPlainRead
-string_plain start [] = tt
-string_plain start (c ∷ cs) =
+string_plain : (text : List ℕ) → IfSome (jsx_string_reading text) IsPlainRead
+string_plain [] = tt
+string_plain (c ∷ cs) =
     by_found IsPlainRead (is_quote c) _ None (closed (from_first (λ d. d == c) cs)) tt
   where
-    closed : (left : List ℕ) → IsPlainRead (jsx_string_before start (c ∷ cs) left)
+    closed : (left : List ℕ) → IsPlainRead (jsx_string_before (c ∷ cs) left)
     closed [] = record { no_regex = refl; no_hashbang = refl }
     closed (d ∷ ds) = record { no_regex = refl; no_hashbang = refl }
 
 -- what was read is a regular expression
-abbrev IsExpression : GoalRead → Type 0
+abbrev IsExpression : Reading → Type 0
 IsExpression r = r.kind ≡ RegExp
 
-expression_of_kind : (start : ℕ) (text : List ℕ) → (regular_expression start text).kind ≡ RegExp
-expression_of_kind start text =
+expression_of_kind : (text : List ℕ) → (regular_expression text).kind ≡ RegExp
+expression_of_kind text =
     elim (true_or_false (begins (λ c. c == slash) (behind_body text))) [
-      | inl e ↦ ap (λ (r : GoalRead). r.kind) (expression_terminated start text (behind_body text) e)
-      | inr e ↦ ap (λ (r : GoalRead). r.kind) (expression_unterminated start text (behind_body text) e)
+      | inl e ↦ ap (λ (r : Reading). r.kind) (expression_terminated (slash ∷ text) (behind_body text) e)
+      | inr e ↦ ap (λ (r : Reading). r.kind) (expression_unterminated (slash ∷ text) (behind_body text) e)
     ]
 
-expression_kind : (start : ℕ) (text : List ℕ) → IfSome (regular_expression_read start text) IsExpression
-expression_kind start [] = tt
-expression_kind start (c ∷ cs) = by_found IsExpression (c == slash) _ None (expression_of_kind start cs) tt
+expression_kind : (text : List ℕ) → IfSome (regular_expression_reading text) IsExpression
+expression_kind [] = tt
+expression_kind (c ∷ cs) = by_found IsExpression (c == slash) _ None (expression_of_kind cs) tt
 
-from_plain : (text : List ℕ) (line_has_ended : Bool) (start : ℕ) (read : Option GoalRead) (o : Outcome)
+from_plain : (text : List ℕ) (line_has_ended : Bool) (start : ℕ) (read : Option Reading) (o : Outcome)
     → IfSome read IsPlainRead → ReadsFrom text line_has_ended start read o
     → (o.regex ≡ None) × (is_hashbang o.token.kind ≡ false)
 from_plain text line_has_ended start read o is reads =
     let found = found_is IsPlainRead read reads.found reads.read_is is in (
-      ap (λ x. x.regex) reads.outcome_is ∙ found.no_regex,
+      ap (λ x. x.regex) reads.outcome_is ∙ ap (option_map (moved_regex start)) found.no_regex,
       ap (λ x. is_hashbang x.token.kind) reads.outcome_is ∙ found.no_hashbang,
     )
 
@@ -141,48 +144,64 @@ pub angle_again : (text : List ℕ) (kinds : List Kind) (before : Option TokenPa
     → (o.regex ≡ None) × (is_hashbang o.token.kind ≡ false)
 angle_again text kinds None o all reads = absurd reads
 angle_again text kinds (Some token) o all reads =
-    from_plain text false token.start (angle_read kinds (from_place text token.start)) o
+    from_plain text false token.start (angle_reading kinds (from_place text token.start)) o
     (angle_plain kinds (from_place text token.start) all) reads
 
 pub name_again : (text : List ℕ) (t : SourceType) (before : Option TokenParts) (place : ℕ) (o : Outcome)
     → GoalReads text t JsxIdentifier before place o → (o.regex ≡ None) × (is_hashbang o.token.kind ≡ false)
 name_again text t None place o reads = absurd reads
 name_again text t (Some token) place o reads =
-    from_plain text false token.start (jsx_name_read (from_place text token.end)) o
-    (name_plain (from_place text token.end)) reads.reads
+    from_plain text false token.start (jsx_name_reading reads.part (from_place text token.end)) o
+    (name_plain reads.part (from_place text token.end)) reads.reads
+
+part_plain : (here behind : List ℕ) → here ≡ right_curly_bracket ∷ behind → IsPlainRead (next_part here)
+part_plain here behind e =
+    subst (λ h. IsPlainRead (next_part h)) (sym e)
+    (record {
+      no_regex = (part_flags TemplateMiddle TemplateTail (right_curly_bracket ∷ behind) (template_items behind)).2;
+      no_hashbang =
+          part_kind_is (λ kind. is_hashbang kind ≡ false) TemplateMiddle TemplateTail refl refl refl
+          right_curly_bracket behind;
+    })
 
 pub part_again : (text : List ℕ) (t : SourceType) (before : Option TokenParts) (place : ℕ) (o : Outcome)
     → GoalReads text t TailGoal before place o → (o.regex ≡ None) × (is_hashbang o.token.kind ≡ false)
 part_again text t None place o reads = absurd reads
-part_again text t (Some token) place o reads = (
-  ap (λ x. x.regex) reads.outcome_is,
-  ap (λ x. is_hashbang x.token.kind) reads.outcome_is
-      ∙ part_kind_is (λ kind. is_hashbang kind ≡ false) TemplateMiddle TemplateTail refl refl refl token.start
-      reads.behind,
-)
+part_again text t (Some token) place o reads =
+    let part = part_plain (from_place text token.start) reads.behind reads.here in (
+      ap (λ x. x.regex) reads.outcome_is ∙ ap (option_map (moved_regex token.start)) part.no_regex,
+      ap (λ x. is_hashbang x.token.kind) reads.outcome_is ∙ part.no_hashbang,
+    )
 
 pub expression_again : (text : List ℕ) (t : SourceType) (before : Option TokenParts) (place : ℕ) (o : Outcome)
     → GoalReads text t RegularExpression before place o → o.token.kind ≡ RegExp
 expression_again text t None place o reads = absurd reads
 expression_again text t (Some token) place o reads =
     ap (λ x. x.token.kind) reads.outcome_is
-    ∙ found_is IsExpression (regular_expression_read token.start (from_place text token.start)) reads.found
-    reads.read_is (expression_kind token.start (from_place text token.start))
+    ∙ found_is IsExpression (regular_expression_reading (from_place text token.start)) reads.found
+    reads.read_is (expression_kind (from_place text token.start))
 
 -- a goal that goes on finds no regular expression
+gap_regex : (text : List ℕ) (t : SourceType) (before : Option TokenParts) (place : ℕ) (o : Outcome)
+    → ReadsBehindGap text t before place o → o.regex ≡ None
+gap_regex text t before place o read =
+    ap (λ x. x.regex) read.outcome_is
+    ∙ ap (option_map (moved_regex o.token.start))
+    (here_no_regex t read.line_has_ended (from_place text o.token.start) read.reading read.here)
+
 plain_regex : (text : List ℕ) (t : SourceType) (goal : Goal) (before : Option TokenParts) (place : ℕ) (o : Outcome)
     → ReadsPlainly text t goal before place o → o.regex ≡ None
 plain_regex text t goal before place o (hashbang begins read) = ap (λ x. x.regex) read.alone
-plain_regex text t goal before place o (behind_gap begins read) = ap (λ x. x.regex) read.outcome_is
+plain_regex text t goal before place o (behind_gap begins read) = gap_regex text t before place o read
 
 attribute_regex : (text : List ℕ) (t : SourceType) (before : Option TokenParts) (place : ℕ) (o : Outcome)
     → ReadsAttributeValue text t before place o → o.regex ≡ None
 attribute_regex text t before place o (attribute_string read) =
     ap (λ x. x.regex) read.outcome_is
     ∙ (from_plain text read.line_has_ended o.token.start
-    (jsx_string_read o.token.start (from_place text o.token.start)) read.string
-    (string_plain o.token.start (from_place text o.token.start)) read.reads).0
-attribute_regex text t before place o (attribute_plain no_quote read) = ap (λ x. x.regex) read.outcome_is
+    (jsx_string_reading (from_place text o.token.start)) read.string
+    (string_plain (from_place text o.token.start)) read.reads).0
+attribute_regex text t before place o (attribute_plain no_quote read) = gap_regex text t before place o read
 
 pub onward_regex : (text : List ℕ) (t : SourceType) (goal : Goal) (before : Option TokenParts) (place : ℕ) (o : Outcome)
     → is_onward goal ≡ true → GoalReads text t goal before place o → o.regex ≡ None
@@ -195,8 +214,8 @@ onward_regex text t TypeScriptLeftAngle before place o onward reads = absurd (cc
 onward_regex text t TypeScriptRightAngle before place o onward reads = absurd (cc)
 onward_regex text t JsxIdentifier before place o onward reads = absurd (cc)
 onward_regex text t JsxChild before place o onward reads =
-    (from_plain text _ place (Some (jsx_child_read place (from_place text place))) o
-    (child_plain place (from_place text place)) reads).0
+    (from_plain text _ place (Some (jsx_child_reading (from_place text place))) o
+    (child_plain (from_place text place)) reads).0
 onward_regex text t JsxAttributeValue before place o onward reads = attribute_regex text t before place o reads
 
 -- names are no hashbang comments
@@ -211,12 +230,25 @@ end_is_no_name : is_identifier_name Eof ≡ false
 unfolding is_identifier_name
 end_is_no_name = refl
 
+-- no goal may read the end of the source again
+end_is_read_once : (goal : Goal) → is_one_of (again_kinds goal) Eof ≡ false
+end_is_read_once First = refl
+end_is_read_once NextGoal = refl
+end_is_read_once TailGoal = refl
+end_is_read_once RegularExpression = refl
+end_is_read_once RightAngle = refl
+end_is_read_once TypeScriptLeftAngle = refl
+end_is_read_once TypeScriptRightAngle = refl
+end_is_read_once JsxIdentifier = refl
+end_is_read_once JsxChild = refl
+end_is_read_once JsxAttributeValue = refl
+
 -- A kind that fits is that of a token, and not of a hashbang comment.
-some_of : (kinds : List Kind) (last : Option TokenParts) → is_one_of kinds Eof ≡ false
-    → list_all no_hashbangs kinds ≡ true → is_one_of kinds (token_or_default last).kind ≡ true
+some_of : (goal : Goal) (last : Option TokenParts) → list_all no_hashbangs (again_kinds goal) ≡ true
+    → is_one_of (again_kinds goal) (token_or_default last).kind ≡ true
     → (t : TokenParts) × (last ≡ Some t) × (is_hashbang t.kind ≡ false)
-some_of kinds None no_end all e = absurd (let no : true ≡ false = sym e ∙ no_end in cc)
-some_of kinds (Some t) no_end all e = (t, refl, none_of t.kind (one_passes no_hashbangs kinds t.kind all e))
+some_of goal None all e = absurd (let no : true ≡ false = sym e ∙ end_is_read_once goal in cc)
+some_of goal (Some t) all e = (t, refl, none_of t.kind (one_passes no_hashbangs (again_kinds goal) t.kind all e))
 
 pub fits_some : (text : List ℕ) (goal : Goal) (last : Option TokenParts)
     → fits text goal (token_or_default last) ≡ true
@@ -225,17 +257,11 @@ fits_some text First last e = absurd (cc)
 fits_some text NextGoal last e = absurd (cc)
 fits_some text JsxChild last e = absurd (cc)
 fits_some text JsxAttributeValue last e = absurd (cc)
-fits_some text RegularExpression last e = some_of expression_kinds last refl refl e
-fits_some text TypeScriptLeftAngle last e = some_of left_compounds last refl refl e
-fits_some text TypeScriptRightAngle last e = some_of right_compounds last refl refl e
-fits_some text RightAngle None e = absurd (cc)
-fits_some text RightAngle (Some t) e =
-    let angle : t.kind ≡ RAngle = number_injective t.kind RAngle (eqb-true _ _ e) in
-    (t, refl, ap is_hashbang angle)
-fits_some text TailGoal None e = absurd (cc)
-fits_some text TailGoal (Some t) e =
-    let curly : t.kind ≡ RCurly = number_injective t.kind RCurly (eqb-true _ _ e) in
-    (t, refl, ap is_hashbang curly)
+fits_some text TailGoal last e = some_of TailGoal last refl e
+fits_some text RegularExpression last e = some_of RegularExpression last refl e
+fits_some text RightAngle last e = some_of RightAngle last refl e
+fits_some text TypeScriptLeftAngle last e = some_of TypeScriptLeftAngle last refl e
+fits_some text TypeScriptRightAngle last e = some_of TypeScriptRightAngle last refl e
 fits_some text JsxIdentifier None e =
     absurd (let no : true ≡ false = sym (and_parts (is_identifier_name Eof) _ e).0 ∙ end_is_no_name in cc)
 fits_some text JsxIdentifier (Some t) e =
@@ -274,6 +300,23 @@ from_any_place text t TypeScriptLeftAngle before p q o e reads = reads
 from_any_place text t TypeScriptRightAngle before p q o e reads = reads
 from_any_place text t JsxIdentifier before p q o e reads = reads
 from_any_place text t TailGoal before p q o e reads = reads
+
+-- a lexer stands behind its last token, which the goal may read again
+pub stands_for : (goal : Goal) (l : LexerState) → is_one_of (again_kinds goal) (kind_of_last l) ≡ true
+    → l.place ≡ (token_or_default l.last).end → IsBehindFor goal l
+stands_for goal l one at = by_last l.last refl
+  where
+    by_last : (last : Option TokenParts) → l.last ≡ last → IsBehindFor goal l
+    by_last None e =
+        let end : is_one_of (again_kinds goal) (kind_of_last l) ≡ false =
+        ap (λ o. is_one_of (again_kinds goal) (token_or_default o).kind) e ∙ end_is_read_once goal in
+        absurd (let no : true ≡ false = sym one ∙ end in cc)
+    by_last (Some t) e = record {
+      token = t;
+      last = e;
+      kind_is = ap (λ o. is_one_of (again_kinds goal) (token_or_default o).kind) (sym e) ∙ one;
+      place = at ∙ ap (λ o. (token_or_default o).end) e;
+    }
 
 -- a lexer stands behind its last token, a name
 pub name_stands : (l : LexerState) (told : TokenParts) (start : ℕ) → told ≡ token_or_default l.last

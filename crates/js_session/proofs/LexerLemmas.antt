@@ -1,13 +1,14 @@
 -- Lexers that have gone on, and what they may go back to.
-use Rattle.std.proofs.Common.{◌≡◌, List, [], ◌∷◌, refl, sym, ◌∙◌, subst, ap, arith}
-use Rattle.std.proofs.Common.{append-nil, append_assoc}
+use Rattle.std.proofs.Common.{◌≡◌, List, [], ◌∷◌, refl, sym, ◌∙◌, subst, ap}
+use Rattle.std.proofs.Common.{append-nil}
 use Rattle.std.proofs.Common.{Result, Ok, Err}
 use Rattle.std.specs.Prelude.{OnErr}
 use Rattle.js_grammar.specs.Outcome.{Findings, no_findings, joined, lengths_of, AreWithin}
 use Rattle.js_kind.specs.TokenParts.{TokenParts}
 use Rattle.js_lexer.specs.Lexer.{LexerState, IsRestored, BeginsAlike, GoesOnFrom}
 use Rattle.js_lexer.proofs.LexerSteps.{begins_alike-append}
-use Rattle.js_lexer.proofs.GoesOn.{has_token, within-joined}
+use Rattle.js_lexer.proofs.FindingLaws.{joined-assoc, joined-none, within-own, within-joined}
+use Rattle.js_lexer.proofs.GoesOn.{has_token}
 pub use Rattle.js_lexer.proofs.GoesOn.{can_rewind-on}
 use Rattle.js_session.specs.Marks.{IsAlike}
 
@@ -21,19 +22,6 @@ begins_alike-trans (t ∷ ts) (n ∷ ns) [] h g = absurd (has_token n ns g)
 begins_alike-trans (t ∷ []) (n ∷ ns) (x ∷ xs) h g = tt
 begins_alike-trans (t ∷ u ∷ ts) (n ∷ []) (x ∷ xs) h g = absurd (has_token u ts h.1)
 begins_alike-trans (t ∷ u ∷ ts) (n ∷ m ∷ ns) (x ∷ xs) h g = (g.0 ∙ h.0, begins_alike-trans (u ∷ ts) (m ∷ ns) xs h.1 g.1)
-
-joined-assoc : (a b c : Findings) → joined (joined a b) c ≡ joined a (joined b c)
-joined-assoc a b c =
-    rw (
-      append_assoc a.diagnostics b.diagnostics c.diagnostics,
-      append_assoc a.deferred b.deferred c.deferred,
-      append_assoc a.comments b.comments c.comments,
-      append_assoc a.irregular b.irregular c.irregular,
-    )
-    refl
-
-joined-none : (a : Findings) → joined a no_findings ≡ a
-joined-none a = rw (append-nil a.diagnostics, append-nil a.deferred, append-nil a.comments, append-nil a.irregular) refl
 
 pub goes_on-trans : (a b c : LexerState) → GoesOnFrom a b → GoesOnFrom b c → GoesOnFrom a c
 goes_on-trans a b c h g = record {
@@ -109,9 +97,7 @@ restored-trans a b c h g = record {
 -- what was found is no less than what had been found before
 pub within-after : (old new more : Findings) → new ≡ joined old more → AreWithin (lengths_of old) new
 within-after old new more e =
-    subst (AreWithin (lengths_of old)) (sym e)
-    (within-joined (lengths_of old) old more
-    (record { diagnostics = omega arith; deferred = omega arith; comments = omega arith; irregular = omega arith }))
+    subst (AreWithin (lengths_of old)) (sym e) (within-joined (lengths_of old) old more (within-own old))
 
 pub restored-refl : (l : LexerState) → IsRestored l l
 restored-refl l =

@@ -6,9 +6,10 @@ use Rattle.std.specs.Prelude.{IfSome}
 use Rattle.std.proofs.lemmas.List.{take-append-le, take-take, length-take-le, take_all}
 use Rattle.js_text.specs.Lists.{with_last}
 use Rattle.js_text.specs.declared.source_type.SourceType.{SourceType}
-use Rattle.js_grammar.specs.Outcome.{Findings, FindingLengths, Outcome, joined, cut_to, lengths_of, AreWithin}
+use Rattle.js_grammar.specs.Outcome.{Outcome, cut_to, lengths_of, AreWithin}
 use Rattle.js_kind.specs.TokenParts.{TokenParts}
 use Rattle.js_lexer.specs.Lexer.{LexerState, GoesOnFrom, checkpoint_of, put_back}
+use Rattle.js_lexer.proofs.FindingLaws.{cut_to-all, cut_to-cut_to, cut_to-joined-le}
 use Rattle.js_lexer.proofs.GoesOn.{within_all}
 use Rattle.js_lexer.proofs.LexerSteps.{put_back_last}
 use Rattle.js_session.specs.Live.{Live, with_outcome, with_re_lexed}
@@ -16,44 +17,6 @@ use Rattle.js_session.specs.Marks.{front, fronts, lexer_behind, lexer_at, IsAlik
 use Rattle.js_session.specs.declared.mark.SessionMark.{SessionMark}
 use Rattle.js_session.proofs.LexerLemmas.{goes_on-trans, can_rewind-on, begins_alike-refl}
 use Rattle.js_session.proofs.LiveLemmas.{same_live, last_none, goes_on-behind, goes_on-behind_re_lexed, IsReplaced}
-
--- findings that have grown, cut back
-cut_to-joined-le : (l : FindingLengths) (f g : Findings) → AreWithin l f → cut_to l (joined f g) ≡ cut_to l f
-cut_to-joined-le l f g h =
-    rw (
-      take-append-le l.diagnostics f.diagnostics g.diagnostics h.diagnostics,
-      take-append-le l.deferred f.deferred g.deferred h.deferred,
-      take-append-le l.comments f.comments g.comments h.comments,
-      take-append-le l.irregular f.irregular g.irregular h.irregular,
-    )
-    refl
-
-shorter : {X : Type 0} (k n : ℕ) (xs : List X) → n ≤ length xs → k ≤ length (take n xs) → k ≤ n
-shorter k n xs within le = omega (arith, le, length-take-le n xs within)
-
--- cut back twice
-cut_to-cut_to : (l m : FindingLengths) (f : Findings) → AreWithin m f → AreWithin l (cut_to m f)
-    → cut_to l (cut_to m f) ≡ cut_to l f
-cut_to-cut_to l m f h g =
-    rw (
-      take-take l.diagnostics m.diagnostics f.diagnostics
-          (shorter l.diagnostics m.diagnostics f.diagnostics h.diagnostics g.diagnostics),
-      take-take l.deferred m.deferred f.deferred (shorter l.deferred m.deferred f.deferred h.deferred g.deferred),
-      take-take l.comments m.comments f.comments (shorter l.comments m.comments f.comments h.comments g.comments),
-      take-take l.irregular m.irregular f.irregular
-          (shorter l.irregular m.irregular f.irregular h.irregular g.irregular),
-    )
-    refl
-
-cut_to-all : (f : Findings) → cut_to (lengths_of f) f ≡ f
-cut_to-all f =
-    rw (
-      take_all (length f.diagnostics) f.diagnostics (omega arith),
-      take_all (length f.deferred) f.deferred (omega arith),
-      take_all (length f.comments) f.comments (omega arith),
-      take_all (length f.irregular) f.irregular (omega arith),
-    )
-    refl
 
 length-with_last : (ts : List TokenParts) (t : TokenParts) → length (with_last ts t) ≡ length ts
 length-with_last [] t = refl

@@ -2,13 +2,13 @@
 use Rattle.std.proofs.Common.{◌≡◌, ℕ, ◌≤◌, Bool, true, false, List, [], ◌∷◌, length, take, refl, sym, ◌∙◌, ap}
 use Rattle.std.proofs.Common.{subst, Option, None, Some}
 use Rattle.std.specs.Prelude.{is_some, if◌then◌else◌}
-use Rattle.std.proofs.Math.Seq.{drop-append_seam, take-append_seam}
+use Rattle.std.proofs.Math.Seq.{take-append_seam}
 use Rattle.std.specs.Str.{IsUtf8, IsCharBoundary}
 use Rattle.js_text.specs.Characters.{from_place}
 use Rattle.js_text.specs.declared.value.RowValue.{RowValue}
 use Rattle.js_text.specs.declared.value.RowValue.TheVariants.{Nothing, Slice, Units}
-use Rattle.js_grammar.specs.Outcome.{Findings, FindingLengths, Outcome, joined, lengths_of, found_since}
-use Rattle.js_grammar.specs.Spelling.{is_valued, text_start, text_end}
+use Rattle.js_grammar.specs.Outcome.{FindingLengths, Outcome, joined, lengths_of, found_since}
+use Rattle.js_grammar.specs.TokenText.{is_valued, text_start, text_end}
 use Rattle.js_grammar.specs.Values.{IsValueOf, HasText, decoded_units, template_units, template_row_value}
 use Rattle.js_grammar.specs.declared.goal.Goal.{Goal}
 use Rattle.js_grammar.proofs.Values.{goal_reads_value}
@@ -17,6 +17,7 @@ use Rattle.js_kind.specs.TokenParts.{TokenParts}
 use Rattle.js_lexer.specs.Decoded.{Values, value_of, IsKeptAs, HasValue}
 use Rattle.js_lexer.specs.Lexer.{LexerState, IsOnPlaces, ReadsToken, ReadsOutcome}
 use Rattle.js_lexer.specs.Lexer.{Checkpoint, checkpoint_of}
+use Rattle.js_lexer.proofs.FindingLaws.{found_since-joined}
 use Rattle.js_lexer.proofs.LexerSteps.{reading_goes_on}
 use Rattle.js_session.specs.declared.command.Command.{Command}
 use Rattle.js_session.specs.declared.row.Row.{Row}
@@ -64,17 +65,6 @@ again goal old new found r = record {
 same_outcome : (a b : Outcome) → a.token ≡ b.token → a.value ≡ b.value → a.regex ≡ b.regex → a.findings ≡ b.findings
     → a ≡ b
 same_outcome a b e1 e2 e3 e4 = rw (e1, e2, e3, e4) refl
-
--- what was found is what was found since
-found_since_is : (before found after : Findings) → after ≡ joined before found
-    → found_since (lengths_of before) after ≡ found
-found_since_is before found after e =
-    ap (found_since (lengths_of before)) e ∙ rw (
-      drop-append_seam before.diagnostics found.diagnostics,
-      drop-append_seam before.deferred found.deferred,
-      drop-append_seam before.comments found.comments,
-      drop-append_seam before.irregular found.irregular,
-    ) refl
 
 -- a token has one value
 one_value : (text : List ℕ) (token : TokenParts) (a b : RowValue) → IsValueOf text token a → IsValueOf text token b
@@ -140,7 +130,8 @@ made_outcome goal old new token regex value row o u r held made =
     let same : value ≡ o.value =
     one_value old.text token value o.value here
     (subst (λ t. IsValueOf old.text t o.value) (sym r.token_is) there) in
-    let found = found_since_is old.findings o.findings new.findings r.findings in
+    let found =
+    ap (found_since (lengths_of old.findings)) r.findings ∙ found_since-joined old.findings o.findings in
     made ∙ same_outcome _ o r.token_is same (sym r.regex_is) found
 
 -- the value of a token without an escape lies on places, if its text does

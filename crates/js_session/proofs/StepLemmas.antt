@@ -22,7 +22,8 @@ use Rattle.js_session.specs.Effects.Effect.{reads, re_lexes}
 use Rattle.js_session.proofs.AgainLemmas.{fits_some, re_lexed_collected, from_any_place}
 use Rattle.js_session.specs.Marks.{live_now, front, fronts, state_of, lexer_behind, lexer_at, IsAlike}
 use Rattle.js_session.specs.Marks.{AreMarks, IsInOrder}
-use Rattle.js_session.specs.Report.{LiesOnPlaces, IsRow, IsOfEffect, fits}
+use Rattle.js_grammar.specs.ReLexed.{fits}
+use Rattle.js_session.specs.Report.{LiesOnPlaces, IsRow, IsOfEffect}
 use Rattle.js_session.specs.RowReader.{RowReaderState, AddsLive, AddsPeek, IsUndone, IsMarkOf, GoesToMark}
 use Rattle.js_session.specs.RowReader.{ReadsRowAgain, AddsAgain, AddsNotTaken, not_taken}
 use Rattle.js_session.specs.Session.{SessionState, AddsRow, LieOnPlaces, after_command}

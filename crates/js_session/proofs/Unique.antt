@@ -14,8 +14,9 @@ use Rattle.js_session.specs.declared.row.Row.{Row}
 use Rattle.js_session.specs.Effects.{Effect, effect_of, row_effect, is_step}
 use Rattle.js_session.specs.Effects.Effect.{reads, peeks, re_lexes, opens, rewinds, commits}
 use Rattle.js_session.specs.Live.{Live, State, outcome_of, last_live, after_row, after_mark, state_after_first}
-use Rattle.js_session.specs.Live.{nothing_live, live}
-use Rattle.js_session.specs.Report.{IsRead, IsReLexed, IsNotTaken, IsOfEffect, IsRow, fits, HasMark, Run, AreRows}
+use Rattle.js_session.specs.Live.{nothing_live, live, report_live, report_with, row_of}
+use Rattle.js_grammar.specs.ReLexed.{fits}
+use Rattle.js_session.specs.Report.{IsRead, IsReLexed, IsNotTaken, IsOfEffect, IsRow, HasMark, Run, AreRows}
 use Rattle.js_session.specs.Report.{ReportOf, all_collected}
 
 -- what an effect decides of a row
@@ -57,22 +58,19 @@ effect_unique text t now opens a b utf8 place h g = absurd h
 effect_unique text t now rewinds a b utf8 place h g = absurd h
 effect_unique text t now commits a b utf8 place h g = absurd h
 
-same_row : (a b : Row) → a.command ≡ b.command → a.place ≡ b.place → a.taken ≡ b.taken → a.token ≡ b.token
-    → a.value ≡ b.value → a.regex ≡ b.regex
-    → a.diagnostics ≡ b.diagnostics → a.deferred ≡ b.deferred → a.comments ≡ b.comments → a.irregular ≡ b.irregular
+same_row : (a b : Row) → a.command ≡ b.command → a.place ≡ b.place → a.taken ≡ b.taken → outcome_of a ≡ outcome_of b
     → a ≡ b
-same_row a b e1 e2 e3 e4 e5 e6 e7 e8 e9 e10 = rw (e1, e2, e3, e4, e5, e6, e7, e8, e9, e10) refl
+same_row a b command place taken outcome =
+    ap (λ c. row_of c a.place a.taken (outcome_of a)) command
+    ∙ ap (λ n. row_of b.command n a.taken (outcome_of a)) place
+    ∙ ap (λ t. row_of b.command b.place t (outcome_of a)) taken ∙ ap (row_of b.command b.place b.taken) outcome
 
 pub row_unique : (text : List ℕ) (t : SourceType) (now : Live) (command : Option Command) (a b : Row) → IsUtf8 text
     → IsRow text t now command a → IsRow text t now command b → a ≡ b
 row_unique text t now command a b utf8 h g =
     let place : a.place ≡ b.place = h.place ∙ sym g.place in
     let same = effect_unique text t now (row_effect command) a b utf8 place h.gives g.gives in
-    let o = same.outcome in
-    same_row a b (h.command_is ∙ sym g.command_is) place same.taken (ap (λ x. x.token) o) (ap (λ x. x.value) o)
-    (ap (λ x. x.regex) o)
-    (ap (λ x. x.findings.diagnostics) o) (ap (λ x. x.findings.deferred) o) (ap (λ x. x.findings.comments) o)
-    (ap (λ x. x.findings.irregular) o)
+    same_row a b (h.command_is ∙ sym g.command_is) place same.taken same.outcome
 
 -- a peek and the next step
 pub peek_is_next : (text : List ℕ) (t : SourceType) (now : Live) (peek row : Row) → IsUtf8 text
@@ -134,10 +132,10 @@ rows_unique text t commands (a ∷ xs) (b ∷ ys) utf8 h g =
     let there = subst (λ r. Run text t (state_after_first r) commands ys) (sym same) g.1 in
     ap (λ r. r ∷ xs) same ∙ ap (λ rs. b ∷ rs) (run_unique text t (state_after_first a) commands xs ys utf8 h.1 there)
 
-same_report : (a b : Report) → a.rows ≡ b.rows → a.tokens ≡ b.tokens → a.collected ≡ b.collected
-    → a.diagnostics ≡ b.diagnostics → a.deferred ≡ b.deferred → a.comments ≡ b.comments
-    → a.irregular ≡ b.irregular → a ≡ b
-same_report a b e1 e2 e3 e4 e5 e6 e7 = rw (e1, e2, e3, e4, e5, e6, e7) refl
+same_report : (a b : Report) → a.rows ≡ b.rows → a.collected ≡ b.collected → report_live a ≡ report_live b → a ≡ b
+same_report a b rows collected lists =
+    ap (λ rs. report_with rs a.collected (report_live a)) rows
+    ∙ ap (λ ts. report_with b.rows ts (report_live a)) collected ∙ ap (report_with b.rows b.collected) lists
 
 pub report_unique : (source : List ℕ) (t : SourceType) (collects : Bool) (commands : List Command) (a b : Report)
     → ReportOf source t collects commands a → ReportOf source t collects commands b → a ≡ b
@@ -145,6 +143,4 @@ report_unique source t collects commands a b h g =
     let rows : a.rows ≡ b.rows = rows_unique source t commands a.rows b.rows h.utf8 h.rows g.rows in
     let lists = h.lists ∙ ap (live commands) rows ∙ sym g.lists in
     let tokens : a.tokens ≡ b.tokens = ap (λ l. l.tokens) lists in
-    same_report a b rows tokens (h.collected_are ∙ ap (all_collected collects) tokens ∙ sym g.collected_are)
-    (ap (λ l. l.findings.diagnostics) lists)
-    (ap (λ l. l.findings.deferred) lists) (ap (λ l. l.findings.comments) lists) (ap (λ l. l.findings.irregular) lists)
+    same_report a b rows (h.collected_are ∙ ap (all_collected collects) tokens ∙ sym g.collected_are) lists

@@ -1,5 +1,5 @@
 -- What is live in a session: a fold over its commands and rows.
-use Rattle.std.specs.Prelude.{ℕ, List, [], ◌∷◌, ◌++◌, Option, None, if◌then◌else◌}
+use Rattle.std.specs.Prelude.{ℕ, Bool, List, [], ◌∷◌, ◌++◌, Option, None, if◌then◌else◌}
 use Rattle.std.specs.List.{last_or}
 use Rattle.js_text.specs.Lists.{with_last}
 use Rattle.js_grammar.specs.Outcome.{Findings, no_findings, joined, Outcome}
@@ -23,6 +23,21 @@ row_findings row = record {
 -- what the reading of a row gave
 abbrev pub outcome_of : Row → Outcome
 outcome_of row = record { token = row.token; value = row.value; regex = row.regex; findings = row_findings row }
+
+-- a row of an outcome
+abbrev pub row_of : Option Command → ℕ → Bool → Outcome → Row
+row_of command place taken outcome = record {
+  command = command;
+  place = place;
+  taken = taken;
+  token = outcome.token;
+  value = outcome.value;
+  regex = outcome.regex;
+  diagnostics = outcome.findings.diagnostics;
+  deferred = outcome.findings.deferred;
+  comments = outcome.findings.comments;
+  irregular = outcome.findings.irregular;
+}
 
 -- the live tokens, and what is live of what was found
 pub record Live : Type 0 where
@@ -111,4 +126,16 @@ report_live r = record {
     comments = r.comments;
     irregular = r.irregular;
   };
+}
+
+-- a report of these rows, of the collected tokens, and of what is live
+abbrev pub report_with : List Row → List TokenParts → Live → Report
+report_with rows collected now = record {
+  rows = rows;
+  tokens = now.tokens;
+  collected = collected;
+  diagnostics = now.findings.diagnostics;
+  deferred = now.findings.deferred;
+  comments = now.findings.comments;
+  irregular = now.findings.irregular;
 }

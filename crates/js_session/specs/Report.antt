@@ -1,5 +1,5 @@
 -- What a session reports: which rows answer its commands, and what is live after them.
-use Rattle.std.specs.Prelude.{◌≡◌, ◌≢◌, ℕ, ◌<◌, ◌≤◌, ◌^◌, Bool, true, false, ◌==◌, ◌&&◌, List, [], ◌∷◌, length}
+use Rattle.std.specs.Prelude.{◌≡◌, ◌≢◌, ℕ, ◌<◌, ◌≤◌, ◌^◌, Bool, true, false, List, [], ◌∷◌, length}
 use Rattle.std.specs.Prelude.{Option, Some, None}
 use Rattle.std.specs.Prelude.{slice_range}
 use Rattle.std.specs.Prelude.{MatchBool}
@@ -11,18 +11,11 @@ use Rattle.js_text.specs.declared.value.RowValue.{RowValue}
 use Rattle.js_text.specs.declared.value.RowValue.TheVariants.{Nothing, Slice, Units, Bad}
 use Rattle.js_grammar.specs.Goals.{GoalReads, AgreesWithGrammar}
 use Rattle.js_grammar.specs.Outcome.{no_findings}
+use Rattle.js_grammar.specs.ReLexed.{fits}
 use Rattle.js_grammar.specs.Reads.{is_plain}
 use Rattle.js_grammar.specs.declared.goal.Goal.{Goal}
-use Rattle.js_grammar.specs.declared.goal.Goal.TheVariants.{First, Next as NextGoal, TemplateTail as TailGoal}
-use Rattle.js_grammar.specs.declared.goal.Goal.TheVariants.{RegularExpression, RightAngle, TypeScriptLeftAngle}
-use Rattle.js_grammar.specs.declared.goal.Goal.TheVariants.{TypeScriptRightAngle, JsxIdentifier, JsxChild}
-use Rattle.js_grammar.specs.declared.goal.Goal.TheVariants.{JsxAttributeValue}
 use Rattle.js_kind.specs.TokenParts.{TokenParts}
-use Rattle.js_text.specs.Ascii.{hyphen_minus}
-use Rattle.js_text.specs.Characters.{begins, from_place}
-use Rattle.js_kind.specs.Kinds.{is_identifier_name, is_one_of, number}
-use Rattle.js_kind.specs.declared.kind.Kind.TheVariants.{Eof, RAngle, RCurly}
-use Rattle.js_lexer.specs.Goals.{expression_kinds, left_compounds, right_compounds}
+use Rattle.js_kind.specs.declared.kind.Kind.TheVariants.{Eof}
 use Rattle.js_lexer.specs.Lexer.{IsOnPlaces, collected, token_or_default}
 use Rattle.js_session.specs.Effects.{Effect, effect_of, row_effect, is_step, closes}
 use Rattle.js_session.specs.Effects.Effect.{reads, peeks, re_lexes, opens, rewinds, commits}
@@ -72,22 +65,6 @@ pub record IsNotTaken (now : Live) (row : Row) : Type 0 where
   pub value : row.value ≡ Nothing
   pub regex : row.regex ≡ None
   pub findings : row_findings row ≡ no_findings
-
--- The last live token may be read again for the goal: a `/` or `/=` as a regular expression, a `}` as a part of a
--- template, a `>` as the longest angle, a compound angle as its first character, and a name with a `-` behind it as a
--- name of JSX.
-abbrev pub fits : List ℕ → Goal → TokenParts → Bool
-fits text First token = false
-fits text NextGoal token = false
-fits text TailGoal token = number token.kind == number RCurly
-fits text RegularExpression token = is_one_of expression_kinds token.kind
-fits text RightAngle token = number token.kind == number RAngle
-fits text TypeScriptLeftAngle token = is_one_of left_compounds token.kind
-fits text TypeScriptRightAngle token = is_one_of right_compounds token.kind
-fits text JsxIdentifier token =
-    is_identifier_name token.kind && begins (λ c. c == hyphen_minus) (from_place text token.end)
-fits text JsxChild token = false
-fits text JsxAttributeValue token = false
 
 -- The row is one of three: a reading, a re-lex that was taken, or one that was not.
 abbrev pub IsOfEffect : List ℕ → SourceType → Live → Effect → Row → Type 0

@@ -3,16 +3,18 @@ use Rattle.std.specs.Prelude.{◌≡◌, ℕ, Bool, true, false, List, [], ◌�
 use Rattle.js_text.specs.Lists.{with_last}
 use Rattle.js_text.specs.declared.value.RowValue.{RowValue}
 use Rattle.js_text.specs.declared.value.RowValue.TheVariants.{Nothing, Units}
-use Rattle.js_grammar.specs.Outcome.{FindingLengths, found_since}
-use Rattle.js_grammar.specs.Values.{plain_value, template_row_value}
+use Rattle.js_grammar.specs.Outcome.{FindingLengths, found_since, no_findings}
+use Rattle.js_grammar.specs.Values.{template_row_value}
+use Rattle.js_grammar.specs.TokenText.{plain_value}
+use Rattle.js_grammar.specs.ReLexed.{fits}
 use Rattle.js_grammar.specs.declared.goal.Goal.{Goal}
 use Rattle.js_lexer.specs.Decoded.{Values, value_of}
 use Rattle.js_kind.specs.Kinds.{is_template_kind}
 use Rattle.js_kind.specs.TokenParts.{TokenParts}
 use Rattle.js_lexer.specs.Lexer.{LexerState, ReadsToken, IsRestored, GoesOnFrom, CanRewind, Checkpoint, checkpoint_of}
 use Rattle.js_lexer.specs.Lexer.{token_or_default, ReadsAgain, IsOnPlaces}
-use Rattle.js_session.specs.Live.{outcome_of}
-use Rattle.js_session.specs.Report.{LiesOnPlaces, fits}
+use Rattle.js_session.specs.Live.{outcome_of, row_of}
+use Rattle.js_session.specs.Report.{LiesOnPlaces}
 use Rattle.js_session.specs.declared.command.Command.{Command}
 use Rattle.js_session.specs.declared.mark.SessionMark.{SessionMark}
 use Rattle.js_session.specs.declared.re_lex.ReadAgain.{ReadAgain}
@@ -64,18 +66,9 @@ pub record ReadsRow (goal : Goal) (command : Option Command) (old : LexerState) 
 pub record IsMadeOf (command : Option Command) (place : ℕ) (lengths : FindingLengths) (token : TokenParts)
     (regex : Option RegexInfo) (lexer : LexerState) (row : Row) : Type 0 where
   pub value : HoldsValue lexer.decoded token row.value
-  pub row_is : row ≡ record {
-    command = command;
-    place = place;
-    taken = true;
-    token = token;
-    value = row.value;
-    regex = regex;
-    diagnostics = (found_since lengths lexer.findings).diagnostics;
-    deferred = (found_since lengths lexer.findings).deferred;
-    comments = (found_since lengths lexer.findings).comments;
-    irregular = (found_since lengths lexer.findings).irregular;
-  }
+  pub row_is : row
+      ≡ row_of command place true
+      (record { token = token; value = row.value; regex = regex; findings = found_since lengths lexer.findings })
 
 -- The last token was read again, with this known of it as a regular expression.
 pub record ReadsAgainAs (goal : Goal) (old : LexerState) (found : ReadAgain) (new : LexerState) : Type 0 where
@@ -129,18 +122,9 @@ pub record AddsAgain (goal : Goal) (command : Option Command) (old new : RowRead
 
 -- the row of a re-lex that is not taken: it holds the last token, and nothing else
 abbrev pub not_taken : Option Command → LexerState → Row
-not_taken command l = record {
-  command = command;
-  place = l.place;
-  taken = false;
-  token = token_or_default l.last;
-  value = Nothing;
-  regex = None;
-  diagnostics = [];
-  deferred = [];
-  comments = [];
-  irregular = [];
-}
+not_taken command l =
+    row_of command l.place false
+    (record { token = token_or_default l.last; value = Nothing; regex = None; findings = no_findings })
 
 -- such a row was added, whose token lies on places, and nothing else has changed
 pub record AddsNotTaken (command : Option Command) (old new : RowReaderState) : Type 0 where

@@ -4,7 +4,8 @@ use Rattle.std.specs.List.{AllByRecursion}
 use Rattle.js_text.specs.declared.source_type.SourceType.{SourceType}
 use Rattle.js_lexer.specs.Lexer.{IsOnPlaces}
 use Rattle.js_session.specs.Effects.{effect_of, is_step}
-use Rattle.js_session.specs.Live.{State, nothing_live, state_after_first, state_after, after_row, after_mark}
+use Rattle.js_session.specs.Live.{State, nothing_live, report_with, state_after_first, state_after, after_row}
+use Rattle.js_session.specs.Live.{after_mark}
 use Rattle.js_session.specs.Report.{IsRow, AreRows, LiesOnPlaces, all_collected}
 use Rattle.js_session.specs.declared.command.Command.{Command}
 use Rattle.js_session.specs.declared.report.Report.{Report}
@@ -42,15 +43,7 @@ after_command command s = record s { state = after_mark (effect_of command) s.st
 
 -- the report of a session
 abbrev pub report_of : SessionState → Report
-report_of s = let now = s.state.now in record {
-  rows = s.rows;
-  tokens = now.tokens;
-  collected = all_collected s.collects now.tokens;
-  diagnostics = now.findings.diagnostics;
-  deferred = now.findings.deferred;
-  comments = now.findings.comments;
-  irregular = now.findings.irregular;
-}
+report_of s = report_with s.rows (all_collected s.collects s.state.now.tokens) s.state.now
 
 -- The rows of a session, and its live tokens, lie on places of its text.
 pub record LieOnPlaces (s : SessionState) : Type 0 where

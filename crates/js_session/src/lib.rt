@@ -3,7 +3,6 @@
 
 mod command;
 mod fault;
-mod found;
 pub mod laws;
 mod lex;
 mod mark;

@@ -1,13 +1,13 @@
 //! Tokens of a lexer that are read again.
 
-ghost use Rattle.std.specs.Prelude.{◌≡◌, true, length, IfOk, OnErr};
-ghost use Rattle.js_kind.specs.Kinds.{is_one_of, kind_text};
-ghost use Rattle.js_lexer.specs.Goals.{expression_kinds, left_compounds, right_compounds};
-ghost use Rattle.js_lexer.specs.Lexer.{IsRestored, token_or_default};
+ghost use Rattle.std.specs.Prelude.{◌≡◌, true, IfOk, OnErr};
+ghost use Rattle.js_kind.specs.Kinds.{is_one_of};
+ghost use Rattle.js_grammar.specs.ReLexed.{again_kinds, is_re_lexed};
+ghost use Rattle.js_lexer.specs.Lexer.{IsBehindFor, IsRestored, kind_of_last, token_or_default};
 ghost use Rattle.js_session.specs.RowReader.{ReadsIfFits};
 
-use js_grammar::Goal;
-use js_kind::{Kind, LexerConfig, Token};
+use js_grammar::{Goal, spelled_length};
+use js_kind::{LexerConfig, Token};
 use js_lexer::Lexer;
 use js_text::RegexInfo;
 use std::alloc::AllocError;
@@ -19,50 +19,15 @@ pub(crate) struct ReadAgain {
     pub regex: Option<RegexInfo>,
 }
 
-/// Whether a regular expression may begin with a token of the kind.
-fn begins_expression(kind: Kind) -> bool
-    ensures { result ≡ is_one_of expression_kinds kind }
+/// Whether the goal may read the last token again, by its kind.
+#[tactic(auto, using(js_grammar::proofs::AgainKinds::again_is_re_lexed))]
+fn may_read_again<C: LexerConfig + Drop>(lexer: &Lexer<'_, C>, goal: Goal) -> bool
+    requires { lexer.now.place ≡ (token_or_default lexer.now.last).end }
+    ensures answer { result ≡ is_one_of (again_kinds goal) (kind_of_last lexer.now) }
+    ensures behind { result ≡ true → IsBehindFor goal lexer.now }
+    ensures again { result ≡ true → is_re_lexed (kind_of_last lexer.now) ≡ true }
 {
-    matches!(kind, Kind::Slash | Kind::SlashEq)
-}
-
-/// Whether tokens of the kind are compounds that begin with `<`.
-fn is_left_compound(kind: Kind) -> bool
-    ensures { result ≡ is_one_of left_compounds kind }
-{
-    matches!(kind, Kind::ShiftLeft | Kind::LtEq | Kind::ShiftLeftEq)
-}
-
-/// Whether tokens of the kind are compounds that begin with `>`.
-fn is_right_compound(kind: Kind) -> bool
-    ensures { result ≡ is_one_of right_compounds kind }
-{
-    matches!(kind, Kind::ShiftRight | Kind::ShiftRight3)
-}
-
-/// How many bytes a compound that begins with `<` has.
-fn left_length(kind: Kind) -> u32
-    requires { is_one_of left_compounds kind ≡ true }
-    ensures { result ≡ length (kind_text kind) }
-{
-    match kind {
-        Kind::ShiftLeft => 2,
-        Kind::LtEq => 2,
-        Kind::ShiftLeftEq => 3,
-        _ => unreachable!(),
-    }
-}
-
-/// How many bytes a compound that begins with `>` has.
-fn right_length(kind: Kind) -> u32
-    requires { is_one_of right_compounds kind ≡ true }
-    ensures { result ≡ length (kind_text kind) }
-{
-    match kind {
-        Kind::ShiftRight => 2,
-        Kind::ShiftRight3 => 3,
-        _ => unreachable!(),
-    }
+    goal.reads_again(lexer.last_token().kind())
 }
 
 /// Reads a regular expression, where the last token may begin one.
@@ -73,11 +38,10 @@ fn read_regex<C: LexerConfig + Drop>(
     ensures ok { IfOk result (λ found. ReadsIfFits Goal.RegularExpression lexer.old found lexer.new) }
     ensures err { OnErr result (IsRestored lexer.old lexer.new) }
 {
-    let kind = lexer.last_token().kind();
-    if !begins_expression(kind) {
+    if !may_read_again(lexer, Goal::RegularExpression) {
         return Ok(None);
     }
-    let found = lexer.next_regex(kind)?;
+    let found = lexer.next_regex(lexer.last_token().kind())?;
     Ok(Some(ReadAgain {
         token: found.token,
         regex: Some(RegexInfo {
@@ -96,7 +60,7 @@ fn read_tail<C: LexerConfig + Drop>(
     ensures ok { IfOk result (λ found. ReadsIfFits Goal.TemplateTail lexer.old found lexer.new) }
     ensures err { OnErr result (IsRestored lexer.old lexer.new) }
 {
-    if lexer.last_token().kind().number() != Kind::RCurly.number() {
+    if !may_read_again(lexer, Goal::TemplateTail) {
         return Ok(None);
     }
     let token = lexer.next_template_substitution_tail()?;
@@ -108,7 +72,7 @@ fn read_right_angle<C: LexerConfig + Drop>(lexer: &mut Lexer<'_, C>) -> Option<R
     requires { lexer.old.place ≡ (token_or_default lexer.old.last).end }
     ensures { ReadsIfFits Goal.RightAngle lexer.old result lexer.new }
 {
-    if lexer.last_token().kind().number() != Kind::RAngle.number() {
+    if !may_read_again(lexer, Goal::RightAngle) {
         return None;
     }
     let token = lexer.re_lex_right_angle();
@@ -120,11 +84,11 @@ fn read_first_left<C: LexerConfig + Drop>(lexer: &mut Lexer<'_, C>) -> Option<Re
     requires { lexer.old.place ≡ (token_or_default lexer.old.last).end }
     ensures { ReadsIfFits Goal.TypeScriptLeftAngle lexer.old result lexer.new }
 {
-    let kind = lexer.last_token().kind();
-    if !is_left_compound(kind) {
+    if !may_read_again(lexer, Goal::TypeScriptLeftAngle) {
         return None;
     }
-    let token = lexer.re_lex_as_typescript_l_angle(left_length(kind));
+    let bytes = spelled_length(lexer.last_token().kind());
+    let token = lexer.re_lex_as_typescript_l_angle(bytes);
     Some(ReadAgain { token, regex: None })
 }
 
@@ -133,11 +97,11 @@ fn read_first_right<C: LexerConfig + Drop>(lexer: &mut Lexer<'_, C>) -> Option<R
     requires { lexer.old.place ≡ (token_or_default lexer.old.last).end }
     ensures { ReadsIfFits Goal.TypeScriptRightAngle lexer.old result lexer.new }
 {
-    let kind = lexer.last_token().kind();
-    if !is_right_compound(kind) {
+    if !may_read_again(lexer, Goal::TypeScriptRightAngle) {
         return None;
     }
-    let token = lexer.re_lex_as_typescript_r_angle(right_length(kind));
+    let bytes = spelled_length(lexer.last_token().kind());
+    let token = lexer.re_lex_as_typescript_r_angle(bytes);
     Some(ReadAgain { token, regex: None })
 }
 

@@ -2,28 +2,27 @@
 
 ghost use Rattle.std.specs.Prelude.{◌≡◌, ◌≤◌, true, [], is_some, None, IfOk, OnOk, OnErr, MatchBool};
 ghost use Rattle.js_grammar.specs.Outcome.{AreWithin};
+ghost use Rattle.js_grammar.specs.ReLexed.{fits};
 ghost use Rattle.js_grammar.specs.Reads.{is_onward};
-ghost use Rattle.js_grammar.specs.Spelling.{text_start, text_end};
-ghost use Rattle.js_grammar.specs.Values.{plain_value};
+ghost use Rattle.js_grammar.specs.TokenText.{text_start, text_end};
+ghost use Rattle.js_grammar.specs.TokenText.{plain_value};
 ghost use Rattle.js_kind.specs.Kinds.{is_template_kind};
 ghost use Rattle.js_lexer.specs.Decoded.{value_of};
-ghost use Rattle.js_lexer.specs.Lexer.{ReadsToken, IsRestored, CanRewind, GoesOnFrom};
+ghost use Rattle.js_lexer.specs.Lexer.{ReadsToken, IsRestored, CanRewind, GoesOnFrom, checkpoint_of};
 ghost use Rattle.js_lexer.specs.Lexer.{IsOnPlaces, token_or_default};
-ghost use Rattle.js_session.specs.Report.{fits};
 ghost use Rattle.js_session.specs.RowReader.{RowReaderState, ReadsRow, AddsLive, AddsPeek, MayGoOn, IsUndone, GoesBack};
 ghost use Rattle.js_session.specs.RowReader.{IsMarkOf, GoesToMark, IsKept, HoldsUnits, HoldsPart, HoldsKept};
 ghost use Rattle.js_session.specs.RowReader.{HoldsValue, IsMadeOf, ReadsRowIfFits, AddsAgain, AddsNotTaken, not_taken};
 
 use crate::command::Command;
-use crate::found::{FoundLengths, FoundLists, found_since, lengths_of};
 use crate::mark::SessionMark;
 use crate::re_lex::read_again;
 use crate::row::Row;
 use crate::row_list::RowList;
 use js_grammar::Goal;
 use js_kind::{LexerConfig, Token, TokenList};
-use js_lexer::{Lexer, LexerCheckpoint, is_template, is_valued, text_span};
-use js_text::{CommentList, DiagnosticList, JsText, RegexInfo, RowValue, SpanList, TemplateValue};
+use js_lexer::{Findings, Lexer, LexerCheckpoint, is_template, is_valued, text_span};
+use js_text::{JsText, RegexInfo, RowValue, TemplateValue};
 use std::alloc::{AllocError, Global};
 use std::marker::Model;
 
@@ -129,40 +128,24 @@ fn read_token<C: LexerConfig + Drop>(
     }
 }
 
-/// The row of a token that was just read, in front of which the lexer stood at the place and had found so much.
+/// The row of a token that was just read from the place, where the checkpoint was made.
 fn row_of<C: LexerConfig + Drop>(
     lexer: &Lexer<'_, C>,
     alloc: Global,
     command: Option<Command>,
     place: u32,
-    lengths: &FoundLengths,
+    before: &LexerCheckpoint,
     token: Token,
     regex: Option<RegexInfo>,
 ) -> Result<Row, AllocError>
     requires ordered { text_start token.kind token.start ≤ text_end token.kind token.end }
     requires value { token.escaped ≡ true → IsKept (is_template_kind token.kind) lexer.now.decoded token.start }
-    requires found { AreWithin lengths.now lexer.now.findings }
-    ensures { IfOk result (IsMadeOf command place lengths.now token regex lexer.now) }
+    requires found { AreWithin before.now.lengths lexer.now.findings }
+    ensures { IfOk result (IsMadeOf command place before.now.lengths token regex lexer.now) }
 {
     let value = value_of(lexer, alloc, &token)?;
-    let FoundLists {
-        diagnostics,
-        deferred,
-        comments,
-        irregular,
-    } = found_since(lexer, alloc, lengths)?;
-    Ok(Row {
-        command,
-        place,
-        taken: true,
-        token,
-        value,
-        regex,
-        diagnostics,
-        deferred,
-        comments,
-        irregular,
-    })
+    let found = lexer.findings_since(alloc, before)?;
+    Ok(Row::new(command, place, true, token, value, regex, found))
 }
 
 /// Reads a row of a goal that goes on. Where it cannot allocate, the lexer may have gone on.
@@ -171,16 +154,17 @@ fn read_row<C: LexerConfig + Drop>(
     alloc: Global,
     command: Option<Command>,
     goal: Goal,
+    before: &LexerCheckpoint,
 ) -> Result<Row, AllocError>
     requires onward { is_onward goal ≡ true }
     requires first { goal ≡ Goal.First → lexer.old.last ≡ None }
+    requires before { before.now ≡ checkpoint_of lexer.old }
     ensures ok { IfOk result (λ row. ReadsRow goal command lexer.old row lexer.new) }
     ensures err { OnErr result (GoesOnFrom lexer.old lexer.new) }
 {
     let place = lexer.offset();
-    let found = lengths_of(lexer);
     let token = read_token(lexer, goal)?;
-    row_of(lexer, alloc, command, place, &found, token, None)
+    row_of(lexer, alloc, command, place, before, token, None)
 }
 
 /// Reads a row from the start of the last token, where this fits the goal. Where it cannot allocate, the lexer may have
@@ -190,13 +174,14 @@ fn read_row_again<C: LexerConfig + Drop>(
     alloc: Global,
     command: Option<Command>,
     goal: Goal,
+    before: &LexerCheckpoint,
 ) -> Result<Option<Row>, AllocError>
-    requires { lexer.old.place ≡ (token_or_default lexer.old.last).end }
+    requires behind { lexer.old.place ≡ (token_or_default lexer.old.last).end }
+    requires before { before.now ≡ checkpoint_of lexer.old }
     ensures ok { IfOk result (λ row. ReadsRowIfFits goal command lexer.old row lexer.new) }
     ensures err { OnErr result (GoesOnFrom lexer.old lexer.new) }
 {
     let place = lexer.offset();
-    let found = lengths_of(lexer);
     match read_again(lexer, goal)? {
         Some(again) => {
             let row = row_of(
@@ -204,7 +189,7 @@ fn read_row_again<C: LexerConfig + Drop>(
                 alloc,
                 command,
                 place,
-                &found,
+                before,
                 again.token,
                 again.regex,
             )?;
@@ -223,18 +208,10 @@ fn not_taken<C: LexerConfig + Drop>(
     ensures row { result ≡ not_taken command lexer.now }
     ensures places { IsOnPlaces lexer.now.text (token_or_default lexer.now.last) }
 {
-    Row {
-        command,
-        place: lexer.offset(),
-        taken: false,
-        token: lexer.last_token(),
-        value: RowValue::Nothing,
-        regex: None,
-        diagnostics: DiagnosticList::new_in(alloc),
-        deferred: DiagnosticList::new_in(alloc),
-        comments: CommentList::new_in(alloc),
-        irregular: SpanList::new_in(alloc),
-    }
+    let place = lexer.offset();
+    let token = lexer.last_token();
+    let found = Findings::new_in(alloc);
+    Row::new(command, place, false, token, RowValue::Nothing, None, found)
 }
 
 /// A lexer, the rows that were read from it, and the tokens that are live.
@@ -268,13 +245,19 @@ impl<'a, C: LexerConfig + Drop> RowReader<'a, C> {
     }
 
     /// Reads a row and adds it, with its token live. Where it cannot allocate, lexer and live tokens may have gone on.
-    fn read_on(&mut self, command: Option<Command>, goal: Goal) -> Result<(), AllocError>
+    fn read_on(
+        &mut self,
+        command: Option<Command>,
+        goal: Goal,
+        before: &LexerCheckpoint,
+    ) -> Result<(), AllocError>
         requires onward { is_onward goal ≡ true }
         requires first { goal ≡ Goal.First → self.old.lexer.last ≡ None }
+        requires before { before.now ≡ checkpoint_of self.old.lexer }
         ensures ok { OnOk result (AddsLive goal command self.old self.new) }
         ensures err { OnErr result (MayGoOn self.old self.new) }
     {
-        let row = read_row(&mut self.lexer, self.alloc, command, goal)?;
+        let row = read_row(&mut self.lexer, self.alloc, command, goal, before)?;
         self.tokens.push(row.token)?;
         self.rows.push(row)
     }
@@ -304,7 +287,7 @@ impl<'a, C: LexerConfig + Drop> RowReader<'a, C> {
     {
         let checkpoint = self.lexer.checkpoint();
         let live = self.tokens.len();
-        match self.read_on(command, goal) {
+        match self.read_on(command, goal, &checkpoint) {
             Ok(()) => {
                 if is_peek {
                     self.go_back(checkpoint, live);
@@ -320,13 +303,19 @@ impl<'a, C: LexerConfig + Drop> RowReader<'a, C> {
 
     /// Adds the row of a re-lex, which is taken where the last token fits the goal. Where it cannot allocate, the lexer may
     /// have gone on.
-    fn re_lex_on(&mut self, command: Option<Command>, goal: Goal) -> Result<(), AllocError>
-        requires { self.old.lexer.place ≡ (token_or_default self.old.lexer.last).end }
+    fn re_lex_on(
+        &mut self,
+        command: Option<Command>,
+        goal: Goal,
+        before: &LexerCheckpoint,
+    ) -> Result<(), AllocError>
+        requires behind { self.old.lexer.place ≡ (token_or_default self.old.lexer.last).end }
+        requires before { before.now ≡ checkpoint_of self.old.lexer }
         ensures ok { OnOk result (MatchBool (fits self.old.lexer.text goal (token_or_default self.old.lexer.last))
             (AddsAgain goal command self.old self.new) (AddsNotTaken command self.old self.new)) }
         ensures err { OnErr result (MayGoOn self.old self.new) }
     {
-        match read_row_again(&mut self.lexer, self.alloc, command, goal)? {
+        match read_row_again(&mut self.lexer, self.alloc, command, goal, before)? {
             Some(row) => {
                 let token = row.token;
                 self.rows.push(row)?;
@@ -350,7 +339,7 @@ impl<'a, C: LexerConfig + Drop> RowReader<'a, C> {
     {
         let checkpoint = self.lexer.checkpoint();
         let tokens = self.tokens.len();
-        match self.re_lex_on(command, goal) {
+        match self.re_lex_on(command, goal, &checkpoint) {
             Ok(()) => Ok(()),
             Err(error) => {
                 self.go_back(checkpoint, tokens);

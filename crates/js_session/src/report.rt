@@ -1,7 +1,11 @@
 //! Reports.
 
+ghost use Rattle.std.specs.Prelude.{◌≡◌};
+ghost use Rattle.js_session.specs.Live.{report_with};
+
 use crate::row_list::RowList;
 use js_kind::TokenList;
+use js_lexer::Findings;
 use js_text::{CommentList, DiagnosticList, SpanList};
 
 /// What a session gave: a row for each step, and what is live at its end.
@@ -15,4 +19,32 @@ pub struct Report {
     pub deferred: DiagnosticList,
     pub comments: CommentList,
     pub irregular: SpanList,
+}
+
+impl Report {
+    /// A report of what was read and found.
+    pub(crate) fn new(
+        rows: RowList,
+        tokens: TokenList,
+        collected: TokenList,
+        found: Findings,
+    ) -> Report
+        ensures { result ≡ report_with rows collected (record { tokens = tokens; findings = found }) }
+    {
+        let Findings {
+            diagnostics,
+            deferred,
+            comments,
+            irregular,
+        } = found;
+        Report {
+            rows,
+            tokens,
+            collected,
+            diagnostics,
+            deferred,
+            comments,
+            irregular,
+        }
+    }
 }

@@ -3,10 +3,12 @@
 ghost use Rattle.std.specs.Prelude.{◌≡◌, IfOk};
 ghost use Rattle.std.specs.Option.{option_map};
 ghost use Rattle.js_text.specs.JsText.{js_text_units};
+ghost use Rattle.js_session.specs.Live.{row_findings, row_of};
 ghost use Rattle.js_session.specs.Report.{IsSliceOnPlaces, text_of};
 
 use crate::command::Command;
 use js_kind::Token;
+use js_lexer::Findings;
 use js_text::{CommentList, DiagnosticList, JsText, RegexInfo, RowValue, SpanList};
 use std::alloc::{AllocError, Global};
 
@@ -33,6 +35,39 @@ pub struct Row {
 }
 
 impl Row {
+    /// A row of what was read and found.
+    pub(crate) fn new(
+        command: Option<Command>,
+        place: u32,
+        taken: bool,
+        token: Token,
+        value: RowValue,
+        regex: Option<RegexInfo>,
+        found: Findings,
+    ) -> Row
+        ensures { result ≡ row_of command place taken
+            (record { token = token; value = value; regex = regex; findings = found }) }
+    {
+        let Findings {
+            diagnostics,
+            deferred,
+            comments,
+            irregular,
+        } = found;
+        Row {
+            command,
+            place,
+            taken,
+            token,
+            value,
+            regex,
+            diagnostics,
+            deferred,
+            comments,
+            irregular,
+        }
+    }
+
     /// The text of its token, of which this is the source; none for a token without a value, or with a bad one.
     pub fn text<'t>(&'t self, source: &'t str) -> Option<JsText<'t>>
         requires { IsSliceOnPlaces source.now self.now.value }
@@ -48,26 +83,32 @@ impl Row {
         }
     }
 
+    /// Copies of what it found.
+    fn findings(&self, alloc: Global) -> Result<Findings, AllocError>
+        ensures { IfOk result (λ found. found ≡ row_findings self.now) }
+    {
+        Ok(Findings {
+            diagnostics: self.diagnostics.copy(alloc)?,
+            deferred: self.deferred.copy(alloc)?,
+            comments: self.comments.copy(alloc)?,
+            irregular: self.irregular.copy(alloc)?,
+        })
+    }
+
     /// An equal row.
     pub fn copy(&self, alloc: Global) -> Result<Row, AllocError>
         ensures { IfOk result (λ row. row ≡ self.now) }
     {
         let value = self.value.copy(alloc)?;
-        let diagnostics = self.diagnostics.copy(alloc)?;
-        let deferred = self.deferred.copy(alloc)?;
-        let comments = self.comments.copy(alloc)?;
-        let irregular = self.irregular.copy(alloc)?;
-        Ok(Row {
-            command: self.command,
-            place: self.place,
-            taken: self.taken,
-            token: self.token,
+        let found = self.findings(alloc)?;
+        Ok(Row::new(
+            self.command,
+            self.place,
+            self.taken,
+            self.token,
             value,
-            regex: self.regex,
-            diagnostics,
-            deferred,
-            comments,
-            irregular,
-        })
+            self.regex,
+            found,
+        ))
     }
 }

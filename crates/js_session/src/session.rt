@@ -1,6 +1,6 @@
 //! Sessions.
 
-ghost use Rattle.std.specs.Prelude.{◌≡◌, ◌≤◌, ◌<◌, ◌+◌, ◌^◌, ◌↔◌, true, [], length, IfOk, OnOk, OnErr};
+ghost use Rattle.std.specs.Prelude.{◌≡◌, ◌≤◌, ◌<◌, ◌+◌, ◌^◌, ◌↔◌, true, length, IfOk, OnOk, OnErr};
 ghost use Rattle.std.specs.List.{AllByRecursion};
 ghost use Rattle.js_lexer.specs.Lexer.{IsOnPlaces};
 ghost use Rattle.js_session.specs.Effects.{effect_of, is_step};
@@ -198,14 +198,8 @@ impl<'a, C: LexerConfig + Drop> Session<'a, C> {
             tokens,
         } = reader;
         let mut lexer = lexer;
-        Report {
-            rows,
-            tokens,
-            collected: lexer.take_tokens(),
-            diagnostics: lexer.take_errors(),
-            deferred: lexer.take_deferred_module_errors(),
-            comments: lexer.take_comments(),
-            irregular: lexer.take_irregular_whitespaces(),
-        }
+        let collected = lexer.take_tokens();
+        let found = lexer.take_findings();
+        Report::new(rows, tokens, collected, found)
     }
 }

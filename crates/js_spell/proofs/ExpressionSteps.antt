@@ -1,12 +1,21 @@
 -- The parts of regular expressions, as they are passed.
+use Rattle.std.proofs.Common.{◌+◌}
+use Rattle.std.proofs.Common.{length-append}
+use Rattle.std.specs.Char.{encode_utf8}
+use Rattle.std.specs.Str.{encode_utf8_all}
+use Rattle.js_kind.specs.declared.kind.Kind.{Kind}
+use Rattle.js_grammar.specs.Reading.{read_up_to, size_of}
+use Rattle.js_grammar.proofs.GoalReadings.{Leaves}
+use Rattle.js_grammar.proofs.Marks.{one_byte}
+use Rattle.js_grammar.proofs.ReadingLemmas.{taken_is}
+use Rattle.js_spell.proofs.NumericSteps.{leads_to}
 use Rattle.std.proofs.Common.{◌≡◌, ℕ, ◌<◌, ◌≤◌, Bool, true, false, not, ◌||◌, ◌==◌, List, [], ◌∷◌, ◌++◌, length, drop}
-use Rattle.std.proofs.Common.{refl, sym, ◌∙◌, ap, arith, Some, None, inl, inr, length-drop}
+use Rattle.std.proofs.Common.{refl, sym, ◌∙◌, ap, arith, Some, None, inl, inr}
 use Rattle.std.proofs.lemmas.Bool.{eqb-true}
 use Rattle.std.proofs.lemmas.Bool.Decides.{nat_tests}
 use Rattle.js_text.specs.Ascii.{backslash, slash}
 use Rattle.js_text.specs.Characters.{begins, from_first, from_place, is_line_terminator}
 use Rattle.js_text.proofs.TextLemmas.{from_first-cons}
-use Rattle.js_grammar.specs.GoalRead.{place_left}
 use Rattle.js_grammar.specs.RegularExpression.{behind_all, behind_body_character, behind_bracket}
 use Rattle.js_grammar.specs.RegularExpression.{behind_class, behind_class_character, left_square_bracket}
 use Rattle.js_grammar.specs.RegularExpression.{right_square_bracket}
@@ -16,7 +25,6 @@ use Rattle.js_grammar.proofs.NumberItems.{true_or_false}
 use Rattle.js_grammar.proofs.NumberSound.{first_is}
 use Rattle.js_source.specs.Runs.{IsRun, PassesRun}
 use Rattle.js_source.specs.Source.{At, rest, HasFirstByte, IsPlaced, StepsPast}
-use Rattle.js_source.proofs.Places.{rest_bytes}
 use Rattle.js_source.proofs.RunSteps.{from_first-run}
 use Rattle.js_spell.specs.RegularExpression.{IsAtLineEnd, PassesBackslash, PassesBody, PassesClass, PassesParts}
 use Rattle.js_spell.specs.RegularExpression.{StaysInLine, TellsCharacters, is_line_end, marks, part_of}
@@ -356,18 +364,28 @@ body_breaks_in_class old mid behind new passed opened past onward unclosed =
       },
     )
 
--- the place of what is left
-pub place_left_is : (old new : At) → IsPlaced old → IsPlaced new → new.text ≡ old.text → old.place ≤ new.place
-    → place_left old.place (rest old) (rest new) ≡ new.place
-place_left_is old new h g text onward =
+-- the bytes up to a place lead there
+pub size_to : (old new : At) (kind : Kind) → IsPlaced old → IsPlaced new → new.text ≡ old.text
+    → Leaves (rest old) (rest new) → old.place + size_of (read_up_to kind (rest old) (rest new)) ≡ new.place
+size_to old new kind h g text left =
     omega (
       arith,
-      ap length (rest_bytes old h),
-      ap length (rest_bytes new g),
-      length-drop old.place old.text,
-      length-drop new.place new.text,
-      ap length text,
-      h.boundary.0,
-      g.boundary.0,
-      onward,
+      leads_to old new left.0 h g text left.1,
+      ap (λ xs. length (encode_utf8_all xs)) (taken_is (rest old) left.0 (rest new) left.1),
+    )
+
+-- and so do those from a mark of one byte on, which stands before
+pub size_from_mark : (mark start : ℕ) (old new : At) (kind : Kind) → mark < 128 → start + 1 ≡ old.place → IsPlaced old
+    → IsPlaced new → new.text ≡ old.text → Leaves (rest old) (rest new)
+    → start + size_of (read_up_to kind (mark ∷ rest old) (rest new)) ≡ new.place
+size_from_mark mark start old new kind low begun h g text left =
+    omega (
+      arith,
+      begun,
+      leads_to old new left.0 h g text left.1,
+      ap (λ xs. length (encode_utf8_all xs))
+          (taken_is (mark ∷ rest old) (mark ∷ left.0) (rest new) (ap (λ t. mark ∷ t) left.1)),
+      one_byte mark low,
+      length-append (encode_utf8 mark) (encode_utf8_all left.0),
+      length-append (encode_utf8 mark) [],
     )

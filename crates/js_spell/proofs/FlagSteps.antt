@@ -9,15 +9,21 @@ use Rattle.js_text.specs.declared.diagnostic.Diagnostic.{Diagnostic}
 use Rattle.js_text.specs.declared.diagnostic.Diagnostic.TheVariants.{UnterminatedRegExp}
 use Rattle.js_text.specs.declared.reg_exp_flags.RegExpFlags.{RegExpFlags}
 use Rattle.js_text.specs.declared.reg_exp_flags.RegexInfo.{RegexInfo}
-use Rattle.js_grammar.specs.GoalRead.{place_left}
 use Rattle.js_grammar.specs.RegularExpression.{behind_body, ends_flags, flag_reports, is_any, is_flag_character}
 use Rattle.js_grammar.specs.RegularExpression.{letter_reports, no_flags, regular_expression, unterminated_expression}
 use Rattle.js_grammar.specs.RegularExpression.{with_flags_behind, with_letters}
 use Rattle.js_grammar.proofs.GoalReadings.{expression_terminated, expression_unterminated}
 use Rattle.js_grammar.proofs.NumberSound.{first_is}
-use Rattle.js_grammar.specs.Outcome.{place_behind}
+use Rattle.js_grammar.specs.Reading.{moved_regex, place_behind, read_up_to, reported_at, size_of}
 use Rattle.js_grammar.specs.StringItems.{stretch}
-use Rattle.js_grammar.proofs.Texts.{one_byte}
+use Rattle.js_grammar.proofs.Marks.{one_byte}
+use Rattle.js_grammar.proofs.Moved.{any_moved, flag_reports_moved}
+use Rattle.js_grammar.proofs.GoalReadings.{Leaves, body_leaves, leaves_dropped, leaves_from_first, leaves_then}
+use Rattle.js_kind.specs.declared.kind.Kind.TheVariants.{RegExp}
+use Rattle.std.specs.Option.{option_map}
+use Rattle.std.specs.Char.{encode_utf8}
+use Rattle.std.specs.Str.{encode_utf8_all}
+use Rattle.std.proofs.Common.{add-zero, length-append, subst}
 use Rattle.js_source.specs.Source.{At, rest, HasFirstByte, IsPlaced, StepsPast}
 use Rattle.js_source.proofs.Places.{ascii_next, begins_with}
 use Rattle.js_grammar.proofs.NumberItems.{true_or_false}
@@ -25,9 +31,11 @@ use Rattle.js_source.specs.Search.{matches_at}
 use Rattle.js_text.specs.RegExpFlags.{flag_bits, flags_of_bits}
 use Rattle.js_spell.specs.Name.{TellsParts}
 use Rattle.js_spell.specs.Breaks.{BreaksOff}
-use Rattle.js_spell.specs.RegularExpression.{AddsLetter, BreaksLine, PassesBody, SpellsExpression, TakesLetter}
+use Rattle.js_spell.specs.RegularExpression.{AddsLetter, BreaksLine, PassesBody, SpellsExpression, SpellsFlags}
+use Rattle.js_spell.specs.RegularExpression.{TakesLetter}
+use Rattle.js_spell.specs.RegularExpression.{flags_told}
 use Rattle.js_spell.proofs.BreakSteps.{broken_first, broken_later}
-use Rattle.js_spell.proofs.ExpressionSteps.{place_left_is}
+use Rattle.js_spell.proofs.ExpressionSteps.{size_from_mark}
 use Rattle.js_spell.proofs.NumericSteps.{leads_to}
 
 -- the letters that are left
@@ -123,7 +131,7 @@ pub flags_read : (pattern_end : ℕ) (old new : At) (before after : List Diagnos
     (flags_error : Bool) (info : RegexInfo) → pattern_end + 1 ≡ old.place
     → ReadsLetters old new before after flags flags_error → begins is_flag_character (rest new) ≡ false
     → info ≡ record { pattern_end = pattern_end; flags = flags; flags_error = flags_error }
-    → SpellsExpression (with_flags_behind pattern_end (rest old)) old new before after info
+    → SpellsFlags pattern_end old new before after info
 flags_read pattern_end old new before after flags flags_error info behind h ends info_is =
     let none = none_left (rest new) ends in
     let no_more : flag_reports flags new.place (letters_left new) ≡ [] = ap (flag_reports flags new.place) none.0 in
@@ -141,8 +149,8 @@ flags_read pattern_end old new before after flags flags_error info behind h ends
           ∙ ap (λ ds. before ++ ds)
           (sym (append-nil h.more) ∙ ap (λ ds. h.more ++ ds) (sym no_more) ∙ sym h.reports ∙ sym at);
       info_is =
-          ap (λ e. Some (info_of (with_letters no_flags (letters_left old)) e)) faulty
-          ∙ ap (λ f. Some (info_of f flags_error)) are ∙ ap Some (sym info_is);
+          info_is ∙ ap (λ f. info_of f flags_error) (sym are)
+          ∙ ap (λ e. info_of (with_letters no_flags (letters_left old)) e) (sym faulty);
     }
   where
     info_of : RegExpFlags → Bool → RegexInfo
@@ -180,7 +188,7 @@ bits_are_none flags e = ap flags_of_bits e
 pub letters_broken : (pattern_end : ℕ) (old now new : At) (before between after : List Diagnostic)
     (flags : RegExpFlags) (flags_error : Bool) (b : ℕ) → pattern_end + 1 ≡ old.place
     → ReadsLetters old now before between flags flags_error → TakesLetter now new b → after ≡ between
-    → BreaksOff (with_flags_behind pattern_end (rest old)).diagnostics old new before after
+    → BreaksOff (flags_told pattern_end (rest old)) old new before after
 letters_broken pattern_end old now new before between after flags flags_error b behind h taken same = record {
   text = taken.read.text ∙ h.text;
   more = h.more;
@@ -200,59 +208,92 @@ slash_passed old mid new pattern_end is h g passed past =
     leads_to mid new (slash ∷ []) h g step.0 (here ∙ ap (λ t. slash ∷ t) (sym step.1)) in
     omega (arith, is, way, one_byte slash (omega arith))
 
--- what is read of a body that a `/` ends is what is read of the flags behind it
+-- Where a body that a `/` ends was passed, and the `/` behind it.
+record IsClosed (start : ℕ) (old mid behind : At) (pattern_end : ℕ) : Type 0 where
+  pub text : behind.text ≡ mid.text
+  pub read : regular_expression (rest old) ≡ with_flags_behind (slash ∷ rest old) (rest mid)
+  pub step : drop 1 (rest mid) ≡ rest behind
+  pub end : start + size_of (read_up_to RegExp (slash ∷ rest old) (rest mid)) ≡ pattern_end
+
 closed_read : (start : ℕ) (old mid behind : At) (pattern_end : ℕ) → IsPlaced old → IsPlaced mid
     → start + 1 ≡ old.place → pattern_end ≡ mid.place → PassesBody old mid true → StepsPast mid behind
-    → (behind.text ≡ mid.text)
-    × (regular_expression start (rest old) ≡ with_flags_behind pattern_end (rest behind))
+    → IsClosed start old mid behind pattern_end
 closed_read start old mid behind pattern_end h g begun ends passed past =
     let here = first_is slash (rest mid) passed.1 in
     let step = past slash (drop 1 (rest mid)) here in
     let closed : begins (λ c. c == slash) (behind_body (rest old)) ≡ true =
     ap (begins (λ c. c == slash)) passed.0 ∙ passed.1 in
-    let end : place_left (start + 1) (rest old) (behind_body (rest old)) ≡ pattern_end =
-    ap (place_left (start + 1) (rest old)) passed.0 ∙ ap (λ n. place_left n (rest old) (rest mid)) begun
-    ∙ place_left_is old mid h g passed.2.text passed.2.onward ∙ sym ends in (
-      step.0,
-      expression_terminated start (rest old) (behind_body (rest old)) closed
-          ∙ ap (λ n. with_flags_behind n (drop 1 (behind_body (rest old)))) end
-          ∙ ap (λ t. with_flags_behind pattern_end (drop 1 t)) passed.0
-          ∙ ap (with_flags_behind pattern_end) (sym step.1),
-    )
+    record {
+      text = step.0;
+      read = expression_terminated (slash ∷ rest old) (behind_body (rest old)) closed
+          ∙ ap (with_flags_behind (slash ∷ rest old)) passed.0;
+      step = sym step.1;
+      end =
+          size_from_mark slash start old mid RegExp (omega arith) begun h g passed.2.text
+          (subst (Leaves (rest old)) passed.0 (body_leaves (rest old)))
+          ∙ sym ends;
+    }
+
+-- what is reported of the flags of the whole is what is reported of them where they stand
+told_of_flags : (start : ℕ) (old mid behind : At) (pattern_end : ℕ) → IsClosed start old mid behind pattern_end
+    → reported_at start (regular_expression (rest old)) ≡ flags_told pattern_end (rest behind)
+told_of_flags start old mid behind pattern_end closed =
+    let size = size_of (read_up_to RegExp (slash ∷ rest old) (rest mid)) in
+    let letters = before_first ends_flags (drop 1 (rest mid)) in
+    let at : start + (size + 1) ≡ pattern_end + 1 = omega (arith, closed.end) in
+    ap (reported_at start) closed.read ∙ sym (flag_reports_moved no_flags start (size + 1) letters)
+    ∙ ap (λ n. flag_reports no_flags n letters) at
+    ∙ ap (λ t. flag_reports no_flags (pattern_end + 1) (before_first ends_flags t)) closed.step
 
 -- A body that a `/` ends, and the flags behind it.
 pub expression_closed : (start : ℕ) (old mid behind new : At) (before after : List Diagnostic) (info : RegexInfo)
     (pattern_end : ℕ) → IsPlaced old → IsPlaced mid → start + 1 ≡ old.place → pattern_end ≡ mid.place
     → PassesBody old mid true → StepsPast mid behind
-    → SpellsExpression (with_flags_behind pattern_end (rest behind)) behind new before after info
-    → SpellsExpression (regular_expression start (rest old)) old new before after info
+    → SpellsFlags pattern_end behind new before after info
+    → SpellsExpression (regular_expression (rest old)) start old new before after info
 expression_closed start old mid behind new before after info pattern_end h g begun ends passed past flags =
-    let read = closed_read start old mid behind pattern_end h g begun ends passed past in
+    let closed = closed_read start old mid behind pattern_end h g begun ends passed past in
+    let size = size_of (read_up_to RegExp (slash ∷ rest old) (rest mid)) in
+    let letters = before_first ends_flags (drop 1 (rest mid)) in
+    let told = told_of_flags start old mid behind pattern_end closed in
+    let faulty : is_any (flag_reports no_flags (size + 1) letters) ≡ is_any (flags_told pattern_end (rest behind)) =
+    sym (any_moved start (flag_reports no_flags (size + 1) letters))
+    ∙ ap is_any (sym (ap (reported_at start) closed.read) ∙ told) in
     record {
-      text = flags.text ∙ read.0 ∙ passed.2.text;
-      left = ap (λ r. r.rest) read.1 ∙ flags.left;
-      reports = flags.reports ∙ ap (λ r. before ++ r.diagnostics) (sym read.1);
-      info_is = ap (λ r. r.regex) read.1 ∙ flags.info_is;
+      text = flags.text ∙ closed.text ∙ passed.2.text;
+      left = ap (λ r. r.rest) closed.read ∙ ap (from_first ends_flags) closed.step ∙ flags.left;
+      reports = flags.reports ∙ ap (λ ds. before ++ ds) (sym told);
+      info_is = ap (λ r. option_map (moved_regex start) r.regex) closed.read
+          ∙ ap (λ n. Some (info_of n (with_letters no_flags letters)
+          (is_any (flag_reports no_flags (size + 1) letters))))
+          closed.end
+          ∙ ap (λ t. Some (info_of pattern_end (with_letters no_flags (before_first ends_flags t))
+          (is_any (flag_reports no_flags (size + 1) letters)))) closed.step
+          ∙ ap (λ b. Some (info_of pattern_end (with_letters no_flags (letters_left behind)) b)) faulty
+          ∙ ap Some (sym flags.info_is);
     }
+  where
+    info_of : ℕ → RegExpFlags → Bool → RegexInfo
+    info_of n f e = record { pattern_end = n; flags = f; flags_error = e }
 
 -- Flags that broke off, behind a body that a `/` ends.
 pub flags_broken : (start : ℕ) (old mid behind new : At) (before after : List Diagnostic) (pattern_end : ℕ)
     → IsPlaced old → IsPlaced mid → start + 1 ≡ old.place → pattern_end ≡ mid.place
     → PassesBody old mid true → StepsPast mid behind → mid.place ≤ behind.place
-    → BreaksOff (with_flags_behind pattern_end (rest behind)).diagnostics behind new before after
-    → BreaksOff (regular_expression start (rest old)).diagnostics old new before after
+    → BreaksOff (flags_told pattern_end (rest behind)) behind new before after
+    → BreaksOff (reported_at start (regular_expression (rest old))) old new before after
 flags_broken start old mid behind new before after pattern_end h g begun ends passed past onward broken =
-    let read = closed_read start old mid behind pattern_end h g begun ends passed past in
-    rw read.1
-    (broken_later (with_flags_behind pattern_end (rest behind)).diagnostics old behind new before after
-    (read.0 ∙ passed.2.text) (omega (arith, passed.2.onward, onward)) broken)
+    let closed = closed_read start old mid behind pattern_end h g begun ends passed past in
+    rw (told_of_flags start old mid behind pattern_end closed)
+    (broken_later (flags_told pattern_end (rest behind)) old behind new before after
+    (closed.text ∙ passed.2.text) (omega (arith, passed.2.onward, onward)) broken)
 
 -- The report that a body has no end broke off.
 pub body_broken : (start : ℕ) (old mid new : At) (before after : List Diagnostic) → PassesBody old mid false
     → BreaksOff [] mid new before after
-    → BreaksOff (regular_expression start (rest old)).diagnostics old new before after
+    → BreaksOff (reported_at start (regular_expression (rest old))) old new before after
 body_broken start old mid new before after passed broken =
-    let told = (regular_expression start (rest old)).diagnostics in
+    let told = reported_at start (regular_expression (rest old)) in
     broken_first told old new before after
     (broken_later [] old mid new before after passed.1.text passed.1.onward broken)
 
@@ -260,30 +301,43 @@ body_broken start old mid new before after passed broken =
 pub expression_broken : (start : ℕ) (old mid new : At) (before after : List Diagnostic) (info : RegexInfo)
     → IsPlaced old → IsPlaced new → start + 1 ≡ old.place → PassesBody old mid false
     → BreaksLine start mid new before after info
-    → SpellsExpression (regular_expression start (rest old)) old new before after info
+    → SpellsExpression (regular_expression (rest old)) start old new before after info
 expression_broken start old mid new before after info h g begun passed breaks =
+    let whole = slash ∷ rest old in
     let text : breaks.behind.text ≡ old.text = breaks.same ∙ passed.1.text in
-    let read : regular_expression start (rest old) ≡ unterminated_expression start (rest old) =
-    expression_unterminated start (rest old) (behind_body (rest old)) passed.0 in
-    let line : rest breaks.behind ≡ drop 1 (from_first is_line_terminator (rest old)) =
-    breaks.stepped ∙ ap (drop 1) (sym passed.1.line) in
-    let reported : breaks.behind.place
-    ≡ place_left (start + 1) (rest old) (drop 1 (from_first is_line_terminator (rest old))) =
-    sym
-    (place_left_is old breaks.behind h breaks.placed text (omega (arith, passed.1.onward, breaks.onward)))
-    ∙ ap (place_left old.place (rest old)) line
-    ∙ ap (λ n. place_left n (rest old) (drop 1 (from_first is_line_terminator (rest old)))) (sym begun) in
-    let end : new.place ≡ place_behind (start + 1) (rest old) =
-    leads_to old new (rest old) h g (breaks.text ∙ passed.1.text)
-    (sym (append-nil (rest old)) ∙ ap (λ t. rest old ++ t) (sym breaks.nothing))
-    ∙ ap (λ n. place_behind n (rest old)) (sym begun) in
+    let read : regular_expression (rest old) ≡ unterminated_expression whole =
+    expression_unterminated whole (behind_body (rest old)) passed.0 in
+    let line : drop 1 (from_first is_line_terminator (rest old)) ≡ rest breaks.behind =
+    sym (breaks.stepped ∙ ap (drop 1) (sym passed.1.line)) in
+    let left : Leaves (rest old) (rest breaks.behind) =
+    subst (Leaves (rest old)) line
+    (leaves_then (rest old) (from_first is_line_terminator (rest old))
+    (drop 1 (from_first is_line_terminator (rest old)))
+    (leaves_from_first is_line_terminator (rest old)) (leaves_dropped 1 (from_first is_line_terminator (rest old)))) in
+    let reported : start + size_of (read_up_to RegExp whole (drop 1 (from_first is_line_terminator (rest old))))
+    ≡ breaks.behind.place =
+    ap (λ t. start + size_of (read_up_to RegExp whole t)) line
+    ∙ size_from_mark slash start old breaks.behind RegExp (omega arith) begun h breaks.placed text left in
+    let end : start + place_behind 0 whole ≡ new.place =
+    omega (
+      arith,
+      begun,
+      leads_to old new (rest old) h g (breaks.text ∙ passed.1.text)
+          (sym (append-nil (rest old)) ∙ ap (λ t. rest old ++ t) (sym breaks.nothing)),
+      one_byte slash (omega arith),
+      length-append (encode_utf8 slash) (encode_utf8_all (rest old)),
+      length-append (encode_utf8 slash) [],
+    ) in
     record {
       text = breaks.text ∙ passed.1.text;
       left = ap (λ r. r.rest) read ∙ sym breaks.nothing;
-      reports = breaks.reports ∙ ap (λ n. before ++ UnterminatedRegExp (stretch start n) ∷ []) reported
-          ∙ ap (λ r. before ++ r.diagnostics) (sym read);
-      info_is = ap (λ r. r.regex) read
-          ∙ ap (λ n. Some (info_of n)) (sym end) ∙ ap Some (sym breaks.info_is);
+      reports = breaks.reports ∙ ap (λ n. before ++ UnterminatedRegExp (stretch start n) ∷ []) (sym reported)
+          ∙ ap (λ n. before ++ UnterminatedRegExp (stretch n
+          (start + size_of (read_up_to RegExp whole (drop 1 (from_first is_line_terminator (rest old)))))) ∷ [])
+          (sym (add-zero start))
+          ∙ ap (λ r. before ++ reported_at start r) (sym read);
+      info_is = ap (λ r. option_map (moved_regex start) r.regex) read
+          ∙ ap (λ n. Some (info_of n)) end ∙ ap Some (sym breaks.info_is);
     }
   where
     info_of : ℕ → RegexInfo

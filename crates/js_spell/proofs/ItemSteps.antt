@@ -14,7 +14,7 @@ use Rattle.js_text.specs.Characters.{begins}
 use Rattle.js_text.specs.JsStr.{units_of}
 use Rattle.js_text.specs.declared.diagnostic.Diagnostic.{Diagnostic}
 use Rattle.js_text.specs.declared.diagnostic.Diagnostic.TheVariants.{InvalidEscapeSequence}
-use Rattle.js_grammar.specs.Outcome.{place_behind}
+use Rattle.js_grammar.specs.Reading.{place_behind}
 use Rattle.js_grammar.specs.StringItems.{Fault, StringItem, StringItems, escape, all_items, items_before}
 use Rattle.js_grammar.specs.StringItems.{string_text, string_units, contains_escape, contains_bad_escape, is_bad_escape}
 use Rattle.js_grammar.specs.StringItems.{fault_reports, item_reports, stretch}
@@ -29,7 +29,7 @@ use Rattle.js_grammar.proofs.StringSteps.{template_value_bad}
 use Rattle.js_source.specs.Source.{At, rest, Reads, IsPlaced, HasFirstByte, StepsPast}
 use Rattle.js_spell.specs.Escape.{ReadsEscape}
 use Rattle.js_spell.specs.Strings.{in_template, item_of, plain_here, escape_here, PassesCharacters}
-use Rattle.js_spell.specs.Strings.{ReadsItems, ReadsOneItem, ReadsValue, value_of, spelt_value, MarkIs}
+use Rattle.js_spell.specs.Strings.{ReadsItems, ReadsOneItem, ReadsValue, value_of, told_value, MarkIs}
 use Rattle.js_spell.specs.Strings.{is_end}
 use Rattle.js_spell.specs.Breaks.{BreaksOff}
 use Rattle.js_spell.specs.Strings.{decoded_value, items_told}
@@ -368,18 +368,18 @@ plain_value_read literal start old new reports plain none end =
           sym
           (ap (λ more. reports ++ more) (good_ones (in_template literal) start old.place items plain.plain.good)
           ∙ append-nil reports);
-      value_is = ap (λ b. spelt_value b (value_of literal items)) (sym plain.plain.escaped);
+      value_is = ap (λ b. told_value b (value_of literal items)) (sym plain.plain.escaped);
     }
 
 -- and where one is
 value_is_decoded : (literal : Literal) (items : List StringItem) (bad : Bool) → contains_bad_escape items ≡ bad
-    → decoded_value literal bad (string_units items) ≡ spelt_value true (value_of literal items)
+    → decoded_value literal bad (string_units items) ≡ told_value true (value_of literal items)
 value_is_decoded DoubleQuoted items true e = refl
 value_is_decoded DoubleQuoted items false e = refl
 value_is_decoded SingleQuoted items true e = refl
 value_is_decoded SingleQuoted items false e = refl
-value_is_decoded Template items true e = sym (ap (spelt_value true) (template_value_bad items e))
-value_is_decoded Template items false e = sym (ap (spelt_value true) (template_value_good items e))
+value_is_decoded Template items true e = sym (ap (told_value true) (template_value_bad items e))
+value_is_decoded Template items false e = sym (ap (told_value true) (template_value_good items e))
 
 escaped_found : (literal : Literal) (text : List ℕ) → escape_here literal text ≡ true
     → contains_escape (all_items (item_of literal) text).items ≡ true
@@ -426,7 +426,7 @@ decoded_value_read literal start old mid new us vs before after bad h g plain ad
       reports = all.reports;
       value_is =
           ap (decoded_value literal bad) all.units ∙ value_is_decoded literal all.items bad all.bad
-          ∙ ap (λ b. spelt_value b (value_of literal all.items)) (sym whole);
+          ∙ ap (λ b. told_value b (value_of literal all.items)) (sym whole);
     }
   where
     or_true : (b : Bool) → (b || true) ≡ true

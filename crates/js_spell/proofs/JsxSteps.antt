@@ -1,6 +1,6 @@
 -- Angles and parts of JSX, as they are read.
 use Rattle.std.proofs.Common.{◌≡◌, ℕ, ◌<◌, ◌≤◌, Bool, true, false, not, ◌&&◌, ◌||◌, ◌==◌, List, [], ◌∷◌, ◌++◌, length, drop}
-use Rattle.std.proofs.Common.{refl, sym, ◌∙◌, ap, subst, arith, Option, Some, None, inl, inr, append-nil}
+use Rattle.std.proofs.Common.{refl, sym, ◌∙◌, ap, subst, arith, Option, Some, inl, inr, append-nil}
 use Rattle.std.specs.Prelude.{codes, IfOk, Result, if◌then◌else◌}
 use Rattle.std.proofs.lemmas.Bool.Decides.{nat_tests}
 use Rattle.js_text.specs.Ascii.{equals_sign, greater_than_sign, hyphen_minus, less_than_sign}
@@ -11,15 +11,15 @@ use Rattle.js_text.proofs.TextLemmas.{from_first-cons, from_first-found, length-
 use Rattle.js_kind.specs.declared.kind.Kind.{Kind}
 use Rattle.js_kind.specs.declared.kind.Kind.TheVariants.{Eof, GtEq, RAngle, ShiftRight, Str}
 use Rattle.js_kind.specs.declared.kind.Kind.TheVariants.{ShiftRight3, ShiftRight3Eq, ShiftRightEq}
-use Rattle.js_grammar.specs.Angle.{angle_read, punctuator_read, right_angles}
+use Rattle.js_grammar.specs.Angle.{angle_reading, punctuator_reading, right_angles}
 use Rattle.js_kind.specs.Kinds.{kind_text}
 use Rattle.js_grammar.specs.Gap.{is_prefix}
-use Rattle.js_grammar.specs.GoalRead.{GoalRead, place_left}
-use Rattle.js_grammar.specs.Jsx.{begins_child, ends_jsx_name, ends_jsx_text, jsx_child_read, jsx_read}
-use Rattle.js_grammar.specs.Jsx.{jsx_string_before, jsx_string_read, jsx_text_before, jsx_text_read}
+use Rattle.js_grammar.specs.Jsx.{begins_child, ends_jsx_name, ends_jsx_text, jsx_child_reading, reported}
+use Rattle.js_grammar.specs.Jsx.{jsx_string_before, jsx_string_reading, jsx_text_before, jsx_text_reading}
+use Rattle.js_grammar.proofs.GoalReadings.{Leaves, leaves_from_first}
 use Rattle.js_grammar.specs.Name.{is_no_part}
 use Rattle.js_grammar.specs.NumberReads.{empty_span}
-use Rattle.js_grammar.specs.Outcome.{place_behind}
+use Rattle.js_grammar.specs.Reading.{Reading, place_behind, read_up_to, reported_at, size_of}
 use Rattle.js_grammar.specs.StringItems.{is_quote, stretch}
 use Rattle.js_grammar.specs.UnicodeEscape.{left_curly_bracket}
 use Rattle.js_grammar.proofs.NumberClasses.{all_below}
@@ -29,11 +29,13 @@ use Rattle.js_source.specs.Search.{matches_at}
 use Rattle.js_source.specs.Source.{At, rest, HasFirstByte, IsPlaced, Reads, StepsPast}
 use Rattle.js_source.proofs.Places.{ascii_next, begins_with}
 use Rattle.js_source.proofs.RunSteps.{from_first-run}
-use Rattle.js_spell.specs.Goals.{SpellsAngle, SpellsGoal, SpellsJsxString, StopsAt, TakesEquals}
+use Rattle.js_spell.specs.Spells.{ReadsAs}
+use Rattle.js_spell.specs.Goals.{SpellsAngle, SpellsJsxString, StopsAt, TakesEquals}
 use Rattle.js_spell.specs.Goals.{TakesJsxQuote, TellsText, ends_of, equals_kind}
 use Rattle.js_spell.specs.declared.jsx.Text.{Text}
 use Rattle.js_spell.specs.declared.jsx.Text.TheVariants.{Child, DoubleQuoted, SingleQuoted}
-use Rattle.js_spell.proofs.ExpressionSteps.{place_left_is}
+use Rattle.js_spell.proofs.ExpressionSteps.{size_to}
+use Rattle.std.proofs.Common.{add-zero, ◌+◌}
 use Rattle.js_spell.proofs.NumericSteps.{leads_to, tells_as, tells_class}
 use Rattle.js_spell.proofs.PlainSteps.{wide_first}
 
@@ -54,25 +56,20 @@ one_prefix c (d ∷ ds) = and_true_right (d == c)
 -- a punctuator that was read from the text on
 abbrev pub IsAngle : List ℕ → Kind → List ℕ → Type 0
 IsAngle text kind left =
-    angle_read right_angles text ≡ Some (record { kind = kind; rest = left; regex = None; diagnostics = [] })
+    angle_reading right_angles text ≡ Some (read_up_to kind text left)
 
 abbrev behind_equals : Bool → List ℕ → List ℕ
 behind_equals is_there text = if is_there then drop 1 text else text
 
 -- a punctuator of the kind, where the test holds, or else another
-abbrev or_else : Bool → Kind → List ℕ → Option GoalRead → Option GoalRead
-or_else is_there kind text other = if is_there then Some (punctuator_read kind text) else other
+abbrev or_else : Bool → Kind → List ℕ → Option Reading → Option Reading
+or_else is_there kind text other = if is_there then Some (punctuator_reading kind text) else other
 
 -- the one with a `=`, or that without it
 chosen : (alone assigned : Kind) (text left : List ℕ) (is_there : Bool)
     → drop (length (kind_text assigned)) text ≡ drop 1 left → drop (length (kind_text alone)) text ≡ left
-    → or_else is_there assigned text (Some (punctuator_read alone text))
-    ≡ Some (record {
-      kind = equals_kind is_there alone assigned;
-      rest = behind_equals is_there left;
-      regex = None;
-      diagnostics = [];
-    })
+    → or_else is_there assigned text (Some (punctuator_reading alone text))
+    ≡ Some (read_up_to (equals_kind is_there alone assigned) text (behind_equals is_there left))
 chosen alone assigned text left true e f = rw e refl
 chosen alone assigned text left false e f = rw f refl
 
@@ -82,7 +79,7 @@ three : (text : List ℕ) → IsAngle (greater_than_sign ∷ greater_than_sign �
     (behind_equals (begins (λ c. c == equals_sign) text) text)
 three text =
     let whole = greater_than_sign ∷ greater_than_sign ∷ greater_than_sign ∷ text in
-    ap (λ b. or_else b ShiftRight3Eq whole (Some (punctuator_read ShiftRight3 whole))) (one_prefix equals_sign text)
+    ap (λ b. or_else b ShiftRight3Eq whole (Some (punctuator_reading ShiftRight3 whole))) (one_prefix equals_sign text)
     ∙ chosen ShiftRight3 ShiftRight3Eq whole text (begins (λ c. c == equals_sign) text) refl refl
 
 two : (text : List ℕ) → begins (λ c. c == greater_than_sign) text ≡ false
@@ -91,7 +88,8 @@ two : (text : List ℕ) → begins (λ c. c == greater_than_sign) text ≡ false
     (behind_equals (begins (λ c. c == equals_sign) text) text)
 two text none =
     let whole = greater_than_sign ∷ greater_than_sign ∷ text in
-    let shift : Bool → Option GoalRead = λ b. or_else b ShiftRightEq whole (Some (punctuator_read ShiftRight whole)) in
+    let shift : Bool → Option Reading = λ b. or_else b ShiftRightEq whole
+    (Some (punctuator_reading ShiftRight whole)) in
     ap (λ b. or_else b ShiftRight3Eq whole
     (or_else (is_prefix (codes ">") text) ShiftRight3 whole (shift (is_prefix (codes "=") text))))
     (no_prefix greater_than_sign (codes "=") text none)
@@ -106,10 +104,10 @@ one : (text : List ℕ) → begins (λ c. c == greater_than_sign) text ≡ false
     (behind_equals (begins (λ c. c == equals_sign) text) text)
 one text none =
     let whole = greater_than_sign ∷ text in
-    let alone : Bool → Option GoalRead = λ b. or_else b GtEq whole (Some (punctuator_read RAngle whole)) in
-    let shifts : Bool → Option GoalRead = λ b. or_else b ShiftRight whole (alone (is_prefix (codes "=") text)) in
-    let assigned : Bool → Option GoalRead = λ b. or_else b ShiftRightEq whole (shifts (is_prefix (codes ">") text)) in
-    let longer : Bool → Option GoalRead = λ b. or_else b ShiftRight3 whole (assigned (is_prefix (codes ">=") text)) in
+    let alone : Bool → Option Reading = λ b. or_else b GtEq whole (Some (punctuator_reading RAngle whole)) in
+    let shifts : Bool → Option Reading = λ b. or_else b ShiftRight whole (alone (is_prefix (codes "=") text)) in
+    let assigned : Bool → Option Reading = λ b. or_else b ShiftRightEq whole (shifts (is_prefix (codes ">") text)) in
+    let longer : Bool → Option Reading = λ b. or_else b ShiftRight3 whole (assigned (is_prefix (codes ">=") text)) in
     ap (λ b. or_else b ShiftRight3Eq whole (longer (is_prefix (codes ">>") text)))
     (no_prefix greater_than_sign (codes ">=") text none)
     ∙ ap longer (no_prefix greater_than_sign (codes ">") text none)
@@ -124,15 +122,16 @@ angle_read_of : (front : List ℕ) (old mid new : At) (kind alone assigned : Kin
     (equals_kind (begins (λ c. c == equals_sign) (rest mid)) alone assigned)
     (behind_equals (begins (λ c. c == equals_sign) (rest mid)) (rest mid))
     → TakesEquals mid new alone assigned kind → SpellsAngle old new kind
-angle_read_of front old mid new kind alone assigned text here is takes = record {
-  text = takes.text ∙ text;
-  read = ap (λ t. angle_read right_angles (greater_than_sign ∷ t)) here ∙ is
-      ∙ ap (λ k. Some (found k (behind_equals (begins (λ c. c == equals_sign) (rest mid)) (rest mid)))) (sym takes.kind_is)
-      ∙ ap (λ t. Some (found kind t)) (sym takes.left);
-}
-  where
-    found : Kind → List ℕ → GoalRead
-    found k t = record { kind = k; rest = t; regex = None; diagnostics = [] }
+angle_read_of front old mid new kind alone assigned text here is takes =
+    let whole = greater_than_sign ∷ (front ++ rest mid) in
+    record {
+      text = takes.text ∙ text;
+      read = ap (λ t. angle_reading right_angles (greater_than_sign ∷ t)) here ∙ is
+          ∙ ap (λ k. Some (read_up_to k whole (behind_equals (begins (λ c. c == equals_sign) (rest mid)) (rest mid))))
+          (sym takes.kind_is)
+          ∙ ap (λ t. Some (read_up_to kind whole t)) (sym takes.left)
+          ∙ ap (λ t. Some (read_up_to kind (greater_than_sign ∷ t) (rest new))) (sym here);
+    }
 
 pub right_angle : (old new : At) (kind : Kind) → begins (λ c. c == greater_than_sign) (rest old) ≡ false
     → TakesEquals old new RAngle GtEq kind → SpellsAngle old new kind
@@ -254,37 +253,39 @@ stopped within b text stop =
     ap (from_first (ends_of within)) found.1 ∙ from_first-found (ends_of within) b found.0 stop.ends ∙ sym found.1
 
 text_before : (old new : At) (b : ℕ) → rest new ≡ from_first ends_jsx_text (rest old) → StopsAt Child b (rest new)
-    → (ds : List ℕ) × (rest new ≡ b ∷ ds) × (jsx_text_read old.place (rest old)
-    ≡ jsx_text_before old.place (rest old) (b ∷ ds))
+    → (ds : List ℕ) × (rest new ≡ b ∷ ds) × (jsx_text_reading (rest old) ≡ jsx_text_before (rest old) (b ∷ ds))
 text_before old new b left stop =
     let found = begins_with b (rest new) stop.next in
-    (found.0, found.1, ap (jsx_text_before old.place (rest old)) (sym left ∙ found.1))
+    (found.0, found.1, ap (jsx_text_before (rest old)) (sym left ∙ found.1))
 
 pub text_before_other : (old new : At) (before after : List Diagnostic) (b at : ℕ) → IsPlaced old → IsPlaced new
-    → new.text ≡ old.text → old.place ≤ new.place → rest new ≡ from_first ends_jsx_text (rest old)
+    → new.text ≡ old.text → rest new ≡ from_first ends_jsx_text (rest old)
     → StopsAt Child b (rest new) → begins_child b ≡ false → at ≡ new.place
     → after ≡ before ++ UnexpectedJsxEnd b (empty_span at) ∷ []
-    → SpellsGoal (jsx_text_read old.place (rest old)) old new before after Eof
-text_before_other old new before after b at h g text onward left stop none is e =
+    → ReadsAs (jsx_text_reading (rest old)) old.place old new before after Eof
+text_before_other old new before after b at h g text left stop none is e =
     let found = text_before old new b left stop in
-    let read : jsx_text_read old.place (rest old)
-    ≡ jsx_read Eof (b ∷ found.0) (UnexpectedJsxEnd b (empty_span (place_left old.place (rest old) (b ∷ found.0))) ∷ [])
-    = found.2 ∙ (rw none refl) in
-    let place : place_left old.place (rest old) (b ∷ found.0) ≡ at =
-    ap (place_left old.place (rest old)) (sym found.1) ∙ place_left_is old new h g text onward ∙ sym is in
+    let size = size_of (read_up_to Eof (rest old) (b ∷ found.0)) in
+    let read : jsx_text_reading (rest old)
+    ≡ reported Eof (rest old) (b ∷ found.0) (UnexpectedJsxEnd b (empty_span size)) = found.2 ∙ (rw none refl) in
+    let leaves : Leaves (rest old) (rest new) =
+    subst (Leaves (rest old)) (sym left) (leaves_from_first ends_jsx_text (rest old)) in
+    let place : old.place + size ≡ at =
+    ap (λ t. old.place + size_of (read_up_to Eof (rest old) t)) (sym found.1) ∙ size_to old new Eof h g text leaves
+    ∙ sym is in
     record {
       text = text;
       kind_is = ap (λ r. r.kind) read;
       left = ap (λ r. r.rest) read ∙ sym found.1;
       reports = e ∙ ap (λ n. before ++ UnexpectedJsxEnd b (empty_span n) ∷ []) (sym place)
-          ∙ ap (λ r. before ++ r.diagnostics) (sym read);
+          ∙ ap (λ r. before ++ reported_at old.place r) (sym read);
     }
 
 -- neither
-pub child_text : (place : ℕ) (text : List ℕ) → begins (λ c. c == less_than_sign) text ≡ false
-    → begins (λ c. c == left_curly_bracket) text ≡ false → jsx_child_read place text ≡ jsx_text_read place text
-child_text place [] a b = refl
-child_text place (c ∷ cs) a b = rw (a, b) refl
+pub child_text : (text : List ℕ) → begins (λ c. c == less_than_sign) text ≡ false
+    → begins (λ c. c == left_curly_bracket) text ≡ false → jsx_child_reading text ≡ jsx_text_reading text
+child_text [] a b = refl
+child_text (c ∷ cs) a b = rw (a, b) refl
 
 -- the parts behind a `-`
 pub fewer_behind : (old mid new : At) → Reads old mid hyphen_minus → rest new ≡ from_first is_no_part (rest mid)
@@ -303,19 +304,18 @@ same_class p q same (c ∷ cs) =
 
 string_found : (old mid : At) (within : Text) (quote : TakesJsxQuote old mid within) → begins is_quote (rest old) ≡ true
     → (left : List ℕ) → left ≡ from_first (ends_of within) (rest mid)
-    → jsx_string_read old.place (rest old) ≡ Some (jsx_string_before old.place (rest old) left)
+    → jsx_string_reading (rest old) ≡ Some (jsx_string_before (rest old) left)
 string_found old mid within quote is left e =
     let q = quote.quote in
     let here = quote.read.here in
     let quoted : is_quote q ≡ true = ap (begins is_quote) (sym here) ∙ is in
-    ap (jsx_string_read old.place) here ∙ read q (rest mid) quoted
-    ∙ ap (λ t. Some (jsx_string_before old.place (q ∷ rest mid) t))
+    ap jsx_string_reading here ∙ read q (rest mid) quoted
+    ∙ ap (λ t. Some (jsx_string_before (q ∷ rest mid) t))
     (sym (same_class (ends_of within) (λ c. c == q) quote.ends (rest mid)) ∙ sym e)
-    ∙ ap (λ t. Some (jsx_string_before old.place t left)) (sym here)
+    ∙ ap (λ t. Some (jsx_string_before t left)) (sym here)
   where
     read : (q : ℕ) (cs : List ℕ) → is_quote q ≡ true
-        → jsx_string_read old.place (q ∷ cs)
-        ≡ Some (jsx_string_before old.place (q ∷ cs) (from_first (λ d. d == q) cs))
+        → jsx_string_reading (q ∷ cs) ≡ Some (jsx_string_before (q ∷ cs) (from_first (λ d. d == q) cs))
     read q cs e = rw e refl
 
 pub string_closed : (old mid here new : At) (within : Text) (errors : List Diagnostic) (b : ℕ)
@@ -326,10 +326,10 @@ string_closed old mid here new within errors b is quote text left stop past =
     let found = begins_with b (rest here) stop.next in
     let step = past b found.0 found.1 in
     record {
-      found = jsx_read Str found.0 [];
+      found = jsx_string_before (rest old) (b ∷ found.0);
       read =
           string_found old mid within quote is (rest here) left
-          ∙ ap (λ t. Some (jsx_string_before old.place (rest old) t)) found.1;
+          ∙ ap (λ t. Some (jsx_string_before (rest old) t)) found.1;
       spells = record {
         text = step.0 ∙ text ∙ quote.read.text;
         kind_is = refl;
@@ -337,6 +337,9 @@ string_closed old mid here new within errors b is quote text left stop past =
         reports = sym (append-nil errors);
       };
     }
+
+behind_from_start : (place : ℕ) (text : List ℕ) → place_behind place text ≡ place + place_behind 0 text
+behind_from_start place text = omega arith
 
 pub string_open : (old mid new : At) (within : Text) (before after : List Diagnostic) (start : ℕ) → IsPlaced old
     → IsPlaced new → begins is_quote (rest old) ≡ true → TakesJsxQuote old mid within → new.text ≡ mid.text
@@ -348,16 +351,17 @@ string_open old mid new within before after start h g is quote text left none at
     leads_to old new (rest old) h g (text ∙ quote.read.text)
     (sym (append-nil (rest old)) ∙ ap (λ t. rest old ++ t) (sym none)) in
     record {
-      found = jsx_read Eof [] (UnterminatedString (stretch old.place (place_behind old.place (rest old))) ∷ []);
+      found = jsx_string_before (rest old) [];
       read =
           string_found old mid within quote is (rest new) left
-          ∙ ap (λ t. Some (jsx_string_before old.place (rest old) t)) none;
+          ∙ ap (λ t. Some (jsx_string_before (rest old) t)) none;
       spells = record {
         text = text ∙ quote.read.text;
         kind_is = refl;
         left = sym none;
-        reports = e ∙ ap (λ n. before ++ UnterminatedString (stretch n new.place) ∷ []) at
-            ∙ ap (λ n. before ++ UnterminatedString (stretch old.place n) ∷ []) whole;
+        reports = e ∙ ap (λ n. before ++ UnterminatedString (stretch n new.place) ∷ []) (at ∙ sym (add-zero old.place))
+            ∙ ap (λ n. before ++ UnterminatedString (stretch (old.place + 0) n) ∷ [])
+            (whole ∙ behind_from_start old.place (rest old));
       };
     }
 
@@ -365,12 +369,11 @@ string_open old mid new within before after start h g is quote text left none at
 pub child_of_text : {E : Type 0} (r : Result Kind E) (old mid behind new : At) (before after : List Diagnostic)
     → begins (λ c. c == less_than_sign) (rest old) ≡ false → mid ≡ old
     → begins (λ c. c == left_curly_bracket) (rest mid) ≡ false → behind ≡ mid
-    → IfOk r (SpellsGoal (jsx_text_read behind.place (rest behind)) behind new before after)
-    → IfOk r (SpellsGoal (jsx_child_read old.place (rest old)) old new before after)
+    → IfOk r (ReadsAs (jsx_text_reading (rest behind)) behind.place behind new before after)
+    → IfOk r (ReadsAs (jsx_child_reading (rest old)) old.place old new before after)
 child_of_text r old mid behind new before after angle first bracket second reads =
     let same : behind ≡ old = second ∙ first in
-    let text : jsx_child_read old.place (rest old) ≡ jsx_text_read old.place (rest old) =
-    child_text old.place (rest old) angle (ap (λ s. begins (λ c. c == left_curly_bracket) (rest s)) (sym first) ∙ bracket)
-    in
-    subst (λ read. IfOk r (SpellsGoal read old new before after)) (sym text)
-    (subst (λ s. IfOk r (SpellsGoal (jsx_text_read s.place (rest s)) s new before after)) same reads)
+    let text : jsx_child_reading (rest old) ≡ jsx_text_reading (rest old) =
+    child_text (rest old) angle (ap (λ s. begins (λ c. c == left_curly_bracket) (rest s)) (sym first) ∙ bracket) in
+    subst (λ read. IfOk r (ReadsAs read old.place old new before after)) (sym text)
+    (subst (λ s. IfOk r (ReadsAs (jsx_text_reading (rest s)) s.place s new before after)) same reads)

@@ -14,29 +14,34 @@ use Rattle.std.proofs.lemmas.List.Concat.{flat_map-append}
 use Rattle.std.proofs.lemmas.List.Folds.{list_any-append}
 use Rattle.std.proofs.lemmas.Str.{encodes-append, chars_from_encodes}
 use Rattle.std.proofs.Math.Seq.{drop-append_seam}
-use Rattle.js_text.specs.Ascii.{backslash}
+use Rattle.js_text.specs.Ascii.{backslash, number_sign}
 use Rattle.js_text.specs.Characters.{begins, from_place, from_first, before_first, is_identifier_part}
 use Rattle.js_text.specs.Characters.{is_identifier_start}
 use Rattle.js_text.specs.JsStr.{units_of}
 use Rattle.js_text.specs.declared.diagnostic.Diagnostic.{Diagnostic}
-use Rattle.js_text.specs.declared.diagnostic.Diagnostic.TheVariants.{InvalidCharacter, UnicodeEscapeSequence}
+use Rattle.js_text.specs.declared.diagnostic.Diagnostic.TheVariants.{InvalidCharacter, UnexpectedEnd}
+use Rattle.js_text.specs.declared.diagnostic.Diagnostic.TheVariants.{UnicodeEscapeSequence}
 use Rattle.js_text.specs.declared.span.Span.{Span}
 use Rattle.js_text.proofs.TextLemmas.{before_from}
 use Rattle.js_source.specs.Source.{At, rest, IsPlaced, StepsPast, Reads, HasFirstByte}
 use Rattle.js_grammar.specs.Name.{NameItem, NameFault, CutsInto, items_text, items_value, items_report, item_report}
-use Rattle.js_grammar.specs.Name.{fault_report, plain_item, is_no_part, name_item, escape_item, name_read}
-use Rattle.js_grammar.specs.Outcome.{place_behind}
-use Rattle.js_grammar.proofs.NameCuts.{read_of_cut, nothing_reported, items_cut, cut_items}
+use Rattle.js_grammar.specs.Name.{fault_report, plain_item, is_no_part, name_item, escape_item, name_reading}
+use Rattle.js_grammar.specs.Name.{begins_name, contains_escape, items_reading, name_items, name_value}
+use Rattle.js_grammar.specs.Name.{no_private_name, private_name_of, unnamed}
+use Rattle.js_grammar.specs.Reading.{Reading, moved_diagnostics, place_behind, reported_at}
+use Rattle.js_grammar.proofs.Moved.{items_report_moved, moved_twice}
+use Rattle.js_grammar.proofs.NameCuts.{name_of, read_of_cut, nothing_reported, items_cut, cut_items}
 use Rattle.js_grammar.proofs.NameItems.{escape_takes}
-use Rattle.js_grammar.proofs.NameLaws.{plain_parts, plain_values, ended}
+use Rattle.js_grammar.proofs.NameLaws.{plain_parts, plain_values, ended, name_report}
 use Rattle.js_grammar.proofs.NameLemmas.{parts_end}
 use Rattle.js_grammar.proofs.NumberSound.{first_is}
 use Rattle.js_grammar.proofs.Reported.{place_behind-append}
 use Rattle.js_kind.specs.Keywords.{name_kind}
 use Rattle.js_kind.specs.TokenParts.{TokenParts}
-use Rattle.js_kind.specs.declared.kind.Kind.TheVariants.{Eof}
+use Rattle.js_kind.specs.declared.kind.Kind.TheVariants.{Eof, Undetermined}
 use Rattle.js_spell.specs.Name.{class_of, GoesOn, PassesPlain, Decodes, ReadsEscape, ReadsItems, PassesParts}
-use Rattle.js_spell.specs.Name.{ReadsToEnd, SpellsDecoded, SpellsName, HasValue, ReportsNoName, value_of_decoding}
+use Rattle.js_spell.specs.Name.{ReadsToEnd, SpellsDecoded, ReportsNoName, behind_sign, value_of_decoding}
+use Rattle.js_spell.specs.Spells.{Spells, spelt_value}
 use Rattle.js_spell.specs.Name.{fault_of_decoding}
 use Rattle.js_spell.specs.declared.name.Decoding.{Decoding}
 use Rattle.js_spell.specs.declared.name.Decoding.TheVariants.{Character, NotAllowed, Bad}
@@ -48,8 +53,6 @@ use Rattle.js_spell.proofs.NumericSteps.{leads_to}
 use Rattle.js_kind.specs.declared.kind.Kind.{Kind}
 use Rattle.js_kind.specs.declared.kind.Kind.TheVariants.{PrivateIdentifier}
 use Rattle.js_spell.specs.Name.{SpellsPlainName, SpellsPlainPrivateName}
-use Rattle.js_grammar.specs.Name.{begins_name}
-use Rattle.js_grammar.specs.Name.{named, name_items, items_read}
 use Rattle.js_spell.specs.Breaks.{BreaksOff}
 use Rattle.js_spell.specs.Name.{items_told}
 use Rattle.js_spell.proofs.BreakSteps.{broken_behind, unreported}
@@ -339,17 +342,41 @@ name_decoded from old mid new before during after was between now has_escape h k
 
 -- what is read of items up to the end of a name
 read_is : (old new : At) (items : List NameItem) → GoesOn First old items Later new
-    → name_item is_identifier_part (rest new) ≡ None
-    → name_read old.place (rest old) ≡ record {
-      rest = rest new;
-      has_escape = list_any (λ item. item.is_escape) items;
-      decoded = items_value items;
-      diagnostics = items_report old.place items;
-    }
+    → name_item is_identifier_part (rest new) ≡ None → name_reading (rest old) ≡ name_of items (rest new)
 read_is old new items goes end =
-    read_of_cut old.place (rest old) items (rest new)
+    read_of_cut (rest old) items (rest new)
     (subst (λ xs. CutsInto is_identifier_start (rest old) xs (rest new)) (append-nil items)
     (goes.go_on [] (rest new) (end, refl)))
+
+-- where the value of a name is
+name_value_told : (b : Bool) (vs : List ℕ) (start end : ℕ)
+    → spelt_value (name_value b vs start end) ≡ (if b then Decoded (units_of vs) else Plain)
+name_value_told true vs start end = refl
+name_value_told false vs start end = refl
+
+-- a name of these items
+items_spelled : (old new : At) (before after : List Diagnostic) (was now : TokenParts) (spelt : Spelt)
+    (items : List NameItem) → new.text ≡ old.text → name_reading (rest old) ≡ name_of items (rest new)
+    → after ≡ before ++ items_report old.place items
+    → spelt.kind ≡ name_kind (encode_utf8_all (items_value items))
+    → spelt.value ≡ (if contains_escape items then Decoded (units_of (items_value items)) else Plain)
+    → now ≡ record was { escaped = contains_escape items; has_separator = false }
+    → Spells (name_reading (rest old)) old.place old new before after was now spelt
+items_spelled old new before after was now spelt items text read reports kind value flags =
+    let told : items_report old.place items ≡ reported_at old.place (name_of items (rest new)) =
+    ap (λ n. items_report n items) (sym (add-zero old.place)) ∙ items_report_moved old.place 0 items in
+    rw read (record {
+      read = record {
+        text = text;
+        kind_is = sym kind;
+        left = refl;
+        reports = reports ∙ ap (λ ds. before ++ ds) told;
+      };
+      value = value
+          ∙ sym (name_value_told (contains_escape items) (items_value items) 0
+          (length (encode_utf8_all (items_text items))));
+      flags = flags;
+    })
 
 -- a name without escapes
 pub plain_spelled : (old new : At) (errors : List Diagnostic) (was now : TokenParts) (to : Position) (plain : List ℕ)
@@ -358,37 +385,22 @@ pub plain_spelled : (old new : At) (errors : List Diagnostic) (was now : TokenPa
     → ((xs : List ℕ) → from_place new.text old.place ≡ xs ++ rest new → plain ≡ encode_utf8_all xs)
     → now ≡ record was { escaped = false; has_separator = false }
     → spelt.kind ≡ name_kind plain → spelt.value ≡ Plain
-    → SpellsName old new errors errors was now spelt
+    → Spells (name_reading (rest old)) old.place old new errors errors was now spelt
 plain_spelled old new errors was now First plain spelt passes none spells flags kind value =
     let no : true ≡ false = sym (passes.escape refl) ∙ none in absurd (cc)
 plain_spelled old new errors was now Later plain spelt passes none spells flags kind value =
     let xs = passes.characters in
+    let items = map plain_item xs in
     let values = plain_values xs in
-    let escaped : now.escaped ≡ false = ap (λ (t : TokenParts). t.escaped) flags in
-    let separator : now ≡ record was { escaped = now.escaped; has_separator = false } =
-    flags ∙ ap (λ (b : Bool). record was { escaped = b; has_separator = false }) (sym escaped) in
     let whole : from_place new.text old.place ≡ xs ++ rest new =
     ap (λ u. from_place u old.place) passes.goes_on.text ∙ passes.goes_on.here
     ∙ ap (λ t. t ++ rest new) values.text in
-    record {
-      decoded = xs;
-      read = record {
-        text = passes.goes_on.text;
-        added = [];
-        reports = sym (append-nil errors);
-        read =
-            read_is old new (map plain_item xs) passes.goes_on (ended (rest new) passes.stops none)
-            ∙ rw (
-              values.escapes,
-              values.value,
-              nothing_reported old.place (map plain_item xs) values.good,
-              escaped,
-            ) refl;
-      };
-      kind = kind ∙ ap name_kind (spells xs whole);
-      flags = separator;
-      value = subst (λ b. HasValue b xs spelt.value) (sym escaped) value;
-    }
+    items_spelled old new errors errors was now spelt items passes.goes_on.text
+    (read_is old new items passes.goes_on (ended (rest new) passes.stops none))
+    (sym (append-nil errors) ∙ ap (λ ds. errors ++ ds) (sym (nothing_reported old.place items values.good)))
+    (kind ∙ ap name_kind (spells xs whole) ∙ ap (λ vs. name_kind (encode_utf8_all vs)) (sym values.value))
+    (value ∙ ap (λ b. if b then Decoded (units_of (items_value items)) else Plain) (sym values.escapes))
+    (flags ∙ ap (λ b. record was { escaped = b; has_separator = false }) (sym values.escapes))
 
 -- and one with escapes
 pub escaped_spelled : (old mid new : At) (before after : List Diagnostic) (was now : TokenParts) (to : Position)
@@ -398,13 +410,10 @@ pub escaped_spelled : (old mid new : At) (before after : List Diagnostic) (was n
     → ((xs : List ℕ) → from_place mid.text old.place ≡ xs ++ rest mid → plain ≡ encode_utf8_all xs)
     → SpellsDecoded to mid new before after plain spelt
     → now ≡ record was { escaped = true; has_separator = false }
-    → SpellsName old new before after was now spelt
+    → Spells (name_reading (rest old)) old.place old new before after was now spelt
 escaped_spelled old mid new before after was now to plain spelt h k passes spells decodes flags =
     let xs = passes.characters in
     let values = plain_values xs in
-    let escaped : now.escaped ≡ true = ap (λ (t : TokenParts). t.escaped) flags in
-    let separator : now ≡ record was { escaped = now.escaped; has_separator = false } =
-    flags ∙ ap (λ (b : Bool). record was { escaped = b; has_separator = false }) (sym escaped) in
     let whole : from_place mid.text old.place ≡ xs ++ rest mid =
     ap (λ u. from_place u old.place) passes.goes_on.text ∙ passes.goes_on.here
     ∙ ap (λ t. t ++ rest mid) values.text in
@@ -413,30 +422,24 @@ escaped_spelled old mid new before after was now to plain spelt h k passes spell
     let characters = items_value read.items in
     let same : characters ≡ chars decodes.text =
     chars_from_encodes characters decodes.text decodes.utf8 (sym read.value) in
-    record {
-      decoded = characters;
-      read = record {
-        text = read.goes_on.text;
-        added = items_report old.place read.items;
-        reports = read.reports;
-        read = read_is old new read.items read.goes_on decodes.read.end ∙ rw (read.escapes, escaped) refl;
-      };
-      kind = decodes.kind ∙ ap name_kind read.value;
-      flags = separator;
-      value =
-          subst (λ b. HasValue b characters spelt.value) (sym escaped)
-          (decodes.value ∙ ap (λ ys. Decoded (units_of ys)) (sym same));
-    }
+    items_spelled old new before after was now spelt read.items read.goes_on.text
+    (read_is old new read.items read.goes_on decodes.read.end) read.reports
+    (decodes.kind ∙ ap name_kind read.value)
+    (decodes.value ∙ ap (λ ys. Decoded (units_of ys)) (sym same)
+    ∙ ap (λ b. if b then Decoded (units_of characters) else Plain) (sym read.escapes))
+    (flags ∙ ap (λ b. record was { escaped = b; has_separator = false }) (sym read.escapes))
 
 -- A name broke off, behind its plain beginning.
 reports_of_name : (place : ℕ) (text : List ℕ)
-    → (name_read place text).diagnostics ≡ items_report place (name_items is_identifier_start text)
-unfolding items_read
-reports_of_name place text = refl
+    → reported_at place (name_reading text) ≡ items_report place (name_items is_identifier_start text)
+reports_of_name place text =
+    let items = name_items is_identifier_start text in
+    ap (moved_diagnostics place) (name_report text) ∙ sym (items_report_moved place 0 items)
+    ∙ ap (λ n. items_report n items) (add-zero place)
 
 pub name_broken : (old mid new : At) (before after : List Diagnostic) (to : Position) → IsPlaced old → IsPlaced mid
     → PassesPlain old to mid → BreaksOff (items_told to mid) mid new before after
-    → BreaksOff (name_read old.place (rest old)).diagnostics old new before after
+    → BreaksOff (reported_at old.place (name_reading (rest old))) old new before after
 name_broken old mid new before after to h k passes broken =
     let xs = passes.characters in
     rw (reports_of_name old.place (rest old))
@@ -449,13 +452,107 @@ pub character_reported : (old new : At) (before after : List Diagnostic) (c : �
     → sp ≡ span old.place new.place → after ≡ before ++ InvalidCharacter c sp ∷ []
     → ReportsNoName old before after Eof
 character_reported old new before after c sp h k read s report = record {
-  report = InvalidCharacter c (span old.place (place_behind old.place (c ∷ [])));
-  reports =
-      report ∙ ap (λ (t : Span). before ++ InvalidCharacter c t ∷ []) s
-      ∙ ap (λ (p : ℕ). before ++ InvalidCharacter c (span old.place p) ∷ [])
-      (leads_to old new (c ∷ []) h k read.text read.here);
+  report = InvalidCharacter c (span 1 (place_behind 1 (c ∷ [])));
   read = rw read.here refl;
+  reports = λ start at.
+      let end : new.place ≡ start + place_behind 1 (c ∷ []) =
+      omega (arith, at, leads_to old new (c ∷ []) h k read.text read.here) in
+      report ∙ ap (λ (t : Span). before ++ InvalidCharacter c t ∷ []) s
+      ∙ ap (λ (p : ℕ). before ++ InvalidCharacter c (span p new.place) ∷ []) (sym at)
+      ∙ ap (λ (p : ℕ). before ++ InvalidCharacter c (span (start + 1) p) ∷ []) end;
 }
+
+pub end_reported : (old : At) (before after : List Diagnostic) (sp : Span) → rest old ≡ []
+    → sp ≡ span old.place old.place → after ≡ before ++ UnexpectedEnd sp ∷ []
+    → ReportsNoName old before after Undetermined
+end_reported old before after sp none s report = record {
+  report = UnexpectedEnd (span 1 1);
+  read = rw none refl;
+  reports = λ start at.
+      report ∙ ap (λ (t : Span). before ++ UnexpectedEnd t ∷ []) s
+      ∙ ap (λ (p : ℕ). before ++ UnexpectedEnd (span p p) ∷ []) (sym at);
+}
+
+-- What is read of a `#` and the name behind it, by what is read of the name.
+record IsNamed (private name : Reading) : Type 0 where
+  pub kind : private.kind ≡ PrivateIdentifier
+  pub left : private.rest ≡ name.rest
+  pub escaped : private.escaped ≡ name.escaped
+  pub separator : private.has_separator ≡ name.has_separator
+  pub value : spelt_value private.value ≡ spelt_value name.value
+  pub diagnostics : private.diagnostics ≡ moved_diagnostics 1 name.diagnostics
+
+is_named : (text : List ℕ) → begins_name text ≡ true → IsNamed (behind_sign text) (name_reading text)
+unfolding items_reading private_name_of
+is_named text begun =
+    let items = name_items is_identifier_start text in
+    let read : behind_sign text ≡ private_name_of items (number_sign ∷ text) = rw begun refl in
+    subst (λ r. IsNamed r (name_reading text)) (sym read) (record {
+      kind = refl;
+      left = refl;
+      escaped = refl;
+      separator = refl;
+      value = name_value_told (contains_escape items) (items_value items) 1
+          (1 + length (encode_utf8_all (items_text items)))
+          ∙ sym (name_value_told (contains_escape items) (items_value items) 0
+          (length (encode_utf8_all (items_text items))));
+      diagnostics = items_report_moved 1 0 items;
+    })
+
+-- so what is reported is the same where it stands
+private_told : (start place : ℕ) (text : List ℕ) → begins_name text ≡ true → start + 1 ≡ place
+    → reported_at start (behind_sign text) ≡ reported_at place (name_reading text)
+private_told start place text begun at =
+    ap (moved_diagnostics start) (is_named text begun).diagnostics
+    ∙ moved_twice start 1 (name_reading text).diagnostics
+    ∙ ap (λ n. moved_diagnostics n (name_reading text).diagnostics) at
+
+-- a private name, of which the name was read
+pub private_spelled : (old new : At) (before after : List Diagnostic) (was now : TokenParts) (spelt : Spelt)
+    → begins_name (rest old) ≡ true → Spells (name_reading (rest old)) old.place old new before after was now spelt
+    → (start : ℕ) → start + 1 ≡ old.place
+    → Spells (behind_sign (rest old)) start old new before after was now
+    (record { kind = PrivateIdentifier; value = spelt.value })
+private_spelled old new before after was now spelt begun name start at =
+    let named = is_named (rest old) begun in
+    record {
+      read = record {
+        text = name.read.text;
+        kind_is = named.kind;
+        left = named.left ∙ name.read.left;
+        reports = name.read.reports
+            ∙ ap (λ ds. before ++ ds) (sym (private_told start old.place (rest old) begun at));
+      };
+      value = name.value ∙ sym named.value;
+      flags = name.flags
+          ∙ ap (λ e. record was { escaped = e; has_separator = (name_reading (rest old)).has_separator })
+          (sym named.escaped)
+          ∙ ap (λ s. record was { escaped = (behind_sign (rest old)).escaped; has_separator = s })
+          (sym named.separator);
+    }
+
+pub private_broken : (old new : At) (before after : List Diagnostic) → begins_name (rest old) ≡ true
+    → BreaksOff (reported_at old.place (name_reading (rest old))) old new before after
+    → (start : ℕ) → start + 1 ≡ old.place
+    → BreaksOff (reported_at start (behind_sign (rest old))) old new before after
+private_broken old new before after begun broken start at =
+    rw (private_told start old.place (rest old) begun at) broken
+
+-- a `#` that no name follows
+pub unnamed_spelled : (old mid new : At) (before after : List Diagnostic) (was now : TokenParts) (kind : Kind)
+    → begins_name (rest old) ≡ false → ReportsNoName old before after kind → new.text ≡ old.text → rest new ≡ []
+    → now ≡ record was { escaped = false; has_separator = false }
+    → (start : ℕ) → start + 1 ≡ old.place
+    → Spells (behind_sign (rest old)) start old new before after was now (record { kind = kind; value = Plain })
+unnamed_spelled old mid new before after was now kind none reported text end flags start at =
+    let read : behind_sign (rest old) ≡ unnamed kind (number_sign ∷ rest old) reported.report =
+    ap (λ b. if b then private_name_of (name_items is_identifier_start (rest old)) (number_sign ∷ rest old)
+    else no_private_name (number_sign ∷ rest old) (rest old)) none ∙ reported.read in
+    rw read (record {
+      read = record { text = text; kind_is = refl; left = sym end; reports = reported.reports start at };
+      value = refl;
+      flags = flags;
+    })
 
 -- where a character of the class is next, a name begins
 pub start_begins : (b : ℕ) (cs : List ℕ) → b < 128 → HasFirstByte b cs → is_identifier_start b ≡ true
@@ -488,16 +585,6 @@ no_start_begins b (c ∷ cs) first other = by_test (nat_lt c 128) refl
 -- a private name without an escape
 pub plain_private : (old new : At) (kind : Kind) → begins_name (rest old) ≡ true → SpellsPlainName old new kind
     → SpellsPlainPrivateName old new PrivateIdentifier
-plain_private old new kind begun spells errors token =
-    let name = spells errors token in
-    record {
-      decoded = name.decoded;
-      read = record {
-        text = name.read.text;
-        added = name.read.added;
-        reports = name.read.reports;
-        read = rw begun (ap named name.read.read);
-      };
-      flags = refl;
-      value = refl;
-    }
+plain_private old new kind begun spells start at errors token =
+    private_spelled old new errors errors token (record token { escaped = false; has_separator = false })
+    (record { kind = kind; value = Plain }) begun (spells errors token) start at

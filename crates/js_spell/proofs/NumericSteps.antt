@@ -14,7 +14,7 @@ use Rattle.js_source.specs.Source.{At, rest, HasFirstByte, Reads, IsPlaced}
 use Rattle.js_text.proofs.TextLemmas.{place_past}
 use Rattle.js_text.specs.declared.diagnostic.Diagnostic.{Diagnostic}
 use Rattle.std.specs.Str.{IsCharBoundary}
-use Rattle.js_grammar.specs.Outcome.{place_behind}
+use Rattle.js_grammar.specs.Reading.{place_behind}
 use Rattle.js_grammar.proofs.Reported.{place_behind-append}
 use Rattle.js_kind.specs.declared.kind.Kind.{Kind}
 use Rattle.js_kind.specs.declared.kind.Kind.TheVariants.{PositiveExponential, NegativeExponential, Float, DecimalBigInt}

@@ -24,12 +24,14 @@ use Rattle.js_grammar.proofs.NumberCuts.{NoPrefix, no_prefix_ended, no_prefix_su
 use Rattle.js_grammar.proofs.NumberItems.{true_or_false}
 use Rattle.js_spell.specs.Name.{TellsParts}
 use Rattle.js_spell.specs.Numeric.{TellsDigits, PassesDigits, PassesGroups, ReadsRun, ReadsInteger, ReadsPart, ReadsEnd}
-use Rattle.js_spell.specs.Numeric.{ReadsCut, SpellsNumber, MayGoOn, FollowsInteger, TakesExponentMark, TakesSign}
+use Rattle.js_spell.specs.Numeric.{ReadsCut, MayGoOn, FollowsInteger, TakesExponentMark, TakesSign}
 use Rattle.js_spell.specs.Numeric.{HasPrefix, base_of_prefix}
 use Rattle.js_spell.specs.declared.numeric.Prefix.{Prefix}
 use Rattle.js_spell.specs.declared.numeric.Passed.TheVariants.{Whole}
 use Rattle.js_spell.specs.declared.spelt.SpeltValue.TheVariants.{Plain}
-use Rattle.js_spell.proofs.EndSteps.{good_number_read}
+use Rattle.js_spell.proofs.EndSteps.{good_number_read, number_spells}
+use Rattle.js_spell.specs.Spells.{Spells}
+use Rattle.js_grammar.specs.NumberReads.{number_reading}
 use Rattle.js_spell.proofs.LeadSteps.{zero_leads, other_leads}
 use Rattle.js_spell.proofs.NumericSteps.{stops_digits, same, same_true, passes_whole, run_whole_read, integer_read}
 use Rattle.js_spell.proofs.NumericSteps.{fraction_read, exponent_read, behind_point_read}
@@ -251,13 +253,11 @@ decimal_cut old mid new errors kind h g items integer end =
 pub plain_number : (old new : At) (errors : List Diagnostic) (token : TokenParts) (kind : Kind)
     → ReadsCut old new errors errors false false kind (number_items (rest old))
     → begins may_not_follow_number (rest new) ≡ false
-    → SpellsNumber old new errors errors token (record token { escaped = false; has_separator = false })
-    (record { kind = kind; value = Plain })
-plain_number old new errors token kind cut ends = record {
-  read = good_number_read old new new errors errors errors false kind cut (ends, refl, refl);
-  flags = refl;
-  value = refl;
-}
+    → Spells (number_reading (rest old)) old.place old new errors errors token
+    (record token { escaped = false; has_separator = false }) (record { kind = kind; value = Plain })
+plain_number old new errors token kind cut ends =
+    number_spells old new errors errors token (record token { escaped = false; has_separator = false }) kind false
+    (good_number_read old new new errors errors errors false kind cut (ends, refl, refl)) refl
 
 -- the parts of names are those
 parts_are_followers

@@ -1,27 +1,20 @@
 -- What readers of angles and of parts of JSX give, and their steps.
-use Rattle.std.specs.Prelude.{◌≡◌, ℕ, ◌<◌, Bool, true, false, not, List, [], ◌∷◌, ◌++◌, ◌==◌, Some, None}
+use Rattle.std.specs.Prelude.{◌≡◌, ℕ, ◌<◌, Bool, true, false, not, List, [], ◌∷◌, ◌==◌, Some, None}
 use Rattle.std.specs.Prelude.{if◌then◌else◌, drop}
 use Rattle.std.specs.Option.{option_map_or}
 use Rattle.js_text.specs.Ascii.{apostrophe, equals_sign, greater_than_sign, quotation_mark}
 use Rattle.js_text.specs.Characters.{begins}
 use Rattle.js_text.specs.declared.diagnostic.Diagnostic.{Diagnostic}
 use Rattle.js_kind.specs.declared.kind.Kind.{Kind}
-use Rattle.js_kind.specs.declared.kind.Kind.TheVariants.{Ident}
-use Rattle.js_grammar.specs.Angle.{angle_read, right_angles}
-use Rattle.js_grammar.specs.GoalRead.{GoalRead}
-use Rattle.js_grammar.specs.Jsx.{ends_jsx_text, jsx_name_read, jsx_read, jsx_string_read}
+use Rattle.js_grammar.specs.Angle.{angle_reading, right_angles}
+use Rattle.js_grammar.specs.Jsx.{ends_jsx_text, jsx_name_reading, jsx_name_up_to, jsx_string_reading}
+use Rattle.js_grammar.specs.Reading.{Reading, read_up_to, reported_at}
+use Rattle.js_spell.specs.Spells.{ReadsAs}
 use Rattle.js_source.specs.Runs.{HasAscii}
 use Rattle.js_source.specs.Search.{matches_at}
 use Rattle.js_source.specs.Source.{At, rest, BeginsWith, Reads}
 use Rattle.js_spell.specs.declared.jsx.Text.{Text}
 use Rattle.js_spell.specs.declared.jsx.Text.TheVariants.{Child, DoubleQuoted, SingleQuoted}
-
--- A token of this kind was read.
-pub record SpellsGoal (read : GoalRead) (old new : At) (before after : List Diagnostic) (kind : Kind) : Type 0 where
-  pub text : new.text ≡ old.text
-  pub kind_is : read.kind ≡ kind
-  pub left : read.rest ≡ rest new
-  pub reports : after ≡ before ++ read.diagnostics
 
 -- a `=` was taken, if it is next, and this decides between the kinds
 abbrev pub equals_kind : Bool → Kind → Kind → Kind
@@ -35,14 +28,15 @@ pub record TakesEquals (old new : At) (alone assigned kind : Kind) : Type 0 wher
 -- The longest punctuator was read that begins with a `>`, behind this.
 pub record SpellsAngle (old new : At) (kind : Kind) : Type 0 where
   pub text : new.text ≡ old.text
-  pub read : angle_read right_angles (greater_than_sign ∷ rest old)
-      ≡ Some (record { kind = kind; rest = rest new; regex = None; diagnostics = [] })
+  pub read : angle_reading right_angles (greater_than_sign ∷ rest old)
+      ≡ Some (read_up_to kind (greater_than_sign ∷ rest old) (rest new))
 
 -- A name of JSX was read on; or it does not go on here.
 abbrev pub SpellsJsxName : At → At → Bool → Type 0
 SpellsJsxName old new true =
-    (new.text ≡ old.text) × (jsx_name_read (rest old) ≡ Some (jsx_read Ident (rest new) []))
-SpellsJsxName old new false = (new ≡ old) × (jsx_name_read (rest old) ≡ None)
+    (new.text ≡ old.text)
+    × ((part : List ℕ) → jsx_name_reading part (rest old) ≡ Some (jsx_name_up_to part (rest old) (rest new)))
+SpellsJsxName old new false = (new ≡ old) × ((part : List ℕ) → jsx_name_reading part (rest old) ≡ None)
 
 -- the characters that end a text
 abbrev pub ends_of : Text → ℕ → Bool
@@ -68,10 +62,10 @@ pub record TakesJsxQuote (old new : At) (within : Text) : Type 0 where
 
 -- The string of an attribute was read.
 pub record SpellsJsxString (old new : At) (before after : List Diagnostic) (kind : Kind) : Type 0 where
-  pub found : GoalRead
-  pub read : jsx_string_read old.place (rest old) ≡ Some found
-  pub spells : SpellsGoal found old new before after kind
+  pub found : Reading
+  pub read : jsx_string_reading (rest old) ≡ Some found
+  pub spells : ReadsAs found old.place old new before after kind
 
 -- what is reported of the string of an attribute that the text begins with, at the start
 abbrev pub jsx_string_reports : ℕ → List ℕ → List Diagnostic
-jsx_string_reports start text = option_map_or (λ (read : GoalRead). read.diagnostics) (jsx_string_read start text) []
+jsx_string_reports start text = option_map_or (reported_at start) (jsx_string_reading text) []

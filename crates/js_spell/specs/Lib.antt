@@ -5,4 +5,5 @@ pub mod Integer
 pub mod Name
 pub mod Numeric
 pub mod RegularExpression
+pub mod Spells
 pub mod Strings

@@ -1,19 +1,19 @@
 -- The steps of reading a name.
-use Rattle.std.specs.Prelude.{◌≡◌, ℕ, ◌<◌, Bool, true, false, List, [], ◌∷◌, ◌++◌, ◌==◌, map, length, Option, Some}
+use Rattle.std.specs.Prelude.{◌≡◌, ℕ, ◌+◌, ◌<◌, Bool, true, false, List, [], ◌∷◌, ◌++◌, ◌==◌, map, length, Option, Some}
 use Rattle.std.specs.Prelude.{None, option_to_list, drop, ◌⊎◌, nat_lt, ◌&&◌}
 use Rattle.std.specs.List.{list_any}
 use Rattle.std.specs.Str.{chars, encode_utf8_all, IsUtf8}
-use Rattle.js_text.specs.Ascii.{backslash}
+use Rattle.js_text.specs.Ascii.{backslash, number_sign}
 use Rattle.js_text.specs.Characters.{begins, from_first, is_identifier_start, is_identifier_part}
 use Rattle.js_text.specs.JsStr.{units_of}
 use Rattle.js_text.specs.declared.diagnostic.Diagnostic.{Diagnostic}
 use Rattle.js_grammar.specs.Name.{NameItem, NameFault, CutsInto, items_text, items_value, items_report, item_report}
-use Rattle.js_grammar.specs.Name.{is_no_part, plain_item, escape_item, item_of_escape, latin_small_letter_u, name_read}
-use Rattle.js_grammar.specs.Name.{private_read, name_item, name_items, no_private_name, unnamed}
+use Rattle.js_grammar.specs.Name.{is_no_part, plain_item, escape_item, item_of_escape, latin_small_letter_u}
+use Rattle.js_grammar.specs.Name.{name_reading}
+use Rattle.js_grammar.specs.Name.{private_reading, name_item, name_items, no_private_name, unnamed}
 use Rattle.js_grammar.specs.Name.NameFault.{bad_escape, not_allowed}
 use Rattle.js_grammar.specs.UnicodeEscape.{unicode_escape}
 use Rattle.js_kind.specs.Keywords.{name_kind}
-use Rattle.js_kind.specs.TokenParts.{TokenParts}
 use Rattle.js_kind.specs.declared.kind.Kind.{Kind}
 use Rattle.js_source.specs.Runs.{HasAscii}
 use Rattle.js_source.specs.Search.{matches_at}
@@ -23,8 +23,9 @@ use Rattle.js_spell.specs.declared.name.Decoding.TheVariants.{Character, NotAllo
 use Rattle.js_spell.specs.declared.name.Position.{Position}
 use Rattle.js_spell.specs.declared.name.Position.TheVariants.{First, Later}
 use Rattle.js_spell.specs.declared.spelt.Spelt.{Spelt}
-use Rattle.js_spell.specs.declared.spelt.SpeltValue.{SpeltValue}
-use Rattle.js_spell.specs.declared.spelt.SpeltValue.TheVariants.{Plain, Decoded}
+use Rattle.js_spell.specs.declared.spelt.SpeltValue.TheVariants.{Decoded}
+use Rattle.js_spell.specs.Spells.{SpellsPlainly}
+use Rattle.js_grammar.specs.Reading.{Reading, moved_diagnostic}
 
 -- the ASCII characters that are parts of names
 pub record TellsParts (table : List Bool) : Type 0 where
@@ -129,34 +130,9 @@ pub record SpellsDecoded (from : Position) (old new : At) (before after : List D
   pub kind : spelt.kind ≡ name_kind text
   pub value : spelt.value ≡ Decoded (units_of (chars text))
 
--- The name that is next was read, good or at fault.
-pub record ReadsName (old new : At) (before after : List Diagnostic) (has_escape : Bool) (decoded : List ℕ)
-    : Type 0 where
-  pub text : new.text ≡ old.text
-  pub added : List Diagnostic
-  pub reports : after ≡ before ++ added
-  pub read : name_read old.place (rest old)
-      ≡ record { rest = rest new; has_escape = has_escape; decoded = decoded; diagnostics = added }
-
--- the value of a spelling: a stretch of the source where it has no escape, and else the units of what it stands for
-abbrev pub HasValue : Bool → List ℕ → SpeltValue → Type 0
-HasValue false decoded value = value ≡ Plain
-HasValue true decoded value = value ≡ Decoded (units_of decoded)
-
--- A name was read: its kind and its value are those of what it stands for, and the flags of its token were set.
-pub record SpellsName (old new : At) (before after : List Diagnostic) (was now : TokenParts) (spelt : Spelt)
-    : Type 0 where
-  pub decoded : List ℕ
-  pub read : ReadsName old new before after now.escaped decoded
-  pub kind : spelt.kind ≡ name_kind (encode_utf8_all decoded)
-  pub flags : now ≡ record was { escaped = now.escaped; has_separator = false }
-  pub value : HasValue now.escaped decoded spelt.value
-
--- A name without an escape was read, of this kind: nothing is reported, and the flags of a token are not set.
+-- A name without an escape was read, of this kind.
 abbrev pub SpellsPlainName : At → At → Kind → Type 0
-SpellsPlainName old new kind =
-    (errors : List Diagnostic) (token : TokenParts) → SpellsName old new errors errors token
-    (record token { escaped = false; has_separator = false }) (record { kind = kind; value = Plain })
+SpellsPlainName old new kind = SpellsPlainly (name_reading (rest old)) old.place old new kind
 
 -- An escape begins the name, or stands behind its first characters.
 abbrev pub MeetsEscape : List ℕ → Type 0
@@ -167,35 +143,18 @@ MeetsEscape text =
 -- It was reported that no name follows a `#`; the token is of this kind.
 pub record ReportsNoName (old : At) (before after : List Diagnostic) (kind : Kind) : Type 0 where
   pub report : Diagnostic
-  pub reports : after ≡ before ++ report ∷ []
-  pub read : no_private_name old.place (rest old) ≡ unnamed kind report
+  pub read : no_private_name (number_sign ∷ rest old) (rest old) ≡ unnamed kind (number_sign ∷ rest old) report
+  pub reports : (start : ℕ) → start + 1 ≡ old.place → after ≡ before ++ moved_diagnostic start report ∷ []
 
--- What follows a `#` was read, a name or none.
-pub record ReadsPrivateName (old new : At) (before after : List Diagnostic) (kind : Kind) (has_escape : Bool)
-    (decoded : List ℕ)
-    : Type 0 where
-  pub text : new.text ≡ old.text
-  pub added : List Diagnostic
-  pub reports : after ≡ before ++ added
-  pub read : private_read old.place (rest old)
-      ≡ record { kind = kind; rest = rest new; has_escape = has_escape; decoded = decoded; diagnostics = added }
-
--- A private name was read, or a `#` that no name follows: its value leaves `#` out, and the flags of its token were
--- set.
-pub record SpellsPrivateName (old new : At) (before after : List Diagnostic) (was now : TokenParts) (spelt : Spelt)
-    : Type 0 where
-  pub decoded : List ℕ
-  pub read : ReadsPrivateName old new before after spelt.kind now.escaped decoded
-  pub flags : now ≡ record was { escaped = now.escaped; has_separator = false }
-  pub value : HasValue now.escaped decoded spelt.value
+-- what is read of a `#` that this follows
+abbrev pub behind_sign : List ℕ → Reading
+behind_sign text = private_reading (number_sign ∷ text)
 
 -- No ASCII character that begins a name is next, or an escape stands in the name.
 abbrev pub MeetsNoPlainName : List ℕ → Type 0
 MeetsNoPlainName text = (begins (λ c. nat_lt c 128 && is_identifier_start c) text ≡ false) ⊎ MeetsEscape text
 
--- A private name without an escape was read behind its `#`, of this kind: nothing is reported, and the flags of a token
--- are not set.
+-- A private name without an escape was read behind its `#`, of this kind.
 abbrev pub SpellsPlainPrivateName : At → At → Kind → Type 0
 SpellsPlainPrivateName old new kind =
-    (errors : List Diagnostic) (token : TokenParts) → SpellsPrivateName old new errors errors token
-    (record token { escaped = false; has_separator = false }) (record { kind = kind; value = Plain })
+    (start : ℕ) → start + 1 ≡ old.place → SpellsPlainly (behind_sign (rest old)) start old new kind

@@ -10,7 +10,7 @@ use Rattle.js_source.specs.Source.{At, rest, Reads}
 use Rattle.js_grammar.specs.Number.{Item, Base, may_not_follow_number, base_of, digit_zero, whole, broken, digits_on}
 use Rattle.js_grammar.specs.Number.{run, integer, are_digits, is_exponent_mark, sign_text, sign_kind}
 use Rattle.js_kind.specs.Digits.{is_digit_of}
-use Rattle.js_grammar.specs.NumberReads.{Items, number_read, invalid_number_end, number_items, legacy_items}
+use Rattle.js_grammar.specs.NumberReads.{Items, number_reading, invalid_number_end, number_items, legacy_items}
 use Rattle.js_grammar.specs.NumberReads.{decimal_items, behind_prefix, plain_digits, sign_of, items_text}
 use Rattle.js_grammar.specs.NumberReads.{contains_separator, missing_digits, base_at}
 use Rattle.js_kind.specs.declared.kind.Kind.{Kind}
@@ -21,9 +21,7 @@ use Rattle.js_spell.specs.declared.numeric.Prefix.TheVariants as Prefixes
 use Rattle.js_kind.specs.declared.kind.Kind.TheVariants as kinds
 use Rattle.js_spell.specs.declared.numeric.Lead.{Lead}
 use Rattle.js_spell.specs.declared.numeric.Lead.TheVariants.{Prefix as LedByPrefix, Legacy, Decimal as DecimalLead}
-use Rattle.js_kind.specs.TokenParts.{TokenParts}
-use Rattle.js_spell.specs.declared.spelt.Spelt.{Spelt}
-use Rattle.js_spell.specs.declared.spelt.SpeltValue.TheVariants.{Plain}
+use Rattle.js_spell.specs.Spells.{ReadsAs, SpellsPlainly}
 use Rattle.js_spell.specs.declared.numeric.Passed.{Passed}
 use Rattle.js_spell.specs.declared.numeric.Passed.TheVariants.{Whole, Separator, Broken}
 
@@ -141,18 +139,8 @@ ReadsBadEnd old new before after true =
 -- The number that is next was read, good or at fault.
 pub record ReadsNumber (old new : At) (before after : List Diagnostic) (kind : Kind)
     (has_separator : Bool) : Type 0 where
-  pub text : new.text ≡ old.text
-  pub added : List Diagnostic
-  pub reports : after ≡ before ++ added
-  pub read : number_read old.place (rest old)
-      ≡ record { kind = kind; rest = rest new; has_separator = has_separator; diagnostics = added }
-
--- A number was read: the flags of its token were set, and its value is a stretch of the source.
-pub record SpellsNumber (old new : At) (before after : List Diagnostic) (was now : TokenParts) (spelt : Spelt)
-    : Type 0 where
-  pub read : ReadsNumber old new before after spelt.kind now.has_separator
-  pub flags : now ≡ record was { escaped = false; has_separator = now.has_separator }
-  pub value : spelt.value ≡ Plain
+  pub read : ReadsAs (number_reading (rest old)) old.place old new before after kind
+  pub separator : (number_reading (rest old)).has_separator ≡ has_separator
 
 -- what a prefix says
 abbrev pub base_of_prefix : Prefix → Base
@@ -196,12 +184,9 @@ Leads (LedByPrefix prefix) text = HasPrefix prefix text
 Leads Legacy text = number_items text ≡ legacy_items text
 Leads DecimalLead text = number_items text ≡ decimal_items text
 
--- A number was read without a separator and without a fault, of this kind: nothing is reported, and the flags of a
--- token are not set.
+-- A number was read without a separator and without a fault, of this kind.
 abbrev pub SpellsPlainNumber : At → At → Kind → Type 0
-SpellsPlainNumber old new kind =
-    (errors : List Diagnostic) (token : TokenParts) → SpellsNumber old new errors errors token
-    (record token { escaped = false; has_separator = false }) (record { kind = kind; value = Plain })
+SpellsPlainNumber old new kind = SpellsPlainly (number_reading (rest old)) old.place old new kind
 
 -- A character is next that may not follow a number, or one past ASCII.
 abbrev pub MayGoOn : List ℕ → Type 0

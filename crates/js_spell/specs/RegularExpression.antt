@@ -2,14 +2,17 @@
 use Rattle.std.specs.Prelude.{◌≡◌, ℕ, ◌+◌, ◌<◌, ◌≤◌, Bool, true, false, not, List, [], ◌∷◌, ◌++◌, length, ◌==◌, ◌||◌}
 use Rattle.std.specs.Prelude.{drop, Option, Some, None}
 use Rattle.js_text.specs.Ascii.{backslash, slash}
-use Rattle.js_text.specs.Characters.{begins, from_first, is_line_terminator}
+use Rattle.js_text.specs.Characters.{begins, before_first, from_first, is_line_terminator}
 use Rattle.js_text.specs.declared.diagnostic.Diagnostic.{Diagnostic}
 use Rattle.js_text.specs.declared.diagnostic.Diagnostic.TheVariants.{UnterminatedRegExp}
 use Rattle.js_text.specs.declared.reg_exp_flags.RegExpFlags.{RegExpFlags}
 use Rattle.js_text.specs.declared.reg_exp_flags.RegexInfo.{RegexInfo}
-use Rattle.js_grammar.specs.GoalRead.{GoalRead}
+use Rattle.js_grammar.specs.Reading.{Reading, moved_regex, reported_at}
+use Rattle.std.specs.Option.{option_map}
 use Rattle.js_grammar.specs.RegularExpression.{behind_all, behind_body, behind_body_character, behind_class}
-use Rattle.js_grammar.specs.RegularExpression.{behind_class_character, is_any, is_flag_character, left_square_bracket}
+use Rattle.js_grammar.specs.RegularExpression.{behind_class_character, ends_flags, flag_reports, is_any}
+use Rattle.js_grammar.specs.RegularExpression.{is_flag_character}
+use Rattle.js_grammar.specs.RegularExpression.{left_square_bracket, with_letters}
 use Rattle.js_grammar.specs.RegularExpression.{letter_reports, no_flags, right_square_bracket, with_letter}
 use Rattle.js_grammar.specs.StringItems.{stretch}
 use Rattle.js_source.specs.Runs.{HasAscii}
@@ -113,10 +116,27 @@ pub record BreaksLine (start : ℕ) (old new : At) (before after : List Diagnost
   pub nothing : rest new ≡ []
   pub info_is : info ≡ record { pattern_end = new.place; flags = no_flags; flags_error = false }
 
--- A regular expression was read.
-pub record SpellsExpression (read : GoalRead) (old new : At) (before after : List Diagnostic) (info : RegexInfo)
+-- what is reported of the flags that are next, of a regular expression whose pattern ends at the place
+abbrev pub flags_told : ℕ → List ℕ → List Diagnostic
+flags_told pattern_end text = flag_reports no_flags (pattern_end + 1) (before_first ends_flags text)
+
+-- A regular expression that begins at the start was read, and this is what is known of it.
+pub record SpellsExpression (reading : Reading) (start : ℕ) (old new : At) (before after : List Diagnostic)
+    (info : RegexInfo) : Type 0 where
+  pub text : new.text ≡ old.text
+  pub left : reading.rest ≡ rest new
+  pub reports : after ≡ before ++ reported_at start reading
+  pub info_is : option_map (moved_regex start) reading.regex ≡ Some info
+
+-- The flags of a regular expression were read, whose pattern ends at the place.
+pub record SpellsFlags (pattern_end : ℕ) (old new : At) (before after : List Diagnostic) (info : RegexInfo)
     : Type 0 where
   pub text : new.text ≡ old.text
-  pub left : read.rest ≡ rest new
-  pub reports : after ≡ before ++ read.diagnostics
-  pub info_is : read.regex ≡ Some info
+  pub left : from_first ends_flags (rest old) ≡ rest new
+  pub reports : after ≡ before ++ flags_told pattern_end (rest old)
+  pub info_is : info
+      ≡ record {
+        pattern_end = pattern_end;
+        flags = with_letters no_flags (before_first ends_flags (rest old));
+        flags_error = is_any (flags_told pattern_end (rest old));
+      }

@@ -8,15 +8,15 @@ use Rattle.js_text.specs.Characters.{begins}
 use Rattle.js_text.specs.JsStr.{units_of}
 use Rattle.js_text.specs.declared.diagnostic.Diagnostic.{Diagnostic}
 use Rattle.js_text.specs.declared.diagnostic.Diagnostic.TheVariants.{UnterminatedString}
-use Rattle.js_kind.specs.TokenParts.{TokenParts}
 use Rattle.js_kind.specs.declared.kind.Kind.{Kind}
 use Rattle.js_grammar.specs.Gap.{is_prefix}
-use Rattle.js_grammar.specs.StringItems.{StringItem, StringValue, StringRead, string_item, ends_string}
+use Rattle.js_grammar.specs.StringItems.{StringItem, StringValue, string_item, ends_string}
 use Rattle.js_grammar.specs.StringItems.{all_items, items_before, string_text, string_units, contains_escape}
 use Rattle.js_grammar.specs.StringItems.{contains_bad_escape}
-use Rattle.js_grammar.specs.StringItems.{are_good, item_reports, stretch, string_read}
+use Rattle.js_grammar.specs.StringItems.{are_good, item_reports, stretch}
 use Rattle.js_grammar.specs.StringItems.StringValue.{no_value, units, bad_value}
-use Rattle.js_grammar.specs.Template.{template_item, template_value, template_part_read}
+use Rattle.js_grammar.specs.Template.{template_item, template_value, template_part_reading}
+use Rattle.js_grammar.specs.Quoted.{quoted_reading}
 use Rattle.js_source.specs.Runs.{HasAscii}
 use Rattle.js_source.specs.Search.{matches_at}
 use Rattle.js_source.specs.Source.{At, rest, Reads}
@@ -26,7 +26,7 @@ use Rattle.js_spell.specs.declared.items.Mark.{Mark}
 use Rattle.js_spell.specs.declared.items.Mark.TheVariants.{Escape, CarriageReturn, End}
 use Rattle.js_spell.specs.declared.template.PartEnd.{PartEnd}
 use Rattle.js_spell.specs.declared.template.PartEnd.TheVariants.{Tail, Substitution, Missing}
-use Rattle.js_spell.specs.declared.spelt.Spelt.{Spelt}
+use Rattle.js_spell.specs.Spells.{SpellsPlainly}
 use Rattle.js_spell.specs.declared.spelt.SpeltValue.{SpeltValue}
 use Rattle.js_spell.specs.declared.spelt.SpeltValue.TheVariants.{Plain, Decoded, Bad}
 
@@ -128,11 +128,11 @@ items_told literal start at =
     item_reports (in_template literal) start at.place (all_items (item_of literal) (rest at)).items
 
 -- where the value is, by the escaped flag of its token
-abbrev pub spelt_value : Bool → StringValue → SpeltValue
-spelt_value false value = Plain
-spelt_value true no_value = Plain
-spelt_value true (units us) = Decoded us
-spelt_value true bad_value = Bad
+abbrev pub told_value : Bool → StringValue → SpeltValue
+told_value false value = Plain
+told_value true no_value = Plain
+told_value true (units us) = Decoded us
+told_value true bad_value = Bad
 
 -- All items that are next were read.
 pub record ReadsValue (literal : Literal) (start : ℕ) (old new : At) (before after : List Diagnostic)
@@ -142,7 +142,7 @@ pub record ReadsValue (literal : Literal) (start : ℕ) (old new : At) (before a
   pub here : rest old ≡ string_text items ++ rest new
   pub found : all_items (item_of literal) (rest old) ≡ record { items = items; rest = rest new }
   pub reports : after ≡ before ++ item_reports (in_template literal) start old.place items
-  pub value_is : value ≡ spelt_value (contains_escape items) (value_of literal items)
+  pub value_is : value ≡ told_value (contains_escape items) (value_of literal items)
 
 -- what was missing at the end of a token is reported, and the next character taken, if there is one
 pub record Unterminated (start : ℕ) (old new : At) (before after : List Diagnostic) : Type 0 where
@@ -155,18 +155,6 @@ abbrev pub EndsString : ℕ → ℕ → At → At → List Diagnostic → List D
 EndsString quote start old new before after true = Reads old new quote × (after ≡ before)
 EndsString quote start old new before after false =
     (begins (λ c. c == quote) (rest old) ≡ false) × Unterminated start old new before after
-
--- What was read of a string or a part of a template: the flags of its token were set, and its value is where the
--- escaped flag says.
-pub record Spells (read : StringRead) (old new : At) (before after : List Diagnostic) (was now : TokenParts)
-    (spelt : Spelt) : Type 0 where
-  pub text : new.text ≡ old.text
-  pub kind : read.kind ≡ spelt.kind
-  pub left : read.rest ≡ rest new
-  pub escaped : read.escaped ≡ now.escaped
-  pub value : spelt.value ≡ spelt_value read.escaped read.value
-  pub reports : after ≡ before ++ read.diagnostics
-  pub flags : now ≡ record was { escaped = now.escaped; has_separator = false }
 
 -- the value is no stretch of the source
 abbrev pub is_elsewhere : SpeltValue → Bool
@@ -204,25 +192,9 @@ is_end End = true
 abbrev pub decoded_value : Literal → Bool → List ℕ → SpeltValue
 decoded_value literal has_bad us = if has_bad && in_template literal then Bad else Decoded us
 
--- what is reported of the string that the text begins with, at the start
-abbrev pub string_reports : ℕ → List ℕ → List Diagnostic
-string_reports start [] = []
-string_reports start (quote ∷ behind) = (string_read quote start behind).diagnostics
-
--- The string that is next was read, good or at fault.
-pub record SpellsString (start : ℕ) (old new : At) (before after : List Diagnostic) (was now : TokenParts)
-    (spelt : Spelt) : Type 0 where
-  pub quote : ℕ
-  pub behind : List ℕ
-  pub here : rest old ≡ quote ∷ behind
-  pub spells : Spells (string_read quote start behind) old new before after was now spelt
-
--- A string without an escape was read, of this kind: nothing is reported, and the flags of a token are not set.
+-- A string without an escape was read, of this kind.
 abbrev pub SpellsPlainString : At → At → Kind → Type 0
-SpellsPlainString old new kind =
-    (errors : List Diagnostic) (token : TokenParts) → token.start ≡ old.place
-    → SpellsString token.start old new errors errors token (record token { escaped = false; has_separator = false })
-    (record { kind = kind; value = Plain })
+SpellsPlainString old new kind = SpellsPlainly (quoted_reading (rest old)) old.place old new kind
 
 -- An escape stands in the string that begins with the quote, or the quote that would end it is missing.
 pub record MeetsNoQuote (quote : ℕ) (text : List ℕ) : Type 0 where
@@ -233,13 +205,11 @@ pub record MeetsNoQuote (quote : ℕ) (text : List ℕ) : Type 0 where
   pub all : plain_here literal left ≡ false
   pub none : begins (λ c. c == quote) left ≡ false
 
--- A part of a template was read without an escape and without a CR, of this kind: nothing is reported, and the flags of
--- a token are not set.
+-- A part of a template was read behind its mark without an escape and without a CR, of this kind.
 abbrev pub SpellsPlainPart : Kind → Kind → At → At → Kind → Type 0
 SpellsPlainPart substitute tail old new kind =
-    (errors : List Diagnostic) (token : TokenParts) → token.start + 1 ≡ old.place
-    → Spells (template_part_read substitute tail token.start (rest old)) old new errors errors token
-    (record token { escaped = false; has_separator = false }) (record { kind = kind; value = Plain })
+    (opening start : ℕ) → start + 1 ≡ old.place
+    → SpellsPlainly (template_part_reading substitute tail (opening ∷ rest old)) start old new kind
 
 -- An escape or a CR stands in the part of a template, or the mark that would end it is missing.
 pub record MeetsNoPartEnd (text : List ℕ) : Type 0 where

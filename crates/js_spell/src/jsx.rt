@@ -2,10 +2,12 @@
 
 ghost use Rattle.std.specs.Prelude.{◌≡◌, ◌==◌, ◌≤◌, true, IfOk, IfNone, IfSome, OnErr, []};
 ghost use Rattle.js_text.specs.Characters.{begins, from_first};
-ghost use Rattle.js_grammar.specs.Jsx.{begins_child, ends_jsx_name, jsx_child_read, jsx_text_read};
+ghost use Rattle.js_grammar.specs.Jsx.{begins_child, ends_jsx_name, jsx_child_reading, jsx_text_reading};
+ghost use Rattle.js_grammar.specs.Reading.{reported_at};
 ghost use Rattle.js_grammar.specs.StringItems.{is_quote};
 ghost use Rattle.js_source.specs.Source.{rest, IsPlaced};
-ghost use Rattle.js_spell.specs.Goals.{SpellsGoal, SpellsJsxName, SpellsJsxString, StopsAt, TakesJsxQuote, TellsText};
+ghost use Rattle.js_spell.specs.Spells.{ReadsAs};
+ghost use Rattle.js_spell.specs.Goals.{SpellsJsxName, SpellsJsxString, StopsAt, TakesJsxQuote, TellsText};
 ghost use Rattle.js_spell.specs.Goals.{ends_of, jsx_string_reports};
 ghost use Rattle.js_spell.specs.Breaks.{BreaksOff};
 
@@ -162,7 +164,7 @@ fn begins_child(b: u8) -> bool
 /// Reads the text of a child.
 fn read_jsx_text(source: &mut Source<'_>, errors: &mut DiagnosticList) -> Result<Kind, AllocError>
     requires { IsPlaced source.old }
-    ensures ok { IfOk result (SpellsGoal (jsx_text_read source.old.place (rest source.old)) source.old source.new
+    ensures ok { IfOk result (ReadsAs (jsx_text_reading (rest source.old)) source.old.place source.old source.new
         errors.old errors.new) }
     ensures err { OnErr result (BreaksOff [] source.old source.new errors.old errors.new) }
     ensures placed { IsPlaced source.new }
@@ -188,9 +190,9 @@ pub fn read_jsx_child(
     errors: &mut DiagnosticList,
 ) -> Result<Kind, AllocError>
     requires { IsPlaced source.old }
-    ensures ok { IfOk result (SpellsGoal (jsx_child_read source.old.place (rest source.old)) source.old source.new
+    ensures ok { IfOk result (ReadsAs (jsx_child_reading (rest source.old)) source.old.place source.old source.new
         errors.old errors.new) }
-    ensures err { OnErr result (BreaksOff (jsx_child_read source.old.place (rest source.old)).diagnostics
+    ensures err { OnErr result (BreaksOff (reported_at source.old.place (jsx_child_reading (rest source.old)))
         source.old source.new errors.old errors.new) }
     ensures placed { IsPlaced source.new }
 {

@@ -1,18 +1,21 @@
 //! Reading a name or a private name, good or at fault (ECMA-262 12.7).
 
-ghost use Rattle.std.specs.Prelude.{◌≡◌, ◌≤◌, ◌<◌, ◌==◌, ◌++◌, [], length, Bool, true, IfOk, IfSome, IfNone, OnOk};
+ghost use Rattle.std.specs.Prelude.{◌≡◌, ◌+◌, ◌≤◌, ◌<◌, ◌==◌, ◌++◌, [], length, Bool, true, IfOk, IfSome, IfNone, OnOk};
 ghost use Rattle.std.specs.Prelude.{OnErr, MatchBool, MatchOption, string_bytes, drop, false, ◌⊎◌, List, ℕ};
 ghost use Rattle.std.specs.Char.Utf16.{is_low_surrogate};
 ghost use Rattle.std.specs.Str.{chars, IsCharBoundary};
 ghost use Rattle.js_text.specs.Ascii.{backslash};
 ghost use Rattle.js_text.specs.Characters.{begins, from_place, from_first, is_identifier_part, is_identifier_start};
 ghost use Rattle.js_text.specs.JsStr.{units_of};
-ghost use Rattle.js_grammar.specs.Name.{begins_name, is_no_part, low_surrogate_escape, name_read, private_read};
+ghost use Rattle.js_grammar.specs.Name.{begins_name, is_no_part, low_surrogate_escape, name_reading};
+ghost use Rattle.js_grammar.specs.Reading.{reported_at};
+ghost use Rattle.js_spell.specs.Name.{behind_sign};
+ghost use Rattle.js_spell.specs.Spells.{Spells};
 ghost use Rattle.js_kind.specs.Keywords.{name_kind};
 ghost use Rattle.js_source.specs.Source.{rest, IsPlaced, BeginsWith, HasFirstByte};
 ghost use Rattle.js_spell.specs.Name.{class_of, PassesPlain, DecodesEscape, DecodesUnicode, ReadsEscape, ReadsItems};
-ghost use Rattle.js_spell.specs.Name.{PassesParts, ReadsToEnd, SpellsDecoded, SpellsName, ReportsNoName};
-ghost use Rattle.js_spell.specs.Name.{SpellsPlainName, MeetsEscape, SpellsPrivateName, SpellsPlainPrivateName};
+ghost use Rattle.js_spell.specs.Name.{PassesParts, ReadsToEnd, SpellsDecoded, ReportsNoName};
+ghost use Rattle.js_spell.specs.Name.{SpellsPlainName, MeetsEscape, SpellsPlainPrivateName};
 ghost use Rattle.js_spell.specs.Name.{MeetsNoPlainName, TellsParts, items_told};
 ghost use Rattle.js_spell.specs.Breaks.{BreaksOff};
 ghost use Rattle.js_spell.specs.declared.name.Position.TheVariants.{Later};
@@ -372,8 +375,9 @@ pub fn read_name(
     requires placed { IsPlaced source.old }
     requires begun { begins_name (rest source.old) ≡ true }
     ensures ok { IfOk result (λ spelt.
-        SpellsName source.old source.new errors.old errors.new token.old token.new spelt) }
-    ensures err { OnErr result (BreaksOff (name_read source.old.place (rest source.old)).diagnostics
+        Spells (name_reading (rest source.old)) source.old.place source.old source.new errors.old errors.new token.old
+        token.new spelt) }
+    ensures err { OnErr result (BreaksOff (reported_at source.old.place (name_reading (rest source.old)))
         source.old source.new errors.old errors.new) }
     ensures token { OnErr result (token.new ≡ token.old) }
     ensures placed { IsPlaced source.new }
@@ -582,10 +586,11 @@ pub fn read_private_name(
     token: &mut Token,
 ) -> Result<Spelt, AllocError>
     requires { IsPlaced source.old }
-    ensures ok { IfOk result (λ spelt.
-        SpellsPrivateName source.old source.new errors.old errors.new token.old token.new spelt) }
-    ensures err { OnErr result (BreaksOff (private_read source.old.place (rest source.old)).diagnostics
-        source.old source.new errors.old errors.new) }
+    ensures ok { IfOk result (λ spelt. (start : ℕ) → start + 1 ≡ source.old.place
+        → Spells (behind_sign (rest source.old)) start source.old source.new errors.old errors.new token.old token.new
+        spelt) }
+    ensures err { OnErr result ((start : ℕ) → start + 1 ≡ source.old.place
+        → BreaksOff (reported_at start (behind_sign (rest source.old))) source.old source.new errors.old errors.new) }
     ensures token { OnErr result (token.new ≡ token.old) }
     ensures placed { IsPlaced source.new }
 {

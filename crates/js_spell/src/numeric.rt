@@ -7,12 +7,14 @@ ghost use Rattle.js_grammar.specs.Number.{is_exponent_mark, may_not_follow_numbe
 ghost use Rattle.js_kind.specs.Digits.{is_digit_of};
 ghost use Rattle.js_grammar.specs.NumberReads.{missing_digit, exponent_or, fraction_items, behind_digits};
 ghost use Rattle.js_grammar.specs.NumberReads.{decimal_items, legacy_items, number_items, is_no_start, missing_digits};
-ghost use Rattle.js_grammar.specs.NumberReads.{number_read};
+ghost use Rattle.js_grammar.specs.NumberReads.{number_reading};
+ghost use Rattle.js_grammar.specs.Reading.{reported_at};
+ghost use Rattle.js_spell.specs.Spells.{Spells};
 ghost use Rattle.js_source.specs.Source.{rest, IsPlaced};
 ghost use Rattle.js_spell.specs.Numeric.{radix_of_digits, PassesDigits, PassesPlainDigits, PassesGroups, end_of};
 ghost use Rattle.js_spell.specs.Breaks.{BreaksOff};
 ghost use Rattle.js_spell.specs.Numeric.{ReadsRun, ReadsPart, ReadsInteger, ReadsEnd, ReadsCut, ReadsBadEnd};
-ghost use Rattle.js_spell.specs.Numeric.{ReadsNumber, SpellsNumber, LeadsWith, Leads, base_of_prefix, behind_base};
+ghost use Rattle.js_spell.specs.Numeric.{ReadsNumber, LeadsWith, Leads, base_of_prefix, behind_base};
 ghost use Rattle.js_spell.specs.Numeric.{TakesExponentMark};
 ghost use Rattle.js_spell.specs.Numeric.{TakesSign};
 
@@ -476,7 +478,7 @@ fn read_numeral(source: &mut Source<'_>, errors: &mut DiagnosticList) -> Result<
     requires { IsPlaced source.old }
     ensures ok { IfOk result (λ numeral.
         ReadsNumber source.old source.new errors.old errors.new numeral.kind numeral.has_separator) }
-    ensures err { OnErr result (BreaksOff (number_read source.old.place (rest source.old)).diagnostics
+    ensures err { OnErr result (BreaksOff (reported_at source.old.place (number_reading (rest source.old)))
         source.old source.new errors.old errors.new) }
     ensures placed { IsPlaced source.new }
 {
@@ -505,8 +507,9 @@ pub fn read_number(
 ) -> Result<Spelt, AllocError>
     requires { IsPlaced source.old }
     ensures ok { IfOk result (λ spelt.
-        SpellsNumber source.old source.new errors.old errors.new token.old token.new spelt) }
-    ensures err { OnErr result (BreaksOff (number_read source.old.place (rest source.old)).diagnostics
+        Spells (number_reading (rest source.old)) source.old.place source.old source.new errors.old errors.new token.old
+        token.new spelt) }
+    ensures err { OnErr result (BreaksOff (reported_at source.old.place (number_reading (rest source.old)))
         source.old source.new errors.old errors.new) }
     ensures token { OnErr result (token.new ≡ token.old) }
     ensures placed { IsPlaced source.new }

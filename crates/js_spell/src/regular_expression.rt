@@ -5,11 +5,13 @@ ghost use Rattle.std.specs.Prelude.{IfNone, IfSome, ◌==◌};
 ghost use Rattle.js_text.specs.Ascii.{backslash};
 ghost use Rattle.js_text.specs.Characters.{begins, is_line_terminator};
 ghost use Rattle.js_grammar.specs.RegularExpression.{is_flag_character};
-ghost use Rattle.js_grammar.specs.RegularExpression.{regular_expression, with_flags_behind};
+ghost use Rattle.js_grammar.specs.Reading.{reported_at};
+ghost use Rattle.js_grammar.specs.RegularExpression.{regular_expression};
 ghost use Rattle.js_source.specs.Source.{rest, IsPlaced, BeginsWith};
 ghost use Rattle.js_spell.specs.Breaks.{BreaksOff};
 ghost use Rattle.js_spell.specs.RegularExpression.{PassesParts, StopIs, TellsCharacters, marks, PassesBackslash};
 ghost use Rattle.js_spell.specs.RegularExpression.{AddsLetter, BreaksLine, PassesClass, PassesBody, SpellsExpression};
+ghost use Rattle.js_spell.specs.RegularExpression.{SpellsFlags, flags_told};
 ghost use Rattle.js_spell.specs.RegularExpression.{TakesLetter};
 
 use crate::items::either;
@@ -292,9 +294,9 @@ fn read_flags(
 ) -> Result<RegexInfo, AllocError>
     requires placed { IsPlaced source.old }
     requires behind { pattern_end + 1 ≡ source.old.place }
-    ensures ok { IfOk result (SpellsExpression (with_flags_behind pattern_end (rest source.old)) source.old source.new
+    ensures ok { IfOk result (SpellsFlags pattern_end source.old source.new
         errors.old errors.new) }
-    ensures err { OnErr result (BreaksOff (with_flags_behind pattern_end (rest source.old)).diagnostics
+    ensures err { OnErr result (BreaksOff (flags_told pattern_end (rest source.old))
         source.old source.new errors.old errors.new) }
     ensures placed { IsPlaced source.new }
 {
@@ -347,9 +349,9 @@ pub fn read_regular_expression(
 ) -> Result<RegexInfo, AllocError>
     requires placed { IsPlaced source.old }
     requires start { start + 1 ≡ source.old.place }
-    ensures ok { IfOk result (SpellsExpression (regular_expression start (rest source.old)) source.old source.new
+    ensures ok { IfOk result (SpellsExpression (regular_expression (rest source.old)) start source.old source.new
         errors.old errors.new) }
-    ensures err { OnErr result (BreaksOff (regular_expression start (rest source.old)).diagnostics
+    ensures err { OnErr result (BreaksOff (reported_at start (regular_expression (rest source.old)))
         source.old source.new errors.old errors.new) }
     ensures placed { IsPlaced source.new }
 {

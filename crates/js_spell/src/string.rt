@@ -2,10 +2,13 @@
 
 ghost use Rattle.std.specs.Prelude.{◌≡◌, ◌<◌, ◌≤◌, [], true, false, IfOk, IfNone, IfSome, OnErr};
 ghost use Rattle.js_text.specs.Characters.{begins};
+ghost use Rattle.js_grammar.specs.Quoted.{quoted_reading};
+ghost use Rattle.js_grammar.specs.Reading.{reported_at};
 ghost use Rattle.js_grammar.specs.StringItems.{is_quote};
 ghost use Rattle.js_source.specs.Source.{rest, IsPlaced, Reads, HasFirstByte};
 ghost use Rattle.js_spell.specs.Breaks.{BreaksOff};
-ghost use Rattle.js_spell.specs.Strings.{in_template, quote_of, TakesQuote, EndsString, SpellsString, string_reports};
+ghost use Rattle.js_spell.specs.Spells.{Spells};
+ghost use Rattle.js_spell.specs.Strings.{in_template, quote_of, TakesQuote, EndsString};
 ghost use Rattle.js_spell.specs.Strings.{SpellsPlainString, MeetsNoQuote};
 
 use crate::escape::report_unterminated;
@@ -76,9 +79,9 @@ pub fn read_string(
     requires placed { IsPlaced source.old }
     requires quote { begins is_quote (rest source.old) ≡ true }
     requires start { token.old.start ≡ source.old.place }
-    ensures ok { IfOk result (SpellsString token.old.start
+    ensures ok { IfOk result (Spells (quoted_reading (rest source.old)) token.old.start
         source.old source.new errors.old errors.new token.old token.new) }
-    ensures err { OnErr result (BreaksOff (string_reports token.old.start (rest source.old))
+    ensures err { OnErr result (BreaksOff (reported_at token.old.start (quoted_reading (rest source.old)))
         source.old source.new errors.old errors.new) }
     ensures token { OnErr result (token.new ≡ token.old) }
     ensures placed { IsPlaced source.new }

@@ -1,10 +1,12 @@
 //! Reading the parts of templates (ECMA-262 12.9.6).
 
-ghost use Rattle.std.specs.Prelude.{◌≡◌, ◌+◌, ◌≤◌, ◌==◌, [], IfOk, IfNone, IfSome, OnErr};
+ghost use Rattle.std.specs.Prelude.{◌≡◌, ℕ, ◌+◌, ◌≤◌, ◌==◌, [], ◌∷◌, IfOk, IfNone, IfSome, OnErr};
 ghost use Rattle.js_source.specs.Source.{rest, IsPlaced};
-ghost use Rattle.js_grammar.specs.Template.{template_part_read};
+ghost use Rattle.js_grammar.specs.Reading.{reported_at};
+ghost use Rattle.js_grammar.specs.Template.{template_part_reading};
 ghost use Rattle.js_spell.specs.Breaks.{BreaksOff};
-ghost use Rattle.js_spell.specs.Strings.{EndsPart, Spells, SpellsPlainPart, MeetsNoPartEnd};
+ghost use Rattle.js_spell.specs.Spells.{Spells};
+ghost use Rattle.js_spell.specs.Strings.{EndsPart, SpellsPlainPart, MeetsNoPartEnd};
 
 use crate::escape::report_unterminated;
 use crate::items::read_value;
@@ -64,10 +66,11 @@ pub fn read_template_part(
 ) -> Result<Spelt, AllocError>
     requires placed { IsPlaced source.old }
     requires start { token.old.start + 1 ≡ source.old.place }
-    ensures ok { IfOk result (Spells (template_part_read substitute tail token.old.start (rest source.old))
-        source.old source.new errors.old errors.new token.old token.new) }
-    ensures err { OnErr result (BreaksOff
-        (template_part_read substitute tail token.old.start (rest source.old)).diagnostics
+    ensures ok { IfOk result (λ spelt. (opening : ℕ)
+        → Spells (template_part_reading substitute tail (opening ∷ rest source.old)) token.old.start
+        source.old source.new errors.old errors.new token.old token.new spelt) }
+    ensures err { OnErr result ((opening : ℕ) → BreaksOff
+        (reported_at token.old.start (template_part_reading substitute tail (opening ∷ rest source.old)))
         source.old source.new errors.old errors.new) }
     ensures token { OnErr result (token.new ≡ token.old) }
     ensures placed { IsPlaced source.new }

@@ -194,8 +194,7 @@ impl<'a, C: LexerConfig + Drop> Lexer<'a, C> {
         ensures err { OnErr result (IsRestored self.old self.new) }
         ensures kept { Keeps self.old.decoded self.new.decoded }
     {
-        let place = self.reader.source.position();
-        let reported = self.reader.errors.len();
+        let start = self.reader.start();
         self.reader.source = source;
         self.reader.line_has_ended = line_has_ended;
         let read = read_here_and_collect(
@@ -211,7 +210,7 @@ impl<'a, C: LexerConfig + Drop> Lexer<'a, C> {
                 Ok(())
             }
             Err(error) => {
-                self.reader.go_back(place, reported);
+                self.reader.go_back(start);
                 Err(error)
             }
         }

@@ -1,18 +1,13 @@
 use Rattle.std.proofs.Common.{◌∙◌, ap}
-use Rattle.js_kind.specs.Kinds.{is_one_of}
-use Rattle.js_lexer.specs.Goals.{expression_kinds}
-use Rattle.js_bench.proofs.DriveLemmas.{begins_expression, behind_slash, step_expression}
+use Rattle.js_bench.proofs.DriveLemmas.{behind_slash, step_expression}
 use Rattle.js_bench.proofs.pass.read_expression.Goals as goal
 
 pub next_regex-requires-clause-kind : goal.next_regex-requires-clause-kind
 next_regex-requires-clause-kind g c =
-    ap (is_one_of expression_kinds) (c.kind-kind.ensures ∙ ap (λ t. t.kind) c.last_token.ensures.token)
-    ∙ begins_expression c.args.lexer.now c.args.chooser.now c.requires
+    c.kind-kind.ensures ∙ ap (λ t. t.kind) c.last_token.ensures.token
 
 pub next_regex-requires-clause-behind : goal.next_regex-requires-clause-behind
-next_regex-requires-clause-behind g c =
-    behind_slash c.args.lexer.now c.args.chooser.now c.kind-kind.result c.requires
-    (c.kind-kind.ensures ∙ ap (λ t. t.kind) c.last_token.ensures.token)
+next_regex-requires-clause-behind g c = behind_slash c.args.lexer.now c.args.chooser.now c.requires
 
 pub returns : goal.returns
 returns g c =

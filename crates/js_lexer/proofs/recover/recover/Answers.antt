@@ -9,6 +9,6 @@ returns-then-advance_if_mark c =
     c.skip_to_end-has_line_end.new.source c.either.result c.offset-start.result c.offset.result
     c.offset-start.ensures.placed c.offset.ensures.placed c.if-advance_if_mark.ensures
     c.skip_to_end-has_line_end.ensures.end c.skip_to_end-has_line_end.ensures.nothing
-    (c.either.ensures ∙ ap (λ b. c.args.line_has_ended || b) c.skip_to_end-has_line_end.ensures.line_end)
+    (c.either.ensures ∙ ap (λ b. b || c.args.line_has_ended) c.skip_to_end-has_line_end.ensures.line_end)
     c.offset-start.ensures.place c.offset.ensures.place in
     rw c.new-span.ensures d

@@ -1,14 +1,14 @@
-use Rattle.std.proofs.Common.{sym, ◌∙◌, ap}
-use Rattle.js_kind.specs.Kinds.{is_one_of}
-use Rattle.js_lexer.specs.Goals.{right_compounds}
+use Rattle.std.proofs.Common.{sym, ◌∙◌}
 use Rattle.js_grammar.specs.Angle.{first_right_angle}
 use Rattle.js_session.proofs.AgainLemmas.{angle_again, angles_are_none}
 use Rattle.js_session.proofs.re_lex.read_first_right.Goals as goal
 
 pub returns : goal.returns
 returns g c =
-    let fit =
-    ap (λ t. is_one_of right_compounds t.kind) (sym c.last_token.ensures.token) ∙ ap (is_one_of right_compounds) (sym c.kind-kind.ensures)
-    ∙ sym c.is_right_compound.ensures ∙ c.if-not-is_right_compound.false in
-    let read = c.re_lex_as_typescript_r_angle-token.ensures in
-    (fit, record { reads = read; regex = (angle_again _ first_right_angle _ read.outcome angles_are_none.right read.reads.reads).0 })
+    let read = c.re_lex_as_typescript_r_angle-token.ensures in (
+      sym c.may_read_again.ensures.answer ∙ c.if-not-may_read_again.false,
+      record {
+        reads = read;
+        regex = (angle_again _ first_right_angle _ read.outcome angles_are_none.right read.reads.reads).0;
+      },
+    )

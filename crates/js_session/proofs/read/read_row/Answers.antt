@@ -1,6 +1,8 @@
 use Rattle.js_kind.specs.Kinds.{is_template_kind}
 use Rattle.js_text.specs.Characters.{from_place}
+use Rattle.std.proofs.Common.{ap}
 use Rattle.std.proofs.lemmas.Result.{IfOk-weaker, err_from_is_err_and}
+use Rattle.js_lexer.specs.Lexer.{Checkpoint}
 use Rattle.js_lexer.proofs.LexerSteps.{reading_goes_on}
 use Rattle.js_session.proofs.LexerLemmas.{goes_on-restored, on_err, within-after}
 use Rattle.js_session.proofs.ReadLemmas.{made_row, is_kept}
@@ -29,12 +31,12 @@ returns-clause-err g c =
 pub returns-clause-ok : goal.returns-clause-ok
 returns-clause-ok g c =
     IfOk-weaker c.row_of.result _ _
-    (made_row c.args.goal c.args.command c.args.lexer.now c.read_token.new.lexer c.lengths_of-found.result c.offset-place.result
-    c.in_ok-token.token c.requires.onward c.offset-place.ensures.utf8 c.in_ok-token.ensures.ok c.lengths_of-found.ensures
-    c.offset-place.ensures.place)
+    (made_row c.args.goal c.args.command c.args.lexer.now c.read_token.new.lexer c.args.before.now.lengths
+    c.offset-place.result c.in_ok-token.token c.requires.onward c.offset-place.ensures.utf8 c.in_ok-token.ensures.ok
+    (ap (λ (x : Checkpoint). x.lengths) c.requires.before) c.offset-place.ensures.place)
     c.row_of.ensures
 
 pub row_of-requires-clause-found : goal.row_of-requires-clause-found
 row_of-requires-clause-found g c =
-    rw c.lengths_of-found.ensures
+    rw (ap (λ (x : Checkpoint). x.lengths) c.requires.before)
     (within-after c.args.lexer.now.findings c.read_token.new.lexer.findings _ c.in_ok-token.ensures.ok.after.findings)

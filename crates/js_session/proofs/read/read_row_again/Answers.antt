@@ -1,5 +1,6 @@
-use Rattle.std.proofs.Common.{subst}
+use Rattle.std.proofs.Common.{ap, subst}
 use Rattle.std.proofs.lemmas.Result.{err_from_is_err_and}
+use Rattle.js_lexer.specs.Lexer.{Checkpoint}
 use Rattle.js_lexer.proofs.LexerSteps.{re_lexing_goes_on}
 use Rattle.js_session.specs.RowReader.{ReadsIfFits}
 use Rattle.js_session.proofs.LexerLemmas.{goes_on-restored}
@@ -27,7 +28,8 @@ returns-in_ok-row-in-Some-clause-ok g c =
     subst (λ f. ReadsIfFits c.args.goal c.args.lexer.now f c.read_again.new.lexer) c.in-Some.is c.in_ok-again.ensures.ok
     in (
       found.0,
-      made_row_again c.args.goal c.args.command c.args.lexer.now c.read_again.new.lexer c.lengths_of-found.result
-          c.offset-place.result c.in-Some.again c.offset-place.ensures.utf8 found.1 c.lengths_of-found.ensures
-          c.offset-place.ensures.place c.in_ok-row-in-Some.row c.in_ok-row-in-Some.ensures,
+      made_row_again c.args.goal c.args.command c.args.lexer.now c.read_again.new.lexer c.args.before.now.lengths
+          c.offset-place.result c.in-Some.again c.offset-place.ensures.utf8 found.1
+          (ap (λ (x : Checkpoint). x.lengths) c.requires.before) c.offset-place.ensures.place
+          c.in_ok-row-in-Some.row c.in_ok-row-in-Some.ensures,
     )

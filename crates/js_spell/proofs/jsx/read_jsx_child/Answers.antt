@@ -1,6 +1,7 @@
 use Rattle.std.proofs.Common.{subst, ◌∙◌, []}
 use Rattle.std.proofs.lemmas.Result.{on_err_weaker}
-use Rattle.js_grammar.specs.Jsx.{jsx_child_read}
+use Rattle.js_grammar.specs.Jsx.{jsx_child_reading}
+use Rattle.js_grammar.specs.Reading.{reported_at}
 use Rattle.js_source.specs.Source.{At, rest}
 use Rattle.js_spell.specs.Breaks.{BreaksOff}
 use Rattle.js_spell.proofs.BreakSteps.{broken_first}
@@ -23,6 +24,6 @@ returns-clause-err c =
     let angle = c.if-advance_if_ascii_eq.ensures.cases in
     let bracket = c.if-advance_if_ascii_eq-2.ensures.cases in
     on_err_weaker c.read_jsx_text.result
-    (λ broken. broken_first (jsx_child_read old.place (rest old)).diagnostics old new c.args.errors.now after
+    (λ broken. broken_first (reported_at old.place (jsx_child_reading (rest old))) old new c.args.errors.now after
     (subst (λ (at : At). BreaksOff [] at new c.args.errors.now after) (bracket.1 ∙ angle.1) broken))
     c.read_jsx_text.ensures.err

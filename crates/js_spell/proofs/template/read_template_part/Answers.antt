@@ -18,7 +18,9 @@ returns-in-Tail-clause-ok c =
     subst (λ (end : PartEnd). EndsPart c.args.token.now.start here new between after end) c.in-Tail.is
     (subst (λ s. EndsPart s here new between after c.in_ok-end_part.field-0) c.start.ensures
     c.in_ok-end_part.ensures.ok) in
-    part_closed c.args.substitute c.args.tail c.args.token.now.start c.args.source.now here new c.args.errors.now
+    λ opening.
+    part_closed c.args.substitute c.args.tail opening c.args.token.now.start c.args.source.now here new
+    c.args.errors.now
     between
     after c.args.token.now c.spell.new.token c.spell.result c.in_ok-value.value c.requires.start
     c.in_ok-value.ensures.ok ends c.spell.ensures.flags c.spell.ensures.parts
@@ -33,7 +35,8 @@ returns-in-Substitution-clause-ok c =
     subst (λ (end : PartEnd). EndsPart c.args.token.now.start here new between after end) c.in-Substitution.is
     (subst (λ s. EndsPart s here new between after c.in_ok-end_part.field-0) c.start.ensures
     c.in_ok-end_part.ensures.ok) in
-    part_substituted c.args.substitute c.args.tail c.args.token.now.start c.args.source.now here new
+    λ opening.
+    part_substituted c.args.substitute c.args.tail opening c.args.token.now.start c.args.source.now here new
     c.args.errors.now between after c.args.token.now c.spell-in-Substitution.new.token c.spell-in-Substitution.result
     c.in_ok-value.value c.requires.start c.in_ok-value.ensures.ok ends c.spell-in-Substitution.ensures.flags
     c.spell-in-Substitution.ensures.parts
@@ -48,7 +51,9 @@ returns-in-Missing-clause-ok c =
     subst (λ (end : PartEnd). EndsPart c.args.token.now.start here new between after end) c.in-Missing.is
     (subst (λ s. EndsPart s here new between after c.in_ok-end_part.field-0) c.start.ensures
     c.in_ok-end_part.ensures.ok) in
-    part_open c.args.substitute c.args.tail c.args.token.now.start c.args.source.now here new c.args.errors.now between
+    λ opening.
+    part_open c.args.substitute c.args.tail opening c.args.token.now.start c.args.source.now here new
+    c.args.errors.now between
     after c.args.token.now c.spell-in-Missing.new.token c.spell-in-Missing.result c.in_ok-value.value c.requires.placed
     c.end_part.ensures.placed c.requires.start c.in_ok-value.ensures.ok ends c.spell-in-Missing.ensures.flags
     c.spell-in-Missing.ensures.parts
@@ -56,14 +61,16 @@ returns-in-Missing-clause-ok c =
 pub returns-in_err-value-clause-err : goal.returns-in_err-value-clause-err
 returns-in_err-value-clause-err c =
     on_err c.from_residual.result _
-    (part_broken c.args.substitute c.args.tail c.args.token.now.start c.args.source.now c.read_value.new.source
+    (λ opening. part_broken c.args.substitute c.args.tail opening c.args.token.now.start c.args.source.now
+    c.read_value.new.source
     c.args.errors.now c.read_value.new.errors c.requires.start c.in_err-value.ensures.err)
 
 pub returns-in_err-end_part-clause-err : goal.returns-in_err-end_part-clause-err
 returns-in_err-end_part-clause-err c =
     let new = c.end_part.new.source in
     on_err c.from_residual-in_err-end_part.result _
-    (part_broken c.args.substitute c.args.tail c.args.token.now.start c.args.source.now new c.args.errors.now
+    (λ opening. part_broken c.args.substitute c.args.tail opening c.args.token.now.start c.args.source.now new
+    c.args.errors.now
     c.end_part.new.errors c.requires.start
     (end_broken Template c.args.token.now.start c.args.source.now c.read_value.new.source new c.args.errors.now
     c.read_value.new.errors c.end_part.new.errors c.in_ok-value.value c.requires.placed c.read_value.ensures.placed

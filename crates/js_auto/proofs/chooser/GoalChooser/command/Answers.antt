@@ -1,7 +1,8 @@
 use Rattle.std.proofs.Common.{◌≡◌, sym, ◌∙◌, ap, subst, true, Some}
 use Rattle.std.specs.Prelude.{reverse, IfSome}
 use Rattle.js_kind.specs.Kinds.{is_one_of}
-use Rattle.js_lexer.specs.Goals.{expression_kinds}
+use Rattle.js_grammar.specs.ReLexed.{again_kinds}
+use Rattle.js_grammar.specs.declared.goal.Goal.TheVariants.{RegularExpression}
 use Rattle.js_auto.specs.Choice.{Chooser, choice_behind}
 use Rattle.js_auto.proofs.ChooserLemmas.{expression_behind, part_behind}
 use Rattle.js_auto.proofs.NotableLemmas.{reads_on}
@@ -23,6 +24,6 @@ returns-clause-part c = λ chosen.
 pub returns-clause-expression : goal.returns-clause-expression
 returns-clause-expression c = λ chosen.
     let last = sym (ap (λ (s : Chooser). s.last) c.self.view_is) ∙ c.in-Some.is in
-    subst (λ o. IfSome o (λ kind. is_one_of expression_kinds kind ≡ true)) (sym last)
+    subst (λ o. IfSome o (λ kind. is_one_of (again_kinds RegularExpression) kind ≡ true)) (sym last)
     (expression_behind c.args.self.now.stack c.args.self.now.before c.in-Some.last
     (sym c.command_behind.ensures ∙ chosen))

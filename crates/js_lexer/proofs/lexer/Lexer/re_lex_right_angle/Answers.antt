@@ -1,86 +1,49 @@
-use Rattle.std.proofs.Common.{refl, sym, ◌∙◌, subst}
-use Rattle.std.specs.Str.{IsUtf8}
+use Rattle.std.proofs.Common.{refl}
 use Rattle.js_text.specs.Ascii.{greater_than_sign}
-use Rattle.js_grammar.specs.declared.goal.Goal.TheVariants.{RightAngle}
-use Rattle.js_lexer.specs.Lexer.{IsSound}
-use Rattle.js_lexer.specs.Reader.{ReadsWithoutGap}
-use Rattle.js_lexer.proofs.AgainSteps.{keeps_all, kinds_begin, longest_unescaped, longest_starts, no_value, starts_with, one_angle, right_angle_kind}
-use Rattle.js_lexer.proofs.LexerSteps.{reads_again, sound_again, told_again, told_last}
+use Rattle.js_lexer.proofs.AgainSteps.{one_angle}
+use Rattle.js_lexer.proofs.TakenAgain.{behind_one, from_mark, longest_is_plain, reads_taken, sound_taken}
 use Rattle.js_lexer.proofs.lexer.Lexer.re_lex_right_angle.Goals as goal
 
 pub overflow_sub-start : goal.overflow_sub-start
 overflow_sub-start g c =
-    let last = rw (← c.self.view_is) at c.requires.last in
-    let place = rw (← c.self.view_is) at c.requires.place in
-    let starts =
-    starts_with right_angle_kind greater_than_sign 1 c.self.inside.reader.source.text _
-    c.offset-start.result c.requires.token kinds_begin.angle c.offset-start.ensures.placed.utf8 last (one_angle _ c.requires.kind_is).0
-    (one_angle _ c.requires.kind_is).1 (c.offset-start.ensures.place ∙ place) c.self.invariant.last_lies
-    c.self.invariant.last_spelled in
-    starts.0
+    (behind_one greater_than_sign c.offset-start.result _ c.self.inside.reader c.self.inside.found
+    (rw (← c.self.view_is) at c.requires) (one_angle _ (rw (← c.self.view_is) at c.requires)) refl
+    c.self.invariant c.offset-start.ensures.placed.utf8 c.offset-start.ensures.place).0
 
 pub read_longest_right_angle-token-requires-clause-boundary : goal.read_longest_right_angle-token-requires-clause-boundary
 read_longest_right_angle-token-requires-clause-boundary g c =
-    let last = rw (← c.self.view_is) at c.requires.last in
-    let place = rw (← c.self.view_is) at c.requires.place in
-    let starts =
-    starts_with right_angle_kind greater_than_sign 1 c.self.inside.reader.source.text _
-    c.offset-start.result c.requires.token kinds_begin.angle c.offset-start.ensures.placed.utf8 last (one_angle _ c.requires.kind_is).0
-    (one_angle _ c.requires.kind_is).1 (c.offset-start.ensures.place ∙ place) c.self.invariant.last_lies
-    c.self.invariant.last_spelled in
-    starts.1.boundary
+    (behind_one greater_than_sign c.offset-start.result _ c.self.inside.reader c.self.inside.found
+    (rw (← c.self.view_is) at c.requires) (one_angle _ (rw (← c.self.view_is) at c.requires)) refl
+    c.self.invariant c.offset-start.ensures.placed.utf8 c.offset-start.ensures.place).1.boundary
 
 pub read_longest_right_angle-token-requires-clause-here : goal.read_longest_right_angle-token-requires-clause-here
 read_longest_right_angle-token-requires-clause-here g c =
-    let last = rw (← c.self.view_is) at c.requires.last in
-    let place = rw (← c.self.view_is) at c.requires.place in
-    let starts =
-    starts_with right_angle_kind greater_than_sign 1 c.self.inside.reader.source.text _
-    c.offset-start.result c.requires.token kinds_begin.angle c.offset-start.ensures.placed.utf8 last (one_angle _ c.requires.kind_is).0
-    (one_angle _ c.requires.kind_is).1 (c.offset-start.ensures.place ∙ place) c.self.invariant.last_lies
-    c.self.invariant.last_spelled in
-    starts.1.here
+    (behind_one greater_than_sign c.offset-start.result _ c.self.inside.reader c.self.inside.found
+    (rw (← c.self.view_is) at c.requires) (one_angle _ (rw (← c.self.view_is) at c.requires)) refl
+    c.self.invariant c.offset-start.ensures.placed.utf8 c.offset-start.ensures.place).1.here
 
 pub invariant_of-self : goal.invariant_of-self
 invariant_of-self g c =
-    let last = rw (← c.self.view_is) at c.requires.last in
-    let place = rw (← c.self.view_is) at c.requires.place in
     let starts =
-    starts_with right_angle_kind greater_than_sign 1 c.self.inside.reader.source.text _
-    c.offset-start.result c.requires.token kinds_begin.angle c.offset-start.ensures.placed.utf8 last (one_angle _ c.requires.kind_is).0
-    (one_angle _ c.requires.kind_is).1 (c.offset-start.ensures.place ∙ place) c.self.invariant.last_lies
-    c.self.invariant.last_spelled in
-    let read = c.read_longest_right_angle-token.ensures.reads starts.1.token starts.1.at in
-    sound_again RightAngle starts.1.token c.read_longest_right_angle-token.result c.self.inside.reader c.read_longest_right_angle-token.new.self
-    c.self.inside.found.trivia c.handle_token.new.self c.self.inside.decoded c.self.inside.decoded
-    c.read_longest_right_angle-token.ensures.placed.utf8 c.self.invariant.are_values read.read
-    (subst (λ o. IsSound c.self.inside.reader.source o c.self.inside.found.trivia c.self.inside.decoded)
-    starts.1.last_is c.self.invariant)
-    (longest_starts starts.1.token c.self.inside.reader c.read_longest_right_angle-token.new.self c.read_longest_right_angle-token.result read)
-    c.handle_token.ensures
+    behind_one greater_than_sign c.offset-start.result _ c.self.inside.reader c.self.inside.found
+    (rw (← c.self.view_is) at c.requires) (one_angle _ (rw (← c.self.view_is) at c.requires)) refl
+    c.self.invariant c.offset-start.ensures.placed.utf8 c.offset-start.ensures.place in
+    sound_taken _ c.self.inside.reader c.read_longest_right_angle-token.new.self c.self.inside.found.trivia
+    c.take_again.new.trivia
+    (from_mark _ c.self.inside.reader c.read_longest_right_angle-token.new.self longest_is_plain starts.1
+    c.read_longest_right_angle-token.ensures.reads c.read_longest_right_angle-token.ensures.placed.utf8)
+    c.self.invariant c.take_again.ensures.last
 
 pub returns : goal.returns
 returns g c =
-    let last = rw (← c.self.view_is) at c.requires.last in
-    let place = rw (← c.self.view_is) at c.requires.place in
     let starts =
-    starts_with right_angle_kind greater_than_sign 1 c.self.inside.reader.source.text _
-    c.offset-start.result c.requires.token kinds_begin.angle c.offset-start.ensures.placed.utf8 last (one_angle _ c.requires.kind_is).0
-    (one_angle _ c.requires.kind_is).1 (c.offset-start.ensures.place ∙ place) c.self.invariant.last_lies
-    c.self.invariant.last_spelled in
-    let there = c.read_longest_right_angle-token.ensures.reads starts.1.token starts.1.at in
-    let read =
-    subst (λ o. ReadsWithoutGap RightAngle o c.self.inside.reader c.read_longest_right_angle-token.result c.read_longest_right_angle-token.new.self)
-    (sym starts.1.last_is) there in
-    let tokens = rw c.tokens.ensures at c.replace_collected.ensures in
-    let told =
-    told_again _ c.read_longest_right_angle-token.result c.self.inside.found.trivia c.handle_token.new.self
-    c.self.inside.reader.source c.self.inside.decoded c.self.invariant c.handle_token.ensures in
-    rw (← c.self.view_is, tokens, told.1, told.2, told.3)
-    (reads_again _ _ c.self.inside.reader _ c.read_longest_right_angle-token.result c.read_longest_right_angle-token.new.self
-    c.handle_token.new.self.attachment.attached c.handle_token.new.self.attachment.previous c.self.inside.decoded
-    (subst IsUtf8 read.read.text c.read_longest_right_angle-token.ensures.placed.utf8) refl refl refl read (keeps_all c.self.inside.decoded)
-    (no_value c.self.inside.reader.source.text c.self.inside.decoded c.read_longest_right_angle-token.result
-    (longest_unescaped starts.1.token c.self.inside.reader c.read_longest_right_angle-token.new.self
-    c.read_longest_right_angle-token.result there)) told.0
-    (told_last _ c.self.inside.found.trivia c.handle_token.new.self c.handle_token.ensures) refl)
+    behind_one greater_than_sign c.offset-start.result _ c.self.inside.reader c.self.inside.found
+    (rw (← c.self.view_is) at c.requires) (one_angle _ (rw (← c.self.view_is) at c.requires)) refl
+    c.self.invariant c.offset-start.ensures.placed.utf8 c.offset-start.ensures.place in
+    let tokens = rw c.tokens-collects.ensures at c.take_again.ensures.collected in
+    rw (← c.self.view_is)
+    (reads_taken _ c.self.inside.reader c.read_longest_right_angle-token.new.self c.self.inside.found
+    (record c.self.inside.found { trivia = c.take_again.new.trivia })
+    (from_mark _ c.self.inside.reader c.read_longest_right_angle-token.new.self longest_is_plain starts.1
+    c.read_longest_right_angle-token.ensures.reads c.read_longest_right_angle-token.ensures.placed.utf8)
+    c.self.invariant c.take_again.ensures.last refl tokens)

@@ -1,7 +1,6 @@
-use Rattle.std.proofs.Common.{◌≡◌, [], refl, ◌∙◌, ap, subst, take, List, ℕ}
+use Rattle.std.proofs.Common.{◌≡◌, [], refl, ◌∙◌, ap, subst, List, ℕ}
 use Rattle.std.specs.Prelude.{is_none}
 use Rattle.js_grammar.specs.declared.goal.Goal.TheVariants.{Next}
-use Rattle.js_source.specs.Source.{At}
 use Rattle.js_trivia.specs.Attachment.{Attachment}
 use Rattle.js_trivia.specs.Trivia.{without_ranges}
 use Rattle.js_lexer.specs.Decoded.{KeepsValues, HasValue}
@@ -9,8 +8,8 @@ use Rattle.js_lexer.specs.Plain.{ends_told, moved}
 use Rattle.js_lexer.specs.Lexer.{last_read}
 use Rattle.js_lexer.proofs.LexerSteps.{state_of, reader_is, between_is, first_token, sound_after, sound_back}
 use Rattle.js_lexer.proofs.LexerSteps.{reads_token}
-use Rattle.js_lexer.proofs.LexerSteps.{cut_back}
 use Rattle.js_lexer.proofs.PlainSteps.{behind_plain_gap, ends_forgotten}
+use Rattle.js_lexer.proofs.Undone.{undone, went_back}
 use Rattle.js_lexer.proofs.lexer.Lexer.read_here.Goals as goal
 
 pub read_here_and_collect-read-requires-clause-gap : goal.read_here_and_collect-read-requires-clause-gap
@@ -43,7 +42,7 @@ pub go_back-requires : goal.go_back-requires
 go_back-requires g c =
     let p = rw (← c.self.view_is) at c.requires in
     let text = (p.skips c.self.inside.reader c.self.inside.found).skips.text in
-    rw (c.position-place.ensures.place, c.in-Err.ensures.err.text, text) p.from.boundary
+    rw (c.start-start.ensures.place, c.in-Err.ensures.err.text, text) p.from.boundary
 
 pub invariant_of-self-in-Err : goal.invariant_of-self-in-Err
 invariant_of-self-in-Err g c =
@@ -53,10 +52,12 @@ invariant_of-self-in-Err g c =
     let kept =
     subst (λ (t : List ℕ). KeepsValues t c.self.inside.decoded c.read_here_and_collect-read.new.decoded) text
     c.in-Err.ensures.kept in
-    let source : c.go_back.new.self.source ≡ r.source =
-    c.go_back.ensures.source ∙ rw (c.in-Err.ensures.err.text, text, c.position-place.ensures.place) refl in
+    let reader =
+    went_back r _ c.read_here_and_collect-read.new.reader c.go_back.new.self c.start-start.result c.in-Err.ensures.err
+    text refl refl c.start-start.ensures.place c.start-start.ensures.reported c.go_back.ensures.source
+    c.go_back.ensures.source_type c.go_back.ensures.errors in
     sound_back r.source c.go_back.new.self.source c.self.inside.has_read c.self.inside.found.trivia
-    c.self.inside.found.trivia c.self.inside.decoded c.read_here_and_collect-read.new.decoded source refl
+    c.self.inside.found.trivia c.self.inside.decoded c.read_here_and_collect-read.new.decoded reader.source refl
     c.self.invariant (kept.are_values c.self.invariant.are_values)
 
 pub returns-in-Ok-clause-ok : goal.returns-in-Ok-clause-ok
@@ -110,23 +111,13 @@ returns-in-Err-clause-err g c =
     let r = c.self.inside.reader in
     let p = rw (← c.self.view_is) at c.requires in
     let text = (p.skips r c.self.inside.found).skips.text in
-    let moves = c.in-Err.ensures.err in
-    let source : c.go_back.new.self.source ≡ r.source =
-    c.go_back.ensures.source ∙ rw (moves.text, text, c.position-place.ensures.place) refl in
-    let errors =
-    c.go_back.ensures.errors ∙ ap (λ n. take n c.read_here_and_collect-read.new.reader.errors) c.len-reported.ensures
-    ∙ cut_back r.errors moves.more c.read_here_and_collect-read.new.reader.errors moves.errors in
-    rw (← c.self.view_is) (record {
-      text = ap (λ (a : At). a.text) source;
-      source_type = c.go_back.ensures.source_type ∙ moves.source_type;
-      collects = refl;
-      place = ap (λ (a : At). a.place) source;
-      last = refl;
-      tokens = c.in-Err.ensures.same;
-      findings = rw errors refl;
-      pure_comments = refl;
-      no_side_effects_comments = refl;
-    })
+    let reader =
+    went_back r _ c.read_here_and_collect-read.new.reader c.go_back.new.self c.start-start.result c.in-Err.ensures.err
+    text refl refl c.start-start.ensures.place c.start-start.ensures.reported c.go_back.ensures.source
+    c.go_back.ensures.source_type c.go_back.ensures.errors in
+    rw (← c.self.view_is)
+    (undone _ _ r c.go_back.new.self c.self.inside.found c.self.inside.found _ _ c.self.inside.decoded
+    c.read_here_and_collect-read.new.decoded reader refl c.in-Err.ensures.same)
 
 pub returns-in-Err-clause-kept : goal.returns-in-Err-clause-kept
 returns-in-Err-clause-kept g c =

@@ -1,81 +1,47 @@
-use Rattle.std.proofs.Common.{refl, ◌∙◌, subst}
-use Rattle.std.specs.Str.{IsUtf8}
+use Rattle.std.proofs.Common.{refl}
 use Rattle.js_text.specs.Ascii.{slash}
-use Rattle.js_grammar.specs.declared.goal.Goal.TheVariants.{RegularExpression}
-use Rattle.js_lexer.specs.Goals.{expression_kinds}
-use Rattle.js_lexer.specs.Lexer.{IsSound}
-use Rattle.js_lexer.proofs.AgainSteps.{expression_starts, kinds_begin, regex_again, starts_with}
-use Rattle.js_lexer.proofs.LexerSteps.{sound_again, told_again, told_last}
+use Rattle.js_lexer.proofs.TakenAgain.{behind_one, expression_is_plain, plainly, regex_taken, sound_taken}
 use Rattle.js_lexer.proofs.lexer.Lexer.read_regex.Goals as goal
 
-pub overflow_sub-start : goal.overflow_sub-start
-overflow_sub-start g c =
-    let last = rw (← c.self.view_is) at c.requires.last in
-    let place = rw (← c.self.view_is) at c.requires.place in
-    let starts =
-    starts_with expression_kinds slash c.args.bytes c.self.inside.reader.source.text _
-    c.offset.result c.requires.token kinds_begin.expressions c.offset.ensures.placed.utf8 last c.requires.kind_is
-    c.requires.bytes_are (c.offset.ensures.place ∙ place) c.self.invariant.last_lies
-    c.self.invariant.last_spelled in
-    starts.0
+pub overflow_sub-offset : goal.overflow_sub-offset
+overflow_sub-offset g c =
+    (behind_one slash c.offset.result _ c.self.inside.reader c.self.inside.found
+    (rw (← c.self.view_is) at c.requires.behind) (rw (← c.self.view_is) at c.requires.bytes) refl
+    c.self.invariant c.offset.ensures.placed.utf8 c.offset.ensures.place).0
 
 pub read_expression-requires-clause-boundary : goal.read_expression-requires-clause-boundary
 read_expression-requires-clause-boundary g c =
-    let last = rw (← c.self.view_is) at c.requires.last in
-    let place = rw (← c.self.view_is) at c.requires.place in
-    let starts =
-    starts_with expression_kinds slash c.args.bytes c.self.inside.reader.source.text _
-    c.offset.result c.requires.token kinds_begin.expressions c.offset.ensures.placed.utf8 last c.requires.kind_is
-    c.requires.bytes_are (c.offset.ensures.place ∙ place) c.self.invariant.last_lies
-    c.self.invariant.last_spelled in
-    starts.1.boundary
+    (behind_one slash c.offset.result _ c.self.inside.reader c.self.inside.found
+    (rw (← c.self.view_is) at c.requires.behind) (rw (← c.self.view_is) at c.requires.bytes) refl
+    c.self.invariant c.offset.ensures.placed.utf8 c.offset.ensures.place).1.boundary
 
 pub read_expression-requires-clause-here : goal.read_expression-requires-clause-here
 read_expression-requires-clause-here g c =
-    let last = rw (← c.self.view_is) at c.requires.last in
-    let place = rw (← c.self.view_is) at c.requires.place in
-    let starts =
-    starts_with expression_kinds slash c.args.bytes c.self.inside.reader.source.text _
-    c.offset.result c.requires.token kinds_begin.expressions c.offset.ensures.placed.utf8 last c.requires.kind_is
-    c.requires.bytes_are (c.offset.ensures.place ∙ place) c.self.invariant.last_lies
-    c.self.invariant.last_spelled in
-    starts.1.here
+    (behind_one slash c.offset.result _ c.self.inside.reader c.self.inside.found
+    (rw (← c.self.view_is) at c.requires.behind) (rw (← c.self.view_is) at c.requires.bytes) refl
+    c.self.invariant c.offset.ensures.placed.utf8 c.offset.ensures.place).1.here
 
 pub invariant_of-self : goal.invariant_of-self
 invariant_of-self g c =
-    let last = rw (← c.self.view_is) at c.requires.last in
-    let place = rw (← c.self.view_is) at c.requires.place in
     let starts =
-    starts_with expression_kinds slash c.args.bytes c.self.inside.reader.source.text _
-    c.offset.result c.requires.token kinds_begin.expressions c.offset.ensures.placed.utf8 last c.requires.kind_is
-    c.requires.bytes_are (c.offset.ensures.place ∙ place) c.self.invariant.last_lies
-    c.self.invariant.last_spelled in
-    let read = (c.in-Ok.ensures.ok starts.1.token starts.1.at).reads in
-    sound_again RegularExpression starts.1.token c.in-Ok.found.token c.self.inside.reader c.read_expression.new.self
-    c.self.inside.found.trivia c.handle_token.new.self c.self.inside.decoded c.self.inside.decoded
-    c.read_expression.ensures.placed.utf8 c.self.invariant.are_values read.read
-    (subst (λ o. IsSound c.self.inside.reader.source o c.self.inside.found.trivia c.self.inside.decoded)
-    starts.1.last_is c.self.invariant)
-    (expression_starts starts.1.token c.self.inside.reader c.read_expression.new.self c.in-Ok.found.token read)
-    c.handle_token.ensures
+    behind_one slash c.offset.result _ c.self.inside.reader c.self.inside.found
+    (rw (← c.self.view_is) at c.requires.behind) (rw (← c.self.view_is) at c.requires.bytes) refl
+    c.self.invariant c.offset.ensures.placed.utf8 c.offset.ensures.place in
+    sound_taken _ c.self.inside.reader c.read_expression.new.self c.self.inside.found.trivia
+    c.take_again.new.trivia
+    (plainly _ c.self.inside.reader c.read_expression.new.self starts.1.token expression_is_plain
+    starts.1.last_is (c.in-Ok.ensures.ok starts.1.token starts.1.at).reads
+    c.read_expression.ensures.placed.utf8) c.self.invariant c.take_again.ensures.last
 
 pub returns-in-Ok-clause-ok : goal.returns-in-Ok-clause-ok
 returns-in-Ok-clause-ok g c =
-    let last = rw (← c.self.view_is) at c.requires.last in
-    let place = rw (← c.self.view_is) at c.requires.place in
     let starts =
-    starts_with expression_kinds slash c.args.bytes c.self.inside.reader.source.text _
-    c.offset.result c.requires.token kinds_begin.expressions c.offset.ensures.placed.utf8 last c.requires.kind_is
-    c.requires.bytes_are (c.offset.ensures.place ∙ place) c.self.invariant.last_lies
-    c.self.invariant.last_spelled in
-    let there = c.in-Ok.ensures.ok starts.1.token starts.1.at in
-    let tokens = rw c.tokens.ensures at c.replace_collected.ensures in
-    let told =
-    told_again _ c.in-Ok.found.token c.self.inside.found.trivia c.handle_token.new.self
-    c.self.inside.reader.source c.self.inside.decoded c.self.invariant c.handle_token.ensures in
-    rw (← c.self.view_is, tokens, told.1, told.2, told.3)
-    (regex_again _ _ c.self.inside.reader c.in-Ok.found c.read_expression.new.self
-    c.handle_token.new.self.attachment.attached c.handle_token.new.self.attachment.previous starts.1.token
-    (subst IsUtf8 there.reads.read.text c.read_expression.ensures.placed.utf8) refl refl refl starts.1.last_is there
-    told.0
-    (told_last _ c.self.inside.found.trivia c.handle_token.new.self c.handle_token.ensures) refl)
+    behind_one slash c.offset.result _ c.self.inside.reader c.self.inside.found
+    (rw (← c.self.view_is) at c.requires.behind) (rw (← c.self.view_is) at c.requires.bytes) refl
+    c.self.invariant c.offset.ensures.placed.utf8 c.offset.ensures.place in
+    let tokens = rw c.tokens-collects.ensures at c.take_again.ensures.collected in
+    rw (← c.self.view_is)
+    (regex_taken _ c.in-Ok.found c.self.inside.reader c.read_expression.new.self c.self.inside.found
+    (record c.self.inside.found { trivia = c.take_again.new.trivia }) starts.1.token starts.1.last_is
+    (c.in-Ok.ensures.ok starts.1.token starts.1.at) c.read_expression.ensures.placed.utf8 c.self.invariant
+    c.take_again.ensures.last refl tokens)

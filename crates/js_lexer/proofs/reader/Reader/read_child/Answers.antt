@@ -1,5 +1,5 @@
 use Rattle.std.proofs.Common.{◌≤◌, ◌∙◌, refl, subst, sym, ap}
-use Rattle.js_grammar.specs.Goals.{read_token}
+use Rattle.js_lexer.specs.Reader.{read_token}
 use Rattle.js_lexer.proofs.GoalSteps.{child_goal, child_ordered}
 use Rattle.js_lexer.proofs.reader.Reader.read_child.Goals as goal
 

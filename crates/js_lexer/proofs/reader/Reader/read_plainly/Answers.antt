@@ -1,5 +1,5 @@
 use Rattle.std.proofs.Common.{◌∙◌, ap}
-use Rattle.js_lexer.specs.Plain.{plain_lexeme}
+use Rattle.js_lexer.specs.Reader.{plain_lexeme}
 use Rattle.js_lexer.specs.Reader.{lexeme_token}
 use Rattle.js_lexer.proofs.PlainSteps.{spelled_from, spelled_onward}
 use Rattle.js_lexer.proofs.reader.Reader.read_plainly.Goals as goal

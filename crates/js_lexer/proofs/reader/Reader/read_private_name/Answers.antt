@@ -1,46 +1,64 @@
-use Rattle.std.proofs.Common.{refl}
-use Rattle.js_text.specs.JsStr.{units_of}
-use Rattle.js_lexer.proofs.NameSteps.{lexeme_of_private, private_units, spelt_kept, takes_mark, spelt_name_value}
-use Rattle.js_lexer.proofs.NameSteps.{read_private_is_no_template}
+use Rattle.std.proofs.Common.{arith, refl}
+use Rattle.js_text.specs.Ascii.{number_sign}
+use Rattle.std.proofs.lemmas.Result.{err_from_is_err_and}
+use Rattle.js_lexer.proofs.SpeltSteps.{behind_mark, broke_off, lexeme_as, private_here, takes_sign, value_kept}
+use Rattle.js_lexer.proofs.SpeltSteps.{was_spelt}
 use Rattle.js_lexer.proofs.reader.Reader.read_private_name.Goals as goal
 
 pub returns-clause-ok : goal.returns-clause-ok
 returns-clause-ok c =
-    let spells = c.in_ok-spelt.ensures.ok in
-    let reads = takes_mark c.args.self.now.source c.next_char.new.self c.requires.begun c.next_char.ensures.past in
+    let old = c.args.self.now in
+    let mid = c.next_char.new.self in
+    let reads = takes_sign old.source mid c.requires.begun c.next_char.ensures.past in
+    let behind = behind_mark number_sign old.source mid (omega arith) c.requires.placed c.next_char.ensures.placed
+    reads in
     rw c.escaped.ensures
-    (lexeme_of_private c.args.self.now
-    (record c.args.self.now { source = c.read_private_name.new.source; errors = c.read_private_name.new.errors })
-    c.next_char.new.self c.in_ok-spelt.spelt.kind c.read_private_name.new.token.escaped spells.decoded
-    c.requires.placed c.next_char.ensures.placed reads spells.read refl)
+    (lexeme_as old (record old { source = c.read_private_name.new.source; errors = c.read_private_name.new.errors })
+    (private_here old mid reads) refl reads.text (c.in_ok-spelt.ensures.ok old.source.place behind) refl)
 
 pub returns-clause-kept : goal.returns-clause-kept
 returns-clause-kept c =
-    let spells = c.in_ok-spelt.ensures.ok in
-    let reads = takes_mark c.args.self.now.source c.next_char.new.self c.requires.begun c.next_char.ensures.past in
-    (spelt_kept c.args.self.now.source c.args.decoded.now c.keep_value.new.decoded c.in_ok-spelt.spelt.kind
-    c.read_private_name.new.token.escaped (units_of spells.decoded) c.in_ok-spelt.spelt.value c.offset-start.result
-    c.offset-start.ensures.place
-    (λ _. read_private_is_no_template c.next_char.new.self c.read_private_name.new.source _ _ c.in_ok-spelt.spelt.kind
-    c.read_private_name.new.token.escaped spells.decoded spells.read)
-    (spelt_name_value c.read_private_name.new.token.escaped spells.decoded c.in_ok-spelt.spelt.value spells.value)
-    c.in_ok-keep_value.ensures.ok
-    (λ _. private_units c.args.self.now.source c.next_char.new.self c.read_private_name.new.source
-    c.args.self.now.errors c.read_private_name.new.errors c.in_ok-spelt.spelt.kind
-    c.read_private_name.new.token.escaped spells.decoded reads spells.read)).kept
+    let old = c.args.self.now in
+    let mid = c.next_char.new.self in
+    let reads = takes_sign old.source mid c.requires.begun c.next_char.ensures.past in
+    let behind = behind_mark number_sign old.source mid (omega arith) c.requires.placed c.next_char.ensures.placed
+    reads in
+    (value_kept old.source c.args.decoded.now c.keep_value.new.decoded c.offset-start.result
+    (private_here old mid reads).valued c.offset-start.ensures.place
+    (c.in_ok-spelt.ensures.ok old.source.place behind) c.in_ok-keep_value.ensures.ok).kept
 
 pub returns-clause-value : goal.returns-clause-value
 returns-clause-value c =
-    let spells = c.in_ok-spelt.ensures.ok in
-    let reads = takes_mark c.args.self.now.source c.next_char.new.self c.requires.begun c.next_char.ensures.past in
+    let old = c.args.self.now in
+    let mid = c.next_char.new.self in
+    let reads = takes_sign old.source mid c.requires.begun c.next_char.ensures.past in
+    let behind = behind_mark number_sign old.source mid (omega arith) c.requires.placed c.next_char.ensures.placed
+    reads in
     rw c.escaped.ensures
-    (spelt_kept c.args.self.now.source c.args.decoded.now c.keep_value.new.decoded c.in_ok-spelt.spelt.kind
-    c.read_private_name.new.token.escaped (units_of spells.decoded) c.in_ok-spelt.spelt.value c.offset-start.result
-    c.offset-start.ensures.place
-    (λ _. read_private_is_no_template c.next_char.new.self c.read_private_name.new.source _ _ c.in_ok-spelt.spelt.kind
-    c.read_private_name.new.token.escaped spells.decoded spells.read)
-    (spelt_name_value c.read_private_name.new.token.escaped spells.decoded c.in_ok-spelt.spelt.value spells.value)
-    c.in_ok-keep_value.ensures.ok
-    (λ _. private_units c.args.self.now.source c.next_char.new.self c.read_private_name.new.source
-    c.args.self.now.errors c.read_private_name.new.errors c.in_ok-spelt.spelt.kind
-    c.read_private_name.new.token.escaped spells.decoded reads spells.read)).has_value
+    (value_kept old.source c.args.decoded.now c.keep_value.new.decoded c.offset-start.result
+    (private_here old mid reads).valued c.offset-start.ensures.place
+    (c.in_ok-spelt.ensures.ok old.source.place behind) c.in_ok-keep_value.ensures.ok).has_value
+
+pub returns-in_err-spelt-clause-err : goal.returns-in_err-spelt-clause-err
+returns-in_err-spelt-clause-err c =
+    let old = c.args.self.now in
+    let mid = c.next_char.new.self in
+    let reads = takes_sign old.source mid c.requires.begun c.next_char.ensures.past in
+    let behind = behind_mark number_sign old.source mid (omega arith) c.requires.placed c.next_char.ensures.placed
+    reads in
+    let p = err_from_is_err_and c.from_residual.result c.from_residual.ensures.1 in
+    rw p.1
+    (broke_off old (record old { source = c.read_private_name.new.source; errors = c.read_private_name.new.errors })
+    (c.in_err-spelt.ensures.err old.source.place behind) reads.text refl)
+
+pub returns-in_err-keep_value-clause-err : goal.returns-in_err-keep_value-clause-err
+returns-in_err-keep_value-clause-err c =
+    let old = c.args.self.now in
+    let mid = c.next_char.new.self in
+    let reads = takes_sign old.source mid c.requires.begun c.next_char.ensures.past in
+    let behind = behind_mark number_sign old.source mid (omega arith) c.requires.placed c.next_char.ensures.placed
+    reads in
+    let p = err_from_is_err_and c.from_residual-in_err-keep_value.result c.from_residual-in_err-keep_value.ensures.1 in
+    rw p.1
+    (was_spelt old (record old { source = c.read_private_name.new.source; errors = c.read_private_name.new.errors })
+    (c.in_ok-spelt.ensures.ok old.source.place behind) reads.text refl)

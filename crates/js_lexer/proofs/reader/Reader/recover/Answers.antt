@@ -10,7 +10,7 @@ pub recover-recovered-requires : goal.recover-recovered-requires
 recover-recovered-requires c =
     record {
       some =
-          recovers_some c.args.self.now.source_type c.args.self.now.line_has_ended c.args.self.now.source.place
+          recovers_some c.args.self.now.source_type c.args.self.now.line_has_ended
           (rest c.args.self.now.source) c.requires.gap c.requires.nothing;
       no_named = c.requires.nothing.no_named;
       no_number = c.requires.nothing.no_number;

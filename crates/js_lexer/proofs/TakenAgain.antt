@@ -1,0 +1,184 @@
+-- A token that is taken in the place of the last one.
+use Rattle.std.proofs.Common.{◌≡◌, ℕ, ◌-◌, ◌≤◌, Bool, true, false, List, length, refl, sym, ◌∙◌, ap, subst}
+use Rattle.std.proofs.Common.{Option, Some}
+use Rattle.std.specs.Prelude.{if◌then◌else◌}
+use Rattle.std.specs.List.{list_all}
+use Rattle.std.specs.Str.{IsUtf8}
+use Rattle.js_text.specs.Lists.{with_last}
+use Rattle.js_kind.specs.Kinds.{kind_text}
+use Rattle.js_kind.specs.TokenParts.{TokenParts}
+use Rattle.js_grammar.specs.ReLexed.{again_kinds}
+use Rattle.js_grammar.specs.declared.goal.Goal.{Goal}
+use Rattle.js_grammar.specs.declared.goal.Goal.TheVariants.{JsxIdentifier, RegularExpression, RightAngle, TemplateTail}
+use Rattle.js_grammar.specs.declared.goal.Goal.TheVariants.{TypeScriptLeftAngle, TypeScriptRightAngle}
+use Rattle.js_lexer.specs.Decoded.{Values, KeepsValues, HasValue}
+use Rattle.js_lexer.specs.Goals.{ReadsExpression, ReadsRegex, info_of}
+use Rattle.js_lexer.specs.Lexer.{IsBehindFor, IsSound, ReadsAgain, kind_of_last, last_read, lexer_of}
+use Rattle.js_lexer.specs.Reader.{ReadsWithoutGap}
+use Rattle.js_lexer.specs.declared.found.GapFindings.{GapFindings}
+use Rattle.js_lexer.specs.declared.reader.Reader.{Reader}
+use Rattle.js_lexer.specs.declared.regex.RegexToken.{RegexToken}
+use Rattle.js_lexer.proofs.AgainSteps.{StartsWith, has_mark, no_value, starts_with}
+use Rattle.js_lexer.proofs.AgainSteps.{expression_starts, expression_unescaped, left_starts, left_unescaped}
+use Rattle.js_lexer.proofs.AgainSteps.{longest_starts, longest_unescaped, name_starts, name_unescaped}
+use Rattle.js_lexer.proofs.AgainSteps.{right_starts, right_unescaped}
+use Rattle.js_lexer.proofs.DecodedSteps.{keeps_same}
+use Rattle.js_lexer.proofs.LexerSteps.{reads_again, sound_again, told_again, told_last}
+use Rattle.js_trivia.specs.Trivia.{Trivia, handle_token}
+
+-- A reader has read the last token again, from its start, with the values of tokens before and after.
+pub record IsReadAgain (goal : Goal) (last : Option TokenParts) (old : Reader) (values : Values) (token : TokenParts)
+    (new : Reader) (more : Values) : Type 0 where
+  pub before : TokenParts
+  pub last_is : last ≡ Some before
+  pub reads : ReadsWithoutGap goal last old token new
+  pub starts : token.start ≡ before.start
+  pub utf8 : IsUtf8 new.source.text
+  pub keeps : KeepsValues old.source.text values more
+  pub has_value : HasValue old.source.text more token
+
+-- What is read of the goal starts where the token before did, and has no escape.
+pub record IsPlain (goal : Goal) : Type 0 where
+  pub starts : (before : TokenParts) (old new : Reader) (token : TokenParts)
+      → ReadsWithoutGap goal (Some before) old token new → token.start ≡ before.start
+  pub unescaped : (before : TokenParts) (old new : Reader) (token : TokenParts)
+      → ReadsWithoutGap goal (Some before) old token new → token.escaped ≡ false
+
+pub longest_is_plain : IsPlain RightAngle
+longest_is_plain = record { starts = longest_starts; unescaped = longest_unescaped }
+
+pub left_is_plain : IsPlain TypeScriptLeftAngle
+left_is_plain = record { starts = left_starts; unescaped = left_unescaped }
+
+pub right_is_plain : IsPlain TypeScriptRightAngle
+right_is_plain = record { starts = right_starts; unescaped = right_unescaped }
+
+pub expression_is_plain : IsPlain RegularExpression
+expression_is_plain = record { starts = expression_starts; unescaped = expression_unescaped }
+
+pub name_is_plain : IsPlain JsxIdentifier
+name_is_plain = record { starts = name_starts; unescaped = name_unescaped }
+
+-- a token without an escape that was read again
+pub plainly : {goal : Goal} {token : TokenParts} {values : Values} (last : Option TokenParts) (old new : Reader)
+    (before : TokenParts) → IsPlain goal → last ≡ Some before → ReadsWithoutGap goal (Some before) old token new
+    → IsUtf8 new.source.text → IsReadAgain goal last old values token new values
+plainly {goal} {token} {values} last old new before plain is reads utf8 = record {
+  before = before;
+  last_is = is;
+  reads = subst (λ o. ReadsWithoutGap goal o old token new) (sym is) reads;
+  starts = plain.starts before old new token reads;
+  utf8 = utf8;
+  keeps = keeps_same old.source.text values values refl;
+  has_value = no_value old.source.text values token (plain.unescaped before old new token reads);
+}
+
+-- and a part of a template, with its value
+pub part_again : {token : TokenParts} {values more : Values} (last : Option TokenParts) (old new : Reader)
+    (before : TokenParts) → last ≡ Some before → ReadsWithoutGap TemplateTail (Some before) old token new
+    → IsUtf8 new.source.text → KeepsValues old.source.text values more → HasValue old.source.text more token
+    → IsReadAgain TemplateTail last old values token new more
+part_again {token} last old new before is reads utf8 keeps has_value = record {
+  before = before;
+  last_is = is;
+  reads = subst (λ o. ReadsWithoutGap TemplateTail o old token new) (sym is) reads;
+  starts = ap (λ t. t.start) reads.read.token_is ∙ ap (λ o. o.token.start) reads.read.reads.outcome_is;
+  utf8 = utf8;
+  keeps = keeps;
+  has_value = has_value;
+}
+
+pub was_read : (has_read : Bool) (previous token : TokenParts) → last_read has_read previous ≡ Some token
+    → has_read ≡ true
+was_read true previous token e = refl
+was_read false previous token e = absurd (let no = e in cc)
+
+-- a lexer that took it is sound
+pub sound_taken : {goal : Goal} {token : TokenParts} {values more : Values} (has_read : Bool) (old new : Reader)
+    (trivia now : Trivia)
+    → IsReadAgain goal (last_read has_read trivia.attachment.previous) old values token new more
+    → IsSound old.source (last_read has_read trivia.attachment.previous) trivia values → now ≡ handle_token token trivia
+    → IsSound new.source (last_read has_read now.attachment.previous) now more
+sound_taken {goal} {token} {values} {more} has_read old new trivia now r sound e =
+    let read : ReadsWithoutGap goal (Some r.before) old token new =
+    subst (λ o. ReadsWithoutGap goal o old token new) r.last_is r.reads in
+    subst (λ b. IsSound new.source (last_read b now.attachment.previous) now more)
+    (sym (was_read has_read trivia.attachment.previous r.before r.last_is))
+    (sound_again goal r.before token old new trivia now values more r.utf8 (r.keeps.are_values sound.are_values)
+    read.read (subst (λ o. IsSound old.source o trivia values) r.last_is sound) r.starts e)
+
+-- and the token was read again, as contracts see it
+abbrev pub reads_taken : {goal : Goal} {token : TokenParts} {collects : Bool} {tokens now : List TokenParts}
+    {values more : Values} (has_read : Bool) (old new : Reader) (found after : GapFindings)
+    → IsReadAgain goal (last_read has_read found.trivia.attachment.previous) old values token new more
+    → IsSound old.source (last_read has_read found.trivia.attachment.previous) found.trivia values
+    → after.trivia ≡ handle_token token found.trivia → after.deferred ≡ found.deferred
+    → now ≡ (if collects then with_last tokens token else tokens)
+    → ReadsAgain goal (lexer_of collects old found has_read tokens values) token
+    (lexer_of collects new after has_read now more)
+reads_taken {goal} {token} {collects} {tokens} {now} {values} {more} has_read old new found after r sound told deferred
+    collected =
+    let same =
+    told_again (last_read has_read found.trivia.attachment.previous) token found.trivia after.trivia old.source values
+    sound told in
+    reads_again (lexer_of collects old found has_read tokens values) (lexer_of collects new after has_read now more)
+    old goal token new after.trivia.attachment.attached after.trivia.attachment.previous more
+    (subst IsUtf8 r.reads.read.text r.utf8) refl refl refl r.reads (r.keeps.kept sound.are_values) r.has_value same.0
+    (told_last token found.trivia after.trivia told)
+    (rw (
+      was_read has_read found.trivia.attachment.previous r.before r.last_is,
+      collected,
+      deferred,
+      same.1,
+      same.2,
+      same.3,
+    ) refl)
+
+-- and so was a regular expression
+pub regex_taken : {collects : Bool} {tokens now : List TokenParts} {values : Values} (has_read : Bool)
+    (read : RegexToken) (old new : Reader) (found after : GapFindings) (before : TokenParts)
+    → last_read has_read found.trivia.attachment.previous ≡ Some before → ReadsExpression before old read new
+    → IsUtf8 new.source.text
+    → IsSound old.source (last_read has_read found.trivia.attachment.previous) found.trivia values
+    → after.trivia ≡ handle_token read.token found.trivia → after.deferred ≡ found.deferred
+    → now ≡ (if collects then with_last tokens read.token else tokens)
+    → ReadsRegex (lexer_of collects old found has_read tokens values) read
+    (lexer_of collects new after has_read now values)
+regex_taken has_read read old new found after before is reads utf8 sound told deferred collected =
+    let last = last_read has_read found.trivia.attachment.previous in
+    let both : (again : ReadsWithoutGap RegularExpression last old read.token new)
+    × (again.read.outcome.regex ≡ Some (info_of read)) =
+    subst
+    (λ o. (again : ReadsWithoutGap RegularExpression o old read.token new)
+    × (again.read.outcome.regex ≡ Some (info_of read)))
+    (sym is) (reads.reads, reads.info) in
+    record {
+      again =
+          reads_taken has_read old new found after
+          (record (plainly last old new before expression_is_plain is reads.reads utf8) { reads = both.0 })
+          sound told deferred collected;
+      info = both.1;
+    }
+
+-- where the last token begins, which the goal may read again
+pub behind_one : {goal : Goal} {bytes : ℕ} {collects : Bool} {tokens : List TokenParts} {values : Values}
+    (mark offset : ℕ) (has_read : Bool) (r : Reader) (found : GapFindings)
+    → IsBehindFor goal (lexer_of collects r found has_read tokens values)
+    → bytes ≡ length (kind_text (kind_of_last (lexer_of collects r found has_read tokens values)))
+    → list_all (has_mark mark) (again_kinds goal) ≡ true
+    → IsSound r.source (last_read has_read found.trivia.attachment.previous) found.trivia values
+    → IsUtf8 r.source.text → offset ≡ r.source.place
+    → (bytes ≤ offset)
+    × StartsWith r.source.text (last_read has_read found.trivia.attachment.previous) mark (offset - bytes)
+behind_one {goal} {bytes} mark offset has_read r found behind bytes_are marked sound utf8 at =
+    starts_with goal mark bytes r.source.text (last_read has_read found.trivia.attachment.previous) offset
+    behind.token marked utf8 behind.last behind.kind_is bytes_are (at ∙ behind.place) sound.last_lies
+    sound.last_spelled
+
+-- a token without an escape that was read again from there
+pub from_mark : {goal : Goal} {token : TokenParts} {values : Values} {text : List ℕ} {mark start : ℕ}
+    (last : Option TokenParts) (old new : Reader) → IsPlain goal → StartsWith text last mark start
+    → ((before : TokenParts) → before.start ≡ start → ReadsWithoutGap goal (Some before) old token new)
+    → IsUtf8 new.source.text → IsReadAgain goal last old values token new values
+from_mark last old new plain starts reads utf8 =
+    plainly last old new starts.token plain starts.last_is (reads starts.token starts.at) utf8
