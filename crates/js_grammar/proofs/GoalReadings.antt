@@ -77,7 +77,7 @@ pub part_takes : (part : List ℕ → Option (List ℕ)) → FindsParts part →
     → TakesCharacters text rest
 part_takes part finds text rest e = subst (λ found. IfSome found (TakesCharacters text)) e (finds text)
 
-part_shorter : (part : List ℕ → Option (List ℕ)) → FindsParts part → (text rest : List ℕ) → part text ≡ Some rest
+pub part_shorter : (part : List ℕ → Option (List ℕ)) → FindsParts part → (text rest : List ℕ) → part text ≡ Some rest
     → length rest < length text
 part_shorter part finds text rest e =
     let taken = part_takes part finds text rest e in
@@ -87,7 +87,7 @@ part_shorter part finds text rest e =
     some_length [] some = absurd (some refl)
     some_length (x ∷ xs) some = omega arith
 
-behind_up_to_leaves : (part : List ℕ → Option (List ℕ)) → FindsParts part → (most : ℕ) (text : List ℕ)
+pub behind_up_to_leaves : (part : List ℕ → Option (List ℕ)) → FindsParts part → (most : ℕ) (text : List ℕ)
     → Leaves text (behind_up_to part most text)
 behind_up_to_leaves part finds zero text = leaves_all text
 behind_up_to_leaves part finds (suc most) text =

@@ -43,7 +43,7 @@ use Rattle.js_grammar.proofs.Unique.{reading_unique}
 
 -- What the longest of some punctuators is: it stands in the list and is spelled, and none that is spelled is longer; or
 -- none is spelled.
-abbrev IsLongest : SourceType → Bool → List ℕ → List Punctuator → Option Punctuator → Type 0
+abbrev pub IsLongest : SourceType → Bool → List ℕ → List Punctuator → Option Punctuator → Type 0
 IsLongest t line_has_ended text ps None = list_all (λ q. not (is_spelled t line_has_ended text q)) ps ≡ true
 IsLongest t line_has_ended text ps (Some p) =
     IsIn p ps × (is_spelled t line_has_ended text p ≡ true)
@@ -144,6 +144,11 @@ bare_spelling xs rest text kind e none no_number =
       has_no_escape kind xs none,
       no_number,
     ) refl
+
+-- and it begins the text
+pub longest_stands : (t : SourceType) (line_has_ended : Bool) (text : List ℕ) (p : Punctuator)
+    → IsLongest t line_has_ended text punctuators (Some p) → text ≡ p.text ++ drop (length p.text) text
+longest_stands t line_has_ended text p is = (longest_punctuator t line_has_ended text p is).here
 
 pub punctuator_reads_here : (t : SourceType) (line_has_ended : Bool) (text : List ℕ) (p : Punctuator)
     → IsLongest t line_has_ended text punctuators (Some p) → ReadsHere t line_has_ended text (read_punctuator text p)

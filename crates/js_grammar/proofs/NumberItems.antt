@@ -167,7 +167,7 @@ integer_is text e =
           rw other (rw first (run_is 10 text (rw other at e))))
     ]
 
-zero_begins : is_digit_of 10 48 ≡ true
+pub zero_begins : is_digit_of 10 48 ≡ true
 unfolding is_digit_of
 zero_begins = refl
 

@@ -24,7 +24,7 @@ use Rattle.js_grammar.proofs.StringSteps.{FindsHeads, none_or_some, good_ones, s
 use Rattle.js_grammar.proofs.StringSteps.{string_terminated, string_unterminated}
 
 -- a text is its items and what is left behind them
-items_and_rest : (step : List ℕ → Option StringItem) → FindsHeads step → (most : ℕ) (text : List ℕ)
+pub items_and_rest : (step : List ℕ → Option StringItem) → FindsHeads step → (most : ℕ) (text : List ℕ)
     → string_text (items_up_to step most text).items ++ (items_up_to step most text).rest ≡ text
 items_and_rest step heads zero text = refl
 items_and_rest step heads (suc most) text =

@@ -33,7 +33,7 @@ pub none_or_some : {A : Type 0} (found : Option A) → (found ≡ None) ⊎ ((x 
 none_or_some None = inl refl
 none_or_some (Some x) = inr (x, refl)
 
-shorter : (step : List ℕ → Option StringItem) → FindsHeads step → (text : List ℕ) (item : StringItem)
+pub shorter : (step : List ℕ → Option StringItem) → FindsHeads step → (text : List ℕ) (item : StringItem)
     → step text ≡ Some item → length item.rest < length text
 shorter step heads text item e =
     let head = heads text item e in

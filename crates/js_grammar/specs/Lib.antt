@@ -6,6 +6,7 @@ pub mod GapItems
 pub mod Goals
 pub mod Hashbang
 pub mod Jsx
+pub mod Moved
 pub mod Name
 pub mod Number
 pub mod NumberReads
@@ -14,9 +15,9 @@ pub mod PieceItems
 pub mod Punctuators
 pub mod Quoted
 pub mod ReLexed
-pub mod Reads
 pub mod Reading
 pub mod Readings
+pub mod Reads
 pub mod Recovery
 pub mod RegularExpression
 pub mod Spelling

@@ -18,7 +18,6 @@ pub mod MarkLaws
 pub mod NumberSteps
 pub mod PartSteps
 pub mod PlainSteps
-pub mod PrintableSteps
 pub mod ReadingLaws
 pub mod ReadingSteps
 pub mod ReLexSteps

@@ -2,7 +2,7 @@
 use Rattle.std.proofs.Common.{◌≡◌, ℕ, ◌≤◌, Bool, true, false, List, [], ◌∷◌, ◌++◌, zero, suc, refl, sym, ◌∙◌, ap}
 use Rattle.std.proofs.Common.{◌+◌, ◌<◌, ◌&&◌, length, length-append, drop, arith, add-zero}
 use Rattle.std.proofs.Common.{subst, append_assoc, append-nil, Option, Some, None}
-use Rattle.std.specs.Prelude.{codes, IfOk, OnErr, Result}
+use Rattle.std.specs.Prelude.{codes, is_some, IfOk, IsSome, OnErr, Result}
 use Rattle.std.specs.Char.{encode_utf8}
 use Rattle.std.proofs.lemmas.Str.{length-encode, len_utf8_bounds}
 use Rattle.std.specs.declared.alloc.AllocError.{AllocError}
@@ -24,7 +24,8 @@ use Rattle.js_grammar.specs.Goals.{line_has_ended_behind, ReadsBehindGap, ReadsP
 use Rattle.js_grammar.specs.Goals.ReadsHere.{spelled, recovers}
 use Rattle.js_grammar.specs.Goals.ReadsPlainly.{hashbang, behind_gap}
 use Rattle.js_grammar.specs.Hashbang.{begins_hashbang}
-use Rattle.js_grammar.specs.Recovery.{faulty}
+use Rattle.js_grammar.specs.Readings.{reading}
+use Rattle.js_grammar.specs.Recovery.{faulty, recovered}
 use Rattle.js_grammar.specs.Spelling.{NothingSpelled}
 use Rattle.js_grammar.specs.declared.goal.Goal.{Goal}
 use Rattle.js_grammar.specs.declared.goal.Goal.TheVariants.{First, Next, TemplateTail}
@@ -34,6 +35,7 @@ use Rattle.js_grammar.specs.declared.goal.Goal.TheVariants.{JsxAttributeValue}
 use Rattle.js_grammar.specs.Outcome.{Outcome, outcome_at, Findings, gap_findings, gap_deferred, joined, reports}
 use Rattle.js_grammar.specs.Reading.{place_behind, reported_at, size_of}
 use Rattle.js_grammar.specs.Reads.{is_plain}
+use Rattle.js_grammar.proofs.GapEnds.{reading_is_here}
 use Rattle.js_grammar.proofs.Flags.{IsUnflagged, has_no_escape}
 use Rattle.js_grammar.proofs.PieceLemmas.{from_first-hashbang}
 use Rattle.js_grammar.proofs.SpellingClasses.{nothing_spelled}
@@ -74,6 +76,16 @@ pub nothing_here : (t : SourceType) (line_has_ended : Bool) (here : List ℕ) �
     → NothingSpelled t line_has_ended here
 nothing_here t line_has_ended here n = nothing_spelled t line_has_ended here n.some n.no_named n.no_number
     n.no_quoted n.no_punctuator
+
+-- Where nothing that is spelled begins behind a whole gap, something is read to recover.
+pub recovers_some : (t : SourceType) (line_has_ended : Bool) (here : List ℕ)
+    → whole_gap_piece t line_has_ended here ≡ None → NothingHere t line_has_ended here → IsSome (recovered here)
+recovers_some t line_has_ended here gap n = by_reading (reading_is_here t line_has_ended here gap)
+  where
+    by_reading : ReadsHere t line_has_ended here (reading t line_has_ended here) → IsSome (recovered here)
+    by_reading (spelled xs spelling is) =
+        absurd (nothing_here t line_has_ended here n xs _ _ spelling.here spelling.spelling)
+    by_reading (recovers nothing e) = ap is_some e
 
 -- what was read to recover, and reported
 pub lexeme_recovered : (old new : Reader) (r : Recovered) → Recovers old.line_has_ended old.source r new.source

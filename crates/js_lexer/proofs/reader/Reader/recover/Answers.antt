@@ -1,8 +1,7 @@
 use Rattle.std.proofs.Common.{refl}
 use Rattle.std.proofs.lemmas.Result.{err_from_is_err_and}
 use Rattle.js_source.specs.Source.{rest}
-use Rattle.js_lexer.proofs.PrintableSteps.{recovers_some}
-use Rattle.js_lexer.proofs.ReadingSteps.{lexeme_recovered}
+use Rattle.js_lexer.proofs.ReadingSteps.{lexeme_recovered, recovers_some}
 use Rattle.js_lexer.proofs.WholeSteps.{stays}
 use Rattle.js_lexer.proofs.reader.Reader.recover.Goals as goal
 
