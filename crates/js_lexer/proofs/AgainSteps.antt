@@ -26,7 +26,7 @@ use Rattle.js_grammar.specs.declared.goal.Goal.TheVariants.{JsxChild, JsxIdentif
 use Rattle.js_grammar.specs.declared.goal.Goal.TheVariants.{TypeScriptLeftAngle, TypeScriptRightAngle}
 use Rattle.js_grammar.proofs.AgainKinds.{again_is_re_lexed, only_one}
 use Rattle.js_lexer.specs.Decoded.{HasValue, Values}
-use Rattle.js_lexer.specs.Reader.{ReadsWithoutGap}
+use Rattle.js_lexer.specs.Reader.{ReadsGoal}
 use Rattle.js_lexer.specs.declared.reader.Reader.{Reader}
 use Rattle.js_lexer.specs.Lexer.{IsBehindFor, IsOnPlaces, LexerState, kind_of_last, token_or_default}
 use Rattle.js_lexer.proofs.CheckpointSteps.{spelling_is_ascii}
@@ -99,72 +99,72 @@ angle_unescaped kinds text start token o are is reads =
     (angle_is_read kinds (from_place text start) are) reads).escaped
 
 pub left_unescaped : (before : TokenParts) (old new : Reader) (token : TokenParts)
-    → ReadsWithoutGap TypeScriptLeftAngle (Some before) old token new → token.escaped ≡ false
+    → ReadsGoal TypeScriptLeftAngle (Some before) old token new → token.escaped ≡ false
 left_unescaped before old new token r =
-    angle_unescaped first_left_angle old.source.text before.start token r.read.outcome angles.left r.read.token_is
-    r.read.reads
+    angle_unescaped first_left_angle old.source.text before.start token r.outcome angles.left r.token_is
+    r.reads
 
 pub right_unescaped : (before : TokenParts) (old new : Reader) (token : TokenParts)
-    → ReadsWithoutGap TypeScriptRightAngle (Some before) old token new → token.escaped ≡ false
+    → ReadsGoal TypeScriptRightAngle (Some before) old token new → token.escaped ≡ false
 right_unescaped before old new token r =
-    angle_unescaped first_right_angle old.source.text before.start token r.read.outcome angles.right r.read.token_is
-    r.read.reads
+    angle_unescaped first_right_angle old.source.text before.start token r.outcome angles.right r.token_is
+    r.reads
 
 pub longest_unescaped : (before : TokenParts) (old new : Reader) (token : TokenParts)
-    → ReadsWithoutGap RightAngle (Some before) old token new → token.escaped ≡ false
+    → ReadsGoal RightAngle (Some before) old token new → token.escaped ≡ false
 longest_unescaped before old new token r =
-    angle_unescaped right_angles old.source.text before.start token r.read.outcome angles.longest r.read.token_is
-    r.read.reads
+    angle_unescaped right_angles old.source.text before.start token r.outcome angles.longest r.token_is
+    r.reads
 
 pub expression_unescaped : (before : TokenParts) (old new : Reader) (token : TokenParts)
-    → ReadsWithoutGap RegularExpression (Some before) old token new → token.escaped ≡ false
+    → ReadsGoal RegularExpression (Some before) old token new → token.escaped ≡ false
 expression_unescaped before old new token r =
     let here = from_place old.source.text before.start in
-    ap (λ t. t.escaped) r.read.token_is
-    ∙ (from_takes old.source.text false before.start (regular_expression_reading here) r.read.outcome
-    (expression_read here) r.read.reads).escaped
+    ap (λ t. t.escaped) r.token_is
+    ∙ (from_takes old.source.text false before.start (regular_expression_reading here) r.outcome
+    (expression_read here) r.reads).escaped
 
 pub name_unescaped : (before : TokenParts) (old new : Reader) (token : TokenParts)
-    → ReadsWithoutGap JsxIdentifier (Some before) old token new → token.escaped ≡ false
+    → ReadsGoal JsxIdentifier (Some before) old token new → token.escaped ≡ false
 name_unescaped before old new token r =
-    ap (λ t. t.escaped) r.read.token_is
-    ∙ (jsx_name_takes old.source.text before r.read.outcome r.read.reads).escaped
+    ap (λ t. t.escaped) r.token_is
+    ∙ (jsx_name_takes old.source.text before r.outcome r.reads).escaped
 
 pub child_unescaped : (before : Option TokenParts) (old new : Reader) (token : TokenParts)
-    → ReadsWithoutGap JsxChild before old token new → token.escaped ≡ false
+    → ReadsGoal JsxChild before old token new → token.escaped ≡ false
 child_unescaped before old new token r =
     let here = rest old.source in
-    ap (λ t. t.escaped) r.read.token_is
+    ap (λ t. t.escaped) r.token_is
     ∙ (from_takes old.source.text (line_has_ended_behind before) old.source.place (Some (jsx_child_reading here))
-    r.read.outcome (child_is_read here) r.read.reads).escaped
+    r.outcome (child_is_read here) r.reads).escaped
 
 -- what was read again starts where the token before did
 pub left_starts : (before : TokenParts) (old new : Reader) (token : TokenParts)
-    → ReadsWithoutGap TypeScriptLeftAngle (Some before) old token new → token.start ≡ before.start
+    → ReadsGoal TypeScriptLeftAngle (Some before) old token new → token.start ≡ before.start
 left_starts before old new token r =
-    ap (λ t. t.start) r.read.token_is ∙ ap (λ o. o.token.start) r.read.reads.outcome_is
+    ap (λ t. t.start) r.token_is ∙ ap (λ o. o.token.start) r.reads.outcome_is
 
 pub right_starts : (before : TokenParts) (old new : Reader) (token : TokenParts)
-    → ReadsWithoutGap TypeScriptRightAngle (Some before) old token new → token.start ≡ before.start
+    → ReadsGoal TypeScriptRightAngle (Some before) old token new → token.start ≡ before.start
 right_starts before old new token r =
-    ap (λ t. t.start) r.read.token_is ∙ ap (λ o. o.token.start) r.read.reads.outcome_is
+    ap (λ t. t.start) r.token_is ∙ ap (λ o. o.token.start) r.reads.outcome_is
 
 pub longest_starts : (before : TokenParts) (old new : Reader) (token : TokenParts)
-    → ReadsWithoutGap RightAngle (Some before) old token new → token.start ≡ before.start
+    → ReadsGoal RightAngle (Some before) old token new → token.start ≡ before.start
 longest_starts before old new token r =
-    ap (λ t. t.start) r.read.token_is ∙ ap (λ o. o.token.start) r.read.reads.outcome_is
+    ap (λ t. t.start) r.token_is ∙ ap (λ o. o.token.start) r.reads.outcome_is
 
 pub expression_starts : (before : TokenParts) (old new : Reader) (token : TokenParts)
-    → ReadsWithoutGap RegularExpression (Some before) old token new → token.start ≡ before.start
+    → ReadsGoal RegularExpression (Some before) old token new → token.start ≡ before.start
 expression_starts before old new token r =
-    ap (λ t. t.start) r.read.token_is ∙ ap (λ o. o.token.start) r.read.reads.outcome_is
+    ap (λ t. t.start) r.token_is ∙ ap (λ o. o.token.start) r.reads.outcome_is
 
 pub name_starts : (before : TokenParts) (old new : Reader) (token : TokenParts)
-    → ReadsWithoutGap JsxIdentifier (Some before) old token new → token.start ≡ before.start
+    → ReadsGoal JsxIdentifier (Some before) old token new → token.start ≡ before.start
 name_starts before old new token r =
-    ap (λ t. t.start) r.read.token_is ∙ ap (λ o. o.token.start) r.read.reads.reads.outcome_is
+    ap (λ t. t.start) r.token_is ∙ ap (λ o. o.token.start) r.reads.reads.outcome_is
 
 -- a child of JSX starts where the reader stood
 pub child_starts : (before : Option TokenParts) (old new : Reader) (token : TokenParts)
-    → (r : ReadsWithoutGap JsxChild before old token new) → old.source.place ≤ r.read.outcome.token.start
-child_starts before old new token r = omega (arith, ap (λ o. o.token.start) r.read.reads.outcome_is)
+    → (r : ReadsGoal JsxChild before old token new) → old.source.place ≤ r.outcome.token.start
+child_starts before old new token r = omega (arith, ap (λ o. o.token.start) r.reads.outcome_is)

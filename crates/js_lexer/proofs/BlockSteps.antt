@@ -22,7 +22,7 @@ use Rattle.js_trivia.specs.Trivia.{add_comment, found_in}
 use Rattle.js_lexer.specs.Comments.{ReadsCut}
 use Rattle.js_lexer.specs.Gaps.{TakesMark}
 use Rattle.js_lexer.specs.Reader.{SkipsSome}
-use Rattle.js_lexer.specs.declared.found.GapFindings.{GapFindings}
+use Rattle.js_lexer.specs.declared.findings_builder.FindingsBuilder.{FindingsBuilder}
 use Rattle.js_lexer.specs.declared.reader.Reader.{Reader}
 use Rattle.js_lexer.specs.declared.skipped.Skipped.TheVariants.{Piece as Skips}
 use Rattle.js_lexer.proofs.CommentTexts.{IsMarked, found_is}
@@ -55,7 +55,8 @@ unfolding EndsInMark
 one_more mark c None h = tt
 one_more mark c (Some cut) h = (c ∷ h.0, ap (λ xs. c ∷ xs) h.1)
 
-by_test : (mark : List ℕ) (c : ℕ) (cs : List ℕ) (b : Bool) → EndsInMark mark (option_map (cut-cons c) (cut_behind mark cs))
+by_test : (mark : List ℕ) (c : ℕ) (cs : List ℕ) (b : Bool) → EndsInMark mark
+    (option_map (cut-cons c) (cut_behind mark cs))
     → EndsInMark mark
     (if b then Some (record { front = mark; rest = drop (length mark) (c ∷ cs) })
     else option_map (cut-cons c) (cut_behind mark cs))
@@ -113,17 +114,19 @@ unfolding is_line_terminator
 mark_has_no_line_end cs = refl
 
 -- a block comment that ends
-pub block_skipped : (old : Reader) (before : GapFindings) (mid : At) (new : Reader) (after : GapFindings) (inside : Bool)
+pub block_skipped : (old : Reader) (before : FindingsBuilder) (mid : At) (new : Reader) (after : FindingsBuilder)
+    (inside : Bool)
     → IsPlaced old.source → IsPlaced new.source → TakesMark (codes "/*") old.source true mid
     → new.source.text ≡ mid.text → ReadsCut false (cut_behind (codes "*/") (rest mid)) new.source (Skips inside)
-    → new.source_type ≡ old.source_type → new.errors ≡ old.errors
-    → new.line_has_ended ≡ (old.line_has_ended || inside) → after.deferred ≡ before.deferred
+    → new.source_type ≡ old.source_type
+    → new.line_has_ended ≡ (old.line_has_ended || inside) → after.errors ≡ before.errors
+    → after.deferred ≡ before.deferred
     → after.trivia
     ≡ add_comment
     (found_in old.source.text (kind_by inside) (record { start = old.source.place; end = new.source.place }))
     before.trivia
     → SkipsSome old before new after
-block_skipped old before mid new after inside h g takes text cuts source_type errors line_has_ended deferred trivia =
+block_skipped old before mid new after inside h g takes text cuts source_type line_has_ended errors deferred trivia =
     let cut = cuts.0 in
     let marked = block_marked old.source mid new.source inside h g takes text cuts in
     let front = block_front old.source mid new.source inside h g takes text cuts in
@@ -137,8 +140,8 @@ block_skipped old before mid new after inside h g takes text cuts source_type er
     let kind : block_kind x.text ≡ kind_by inside =
     ap kind_by (mark_has_no_line_end cut.front ∙ has_line_end) in
     let p : IsBehindPiece false old before false new after = record {
-      within = record { source_type = source_type; errors = errors };
       text = text ∙ takes.0;
+      source_type = source_type;
       x = x;
       is_next =
           ap (piece old.source_type old.line_has_ended) takes.1
@@ -153,7 +156,8 @@ block_skipped old before mid new after inside h g takes text cuts source_type er
           ∙ sym (append_assoc (codes "/*") cut.front (rest new.source)));
       adds =
           adds_items false old.source_type old.source.place x before after
-          (comment (found_comment old.source.place (block_kind x.text) x) ∷ []) refl refl deferred
+          (comment (found_comment old.source.place (block_kind x.text) x) ∷ []) refl refl refl errors
+          deferred
           (trivia
           ∙ ap (λ f. add_comment f before.trivia)
           (found_is old.source.text (kind_by inside) old.source.place new.source.place (codes "/*") front.0 (codes "*/")

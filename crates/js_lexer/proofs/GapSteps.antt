@@ -19,18 +19,18 @@ use Rattle.js_source.specs.Source.{At, rest, IsPlaced, Reads}
 use Rattle.js_source.specs.Runs.{IsRun, PassesRun}
 use Rattle.js_trivia.specs.Trivia.{calls, handle_newline}
 use Rattle.js_lexer.specs.Gaps.{AddsPieces, IsAtLineEnd}
-use Rattle.js_lexer.specs.Reader.{SkipsWithin, SkipsGap, Leads, SkipsSome, SkipsPiece}
+use Rattle.js_lexer.specs.Reader.{SkipsGap, Leads, SkipsSome, SkipsPiece}
 use Rattle.js_lexer.specs.Reader.{SkipsEndOfLine, IsUnmoved}
 use Rattle.js_lexer.specs.Tables.{TellsBlanks}
-use Rattle.js_lexer.specs.declared.found.GapFindings.{GapFindings}
+use Rattle.js_lexer.specs.declared.findings_builder.FindingsBuilder.{FindingsBuilder}
 use Rattle.js_lexer.specs.declared.reader.Reader.{Reader}
 use Rattle.js_lexer.proofs.TriviaSteps.{adds_none, adds_items, adds_behind, calls-append}
 
 -- one piece of a gap, behind which the reader stands, and what was told of it
-pub record IsBehindPiece (behind : Bool) (old : Reader) (before : GapFindings) (ends : Bool) (new : Reader)
-    (after : GapFindings) : Type 0 where
-  pub within : SkipsWithin old new
+pub record IsBehindPiece (behind : Bool) (old : Reader) (before : FindingsBuilder) (ends : Bool) (new : Reader)
+    (after : FindingsBuilder) : Type 0 where
   pub text : new.source.text ≡ old.source.text
+  pub source_type : new.source_type ≡ old.source_type
   pub x : Piece
   pub is_next : piece old.source_type old.line_has_ended (rest old.source) ≡ Some x
   pub line_has_ended : x.line_has_ended ≡ new.line_has_ended
@@ -41,26 +41,24 @@ pub record IsBehindPiece (behind : Bool) (old : Reader) (before : GapFindings) (
   pub ends_line : is_line_comment x.kind ≡ ends
 
 -- a piece that was skipped, before a longest gap
-pub piece_leads : (behind : Bool) (old : Reader) (before : GapFindings) (ends : Bool) (new : Reader)
-    (after : GapFindings) → IsBehindPiece behind old before ends new after → Leads behind old before ends new after
+pub piece_leads : (behind : Bool) (old : Reader) (before : FindingsBuilder) (ends : Bool) (new : Reader)
+    (after : FindingsBuilder) → IsBehindPiece behind old before ends new after → Leads behind old before ends new after
 piece_leads behind old before ends new after p later found s =
     let t = old.source_type in
     let pieces = s.gap.pieces in
     let all : AllPieces (piece t) p.x.line_has_ended p.x.rest pieces later.line_has_ended (rest later.source) =
     subst (λ b. AllPieces (piece t) b p.x.rest pieces later.line_has_ended (rest later.source)) (sym p.line_has_ended)
-    (subst (λ cs. AllPieces (piece t) new.line_has_ended cs pieces later.line_has_ended (rest later.source)) (sym p.left)
+    (subst (λ cs. AllPieces (piece t) new.line_has_ended cs pieces later.line_has_ended (rest later.source))
+    (sym p.left)
     (subst (λ u. AllPieces (piece u) new.line_has_ended (rest new.source) pieces later.line_has_ended
-    (rest later.source)) p.within.source_type s.gap.all)) in
+    (rest later.source)) p.source_type s.gap.all)) in
     let adds : AddsPieces (is_line_comment p.x.kind) t (old.source.place + piece_length p.x) pieces after found =
     subst (λ b. AddsPieces b t (old.source.place + piece_length p.x) pieces after found) (sym p.ends_line)
     (subst (λ n. AddsPieces ends t n pieces after found) p.place
-    (subst (λ u. AddsPieces ends u new.source.place pieces after found) p.within.source_type s.adds)) in
+    (subst (λ u. AddsPieces ends u new.source.place pieces after found) p.source_type s.adds)) in
     record {
-      within = record {
-        source_type = s.within.source_type ∙ p.within.source_type;
-        errors = s.within.errors ∙ p.within.errors;
-      };
       text = s.text ∙ p.text;
+      source_type = s.source_type ∙ p.source_type;
       gap = record {
         pieces = p.x ∷ pieces;
         all =
@@ -70,18 +68,18 @@ piece_leads behind old before ends new after p later found s =
       adds = adds_behind behind t old.source.place p.x pieces before after found p.adds adds;
     }
 
-pub piece_shorter : (behind : Bool) (old : Reader) (before : GapFindings) (ends : Bool) (new : Reader)
-    (after : GapFindings) → IsBehindPiece behind old before ends new after
+pub piece_shorter : (behind : Bool) (old : Reader) (before : FindingsBuilder) (ends : Bool) (new : Reader)
+    (after : FindingsBuilder) → IsBehindPiece behind old before ends new after
     → length (rest new.source) < length (rest old.source)
 piece_shorter behind old before ends new after p =
     subst (λ (xs : List ℕ). length xs < length (rest old.source)) p.left
     (piece_takes old.source_type old.line_has_ended (rest old.source) p.x p.is_next)
 
-pub some_skipped : (old : Reader) (before : GapFindings) (new : Reader) (after : GapFindings)
+pub some_skipped : (old : Reader) (before : FindingsBuilder) (new : Reader) (after : FindingsBuilder)
     → IsBehindPiece false old before false new after → IsPlaced new.source → SkipsSome old before new after
 some_skipped old before new after p g = record {
-  within = p.within;
   text = p.text;
+  source_type = p.source_type;
   leads = piece_leads false old before false new after p;
   fewer = piece_shorter false old before false new after p;
   placed = g;
@@ -108,12 +106,13 @@ character_on old new c h g text here =
     )
 
 -- where no piece begins, the longest gap is empty
-pub no_gap_left : (behind : Bool) (old new : Reader) (before after : GapFindings) → IsUnmoved old new → after ≡ before
+pub no_gap_left : (behind : Bool) (old new : Reader) (before after : FindingsBuilder) → IsUnmoved old new
+    → after ≡ before
     → piece old.source_type old.line_has_ended (rest old.source) ≡ None → SkipsGap behind old before new after
 no_gap_left behind old new before after same e none =
     subst (λ f. SkipsGap behind old before new f) (sym e) record {
-      within = record { source_type = same.stays.source_type; errors = same.stays.errors };
       text = ap (λ (a : At). a.text) same.source;
+      source_type = same.stays.source_type;
       gap = record {
         pieces = [];
         all =
@@ -127,7 +126,7 @@ no_gap_left behind old new before after same e none =
     }
 
 -- a longest gap from a reader that has not moved
-pub gap_from : (behind : Bool) (old mid later : Reader) (before found : GapFindings) → IsUnmoved old mid
+pub gap_from : (behind : Bool) (old mid later : Reader) (before found : FindingsBuilder) → IsUnmoved old mid
     → SkipsGap behind mid before later found → SkipsGap behind old before later found
 gap_from behind old mid later before found same s =
     let moved : SkipsGap behind
@@ -135,50 +134,43 @@ gap_from behind old mid later before found same s =
       source = old.source;
       source_type = old.source_type;
       line_has_ended = old.line_has_ended;
-      errors = old.errors;
     }) before later found =
     subst (λ (a : At). SkipsGap behind
     (record mid {
       source = a;
       source_type = old.source_type;
       line_has_ended = old.line_has_ended;
-      errors = old.errors;
     }) before later found) same.source
     (subst (λ t. SkipsGap behind
-    (record mid { source_type = t; line_has_ended = old.line_has_ended; errors = old.errors }) before later found)
+    (record mid { source_type = t; line_has_ended = old.line_has_ended }) before later found)
     same.stays.source_type
-    (subst (λ b. SkipsGap behind (record mid { line_has_ended = b; errors = old.errors }) before later found)
-    same.stays.line_has_ended
-    (subst (λ es. SkipsGap behind (record mid { errors = es }) before later found) same.stays.errors s))) in
+    (subst (λ b. SkipsGap behind (record mid { line_has_ended = b }) before later found) same.stays.line_has_ended s))
+    in
     same_fields behind mid old later before found moved
   where
-    same_fields : (behind : Bool) (mid old later : Reader) (before found : GapFindings)
+    same_fields : (behind : Bool) (mid old later : Reader) (before found : FindingsBuilder)
         → SkipsGap behind
         (record mid {
           source = old.source;
           source_type = old.source_type;
           line_has_ended = old.line_has_ended;
-          errors = old.errors;
         }) before later found
         → SkipsGap behind old before later found
     same_fields behind mid old later before found s = record {
-      within = record { source_type = s.within.source_type; errors = s.within.errors };
       text = s.text;
+      source_type = s.source_type;
       gap = s.gap;
       adds = s.adds;
     }
 
 -- and a piece
-pub piece_from : (old mid new : Reader) (before told after : GapFindings) (skipped : Bool) → IsUnmoved old mid
+pub piece_from : (old mid new : Reader) (before told after : FindingsBuilder) (skipped : Bool) → IsUnmoved old mid
     → told ≡ before → SkipsPiece mid told skipped new after → SkipsPiece old before skipped new after
 piece_from old mid new before told after true same e s =
     let there : SkipsSome mid before new after = subst (λ f. SkipsSome mid f new after) e s in
     record {
-      within = record {
-        source_type = there.within.source_type ∙ same.stays.source_type;
-        errors = there.within.errors ∙ same.stays.errors;
-      };
       text = there.text ∙ ap (λ (a : At). a.text) same.source;
+      source_type = there.source_type ∙ same.stays.source_type;
       leads = λ later found g. gap_from false old mid later before found same (there.leads later found g);
       fewer = subst (λ (a : At). length (rest new.source) < length (rest a)) same.source there.fewer;
       placed = there.placed;
@@ -189,7 +181,6 @@ piece_from old mid new before told after false same e s = (
     stays = record {
       source_type = s.0.stays.source_type ∙ same.stays.source_type;
       line_has_ended = s.0.stays.line_has_ended ∙ same.stays.line_has_ended;
-      errors = s.0.stays.errors ∙ same.stays.errors;
     };
   },
   s.1 ∙ e,
@@ -198,19 +189,21 @@ piece_from old mid new before told after false same e s = (
       ∙ ap (λ (a : At). piece mid.source_type mid.line_has_ended (rest a)) (sym same.source) ∙ s.2,
 )
 
-module _ (old : Reader) (before : GapFindings) (source : At) (c : ℕ) (h : IsPlaced old.source) (g : IsPlaced source)
+module _ (old : Reader) (before : FindingsBuilder) (source : At) (c : ℕ) (h : IsPlaced old.source) (g : IsPlaced source)
     (text : source.text ≡ old.source.text) (here : rest old.source ≡ c ∷ rest source) where
   -- a character of white space
-  pub white_skipped : (after : GapFindings) → is_white_space c ≡ true → after.deferred ≡ before.deferred
+  pub white_skipped : (after : FindingsBuilder) → is_white_space c ≡ true → after.errors ≡ before.errors
+      → after.deferred ≡ before.deferred
       → after.trivia
-      ≡ calls (listed_if (is_irregular_whitespace c) (record { start = old.source.place; end = source.place })) before.trivia
+      ≡ calls (listed_if (is_irregular_whitespace c) (record { start = old.source.place; end = source.place }))
+      before.trivia
       → IsBehindPiece false old before false (record old { source = source }) after
-  white_skipped after white deferred trivia =
+  white_skipped after white errors deferred trivia =
       let x = one_character white_space old.line_has_ended c (rest source) in
       let place : source.place ≡ old.source.place + piece_length x = on_to old.source source (c ∷ []) h g text here in
       record {
-        within = record { source_type = refl; errors = refl };
         text = text;
+        source_type = refl;
         x = x;
         is_next =
             ap (piece old.source_type old.line_has_ended) here
@@ -220,7 +213,7 @@ module _ (old : Reader) (before : GapFindings) (source : At) (c : ℕ) (h : IsPl
         place = place;
         adds =
             adds_items false old.source_type old.source.place x before after
-            (listed_if (is_irregular_whitespace c) (piece_span old.source.place x)) refl refl deferred
+            (listed_if (is_irregular_whitespace c) (piece_span old.source.place x)) refl refl refl errors deferred
             (trivia
             ∙ ap (λ n. calls (listed_if (is_irregular_whitespace c) (record { start = old.source.place; end = n }))
             before.trivia) place);
@@ -228,20 +221,21 @@ module _ (old : Reader) (before : GapFindings) (source : At) (c : ℕ) (h : IsPl
       }
 
   -- a line terminator, which is listed where it is one of two and stands behind no line comment
-  pub line_end_skipped : (behind : Bool) (after : GapFindings) → is_white_space c ≡ false → is_line_terminator c ≡ true
-      → after.deferred ≡ before.deferred
+  pub line_end_skipped : (behind : Bool) (after : FindingsBuilder) → is_white_space c ≡ false
+      → is_line_terminator c ≡ true
+      → after.errors ≡ before.errors → after.deferred ≡ before.deferred
       → after.trivia
       ≡ handle_newline
       (calls (listed_if (is_separator c && not behind) (record { start = old.source.place; end = source.place }))
       before.trivia)
       → IsBehindPiece behind old before false (record old { source = source; line_has_ended = true }) after
-  line_end_skipped behind after dark ends deferred trivia =
+  line_end_skipped behind after dark ends errors deferred trivia =
       let x = one_character line_terminator true c (rest source) in
       let place : source.place ≡ old.source.place + piece_length x = on_to old.source source (c ∷ []) h g text here in
       let listed = listed_if (is_separator c && not behind) (piece_span old.source.place x) in
       record {
-        within = record { source_type = refl; errors = refl };
         text = text;
+        source_type = refl;
         x = x;
         is_next =
             ap (piece old.source_type old.line_has_ended) here
@@ -250,8 +244,8 @@ module _ (old : Reader) (before : GapFindings) (source : At) (c : ℕ) (h : IsPl
         left = refl;
         place = place;
         adds =
-            adds_items behind old.source_type old.source.place x before after (listed ++ line_end ∷ []) refl refl
-            deferred
+            adds_items behind old.source_type old.source.place x before after (listed ++ line_end ∷ []) refl refl refl
+            errors deferred
             (trivia
             ∙ ap (λ n. handle_newline (calls (listed_if (is_separator c && not behind)
             (record { start = old.source.place; end = n })) before.trivia)) place
@@ -297,21 +291,23 @@ not_false true e = refl
 not_false false e = absurd (cc)
 
 -- the line end behind a line comment
-pub end_of_line : (old : Reader) (before : GapFindings) (source : At) (c : ℕ) (after : GapFindings) → IsPlaced old.source
+pub end_of_line : (old : Reader) (before : FindingsBuilder) (source : At) (c : ℕ) (after : FindingsBuilder)
+    → IsPlaced old.source
     → IsPlaced source → Reads old.source source c → IsAtLineEnd (rest old.source)
-    → after.deferred ≡ before.deferred → after.trivia ≡ handle_newline before.trivia
+    → after.errors ≡ before.errors → after.deferred ≡ before.deferred → after.trivia ≡ handle_newline before.trivia
     → SkipsEndOfLine old before (record old { source = source; line_has_ended = true }) after
-end_of_line old before source c after h g reads end deferred trivia =
+end_of_line old before source c after h g reads end errors deferred trivia =
     let ends : is_line_terminator c ≡ true =
     not_false (is_line_terminator c) (sym (ap (begins (λ d. not (is_line_terminator d))) reads.here) ∙ end) in
     let span : Span = record { start = old.source.place; end = source.place } in
     let p : IsBehindPiece true old before false (record old { source = source; line_has_ended = true }) after =
-    line_end_skipped old before source c h g reads.text reads.here true after (line_end_is_dark c ends) ends deferred
+    line_end_skipped old before source c h g reads.text reads.here true after
+    (line_end_is_dark c ends) ends errors deferred
     (trivia
     ∙ ap (λ b. handle_newline (calls (listed_if b span) before.trivia)) (sym (and_false (is_separator c)))) in
     record {
-      within = p.within;
       text = p.text;
+      source_type = p.source_type;
       leads = piece_leads true old before false (record old { source = source; line_has_ended = true }) after p;
       fewer = omega (arith, ap length reads.here);
     }
@@ -322,12 +318,12 @@ no_pieces t line_has_ended [] e r h = refl
 no_pieces t line_has_ended (x ∷ xs) e r h = absurd (let none = h.0 in cc)
 
 -- and at the end of the text nothing follows a line comment
-pub end_of_text : (old : Reader) (before : GapFindings) (source : At) → source ≡ old.source → rest old.source ≡ []
+pub end_of_text : (old : Reader) (before : FindingsBuilder) (source : At) → source ≡ old.source → rest old.source ≡ []
     → SkipsEndOfLine old before (record old { source = source }) before
 end_of_text old before source same none =
     subst (λ (a : At). SkipsEndOfLine old before (record old { source = a }) before) (sym same) record {
-      within = record { source_type = refl; errors = refl };
       text = refl;
+      source_type = refl;
       leads = λ later found s.
           let t = old.source_type in
           let empty : s.gap.pieces ≡ [] =
@@ -339,26 +335,28 @@ end_of_text old before source same none =
           let adds : AddsPieces false t old.source.place [] before found =
           subst (λ xs. AddsPieces false t old.source.place xs before found) empty s.adds in
           record {
-            within = s.within;
             text = s.text;
+            source_type = s.source_type;
             gap = record { pieces = []; all = all };
-            adds = record { deferred = adds.deferred; trivia = adds.trivia };
+            adds = record { errors = adds.errors; deferred = adds.deferred; trivia = adds.trivia };
           };
       fewer = omega arith;
     }
 
 -- LF
-pub line_feed_skipped : (old : Reader) (before : GapFindings) (source : At) (after : GapFindings) → IsPlaced old.source
+pub line_feed_skipped : (old : Reader) (before : FindingsBuilder) (source : At) (after : FindingsBuilder)
+    → IsPlaced old.source
     → IsPlaced source → source.text ≡ old.source.text → rest old.source ≡ 10 ∷ rest source
-    → after.deferred ≡ before.deferred → after.trivia ≡ handle_newline before.trivia
+    → after.errors ≡ before.errors → after.deferred ≡ before.deferred → after.trivia ≡ handle_newline before.trivia
     → SkipsSome old before (record old { source = source; line_has_ended = true }) after
 unfolding is_white_space is_irregular_whitespace is_line_terminator is_separator
-line_feed_skipped old before source after h g text here deferred trivia =
+line_feed_skipped old before source after h g text here errors deferred trivia =
     some_skipped old before (record old { source = source; line_has_ended = true }) after
-    (line_end_skipped old before source 10 h g text here false after refl refl deferred trivia) g
+    (line_end_skipped old before source 10 h g text here false after refl refl errors deferred trivia) g
 
 -- TABs and SPs
-blank_run : (table : List Bool) → TellsBlanks table → (run : List ℕ) (old : Reader) (source : At) (found : GapFindings)
+blank_run : (table : List Bool) → TellsBlanks table → (run : List ℕ) (old : Reader) (source : At)
+    (found : FindingsBuilder)
     → IsRun table run → IsPlaced old.source → IsPlaced source → source.text ≡ old.source.text
     → rest old.source ≡ run ++ rest source → Leads false old found false (record old { source = source }) found
 blank_run table tells [] old source found all h g text here later after s =
@@ -374,11 +372,11 @@ blank_run table tells (b ∷ bs) old source found all h g text here later after 
     let placed : IsPlaced mid = record { utf8 = h.utf8; short = h.short; boundary = past.0 } in
     let p : IsBehindPiece false old found false (record old { source = mid }) found =
     white_skipped old found mid b h placed refl (here ∙ ap (λ cs. b ∷ cs) (sym past.1)) found
-    (tells.tells b all.0 all.1) refl (rw (tells.plain b all.0 all.1) refl) in
+    (tells.tells b all.0 all.1) refl refl (rw (tells.plain b all.0 all.1) refl) in
     piece_leads false old found false (record old { source = mid }) found p later after
     (blank_run table tells bs (record old { source = mid }) source found all.2 placed g text past.1 later after s)
 
-pub blanks_lead : (table : List Bool) → TellsBlanks table → (old : Reader) (source : At) (found : GapFindings)
+pub blanks_lead : (table : List Bool) → TellsBlanks table → (old : Reader) (source : At) (found : FindingsBuilder)
     → IsPlaced old.source → IsPlaced source → source.text ≡ old.source.text
     → PassesRun table old.source.text old.source.place source.place
     → Leads false old found false (record old { source = source }) found
@@ -387,7 +385,7 @@ blanks_lead table tells old source found h g text run =
     (run.here ∙ ap (λ u. run.run ++ from_place u source.place) (sym text))
 
 -- a reader that is as another but for its tables has the same longest gaps
-pub leads_to : (old mid new : Reader) (before after : GapFindings) → Leads false old before false mid after
+pub leads_to : (old mid new : Reader) (before after : FindingsBuilder) → Leads false old before false mid after
     → IsUnmoved new mid → Leads false old before false new after
 leads_to old mid new before after leads same later found s =
     leads later found (gap_from false mid new later after found (turned new mid same) s)
@@ -398,6 +396,5 @@ leads_to old mid new before after leads same later found s =
       stays = record {
         source_type = sym same.stays.source_type;
         line_has_ended = sym same.stays.line_has_ended;
-        errors = sym same.stays.errors;
       };
     }

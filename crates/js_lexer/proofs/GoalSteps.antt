@@ -7,6 +7,7 @@ use Rattle.std.specs.Str.{IsCharBoundary, IsUtf8, chars}
 use Rattle.std.proofs.lemmas.Str.{IsUtf8-between, chars-append}
 use Rattle.js_text.specs.Ascii.{greater_than_sign, hyphen_minus, less_than_sign, slash}
 use Rattle.js_text.specs.Characters.{begins, from_place}
+use Rattle.js_text.specs.declared.diagnostic.Diagnostic.{Diagnostic}
 use Rattle.js_text.specs.declared.reg_exp_flags.RegexInfo.{RegexInfo}
 use Rattle.js_kind.specs.TokenParts.{TokenParts}
 use Rattle.js_kind.specs.declared.kind.Kind.{Kind}
@@ -36,7 +37,7 @@ use Rattle.js_spell.specs.RegularExpression.{SpellsExpression}
 use Rattle.js_spell.specs.Spells.{ReadsAs}
 use Rattle.js_spell.proofs.NumericSteps.{leads_to}
 use Rattle.js_lexer.specs.Goals.{ReadsExpression, ReadsNameOn}
-use Rattle.js_lexer.specs.Reader.{ReadsWithoutGap, read_token}
+use Rattle.js_lexer.specs.Reader.{ReadsSilently, ReadsWithoutGap, read_token}
 use Rattle.js_lexer.specs.declared.reader.Reader.{Reader}
 
 -- This was read of a token from the start on, without a flag, and the source stands behind it.
@@ -88,13 +89,14 @@ token_of line_has_ended kind r kind_is =
     let is = is_read r in rw (ends_there r, is.line, is.escaped, is.separator, kind_is) refl
 
 -- a reading of a goal, by what was read
-abbrev pub goal_read : {read : Option Reading} {start : ℕ} {found : Reading} (goal : Goal) (before : Option TokenParts)
+abbrev pub goal_read : {read : Option Reading} {start : ℕ} {found : Reading} {told later : List Diagnostic}
+    (goal : Goal) (before : Option TokenParts)
     (old new : Reader) (line_has_ended : Bool) (kind : Kind) (token : TokenParts)
     → ReadTo old.source.text start read found new.source
     → new.source_type ≡ old.source_type → token ≡ read_token line_has_ended start new.source.place kind
-    → found.kind ≡ kind → new.errors ≡ old.errors ++ reported_at start found
+    → found.kind ≡ kind → later ≡ told ++ reported_at start found
     → GoalReads old.source.text old.source_type goal before old.source.place (outcome_at line_has_ended start found)
-    → ReadsWithoutGap goal before old token new
+    → ReadsWithoutGap goal before old told token new later
 goal_read {start} {found} goal before old new line_has_ended kind token to source_type is kind_is errors reads =
     record {
       read = record {
@@ -104,9 +106,9 @@ goal_read {start} {found} goal before old new line_has_ended kind token to sourc
         outcome = outcome_at line_has_ended start found;
         token_is = is ∙ token_of line_has_ended kind to kind_is;
         reads = reads;
-        errors = errors;
       };
       findings = refl;
+      errors = errors;
     }
 
 -- The source stands behind a mark with which a token starts.
@@ -148,9 +150,10 @@ expression_kind behind =
     ]
 
 -- a regular expression
-expression_to : (start : ℕ) (old new : Reader) (mid : At) (info : RegexInfo) → IsBehindMark slash start old mid
+expression_to : {told later : List Diagnostic} (start : ℕ) (old new : Reader) (mid : At) (info : RegexInfo)
+    → IsBehindMark slash start old mid
     → IsPlaced new.source
-    → SpellsExpression (regular_expression (rest mid)) start mid new.source old.errors new.errors info
+    → SpellsExpression (regular_expression (rest mid)) start mid new.source told later info
     → ReadTo old.source.text start (regular_expression_reading (from_place old.source.text start))
     (regular_expression (rest mid)) new.source
 expression_to start old new mid info behind placed spells = record {
@@ -162,26 +165,27 @@ expression_to start old new mid info behind placed spells = record {
   all = expression_read (from_place old.source.text start);
 }
 
-pub expression_ordered : (start : ℕ) (old new : Reader) (mid : At) (info : RegexInfo)
+pub expression_ordered : {told later : List Diagnostic} (start : ℕ) (old new : Reader) (mid : At) (info : RegexInfo)
     → IsBehindMark slash start old mid → IsPlaced new.source
-    → SpellsExpression (regular_expression (rest mid)) start mid new.source old.errors new.errors info
+    → SpellsExpression (regular_expression (rest mid)) start mid new.source told later info
     → start ≤ new.source.place
 expression_ordered start old new mid info behind placed spells =
     goes_on (expression_to start old new mid info behind placed spells)
 
-pub expression_goal : (start : ℕ) (old new : Reader) (mid : At) (info : RegexInfo) (token : TokenParts)
+pub expression_goal : {told later : List Diagnostic} (start : ℕ) (old new : Reader) (mid : At) (info : RegexInfo)
+    (token : TokenParts)
     → IsBehindMark slash start old mid → IsPlaced new.source
-    → SpellsExpression (regular_expression (rest mid)) start mid new.source old.errors new.errors info
+    → SpellsExpression (regular_expression (rest mid)) start mid new.source told later info
     → new.source_type ≡ old.source_type → token ≡ read_token false start new.source.place RegExp
     → (before : TokenParts) → before.start ≡ start
-    → ReadsExpression before old
+    → ReadsExpression before old told
     (record {
       token = token;
       pattern_end = info.pattern_end;
       flags = info.flags;
       flags_error = info.flags_error;
     })
-    new
+    new later
 expression_goal start old new mid info token behind placed spells source_type is before at =
     let to = expression_to start old new mid info behind placed spells in
     record {
@@ -214,14 +218,14 @@ angle_read : (goal : Goal) (mark start : ℕ) (kinds : List Kind) (kind : Kind) 
     (token before : TokenParts)
     → ReadTo old.source.text start (angle_reading kinds (from_place old.source.text start))
     (read_up_to kind (mark ∷ rest mid) (rest new.source)) new.source
-    → new.source_type ≡ old.source_type → new.errors ≡ old.errors
+    → new.source_type ≡ old.source_type
     → token ≡ read_token false start new.source.place kind → before.start ≡ start
     → ((o : Outcome) → ReadsAngle old.source.text kinds before.start o
     → GoalReads old.source.text old.source_type goal (Some before) old.source.place o)
-    → ReadsWithoutGap goal (Some before) old token new
-angle_read goal mark start kinds kind old new mid token before to source_type errors is at reads =
+    → ReadsSilently goal (Some before) old token new
+angle_read goal mark start kinds kind old new mid token before to source_type is at reads told =
     let found = read_up_to kind (mark ∷ rest mid) (rest new.source) in
-    goal_read goal (Some before) old new false kind token to source_type is refl (errors ∙ sym (append-nil old.errors))
+    goal_read goal (Some before) old new false kind token to source_type is refl (sym (append-nil told))
     (reads (outcome_at false start found)
     (subst (λ (n : ℕ). ReadsAngle old.source.text kinds n (outcome_at false start found)) (sym at)
     (read_from false to)))
@@ -236,34 +240,34 @@ angle_ordered start old new mid kind behind placed spells =
 
 pub angle_goal : (start : ℕ) (old new : Reader) (mid : At) (kind : Kind) (token : TokenParts)
     → IsBehindMark greater_than_sign start old mid → IsPlaced new.source → SpellsAngle mid new.source kind
-    → new.source_type ≡ old.source_type → new.errors ≡ old.errors
+    → new.source_type ≡ old.source_type
     → token ≡ read_token false start new.source.place kind → (before : TokenParts) → before.start ≡ start
-    → ReadsWithoutGap RightAngle (Some before) old token new
-angle_goal start old new mid kind token behind placed spells source_type errors is before at =
+    → ReadsSilently RightAngle (Some before) old token new
+angle_goal start old new mid kind token behind placed spells source_type is before at =
     angle_read RightAngle greater_than_sign start right_angles kind old new mid token before
     (angle_to greater_than_sign start right_angles kind old new mid angles.longest behind placed spells.text
     spells.read)
-    source_type errors is at (λ o r. r)
+    source_type is at (λ o r. r)
 
 pub left_angle_goal : (start : ℕ) (old new : Reader) (token : TokenParts)
     → IsBehindMark less_than_sign start old new.source → IsPlaced new.source
-    → new.source_type ≡ old.source_type → new.errors ≡ old.errors
+    → new.source_type ≡ old.source_type
     → token ≡ read_token false start new.source.place LAngle → (before : TokenParts) → before.start ≡ start
-    → ReadsWithoutGap TypeScriptLeftAngle (Some before) old token new
-left_angle_goal start old new token behind placed source_type errors is before at =
+    → ReadsSilently TypeScriptLeftAngle (Some before) old token new
+left_angle_goal start old new token behind placed source_type is before at =
     angle_read TypeScriptLeftAngle less_than_sign start first_left_angle LAngle old new new.source token before
     (angle_to less_than_sign start first_left_angle LAngle old new new.source angles.left behind placed refl refl)
-    source_type errors is at (λ o r. r)
+    source_type is at (λ o r. r)
 
 pub right_angle_goal : (start : ℕ) (old new : Reader) (token : TokenParts)
     → IsBehindMark greater_than_sign start old new.source → IsPlaced new.source
-    → new.source_type ≡ old.source_type → new.errors ≡ old.errors
+    → new.source_type ≡ old.source_type
     → token ≡ read_token false start new.source.place RAngle → (before : TokenParts) → before.start ≡ start
-    → ReadsWithoutGap TypeScriptRightAngle (Some before) old token new
-right_angle_goal start old new token behind placed source_type errors is before at =
+    → ReadsSilently TypeScriptRightAngle (Some before) old token new
+right_angle_goal start old new token behind placed source_type is before at =
     angle_read TypeScriptRightAngle greater_than_sign start first_right_angle RAngle old new new.source token before
     (angle_to greater_than_sign start first_right_angle RAngle old new new.source angles.right behind placed refl
-    refl) source_type errors is at (λ o r. r)
+    refl) source_type is at (λ o r. r)
 
 -- the characters between two places
 between : (text : List ℕ) (start end : ℕ) → IsUtf8 text → IsCharBoundary text start → IsCharBoundary text end
@@ -321,15 +325,15 @@ no_hyphen text none =
 
 pub name_goal : (start : ℕ) (old new : Reader) (token : TokenParts) → IsPlaced old.source → IsPlaced new.source
     → IsCharBoundary old.source.text start → start ≤ old.source.place → SpellsJsxName old.source new.source true
-    → new.source_type ≡ old.source_type → new.errors ≡ old.errors
+    → new.source_type ≡ old.source_type
     → token ≡ read_token false start new.source.place Ident → ReadsNameOn start old (Some token) new
-name_goal start old new token h g boundary ordered spells source_type errors is = (
+name_goal start old new token h g boundary ordered spells source_type is = (
   hyphen_there [] (rest old.source) (jsx_name_up_to [] (rest old.source) (rest new.source)) (spells.1 []),
-  λ before at end.
+  λ before at end told.
       let part = between old.source.text start before.end h.utf8 boundary (there before end) (far before end) in
       let to = name_to start part.0 old new.source before.end g boundary part.1 end spells in
       goal_read JsxIdentifier (Some before) old new false Ident token to source_type is refl
-      (errors ∙ sym (append-nil old.errors))
+      (sym (append-nil told))
       (record {
         ordered = subst (λ (n : ℕ). n ≤ before.end) (sym at) (far before end);
         name_end = there before end;
@@ -350,8 +354,9 @@ name_goal start old new token h g boundary ordered spells source_type errors is 
     far before end = subst (λ (n : ℕ). start ≤ n) (sym end) ordered
 
 -- what stands between two tags
-child_to : (old new : Reader) (kind : Kind) → IsPlaced old.source → IsPlaced new.source
-    → ReadsAs (jsx_child_reading (rest old.source)) old.source.place old.source new.source old.errors new.errors kind
+child_to : {told later : List Diagnostic} (old new : Reader) (kind : Kind) → IsPlaced old.source
+    → IsPlaced new.source
+    → ReadsAs (jsx_child_reading (rest old.source)) old.source.place old.source new.source told later kind
     → ReadTo old.source.text old.source.place (Some (jsx_child_reading (rest old.source)))
     (jsx_child_reading (rest old.source)) new.source
 child_to old new kind h g spells = record {
@@ -363,17 +368,19 @@ child_to old new kind h g spells = record {
   all = child_is_read (rest old.source);
 }
 
-pub child_ordered : (old new : Reader) (kind : Kind) → IsPlaced old.source → IsPlaced new.source
-    → ReadsAs (jsx_child_reading (rest old.source)) old.source.place old.source new.source old.errors new.errors kind
+pub child_ordered : {told later : List Diagnostic} (old new : Reader) (kind : Kind) → IsPlaced old.source
+    → IsPlaced new.source
+    → ReadsAs (jsx_child_reading (rest old.source)) old.source.place old.source new.source told later kind
     → old.source.place ≤ new.source.place
 child_ordered old new kind h g spells = goes_on (child_to old new kind h g spells)
 
-pub child_goal : (old new : Reader) (kind : Kind) (token : TokenParts) → IsPlaced old.source → IsPlaced new.source
-    → ReadsAs (jsx_child_reading (rest old.source)) old.source.place old.source new.source old.errors new.errors kind
+pub child_goal : {told later : List Diagnostic} (old new : Reader) (kind : Kind) (token : TokenParts)
+    → IsPlaced old.source → IsPlaced new.source
+    → ReadsAs (jsx_child_reading (rest old.source)) old.source.place old.source new.source told later kind
     → new.source_type ≡ old.source_type
     → token ≡ read_token old.line_has_ended old.source.place new.source.place kind
     → (before : Option TokenParts) → line_has_ended_behind before ≡ old.line_has_ended
-    → ReadsWithoutGap JsxChild before old token new
+    → ReadsWithoutGap JsxChild before old told token new later
 child_goal old new kind token h g spells source_type is before same =
     let read = jsx_child_reading (rest old.source) in
     let to = child_to old new kind h g spells in

@@ -27,12 +27,13 @@ use Rattle.js_grammar.proofs.KindTexts.{goal_reads_spelling}
 use Rattle.js_grammar.proofs.Texts.{goal_reads_text}
 use Rattle.js_lexer.specs.Decoded.{Values, AreValues, Keeps, HasValue}
 use Rattle.js_grammar.proofs.GoalWays.{goal_reads_span, goal_reads_places}
+use Rattle.js_lexer.specs.Found.{findings_in}
 use Rattle.js_lexer.specs.Lexer.{LexerState, IsOnPlaces, IsSound, IsRestored, collected, ReadsOutcome, ReadsToken}
 use Rattle.js_lexer.specs.Lexer.{Checkpoint, checkpoint_of, checkpoint_with_errors_of, put_back, put_errors_back}
-use Rattle.js_lexer.specs.Lexer.{rewound, BeginsAlike, GoesOnFrom, findings_in, with_diagnostics, with_comments}
+use Rattle.js_lexer.specs.Lexer.{rewound, BeginsAlike, GoesOnFrom, with_diagnostics, with_comments}
 use Rattle.js_lexer.specs.Lexer.{ReadsAgain, after_re_lex, last_read, token_or_default, range_before, trivia_before}
 use Rattle.js_lexer.specs.Reader.{ReadsGoal, ReadsWithGap, ReadsWithoutGap, AddsGap, MovesOn}
-use Rattle.js_lexer.specs.declared.found.GapFindings.{GapFindings}
+use Rattle.js_lexer.specs.declared.findings_builder.FindingsBuilder.{FindingsBuilder}
 use Rattle.js_lexer.specs.declared.reader.Reader.{Reader}
 use Rattle.js_lexer.proofs.FindingLaws.{cut_to-joined, cut_to-recovered}
 use Rattle.js_lexer.proofs.TriviaLaws.{IsBetweenGaps, behind_token, told, held_before_token, held_later}
@@ -41,10 +42,10 @@ use Rattle.js_trivia.specs.Trivia.{Trivia, HeldBefore, handle_token, held, is_pa
 use Rattle.js_source.specs.Source.{At}
 
 -- the reader of a lexer, and what it has found, before a reading of the goal
-pub record IsReaderOf (goal : Goal) (l : LexerState) (r : Reader) (found : GapFindings) : Type 0 where
+pub record IsReaderOf (goal : Goal) (l : LexerState) (r : Reader) (found : FindingsBuilder) : Type 0 where
   pub source : r.source ≡ record { text = l.text; place = l.place }
   pub source_type : r.source_type ≡ l.source_type
-  pub errors : r.errors ≡ l.findings.diagnostics
+  pub errors : found.errors ≡ l.findings.diagnostics
   pub deferred : found.deferred ≡ l.findings.deferred
   pub between : IsBetweenGaps l.last l.place l.findings.comments l.findings.irregular
       (range_before goal l.pure_comments) (range_before goal l.no_side_effects_comments) found.trivia
@@ -87,7 +88,7 @@ between_is goal here last s cleared values sound e = record {
 }
 
 -- a lexer of these parts
-abbrev pub state_of : Reader → GapFindings → Option TokenParts → Values → LexerState
+abbrev pub state_of : Reader → FindingsBuilder → Option TokenParts → Values → LexerState
 state_of r found last values = record {
   text = r.source.text;
   source_type = r.source_type;
@@ -95,13 +96,13 @@ state_of r found last values = record {
   place = r.source.place;
   last = last;
   tokens = [];
-  findings = findings_in r found;
+  findings = findings_in found;
   pure_comments = found.trivia.pure_comments;
   no_side_effects_comments = found.trivia.no_side_effects_comments;
   decoded = values;
 }
 
-pub reader_is : (goal : Goal) (r : Reader) (found : GapFindings) (last : Option TokenParts) (values : Values)
+pub reader_is : (goal : Goal) (r : Reader) (found : FindingsBuilder) (last : Option TokenParts) (values : Values)
     (line_has_ended : Bool) (cleared : Trivia) → IsSound r.source last found.trivia values
     → cleared ≡ trivia_before goal found.trivia
     → IsReaderOf goal (state_of r found last values) (record r { line_has_ended = line_has_ended })
@@ -153,15 +154,17 @@ read_spelling goal previous old token new r =
     (goal_reads_spelling old.source.text old.source_type goal previous old.source.place r.outcome r.reads)
 
 -- what was told of the gap before it
-pub told_of : (goal : Goal) (l : LexerState) (old : Reader) (before : GapFindings) (token : TokenParts) (new : Reader)
-    (after : GapFindings) → IsReaderOf goal l old before → (r : ReadsWithGap goal l.last old before token new after)
+pub told_of : (goal : Goal) (l : LexerState) (old : Reader) (before : FindingsBuilder) (token : TokenParts)
+    (new : Reader)
+    (after : FindingsBuilder) → IsReaderOf goal l old before → (r : ReadsWithGap goal l.last old before token new after)
     → AddsGap l.last l.source_type l.place r.read.outcome before after
 told_of goal l old before token new after is r =
     subst (λ (a : At). AddsGap l.last l.source_type a.place r.read.outcome before after) is.source
     (subst (λ t. AddsGap l.last t old.source.place r.read.outcome before after) is.source_type r.gap)
 
-pub held_now : (goal : Goal) (l : LexerState) (old : Reader) (before : GapFindings) (token : TokenParts) (new : Reader)
-    (after : GapFindings) → IsReaderOf goal l old before → (r : ReadsWithGap goal l.last old before token new after)
+pub held_now : (goal : Goal) (l : LexerState) (old : Reader) (before : FindingsBuilder) (token : TokenParts)
+    (new : Reader)
+    (after : FindingsBuilder) → IsReaderOf goal l old before → (r : ReadsWithGap goal l.last old before token new after)
     → handle_token token after.trivia
     ≡ behind_token l.findings.comments l.findings.irregular (range_before goal l.pure_comments)
     (range_before goal l.no_side_effects_comments) r.read.outcome
@@ -193,8 +196,8 @@ sound_behind goal previous old token new trivia values u are r attachment held =
     }
 
 -- and so after a reading with a gap
-pub sound_after : (goal : Goal) (l : LexerState) (old : Reader) (before : GapFindings) (token : TokenParts)
-    (new : Reader) (after : GapFindings) (trivia : Trivia) (values : Values) → IsUtf8 new.source.text
+pub sound_after : (goal : Goal) (l : LexerState) (old : Reader) (before : FindingsBuilder) (token : TokenParts)
+    (new : Reader) (after : FindingsBuilder) (trivia : Trivia) (values : Values) → IsUtf8 new.source.text
     → AreValues old.source.text values → IsReaderOf goal l old before
     → ReadsWithGap goal l.last old before token new after → trivia ≡ handle_token token after.trivia
     → IsSound new.source (Some trivia.attachment.previous) trivia values
@@ -215,7 +218,7 @@ sound_after goal l old before token new after trivia values u are is r e =
     (subst (λ (x : TokenParts). HeldBefore x.start holds) (sym r.read.token_is) held)))
 
 -- a reading of a lexer's reader is one from the lexer's place
-goal_of_lexer : (l : LexerState) (r : Reader) (before : GapFindings) (new : Reader) (goal : Goal)
+goal_of_lexer : (l : LexerState) (r : Reader) (before : FindingsBuilder) (new : Reader) (goal : Goal)
     (token : TokenParts) → IsReaderOf goal l r before → (reads : ReadsGoal goal l.last r token new)
     → GoalReads l.text l.source_type goal l.last l.place reads.outcome
 goal_of_lexer l r before new goal token is reads =
@@ -223,7 +226,7 @@ goal_of_lexer l r before new goal token is reads =
     (subst (λ t. GoalReads r.source.text t goal l.last r.source.place reads.outcome) is.source_type reads.reads)
 
 -- what a reading gives
-pub reads_outcome : (l : LexerState) (r : Reader) (before : GapFindings) (new : Reader) (goal : Goal)
+pub reads_outcome : (l : LexerState) (r : Reader) (before : FindingsBuilder) (new : Reader) (goal : Goal)
     (token : TokenParts) → IsUtf8 l.text → IsReaderOf goal l r before → (reads : ReadsGoal goal l.last r token new)
     → ReadsOutcome goal l reads.outcome
 reads_outcome l r before new goal token u is reads =
@@ -239,7 +242,8 @@ reads_outcome l r before new goal token u is reads =
     }
 
 -- a reading, as contracts see it
-pub reads_token : (old new : LexerState) (r : Reader) (before : GapFindings) (reader : Reader) (after : GapFindings)
+pub reads_token : (old new : LexerState) (r : Reader) (before : FindingsBuilder) (reader : Reader)
+    (after : FindingsBuilder)
     (trivia : Trivia) (goal : Goal) (token : TokenParts) (values : Values)
     → IsUtf8 old.text → IsReaderOf goal old r before
     → ReadsWithGap goal old.last r before token reader after → trivia ≡ handle_token token after.trivia
@@ -250,7 +254,7 @@ pub reads_token : (old new : LexerState) (r : Reader) (before : GapFindings) (re
       place = reader.source.place;
       last = Some trivia.attachment.previous;
       tokens = old.tokens ++ collected old.collects token;
-      findings = findings_in reader (record after { trivia = trivia });
+      findings = findings_in (record after { trivia = trivia });
       pure_comments = trivia.pure_comments;
       no_side_effects_comments = trivia.no_side_effects_comments;
       decoded = values;
@@ -262,8 +266,8 @@ reads_token old new r before reader after trivia goal token values u is with_gap
     behind_token old.findings.comments old.findings.irregular (range_before goal old.pure_comments)
     (range_before goal old.no_side_effects_comments) reads.outcome in
     let now : trivia ≡ holds = told ∙ held_now goal old r before token reader after is with_gap in
-    let errors : reader.errors ≡ old.findings.diagnostics ++ reads.outcome.findings.diagnostics =
-    reads.errors ∙ ap (λ es. es ++ reads.outcome.findings.diagnostics) is.errors in
+    let errors : after.errors ≡ old.findings.diagnostics ++ reads.outcome.findings.diagnostics =
+    with_gap.gap.errors ∙ ap (λ es. es ++ reads.outcome.findings.diagnostics) is.errors in
     let deferred : after.deferred ≡ old.findings.deferred ++ reads.outcome.findings.deferred =
     with_gap.gap.deferred ∙ ap (λ es. es ++ reads.outcome.findings.deferred) is.deferred in
     record {
@@ -327,10 +331,11 @@ told_again previous token trivia now here values sound e = (
 
 -- a token that was read again, as contracts see it
 abbrev pub reads_again : (old new : LexerState) (r : Reader) (goal : Goal) (token : TokenParts) (reader : Reader)
-    (comments : List Comment) (last : TokenParts) (values : Values)
+    (told later : List Diagnostic) (comments : List Comment) (last : TokenParts) (values : Values)
     → IsUtf8 old.text → r.source ≡ record { text = old.text; place = old.place } → r.source_type ≡ old.source_type
-    → r.errors ≡ old.findings.diagnostics
-    → ReadsWithoutGap goal old.last r token reader → Keeps old.decoded values → HasValue old.text values token
+    → told ≡ old.findings.diagnostics
+    → ReadsWithoutGap goal old.last r told token reader later → Keeps old.decoded values
+    → HasValue old.text values token
     → comments ≡ old.findings.comments → last ≡ token
     → new ≡ record old {
       text = reader.source.text;
@@ -338,19 +343,20 @@ abbrev pub reads_again : (old new : LexerState) (r : Reader) (goal : Goal) (toke
       place = reader.source.place;
       last = Some last;
       tokens = if old.collects then with_last old.tokens token else old.tokens;
-      findings = record old.findings { diagnostics = reader.errors; comments = comments };
+      findings = record old.findings { diagnostics = later; comments = comments };
       decoded = values;
     }
     → ReadsAgain goal old token new
-reads_again old new r goal token reader comments last values u source source_type errors alone kept has same last_is e =
+reads_again old new r goal token reader told later comments last values u source source_type errors alone kept has same
+    last_is e =
     let reads = alone.read in
     let here : GoalReads old.text old.source_type goal old.last old.place reads.outcome =
     subst (λ (a : At). GoalReads a.text old.source_type goal old.last a.place reads.outcome) source
     (subst (λ t. GoalReads r.source.text t goal old.last r.source.place reads.outcome) source_type reads.reads) in
     let places = goal_reads_places old.text old.source_type goal old.last old.place reads.outcome u here in
     let span = goal_reads_span old.text old.source_type goal old.last old.place reads.outcome u here in
-    let reported : reader.errors ≡ old.findings.diagnostics ++ reads.outcome.findings.diagnostics =
-    reads.errors ∙ ap (λ es. es ++ reads.outcome.findings.diagnostics) errors in
+    let reported : later ≡ old.findings.diagnostics ++ reads.outcome.findings.diagnostics =
+    alone.errors ∙ ap (λ es. es ++ reads.outcome.findings.diagnostics) errors in
     record {
       outcome = reads.outcome;
       token_is = reads.token_is;
@@ -402,8 +408,6 @@ pub reads_moves_on : (goal : Goal) (previous : Option TokenParts) (old : Reader)
 reads_moves_on goal previous old token new r = record {
   text = r.text;
   source_type = r.source_type;
-  more = r.outcome.findings.diagnostics;
-  errors = r.errors;
 }
 
 -- a list that has only grown, cut back

@@ -13,7 +13,7 @@ use Rattle.js_text.proofs.TextLemmas.{before_from}
 use Rattle.js_grammar.specs.Gap.{Piece, PieceKind, piece, is_prefix, line_comment}
 use Rattle.js_grammar.specs.Gap.PieceKind.{single_line_comment, html_open_comment, html_close_comment}
 use Rattle.js_grammar.specs.GapItems.{comment}
-use Rattle.js_grammar.specs.Outcome.{piece_deferred, html_deferred}
+use Rattle.js_grammar.specs.Outcome.{piece_deferred, piece_diagnostics, html_deferred}
 use Rattle.js_grammar.specs.PieceItems.{is_line_comment, items_of_kind, found_comment}
 use Rattle.js_grammar.proofs.PieceLemmas.{piece-angle, piece-minus, piece-line_comment}
 use Rattle.js_grammar.proofs.Tests.{prefix_of}
@@ -22,7 +22,7 @@ use Rattle.js_source.proofs.Places.{begins_with}
 use Rattle.js_trivia.specs.Trivia.{calls, add_comment, found_in}
 use Rattle.js_lexer.specs.Gaps.{TakesMark, opening_mark, piece_kind, is_html, IsAtLineEnd}
 use Rattle.js_lexer.specs.Reader.{IsBehindLine, IsOnlyPiece, SkipsSome, SkipsEndOfLine}
-use Rattle.js_lexer.specs.declared.found.GapFindings.{GapFindings}
+use Rattle.js_lexer.specs.declared.findings_builder.FindingsBuilder.{FindingsBuilder}
 use Rattle.js_lexer.specs.declared.reader.Reader.{Reader}
 use Rattle.js_lexer.proofs.CommentTexts.{IsMarked, line_mark, placed_in, found_is}
 use Rattle.js_lexer.proofs.GapSteps.{IsBehindPiece, piece_leads, piece_shorter, on_to}
@@ -67,11 +67,11 @@ module _ (kind : CommentKind) (line : is_line_kind kind ≡ true) (old mid new :
   line_left = left ∙ sym (ap (from_first is_line_terminator) takes.1 ∙ (line_mark kind line).from (rest mid))
 
 -- what is told of a line comment
-pub behind_line : (kind : CommentKind) → is_line_kind kind ≡ true → (old : Reader) (before : GapFindings)
-    (mid : At) (new : Reader) (after : GapFindings) → IsPlaced old.source → IsPlaced new.source
+pub behind_line : (kind : CommentKind) → is_line_kind kind ≡ true → (old : Reader) (before : FindingsBuilder)
+    (mid : At) (new : Reader) (after : FindingsBuilder) → IsPlaced old.source → IsPlaced new.source
     → TakesMark (opening_mark kind) old.source true mid → new.source.text ≡ mid.text
     → rest new.source ≡ from_first is_line_terminator (rest mid)
-    → new.source_type ≡ old.source_type → new.line_has_ended ≡ old.line_has_ended → new.errors ≡ old.errors
+    → new.source_type ≡ old.source_type → new.line_has_ended ≡ old.line_has_ended → after.errors ≡ before.errors
     → after.deferred ≡ before.deferred
     → after.trivia
     ≡ add_comment
@@ -84,11 +84,12 @@ behind_line kind line old before mid new after h g takes text left source_type l
     (before_first is_line_terminator (rest mid)) [] marked in
     record {
       text = text ∙ takes.0;
-      stays = record { source_type = source_type; line_has_ended = line_has_ended; errors = errors };
+      stays = record { source_type = source_type; line_has_ended = line_has_ended };
       behind = rest mid;
       here = takes.1;
       left = line_left kind line old.source mid new.source h g takes text left;
       onward = omega (arith, placed.marks);
+      errors = errors;
       deferred = deferred;
       trivia =
           trivia
@@ -100,21 +101,22 @@ behind_line kind line old before mid new after h g takes text left source_type l
     }
 
 -- a line comment as a piece of this kind
-pub line_piece : (kind : CommentKind) (piece_is : PieceKind) (behind : Bool) (old : Reader) (before : GapFindings)
-    (new : Reader) (after : GapFindings) (more : GapFindings) → IsPlaced old.source → IsPlaced new.source
+pub line_piece : (kind : CommentKind) (piece_is : PieceKind) (behind : Bool) (old : Reader) (before : FindingsBuilder)
+    (new : Reader) (after : FindingsBuilder) (more : FindingsBuilder) → IsPlaced old.source → IsPlaced new.source
     → IsBehindLine kind old before new after
     → piece old.source_type old.line_has_ended (rest old.source)
     ≡ Some (line_comment piece_is old.line_has_ended (rest old.source))
     → ((place : ℕ) (x : Piece) → items_of_kind piece_is place behind x ≡ comment (found_comment place kind x) ∷ [])
-    → is_line_comment piece_is ≡ true
+    → is_line_comment piece_is ≡ true → ((place : ℕ) → piece_diagnostics place piece_is ≡ [])
+    → more.errors ≡ after.errors
     → more.deferred ≡ after.deferred ++ piece_deferred old.source_type old.source.place piece_is
     → more.trivia ≡ after.trivia
     → IsBehindPiece behind old before true new more
-line_piece kind piece_is behind old before new after more h g line is items ends deferred trivia =
+line_piece kind piece_is behind old before new after more h g line is items ends silent errors deferred trivia =
     let x = line_comment piece_is old.line_has_ended (rest old.source) in
     record {
-      within = record { source_type = line.stays.source_type; errors = line.stays.errors };
       text = line.text;
+      source_type = line.stays.source_type;
       x = x;
       is_next = is;
       line_has_ended = sym line.stays.line_has_ended;
@@ -123,6 +125,10 @@ line_piece kind piece_is behind old before new after more h g line is items ends
           on_to old.source new.source x.text h g line.text
           (sym (before_from is_line_terminator (rest old.source)) ∙ ap (λ cs. x.text ++ cs) (sym line.left));
       adds = record {
+        errors =
+            errors ∙ line.errors ∙ sym (append-nil before.errors)
+            ∙ ap (λ ds. before.errors ++ ds)
+            (sym (append-nil (piece_diagnostics old.source.place piece_is) ∙ silent old.source.place));
         deferred =
             deferred
             ∙ ap (λ ds. ds ++ piece_deferred old.source_type old.source.place piece_is) line.deferred
@@ -137,15 +143,12 @@ line_piece kind piece_is behind old before new after more h g line is items ends
     }
 
 -- a line comment, and the line end behind it
-pub line_skipped : (old : Reader) (before : GapFindings) (mid : Reader) (told : GapFindings) (new : Reader)
-    (after : GapFindings) → IsBehindPiece false old before true mid told → SkipsEndOfLine mid told new after
+pub line_skipped : (old : Reader) (before : FindingsBuilder) (mid : Reader) (told : FindingsBuilder) (new : Reader)
+    (after : FindingsBuilder) → IsBehindPiece false old before true mid told → SkipsEndOfLine mid told new after
     → IsPlaced new.source → SkipsSome old before new after
 line_skipped old before mid told new after p end g = record {
-  within = record {
-    source_type = end.within.source_type ∙ p.within.source_type;
-    errors = end.within.errors ∙ p.within.errors;
-  };
   text = end.text ∙ p.text;
+  source_type = end.source_type ∙ p.source_type;
   leads = λ later found s. piece_leads false old before true mid told p later found (end.leads later found s);
   fewer = omega (arith, end.fewer, piece_shorter false old before true mid told p);
   placed = g;
@@ -161,13 +164,14 @@ line_end_next (c ∷ cs) = by_test (is_line_terminator c) refl (line_end_next cs
     by_test true e h = rw e refl
     by_test false e h = h
 
-pub at_line_end : (kind : CommentKind) (old : Reader) (before : GapFindings) (new : Reader) (after : GapFindings)
+pub at_line_end : (kind : CommentKind) (old : Reader) (before : FindingsBuilder) (new : Reader)
+    (after : FindingsBuilder)
     → IsBehindLine kind old before new after → IsAtLineEnd (rest new.source)
 at_line_end kind old before new after line =
     subst (λ cs. IsAtLineEnd cs) (sym line.left) (line_end_next (rest old.source))
 
 -- a comment that begins with `//`
-pub slashes : (old : Reader) (before : GapFindings) (new : Reader) (after : GapFindings)
+pub slashes : (old : Reader) (before : FindingsBuilder) (new : Reader) (after : FindingsBuilder)
     → IsPlaced old.source → IsPlaced new.source → IsBehindLine Line old before new after
     → IsBehindPiece false old before true new after
 slashes old before new after h g line =
@@ -175,7 +179,7 @@ slashes old before new after h g line =
     (ap (piece old.source_type old.line_has_ended) line.here
     ∙ piece-line_comment old.source_type old.line_has_ended line.behind
     ∙ ap (λ cs. Some (line_comment single_line_comment old.line_has_ended cs)) (sym line.here)) (λ place x. refl) refl
-    (sym (append-nil after.deferred)) refl
+    (λ place. refl) refl (sym (append-nil after.deferred)) refl
 
 -- an HTML-like comment, where it is the only piece that may stand here
 html_items : (kind : CommentKind) → is_html kind ≡ true → (place : ℕ) (x : Piece)
@@ -185,6 +189,13 @@ html_items SingleLineBlock e place x = absurd (cc)
 html_items MultiLineBlock e place x = absurd (cc)
 html_items HtmlOpen e place x = refl
 html_items HtmlClose e place x = refl
+
+html_silent : (kind : CommentKind) → is_html kind ≡ true → (place : ℕ) → piece_diagnostics place (piece_kind kind) ≡ []
+html_silent Line e place = absurd (cc)
+html_silent SingleLineBlock e place = absurd (cc)
+html_silent MultiLineBlock e place = absurd (cc)
+html_silent HtmlOpen e place = refl
+html_silent HtmlClose e place = refl
 
 html_ends : (kind : CommentKind) → is_html kind ≡ true → is_line_comment (piece_kind kind) ≡ true
 html_ends Line e = absurd (cc)
@@ -210,22 +221,22 @@ html_is_line MultiLineBlock e = absurd (cc)
 html_is_line HtmlOpen e = refl
 html_is_line HtmlClose e = refl
 
-pub html_piece : (kind : CommentKind) → is_html kind ≡ true → (old : Reader) (before : GapFindings) (new : Reader)
-    (after more : GapFindings) → IsPlaced old.source → IsPlaced new.source → IsBehindLine kind old before new after
-    → IsOnlyPiece kind old
+pub html_piece : (kind : CommentKind) → is_html kind ≡ true → (old : Reader) (before : FindingsBuilder) (new : Reader)
+    (after more : FindingsBuilder) → IsPlaced old.source → IsPlaced new.source → IsBehindLine kind old before new after
+    → IsOnlyPiece kind old → more.errors ≡ after.errors
     → more.deferred
     ≡ after.deferred
     ++ html_deferred old.source_type
     (record { start = old.source.place; end = old.source.place + opening_length kind })
     → more.trivia ≡ after.trivia
     → IsBehindPiece false old before true new more
-html_piece kind html old before new after more h g line only deferred trivia =
+html_piece kind html old before new after more h g line only errors deferred trivia =
     let begins : is_prefix (opening_mark kind) (rest old.source) ≡ true =
     ap (is_prefix (opening_mark kind)) line.here ∙ prefix_of (opening_mark kind) line.behind in
     line_piece kind (piece_kind kind) false old before new after more h g line
     (only
     ∙ ap (λ b. if b then Some (line_comment (piece_kind kind) old.line_has_ended (rest old.source)) else None) begins)
-    (html_items kind html) (html_ends kind html)
+    (html_items kind html) (html_ends kind html) (html_silent kind html) errors
     (deferred ∙ ap (λ ds. after.deferred ++ ds) (html_reports kind html old)) trivia
 
 pub no_html : (kind : CommentKind) (old : Reader) → IsOnlyPiece kind old

@@ -9,6 +9,7 @@ use Rattle.js_text.proofs.CharacterLemmas.{start_in_ascii}
 use Rattle.js_text.specs.Ascii.{grave_accent, number_sign}
 use Rattle.js_text.specs.Characters.{begins, is_identifier_start}
 use Rattle.js_text.specs.declared.comment.Comment.{Comment}
+use Rattle.js_text.specs.declared.diagnostic.Diagnostic.{Diagnostic}
 use Rattle.js_text.specs.declared.source_type.SourceType.{SourceType}
 use Rattle.js_kind.specs.TokenParts.{TokenParts, default_parts}
 use Rattle.js_kind.specs.declared.kind.Kind.{Kind}
@@ -36,10 +37,10 @@ use Rattle.js_lexer.specs.Gaps.{BeginsNoPiece}
 use Rattle.js_lexer.specs.Plain.{EndsGap, EndsGapInAscii, MeetsByte, PassesPieces}
 use Rattle.js_lexer.specs.Plain.{moved, after_ends, ends_told, PassesPlainGap, SpellsFor, SpellsPlainly}
 use Rattle.js_lexer.specs.Plain.{ReadsPlainToken}
-use Rattle.js_lexer.specs.Reader.{ReadsTokenHere, ReadsWithGap, MovesOn, lexeme_token, plain_lexeme}
+use Rattle.js_lexer.specs.Reader.{ReadsInPart, ReadsTokenHere, ReadsWithGap, lexeme_token, plain_lexeme}
 use Rattle.js_lexer.specs.Spellings.{ReadsPunctuator}
 use Rattle.js_lexer.specs.Tables.{TellsBlanks, TellsMarks, TellsStarts, is_name_start}
-use Rattle.js_lexer.specs.declared.found.GapFindings.{GapFindings}
+use Rattle.js_lexer.specs.declared.findings_builder.FindingsBuilder.{FindingsBuilder}
 use Rattle.js_lexer.specs.declared.reader.Reader.{Reader}
 use Rattle.js_lexer.proofs.GapSteps.{blanks_lead, line_feed_skipped, no_gap_left}
 use Rattle.js_lexer.proofs.FastSteps.{begins_none}
@@ -110,7 +111,7 @@ line_feed_passed start now next had has s here text g = record {
   leads = λ r before later found skips.
       s.leads r before later found
       ((line_feed_skipped (moved r now has) (ends_told s.ends before) next (ends_told (suc s.ends) before) s.placed g
-      text here refl refl).leads later found skips);
+      text here refl refl refl).leads later found skips);
 }
 
 -- the gap has ended
@@ -125,7 +126,7 @@ gap_passed start now had has s ends = record {
       whole_at_once (moved r start had) (moved r now has) before (ends_told s.ends before)
       (s.leads r before (moved r now has) (ends_told s.ends before)
       (no_gap_left false (moved r now has) (moved r now has) (ends_told s.ends before) (ends_told s.ends before)
-      (record { source = refl; stays = record { source_type = refl; line_has_ended = refl; errors = refl } }) refl
+      (record { source = refl; stays = record { source_type = refl; line_has_ended = refl } }) refl
       none.1))
       none.0;
 }
@@ -264,7 +265,7 @@ pub name_plainly : (ended : Bool) (old new : At) (kind : Kind) → begins_name (
     → SpellsPlainName old new kind → SpellsPlainly ended old new kind
 name_plainly ended old new kind begun spells r =
     let here = moved r old ended in
-    lexeme_as here (moved r new ended) (name_here here begun) refl refl (spells r.errors default_parts) refl
+    λ errors. lexeme_as here (moved r new ended) (name_here here begun) refl refl (spells errors default_parts) refl
 
 -- a punctuator
 pub punctuator_plainly : (r : Reader) (ended : Bool) (old new : At) (kind : Kind)
@@ -275,7 +276,7 @@ pub punctuator_plainly : (r : Reader) (ended : Bool) (old new : At) (kind : Kind
 punctuator_plainly r ended old new kind none reads =
     let read = reads r.source_type ended (none_behind r.source_type ended (rest old) none).0 in
     lexeme_spelled (moved r old ended) (moved r new ended) kind (plain_lexeme kind ended)
-    record { source_type = refl; line_has_ended = refl; errors = refl }
+    record { source_type = refl; line_has_ended = refl }
     (punctuator_unflagged read.1.it kind read.1.in_table read.1.kind)
     (punctuator_spelled r.source_type ended old new kind read) refl
 
@@ -295,13 +296,16 @@ start_is_plain b is same =
 
 -- the reading of a token behind such a gap
 pub behind_plain_gap : (previous : Option TokenParts) (r : Reader) (old : At) (had : Bool) (mid : At) (has : Bool)
-    (before : GapFindings) (token : TokenParts) (new : Reader) → line_has_ended_behind previous ≡ had
-    → (gap : PassesPlainGap old had mid has) → ReadsTokenHere (moved r mid has) token new
-    → ReadsWithGap Next previous (moved r old had) before token new (ends_told gap.ends before)
-behind_plain_gap previous r old had mid has before token new first gap there =
-    goal_behind Next previous (moved r old had) before token new (ends_told gap.ends before) refl refl
-    (token_behind previous (moved r old had) before (moved r mid has) (ends_told gap.ends before) new token gap.from
-    gap.placed first (gap.skips r before) there)
+    (before : FindingsBuilder) (token : TokenParts) (new : Reader) (later : List Diagnostic)
+    → line_has_ended_behind previous ≡ had → (gap : PassesPlainGap old had mid has)
+    → ReadsTokenHere (moved r mid has) before.errors token new later
+    → ReadsWithGap Next previous (moved r old had) before token new
+    (record (ends_told gap.ends before) { errors = later })
+behind_plain_gap previous r old had mid has before token new later first gap there =
+    goal_behind Next previous (moved r old had) before token new (record (ends_told gap.ends before) { errors = later })
+    refl refl
+    (token_behind previous (moved r old had) before (moved r mid has) (ends_told gap.ends before) new later token
+    gap.from gap.placed first (gap.skips r before) there)
 
 -- line ends that no comment stands between are forgotten at the next token
 step : (attached pending : List Comment) (saw for_comment : Bool) (previous token : TokenParts) → pending ≡ []
@@ -343,12 +347,11 @@ pub ends_forgotten : (n : ℕ) (s : Trivia) (token : TokenParts) → s.attachmen
 ends_forgotten n s token none = sym (forgotten n s token none).0
 
 -- a reading has moved its reader on
-pub token_moves_on : (old : Reader) (token : TokenParts) (new : Reader) → ReadsTokenHere old token new → MovesOn old new
-token_moves_on old token new r = record {
-  text = r.reads.text;
-  source_type = r.reads.source_type;
-  more = reported_at old.source.place r.reads.reading;
-  errors = r.reads.errors;
+pub token_moves_on : {before after : List Diagnostic} {token : TokenParts} (old new : Reader)
+    → ReadsTokenHere old before token new after → ReadsInPart old before new after
+token_moves_on old new r = record {
+  moves = record { text = r.reads.text; source_type = r.reads.source_type };
+  errors = record { more = reported_at old.source.place r.reads.reading; is_more = r.reads.errors };
 }
 
 -- a source that goes to the place of another one over the same text is that
@@ -358,9 +361,9 @@ moved_on old new behind place is at text =
     is ∙ ap (λ n. place_of old.text n) at ∙ ap (λ t. place_of t behind.place) (sym text)
 
 -- a token that was read behind a plain gap is one of the same text
-pub plain_text : (r : Reader) (before : GapFindings) (old : At) (had : Bool) (token : TokenParts) (new : At)
+pub plain_text : (r : Reader) (before : FindingsBuilder) (old : At) (had : Bool) (token : TokenParts) (new : At)
     → ReadsPlainToken old had token new → new.text ≡ old.text
-plain_text r before old had token new p = (p.here r).reads.text ∙ (p.gap.skips r before).skips.text
+plain_text r before old had token new p = (p.here r []).reads.text ∙ (p.gap.skips r before).skips.text
 
 -- and that of a plain spelling is one of a token
 pub plain_token : (old mid new : At) (had has : Bool) (kind : Kind) (token : TokenParts)
@@ -371,17 +374,17 @@ plain_token old mid new had has kind token gap spells g is = record {
   mid = mid;
   line_has_ended = has;
   gap = gap;
-  here = λ r. record { lexeme = plain_lexeme kind has; reads = spells r; token_is = is; placed = g };
+  here = λ r errors. record { lexeme = plain_lexeme kind has; reads = spells r errors; token_is = is; placed = g };
   escaped = ap (λ t. t.escaped) is;
 }
 
 pub plain_onward : (ended : Bool) (old new : At) (kind : Kind) (r : Reader) → IsPlaced old → IsPlaced new
     → SpellsPlainly ended old new kind → old.place ≤ new.place
 plain_onward ended old new kind r h g spells =
-    lexeme_onward (moved r old ended) (moved r new ended) (plain_lexeme kind ended) h g (spells r)
+    lexeme_onward (moved r old ended) (moved r new ended) h g (spells r [])
 
 -- where a gap has ended, whatever source it is
-pub gap_ends : (r : Reader) (before : GapFindings) (old : At) (had : Bool) (new : At) (has : Bool)
+pub gap_ends : (r : Reader) (before : FindingsBuilder) (old : At) (had : Bool) (new : At) (has : Bool)
     → PassesPlainGap old had new has → EndsGap has (rest new)
 gap_ends r before old had new has gap t = (gap.skips (record r { source_type = t }) before).longest
 
@@ -390,7 +393,7 @@ pub string_plainly : (ended : Bool) (old new : At) (kind : Kind) → begins is_q
     → SpellsPlainString old new kind → SpellsPlainly ended old new kind
 string_plainly ended old new kind begun spells r =
     let here = moved r old ended in
-    lexeme_as here (moved r new ended) (string_here here begun) refl refl (spells r.errors default_parts) refl
+    λ errors. lexeme_as here (moved r new ended) (string_here here begun) refl refl (spells errors default_parts) refl
 
 -- a template, or its first part, without an escape
 pub template_plainly : (ended : Bool) (old mid new : At) (kind : Kind) → IsPlaced old → IsPlaced mid
@@ -399,8 +402,8 @@ pub template_plainly : (ended : Bool) (old mid new : At) (kind : Kind) → IsPla
 template_plainly ended old mid new kind h g reads spells r =
     let here = moved r old ended in
     let behind = behind_mark grave_accent old mid (omega arith) h g reads in
-    lexeme_as here (moved r new ended) (template_here here mid reads) refl reads.text
-    (spells grave_accent old.place behind r.errors default_parts) refl
+    λ errors. lexeme_as here (moved r new ended) (template_here here mid reads) refl reads.text
+    (spells grave_accent old.place behind errors default_parts) refl
 
 -- a private name without an escape
 pub private_plainly : (ended : Bool) (old mid new : At) (kind : Kind) → IsPlaced old → IsPlaced mid
@@ -408,14 +411,14 @@ pub private_plainly : (ended : Bool) (old mid new : At) (kind : Kind) → IsPlac
 private_plainly ended old mid new kind h g reads spells r =
     let here = moved r old ended in
     let behind = behind_mark number_sign old mid (omega arith) h g reads in
-    lexeme_as here (moved r new ended) (private_here here mid reads) refl reads.text
-    (spells old.place behind r.errors default_parts) refl
+    λ errors. lexeme_as here (moved r new ended) (private_here here mid reads) refl reads.text
+    (spells old.place behind errors default_parts) refl
 
 -- a number without a separator
 pub number_plainly : (ended : Bool) (old new : At) (kind : Kind) → begins_number (rest old) ≡ true
     → SpellsPlainNumber old new kind → SpellsPlainly ended old new kind
 number_plainly ended old new kind begun spells r =
-    lexeme_of_number (moved r old ended) (moved r new ended) begun refl (spells r.errors default_parts) refl
+    λ errors. lexeme_of_number (moved r old ended) (moved r new ended) begun refl (spells errors default_parts) refl
 
 -- where a digit is next, a number begins
 pub number_begins : (b : ℕ) (cs : List ℕ) → HasFirstByte b cs → is_ascii_digit b ≡ true → begins_number cs ≡ true
@@ -441,4 +444,4 @@ spelled_from r here new kind same spells none =
 pub spelled_onward : (r : Reader) (new : At) (kind : Kind) → IsPlaced r.source → IsPlaced new
     → SpellsFor r r.line_has_ended r.source new kind → r.source.place ≤ new.place
 spelled_onward r new kind h g spells =
-    lexeme_onward r (moved r new r.line_has_ended) (plain_lexeme kind r.line_has_ended) h g spells
+    lexeme_onward r (moved r new r.line_has_ended) h g (spells [])

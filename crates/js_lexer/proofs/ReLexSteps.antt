@@ -2,6 +2,7 @@
 use Rattle.std.proofs.Common.{◌≡◌, ℕ, ◌+◌, ◌≤◌, true, false, List, [], ◌∷◌, refl, sym, ◌∙◌, ap, subst, arith, Some}
 use Rattle.std.specs.Str.{IsCharBoundary}
 use Rattle.js_text.specs.Characters.{from_place}
+use Rattle.js_text.specs.declared.diagnostic.Diagnostic.{Diagnostic}
 use Rattle.js_text.proofs.TextLemmas.{place_past}
 use Rattle.js_kind.specs.TokenParts.{TokenParts}
 use Rattle.js_source.specs.Source.{rest, IsPlaced}
@@ -22,32 +23,35 @@ use Rattle.js_lexer.specs.declared.reader.Reader.{Reader}
 use Rattle.js_lexer.proofs.SpeltSteps.{IsKept, next_part_valued, value_kept}
 
 -- The reader stands behind a `}` at the start, and reads a part of a template there.
-pub record ReadsPartBehind (start : ℕ) (old new : Reader) (was now : TokenParts) (spelt : Spelt) : Type 0 where
+pub record ReadsPartBehind (start : ℕ) (old : Reader) (before : List Diagnostic) (new : Reader)
+    (after : List Diagnostic) (was now : TokenParts) (spelt : Spelt) : Type 0 where
   pub old_placed : IsPlaced old.source
   pub new_placed : IsPlaced new.source
   pub there : IsCharBoundary old.source.text start
   pub here : from_place old.source.text start ≡ right_curly_bracket ∷ rest old.source
-  pub spells : Spells (next_part (right_curly_bracket ∷ rest old.source)) start old.source new.source old.errors
-      new.errors was now spelt
+  pub spells : Spells (next_part (right_curly_bracket ∷ rest old.source)) start old.source new.source before
+      after was now spelt
   pub source_type : new.source_type ≡ old.source_type
 
-pub behind_curly_bracket : {was now : TokenParts} {spelt : Spelt} (start told : ℕ) (old new : Reader)
+pub behind_curly_bracket : {before after : List Diagnostic} {was now : TokenParts} {spelt : Spelt} (start told : ℕ)
+    (old new : Reader)
     → IsPlaced old.source → IsPlaced new.source → IsCharBoundary old.source.text start
     → from_place old.source.text start ≡ right_curly_bracket ∷ rest old.source → told ≡ start
-    → Spells (next_part (right_curly_bracket ∷ rest old.source)) told old.source new.source old.errors new.errors was
-    now spelt
-    → new.source_type ≡ old.source_type → ReadsPartBehind start old new was now spelt
-behind_curly_bracket {was} {now} {spelt} start told old new h g there here same spells source_type = record {
-  old_placed = h;
-  new_placed = g;
-  there = there;
-  here = here;
-  spells =
-      subst
-      (λ (n : ℕ). Spells (next_part (right_curly_bracket ∷ rest old.source)) n old.source new.source old.errors
-      new.errors was now spelt) same spells;
-  source_type = source_type;
-}
+    → Spells (next_part (right_curly_bracket ∷ rest old.source)) told old.source new.source before after was now
+    spelt
+    → new.source_type ≡ old.source_type → ReadsPartBehind start old before new after was now spelt
+behind_curly_bracket {before} {after} {was} {now} {spelt} start told old new h g there here same spells
+    source_type = record {
+      old_placed = h;
+      new_placed = g;
+      there = there;
+      here = here;
+      spells =
+          subst
+          (λ (n : ℕ). Spells (next_part (right_curly_bracket ∷ rest old.source)) n old.source new.source before
+          after was now spelt) same spells;
+      source_type = source_type;
+    }
 
 -- the place behind the `}`
 pub behind_curly : (start : ℕ) (old : Reader) → IsPlaced old.source → IsCharBoundary old.source.text start
@@ -68,8 +72,8 @@ part_token start end now spelt = record {
 }
 
 -- where it ends
-part_end : {start : ℕ} {old new : Reader} {was now : TokenParts} {spelt : Spelt}
-    → ReadsPartBehind start old new was now spelt
+part_end : {start : ℕ} {old new : Reader} {before after : List Diagnostic} {was now : TokenParts} {spelt : Spelt}
+    → ReadsPartBehind start old before new after was now spelt
     → new.source.place ≡ start + size_of (next_part (from_place old.source.text start))
 part_end {start} {old} {new} read =
     taken_end old.source.text start new.source.place (next_part (from_place old.source.text start))
@@ -79,22 +83,23 @@ part_end {start} {old} {new} read =
     (rw read.here (part_is_taken TemplateMiddle TemplateTail right_curly_bracket (rest old.source)))
 
 -- The part ends behind its start.
-pub part_ordered : {start : ℕ} {old new : Reader} {was now : TokenParts} {spelt : Spelt}
-    → ReadsPartBehind start old new was now spelt → start ≤ new.source.place
+pub part_ordered : {start : ℕ} {old new : Reader} {before after : List Diagnostic} {was now : TokenParts}
+    {spelt : Spelt} → ReadsPartBehind start old before new after was now spelt → start ≤ new.source.place
 part_ordered read = omega (arith, part_end read)
 
 -- The part is what is read of this goal.
-pub reads_next_part : {start : ℕ} {old new : Reader} {was now : TokenParts} {spelt : Spelt} (token : TokenParts)
-    → ReadsPartBehind start old new was now spelt → token ≡ part_token start new.source.place now spelt
-    → (before : TokenParts) → before.start ≡ start → ReadsWithoutGap TailGoal (Some before) old token new
-reads_next_part {start} {old} {new} {was} {now} {spelt} token read is before same =
+pub reads_next_part : {start : ℕ} {old new : Reader} {before after : List Diagnostic} {was now : TokenParts}
+    {spelt : Spelt} (token : TokenParts) → ReadsPartBehind start old before new after was now spelt
+    → token ≡ part_token start new.source.place now spelt
+    → (last : TokenParts) → last.start ≡ start → ReadsWithoutGap TailGoal (Some last) old before token new after
+reads_next_part {start} {old} {new} {before} {after} {was} {now} {spelt} token read is last same =
     let here = from_place old.source.text start in
     let made = next_part here in
     let end = part_end read in
     let as_made : next_part (right_curly_bracket ∷ rest old.source) ≡ made = ap next_part (sym read.here) in
     let spells =
     subst
-    (λ r. Spells r start old.source new.source old.errors new.errors was now spelt) as_made read.spells in
+    (λ r. Spells r start old.source new.source before after was now spelt) as_made read.spells in
     let valued = subst (λ h. IsValued true h (next_part h)) (sym read.here) (next_part_valued (rest old.source)) in
     let reads : ReadsPart old.source.text start (outcome_at false start made) = record {
       begins = read.there;
@@ -125,14 +130,15 @@ reads_next_part {start} {old} {new} {was} {now} {spelt} token read is before sam
             ) refl;
         reads =
             subst (λ (n : ℕ). ReadsPart old.source.text n (outcome_at false start made)) (sym same) reads;
-        errors = spells.read.reports;
       };
       findings = refl;
+      errors = spells.read.reports;
     }
 
 -- and its value is kept
-pub next_part_kept : {start : ℕ} {old new : Reader} {was now : TokenParts} {spelt : Spelt} (values kept : Values)
-    → ReadsPartBehind start old new was now spelt → KeepsPart start spelt.value values kept
+pub next_part_kept : {start : ℕ} {old new : Reader} {before after : List Diagnostic} {was now : TokenParts}
+    {spelt : Spelt} (values kept : Values) → ReadsPartBehind start old before new after was now spelt
+    → KeepsPart start spelt.value values kept
     → IsKept (record { text = old.source.text; place = start }) values kept spelt.kind now.escaped
 next_part_kept {start} {old} values kept read keeps =
     value_kept (record { text = old.source.text; place = start }) values kept start

@@ -32,7 +32,8 @@ use Rattle.js_grammar.specs.declared.goal.Goal.TheVariants.{First, Next, Templat
 use Rattle.js_grammar.specs.declared.goal.Goal.TheVariants.{RegularExpression, RightAngle, TypeScriptLeftAngle}
 use Rattle.js_grammar.specs.declared.goal.Goal.TheVariants.{TypeScriptRightAngle, JsxIdentifier, JsxChild}
 use Rattle.js_grammar.specs.declared.goal.Goal.TheVariants.{JsxAttributeValue}
-use Rattle.js_grammar.specs.Outcome.{Outcome, outcome_at, Findings, gap_findings, gap_deferred, joined, reports}
+use Rattle.js_grammar.specs.Outcome.{Outcome, outcome_at, Findings, gap_findings, gap_deferred, gap_diagnostics}
+use Rattle.js_grammar.specs.Outcome.{joined, reports}
 use Rattle.js_grammar.specs.Reading.{place_behind, reported_at, size_of}
 use Rattle.js_grammar.specs.Reads.{is_plain}
 use Rattle.js_grammar.proofs.GapEnds.{reading_is_here}
@@ -46,10 +47,11 @@ use Rattle.js_grammar.proofs.Reported.{piece_texts, whole_gap_piece_text, place_
 use Rattle.js_trivia.specs.Pieces.{HaveBytes, end_of}
 use Rattle.js_lexer.specs.Gaps.{TakesMark}
 use Rattle.js_lexer.specs.Reader.{lexeme_of, StaysWithin, SkipsWholeGap, ReadsLexeme, ReadsBehind, IsHashbangRead}
-use Rattle.js_lexer.specs.Reader.{ReadsTokenHere, lexeme_token, ReadsWithGap, ReadsWithoutGap, AddsGap, NothingHere, MovesOn, IsUnmoved}
+use Rattle.js_lexer.specs.Reader.{ReadsTokenHere, lexeme_token, ReadsWithGap, ReadsWithoutGap, AddsGap, NothingHere}
+use Rattle.js_lexer.specs.Reader.{MovesOn, IsUnmoved, ReadsInPart}
 use Rattle.js_lexer.specs.Reader.{plain_lexeme}
 use Rattle.js_lexer.specs.Spellings.{Spells, Recovers}
-use Rattle.js_lexer.specs.declared.found.GapFindings.{GapFindings}
+use Rattle.js_lexer.specs.declared.findings_builder.FindingsBuilder.{FindingsBuilder}
 use Rattle.js_lexer.specs.declared.lexeme.Lexeme.{Lexeme}
 use Rattle.js_lexer.specs.declared.reader.Reader.{Reader}
 use Rattle.js_lexer.specs.declared.recovery.Recovered.{Recovered}
@@ -58,8 +60,8 @@ use Rattle.js_lexer.proofs.WholeSteps.{pieces_lead, line_shorter}
 -- a spelling without a flag and a value was read
 pub lexeme_spelled : (old new : Reader) (k : Kind) (l : Lexeme) → StaysWithin old new → IsUnflagged k
     → Spells old.source_type old.line_has_ended old.source new.source k
-    → l ≡ plain_lexeme k new.line_has_ended → ReadsLexeme old l new
-lexeme_spelled old new k l within plain s is = record {
+    → l ≡ plain_lexeme k new.line_has_ended → (errors : List Diagnostic) → ReadsLexeme old errors l new errors
+lexeme_spelled old new k l within plain s is errors = record {
   text = s.text;
   source_type = within.source_type;
   reading = spelled_reading s.spelled (rest new.source) k;
@@ -68,7 +70,7 @@ lexeme_spelled old new k l within plain s is = record {
   lexeme_is =
       is ∙ ap (plain_lexeme k) within.line_has_ended ∙ rw
       (has_no_escape k s.spelled plain.no_value, plain.no_number) refl;
-  errors = within.errors ∙ sym (append-nil old.errors);
+  errors = sym (append-nil errors);
 }
 
 -- where nothing that is spelled begins, nothing is spelled
@@ -88,25 +90,26 @@ recovers_some t line_has_ended here gap n = by_reading (reading_is_here t line_h
     by_reading (recovers nothing e) = ap is_some e
 
 -- what was read to recover, and reported
-pub lexeme_recovered : (old new : Reader) (r : Recovered) → Recovers old.line_has_ended old.source r new.source
+pub lexeme_recovered : (old new : Reader) (before after : List Diagnostic) (r : Recovered)
+    → Recovers old.line_has_ended old.source r new.source
     → NothingHere old.source_type old.line_has_ended (rest old.source)
-    → new.source_type ≡ old.source_type → new.errors ≡ old.errors ++ r.diagnostic ∷ []
-    → ReadsLexeme old
-    (record { kind = r.kind; is_on_new_line = r.is_on_new_line; escaped = false; has_separator = false }) new
-lexeme_recovered old new r rec nothing source_type errors = record {
+    → new.source_type ≡ old.source_type → after ≡ before ++ r.diagnostic ∷ []
+    → ReadsLexeme old before
+    (record { kind = r.kind; is_on_new_line = r.is_on_new_line; escaped = false; has_separator = false }) new after
+lexeme_recovered old new before after r rec nothing source_type errors = record {
   text = rec.text;
   source_type = source_type;
   reading = record (faulty r.kind (rest old.source) (rest new.source) rec.fault) { line_ended = rec.line_ended };
   here = recovers (nothing_here old.source_type old.line_has_ended (rest old.source) nothing) rec.recovery;
   behind = refl;
   lexeme_is = rw rec.line refl;
-  errors = errors ∙ ap (λ d. old.errors ++ d ∷ []) rec.reported;
+  errors = errors ∙ ap (λ d. before ++ d ∷ []) rec.reported;
 }
 
 -- What was read leads on: by its size.
-pub lexeme_onward : (old new : Reader) (l : Lexeme) → IsPlaced old.source → IsPlaced new.source → ReadsLexeme old l new
-    → old.source.place ≤ new.source.place
-lexeme_onward old new l h g r =
+pub lexeme_onward : {before after : List Diagnostic} {l : Lexeme} (old new : Reader) → IsPlaced old.source
+    → IsPlaced new.source → ReadsLexeme old before l new after → old.source.place ≤ new.source.place
+lexeme_onward old new h g r =
     let there : IsCharBoundary old.source.text new.source.place =
     subst (λ (u : List ℕ). IsCharBoundary u new.source.place) r.text g.boundary in
     (taken_span old.source.text old.source.place new.source.place r.reading h.utf8 h.boundary there
@@ -152,7 +155,8 @@ ends_behind place (x ∷ xs) =
     ends_behind (place + piece_length x) xs ∙ place_behind-append place x.text (piece_texts xs)
 
 -- the whole gap that was skipped, in the text before it
-pub gap_to : (previous : Option TokenParts) (old : Reader) (before : GapFindings) (mid : Reader) (after : GapFindings)
+pub gap_to : (previous : Option TokenParts) (old : Reader) (before : FindingsBuilder) (mid : Reader)
+    (after : FindingsBuilder)
     → line_has_ended_behind previous ≡ old.line_has_ended → (gap : SkipsWholeGap old before mid after)
     → WholeGap old.source_type (line_has_ended_behind previous) (from_place old.source.text old.source.place)
     gap.skips.pieces mid.line_has_ended (from_place old.source.text mid.source.place)
@@ -175,13 +179,14 @@ gap_to previous old before mid after first gap =
     }
 
 -- and what was told of it, where a token behind it starts there, and nothing else was found but what is reported
-pub gap_told : (previous : Option TokenParts) (old : Reader) (before : GapFindings) (mid : Reader) (after : GapFindings)
-    (outcome : Outcome) (ds : List Diagnostic) → IsPlaced old.source → IsPlaced mid.source
-    → (gap : SkipsWholeGap old before mid after) → outcome.token.start ≡ mid.source.place
+pub gap_told : (previous : Option TokenParts) (old : Reader) (before : FindingsBuilder) (mid : Reader)
+    (told : FindingsBuilder) (outcome : Outcome) (ds later : List Diagnostic) → IsPlaced old.source
+    → IsPlaced mid.source → (gap : SkipsWholeGap old before mid told) → outcome.token.start ≡ mid.source.place
     → outcome.findings
     ≡ joined (gap_findings old.source_type previous old.source.place gap.skips.pieces outcome.token) (reports ds)
-    → AddsGap previous old.source_type old.source.place outcome before after
-gap_told previous old before mid after outcome ds f h gap start found =
+    → later ≡ told.errors ++ ds
+    → AddsGap previous old.source_type old.source.place outcome before (record told { errors = later })
+gap_told previous old before mid told outcome ds later f h gap start found reports =
     let t = old.source_type in
     let pieces = gap.skips.pieces in
     let findings = gap_findings t previous old.source.place pieces outcome.token in
@@ -192,18 +197,22 @@ gap_told previous old before mid after outcome ds f h gap start found =
           gap.skips.pieces_are;
       up_to =
           omega
-          (arith, start, ends_behind old.source.place pieces, pieces_lead false old before mid after f h gap.skips);
+          (arith, start, ends_behind old.source.place pieces, pieces_lead false old before mid told f h gap.skips);
       comments = ap (λ (x : Findings). x.comments) found ∙ append-nil findings.comments;
       irregular = ap (λ (x : Findings). x.irregular) found ∙ append-nil findings.irregular;
+      errors =
+          reports ∙ ap (λ es. es ++ ds) gap.skips.adds.errors
+          ∙ append_assoc before.errors (gap_diagnostics old.source.place pieces) ds
+          ∙ ap (λ es. before.errors ++ es) (sym (ap (λ (x : Findings). x.diagnostics) found));
       deferred =
-          gap.skips.adds.deferred
-          ∙ ap (λ es. before.deferred ++ es)
+          gap.skips.adds.deferred ∙ ap (λ es. before.deferred ++ es)
           (sym (ap (λ (x : Findings). x.deferred) found ∙ append-nil (gap_deferred t old.source.place pieces)));
       trivia = gap.skips.adds.trivia;
     }
 
 -- the place behind the token that was read here
-pub token_end : {mid new : Reader} {token : TokenParts} → IsPlaced mid.source → (there : ReadsTokenHere mid token new)
+pub token_end : {mid new : Reader} {before after : List Diagnostic} {token : TokenParts} → IsPlaced mid.source
+    → (there : ReadsTokenHere mid before token new after)
     → new.source.place ≡ mid.source.place + size_of there.reads.reading
 token_end {mid} {new} h there =
     let read = there.reads in
@@ -213,12 +222,12 @@ token_end {mid} {new} h there =
     (here_is_taken mid.source_type mid.line_has_ended (rest mid.source) read.reading read.here)
 
 -- the token that stands behind a whole gap
-abbrev pub token_behind : (previous : Option TokenParts) (old : Reader) (before : GapFindings) (mid : Reader)
-    (after : GapFindings) (new : Reader) (token : TokenParts) → IsPlaced old.source → IsPlaced mid.source
-    → line_has_ended_behind previous ≡ old.line_has_ended
-    → SkipsWholeGap old before mid after → ReadsTokenHere mid token new
-    → ReadsBehind previous old before token new after
-token_behind previous old before mid after new token f h first gap there =
+abbrev pub token_behind : (previous : Option TokenParts) (old : Reader) (before : FindingsBuilder) (mid : Reader)
+    (told : FindingsBuilder) (new : Reader) (later : List Diagnostic) (token : TokenParts) → IsPlaced old.source
+    → IsPlaced mid.source → line_has_ended_behind previous ≡ old.line_has_ended
+    → SkipsWholeGap old before mid told → ReadsTokenHere mid told.errors token new later
+    → ReadsBehind previous old before token new (record told { errors = later })
+token_behind previous old before mid told new later token f h first gap there =
     let read = there.reads in
     let text : new.source.text ≡ old.source.text = read.text ∙ gap.skips.text in
     let start = mid.source.place in
@@ -238,7 +247,7 @@ token_behind previous old before mid after new token f h first gap there =
       reads = record {
         pieces = pieces;
         line_has_ended = mid.line_has_ended;
-        gap = gap_to previous old before mid after first gap;
+        gap = gap_to previous old before mid told first gap;
         start = subst (λ (u : List ℕ). IsCharBoundary u start) gap.skips.text h.boundary;
         end =
             subst (IsCharBoundary old.source.text) end
@@ -255,10 +264,9 @@ token_behind previous old before mid after new token f h first gap there =
             read.behind ∙ ap (λ u. from_place u new.source.place) text ∙ ap (from_place old.source.text) end;
         outcome_is = refl;
       };
-      gap = gap_told previous old before mid after outcome (reported_at start read.reading) f h gap refl refl;
-      errors =
-          read.errors ∙ ap (λ ds. ds ++ reported_at start read.reading) gap.skips.errors
-          ∙ append_assoc old.errors _ (reported_at start read.reading);
+      gap =
+          gap_told previous old before mid told outcome (reported_at start read.reading) later f h gap refl refl
+          read.errors;
     }
 
 begins_at_start : (text : List ℕ) (place : ℕ) → place ≡ 0
@@ -311,7 +319,7 @@ hashbang_read old new mid token end start g within takes same to f e =
     subst (λ (u : TokenParts). IsHashbangRead old u new) (sym e) whole
 
 -- the two ways to read a goal
-pub goal_hashbang : (previous : Option TokenParts) (old new : Reader) (found : GapFindings) (token : TokenParts)
+pub goal_hashbang : (previous : Option TokenParts) (old new : Reader) (found : FindingsBuilder) (token : TokenParts)
     → line_has_ended_behind previous ≡ old.line_has_ended → IsHashbangRead old token new
     → ReadsWithGap First previous old found token new found
 goal_hashbang previous old new found token line_has_ended h = record {
@@ -329,7 +337,6 @@ goal_hashbang previous old new found token line_has_ended h = record {
           has_separator = h.has_separator;
           alone = refl;
         };
-    errors = h.within.errors ∙ sym (append-nil old.errors);
   };
   gap = record {
     pieces = [];
@@ -337,16 +344,19 @@ goal_hashbang previous old new found token line_has_ended h = record {
     up_to = omega (arith, h.at_start);
     comments = refl;
     irregular = refl;
+    errors = sym (append-nil found.errors);
     deferred = sym (append-nil found.deferred);
     trivia = refl;
   };
 }
 
 -- a reading without a gap from the place on, as one with a gap that has nothing
-pub with_no_gap : (goal : Goal) (previous : Option TokenParts) (old new : Reader) (found : GapFindings)
-    (token : TokenParts) → (r : ReadsWithoutGap goal previous old token new)
-    → old.source.place ≤ r.read.outcome.token.start → ReadsWithGap goal previous old found token new found
-with_no_gap goal previous old new found token r onward = record {
+pub with_no_gap : (goal : Goal) (previous : Option TokenParts) (old new : Reader) (found : FindingsBuilder)
+    (token : TokenParts) (later : List Diagnostic)
+    → (r : ReadsWithoutGap goal previous old found.errors token new later)
+    → old.source.place ≤ r.read.outcome.token.start
+    → ReadsWithGap goal previous old found token new (record found { errors = later })
+with_no_gap goal previous old new found token later r onward = record {
   read = r.read;
   gap = record {
     pieces = [];
@@ -354,6 +364,7 @@ with_no_gap goal previous old new found token r onward = record {
     up_to = onward;
     comments = ap (λ (x : Findings). x.comments) r.findings;
     irregular = ap (λ (x : Findings). x.irregular) r.findings;
+    errors = r.errors;
     deferred =
         sym (append-nil found.deferred)
         ∙ ap (λ ds. found.deferred ++ ds) (sym (ap (λ (x : Findings). x.deferred) r.findings));
@@ -374,8 +385,8 @@ plainly text t JsxIdentifier before place o plain reads = absurd (cc)
 plainly text t JsxChild before place o plain reads = absurd (cc)
 plainly text t JsxAttributeValue before place o plain reads = absurd (cc)
 
-pub goal_behind : (goal : Goal) (previous : Option TokenParts) (old : Reader) (before : GapFindings)
-    (token : TokenParts) (new : Reader) (after : GapFindings) → is_plain goal ≡ true
+pub goal_behind : (goal : Goal) (previous : Option TokenParts) (old : Reader) (before : FindingsBuilder)
+    (token : TokenParts) (new : Reader) (after : FindingsBuilder) → is_plain goal ≡ true
     → begins_hashbang goal old.source.text old.source.place ≡ false
     → ReadsBehind previous old before token new after → ReadsWithGap goal previous old before token new after
 goal_behind goal previous old before token new after plain none b = record {
@@ -388,24 +399,21 @@ goal_behind goal previous old before token new after plain none b = record {
     reads =
         plainly old.source.text old.source_type goal previous old.source.place b.outcome plain
         (behind_gap none b.reads);
-    errors = b.errors;
   };
   gap = b.gap;
 }
 
 -- a reading from a reader that has not moved is one from the reader before
-pub lexeme_from : (old mid new : Reader) (l : Lexeme) → IsUnmoved old mid → ReadsLexeme mid l new
-    → ReadsLexeme old l new
-lexeme_from old mid new l same r = record {
+pub lexeme_from : {before after : List Diagnostic} (old mid new : Reader) (l : Lexeme) → IsUnmoved old mid
+    → ReadsLexeme mid before l new after → ReadsLexeme old before l new after
+lexeme_from {before} old mid new l same r = record {
   text = r.text ∙ ap (λ s. s.text) same.source;
   source_type = r.source_type ∙ same.stays.source_type;
   reading = r.reading;
   here = moved same.stays.source_type same.stays.line_has_ended same.source r.here;
   behind = r.behind;
   lexeme_is = r.lexeme_is ∙ ap (λ b. lexeme_of b r.reading) same.stays.line_has_ended;
-  errors =
-      r.errors ∙ ap (λ es. es ++ reported_at mid.source.place r.reading) same.stays.errors
-      ∙ ap (λ (a : At). old.errors ++ reported_at a.place r.reading) same.source;
+  errors = r.errors ∙ ap (λ (a : At). before ++ reported_at a.place r.reading) same.source;
 }
   where
     moved : mid.source_type ≡ old.source_type → mid.line_has_ended ≡ old.line_has_ended → mid.source ≡ old.source
@@ -420,23 +428,24 @@ pub moves_on_from : (old mid new : Reader) → IsUnmoved old mid → MovesOn mid
 moves_on_from old mid new same m = record {
   text = m.text ∙ ap (λ s. s.text) same.source;
   source_type = m.source_type ∙ same.stays.source_type;
-  more = m.more;
-  errors = m.errors ∙ ap (λ es. es ++ m.more) same.stays.errors;
 }
 
 -- and so for what a call answers
-pub answers_from : (old mid new : Reader) (r : Result Lexeme AllocError) → IsUnmoved old mid
-    → IfOk r (λ l. ReadsLexeme mid l new) → IfOk r (λ l. ReadsLexeme old l new)
-answers_from old mid new r same h =
-    IfOk-weaker r (λ l. ReadsLexeme mid l new) (λ l. ReadsLexeme old l new) (λ l x. lexeme_from old mid new l same x) h
+pub answers_from : (before after : List Diagnostic) (old mid new : Reader) (r : Result Lexeme AllocError)
+    → IsUnmoved old mid → IfOk r (λ l. ReadsLexeme mid before l new after)
+    → IfOk r (λ l. ReadsLexeme old before l new after)
+answers_from before after old mid new r same h =
+    IfOk-weaker r (λ l. ReadsLexeme mid before l new after) (λ l. ReadsLexeme old before l new after)
+    (λ l x. lexeme_from old mid new l same x) h
 
-pub fails_from : (old mid new : Reader) (r : Result Lexeme AllocError) → IsUnmoved old mid → OnErr r (MovesOn mid new)
-    → OnErr r (MovesOn old new)
-fails_from old mid new r same h = on_err_weaker r (moves_on_from old mid new same) h
+pub fails_from : (before after : List Diagnostic) (old mid new : Reader) (r : Result Lexeme AllocError)
+    → IsUnmoved old mid → OnErr r (ReadsInPart mid before new after) → OnErr r (ReadsInPart old before new after)
+fails_from before after old mid new r same h =
+    on_err_weaker r (λ p. record { moves = moves_on_from old mid new same p.moves; errors = p.errors }) h
 
 -- a token behind a whole gap, from a reader that has not moved
-behind_from : (previous : Option TokenParts) (old mid : Reader) (before : GapFindings) (token : TokenParts)
-    (new : Reader) (after : GapFindings) → IsUnmoved old mid → ReadsBehind previous mid before token new after
+behind_from : (previous : Option TokenParts) (old mid : Reader) (before : FindingsBuilder) (token : TokenParts)
+    (new : Reader) (after : FindingsBuilder) → IsUnmoved old mid → ReadsBehind previous mid before token new after
     → ReadsBehind previous old before token new after
 behind_from previous old mid before token new after same b = record {
   text = b.text ∙ ap (λ s. s.text) same.source;
@@ -450,11 +459,10 @@ behind_from previous old mid before token new after same b = record {
   gap =
       subst (λ t. AddsGap previous t old.source.place b.outcome before after) same.stays.source_type
       (subst (λ (a : At). AddsGap previous mid.source_type a.place b.outcome before after) same.source b.gap);
-  errors = b.errors ∙ ap (λ es. es ++ b.outcome.findings.diagnostics) same.stays.errors;
 }
 
 -- what a goal answers where no hashbang stands
-pub goal_answers : (goal : Goal) (old mid : Reader) (before : GapFindings) (new : Reader) (after : GapFindings)
+pub goal_answers : (goal : Goal) (old mid : Reader) (before : FindingsBuilder) (new : Reader) (after : FindingsBuilder)
     (r : Result TokenParts AllocError) → IsUnmoved old mid
     → is_plain goal ≡ true → begins_hashbang goal old.source.text old.source.place ≡ false
     → IfOk r

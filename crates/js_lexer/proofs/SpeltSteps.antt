@@ -36,7 +36,7 @@ use Rattle.js_spell.specs.declared.spelt.Spelt.{Spelt}
 use Rattle.js_spell.specs.declared.spelt.SpeltValue.{SpeltValue}
 use Rattle.js_spell.specs.declared.spelt.SpeltValue.TheVariants.{Plain}
 use Rattle.js_lexer.specs.Decoded.{Values, KeepsSpelt, KeepsPart, KeepsValues, HasValueHere, HoldsTemplate}
-use Rattle.js_lexer.specs.Reader.{MovesOn, ReadsLexeme}
+use Rattle.js_lexer.specs.Reader.{ReadsInPart, ReadsLexeme}
 use Rattle.js_lexer.specs.declared.reader.Reader.{Reader}
 use Rattle.js_lexer.proofs.DecodedSteps.{keeps_same, keeps_string, keeps_template, has_string, has_template}
 use Rattle.js_lexer.proofs.DecodedSteps.{needs_no_value}
@@ -116,17 +116,18 @@ next_part_valued behind =
     part_is_valued TemplateMiddle TemplateTail part_kinds.middle part_kinds.tail right_curly_bracket behind refl
 
 -- what was read where the reader stood
-pub lexeme_as : {template : Bool} {reading : Reading} {mid : At} {start : ℕ} {was now : TokenParts} {spelt : Spelt}
-    (old new : Reader) → IsReadHere template old reading → start ≡ old.source.place → mid.text ≡ old.source.text
-    → Spells reading start mid new.source old.errors new.errors was now spelt → new.source_type ≡ old.source_type
-    → ReadsLexeme old
+pub lexeme_as : {template : Bool} {reading : Reading} {mid : At} {start : ℕ} {before after : List Diagnostic}
+    {was now : TokenParts} {spelt : Spelt} (old new : Reader) → IsReadHere template old reading
+    → start ≡ old.source.place → mid.text ≡ old.source.text
+    → Spells reading start mid new.source before after was now spelt → new.source_type ≡ old.source_type
+    → ReadsLexeme old before
     (record {
       kind = spelt.kind;
       is_on_new_line = old.line_has_ended;
       escaped = now.escaped;
       has_separator = false;
-    }) new
-lexeme_as {reading} {now} {spelt} old new here at text spells source_type = record {
+    }) new after
+lexeme_as {reading} {before} {now} {spelt} old new here at text spells source_type = record {
   text = spells.read.text ∙ text;
   source_type = source_type;
   reading = reading;
@@ -134,22 +135,23 @@ lexeme_as {reading} {now} {spelt} old new here at text spells source_type = reco
   behind = spells.read.left;
   lexeme_is =
       rw (here.valued.line, here.valued.separator, spells.read.kind_is, ap (λ t. t.escaped) spells.flags) refl;
-  errors = spells.read.reports ∙ ap (λ n. old.errors ++ reported_at n reading) at;
+  errors = spells.read.reports ∙ ap (λ n. before ++ reported_at n reading) at;
 }
 
 -- and a number
-pub lexeme_of_number : {start : ℕ} {was now : TokenParts} {spelt : Spelt} (old new : Reader)
+pub lexeme_of_number : {start : ℕ} {before after : List Diagnostic} {was now : TokenParts} {spelt : Spelt}
+    (old new : Reader)
     → begins_number (rest old.source) ≡ true → start ≡ old.source.place
-    → Spells (number_reading (rest old.source)) start old.source new.source old.errors new.errors was now spelt
+    → Spells (number_reading (rest old.source)) start old.source new.source before after was now spelt
     → new.source_type ≡ old.source_type
-    → ReadsLexeme old
+    → ReadsLexeme old before
     (record {
       kind = spelt.kind;
       is_on_new_line = old.line_has_ended;
       escaped = now.escaped;
       has_separator = now.has_separator;
-    }) new
-lexeme_of_number {now} {spelt} old new begun at spells source_type =
+    }) new after
+lexeme_of_number {before} {now} {spelt} old new begun at spells source_type =
     let reading = number_reading (rest old.source) in
     record {
       text = spells.read.text;
@@ -164,24 +166,25 @@ lexeme_of_number {now} {spelt} old new begun at spells source_type =
             ap (λ t. t.escaped) spells.flags,
             ap (λ t. t.has_separator) spells.flags,
           ) refl;
-      errors = spells.read.reports ∙ ap (λ n. old.errors ++ reported_at n reading) at;
+      errors = spells.read.reports ∙ ap (λ n. before ++ reported_at n reading) at;
     }
 
 -- The reader has moved on where a reading broke off, or where its value could not be kept.
-pub broke_off : {told : List Diagnostic} {mid : At} (old new : Reader)
-    → BreaksOff told mid new.source old.errors new.errors → mid.text ≡ old.source.text
-    → new.source_type ≡ old.source_type → MovesOn old new
-broke_off old new broke text source_type =
-    record { text = broke.text ∙ text; source_type = source_type; more = broke.more; errors = broke.reports }
+pub broke_off : {told : List Diagnostic} {mid : At} {before after : List Diagnostic} (old new : Reader)
+    → BreaksOff told mid new.source before after → mid.text ≡ old.source.text
+    → new.source_type ≡ old.source_type → ReadsInPart old before new after
+broke_off old new broke text source_type = record {
+  moves = record { text = broke.text ∙ text; source_type = source_type };
+  errors = record { more = broke.more; is_more = broke.reports };
+}
 
-pub was_spelt : {reading : Reading} {mid : At} {start : ℕ} {was now : TokenParts} {spelt : Spelt} (old new : Reader)
-    → Spells reading start mid new.source old.errors new.errors was now spelt → mid.text ≡ old.source.text
-    → new.source_type ≡ old.source_type → MovesOn old new
+pub was_spelt : {reading : Reading} {mid : At} {start : ℕ} {before after : List Diagnostic} {was now : TokenParts}
+    {spelt : Spelt} (old new : Reader)
+    → Spells reading start mid new.source before after was now spelt → mid.text ≡ old.source.text
+    → new.source_type ≡ old.source_type → ReadsInPart old before new after
 was_spelt {reading} {start} old new spells text source_type = record {
-  text = spells.read.text ∙ text;
-  source_type = source_type;
-  more = reported_at start reading;
-  errors = spells.read.reports;
+  moves = record { text = spells.read.text ∙ text; source_type = source_type };
+  errors = record { more = reported_at start reading; is_more = spells.read.reports };
 }
 
 -- What is kept of a spelling of this kind.

@@ -5,6 +5,7 @@ use Rattle.std.specs.Prelude.{if◌then◌else◌}
 use Rattle.std.specs.List.{list_all}
 use Rattle.std.specs.Str.{IsUtf8}
 use Rattle.js_text.specs.Lists.{with_last}
+use Rattle.js_text.specs.declared.diagnostic.Diagnostic.{Diagnostic}
 use Rattle.js_kind.specs.Kinds.{kind_text}
 use Rattle.js_kind.specs.TokenParts.{TokenParts}
 use Rattle.js_grammar.specs.ReLexed.{again_kinds}
@@ -14,8 +15,8 @@ use Rattle.js_grammar.specs.declared.goal.Goal.TheVariants.{TypeScriptLeftAngle,
 use Rattle.js_lexer.specs.Decoded.{Values, KeepsValues, HasValue}
 use Rattle.js_lexer.specs.Goals.{ReadsExpression, ReadsRegex, info_of}
 use Rattle.js_lexer.specs.Lexer.{IsBehindFor, IsSound, ReadsAgain, kind_of_last, last_read, lexer_of}
-use Rattle.js_lexer.specs.Reader.{ReadsWithoutGap}
-use Rattle.js_lexer.specs.declared.found.GapFindings.{GapFindings}
+use Rattle.js_lexer.specs.Reader.{ReadsGoal, ReadsSilently, ReadsWithoutGap}
+use Rattle.js_lexer.specs.declared.findings_builder.FindingsBuilder.{FindingsBuilder}
 use Rattle.js_lexer.specs.declared.reader.Reader.{Reader}
 use Rattle.js_lexer.specs.declared.regex.RegexToken.{RegexToken}
 use Rattle.js_lexer.proofs.AgainSteps.{StartsWith, has_mark, no_value, starts_with}
@@ -24,14 +25,14 @@ use Rattle.js_lexer.proofs.AgainSteps.{longest_starts, longest_unescaped, name_s
 use Rattle.js_lexer.proofs.AgainSteps.{right_starts, right_unescaped}
 use Rattle.js_lexer.proofs.DecodedSteps.{keeps_same}
 use Rattle.js_lexer.proofs.LexerSteps.{reads_again, sound_again, told_again, told_last}
-use Rattle.js_trivia.specs.Trivia.{Trivia, handle_token}
+use Rattle.js_trivia.specs.Trivia.{handle_token}
 
 -- A reader has read the last token again, from its start, with the values of tokens before and after.
-pub record IsReadAgain (goal : Goal) (last : Option TokenParts) (old : Reader) (values : Values) (token : TokenParts)
-    (new : Reader) (more : Values) : Type 0 where
+pub record IsReadAgain (goal : Goal) (last : Option TokenParts) (old : Reader) (told : List Diagnostic)
+    (values : Values) (token : TokenParts) (new : Reader) (later : List Diagnostic) (more : Values) : Type 0 where
   pub before : TokenParts
   pub last_is : last ≡ Some before
-  pub reads : ReadsWithoutGap goal last old token new
+  pub reads : ReadsWithoutGap goal last old told token new later
   pub starts : token.start ≡ before.start
   pub utf8 : IsUtf8 new.source.text
   pub keeps : KeepsValues old.source.text values more
@@ -40,9 +41,9 @@ pub record IsReadAgain (goal : Goal) (last : Option TokenParts) (old : Reader) (
 -- What is read of the goal starts where the token before did, and has no escape.
 pub record IsPlain (goal : Goal) : Type 0 where
   pub starts : (before : TokenParts) (old new : Reader) (token : TokenParts)
-      → ReadsWithoutGap goal (Some before) old token new → token.start ≡ before.start
+      → ReadsGoal goal (Some before) old token new → token.start ≡ before.start
   pub unescaped : (before : TokenParts) (old new : Reader) (token : TokenParts)
-      → ReadsWithoutGap goal (Some before) old token new → token.escaped ≡ false
+      → ReadsGoal goal (Some before) old token new → token.escaped ≡ false
 
 pub longest_is_plain : IsPlain RightAngle
 longest_is_plain = record { starts = longest_starts; unescaped = longest_unescaped }
@@ -60,28 +61,30 @@ pub name_is_plain : IsPlain JsxIdentifier
 name_is_plain = record { starts = name_starts; unescaped = name_unescaped }
 
 -- a token without an escape that was read again
-pub plainly : {goal : Goal} {token : TokenParts} {values : Values} (last : Option TokenParts) (old new : Reader)
-    (before : TokenParts) → IsPlain goal → last ≡ Some before → ReadsWithoutGap goal (Some before) old token new
-    → IsUtf8 new.source.text → IsReadAgain goal last old values token new values
-plainly {goal} {token} {values} last old new before plain is reads utf8 = record {
+pub plainly : {goal : Goal} {token : TokenParts} {told later : List Diagnostic} {values : Values}
+    (last : Option TokenParts) (old new : Reader) (before : TokenParts) → IsPlain goal → last ≡ Some before
+    → ReadsWithoutGap goal (Some before) old told token new later
+    → IsUtf8 new.source.text → IsReadAgain goal last old told values token new later values
+plainly {goal} {token} {told} {later} {values} last old new before plain is reads utf8 = record {
   before = before;
   last_is = is;
-  reads = subst (λ o. ReadsWithoutGap goal o old token new) (sym is) reads;
-  starts = plain.starts before old new token reads;
+  reads = subst (λ o. ReadsWithoutGap goal o old told token new later) (sym is) reads;
+  starts = plain.starts before old new token reads.read;
   utf8 = utf8;
   keeps = keeps_same old.source.text values values refl;
-  has_value = no_value old.source.text values token (plain.unescaped before old new token reads);
+  has_value = no_value old.source.text values token (plain.unescaped before old new token reads.read);
 }
 
 -- and a part of a template, with its value
-pub part_again : {token : TokenParts} {values more : Values} (last : Option TokenParts) (old new : Reader)
-    (before : TokenParts) → last ≡ Some before → ReadsWithoutGap TemplateTail (Some before) old token new
+pub part_again : {token : TokenParts} {told later : List Diagnostic} {values more : Values}
+    (last : Option TokenParts) (old new : Reader) (before : TokenParts) → last ≡ Some before
+    → ReadsWithoutGap TemplateTail (Some before) old told token new later
     → IsUtf8 new.source.text → KeepsValues old.source.text values more → HasValue old.source.text more token
-    → IsReadAgain TemplateTail last old values token new more
-part_again {token} last old new before is reads utf8 keeps has_value = record {
+    → IsReadAgain TemplateTail last old told values token new later more
+part_again {token} {told} {later} last old new before is reads utf8 keeps has_value = record {
   before = before;
   last_is = is;
-  reads = subst (λ o. ReadsWithoutGap TemplateTail o old token new) (sym is) reads;
+  reads = subst (λ o. ReadsWithoutGap TemplateTail o old told token new later) (sym is) reads;
   starts = ap (λ t. t.start) reads.read.token_is ∙ ap (λ o. o.token.start) reads.read.reads.outcome_is;
   utf8 = utf8;
   keeps = keeps;
@@ -95,22 +98,26 @@ was_read false previous token e = absurd (let no = e in cc)
 
 -- a lexer that took it is sound
 pub sound_taken : {goal : Goal} {token : TokenParts} {values more : Values} (has_read : Bool) (old new : Reader)
-    (trivia now : Trivia)
-    → IsReadAgain goal (last_read has_read trivia.attachment.previous) old values token new more
-    → IsSound old.source (last_read has_read trivia.attachment.previous) trivia values → now ≡ handle_token token trivia
-    → IsSound new.source (last_read has_read now.attachment.previous) now more
-sound_taken {goal} {token} {values} {more} has_read old new trivia now r sound e =
-    let read : ReadsWithoutGap goal (Some r.before) old token new =
-    subst (λ o. ReadsWithoutGap goal o old token new) r.last_is r.reads in
-    subst (λ b. IsSound new.source (last_read b now.attachment.previous) now more)
-    (sym (was_read has_read trivia.attachment.previous r.before r.last_is))
-    (sound_again goal r.before token old new trivia now values more r.utf8 (r.keeps.are_values sound.are_values)
-    read.read (subst (λ o. IsSound old.source o trivia values) r.last_is sound) r.starts e)
+    (found after : FindingsBuilder)
+    → IsReadAgain goal (last_read has_read found.trivia.attachment.previous) old found.errors values token new
+    after.errors more
+    → IsSound old.source (last_read has_read found.trivia.attachment.previous) found.trivia values
+    → after.trivia ≡ handle_token token found.trivia
+    → IsSound new.source (last_read has_read after.trivia.attachment.previous) after.trivia more
+sound_taken {goal} {token} {values} {more} has_read old new found after r sound e =
+    let read : ReadsGoal goal (Some r.before) old token new =
+    subst (λ o. ReadsGoal goal o old token new) r.last_is r.reads.read in
+    subst (λ b. IsSound new.source (last_read b after.trivia.attachment.previous) after.trivia more)
+    (sym (was_read has_read found.trivia.attachment.previous r.before r.last_is))
+    (sound_again goal r.before token old new found.trivia after.trivia values more r.utf8
+    (r.keeps.are_values sound.are_values)
+    read (subst (λ o. IsSound old.source o found.trivia values) r.last_is sound) r.starts e)
 
 -- and the token was read again, as contracts see it
 abbrev pub reads_taken : {goal : Goal} {token : TokenParts} {collects : Bool} {tokens now : List TokenParts}
-    {values more : Values} (has_read : Bool) (old new : Reader) (found after : GapFindings)
-    → IsReadAgain goal (last_read has_read found.trivia.attachment.previous) old values token new more
+    {values more : Values} (has_read : Bool) (old new : Reader) (found after : FindingsBuilder)
+    → IsReadAgain goal (last_read has_read found.trivia.attachment.previous) old found.errors values token new
+    after.errors more
     → IsSound old.source (last_read has_read found.trivia.attachment.previous) found.trivia values
     → after.trivia ≡ handle_token token found.trivia → after.deferred ≡ found.deferred
     → now ≡ (if collects then with_last tokens token else tokens)
@@ -122,7 +129,7 @@ reads_taken {goal} {token} {collects} {tokens} {now} {values} {more} has_read ol
     told_again (last_read has_read found.trivia.attachment.previous) token found.trivia after.trivia old.source values
     sound told in
     reads_again (lexer_of collects old found has_read tokens values) (lexer_of collects new after has_read now more)
-    old goal token new after.trivia.attachment.attached after.trivia.attachment.previous more
+    old goal token new found.errors after.errors after.trivia.attachment.attached after.trivia.attachment.previous more
     (subst IsUtf8 r.reads.read.text r.utf8) refl refl refl r.reads (r.keeps.kept sound.are_values) r.has_value same.0
     (told_last token found.trivia after.trivia told)
     (rw (
@@ -136,8 +143,9 @@ reads_taken {goal} {token} {collects} {tokens} {now} {values} {more} has_read ol
 
 -- and so was a regular expression
 pub regex_taken : {collects : Bool} {tokens now : List TokenParts} {values : Values} (has_read : Bool)
-    (read : RegexToken) (old new : Reader) (found after : GapFindings) (before : TokenParts)
-    → last_read has_read found.trivia.attachment.previous ≡ Some before → ReadsExpression before old read new
+    (read : RegexToken) (old new : Reader) (found after : FindingsBuilder) (before : TokenParts)
+    → last_read has_read found.trivia.attachment.previous ≡ Some before
+    → ReadsExpression before old found.errors read new after.errors
     → IsUtf8 new.source.text
     → IsSound old.source (last_read has_read found.trivia.attachment.previous) found.trivia values
     → after.trivia ≡ handle_token read.token found.trivia → after.deferred ≡ found.deferred
@@ -146,10 +154,10 @@ pub regex_taken : {collects : Bool} {tokens now : List TokenParts} {values : Val
     (lexer_of collects new after has_read now values)
 regex_taken has_read read old new found after before is reads utf8 sound told deferred collected =
     let last = last_read has_read found.trivia.attachment.previous in
-    let both : (again : ReadsWithoutGap RegularExpression last old read.token new)
+    let both : (again : ReadsWithoutGap RegularExpression last old found.errors read.token new after.errors)
     × (again.read.outcome.regex ≡ Some (info_of read)) =
     subst
-    (λ o. (again : ReadsWithoutGap RegularExpression o old read.token new)
+    (λ o. (again : ReadsWithoutGap RegularExpression o old found.errors read.token new after.errors)
     × (again.read.outcome.regex ≡ Some (info_of read)))
     (sym is) (reads.reads, reads.info) in
     record {
@@ -162,7 +170,7 @@ regex_taken has_read read old new found after before is reads utf8 sound told de
 
 -- where the last token begins, which the goal may read again
 pub behind_one : {goal : Goal} {bytes : ℕ} {collects : Bool} {tokens : List TokenParts} {values : Values}
-    (mark offset : ℕ) (has_read : Bool) (r : Reader) (found : GapFindings)
+    (mark offset : ℕ) (has_read : Bool) (r : Reader) (found : FindingsBuilder)
     → IsBehindFor goal (lexer_of collects r found has_read tokens values)
     → bytes ≡ length (kind_text (kind_of_last (lexer_of collects r found has_read tokens values)))
     → list_all (has_mark mark) (again_kinds goal) ≡ true
@@ -176,9 +184,10 @@ behind_one {goal} {bytes} mark offset has_read r found behind bytes_are marked s
     sound.last_spelled
 
 -- a token without an escape that was read again from there
-pub from_mark : {goal : Goal} {token : TokenParts} {values : Values} {text : List ℕ} {mark start : ℕ}
+pub from_mark : {goal : Goal} {token : TokenParts} {told : List Diagnostic} {values : Values} {text : List ℕ}
+    {mark start : ℕ}
     (last : Option TokenParts) (old new : Reader) → IsPlain goal → StartsWith text last mark start
-    → ((before : TokenParts) → before.start ≡ start → ReadsWithoutGap goal (Some before) old token new)
-    → IsUtf8 new.source.text → IsReadAgain goal last old values token new values
-from_mark last old new plain starts reads utf8 =
-    plainly last old new starts.token plain starts.last_is (reads starts.token starts.at) utf8
+    → ((before : TokenParts) → before.start ≡ start → ReadsSilently goal (Some before) old token new)
+    → IsUtf8 new.source.text → IsReadAgain goal last old told values token new told values
+from_mark {told} last old new plain starts reads utf8 =
+    plainly last old new starts.token plain starts.last_is (reads starts.token starts.at told) utf8

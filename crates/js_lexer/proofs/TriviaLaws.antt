@@ -1,5 +1,6 @@
 -- What a builder holds after a reading, and after one that could not allocate.
-use Rattle.std.proofs.Common.{◌≡◌, ℕ, ◌+◌, ◌≤◌, Bool, true, false, List, [], ◌∷◌, ◌++◌, length, map, refl, sym, ◌∙◌, ap, subst}
+use Rattle.std.proofs.Common.{◌≡◌, ℕ, ◌+◌, ◌≤◌, Bool, true, false, List, [], ◌∷◌, ◌++◌, length, map, refl, sym, ◌∙◌}
+use Rattle.std.proofs.Common.{ap, subst}
 use Rattle.std.proofs.Common.{arith, append_assoc, append-nil, length-append, Option, Some, None}
 use Rattle.std.specs.Prelude.{is_none}
 use Rattle.js_text.specs.declared.comment.Comment.{Comment}
@@ -26,7 +27,7 @@ use Rattle.js_trivia.proofs.PieceLaw.{calls_for_pieces, held_after_pieces}
 use Rattle.js_trivia.proofs.Starts.{is_past_more}
 use Rattle.js_lexer.specs.Lexer.{range_of}
 use Rattle.js_lexer.specs.Reader.{AddsGap}
-use Rattle.js_lexer.specs.declared.found.GapFindings.{GapFindings}
+use Rattle.js_lexer.specs.declared.findings_builder.FindingsBuilder.{FindingsBuilder}
 
 pub held_later : (low high : ℕ) (s : Trivia) → HeldBefore low s → low ≤ high → HeldBefore high s
 held_later low high s h le = record {
@@ -66,8 +67,9 @@ pub record IsBetweenGaps (previous : Option TokenParts) (place : ℕ) (comments 
   pub held : HeldBefore place s
 
 module _ (previous : Option TokenParts) (t : SourceType) (place : ℕ) (comments : List Comment) (spans : List Span)
-    (pure no_side_effects : Option CommentRange) (outcome : Outcome) (before after : GapFindings)
-    (is : IsBetweenGaps previous place comments spans pure no_side_effects before.trivia) (adds : AddsGap previous t place outcome before after) where
+    (pure no_side_effects : Option CommentRange) (outcome : Outcome) (before after : FindingsBuilder)
+    (is : IsBetweenGaps previous place comments spans pure no_side_effects before.trivia)
+    (adds : AddsGap previous t place outcome before after) where
   gap : Gap
   gap = gap_of (is_none previous) (token_before previous) place adds.pieces outcome.token
 

@@ -1,91 +1,116 @@
 -- A reading that could not allocate, and what undoes it.
-use Rattle.std.proofs.Common.{◌≡◌, ◌≤◌, Bool, List, ◌++◌, length, take, refl, ◌∙◌, ap, Option}
+use Rattle.std.proofs.Common.{◌≡◌, ◌≤◌, Bool, List, [], length, refl, sym, ◌∙◌, ap, subst, Option}
 use Rattle.js_kind.specs.TokenParts.{TokenParts}
+use Rattle.js_source.specs.Source.{At}
+use Rattle.js_trivia.specs.Attachment.{Attachment}
+use Rattle.js_trivia.specs.Trivia.{Trivia, AreRangesUpTo, GrewFrom, held}
+use Rattle.js_trivia.specs.declared.lengths.TriviaLengths.{TriviaLengths}
 use Rattle.js_grammar.specs.declared.goal.Goal.{Goal}
 use Rattle.js_lexer.specs.Decoded.{Values}
-use Rattle.js_lexer.specs.Gaps.{Grows}
+use Rattle.js_lexer.specs.Found.{Extends, Grows, HasFound, found_up_to, start_of}
 use Rattle.js_lexer.specs.Lexer.{IsRestored, IsSound, last_read, lexer_of, trivia_before}
-use Rattle.js_lexer.specs.Reader.{MovesOn}
-use Rattle.js_lexer.specs.declared.found.GapFindings.{GapFindings}
-use Rattle.js_lexer.specs.declared.found.GapLengths.{GapLengths}
+use Rattle.js_lexer.specs.declared.findings_builder.FindingsBuilder.{FindingsBuilder}
 use Rattle.js_lexer.specs.declared.reader.Reader.{Reader}
-use Rattle.js_lexer.specs.declared.reader.ReadingStart.{ReadingStart}
+use Rattle.js_lexer.specs.declared.reading_start.ReadingStart.{ReadingStart}
 use Rattle.js_lexer.proofs.LexerSteps.{cut_back}
 use Rattle.js_lexer.proofs.TriviaLaws.{back_after_calls, grew_by_calls, long_enough}
-use Rattle.js_trivia.specs.Attachment.{Attachment}
-use Rattle.js_trivia.specs.Trivia.{Trivia, GrewFrom, cut_to, held, lengths_of}
-use Rattle.js_source.specs.Source.{At}
+use Rattle.js_lexer.proofs.TriviaSteps.{extends_same, grows_reports}
 
--- The reader stands where it stood, and has reported what it had.
-pub record IsBack (old new : Reader) : Type 0 where
-  pub source : new.source ≡ old.source
-  pub source_type : new.source_type ≡ old.source_type
-  pub errors : new.errors ≡ old.errors
+-- What has been found since a reading began: between two gaps, where the builder of trivia had forgotten no more than
+-- ranges of annotations, more may have been found.
+pub record HasGrown (start : ReadingStart) (source : At) (before now : FindingsBuilder) : Type 0 where
+  pub start_is : start ≡ start_of source before
+  pub ranges : AreRangesUpTo start.found.trivia.comments start.found.trivia.pure_range
+      start.found.trivia.no_side_effects
+  pub between : before.trivia.attachment.pending ≡ []
+  pub cleared : Trivia
+  pub attachment : cleared.attachment ≡ before.trivia.attachment
+  pub irregular : cleared.irregular_whitespaces ≡ before.trivia.irregular_whitespaces
+  pub grows : Grows (record before { trivia = cleared }) now
 
--- It went back from a reading that it began where it stood, or behind a plain gap.
-pub went_back : (old begun between new : Reader) (start : ReadingStart) → MovesOn begun between
-    → begun.source.text ≡ old.source.text → begun.source_type ≡ old.source_type → begun.errors ≡ old.errors
-    → start.position ≡ old.source.place → start.reported ≡ length old.errors
-    → new.source ≡ record between.source { place = start.position } → new.source_type ≡ between.source_type
-    → new.errors ≡ take start.reported between.errors → IsBack old new
-went_back old begun between new start moves text kind reports place reported source source_type errors = record {
-  source = source ∙ rw (moves.text, text, place) refl;
-  source_type = source_type ∙ moves.source_type ∙ kind;
-  errors =
-      errors ∙ ap (λ n. take n between.errors) reported
-      ∙ cut_back old.errors moves.more between.errors (moves.errors ∙ ap (λ es. es ++ moves.more) reports);
-}
+grew : {start : ReadingStart} {source : At} (before now : FindingsBuilder) → HasGrown start source before now
+    → GrewFrom before.trivia now.trivia
+grew before now h =
+    grew_by_calls before.trivia h.cleared now.trivia h.grows.items h.between h.attachment h.irregular h.grows.trivia
 
--- what a reading of the goal has found in gaps
-grew : (goal : Goal) (here : At) (last : Option TokenParts) (values : Values) (found : GapFindings) (cleared : Trivia)
-    (now : GapFindings) → IsSound here last found.trivia values → cleared ≡ trivia_before goal found.trivia
-    → Grows (record found { trivia = cleared }) now → GrewFrom found.trivia now.trivia
-grew goal here last values found cleared now sound e grown =
-    grew_by_calls found.trivia cleared now.trivia grown.items (ap (λ (a : Attachment). a.pending) sound.attachment)
-    (ap (λ (s : Trivia). s.attachment) e) (ap (λ (s : Trivia). s.irregular_whitespaces) e) grown.trivia
+-- It may be dropped.
+pub may_go_back : {start : ReadingStart} {source : At} (before now : FindingsBuilder)
+    → HasGrown start source before now → HasFound start.found now
+may_go_back before now h =
+    let long = long_enough before.trivia now.trivia (grew before now h) in
+    let lengths = ap (λ (s : ReadingStart). s.found.trivia) h.start_is in
+    record {
+      comments = subst (λ (l : TriviaLengths). l.comments ≤ length (held now.trivia.attachment)) (sym lengths) long.0;
+      irregular =
+          subst (λ (l : TriviaLengths). l.irregular ≤ length now.trivia.irregular_whitespaces) (sym lengths) long.1;
+      ranges = h.ranges;
+    }
 
--- it may be dropped
-pub may_cut_back : (goal : Goal) (here : At) (last : Option TokenParts) (values : Values) (found : GapFindings)
-    (cleared : Trivia) (now : GapFindings) (lengths : GapLengths) → IsSound here last found.trivia values
-    → cleared ≡ trivia_before goal found.trivia → Grows (record found { trivia = cleared }) now
-    → lengths.trivia ≡ lengths_of found.trivia
-    → (lengths.trivia.comments ≤ length (held now.trivia.attachment))
-    × (lengths.trivia.irregular ≤ length now.trivia.irregular_whitespaces)
-may_cut_back goal here last values found cleared now lengths sound e grown same =
-    let long = long_enough found.trivia now.trivia (grew goal here last values found cleared now sound e grown) in
-    rw same long
+same_found : (a b : FindingsBuilder) → a.errors ≡ b.errors → a.deferred ≡ b.deferred → a.trivia ≡ b.trivia → a ≡ b
+same_found a b errors deferred trivia = rw (errors, deferred, trivia) refl
 
-same_found : (a b : GapFindings) → a.trivia ≡ b.trivia → a.deferred ≡ b.deferred → a ≡ b
-same_found a b trivia deferred = rw (trivia, deferred) refl
+-- Then all is found that was found before.
+pub found_again : {start : ReadingStart} {source : At} (before now back : FindingsBuilder)
+    → HasGrown start source before now → back ≡ found_up_to start.found now → back ≡ before
+found_again before now back h e =
+    e ∙ ap (λ (s : ReadingStart). found_up_to s.found now) h.start_is
+    ∙ same_found _ before (cut_back before.errors h.grows.errors.more now.errors h.grows.errors.is_more)
+    (cut_back before.deferred h.grows.deferred.more now.deferred h.grows.deferred.is_more)
+    (back_after_calls before.trivia now.trivia h.between (grew before now h))
 
--- and then all is found that was found before
-pub dropped : (goal : Goal) (here : At) (last : Option TokenParts) (values : Values) (found : GapFindings)
-    (cleared : Trivia) (now back : GapFindings) (lengths : GapLengths) → IsSound here last found.trivia values
-    → cleared ≡ trivia_before goal found.trivia → Grows (record found { trivia = cleared }) now
-    → lengths.trivia ≡ lengths_of found.trivia → lengths.deferred ≡ length found.deferred
-    → back.trivia ≡ cut_to lengths.trivia now.trivia → back.deferred ≡ take lengths.deferred now.deferred
-    → back ≡ found
-dropped goal here last values found cleared now back lengths sound e grown same count trivia deferred =
-    same_found back found
-    (trivia ∙ ap (λ to. cut_to to now.trivia) same
-    ∙ back_after_calls found.trivia now.trivia (ap (λ (a : Attachment). a.pending) sound.attachment)
-    (grew goal here last values found cleared now sound e grown))
-    (deferred ∙ ap (λ n. take n now.deferred) count
-    ∙ cut_back found.deferred grown.more now.deferred grown.deferred)
+-- And the source stands where it stood.
+pub stands_again : {start : ReadingStart} (before : FindingsBuilder) (old between new : At)
+    → start ≡ start_of old before → between.text ≡ old.text → new ≡ record between { place = start.position }
+    → new ≡ old
+stands_again before old between new start_is text e = e ∙ rw (text, start_is) refl
 
 -- a lexer of which all went back
-pub undone : (collects has_read : Bool) (old new : Reader) (found back : GapFindings) (tokens now : List TokenParts)
-    (values more : Values) → IsBack old new → back ≡ found → now ≡ tokens
+pub undone : (collects has_read : Bool) (old new : Reader) (found back : FindingsBuilder) (tokens now : List TokenParts)
+    (values more : Values) → new.source ≡ old.source → new.source_type ≡ old.source_type → back ≡ found
+    → now ≡ tokens
     → IsRestored (lexer_of collects old found has_read tokens values)
     (lexer_of collects new back has_read now more)
-undone collects has_read old new found back tokens now values more reader gaps same = record {
-  text = ap (λ (a : At). a.text) reader.source;
-  source_type = reader.source_type;
+undone collects has_read old new found back tokens now values more source source_type same tokens_are = record {
+  text = ap (λ (a : At). a.text) source;
+  source_type = source_type;
   collects = refl;
-  place = ap (λ (a : At). a.place) reader.source;
-  last = ap (λ (f : GapFindings). last_read has_read f.trivia.attachment.previous) gaps;
-  tokens = same;
-  findings = rw (reader.errors, gaps) refl;
-  pure_comments = ap (λ (f : GapFindings). f.trivia.pure_comments) gaps;
-  no_side_effects_comments = ap (λ (f : GapFindings). f.trivia.no_side_effects_comments) gaps;
+  place = ap (λ (a : At). a.place) source;
+  last = ap (λ (f : FindingsBuilder). last_read has_read f.trivia.attachment.previous) same;
+  tokens = tokens_are;
+  findings = rw same refl;
+  pure_comments = ap (λ (f : FindingsBuilder). f.trivia.pure_comments) same;
+  no_side_effects_comments = ap (λ (f : FindingsBuilder). f.trivia.no_side_effects_comments) same;
+}
+
+-- what was found where diagnostics alone were reported
+pub reported_since : (start : ReadingStart) (source : At) (before now : FindingsBuilder)
+    → start ≡ start_of source before
+    → AreRangesUpTo start.found.trivia.comments start.found.trivia.pure_range start.found.trivia.no_side_effects
+    → before.trivia.attachment.pending ≡ [] → Extends before.errors now.errors → now.deferred ≡ before.deferred
+    → now.trivia ≡ before.trivia → HasGrown start source before now
+reported_since start source before now start_is ranges between errors deferred trivia = record {
+  start_is = start_is;
+  ranges = ranges;
+  between = between;
+  cleared = before.trivia;
+  attachment = refl;
+  irregular = refl;
+  grows = grows_reports before now errors (extends_same before.deferred now.deferred deferred) trivia;
+}
+
+-- and what was found behind the start of a reading of the goal
+pub read_since : (goal : Goal) (start : ReadingStart) (here : At) (last : Option TokenParts) (values : Values)
+    (found : FindingsBuilder) (cleared : Trivia) (now : FindingsBuilder) → IsSound here last found.trivia values
+    → cleared ≡ trivia_before goal found.trivia → Grows (record found { trivia = cleared }) now
+    → start ≡ start_of here found
+    → AreRangesUpTo start.found.trivia.comments start.found.trivia.pure_range start.found.trivia.no_side_effects
+    → HasGrown start here found now
+read_since goal start here last values found cleared now sound e grows start_is ranges = record {
+  start_is = start_is;
+  ranges = ranges;
+  between = ap (λ (a : Attachment). a.pending) sound.attachment;
+  cleared = cleared;
+  attachment = ap (λ (s : Trivia). s.attachment) e;
+  irregular = ap (λ (s : Trivia). s.irregular_whitespaces) e;
+  grows = grows;
 }

@@ -1,6 +1,6 @@
 -- The steps of a whole gap.
 use Rattle.std.proofs.Common.{◌≡◌, ℕ, ◌+◌, ◌<◌, Bool, true, false, List, [], ◌∷◌, ◌++◌, length, refl, sym, ◌∙◌, ap}
-use Rattle.std.proofs.Common.{subst, arith, Some, None, append_assoc, append-nil}
+use Rattle.std.proofs.Common.{subst, arith, Some, None, append-nil}
 use Rattle.std.specs.Prelude.{codes}
 use Rattle.std.specs.Str.{IsCharBoundary}
 use Rattle.js_text.specs.Characters.{from_place, from_first, is_line_terminator}
@@ -12,23 +12,22 @@ use Rattle.js_text.proofs.TextLemmas.{place_past, length-from_first, before_from
 use Rattle.js_source.specs.Source.{At, rest, IsPlaced}
 use Rattle.js_grammar.specs.Gap.{Piece, piece, is_prefix, line_comment, is_reported, whole_gap_piece, Pieces}
 use Rattle.js_grammar.specs.Gap.PieceKind.{reported_comment}
-use Rattle.js_grammar.specs.Outcome.{gap_diagnostics}
 use Rattle.js_grammar.specs.Reading.{place_behind}
 use Rattle.js_grammar.specs.PieceItems.{piece_length}
 use Rattle.js_grammar.proofs.GapLemmas.{reported, unreported}
 use Rattle.js_grammar.proofs.PieceLemmas.{from_first-html_open, longest_gap_leaves}
-use Rattle.js_grammar.proofs.Reported.{piece_texts, pieces_text, pieces-append, gap_diagnostics-append, whole_pieces_of}
-use Rattle.js_grammar.proofs.Reported.{gap_reports_nothing}
+use Rattle.js_grammar.proofs.Reported.{piece_texts, pieces_text, pieces-append, whole_pieces_of}
 use Rattle.js_grammar.proofs.Tests.{prefix_of}
-use Rattle.js_lexer.specs.Gaps.{AddsPieces, Grows}
+use Rattle.js_lexer.specs.Found.{Grows, reported as noting}
+use Rattle.js_lexer.specs.Gaps.{AddsPieces}
 use Rattle.js_lexer.specs.Reader.{SkipsGap, SkipsPieces, IsBehindLine, SkipsReported, SkipsWholeGap, MovesOn}
-use Rattle.js_lexer.specs.declared.found.GapFindings.{GapFindings}
+use Rattle.js_lexer.specs.declared.findings_builder.FindingsBuilder.{FindingsBuilder}
 use Rattle.js_lexer.specs.declared.reader.Reader.{Reader}
 use Rattle.js_lexer.proofs.GapSteps.{on_to}
 use Rattle.js_lexer.proofs.TriviaSteps.{ends_line, adds_none, adds_behind, adds_further, grows_none, grows_on}
 
 -- the place behind the pieces that were skipped
-pub pieces_lead : (behind : Bool) (old : Reader) (before : GapFindings) (new : Reader) (after : GapFindings)
+pub pieces_lead : (behind : Bool) (old : Reader) (before : FindingsBuilder) (new : Reader) (after : FindingsBuilder)
     → IsPlaced old.source → IsPlaced new.source → (s : SkipsPieces behind old before new after)
     → new.source.place ≡ place_behind old.source.place (piece_texts s.pieces)
 pieces_lead behind old before new after h g s =
@@ -41,8 +40,8 @@ pieces_lead behind old before new after h g s =
     place_past old.source.text old.source.place new.source.place (piece_texts s.pieces) h.utf8 h.boundary there way
 
 -- pieces, and then more pieces
-pub skips_further : (behind : Bool) (old : Reader) (before : GapFindings) (mid : Reader) (told : GapFindings)
-    (new : Reader) (after : GapFindings) → IsPlaced old.source → IsPlaced mid.source
+pub skips_further : (behind : Bool) (old : Reader) (before : FindingsBuilder) (mid : Reader) (told : FindingsBuilder)
+    (new : Reader) (after : FindingsBuilder) → IsPlaced old.source → IsPlaced mid.source
     → SkipsPieces behind old before mid told → ((ends : Bool) → SkipsPieces ends mid told new after)
     → SkipsPieces behind old before new after
 skips_further behind old before mid told new after h g a all =
@@ -66,37 +65,28 @@ skips_further behind old before mid told new after h g a all =
           pieces-append (whole_gap_piece old.source_type) old.line_has_ended
           (rest old.source) a.pieces b.pieces mid.line_has_ended new.line_has_ended (rest mid.source)
           (rest new.source) a.pieces_are later;
-      errors =
-          b.errors ∙ ap (λ ds. ds ++ gap_diagnostics mid.source.place b.pieces) a.errors
-          ∙ append_assoc old.errors (gap_diagnostics old.source.place a.pieces)
-          (gap_diagnostics mid.source.place b.pieces)
-          ∙ ap (λ p. old.errors ++ (gap_diagnostics old.source.place a.pieces ++ gap_diagnostics p b.pieces)) there
-          ∙ ap (λ ds. old.errors ++ ds) (sym (gap_diagnostics-append old.source.place a.pieces b.pieces));
       adds = adds_further behind old.source_type old.source.place a.pieces b.pieces before told after a.adds adds;
     }
 
 -- a longest gap is pieces of a whole gap, of which nothing is reported
-pub gap_pieces : (old new : Reader) (before after : GapFindings) → SkipsGap false old before new after
+pub gap_pieces : (old new : Reader) (before after : FindingsBuilder) → SkipsGap false old before new after
     → SkipsPieces false old before new after
 gap_pieces old new before after s =
-    let quiet =
-    gap_reports_nothing old.source_type old.line_has_ended (rest old.source) s.gap.pieces new.line_has_ended
-    (rest new.source) old.source.place s.gap.all.pieces_are in
     record {
       text = s.text;
-      source_type = s.within.source_type;
+      source_type = s.source_type;
       pieces = s.gap.pieces;
       pieces_are =
           whole_pieces_of old.source_type old.line_has_ended (rest old.source) s.gap.pieces new.line_has_ended
           (rest new.source) s.gap.all.pieces_are;
-      errors = s.within.errors ∙ sym (append-nil old.errors) ∙ ap (λ ds. old.errors ++ ds) (sym quiet);
       adds = s.adds;
     }
 
-pub ends_in_gap : (behind : Bool) (old new : Reader) (before after : GapFindings) → SkipsGap behind old before new after
+pub ends_in_gap : (behind : Bool) (old new : Reader) (before after : FindingsBuilder)
+    → SkipsGap behind old before new after
     → piece new.source_type new.line_has_ended (rest new.source) ≡ None
 ends_in_gap behind old new before after s =
-    ap (λ t. piece t new.line_has_ended (rest new.source)) s.within.source_type ∙ s.gap.all.longest
+    ap (λ t. piece t new.line_has_ended (rest new.source)) s.source_type ∙ s.gap.all.longest
 
 pub line_shorter : (here left : List ℕ) (behind : List ℕ) → here ≡ codes "<!--" ++ behind
     → left ≡ from_first is_line_terminator here → length left < length here
@@ -109,18 +99,19 @@ line_shorter here left behind e f =
     )
 
 -- a reported comment, and the longest gap behind it
-pub reported_skips : (old : Reader) (before : GapFindings) (line told : Reader) (found : GapFindings) (new : Reader)
-    (after : GapFindings) → IsPlaced old.source → IsPlaced line.source
+pub reported_skips : (old : Reader) (before : FindingsBuilder) (line told : Reader) (found noted : FindingsBuilder)
+    (new : Reader) (after : FindingsBuilder) → IsPlaced old.source → IsPlaced line.source
     → is_module old.source_type ≡ true → old.line_has_ended ≡ true
     → IsBehindLine HtmlOpen old before line found
     → told.source ≡ line.source → told.source_type ≡ line.source_type → told.line_has_ended ≡ line.line_has_ended
-    → told.errors
-    ≡ line.errors ++ HtmlCommentInModule (record { start = old.source.place; end = old.source.place + 4 }) ∷ []
-    → SkipsGap true told found new after → SkipsReported old before true new after
-reported_skips old before line told found new after h g module_is line_ended is source source_type line_has_ended errors
-    gap =
+    → noted
+    ≡ noting (HtmlCommentInModule (record { start = old.source.place; end = old.source.place + 4 }) ∷ []) found
+    → SkipsGap true told noted new after → SkipsReported old before true new after
+reported_skips old before line told found noted new after h g module_is line_ended is source source_type line_has_ended
+    noted_is gap =
     let t = old.source_type in
     let comment = line_comment reported_comment old.line_has_ended (rest old.source) in
+    let note = HtmlCommentInModule (record { start = old.source.place; end = old.source.place + 4 }) in
     let pieces = gap.gap.pieces in
     let begins : is_prefix (codes "<!--") (rest old.source) ≡ true =
     ap (is_prefix (codes "<!--")) is.here ∙ prefix_of (codes "<!--") is.behind in
@@ -136,33 +127,29 @@ reported_skips old before line told found new after h g module_is line_ended is 
     let whole =
     whole_pieces_of told.source_type told.line_has_ended (rest told.source) pieces new.line_has_ended
     (rest new.source) gap.gap.all.pieces_are in
-    let quiet =
-    gap_reports_nothing told.source_type told.line_has_ended (rest told.source) pieces new.line_has_ended
-    (rest new.source) (place_behind old.source.place comment.text) gap.gap.all.pieces_are in
     let moved : Pieces (whole_gap_piece t) old.line_has_ended comment.rest pieces new.line_has_ended (rest new.source) =
     subst (λ cs. Pieces (whole_gap_piece t) old.line_has_ended cs pieces new.line_has_ended (rest new.source)) left
     (subst (λ b. Pieces (whole_gap_piece t) b (rest told.source) pieces new.line_has_ended (rest new.source)) same_line
     (subst (λ u. Pieces (whole_gap_piece u) told.line_has_ended (rest told.source) pieces new.line_has_ended
     (rest new.source)) same_type whole)) in
-    let later : AddsPieces true t (old.source.place + piece_length comment) pieces found after =
-    subst (λ n. AddsPieces true t n pieces found after) place
-    (subst (λ u. AddsPieces true u told.source.place pieces found after) same_type gap.adds) in (
+    let later : AddsPieces true t (old.source.place + piece_length comment) pieces noted after =
+    subst (λ n. AddsPieces true t n pieces noted after) place
+    (subst (λ u. AddsPieces true u told.source.place pieces noted after) same_type gap.adds) in (
       λ behind. record {
         text = gap.text ∙ ap (λ (a : At). a.text) source ∙ is.text;
-        source_type = gap.within.source_type ∙ same_type;
+        source_type = gap.source_type ∙ same_type;
         pieces = comment ∷ pieces;
         pieces_are = (reported t old.line_has_ended (rest old.source) stands, moved);
-        errors =
-            gap.within.errors ∙ errors
-            ∙ ap (λ es. es ++ HtmlCommentInModule (record { start = old.source.place; end = old.source.place + 4 }) ∷ [])
-            is.stays.errors
-            ∙ ap (λ ds. old.errors
-            ++ (HtmlCommentInModule (record { start = old.source.place; end = old.source.place + 4 }) ∷ ds)) (sym quiet);
         adds =
-            adds_behind behind t old.source.place comment pieces before found after
-            (record { deferred = is.deferred ∙ sym (append-nil before.deferred); trivia = is.trivia }) later;
+            adds_behind behind t old.source.place comment pieces before noted after
+            (record {
+              errors = ap (λ (f : FindingsBuilder). f.errors) noted_is ∙ ap (λ es. es ++ note ∷ []) is.errors;
+              deferred =
+                  ap (λ (f : FindingsBuilder). f.deferred) noted_is ∙ is.deferred ∙ sym (append-nil before.deferred);
+              trivia = ap (λ (f : FindingsBuilder). f.trivia) noted_is ∙ is.trivia;
+            }) later;
       },
-      ends_in_gap true told new found after gap,
+      ends_in_gap true told new noted after gap,
       omega (
         arith,
         longest_gap_leaves told.source_type told.line_has_ended (rest told.source) new.line_has_ended
@@ -173,35 +160,26 @@ reported_skips old before line told found new after h g module_is line_ended is 
     )
 
 -- a reader that has skipped pieces has moved on
-pub pieces_move_on : (behind : Bool) (old mid new : Reader) (before after : GapFindings)
+pub pieces_move_on : (behind : Bool) (old mid new : Reader) (before after : FindingsBuilder)
     → SkipsPieces behind old before mid after → MovesOn mid new → MovesOn old new
 pieces_move_on behind old mid new before after s m = record {
   text = m.text ∙ s.text;
   source_type = m.source_type ∙ s.source_type;
-  more = gap_diagnostics old.source.place s.pieces ++ m.more;
-  errors =
-      m.errors ∙ ap (λ ds. ds ++ m.more) s.errors
-      ∙ append_assoc old.errors (gap_diagnostics old.source.place s.pieces) m.more;
 }
 
 -- what has not moved
 pub stays : (old new : Reader) → new.source.text ≡ old.source.text → new.source_type ≡ old.source_type
-    → new.errors ≡ old.errors → MovesOn old new
-stays old new text source_type errors =
-    record { text = text; source_type = source_type; more = []; errors = errors ∙ sym (append-nil old.errors) }
+    → MovesOn old new
+stays old new text source_type = record { text = text; source_type = source_type }
 
 -- so has one that has gone further
 pub moves_further : (old mid new : Reader) → mid.source.text ≡ old.source.text → mid.source_type ≡ old.source_type
-    → mid.errors ≡ old.errors → MovesOn mid new → MovesOn old new
-moves_further old mid new text source_type errors m = record {
-  text = m.text ∙ text;
-  source_type = m.source_type ∙ source_type;
-  more = m.more;
-  errors = m.errors ∙ ap (λ es. es ++ m.more) errors;
-}
+    → MovesOn mid new → MovesOn old new
+moves_further old mid new text source_type m =
+    record { text = m.text ∙ text; source_type = m.source_type ∙ source_type }
 
 -- a longest gap behind which no reported comment stands is the whole gap
-pub whole_at_once : (old new : Reader) (before after : GapFindings) → SkipsGap false old before new after
+pub whole_at_once : (old new : Reader) (before after : FindingsBuilder) → SkipsGap false old before new after
     → is_reported new.source_type new.line_has_ended (rest new.source) ≡ false
     → SkipsWholeGap old before new after
 whole_at_once old new before after gap none = record {
@@ -211,30 +189,29 @@ whole_at_once old new before after gap none = record {
 }
 
 -- no pieces yet
-skips_none : (old : Reader) (before : GapFindings) → SkipsPieces false old before old before
+skips_none : (old : Reader) (before : FindingsBuilder) → SkipsPieces false old before old before
 skips_none old before =
     record {
       text = refl;
       source_type = refl;
       pieces = [];
       pieces_are = (refl, refl);
-      errors = sym (append-nil old.errors);
       adds = adds_none false old.source_type old.source.place before;
     }
 
 -- pieces as far as a longest gap has ended
-pub record SkipsSoFar (old : Reader) (before : GapFindings) (now : Reader) (found : GapFindings) : Type 0 where
+pub record SkipsSoFar (old : Reader) (before : FindingsBuilder) (now : Reader) (found : FindingsBuilder) : Type 0 where
   pub skips : SkipsPieces false old before now found
   pub no_piece : piece now.source_type now.line_has_ended (rest now.source) ≡ None
   pub placed : IsPlaced now.source
   pub grown : Grows before found
 
-pub none_so_far : (old : Reader) (before : GapFindings) → IsPlaced old.source
+pub none_so_far : (old : Reader) (before : FindingsBuilder) → IsPlaced old.source
     → piece old.source_type old.line_has_ended (rest old.source) ≡ None → SkipsSoFar old before old before
 none_so_far old before h none =
     record { skips = skips_none old before; no_piece = none; placed = h; grown = grows_none before }
 
-pub so_far : (old mid new : Reader) (before found after : GapFindings) → IsPlaced old.source
+pub so_far : (old mid new : Reader) (before found after : FindingsBuilder) → IsPlaced old.source
     → SkipsSoFar old before mid found → SkipsReported mid found true new after → IsPlaced new.source
     → Grows found after → SkipsSoFar old before new after
 so_far old mid new before found after h s r g grown =
@@ -246,7 +223,7 @@ so_far old mid new before found after h s r g grown =
     }
 
 -- and there no reported comment stands
-pub whole_here : (old mid new : Reader) (before found after : GapFindings) → SkipsSoFar old before mid found
+pub whole_here : (old mid new : Reader) (before found after : FindingsBuilder) → SkipsSoFar old before mid found
     → SkipsReported mid found false new after → SkipsWholeGap old before new after
 whole_here old mid new before found after s r =
     let same = r.0 in
@@ -263,7 +240,6 @@ whole_here old mid new before found after s r =
         source_type = same.stays.source_type ∙ s.skips.source_type;
         pieces = s.skips.pieces;
         pieces_are = pieces_are;
-        errors = same.stays.errors ∙ s.skips.errors;
         adds =
             subst (λ f. AddsPieces false old.source_type old.source.place s.skips.pieces before f) (sym r.1)
             s.skips.adds;
@@ -277,11 +253,11 @@ whole_here old mid new before found after s r =
 
 -- where no piece of any gap begins, it matters not what stands right before
 any_flag : (ends : Bool) (t : SourceType) (line_had_ended : Bool) (cs : List ℕ) (place : ℕ) (pieces : List Piece)
-    (line_has_ended : Bool) (left : List ℕ) (before after : GapFindings)
+    (line_has_ended : Bool) (left : List ℕ) (before after : FindingsBuilder)
     → Pieces (whole_gap_piece t) line_had_ended cs pieces line_has_ended left → piece t line_had_ended cs ≡ None
     → AddsPieces false t place pieces before after → AddsPieces ends t place pieces before after
 any_flag ends t line_had_ended cs place [] line_has_ended left before after h none a =
-    record { deferred = a.deferred; trivia = a.trivia }
+    record { errors = a.errors; deferred = a.deferred; trivia = a.trivia }
 any_flag ends t line_had_ended cs place (x ∷ xs) line_has_ended left before after h none a =
     by_test (is_reported t line_had_ended cs) refl
   where
@@ -293,11 +269,11 @@ any_flag ends t line_had_ended cs place (x ∷ xs) line_has_ended left before af
         let there : AddsPieces false t place (line_comment reported_comment line_had_ended cs ∷ xs) before after =
         subst (λ z. AddsPieces false t place (z ∷ xs) before after) (sym same) a in
         subst (λ z. AddsPieces ends t place (z ∷ xs) before after) same
-        (record { deferred = there.deferred; trivia = there.trivia })
+        (record { errors = there.errors; deferred = there.deferred; trivia = there.trivia })
     by_test false e = absurd (let both : None ≡ Some x = sym none ∙ sym (unreported t line_had_ended cs e) ∙ h.0 in cc)
 
 -- a longest gap, and then the rest of the whole gap
-pub whole_behind : (old mid new : Reader) (before found after : GapFindings) → IsPlaced old.source
+pub whole_behind : (old mid new : Reader) (before found after : FindingsBuilder) → IsPlaced old.source
     → IsPlaced mid.source → SkipsGap false old before mid found → SkipsWholeGap mid found new after
     → SkipsWholeGap old before new after
 whole_behind old mid new before found after h g gap whole =
@@ -309,7 +285,6 @@ whole_behind old mid new before found after h g gap whole =
             source_type = rest_of.source_type;
             pieces = rest_of.pieces;
             pieces_are = rest_of.pieces_are;
-            errors = rest_of.errors;
             adds =
                 any_flag ends mid.source_type mid.line_has_ended (rest mid.source) mid.source.place rest_of.pieces
                 new.line_has_ended (rest new.source) found after rest_of.pieces_are

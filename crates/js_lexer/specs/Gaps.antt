@@ -6,15 +6,13 @@ use Rattle.js_text.specs.Characters.{begins, is_white_space, is_line_terminator}
 use Rattle.js_text.specs.declared.comment.CommentKind.{CommentKind}
 use Rattle.js_text.specs.declared.comment.CommentKind.TheVariants.{Line, SingleLineBlock, MultiLineBlock, HtmlOpen}
 use Rattle.js_text.specs.declared.comment.CommentKind.TheVariants.{HtmlClose}
-use Rattle.js_text.specs.declared.diagnostic.Diagnostic.{Diagnostic}
 use Rattle.js_text.specs.declared.source_type.SourceType.{SourceType}
 use Rattle.js_grammar.specs.Gap.{is_prefix, Piece, PieceKind, single_line_comment, multi_line_comment}
 use Rattle.js_grammar.specs.Gap.{html_open_comment, html_close_comment}
-use Rattle.js_grammar.specs.GapItems.{Item}
-use Rattle.js_grammar.specs.Outcome.{gap_deferred}
+use Rattle.js_grammar.specs.Outcome.{gap_deferred, gap_diagnostics}
 use Rattle.js_grammar.specs.PieceItems.{items_from}
 use Rattle.js_trivia.specs.Trivia.{calls}
-use Rattle.js_lexer.specs.declared.found.GapFindings.{GapFindings}
+use Rattle.js_lexer.specs.declared.findings_builder.FindingsBuilder.{FindingsBuilder}
 use Rattle.js_source.specs.Source.{At, rest, HasFirstByte}
 
 -- the byte is an ASCII character that begins no piece of a gap
@@ -65,14 +63,8 @@ abbrev pub IsAtLineEnd : List ℕ → Type 0
 IsAtLineEnd here = begins (λ c. not (is_line_terminator c)) here ≡ false
 
 -- what pieces at the place, of which the first stands right behind a line comment or not, add to what was found
-pub record AddsPieces (behind : Bool) (t : SourceType) (place : ℕ) (pieces : List Piece) (old new : GapFindings)
+pub record AddsPieces (behind : Bool) (t : SourceType) (place : ℕ) (pieces : List Piece) (old new : FindingsBuilder)
     : Type 0 where
+  pub errors : new.errors ≡ old.errors ++ gap_diagnostics place pieces
   pub deferred : new.deferred ≡ old.deferred ++ gap_deferred t place pieces
   pub trivia : new.trivia ≡ calls (items_from place behind pieces) old.trivia
-
--- Some items may have been told of.
-pub record Grows (old new : GapFindings) : Type 0 where
-  pub more : List Diagnostic
-  pub deferred : new.deferred ≡ old.deferred ++ more
-  pub items : List Item
-  pub trivia : new.trivia ≡ calls items old.trivia

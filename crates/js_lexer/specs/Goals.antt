@@ -1,7 +1,8 @@
 -- Readings of goals beside the plain one.
-use Rattle.std.specs.Prelude.{◌≡◌, ℕ, ◌==◌, true, false, ◌++◌, Option, Some, None}
+use Rattle.std.specs.Prelude.{◌≡◌, ℕ, ◌==◌, true, false, List, ◌++◌, Option, Some, None}
 use Rattle.js_text.specs.Ascii.{hyphen_minus}
 use Rattle.js_text.specs.Characters.{begins, from_place}
+use Rattle.js_text.specs.declared.diagnostic.Diagnostic.{Diagnostic}
 use Rattle.js_text.specs.declared.reg_exp_flags.RegexInfo.{RegexInfo}
 use Rattle.js_kind.specs.Kinds.{is_identifier_name}
 use Rattle.js_kind.specs.TokenParts.{TokenParts}
@@ -11,7 +12,7 @@ use Rattle.js_grammar.specs.Jsx.{jsx_string_reading}
 use Rattle.js_grammar.specs.Reading.{Reading, reported_at}
 use Rattle.js_grammar.specs.StringItems.{is_quote}
 use Rattle.js_lexer.specs.Lexer.{LexerState, ReadsAgain}
-use Rattle.js_lexer.specs.Reader.{ReadsTokenHere, ReadsWithoutGap, read_token}
+use Rattle.js_lexer.specs.Reader.{ReadsSilently, ReadsTokenHere, ReadsWithoutGap, read_token}
 use Rattle.js_lexer.specs.declared.reader.Reader.{Reader}
 use Rattle.js_lexer.specs.declared.regex.RegexToken.{RegexToken}
 
@@ -20,8 +21,9 @@ abbrev pub info_of : RegexToken → RegexInfo
 info_of found = record { pattern_end = found.pattern_end; flags = found.flags; flags_error = found.flags_error }
 
 -- A regular expression was read by a reader, from the start of the token before on.
-pub record ReadsExpression (before : TokenParts) (old : Reader) (found : RegexToken) (new : Reader) : Type 0 where
-  pub reads : ReadsWithoutGap RegularExpression (Some before) old found.token new
+pub record ReadsExpression (before : TokenParts) (old : Reader) (errors : List Diagnostic) (found : RegexToken)
+    (new : Reader) (after : List Diagnostic) : Type 0 where
+  pub reads : ReadsWithoutGap RegularExpression (Some before) old errors found.token new after
   pub info : reads.read.outcome.regex ≡ Some (info_of found)
 
 -- A name of JSX that begins at the start was read on; or no `-` is next, and nothing has changed.
@@ -30,10 +32,11 @@ ReadsNameOn start old None new = (begins (λ c. c == hyphen_minus) (rest old.sou
 ReadsNameOn start old (Some token) new =
     (begins (λ c. c == hyphen_minus) (rest old.source) ≡ true)
     × ((before : TokenParts) → before.start ≡ start → before.end ≡ old.source.place
-    → ReadsWithoutGap JsxIdentifier (Some before) old token new)
+    → ReadsSilently JsxIdentifier (Some before) old token new)
 
 -- The string of an attribute was read where the reader stood.
-pub record ReadsStringHere (old : Reader) (token : TokenParts) (new : Reader) : Type 0 where
+pub record ReadsStringHere (old : Reader) (before : List Diagnostic) (token : TokenParts) (new : Reader)
+    (after : List Diagnostic) : Type 0 where
   pub text : new.source.text ≡ old.source.text
   pub source_type : new.source_type ≡ old.source_type
   pub found : Reading
@@ -41,12 +44,14 @@ pub record ReadsStringHere (old : Reader) (token : TokenParts) (new : Reader) : 
   pub token_is : token ≡ read_token old.line_has_ended old.source.place new.source.place found.kind
   pub left : found.rest ≡ rest new.source
   pub placed : IsPlaced new.source
-  pub errors : new.errors ≡ old.errors ++ reported_at old.source.place found
+  pub errors : after ≡ before ++ reported_at old.source.place found
 
 -- The value of an attribute was read where the reader stood: a string, or the token that is there.
-pub data ReadsAttributeHere (old : Reader) (token : TokenParts) (new : Reader) : Type 0 where
-  string : ReadsStringHere old token new → ReadsAttributeHere old token new
-  plain : begins is_quote (rest old.source) ≡ false → ReadsTokenHere old token new → ReadsAttributeHere old token new
+pub data ReadsAttributeHere (old : Reader) (before : List Diagnostic) (token : TokenParts) (new : Reader)
+    (after : List Diagnostic) : Type 0 where
+  string : ReadsStringHere old before token new after → ReadsAttributeHere old before token new after
+  plain : begins is_quote (rest old.source) ≡ false → ReadsTokenHere old before token new after
+      → ReadsAttributeHere old before token new after
 
 -- The lexer stands behind its last token, a name that begins at the start.
 pub record IsBehindName (start : ℕ) (l : LexerState) : Type 0 where

@@ -24,10 +24,9 @@ use Rattle.js_trivia.specs.Trivia.{Trivia, HeldBefore, extend_if, is_past, is_pu
 use Rattle.js_trivia.specs.Trivia.{is_no_side_effects_not_applied, comment_starts, span_starts, AreRangesUpTo}
 use Rattle.js_trivia.specs.declared.lengths.TriviaLengths.{TriviaLengths}
 use Rattle.js_lexer.specs.Decoded.{Values, no_values, AreValues, Keeps, HasValue}
-use Rattle.js_lexer.specs.declared.found.GapFindings.{GapFindings}
-use Rattle.js_lexer.specs.declared.found.GapLengths.{GapLengths}
+use Rattle.js_lexer.specs.Found.{findings_in}
+use Rattle.js_lexer.specs.declared.findings_builder.FindingsBuilder.{FindingsBuilder}
 use Rattle.js_lexer.specs.declared.reader.Reader.{Reader}
-use Rattle.js_lexer.specs.declared.reader.ReadingStart.{ReadingStart}
 use Rattle.js_kind.specs.Kinds.{is_one_of, number}
 use Rattle.js_kind.specs.TokenParts.{TokenParts, default_parts}
 use Rattle.js_kind.specs.declared.kind.Kind.{Kind}
@@ -53,26 +52,8 @@ abbrev pub last_read : Bool → TokenParts → Option TokenParts
 last_read false previous = None
 last_read true previous = Some previous
 
--- what a lexer has found, by its reader and by gaps
-abbrev pub findings_in : Reader → GapFindings → Findings
-findings_in reader found = record {
-  diagnostics = reader.errors;
-  deferred = found.deferred;
-  comments = found.trivia.attachment.attached;
-  irregular = found.trivia.irregular_whitespaces;
-}
-
--- how much that was
-abbrev pub lengths_in : ReadingStart → GapLengths → FindingLengths
-lengths_in start found = record {
-  diagnostics = start.reported;
-  deferred = found.deferred;
-  comments = found.trivia.comments;
-  irregular = found.trivia.irregular;
-}
-
 -- the lexer of these parts
-abbrev pub lexer_of : Bool → Reader → GapFindings → Bool → List TokenParts → Values → LexerState
+abbrev pub lexer_of : Bool → Reader → FindingsBuilder → Bool → List TokenParts → Values → LexerState
 lexer_of collects reader found has_read tokens decoded = record {
   text = reader.source.text;
   source_type = reader.source_type;
@@ -80,7 +61,7 @@ lexer_of collects reader found has_read tokens decoded = record {
   place = reader.source.place;
   last = last_read has_read found.trivia.attachment.previous;
   tokens = tokens;
-  findings = findings_in reader found;
+  findings = findings_in found;
   pure_comments = found.trivia.pure_comments;
   no_side_effects_comments = found.trivia.no_side_effects_comments;
   decoded = decoded;
@@ -207,7 +188,8 @@ pub record ReadsAgain (goal : Goal) (old : LexerState) (token : TokenParts) (new
   pub kept : Keeps old.decoded new.decoded
   pub has_value : HasValue old.text new.decoded token
 
--- One reading: the token is that of the goal's reading from the lexer's place, and nothing changed but by that reading. A
+-- One reading: the token is that of the goal's reading from the lexer's place, and nothing changed but by that reading.
+-- A
 -- reading of a plain goal agrees with the grammar.
 pub record ReadsToken (goal : Goal) (old : LexerState) (token : TokenParts) (new : LexerState) : Type 0 where
   pub outcome : Outcome
@@ -245,7 +227,8 @@ pub record Checkpoint : Type 0 where
   pub pure_comments : Option CommentRange
   pub no_side_effects_comments : Option CommentRange
 
--- What a checkpoint keeps for the trivia builder tells the last token, which ends up to the place, and ranges of comments
+-- What a checkpoint keeps for the trivia builder tells the last token, which ends up to the place, and ranges of
+-- comments
 -- that it counts.
 pub record IsBehindToken (place : ℕ) (last : Option TokenParts) (lengths : TriviaLengths) : Type 0 where
   pub behind : (token_before last).end ≤ place

@@ -1,6 +1,7 @@
 -- Readings that need the source alone.
 use Rattle.std.specs.Prelude.{◌≡◌, ◌<◌, ℕ, zero, suc, Bool, true, false, List, length, None}
 use Rattle.js_text.specs.Characters.{is_identifier_start}
+use Rattle.js_text.specs.declared.diagnostic.Diagnostic.{Diagnostic}
 use Rattle.js_text.specs.declared.source_type.SourceType.{SourceType}
 use Rattle.js_grammar.specs.Gap.{whole_gap_piece}
 use Rattle.js_kind.specs.TokenParts.{TokenParts}
@@ -8,7 +9,7 @@ use Rattle.js_kind.specs.declared.kind.Kind.{Kind}
 use Rattle.js_source.specs.Source.{At, rest, IsPlaced, HasFirstByte}
 use Rattle.js_trivia.specs.Trivia.{Trivia, handle_newline}
 use Rattle.js_lexer.specs.Reader.{plain_lexeme, Leads, SkipsWholeGap, ReadsLexeme, ReadsTokenHere}
-use Rattle.js_lexer.specs.declared.found.GapFindings.{GapFindings}
+use Rattle.js_lexer.specs.declared.findings_builder.FindingsBuilder.{FindingsBuilder}
 use Rattle.js_lexer.specs.declared.plain.GapEnd.{GapEnd}
 use Rattle.js_lexer.specs.declared.plain.GapEnd.TheVariants.{Name, Mark, Other}
 use Rattle.js_lexer.specs.declared.reader.Reader.{Reader}
@@ -23,7 +24,7 @@ after_ends zero s = s
 after_ends (suc n) s = handle_newline (after_ends n s)
 
 -- what was found, with so many line ends
-abbrev pub ends_told : ℕ → GapFindings → GapFindings
+abbrev pub ends_told : ℕ → FindingsBuilder → FindingsBuilder
 ends_told n found = record found { trivia = after_ends n found.trivia }
 
 -- Pieces of a gap were passed of which there is nothing to tell but line ends, whatever reader stands there.
@@ -31,7 +32,7 @@ pub record PassesPieces (old : At) (line_had_ended : Bool) (new : At) (line_has_
   pub from : IsPlaced old
   pub placed : IsPlaced new
   pub ends : ℕ
-  pub leads : (r : Reader) (before : GapFindings)
+  pub leads : (r : Reader) (before : FindingsBuilder)
       → Leads false (moved r old line_had_ended) before false (moved r new line_has_ended) (ends_told ends before)
 
 -- Some more such pieces were passed, whatever stands before them.
@@ -45,7 +46,7 @@ pub record PassesPlainGap (old : At) (line_had_ended : Bool) (new : At) (line_ha
   pub from : IsPlaced old
   pub placed : IsPlaced new
   pub ends : ℕ
-  pub skips : (r : Reader) (before : GapFindings)
+  pub skips : (r : Reader) (before : FindingsBuilder)
       → SkipsWholeGap (moved r old line_had_ended) before (moved r new line_has_ended) (ends_told ends before)
 
 -- no piece of a whole gap stands here, whatever source it is
@@ -73,7 +74,9 @@ EndsAt Other old had new has = Unit {0}
 -- What stands behind a gap was read, good and without a flag, where the reader stands there.
 abbrev pub SpellsFor : Reader → Bool → At → At → Kind → Type 0
 SpellsFor r line_has_ended old new kind =
-    ReadsLexeme (moved r old line_has_ended) (plain_lexeme kind line_has_ended) (moved r new line_has_ended)
+    (errors : List Diagnostic)
+    → ReadsLexeme (moved r old line_has_ended) errors (plain_lexeme kind line_has_ended) (moved r new line_has_ended)
+    errors
 
 -- The same, whatever reader stands there.
 abbrev pub SpellsPlainly : Bool → At → At → Kind → Type 0
@@ -84,5 +87,6 @@ pub record ReadsPlainToken (old : At) (line_had_ended : Bool) (token : TokenPart
   pub mid : At
   pub line_has_ended : Bool
   pub gap : PassesPlainGap old line_had_ended mid line_has_ended
-  pub here : (r : Reader) → ReadsTokenHere (moved r mid line_has_ended) token (moved r new line_has_ended)
+  pub here : (r : Reader) (errors : List Diagnostic)
+      → ReadsTokenHere (moved r mid line_has_ended) errors token (moved r new line_has_ended) errors
   pub escaped : token.escaped ≡ false

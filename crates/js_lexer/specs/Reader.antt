@@ -14,7 +14,7 @@ use Rattle.js_grammar.specs.GapItems.{token_before, irregular_of}
 use Rattle.js_grammar.specs.Goals.{GoalReads, ReadsBehindGap, ReadsHere}
 use Rattle.js_grammar.specs.Hashbang.{begins_hashbang, IsHashbang}
 use Rattle.js_grammar.specs.Number.{begins_number}
-use Rattle.js_grammar.specs.Outcome.{Outcome, reports, gap_diagnostics}
+use Rattle.js_grammar.specs.Outcome.{Outcome, reports}
 use Rattle.js_grammar.specs.PieceItems.{found_comment, gap_of, items_of}
 use Rattle.js_grammar.specs.Punctuators.{NoPunctuator}
 use Rattle.js_grammar.specs.Quoted.{begins_quoted}
@@ -26,8 +26,9 @@ use Rattle.js_kind.specs.TokenParts.{TokenParts}
 use Rattle.js_kind.specs.declared.kind.Kind.{Kind}
 use Rattle.js_trivia.specs.Pieces.{HaveBytes, end_of}
 use Rattle.js_trivia.specs.Trivia.{add_comment, calls}
+use Rattle.js_lexer.specs.Found.{Extends}
 use Rattle.js_lexer.specs.Gaps.{AddsPieces, opening_mark, piece_kind}
-use Rattle.js_lexer.specs.declared.found.GapFindings.{GapFindings}
+use Rattle.js_lexer.specs.declared.findings_builder.FindingsBuilder.{FindingsBuilder}
 use Rattle.js_lexer.specs.declared.lexeme.Lexeme.{Lexeme}
 use Rattle.js_lexer.specs.declared.reader.Reader.{Reader}
 use Rattle.js_source.specs.Source.{rest, IsPlaced}
@@ -36,12 +37,6 @@ use Rattle.js_source.specs.Source.{rest, IsPlaced}
 pub record StaysWithin (old new : Reader) : Type 0 where
   pub source_type : new.source_type ≡ old.source_type
   pub line_has_ended : new.line_has_ended ≡ old.line_has_ended
-  pub errors : new.errors ≡ old.errors
-
--- Nothing may have changed but the place of the source, and whether a line has ended.
-pub record SkipsWithin (old new : Reader) : Type 0 where
-  pub source_type : new.source_type ≡ old.source_type
-  pub errors : new.errors ≡ old.errors
 
 -- Nothing has changed.
 pub record IsUnmoved (old new : Reader) : Type 0 where
@@ -49,35 +44,37 @@ pub record IsUnmoved (old new : Reader) : Type 0 where
   pub stays : StaysWithin old new
 
 -- the longest gap was skipped, and its pieces were told of; the first of them stands right behind a line comment or not
-pub record SkipsGap (behind : Bool) (old : Reader) (before : GapFindings) (new : Reader) (after : GapFindings) : Type 0
+pub record SkipsGap (behind : Bool) (old : Reader) (before : FindingsBuilder) (new : Reader)
+    (after : FindingsBuilder) : Type 0
   where
-    pub within : SkipsWithin old new
     pub text : new.source.text ≡ old.source.text
+    pub source_type : new.source_type ≡ old.source_type
     pub gap : LongestGap old.source_type old.line_has_ended (rest old.source) new.line_has_ended (rest new.source)
     pub adds : AddsPieces behind old.source_type old.source.place gap.pieces before after
 
 -- what is a longest gap from the new place is one from the old place, with what was skipped in front
-abbrev pub Leads : Bool → Reader → GapFindings → Bool → Reader → GapFindings → Type 0
+abbrev pub Leads : Bool → Reader → FindingsBuilder → Bool → Reader → FindingsBuilder → Type 0
 Leads behind old before behind_now new after =
-    (later : Reader) (found : GapFindings) → SkipsGap behind_now new after later found
+    (later : Reader) (found : FindingsBuilder) → SkipsGap behind_now new after later found
     → SkipsGap behind old before later found
 
 -- pieces of a gap were skipped, at least one, of which the last is no line comment
-pub record SkipsSome (old : Reader) (before : GapFindings) (new : Reader) (after : GapFindings) : Type 0 where
-  pub within : SkipsWithin old new
+pub record SkipsSome (old : Reader) (before : FindingsBuilder) (new : Reader) (after : FindingsBuilder) : Type 0 where
   pub text : new.source.text ≡ old.source.text
+  pub source_type : new.source_type ≡ old.source_type
   pub leads : Leads false old before false new after
   pub fewer : length (rest new.source) < length (rest old.source)
   pub placed : IsPlaced new.source
 
 -- Pieces of a gap were skipped; or none begins here, and nothing has changed.
-abbrev pub SkipsPiece : Reader → GapFindings → Bool → Reader → GapFindings → Type 0
+abbrev pub SkipsPiece : Reader → FindingsBuilder → Bool → Reader → FindingsBuilder → Type 0
 SkipsPiece old before true new after = SkipsSome old before new after
 SkipsPiece old before false new after =
     IsUnmoved old new × (after ≡ before) × (piece old.source_type old.line_has_ended (rest old.source) ≡ None)
 
 -- a comment of the kind was skipped up to the end of its line, and was told of
-pub record IsBehindLine (kind : CommentKind) (old : Reader) (before : GapFindings) (new : Reader) (after : GapFindings)
+pub record IsBehindLine (kind : CommentKind) (old : Reader) (before : FindingsBuilder) (new : Reader)
+    (after : FindingsBuilder)
     : Type 0 where
   pub text : new.source.text ≡ old.source.text
   pub stays : StaysWithin old new
@@ -85,6 +82,7 @@ pub record IsBehindLine (kind : CommentKind) (old : Reader) (before : GapFinding
   pub here : rest old.source ≡ opening_mark kind ++ behind
   pub left : rest new.source ≡ from_first is_line_terminator (rest old.source)
   pub onward : old.source.place + opening_length kind ≤ new.source.place
+  pub errors : after.errors ≡ before.errors
   pub deferred : after.deferred ≡ before.deferred
   pub trivia : after.trivia
       ≡ add_comment
@@ -92,15 +90,16 @@ pub record IsBehindLine (kind : CommentKind) (old : Reader) (before : GapFinding
       before.trivia
 
 -- Such a comment was skipped; or none stands here, and nothing has changed.
-abbrev pub SkipsMarkedLine : CommentKind → Reader → GapFindings → Bool → Reader → GapFindings → Type 0
+abbrev pub SkipsMarkedLine : CommentKind → Reader → FindingsBuilder → Bool → Reader → FindingsBuilder → Type 0
 SkipsMarkedLine kind old before true new after = IsBehindLine kind old before new after
 SkipsMarkedLine kind old before false new after =
     IsUnmoved old new × (after ≡ before) × (is_prefix (opening_mark kind) (rest old.source) ≡ false)
 
 -- the line end behind a line comment was skipped, where the text goes on
-pub record SkipsEndOfLine (old : Reader) (before : GapFindings) (new : Reader) (after : GapFindings) : Type 0 where
-  pub within : SkipsWithin old new
+pub record SkipsEndOfLine (old : Reader) (before : FindingsBuilder) (new : Reader)
+    (after : FindingsBuilder) : Type 0 where
   pub text : new.source.text ≡ old.source.text
+  pub source_type : new.source_type ≡ old.source_type
   pub leads : Leads true old before false new after
   pub fewer : length (rest new.source) ≤ length (rest old.source)
 
@@ -112,19 +111,19 @@ IsOnlyPiece kind old =
     then Some (line_comment (piece_kind kind) old.line_has_ended (rest old.source))
     else None)
 
--- Some pieces of a whole gap were skipped and told of, and what was reported of them was added.
-pub record SkipsPieces (behind : Bool) (old : Reader) (before : GapFindings) (new : Reader) (after : GapFindings)
+-- Some pieces of a whole gap were skipped and told of.
+pub record SkipsPieces (behind : Bool) (old : Reader) (before : FindingsBuilder) (new : Reader)
+    (after : FindingsBuilder)
     : Type 0 where
   pub text : new.source.text ≡ old.source.text
   pub source_type : new.source_type ≡ old.source_type
   pub pieces : List Piece
   pub pieces_are : Pieces (whole_gap_piece old.source_type) old.line_has_ended (rest old.source) pieces
       new.line_has_ended (rest new.source)
-  pub errors : new.errors ≡ old.errors ++ gap_diagnostics old.source.place pieces
   pub adds : AddsPieces behind old.source_type old.source.place pieces before after
 
 -- A reported comment was skipped, and the longest gap behind it; or none stands here, and nothing has changed.
-abbrev pub SkipsReported : Reader → GapFindings → Bool → Reader → GapFindings → Type 0
+abbrev pub SkipsReported : Reader → FindingsBuilder → Bool → Reader → FindingsBuilder → Type 0
 SkipsReported old before true new after =
     ((behind : Bool) → SkipsPieces behind old before new after)
     × (piece new.source_type new.line_has_ended (rest new.source) ≡ None)
@@ -133,16 +132,21 @@ SkipsReported old before false new after =
     IsUnmoved old new × (after ≡ before) × (is_reported old.source_type old.line_has_ended (rest old.source) ≡ false)
 
 -- The whole gap was skipped: no piece of it follows.
-pub record SkipsWholeGap (old : Reader) (before : GapFindings) (new : Reader) (after : GapFindings) : Type 0 where
+pub record SkipsWholeGap (old : Reader) (before : FindingsBuilder) (new : Reader)
+    (after : FindingsBuilder) : Type 0 where
   pub skips : SkipsPieces false old before new after
   pub longest : whole_gap_piece new.source_type new.line_has_ended (rest new.source) ≡ None
 
--- The reader may have moved on and reported: the text and its type are the same, and the list has only grown.
+-- The reader may have moved on: the text and its type are the same.
 pub record MovesOn (old new : Reader) : Type 0 where
   pub text : new.source.text ≡ old.source.text
   pub source_type : new.source_type ≡ old.source_type
-  pub more : List Diagnostic
-  pub errors : new.errors ≡ old.errors ++ more
+
+-- Something may have been read that could not be read whole: the reader may have moved on, and reported.
+pub record ReadsInPart (old : Reader) (before : List Diagnostic) (new : Reader) (after : List Diagnostic) : Type 0
+  where
+    pub moves : MovesOn old new
+    pub errors : Extends before after
 
 -- the kind and the flags of a reading, where the flag tells whether a line has ended before it
 abbrev pub lexeme_of : Bool → Reading → Lexeme
@@ -154,14 +158,15 @@ lexeme_of line_has_ended reading = record {
 }
 
 -- What stands behind a gap was read, good or faulty, and what was reported of it was added.
-pub record ReadsLexeme (old : Reader) (lexeme : Lexeme) (new : Reader) : Type 0 where
+pub record ReadsLexeme (old : Reader) (before : List Diagnostic) (lexeme : Lexeme) (new : Reader)
+    (after : List Diagnostic) : Type 0 where
   pub text : new.source.text ≡ old.source.text
   pub source_type : new.source_type ≡ old.source_type
   pub reading : Reading
   pub here : ReadsHere old.source_type old.line_has_ended (rest old.source) reading
   pub behind : reading.rest ≡ rest new.source
   pub lexeme_is : lexeme ≡ lexeme_of old.line_has_ended reading
-  pub errors : new.errors ≡ old.errors ++ reported_at old.source.place reading
+  pub errors : after ≡ before ++ reported_at old.source.place reading
 
 -- the token of a lexeme from start to end
 abbrev pub lexeme_token : ℕ → ℕ → Lexeme → TokenParts
@@ -184,22 +189,25 @@ abbrev pub read_token : Bool → ℕ → ℕ → Kind → TokenParts
 read_token line_has_ended start end kind = lexeme_token start end (plain_lexeme kind line_has_ended)
 
 -- The token of the lexeme that stands where the reader stood was read.
-pub record ReadsTokenHere (old : Reader) (token : TokenParts) (new : Reader) : Type 0 where
+pub record ReadsTokenHere (old : Reader) (before : List Diagnostic) (token : TokenParts) (new : Reader)
+    (after : List Diagnostic) : Type 0 where
   pub lexeme : Lexeme
-  pub reads : ReadsLexeme old lexeme new
+  pub reads : ReadsLexeme old before lexeme new after
   pub token_is : token ≡ lexeme_token old.source.place new.source.place lexeme
   pub placed : IsPlaced new.source
 
--- The gap before a token, which was told of, and what the outcome has of it; `previous` is the token before it, if
+-- What was found is that of the outcome, and the gap before its token was told of; `previous` is the token before it,
+-- if
 -- there is one.
 pub record AddsGap (previous : Option TokenParts) (t : SourceType) (place : ℕ) (outcome : Outcome)
-    (before after : GapFindings) : Type 0 where
+    (before after : FindingsBuilder) : Type 0 where
   pub pieces : List Piece
   pub have_bytes : HaveBytes pieces
   pub up_to : end_of place pieces ≤ outcome.token.start
   pub comments : outcome.findings.comments
       ≡ attach (gap_of (is_none previous) (token_before previous) place pieces outcome.token)
   pub irregular : outcome.findings.irregular ≡ irregular_of (items_of place pieces)
+  pub errors : after.errors ≡ before.errors ++ outcome.findings.diagnostics
   pub deferred : after.deferred ≡ before.deferred ++ outcome.findings.deferred
   pub trivia : after.trivia ≡ calls (items_of place pieces) before.trivia
 
@@ -212,23 +220,28 @@ pub record ReadsGoal (goal : Goal) (previous : Option TokenParts) (old : Reader)
   pub outcome : Outcome
   pub token_is : token ≡ outcome.token
   pub reads : GoalReads old.source.text old.source_type goal previous old.source.place outcome
-  pub errors : new.errors ≡ old.errors ++ outcome.findings.diagnostics
 
 -- a reading with a gap before its token, which was told of
-pub record ReadsWithGap (goal : Goal) (previous : Option TokenParts) (old : Reader) (before : GapFindings)
-    (token : TokenParts) (new : Reader) (after : GapFindings) : Type 0 where
+pub record ReadsWithGap (goal : Goal) (previous : Option TokenParts) (old : Reader) (before : FindingsBuilder)
+    (token : TokenParts) (new : Reader) (after : FindingsBuilder) : Type 0 where
   pub read : ReadsGoal goal previous old token new
   pub gap : AddsGap previous old.source_type old.source.place read.outcome before after
 
 -- a reading without a gap: what was found is reported, and nothing else was found
-pub record ReadsWithoutGap (goal : Goal) (previous : Option TokenParts) (old : Reader) (token : TokenParts)
-    (new : Reader) : Type 0 where
+pub record ReadsWithoutGap (goal : Goal) (previous : Option TokenParts) (old : Reader) (before : List Diagnostic)
+    (token : TokenParts) (new : Reader) (after : List Diagnostic) : Type 0 where
   pub read : ReadsGoal goal previous old token new
   pub findings : read.outcome.findings ≡ reports read.outcome.findings.diagnostics
+  pub errors : after ≡ before ++ read.outcome.findings.diagnostics
+
+-- a reading that reports nothing, and has no gap
+abbrev pub ReadsSilently : Goal → Option TokenParts → Reader → TokenParts → Reader → Type 0
+ReadsSilently goal previous old token new =
+    (errors : List Diagnostic) → ReadsWithoutGap goal previous old errors token new errors
 
 -- a token behind a whole gap, and what was reported up to its end
-pub record ReadsBehind (previous : Option TokenParts) (old : Reader) (before : GapFindings) (token : TokenParts)
-    (new : Reader) (after : GapFindings) : Type 0 where
+pub record ReadsBehind (previous : Option TokenParts) (old : Reader) (before : FindingsBuilder) (token : TokenParts)
+    (new : Reader) (after : FindingsBuilder) : Type 0 where
   pub text : new.source.text ≡ old.source.text
   pub source_type : new.source_type ≡ old.source_type
   pub end : new.source.place ≡ token.end
@@ -236,7 +249,6 @@ pub record ReadsBehind (previous : Option TokenParts) (old : Reader) (before : G
   pub token_is : token ≡ outcome.token
   pub reads : ReadsBehindGap old.source.text old.source_type previous old.source.place outcome
   pub gap : AddsGap previous old.source_type old.source.place outcome before after
-  pub errors : new.errors ≡ old.errors ++ outcome.findings.diagnostics
 
 -- the hashbang comment from the start of the text up to the place of the reader
 pub record IsHashbangRead (old : Reader) (token : TokenParts) (new : Reader) : Type 0 where

@@ -6,7 +6,7 @@ ghost use Rattle.js_text.specs.Ascii.{greater_than_sign, less_than_sign};
 ghost use Rattle.js_text.specs.Characters.{begins, from_place};
 ghost use Rattle.js_kind.specs.TokenParts.{TokenParts};
 ghost use Rattle.js_source.specs.Source.{IsPlaced};
-ghost use Rattle.js_lexer.specs.Reader.{ReadsWithoutGap};
+ghost use Rattle.js_lexer.specs.Reader.{ReadsSilently};
 
 use crate::reader::Reader;
 use crate::restart::{go_behind, token_from};
@@ -21,7 +21,7 @@ impl Reader<'_> {
         requires boundary { IsCharBoundary self.old.source.text start }
         requires here { begins (λ c. c == greater_than_sign) (from_place self.old.source.text start) ≡ true }
         ensures reads { (before : TokenParts) → before.start ≡ start
-            → ReadsWithoutGap Goal.RightAngle (Some before) self.old result self.new }
+            → ReadsSilently Goal.RightAngle (Some before) self.old result self.new }
         ensures placed { IsPlaced self.new.source }
     {
         go_behind(&mut self.source, start);
@@ -35,7 +35,7 @@ impl Reader<'_> {
         requires boundary { IsCharBoundary self.old.source.text start }
         requires here { begins (λ c. c == less_than_sign) (from_place self.old.source.text start) ≡ true }
         ensures reads { (before : TokenParts) → before.start ≡ start
-            → ReadsWithoutGap Goal.TypeScriptLeftAngle (Some before) self.old result self.new }
+            → ReadsSilently Goal.TypeScriptLeftAngle (Some before) self.old result self.new }
         ensures placed { IsPlaced self.new.source }
     {
         go_behind(&mut self.source, start);
@@ -48,7 +48,7 @@ impl Reader<'_> {
         requires boundary { IsCharBoundary self.old.source.text start }
         requires here { begins (λ c. c == greater_than_sign) (from_place self.old.source.text start) ≡ true }
         ensures reads { (before : TokenParts) → before.start ≡ start
-            → ReadsWithoutGap Goal.TypeScriptRightAngle (Some before) self.old result self.new }
+            → ReadsSilently Goal.TypeScriptRightAngle (Some before) self.old result self.new }
         ensures placed { IsPlaced self.new.source }
     {
         go_behind(&mut self.source, start);

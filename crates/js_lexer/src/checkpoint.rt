@@ -8,8 +8,7 @@ ghost use Rattle.js_kind.specs.Kinds.{kind_text};
 ghost use Rattle.js_grammar.specs.ReLexed.{is_re_lexed, HasSpelling};
 ghost use Rattle.js_lexer.specs.Lexer.{IsOnPlaces, put_back, asked_lengths};
 
-use crate::found::GapLengths;
-use crate::reader::ReadingStart;
+use crate::reading_start::ReadingStart;
 use js_grammar::is_re_lexed;
 use js_kind::{Kind, Token, TokenList};
 use js_source::Source;
@@ -21,7 +20,6 @@ use std::marker::Model;
 #[derive(Drop)]
 pub struct LexerCheckpoint {
     pub(crate) start: ReadingStart,
-    pub(crate) found: GapLengths,
     pub(crate) last: Option<Token>,
     pub(crate) last_collected: Option<Token>,
     pub(crate) tokens: usize,
@@ -29,7 +27,8 @@ pub struct LexerCheckpoint {
 }
 
 impl Model for LexerCheckpoint {
-    ghost use Rattle.js_lexer.specs.Lexer.{Checkpoint, IsBehindToken, lengths_in};
+    ghost use Rattle.js_lexer.specs.Found.{lengths_in};
+    ghost use Rattle.js_lexer.specs.Lexer.{Checkpoint, IsBehindToken};
 
     ghost Value = { Checkpoint };
 
@@ -38,13 +37,13 @@ impl Model for LexerCheckpoint {
       last = c.last;
       last_collected = c.last_collected;
       tokens = c.tokens;
-      lengths = lengths_in c.start c.found;
+      lengths = lengths_in c.start.found;
       errors = c.errors_copy;
-      pure_comments = c.found.trivia.pure_range;
-      no_side_effects_comments = c.found.trivia.no_side_effects;
+      pure_comments = c.start.found.trivia.pure_range;
+      no_side_effects_comments = c.start.found.trivia.no_side_effects;
     } };
 
-    ghost invariant = { λ c. IsBehindToken c.start.position c.last c.found.trivia };
+    ghost invariant = { λ c. IsBehindToken c.start.position c.last c.start.found.trivia };
 }
 
 impl LexerCheckpoint {
@@ -55,7 +54,7 @@ impl LexerCheckpoint {
         if self.errors_copy.is_some() {
             0
         } else {
-            self.start.reported
+            self.start.found.errors
         }
     }
 }

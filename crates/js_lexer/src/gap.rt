@@ -8,11 +8,12 @@ ghost use Rattle.js_text.specs.declared.source_type.SourceType.{SourceType};
 ghost use Rattle.js_grammar.specs.Gap.{piece, is_reported};
 ghost use Rattle.js_source.specs.Source.{rest, BeginsWith, IsPlaced};
 ghost use Rattle.js_source.specs.Runs.{PassesRun};
-ghost use Rattle.js_lexer.specs.Gaps.{BeginsNoPiece, IsNext, Grows};
+ghost use Rattle.js_lexer.specs.Found.{Grows};
+ghost use Rattle.js_lexer.specs.Gaps.{BeginsNoPiece, IsNext};
 ghost use Rattle.js_lexer.specs.Reader.{SkipsPiece, SkipsGap, SkipsWholeGap, SkipsReported, MovesOn};
 ghost use Rattle.js_lexer.specs.Tables.{TellsBlanks};
 
-use crate::found::GapFindings;
+use crate::findings_builder::FindingsBuilder;
 use crate::reader::Reader;
 use js_source::Source;
 use js_text::{CommentKind, Diagnostic, Span, is_line_terminator, is_white_space};
@@ -67,7 +68,7 @@ fn is_none_reported(source: &Source<'_>, line_has_ended: bool) -> bool
 
 impl Reader<'_> {
     /// Reads a character of white space or a line terminator.
-    fn skip_character(&mut self, found: &mut GapFindings, c: char) -> Result<bool, AllocError>
+    fn skip_character(&mut self, found: &mut FindingsBuilder, c: char) -> Result<bool, AllocError>
         requires placed { IsPlaced self.old.source }
         requires next { BeginsWith c (rest self.old.source) }
         requires slash { c ≡ slash → ⊥ }
@@ -88,7 +89,7 @@ impl Reader<'_> {
 
     /// Reads a piece of any form; `skip_piece` has the common forms first.
     #[inline(never)]
-    fn skip_any_piece(&mut self, found: &mut GapFindings) -> Result<bool, AllocError>
+    fn skip_any_piece(&mut self, found: &mut FindingsBuilder) -> Result<bool, AllocError>
         requires placed { IsPlaced self.old.source }
         ensures ok { IfOk result (λ skipped. SkipsPiece self.old found.old skipped self.new found.new) }
         ensures grown { Grows found.old found.new }
@@ -105,7 +106,11 @@ impl Reader<'_> {
 
     /// Skips the piece of a gap that begins here, and tells whether one does; `next` is the next byte.
     #[inline(always)]
-    fn skip_piece(&mut self, found: &mut GapFindings, next: Option<u8>) -> Result<bool, AllocError>
+    fn skip_piece(
+        &mut self,
+        found: &mut FindingsBuilder,
+        next: Option<u8>,
+    ) -> Result<bool, AllocError>
         requires placed { IsPlaced self.old.source }
         requires next { IsNext next (rest self.old.source) }
         ensures ok { IfOk result (λ skipped. SkipsPiece self.old found.old skipped self.new found.new) }
@@ -126,7 +131,7 @@ impl Reader<'_> {
 
     /// Skips the longest gap.
     #[inline(always)]
-    fn skip_gap(&mut self, found: &mut GapFindings) -> Result<(), AllocError>
+    fn skip_gap(&mut self, found: &mut FindingsBuilder) -> Result<(), AllocError>
         requires { IsPlaced self.old.source }
         ensures ok { OnOk result (SkipsGap false self.old found.old self.new found.new) }
         ensures placed { OnOk result (IsPlaced self.new.source) }
@@ -142,7 +147,7 @@ impl Reader<'_> {
 
     /// Reads and reports a comment that a module may not have, with the gap behind it, and tells whether there is one.
     #[inline(never)]
-    fn skip_reported(&mut self, found: &mut GapFindings) -> Result<bool, AllocError>
+    fn skip_reported(&mut self, found: &mut FindingsBuilder) -> Result<bool, AllocError>
         requires { IsPlaced self.old.source }
         ensures ok { IfOk result (λ skipped. SkipsReported self.old found.old skipped self.new found.new) }
         ensures placed { OnOk result (IsPlaced self.new.source) }
@@ -160,7 +165,7 @@ impl Reader<'_> {
             return Ok(false);
         }
         let span = Span::sized(start, CommentKind::HtmlOpen.opening_length());
-        self.errors.push(Diagnostic::HtmlCommentInModule { span })?;
+        found.errors.push(Diagnostic::HtmlCommentInModule { span })?;
         self.skip_end_of_line(found);
         self.skip_gap(found)?;
         Ok(true)
@@ -168,7 +173,7 @@ impl Reader<'_> {
 
     /// Goes on with a whole gap, where a longest gap without reported comments has ended.
     #[inline(never)]
-    fn skip_all_reported(&mut self, found: &mut GapFindings) -> Result<(), AllocError>
+    fn skip_all_reported(&mut self, found: &mut FindingsBuilder) -> Result<(), AllocError>
         requires placed { IsPlaced self.old.source }
         requires gap { piece self.old.source_type self.old.line_has_ended (rest self.old.source) ≡ None }
         ensures ok { OnOk result (SkipsWholeGap self.old found.old self.new found.new) }
@@ -181,7 +186,7 @@ impl Reader<'_> {
 
     /// Skips a whole gap, and reports the comments in it that a module may not have. Most gaps have none.
     #[inline(always)]
-    pub fn skip_whole_gap(&mut self, found: &mut GapFindings) -> Result<(), AllocError>
+    pub fn skip_whole_gap(&mut self, found: &mut FindingsBuilder) -> Result<(), AllocError>
         requires { IsPlaced self.old.source }
         ensures ok { OnOk result (SkipsWholeGap self.old found.old self.new found.new) }
         ensures grown { Grows found.old found.new }

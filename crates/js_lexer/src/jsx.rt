@@ -10,17 +10,18 @@ ghost use Rattle.js_text.specs.Characters.{begins};
 ghost use Rattle.js_grammar.specs.StringItems.{is_quote};
 ghost use Rattle.js_lexer.specs.Decoded.{HasValue, KeepsValues};
 ghost use Rattle.js_lexer.specs.Goals.{ReadsAttributeHere, ReadsNameOn, ReadsStringHere};
-ghost use Rattle.js_lexer.specs.Gaps.{Grows};
-ghost use Rattle.js_lexer.specs.Reader.{ReadsWithGap, ReadsWithoutGap, MovesOn};
+ghost use Rattle.js_lexer.specs.Found.{Grows};
+ghost use Rattle.js_lexer.specs.Reader.{ReadsWithGap, ReadsWithoutGap, MovesOn, ReadsInPart};
 
 use crate::decoded::DecodedValues;
-use crate::found::GapFindings;
+use crate::findings_builder::FindingsBuilder;
 use crate::reader::Reader;
 use crate::restart::token_from;
 use js_grammar::Goal;
 use js_kind::{Kind, Token};
 use js_source::Source;
 use js_spell::{read_jsx_child, read_jsx_identifier, read_jsx_string};
+use js_text::DiagnosticList;
 use std::alloc::AllocError;
 
 /// Whether a quote is next.
@@ -50,52 +51,56 @@ impl Reader<'_> {
     }
 
     /// Reads what stands between two tags of JSX.
-    pub fn read_child(&mut self) -> Result<Token, AllocError>
+    pub fn read_child(&mut self, errors: &mut DiagnosticList) -> Result<Token, AllocError>
         requires { IsPlaced self.old.source }
         ensures ok { IfOk result (λ token. (before : Option TokenParts)
             → line_has_ended_behind before ≡ self.old.line_has_ended
-            → ReadsWithoutGap Goal.JsxChild before self.old token self.new) }
-        ensures err { OnErr result (MovesOn self.old self.new) }
+            → ReadsWithoutGap Goal.JsxChild before self.old errors.old token self.new errors.new) }
+        ensures err { OnErr result (ReadsInPart self.old errors.old self.new errors.new) }
         ensures placed { IsPlaced self.new.source }
     {
         let start = self.source.offset();
-        let kind = read_jsx_child(&mut self.source, &mut self.errors)?;
+        let kind = read_jsx_child(&mut self.source, errors)?;
         Ok(token_from(&self.source, start, kind, self.line_has_ended))
     }
 
     /// Reads the string of an attribute that is next.
-    fn read_attribute_string(&mut self) -> Result<Token, AllocError>
+    fn read_attribute_string(&mut self, errors: &mut DiagnosticList) -> Result<Token, AllocError>
         requires placed { IsPlaced self.old.source }
         requires quote { begins is_quote (rest self.old.source) ≡ true }
-        ensures ok { IfOk result (λ token. ReadsStringHere self.old token self.new) }
-        ensures err { OnErr result (MovesOn self.old self.new) }
+        ensures ok { IfOk result (λ token. ReadsStringHere self.old errors.old token self.new errors.new) }
+        ensures err { OnErr result (ReadsInPart self.old errors.old self.new errors.new) }
         ensures placed { IsPlaced self.new.source }
     {
         let start = self.source.offset();
-        let kind = read_jsx_string(&mut self.source, &mut self.errors)?;
+        let kind = read_jsx_string(&mut self.source, errors)?;
         Ok(token_from(&self.source, start, kind, self.line_has_ended))
     }
 
     /// Reads what stands here as the value of an attribute, where no gap does.
-    fn read_attribute(&mut self, decoded: &mut DecodedValues) -> Result<Token, AllocError>
+    fn read_attribute(
+        &mut self,
+        errors: &mut DiagnosticList,
+        decoded: &mut DecodedValues,
+    ) -> Result<Token, AllocError>
         requires gap { whole_gap_piece self.old.source_type self.old.line_has_ended (rest self.old.source) ≡ None }
         requires placed { IsPlaced self.old.source }
-        ensures ok { IfOk result (λ token. ReadsAttributeHere self.old token self.new) }
+        ensures ok { IfOk result (λ token. ReadsAttributeHere self.old errors.old token self.new errors.new) }
         ensures placed { OnOk result (IsPlaced self.new.source) }
         ensures value { IfOk result (λ token. HasValue self.old.source.text decoded.new token) }
         ensures kept { KeepsValues self.old.source.text decoded.old decoded.new }
-        ensures err { OnErr result (MovesOn self.old self.new) }
+        ensures err { OnErr result (ReadsInPart self.old errors.old self.new errors.new) }
     {
         if begins_quote(&self.source) {
-            return self.read_attribute_string();
+            return self.read_attribute_string(errors);
         }
-        self.read_here(decoded)
+        self.read_here(errors, decoded)
     }
 
     /// Reads the value of an attribute of JSX: a string without escapes, or a token of the plain goal.
     pub fn read_attribute_value(
         &mut self,
-        found: &mut GapFindings,
+        found: &mut FindingsBuilder,
         decoded: &mut DecodedValues,
     ) -> Result<Token, AllocError>
         requires { IsPlaced self.old.source }
@@ -111,6 +116,6 @@ impl Reader<'_> {
         self.skip_whole_gap(found)?;
         // The source is between characters, as everywhere.
         let _place = self.source.position();
-        self.read_attribute(decoded)
+        self.read_attribute(&mut found.errors, decoded)
     }
 }

@@ -13,10 +13,10 @@ ghost use Rattle.js_grammar.specs.TokenText.{text_start, text_end};
 ghost use Rattle.js_grammar.specs.Reads.{is_onward};
 ghost use Rattle.js_kind.specs.TokenParts.{TokenParts};
 ghost use Rattle.js_source.specs.Source.{IsPlaced};
-ghost use Rattle.js_trivia.specs.Trivia.{handle_token};
+ghost use Rattle.js_trivia.specs.Trivia.{handle_token, without_ranges};
 ghost use Rattle.js_lexer.specs.Decoded.{Keeps, KeepsValues, HasValue, value_of, GivesDecoded, GivesPart, GivesText};
 ghost use Rattle.js_lexer.specs.Decoded.{GivesTemplate, GivesStretch};
-ghost use Rattle.js_lexer.specs.Gaps.{Grows};
+ghost use Rattle.js_lexer.specs.Found.{Grows};
 ghost use Rattle.js_lexer.specs.Lexer.{LexerState, fresh, token_or_default, ReadsToken, IsRestored, IsOnPlaces, Peeks};
 ghost use Rattle.js_lexer.specs.Lexer.{checkpoint_of, CanRewind, rewound, GoesOnFrom, collected, is_hashbang};
 ghost use Rattle.js_lexer.specs.Lexer.{IsBehindFor, ReadsAgain, checkpoint_with_errors_of, trivia_before};
@@ -33,9 +33,10 @@ use crate::checkpoint::{
     put_errors_back,
 };
 use crate::decoded::DecodedValues;
-use crate::findings::{Findings, items_from};
-use crate::found::GapFindings;
+use crate::findings::Findings;
+use crate::findings_builder::FindingsBuilder;
 use crate::reader::Reader;
+use crate::reading_start::ReadingStart;
 use crate::tables::ByteTables;
 use crate::token_text::{is_template, text_span};
 use js_grammar::Goal;
@@ -83,6 +84,20 @@ fn collect(tokens: &mut TokenList, collects: bool, token: &Token) -> Result<(), 
     tokens.push(*token)
 }
 
+/// Takes the token that was read as the last one; alone: before it the builder was told of nothing but line ends.
+#[inline(always)]
+fn take_token(trivia: &mut TriviaBuilder, has_read: &mut bool, token: Token, alone: bool)
+    ensures last { trivia.new ≡ handle_token token (if alone then without_ranges trivia.old else trivia.old) }
+    ensures read { has_read.new ≡ true }
+{
+    if alone {
+        trivia.handle_token_alone(token);
+    } else {
+        trivia.handle_token(token);
+    }
+    *has_read = true;
+}
+
 /// Takes a token in the place of the last one, and of the last collected one, where tokens are collected.
 #[inline(always)]
 fn take_again(trivia: &mut TriviaBuilder, tokens: &mut TokenList, collects: bool, token: Token)
@@ -116,7 +131,7 @@ fn begin_reading(trivia: &mut TriviaBuilder, goal: Goal)
 fn read_and_collect(
     reader: &mut Reader<'_>,
     goal: Goal,
-    found: &mut GapFindings,
+    found: &mut FindingsBuilder,
     decoded: &mut DecodedValues,
     tokens: &mut TokenList,
     collects: bool,
@@ -159,7 +174,7 @@ pub enum NewFault {
 #[derive(Drop)]
 pub struct Lexer<'a, C: LexerConfig + Drop> {
     reader: Reader<'a>,
-    found: GapFindings,
+    found: FindingsBuilder,
     config: C,
     /// Whether a token was read. The builder of trivia has the last one.
     has_read: bool,
@@ -203,10 +218,9 @@ impl<'a, C: LexerConfig + Drop> Lexer<'a, C> {
                 source_type,
                 tables: ByteTables::new(),
                 line_has_ended: true,
-                errors: DiagnosticList::new_in(alloc),
                 alloc,
             },
-            found: GapFindings::new_in(alloc),
+            found: FindingsBuilder::new_in(alloc),
             config,
             has_read: false,
             tokens,
@@ -232,8 +246,7 @@ impl<'a, C: LexerConfig + Drop> Lexer<'a, C> {
         ensures err { OnErr result (IsRestored self.old self.new) }
         ensures kept { Keeps self.old.decoded self.new.decoded }
     {
-        let start = self.reader.start();
-        let found_before = self.found.lengths();
+        let start = ReadingStart::of(&self.reader.source, &self.found);
         begin_reading(&mut self.found.trivia, goal);
         self.reader.line_has_ended = !self.has_read;
         let read = read_and_collect(
@@ -246,13 +259,11 @@ impl<'a, C: LexerConfig + Drop> Lexer<'a, C> {
         );
         match read {
             Ok(token) => {
-                self.found.trivia.handle_token(token);
-                self.has_read = true;
+                take_token(&mut self.found.trivia, &mut self.has_read, token, false);
                 Ok(token)
             }
             Err(error) => {
-                self.reader.go_back(start);
-                self.found.cut_back(found_before);
+                start.go_back(&mut self.reader.source, &mut self.found);
                 Err(error)
             }
         }
@@ -267,15 +278,18 @@ impl<'a, C: LexerConfig + Drop> Lexer<'a, C> {
         ensures kept { Keeps self.old.decoded self.new.decoded }
     {
         let offset = self.last_token().start();
-        let start = self.reader.start();
-        match self.reader.read_next_part(offset, &mut self.decoded) {
+        let start = ReadingStart::of(&self.reader.source, &self.found);
+        let read = self
+            .reader
+            .read_next_part(offset, &mut self.found.errors, &mut self.decoded);
+        match read {
             Ok(token) => {
                 let collects = self.config.tokens();
                 take_again(&mut self.found.trivia, &mut self.tokens, collects, token);
                 Ok(token)
             }
             Err(error) => {
-                self.reader.go_back(start);
+                start.go_back(&mut self.reader.source, &mut self.found);
                 Err(error)
             }
         }
@@ -423,7 +437,7 @@ impl<'a, C: LexerConfig + Drop> Lexer<'a, C> {
     pub fn errors(&self) -> &[Diagnostic]
         ensures { result.now ≡ self.now.findings.diagnostics }
     {
-        self.reader.errors.as_slice()
+        self.found.errors.as_slice()
     }
 
     /// What was reported for the case that the source is a module, where this is not settled: HTML-like comments
@@ -455,7 +469,7 @@ impl<'a, C: LexerConfig + Drop> Lexer<'a, C> {
         ensures after { self.new ≡ record self.old { findings = record self.old.findings { diagnostics = [] } } }
     {
         let alloc = self.reader.alloc;
-        std::mem::replace(&mut self.reader.errors, DiagnosticList::new_in(alloc))
+        std::mem::replace(&mut self.found.errors, DiagnosticList::new_in(alloc))
     }
 
     /// Hands out what was reported for the case that the source is a module, and leaves nothing.
@@ -527,8 +541,7 @@ impl<'a, C: LexerConfig + Drop> Lexer<'a, C> {
         ensures open { CanRewind self.now result }
     {
         LexerCheckpoint {
-            start: self.reader.start(),
-            found: self.found.lengths(),
+            start: ReadingStart::of(&self.reader.source, &self.found),
             last: self.last(),
             last_collected: last_of(self.tokens.as_slice()),
             tokens: self.tokens.len(),
@@ -542,7 +555,7 @@ impl<'a, C: LexerConfig + Drop> Lexer<'a, C> {
         ensures state { IfOk result (λ c. c ≡ checkpoint_with_errors_of self.now) }
         ensures open { IfOk result (CanRewind self.now) }
     {
-        let errors = self.reader.errors.copy(self.reader.alloc)?;
+        let errors = self.found.errors.copy(self.reader.alloc)?;
         let mut checkpoint = self.checkpoint();
         checkpoint.errors_copy = Some(errors);
         Ok(checkpoint)
@@ -557,16 +570,7 @@ impl<'a, C: LexerConfig + Drop> Lexer<'a, C> {
         requires { AreWithin checkpoint.now.lengths self.now.findings }
         ensures { IfOk result (λ found. found ≡ found_since checkpoint.now.lengths self.now.findings) }
     {
-        let reported = checkpoint.start.reported;
-        let found = &checkpoint.found;
-        let comments = found.trivia.comments as usize;
-        let irregular = found.trivia.irregular as usize;
-        Ok(Findings {
-            diagnostics: items_from(alloc, self.errors(), reported)?,
-            deferred: items_from(alloc, self.deferred_module_errors(), found.deferred)?,
-            comments: items_from(alloc, self.comments(), comments)?,
-            irregular: items_from(alloc, self.irregular_whitespaces(), irregular)?,
-        })
+        self.found.since(alloc, &checkpoint.start.found)
     }
 
     /// Whether the lexer may go back to the checkpoint: its places are places of this text, in order, its last token
@@ -578,10 +582,10 @@ impl<'a, C: LexerConfig + Drop> Lexer<'a, C> {
         if checkpoint.tokens > self.tokens.len() {
             return false;
         }
-        if checkpoint.asked_errors() > self.reader.errors.len() {
+        if checkpoint.asked_errors() > self.found.errors.len() {
             return false;
         }
-        if !self.found.can_cut_back(&checkpoint.found) {
+        if !self.found.can_cut_back(&checkpoint.start.found) {
             return false;
         }
         let source = &self.reader.source;
@@ -611,7 +615,6 @@ impl<'a, C: LexerConfig + Drop> Lexer<'a, C> {
     {
         let LexerCheckpoint {
             start,
-            found,
             last,
             last_collected,
             tokens,
@@ -620,8 +623,7 @@ impl<'a, C: LexerConfig + Drop> Lexer<'a, C> {
         self.has_read = last.is_some();
         self.tokens.truncate(tokens);
         put_back(&mut self.tokens, last_collected);
-        self.reader.go_back(start);
-        put_errors_back(&mut self.reader.errors, errors_copy);
-        self.found.cut_back(found);
+        start.go_back(&mut self.reader.source, &mut self.found);
+        put_errors_back(&mut self.found.errors, errors_copy);
     }
 }

@@ -10,11 +10,12 @@ ghost use Rattle.js_grammar.specs.Outcome.{html_deferred};
 ghost use Rattle.js_grammar.specs.PieceItems.{is_separator, listed_if};
 ghost use Rattle.js_source.specs.Source.{rest, BeginsWith, IsPlaced};
 ghost use Rattle.js_trivia.specs.Trivia.{calls};
-ghost use Rattle.js_lexer.specs.Gaps.{Grows, opening_mark, is_html, IsAtLineEnd};
+ghost use Rattle.js_lexer.specs.Found.{Grows};
+ghost use Rattle.js_lexer.specs.Gaps.{opening_mark, is_html, IsAtLineEnd};
 ghost use Rattle.js_lexer.specs.Reader.{SkipsPiece, SkipsSome, SkipsMarkedLine, SkipsEndOfLine, MovesOn, IsOnlyPiece};
 
 use crate::comment::{either, skip_block, skip_line};
-use crate::found::GapFindings;
+use crate::findings_builder::FindingsBuilder;
 use crate::mark::advance_if_mark;
 use crate::reader::Reader;
 use crate::skipped::Skipped;
@@ -89,7 +90,7 @@ impl Reader<'_> {
     #[inline(always)]
     pub fn skip_marked_line(
         &mut self,
-        found: &mut GapFindings,
+        found: &mut FindingsBuilder,
         kind: CommentKind,
     ) -> Result<bool, AllocError>
         requires placed { IsPlaced self.old.source }
@@ -113,7 +114,7 @@ impl Reader<'_> {
 
     /// Goes past the line end behind a line comment, which is not listed.
     #[inline(always)]
-    pub fn skip_end_of_line(&mut self, found: &mut GapFindings)
+    pub fn skip_end_of_line(&mut self, found: &mut FindingsBuilder)
         requires placed { IsPlaced self.old.source }
         requires end { IsAtLineEnd (rest self.old.source) }
         ensures ends { SkipsEndOfLine self.old found.old self.new found.new }
@@ -131,7 +132,7 @@ impl Reader<'_> {
 
     /// Reads the LF that is next.
     #[inline(always)]
-    pub fn skip_line_feed(&mut self, found: &mut GapFindings)
+    pub fn skip_line_feed(&mut self, found: &mut FindingsBuilder)
         requires placed { IsPlaced self.old.source }
         requires next { BeginsWith line_feed (rest self.old.source) }
         ensures skips { SkipsSome self.old found.old self.new found.new }
@@ -143,7 +144,11 @@ impl Reader<'_> {
     }
 
     /// Reads the character of white space that is next.
-    pub fn skip_white_space(&mut self, found: &mut GapFindings, c: char) -> Result<bool, AllocError>
+    pub fn skip_white_space(
+        &mut self,
+        found: &mut FindingsBuilder,
+        c: char,
+    ) -> Result<bool, AllocError>
         requires placed { IsPlaced self.old.source }
         requires next { BeginsWith c (rest self.old.source) }
         requires white { is_white_space c ≡ true }
@@ -161,7 +166,7 @@ impl Reader<'_> {
     /// Reads the line terminator that is next.
     pub fn skip_line_terminator(
         &mut self,
-        found: &mut GapFindings,
+        found: &mut FindingsBuilder,
         c: char,
     ) -> Result<bool, AllocError>
         requires placed { IsPlaced self.old.source }
@@ -182,7 +187,7 @@ impl Reader<'_> {
     }
 
     /// Reads a comment that begins with `/*`, where one stands here and ends.
-    fn skip_block_comment(&mut self, found: &mut GapFindings) -> Result<bool, AllocError>
+    fn skip_block_comment(&mut self, found: &mut FindingsBuilder) -> Result<bool, AllocError>
         requires placed { IsPlaced self.old.source }
         requires next { BeginsWith slash (rest self.old.source) }
         requires no_line { is_prefix (opening_mark CommentKind.Line) (rest self.old.source) ≡ false }
@@ -214,7 +219,7 @@ impl Reader<'_> {
 
     /// Reads a comment, where one begins with the `/` that is next.
     #[inline(always)]
-    pub fn skip_comment(&mut self, found: &mut GapFindings) -> Result<bool, AllocError>
+    pub fn skip_comment(&mut self, found: &mut FindingsBuilder) -> Result<bool, AllocError>
         requires placed { IsPlaced self.old.source }
         requires next { BeginsWith slash (rest self.old.source) }
         ensures ok { IfOk result (λ skipped. SkipsPiece self.old found.old skipped self.new found.new) }
@@ -231,7 +236,7 @@ impl Reader<'_> {
     /// Reads an HTML-like comment of the kind, where one stands here in a source that may have it.
     fn skip_html_comment(
         &mut self,
-        found: &mut GapFindings,
+        found: &mut FindingsBuilder,
         kind: CommentKind,
     ) -> Result<bool, AllocError>
         requires placed { IsPlaced self.old.source }
@@ -252,7 +257,7 @@ impl Reader<'_> {
     }
 
     /// Reads a comment that begins with `<!--`, in a source that may have it.
-    pub fn skip_html_open(&mut self, found: &mut GapFindings) -> Result<bool, AllocError>
+    pub fn skip_html_open(&mut self, found: &mut FindingsBuilder) -> Result<bool, AllocError>
         requires placed { IsPlaced self.old.source }
         requires next { BeginsWith less_than_sign (rest self.old.source) }
         ensures ok { IfOk result (λ skipped. SkipsPiece self.old found.old skipped self.new found.new) }
@@ -266,7 +271,7 @@ impl Reader<'_> {
     }
 
     /// Reads a comment that begins with `-->`, where a line has ended in a source that may have it.
-    pub fn skip_html_close(&mut self, found: &mut GapFindings) -> Result<bool, AllocError>
+    pub fn skip_html_close(&mut self, found: &mut FindingsBuilder) -> Result<bool, AllocError>
         requires placed { IsPlaced self.old.source }
         requires next { BeginsWith hyphen_minus (rest self.old.source) }
         ensures ok { IfOk result (λ skipped. SkipsPiece self.old found.old skipped self.new found.new) }

@@ -1,10 +1,11 @@
 //! Readings of the first and the plain goal.
 
-ghost use Rattle.std.specs.Prelude.{◌≡◌, ◌≢◌, ◌<◌, ◌==◌, true, false, [], Option, None, IfOk, IfSome, IfNone};
+ghost use Rattle.std.specs.Prelude.{◌≡◌, ◌≢◌, ◌<◌, ◌==◌, true, false, [], List, Option, None, IfOk, IfSome, IfNone};
 ghost use Rattle.std.specs.Prelude.{OnOk};
 ghost use Rattle.std.specs.Prelude.{OnErr};
 ghost use Rattle.js_text.specs.Ascii.{number_sign, grave_accent};
 ghost use Rattle.js_text.specs.Characters.{begins, is_identifier_start};
+ghost use Rattle.js_text.specs.declared.diagnostic.Diagnostic.{Diagnostic};
 ghost use Rattle.js_grammar.specs.Gap.{whole_gap_piece};
 ghost use Rattle.js_grammar.specs.Goals.{line_has_ended_behind};
 ghost use Rattle.js_grammar.specs.Name.{begins_name};
@@ -15,13 +16,14 @@ ghost use Rattle.js_grammar.specs.StringItems.{is_quote};
 ghost use Rattle.js_kind.specs.TokenParts.{TokenParts};
 ghost use Rattle.js_source.specs.Source.{rest, IsPlaced, BeginsWith};
 ghost use Rattle.js_lexer.specs.Decoded.{HasValue, HasValueHere, KeepsValues, KeepsSpelt, KeepsPart};
-ghost use Rattle.js_lexer.specs.Gaps.{Grows};
-ghost use Rattle.js_lexer.specs.Reader.{ReadsTokenHere, ReadsLexeme, ReadsBehind, ReadsWithGap, ReadsHashbang, NothingHere, MovesOn};
+ghost use Rattle.js_lexer.specs.Found.{Grows};
+ghost use Rattle.js_lexer.specs.Reader.{ReadsTokenHere, ReadsLexeme, ReadsBehind, ReadsWithGap, ReadsHashbang};
+ghost use Rattle.js_lexer.specs.Reader.{NothingHere, MovesOn, ReadsInPart};
 ghost use Rattle.js_lexer.specs.Tables.{TellsStarts, is_name_start};
 
 use crate::comment::skip_line;
 use crate::decoded::DecodedValues;
-use crate::found::GapFindings;
+use crate::findings_builder::FindingsBuilder;
 use crate::lexeme::Lexeme;
 use crate::mark::advance_if_mark;
 use crate::plain::read_plain_spelling;
@@ -33,7 +35,7 @@ use js_kind::{Kind, Token};
 use js_spell::{
     Spelt, SpeltValue, read_name, read_number, read_private_name, read_string, read_template_part,
 };
-use js_text::{Span, is_identifier_start};
+use js_text::{DiagnosticList, Span, is_identifier_start};
 use std::alloc::AllocError;
 
 /// Whether a name begins with the ASCII character.
@@ -104,16 +106,16 @@ impl Reader<'_> {
 
     /// Reads on where nothing is spelled, and reports it.
     #[inline(never)]
-    fn recover(&mut self) -> Result<Lexeme, AllocError>
+    fn recover(&mut self, errors: &mut DiagnosticList) -> Result<Lexeme, AllocError>
         requires gap { whole_gap_piece self.old.source_type self.old.line_has_ended (rest self.old.source) ≡ None }
         requires nothing { NothingHere self.old.source_type self.old.line_has_ended (rest self.old.source) }
         requires placed { IsPlaced self.old.source }
-        ensures ok { IfOk result (λ lexeme. ReadsLexeme self.old lexeme self.new) }
+        ensures ok { IfOk result (λ lexeme. ReadsLexeme self.old errors.old lexeme self.new errors.new) }
         ensures plain { IfOk result (λ lexeme. lexeme.escaped ≡ false) }
-        ensures err { OnErr result (MovesOn self.old self.new) }
+        ensures err { OnErr result (ReadsInPart self.old errors.old self.new errors.new) }
     {
         let recovered = recover(&mut self.source, &self.tables, self.line_has_ended);
-        self.errors.push(recovered.diagnostic)?;
+        errors.push(recovered.diagnostic)?;
         Ok(Lexeme {
             kind: recovered.kind,
             is_on_new_line: recovered.is_on_new_line,
@@ -136,16 +138,16 @@ impl Reader<'_> {
 
     /// Reads the number that begins here, good or at fault.
     #[inline(always)]
-    fn read_number(&mut self) -> Result<Lexeme, AllocError>
+    fn read_number(&mut self, errors: &mut DiagnosticList) -> Result<Lexeme, AllocError>
         requires begun { begins_number (rest self.old.source) ≡ true }
         requires placed { IsPlaced self.old.source }
-        ensures ok { IfOk result (λ lexeme. ReadsLexeme self.old lexeme self.new) }
+        ensures ok { IfOk result (λ lexeme. ReadsLexeme self.old errors.old lexeme self.new errors.new) }
         ensures plain { IfOk result (λ lexeme. lexeme.escaped ≡ false) }
-        ensures err { OnErr result (MovesOn self.old self.new) }
+        ensures err { OnErr result (ReadsInPart self.old errors.old self.new errors.new) }
     {
         let mut token = Token::default();
         token.set_start(self.source.offset());
-        let spelt = read_number(self.alloc, &mut self.source, &mut self.errors, &mut token)?;
+        let spelt = read_number(self.alloc, &mut self.source, errors, &mut token)?;
         Ok(Lexeme {
             kind: spelt.kind,
             is_on_new_line: self.line_has_ended,
@@ -178,18 +180,22 @@ impl Reader<'_> {
 
     /// Reads the string that begins here, good or at fault, and keeps its value where it has an escape.
     #[inline(always)]
-    fn read_string(&mut self, decoded: &mut DecodedValues) -> Result<Lexeme, AllocError>
+    fn read_string(
+        &mut self,
+        errors: &mut DiagnosticList,
+        decoded: &mut DecodedValues,
+    ) -> Result<Lexeme, AllocError>
         requires begun { begins is_quote (rest self.old.source) ≡ true }
         requires placed { IsPlaced self.old.source }
-        ensures ok { IfOk result (λ lexeme. ReadsLexeme self.old lexeme self.new) }
+        ensures ok { IfOk result (λ lexeme. ReadsLexeme self.old errors.old lexeme self.new errors.new) }
         ensures value { IfOk result (λ lexeme. HasValueHere self.old.source decoded.new lexeme.kind lexeme.escaped) }
         ensures kept { KeepsValues self.old.source.text decoded.old decoded.new }
-        ensures err { OnErr result (MovesOn self.old self.new) }
+        ensures err { OnErr result (ReadsInPart self.old errors.old self.new errors.new) }
     {
         let mut token = Token::default();
         let start = self.source.offset();
         token.set_start(start);
-        let spelt = read_string(self.alloc, &mut self.source, &mut self.errors, &mut token)?;
+        let spelt = read_string(self.alloc, &mut self.source, errors, &mut token)?;
         let Spelt { kind, value } = spelt;
         keep_value(decoded, start, value)?;
         Ok(Lexeme {
@@ -214,13 +220,17 @@ impl Reader<'_> {
     /// Reads the template that begins here, or its first part, good or at fault, and keeps its value where something in
     /// it is escaped.
     #[inline(always)]
-    fn read_template(&mut self, decoded: &mut DecodedValues) -> Result<Lexeme, AllocError>
+    fn read_template(
+        &mut self,
+        errors: &mut DiagnosticList,
+        decoded: &mut DecodedValues,
+    ) -> Result<Lexeme, AllocError>
         requires begun { begins (λ c. c == grave_accent) (rest self.old.source) ≡ true }
         requires placed { IsPlaced self.old.source }
-        ensures ok { IfOk result (λ lexeme. ReadsLexeme self.old lexeme self.new) }
+        ensures ok { IfOk result (λ lexeme. ReadsLexeme self.old errors.old lexeme self.new errors.new) }
         ensures value { IfOk result (λ lexeme. HasValueHere self.old.source decoded.new lexeme.kind lexeme.escaped) }
         ensures kept { KeepsValues self.old.source.text decoded.old decoded.new }
-        ensures err { OnErr result (MovesOn self.old self.new) }
+        ensures err { OnErr result (ReadsInPart self.old errors.old self.new errors.new) }
     {
         let mut token = Token::default();
         let start = self.source.offset();
@@ -229,7 +239,7 @@ impl Reader<'_> {
         let spelt = read_template_part(
             self.alloc,
             &mut self.source,
-            &mut self.errors,
+            errors,
             &mut token,
             Kind::TemplateHead,
             Kind::NoSubstitutionTemplate,
@@ -246,64 +256,76 @@ impl Reader<'_> {
 
     /// Reads a number, a private name, a string or a template, or reads on where nothing is spelled.
     #[inline(always)]
-    fn read_other(&mut self, decoded: &mut DecodedValues) -> Result<Lexeme, AllocError>
+    fn read_other(
+        &mut self,
+        errors: &mut DiagnosticList,
+        decoded: &mut DecodedValues,
+    ) -> Result<Lexeme, AllocError>
         requires gap { whole_gap_piece self.old.source_type self.old.line_has_ended (rest self.old.source) ≡ None }
         requires placed { IsPlaced self.old.source }
         requires some { rest self.old.source ≢ [] }
         requires no_name { begins_name (rest self.old.source) ≡ false }
         requires no_punctuator { NoPunctuator self.old.source_type self.old.line_has_ended (rest self.old.source) }
-        ensures ok { IfOk result (λ lexeme. ReadsLexeme self.old lexeme self.new) }
+        ensures ok { IfOk result (λ lexeme. ReadsLexeme self.old errors.old lexeme self.new errors.new) }
         ensures value { IfOk result (λ lexeme. HasValueHere self.old.source decoded.new lexeme.kind lexeme.escaped) }
         ensures kept { KeepsValues self.old.source.text decoded.old decoded.new }
-        ensures err { OnErr result (MovesOn self.old self.new) }
+        ensures err { OnErr result (ReadsInPart self.old errors.old self.new errors.new) }
     {
         if self.begins_number() {
-            return self.read_number();
+            return self.read_number(errors);
         }
         if self.begins_private_name() {
-            return self.read_private_name(decoded);
+            return self.read_private_name(errors, decoded);
         }
         if self.begins_string() {
-            return self.read_string(decoded);
+            return self.read_string(errors, decoded);
         }
         if self.begins_template() {
-            return self.read_template(decoded);
+            return self.read_template(errors, decoded);
         }
-        self.recover()
+        self.recover(errors)
     }
 
     /// Reads what stands behind a gap, where no name begins.
     #[inline(always)]
-    fn read_mark(&mut self, decoded: &mut DecodedValues) -> Result<Lexeme, AllocError>
+    fn read_mark(
+        &mut self,
+        errors: &mut DiagnosticList,
+        decoded: &mut DecodedValues,
+    ) -> Result<Lexeme, AllocError>
         requires gap { whole_gap_piece self.old.source_type self.old.line_has_ended (rest self.old.source) ≡ None }
         requires placed { IsPlaced self.old.source }
         requires some { rest self.old.source ≢ [] }
         requires no_name { begins_name (rest self.old.source) ≡ false }
-        ensures ok { IfOk result (λ lexeme. ReadsLexeme self.old lexeme self.new) }
+        ensures ok { IfOk result (λ lexeme. ReadsLexeme self.old errors.old lexeme self.new errors.new) }
         ensures value { IfOk result (λ lexeme. HasValueHere self.old.source decoded.new lexeme.kind lexeme.escaped) }
         ensures kept { KeepsValues self.old.source.text decoded.old decoded.new }
-        ensures err { OnErr result (MovesOn self.old self.new) }
+        ensures err { OnErr result (ReadsInPart self.old errors.old self.new errors.new) }
     {
         match read_punctuator(&mut self.source) {
             Some(kind) => Ok(self.lexeme(kind)),
-            None => self.read_other(decoded),
+            None => self.read_other(errors, decoded),
         }
     }
 
     /// Reads the name that begins here, good or at fault, and keeps its value where it has an escape.
     #[inline(always)]
-    fn read_name(&mut self, decoded: &mut DecodedValues) -> Result<Lexeme, AllocError>
+    fn read_name(
+        &mut self,
+        errors: &mut DiagnosticList,
+        decoded: &mut DecodedValues,
+    ) -> Result<Lexeme, AllocError>
         requires begun { begins_name (rest self.old.source) ≡ true }
         requires placed { IsPlaced self.old.source }
-        ensures ok { IfOk result (λ lexeme. ReadsLexeme self.old lexeme self.new) }
+        ensures ok { IfOk result (λ lexeme. ReadsLexeme self.old errors.old lexeme self.new errors.new) }
         ensures value { IfOk result (λ lexeme. HasValueHere self.old.source decoded.new lexeme.kind lexeme.escaped) }
         ensures kept { KeepsValues self.old.source.text decoded.old decoded.new }
-        ensures err { OnErr result (MovesOn self.old self.new) }
+        ensures err { OnErr result (ReadsInPart self.old errors.old self.new errors.new) }
     {
         let mut token = Token::default();
         let start = self.source.offset();
         token.set_start(start);
-        let spelt = read_name(self.alloc, &mut self.source, &mut self.errors, &mut token)?;
+        let spelt = read_name(self.alloc, &mut self.source, errors, &mut token)?;
         let Spelt { kind, value } = spelt;
         keep_value(decoded, start, value)?;
         Ok(Lexeme {
@@ -316,19 +338,23 @@ impl Reader<'_> {
 
     /// Reads the private name that begins here, good or at fault, and keeps its value where it has an escape.
     #[inline(never)]
-    fn read_private_name(&mut self, decoded: &mut DecodedValues) -> Result<Lexeme, AllocError>
+    fn read_private_name(
+        &mut self,
+        errors: &mut DiagnosticList,
+        decoded: &mut DecodedValues,
+    ) -> Result<Lexeme, AllocError>
         requires begun { BeginsWith number_sign (rest self.old.source) }
         requires placed { IsPlaced self.old.source }
-        ensures ok { IfOk result (λ lexeme. ReadsLexeme self.old lexeme self.new) }
+        ensures ok { IfOk result (λ lexeme. ReadsLexeme self.old errors.old lexeme self.new errors.new) }
         ensures value { IfOk result (λ lexeme. HasValueHere self.old.source decoded.new lexeme.kind lexeme.escaped) }
         ensures kept { KeepsValues self.old.source.text decoded.old decoded.new }
-        ensures err { OnErr result (MovesOn self.old self.new) }
+        ensures err { OnErr result (ReadsInPart self.old errors.old self.new errors.new) }
     {
         let mut token = Token::default();
         let start = self.source.offset();
         token.set_start(start);
         self.source.next_char();
-        let spelt = read_private_name(self.alloc, &mut self.source, &mut self.errors, &mut token)?;
+        let spelt = read_private_name(self.alloc, &mut self.source, errors, &mut token)?;
         let Spelt { kind, value } = spelt;
         keep_value(decoded, start, value)?;
         Ok(Lexeme {
@@ -341,57 +367,69 @@ impl Reader<'_> {
 
     /// Reads what stands behind a gap, whatever it begins with.
     #[inline(never)]
-    fn read_any(&mut self, decoded: &mut DecodedValues) -> Result<Lexeme, AllocError>
+    fn read_any(
+        &mut self,
+        errors: &mut DiagnosticList,
+        decoded: &mut DecodedValues,
+    ) -> Result<Lexeme, AllocError>
         requires gap { whole_gap_piece self.old.source_type self.old.line_has_ended (rest self.old.source) ≡ None }
         requires placed { IsPlaced self.old.source }
-        ensures ok { IfOk result (λ lexeme. ReadsLexeme self.old lexeme self.new) }
+        ensures ok { IfOk result (λ lexeme. ReadsLexeme self.old errors.old lexeme self.new errors.new) }
         ensures value { IfOk result (λ lexeme. HasValueHere self.old.source decoded.new lexeme.kind lexeme.escaped) }
         ensures kept { KeepsValues self.old.source.text decoded.old decoded.new }
-        ensures err { OnErr result (MovesOn self.old self.new) }
+        ensures err { OnErr result (ReadsInPart self.old errors.old self.new errors.new) }
     {
         match self.source.peek_char() {
             None => Ok(self.lexeme(Kind::Eof)),
-            Some(c) if begins_name(c) => self.read_name(decoded),
-            Some(_) => self.read_mark(decoded),
+            Some(c) if begins_name(c) => self.read_name(errors, decoded),
+            Some(_) => self.read_mark(errors, decoded),
         }
     }
 
     /// Reads what stands behind a gap: the longest spelling, or what is read to recover.
     #[inline(always)]
-    fn read_lexeme(&mut self, decoded: &mut DecodedValues) -> Result<Lexeme, AllocError>
+    fn read_lexeme(
+        &mut self,
+        errors: &mut DiagnosticList,
+        decoded: &mut DecodedValues,
+    ) -> Result<Lexeme, AllocError>
         requires gap { whole_gap_piece self.old.source_type self.old.line_has_ended (rest self.old.source) ≡ None }
         requires placed { IsPlaced self.old.source }
-        ensures ok { IfOk result (λ lexeme. ReadsLexeme self.old lexeme self.new) }
+        ensures ok { IfOk result (λ lexeme. ReadsLexeme self.old errors.old lexeme self.new errors.new) }
         ensures value { IfOk result (λ lexeme. HasValueHere self.old.source decoded.new lexeme.kind lexeme.escaped) }
         ensures kept { KeepsValues self.old.source.text decoded.old decoded.new }
-        ensures err { OnErr result (MovesOn self.old self.new) }
+        ensures err { OnErr result (ReadsInPart self.old errors.old self.new errors.new) }
     {
         let b = match self.source.peek_byte() {
             Some(b) => b,
             None => return Ok(self.lexeme(Kind::Eof)),
         };
         if b >= 128 || b == b'\\' {
-            return self.read_any(decoded);
+            return self.read_any(errors, decoded);
         }
         if begins_ascii_name(&self.tables.starts, b) {
-            return self.read_name(decoded);
+            return self.read_name(errors, decoded);
         }
-        self.read_mark(decoded)
+        self.read_mark(errors, decoded)
     }
 
     /// Reads the token that stands here, where no gap does.
     #[inline(always)]
-    pub fn read_here(&mut self, decoded: &mut DecodedValues) -> Result<Token, AllocError>
+    pub fn read_here(
+        &mut self,
+        errors: &mut DiagnosticList,
+        decoded: &mut DecodedValues,
+    ) -> Result<Token, AllocError>
         requires gap { whole_gap_piece self.old.source_type self.old.line_has_ended (rest self.old.source) ≡ None }
         requires placed { IsPlaced self.old.source }
-        ensures ok { IfOk result (λ token. ReadsTokenHere self.old token self.new) }
+        ensures ok { IfOk result (λ token. ReadsTokenHere self.old errors.old token self.new errors.new) }
         ensures placed { OnOk result (IsPlaced self.new.source) }
         ensures value { IfOk result (λ token. HasValue self.old.source.text decoded.new token) }
         ensures kept { KeepsValues self.old.source.text decoded.old decoded.new }
-        ensures err { OnErr result (MovesOn self.old self.new) }
+        ensures err { OnErr result (ReadsInPart self.old errors.old self.new errors.new) }
     {
         let start = self.source.offset();
-        let lexeme = self.read_lexeme(decoded)?;
+        let lexeme = self.read_lexeme(errors, decoded)?;
         let span = Span::new(start, self.source.offset());
         Ok(lexeme.token(span))
     }
@@ -401,7 +439,8 @@ impl Reader<'_> {
     fn read_plainly(&mut self) -> Option<Token>
         requires gap { whole_gap_piece self.old.source_type self.old.line_has_ended (rest self.old.source) ≡ None }
         requires placed { IsPlaced self.old.source }
-        ensures some { IfSome result (λ token. ReadsTokenHere self.old token self.new) }
+        ensures some { (errors : List Diagnostic)
+            → IfSome result (λ token. ReadsTokenHere self.old errors token self.new errors) }
         ensures escaped { IfSome result (λ token. token.escaped ≡ false) }
         ensures none { IfNone result (self.new ≡ self.old) }
     {
@@ -421,7 +460,7 @@ impl Reader<'_> {
     #[inline(always)]
     fn read_behind_gap(
         &mut self,
-        found: &mut GapFindings,
+        found: &mut FindingsBuilder,
         decoded: &mut DecodedValues,
     ) -> Result<Token, AllocError>
         requires placed { IsPlaced self.old.source }
@@ -439,7 +478,7 @@ impl Reader<'_> {
         let _place = self.source.position();
         match self.read_plainly() {
             Some(token) => Ok(token),
-            None => self.read_here(decoded),
+            None => self.read_here(&mut found.errors, decoded),
         }
     }
 
@@ -464,7 +503,7 @@ impl Reader<'_> {
     pub fn read_goal(
         &mut self,
         goal: Goal,
-        found: &mut GapFindings,
+        found: &mut FindingsBuilder,
         decoded: &mut DecodedValues,
     ) -> Result<Token, AllocError>
         requires placed { IsPlaced self.old.source }
@@ -484,7 +523,7 @@ impl Reader<'_> {
                 None => self.read_behind_gap(found, decoded),
             },
             Goal::Next => self.read_behind_gap(found, decoded),
-            Goal::JsxChild => self.read_child(),
+            Goal::JsxChild => self.read_child(&mut found.errors),
             Goal::JsxAttributeValue => self.read_attribute_value(found, decoded),
             _ => unreachable!(),
         }

@@ -7,6 +7,7 @@ ghost use Rattle.js_lexer.specs.Goals.{IsBehindName, ReadsName, ReadsRegex};
 ghost use Rattle.js_lexer.specs.Lexer.{IsBehindFor, IsRestored, ReadsAgain, ReadsToken, kind_of_last};
 
 use super::{Lexer, take_again};
+use crate::reading_start::ReadingStart;
 use crate::regex::RegexToken;
 use js_grammar::{Goal, spelled_length};
 use js_kind::{Kind, LexerConfig, Token};
@@ -21,9 +22,9 @@ impl<C: LexerConfig + Drop> Lexer<'_, C> {
         ensures err { OnErr result (IsRestored self.old self.new) }
         ensures kept { Keeps self.old.decoded self.new.decoded }
     {
-        let start = self.reader.start();
+        let start = ReadingStart::of(&self.reader.source, &self.found);
         let offset = self.reader.source.offset() - bytes;
-        match self.reader.read_expression(offset) {
+        match self.reader.read_expression(offset, &mut self.found.errors) {
             Ok(found) => {
                 let collects = self.config.tokens();
                 take_again(
@@ -35,7 +36,7 @@ impl<C: LexerConfig + Drop> Lexer<'_, C> {
                 Ok(found)
             }
             Err(error) => {
-                self.reader.go_back(start);
+                start.go_back(&mut self.reader.source, &mut self.found);
                 Err(error)
             }
         }
@@ -94,7 +95,8 @@ impl<C: LexerConfig + Drop> Lexer<'_, C> {
         token
     }
 
-    /// Reads on the last token, a name that begins at the offset, as a name of JSX, which may have `-`. The token of the
+    /// Reads on the last token, a name that begins at the offset, as a name of JSX, which may have `-`. The token of
+    /// the
     /// whole stands in the place of that one. None: no `-` is next, and nothing has changed.
     pub fn continue_lex_jsx_identifier(&mut self, start: u32) -> Option<Token>
         requires { IsBehindName start self.old }

@@ -15,7 +15,7 @@ impl<C: LexerConfig + Drop> Lexer<'_, C> {
         ensures last { self.old.findings.diagnostics ≡ self.new.findings.diagnostics ++ option_to_list result }
         ensures after { self.new ≡ with_diagnostics self.new.findings.diagnostics self.old }
     {
-        self.reader.errors.pop()
+        self.found.errors.pop()
     }
 
     /// Puts the token in the place of the last collected one; where none is collected, nothing changes.

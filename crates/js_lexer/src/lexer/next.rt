@@ -4,52 +4,44 @@ ghost use Rattle.std.specs.Prelude.{◌≡◌, ◌++◌, true, None, IfOk, OnOk,
 ghost use Rattle.js_text.specs.Characters.{is_identifier_start};
 ghost use Rattle.js_grammar.specs.Gap.{whole_gap_piece};
 ghost use Rattle.js_source.specs.Source.{IsPlaced, rest};
-ghost use Rattle.js_trivia.specs.Trivia.{handle_token, without_ranges};
 ghost use Rattle.js_lexer.specs.Decoded.{Keeps, KeepsValues, HasValue};
 ghost use Rattle.js_lexer.specs.Plain.{MeetsByte, PassesPlainGap, ReadsPlainToken, SpellsPlainly};
 ghost use Rattle.js_lexer.specs.Lexer.{here, ReadsNext, ReadsToken, IsRestored, collected};
-ghost use Rattle.js_lexer.specs.Reader.{ReadsTokenHere, MovesOn};
+ghost use Rattle.js_lexer.specs.Reader.{ReadsInPart, ReadsTokenHere};
 
-use super::{Lexer, collect};
+use super::{Lexer, collect, take_token};
 use crate::decoded::DecodedValues;
 use crate::plain::{GapEnd, pass_plain_gap, read_name_plainly, read_plain_mark};
 use crate::reader::Reader;
+use crate::reading_start::ReadingStart;
 use js_grammar::Goal;
 use js_kind::{Kind, LexerConfig, Token, TokenList};
 use js_source::Source;
-use js_text::Span;
-use js_trivia::TriviaBuilder;
+use js_text::{DiagnosticList, Span};
 use std::alloc::AllocError;
 
 /// Reads the token that stands here, where no gap does, and collects it. Where it cannot allocate, the reader may have
 /// moved on and reported.
 fn read_here_and_collect(
     reader: &mut Reader<'_>,
+    errors: &mut DiagnosticList,
     decoded: &mut DecodedValues,
     tokens: &mut TokenList,
     collects: bool,
 ) -> Result<Token, AllocError>
     requires gap { whole_gap_piece reader.old.source_type reader.old.line_has_ended (rest reader.old.source) ≡ None }
     requires placed { IsPlaced reader.old.source }
-    ensures ok { IfOk result (λ token. ReadsTokenHere reader.old token reader.new) }
+    ensures ok { IfOk result (λ token. ReadsTokenHere reader.old errors.old token reader.new errors.new) }
     ensures tokens { IfOk result (λ token. tokens.new ≡ tokens.old ++ collected collects token) }
     ensures placed { OnOk result (IsPlaced reader.new.source) }
     ensures value { IfOk result (λ token. HasValue reader.old.source.text decoded.new token) }
     ensures kept { KeepsValues reader.old.source.text decoded.old decoded.new }
-    ensures err { OnErr result (MovesOn reader.old reader.new) }
+    ensures err { OnErr result (ReadsInPart reader.old errors.old reader.new errors.new) }
     ensures same { OnErr result (tokens.new ≡ tokens.old) }
 {
-    let token = reader.read_here(decoded)?;
+    let token = reader.read_here(errors, decoded)?;
     collect(tokens, collects, &token)?;
     Ok(token)
-}
-
-/// Tells the builder of a token before which it was told of nothing but line ends.
-#[inline(always)]
-fn tell_alone(trivia: &mut TriviaBuilder, token: &Token)
-    ensures { trivia.new ≡ handle_token token.now (without_ranges trivia.old) }
-{
-    trivia.handle_token_alone(*token);
 }
 
 impl<'a, C: LexerConfig + Drop> Lexer<'a, C> {
@@ -142,8 +134,7 @@ impl<'a, C: LexerConfig + Drop> Lexer<'a, C> {
     {
         collect(&mut self.tokens, self.config.tokens(), &token)?;
         self.reader.source.set_position(source.position());
-        tell_alone(&mut self.found.trivia, &token);
-        self.has_read = true;
+        take_token(&mut self.found.trivia, &mut self.has_read, token, true);
         Ok(())
     }
 
@@ -194,23 +185,23 @@ impl<'a, C: LexerConfig + Drop> Lexer<'a, C> {
         ensures err { OnErr result (IsRestored self.old self.new) }
         ensures kept { Keeps self.old.decoded self.new.decoded }
     {
-        let start = self.reader.start();
+        let start = ReadingStart::of(&self.reader.source, &self.found);
         self.reader.source = source;
         self.reader.line_has_ended = line_has_ended;
         let read = read_here_and_collect(
             &mut self.reader,
+            &mut self.found.errors,
             &mut self.decoded,
             &mut self.tokens,
             self.config.tokens(),
         );
         match read {
             Ok(token) => {
-                tell_alone(&mut self.found.trivia, &token);
-                self.has_read = true;
+                take_token(&mut self.found.trivia, &mut self.has_read, token, true);
                 Ok(())
             }
             Err(error) => {
-                self.reader.go_back(start);
+                start.go_back(&mut self.reader.source, &mut self.found);
                 Err(error)
             }
         }

@@ -5,9 +5,10 @@ use Rattle.js_lexer.proofs.lexer.Lexer.continue_lex_jsx_identifier.Goals as goal
 pub invariant_of-self-2 : goal.invariant_of-self-2
 invariant_of-self-2 g c =
     let behind = rw (← c.self.view_is) at c.requires in
-    sound_taken _ c.self.inside.reader c.read_jsx_name.new.self c.self.inside.found.trivia c.take_again.new.trivia
+    sound_taken _ c.self.inside.reader c.read_jsx_name.new.self c.self.inside.found
+    (record c.self.inside.found { trivia = c.take_again.new.trivia })
     (plainly _ c.self.inside.reader c.read_jsx_name.new.self behind.token name_is_plain behind.last
-    (c.in_ok-token.ensures.reads.1 behind.token behind.start_is (sym behind.place))
+    (c.in_ok-token.ensures.reads.1 behind.token behind.start_is (sym behind.place) _)
     c.read_jsx_name.ensures.placed.utf8) c.self.invariant c.take_again.ensures.last
 
 pub returns : goal.returns
@@ -19,6 +20,6 @@ returns g c =
       reads_taken _ c.self.inside.reader c.read_jsx_name.new.self c.self.inside.found
           (record c.self.inside.found { trivia = c.take_again.new.trivia })
           (plainly _ c.self.inside.reader c.read_jsx_name.new.self behind.token name_is_plain behind.last
-          (c.in_ok-token.ensures.reads.1 behind.token behind.start_is (sym behind.place))
+          (c.in_ok-token.ensures.reads.1 behind.token behind.start_is (sym behind.place) _)
           c.read_jsx_name.ensures.placed.utf8) c.self.invariant c.take_again.ensures.last refl tokens,
     )

@@ -1,11 +1,14 @@
-use Rattle.std.proofs.Common.{refl, sym, ◌∙◌, ap}
+use Rattle.std.proofs.Common.{◌≡◌, refl, sym, ◌∙◌, ap}
 use Rattle.js_lexer.specs.Lexer.{token_or_default}
-use Rattle.js_lexer.proofs.LexerSteps.{curly_here}
+use Rattle.js_lexer.proofs.LexerSteps.{curly_here, sound_back}
+use Rattle.js_trivia.specs.Attachment.{Attachment}
+use Rattle.js_lexer.specs.declared.findings_builder.FindingsBuilder.{FindingsBuilder}
+use Rattle.js_lexer.proofs.Undone.{found_again, may_go_back, reported_since, stands_again, undone}
 use Rattle.js_lexer.proofs.TakenAgain.{part_again, reads_taken, sound_taken}
 use Rattle.js_lexer.proofs.lexer.Lexer.next_template_substitution_tail.Goals as goal
 
-pub read_next_part-requires-clause-here : goal.read_next_part-requires-clause-here
-read_next_part-requires-clause-here g c =
+pub read_next_part-read-requires-clause-here : goal.read_next_part-read-requires-clause-here
+read_next_part-read-requires-clause-here g c =
     let behind = rw (← c.self.view_is) at c.requires in
     let start =
     c.start-offset.ensures ∙ ap (λ t. t.start) c.last_token.ensures.token
@@ -19,8 +22,9 @@ invariant_of-self g c =
     let start =
     c.start-offset.ensures ∙ ap (λ t. t.start) c.last_token.ensures.token
     ∙ ap (λ o. (token_or_default o).start) c.requires.last in
-    sound_taken _ c.self.inside.reader c.read_next_part.new.self c.self.inside.found.trivia c.take_again.new.trivia
-    (part_again _ c.self.inside.reader c.read_next_part.new.self behind.token behind.last
+    sound_taken _ c.self.inside.reader c.read_next_part-read.new.self c.self.inside.found
+    (record c.self.inside.found { errors = c.read_next_part-read.new.errors; trivia = c.take_again.new.trivia })
+    (part_again _ c.self.inside.reader c.read_next_part-read.new.self behind.token behind.last
     (c.in-Ok.ensures.ok behind.token (sym start)) c.in-Ok.ensures.placed.utf8 c.in-Ok.ensures.kept
     c.in-Ok.ensures.value) c.self.invariant c.take_again.ensures.last
 
@@ -32,8 +36,54 @@ returns-in-Ok-clause-ok g c =
     ∙ ap (λ o. (token_or_default o).start) c.requires.last in
     let tokens = rw c.tokens-collects.ensures at c.take_again.ensures.collected in
     rw (← c.self.view_is)
-    (reads_taken _ c.self.inside.reader c.read_next_part.new.self c.self.inside.found
-    (record c.self.inside.found { trivia = c.take_again.new.trivia })
-    (part_again _ c.self.inside.reader c.read_next_part.new.self behind.token behind.last
+    (reads_taken _ c.self.inside.reader c.read_next_part-read.new.self c.self.inside.found
+    (record c.self.inside.found { errors = c.read_next_part-read.new.errors; trivia = c.take_again.new.trivia })
+    (part_again _ c.self.inside.reader c.read_next_part-read.new.self behind.token behind.last
     (c.in-Ok.ensures.ok behind.token (sym start)) c.in-Ok.ensures.placed.utf8 c.in-Ok.ensures.kept
     c.in-Ok.ensures.value) c.self.invariant c.take_again.ensures.last refl tokens)
+
+pub go_back-requires-clause-boundary : goal.go_back-requires-clause-boundary
+go_back-requires-clause-boundary g c =
+    rw (c.of-start.ensures.start, c.in-Err.ensures.err.moves.text) c.of-start.ensures.placed.boundary
+
+pub go_back-requires-clause-found : goal.go_back-requires-clause-found
+go_back-requires-clause-found g c =
+    let now = record c.self.inside.found { errors = c.read_next_part-read.new.errors } in
+    may_go_back c.self.inside.found now
+    (reported_since c.of-start.result c.self.inside.reader.source c.self.inside.found now c.of-start.ensures.start
+    c.of-start.ensures.ranges (ap (λ (a : Attachment). a.pending) c.self.invariant.attachment)
+    c.in-Err.ensures.err.errors refl refl)
+
+pub invariant_of-self-in-Err : goal.invariant_of-self-in-Err
+invariant_of-self-in-Err g c =
+    let now = record c.self.inside.found { errors = c.read_next_part-read.new.errors } in
+    let source =
+    stands_again c.self.inside.found c.self.inside.reader.source c.read_next_part-read.new.self.source
+    c.go_back.new.source
+    c.of-start.ensures.start c.in-Err.ensures.err.moves.text c.go_back.ensures.source in
+    let found : c.go_back.new.found ≡ c.self.inside.found =
+    found_again c.self.inside.found now c.go_back.new.found
+    (reported_since c.of-start.result c.self.inside.reader.source c.self.inside.found now c.of-start.ensures.start
+    c.of-start.ensures.ranges (ap (λ (a : Attachment). a.pending) c.self.invariant.attachment)
+    c.in-Err.ensures.err.errors refl refl) c.go_back.ensures.found in
+    sound_back c.self.inside.reader.source c.go_back.new.source c.self.inside.has_read
+    c.self.inside.found.trivia c.go_back.new.found.trivia c.self.inside.decoded c.read_next_part-read.new.decoded
+    source (ap (λ (f : FindingsBuilder). f.trivia) found) c.self.invariant
+    (c.in-Err.ensures.kept.are_values c.self.invariant.are_values)
+
+pub returns-in-Err-clause-err : goal.returns-in-Err-clause-err
+returns-in-Err-clause-err g c =
+    let now = record c.self.inside.found { errors = c.read_next_part-read.new.errors } in
+    let source =
+    stands_again c.self.inside.found c.self.inside.reader.source c.read_next_part-read.new.self.source
+    c.go_back.new.source
+    c.of-start.ensures.start c.in-Err.ensures.err.moves.text c.go_back.ensures.source in
+    let found : c.go_back.new.found ≡ c.self.inside.found =
+    found_again c.self.inside.found now c.go_back.new.found
+    (reported_since c.of-start.result c.self.inside.reader.source c.self.inside.found now c.of-start.ensures.start
+    c.of-start.ensures.ranges (ap (λ (a : Attachment). a.pending) c.self.invariant.attachment)
+    c.in-Err.ensures.err.errors refl refl) c.go_back.ensures.found in
+    rw (← c.self.view_is)
+    (undone _ _ c.self.inside.reader (record c.read_next_part-read.new.self { source = c.go_back.new.source })
+    c.self.inside.found c.go_back.new.found _ _ c.self.inside.decoded c.read_next_part-read.new.decoded source
+    c.in-Err.ensures.err.moves.source_type found refl)

@@ -5,5 +5,5 @@ use Rattle.js_lexer.proofs.lexer.Lexer.pop_error.Goals as goal
 
 pub returns-clause-none : goal.returns-clause-none
 returns-clause-none g c =
-    none_found c.pop.result c.self.inside.reader.errors c.args.self.now.findings.diagnostics c.pop.ensures.found
+    none_found c.pop.result c.self.inside.found.errors c.args.self.now.findings.diagnostics c.pop.ensures.found
     (ap (λ (l : LexerState). l.findings.diagnostics) c.self.view_is)

@@ -27,8 +27,8 @@ invariant_of-self g c =
     behind_one greater_than_sign c.offset.result _ c.self.inside.reader c.self.inside.found
     (rw (← c.self.view_is) at c.requires.behind) (rw (← c.self.view_is) at c.requires.bytes) refl
     c.self.invariant c.offset.ensures.placed.utf8 c.offset.ensures.place in
-    sound_taken _ c.self.inside.reader c.read_right_angle-token.new.self c.self.inside.found.trivia
-    c.take_again.new.trivia
+    sound_taken _ c.self.inside.reader c.read_right_angle-token.new.self c.self.inside.found
+    (record c.self.inside.found { trivia = c.take_again.new.trivia })
     (from_mark _ c.self.inside.reader c.read_right_angle-token.new.self right_is_plain starts.1
     c.read_right_angle-token.ensures.reads c.read_right_angle-token.ensures.placed.utf8) c.self.invariant
     c.take_again.ensures.last

@@ -10,7 +10,8 @@ overflow_sub-start g c =
     (rw (← c.self.view_is) at c.requires) (one_angle _ (rw (← c.self.view_is) at c.requires)) refl
     c.self.invariant c.offset-start.ensures.placed.utf8 c.offset-start.ensures.place).0
 
-pub read_longest_right_angle-token-requires-clause-boundary : goal.read_longest_right_angle-token-requires-clause-boundary
+pub read_longest_right_angle-token-requires-clause-boundary :
+    goal.read_longest_right_angle-token-requires-clause-boundary
 read_longest_right_angle-token-requires-clause-boundary g c =
     (behind_one greater_than_sign c.offset-start.result _ c.self.inside.reader c.self.inside.found
     (rw (← c.self.view_is) at c.requires) (one_angle _ (rw (← c.self.view_is) at c.requires)) refl
@@ -28,8 +29,8 @@ invariant_of-self g c =
     behind_one greater_than_sign c.offset-start.result _ c.self.inside.reader c.self.inside.found
     (rw (← c.self.view_is) at c.requires) (one_angle _ (rw (← c.self.view_is) at c.requires)) refl
     c.self.invariant c.offset-start.ensures.placed.utf8 c.offset-start.ensures.place in
-    sound_taken _ c.self.inside.reader c.read_longest_right_angle-token.new.self c.self.inside.found.trivia
-    c.take_again.new.trivia
+    sound_taken _ c.self.inside.reader c.read_longest_right_angle-token.new.self c.self.inside.found
+    (record c.self.inside.found { trivia = c.take_again.new.trivia })
     (from_mark _ c.self.inside.reader c.read_longest_right_angle-token.new.self longest_is_plain starts.1
     c.read_longest_right_angle-token.ensures.reads c.read_longest_right_angle-token.ensures.placed.utf8)
     c.self.invariant c.take_again.ensures.last

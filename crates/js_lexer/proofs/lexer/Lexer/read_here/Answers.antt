@@ -6,10 +6,11 @@ use Rattle.js_trivia.specs.Trivia.{without_ranges}
 use Rattle.js_lexer.specs.Decoded.{KeepsValues, HasValue}
 use Rattle.js_lexer.specs.Plain.{ends_told, moved}
 use Rattle.js_lexer.specs.Lexer.{last_read}
+use Rattle.js_lexer.specs.declared.findings_builder.FindingsBuilder.{FindingsBuilder}
 use Rattle.js_lexer.proofs.LexerSteps.{state_of, reader_is, between_is, first_token, sound_after, sound_back}
 use Rattle.js_lexer.proofs.LexerSteps.{reads_token}
 use Rattle.js_lexer.proofs.PlainSteps.{behind_plain_gap, ends_forgotten}
-use Rattle.js_lexer.proofs.Undone.{undone, went_back}
+use Rattle.js_lexer.proofs.Undone.{found_again, may_go_back, reported_since, stands_again, undone}
 use Rattle.js_lexer.proofs.lexer.Lexer.read_here.Goals as goal
 
 pub read_here_and_collect-read-requires-clause-gap : goal.read_here_and_collect-read-requires-clause-gap
@@ -30,19 +31,30 @@ invariant_of-self g c =
     let kept =
     subst (λ (t : List ℕ). KeepsValues t c.self.inside.decoded c.read_here_and_collect-read.new.decoded) text
     c.in-Ok.ensures.kept in
-    sound_after Next (state_of r c.self.inside.found last c.self.inside.decoded) (moved r r.source (is_none last))
-    before c.in-Ok.token c.read_here_and_collect-read.new.reader (ends_told p.ends before) c.tell_alone.new.trivia
+    let told = record (ends_told p.ends before) { errors = c.read_here_and_collect-read.new.errors } in
+    rw c.take_token.ensures.read
+    (sound_after Next (state_of r c.self.inside.found last c.self.inside.decoded) (moved r r.source (is_none last))
+    before c.in-Ok.token c.read_here_and_collect-read.new.reader told c.take_token.new.trivia
     c.read_here_and_collect-read.new.decoded c.in-Ok.ensures.placed.utf8 (kept.are_values c.self.invariant.are_values)
     (reader_is Next r c.self.inside.found last c.self.inside.decoded (is_none last) cleared c.self.invariant refl)
     (behind_plain_gap last r r.source (is_none last) c.args.source c.args.line_has_ended before c.in-Ok.token
-    c.read_here_and_collect-read.new.reader (first_token last) p c.in-Ok.ensures.ok)
-    (c.tell_alone.ensures ∙ ends_forgotten p.ends cleared c.in-Ok.token none)
+    c.read_here_and_collect-read.new.reader c.read_here_and_collect-read.new.errors (first_token last) p
+    c.in-Ok.ensures.ok)
+    (c.take_token.ensures.last ∙ ends_forgotten p.ends cleared c.in-Ok.token none))
 
-pub go_back-requires : goal.go_back-requires
-go_back-requires g c =
+pub go_back-requires-clause-boundary : goal.go_back-requires-clause-boundary
+go_back-requires-clause-boundary g c =
     let p = rw (← c.self.view_is) at c.requires in
     let text = (p.skips c.self.inside.reader c.self.inside.found).skips.text in
-    rw (c.start-start.ensures.place, c.in-Err.ensures.err.text, text) p.from.boundary
+    rw (c.of-start.ensures.start, c.in-Err.ensures.err.moves.text, text) p.from.boundary
+
+pub go_back-requires-clause-found : goal.go_back-requires-clause-found
+go_back-requires-clause-found g c =
+    let now = record c.self.inside.found { errors = c.read_here_and_collect-read.new.errors } in
+    may_go_back c.self.inside.found now
+    (reported_since c.of-start.result c.self.inside.reader.source c.self.inside.found now c.of-start.ensures.start
+    c.of-start.ensures.ranges (ap (λ (a : Attachment). a.pending) c.self.invariant.attachment)
+    c.in-Err.ensures.err.errors refl refl)
 
 pub invariant_of-self-in-Err : goal.invariant_of-self-in-Err
 invariant_of-self-in-Err g c =
@@ -52,13 +64,19 @@ invariant_of-self-in-Err g c =
     let kept =
     subst (λ (t : List ℕ). KeepsValues t c.self.inside.decoded c.read_here_and_collect-read.new.decoded) text
     c.in-Err.ensures.kept in
-    let reader =
-    went_back r _ c.read_here_and_collect-read.new.reader c.go_back.new.self c.start-start.result c.in-Err.ensures.err
-    text refl refl c.start-start.ensures.place c.start-start.ensures.reported c.go_back.ensures.source
-    c.go_back.ensures.source_type c.go_back.ensures.errors in
-    sound_back r.source c.go_back.new.self.source c.self.inside.has_read c.self.inside.found.trivia
-    c.self.inside.found.trivia c.self.inside.decoded c.read_here_and_collect-read.new.decoded reader.source refl
-    c.self.invariant (kept.are_values c.self.invariant.are_values)
+    let now = record c.self.inside.found { errors = c.read_here_and_collect-read.new.errors } in
+    let source =
+    stands_again c.self.inside.found r.source c.read_here_and_collect-read.new.reader.source c.go_back.new.source
+    c.of-start.ensures.start
+    (c.in-Err.ensures.err.moves.text ∙ text) c.go_back.ensures.source in
+    let found : c.go_back.new.found ≡ c.self.inside.found =
+    found_again c.self.inside.found now c.go_back.new.found
+    (reported_since c.of-start.result r.source c.self.inside.found now c.of-start.ensures.start
+    c.of-start.ensures.ranges (ap (λ (a : Attachment). a.pending) c.self.invariant.attachment)
+    c.in-Err.ensures.err.errors refl refl) c.go_back.ensures.found in
+    sound_back r.source c.go_back.new.source c.self.inside.has_read c.self.inside.found.trivia
+    c.go_back.new.found.trivia c.self.inside.decoded c.read_here_and_collect-read.new.decoded source
+    (ap (λ (f : FindingsBuilder). f.trivia) found) c.self.invariant (kept.are_values c.self.invariant.are_values)
 
 pub returns-in-Ok-clause-ok : goal.returns-in-Ok-clause-ok
 returns-in-Ok-clause-ok g c =
@@ -77,10 +95,11 @@ returns-in-Ok-clause-ok g c =
     let has =
     subst (λ (t : List ℕ). HasValue t c.read_here_and_collect-read.new.decoded c.in-Ok.token) text
     c.in-Ok.ensures.value in
-    rw (← c.self.view_is, tokens) (
+    let told = record (ends_told p.ends before) { errors = c.read_here_and_collect-read.new.errors } in
+    rw (← c.self.view_is, tokens, c.take_token.ensures.read) (
       c.in-Ok.token,
-      reads_token _ _ (moved r r.source (is_none last)) before c.read_here_and_collect-read.new.reader
-          (ends_told p.ends before) c.tell_alone.new.trivia Next c.in-Ok.token c.read_here_and_collect-read.new.decoded
+      reads_token _ _ (moved r r.source (is_none last)) before c.read_here_and_collect-read.new.reader told
+          c.take_token.new.trivia Next c.in-Ok.token c.read_here_and_collect-read.new.decoded
           p.from.utf8
           record {
             source = refl;
@@ -88,11 +107,13 @@ returns-in-Ok-clause-ok g c =
             errors = refl;
             deferred = refl;
             between =
-                between_is Next r.source last c.self.inside.found.trivia cleared c.self.inside.decoded c.self.invariant refl;
+                between_is Next r.source last c.self.inside.found.trivia cleared c.self.inside.decoded c.self.invariant
+                refl;
           }
           (behind_plain_gap last r r.source (is_none last) c.args.source c.args.line_has_ended before c.in-Ok.token
-          c.read_here_and_collect-read.new.reader (first_token last) p c.in-Ok.ensures.ok)
-          (c.tell_alone.ensures ∙ ends_forgotten p.ends cleared c.in-Ok.token none)
+          c.read_here_and_collect-read.new.reader c.read_here_and_collect-read.new.errors (first_token last) p
+          c.in-Ok.ensures.ok)
+          (c.take_token.ensures.last ∙ ends_forgotten p.ends cleared c.in-Ok.token none)
           (kept.kept c.self.invariant.are_values) has refl,
     )
 
@@ -111,13 +132,20 @@ returns-in-Err-clause-err g c =
     let r = c.self.inside.reader in
     let p = rw (← c.self.view_is) at c.requires in
     let text = (p.skips r c.self.inside.found).skips.text in
-    let reader =
-    went_back r _ c.read_here_and_collect-read.new.reader c.go_back.new.self c.start-start.result c.in-Err.ensures.err
-    text refl refl c.start-start.ensures.place c.start-start.ensures.reported c.go_back.ensures.source
-    c.go_back.ensures.source_type c.go_back.ensures.errors in
+    let now = record c.self.inside.found { errors = c.read_here_and_collect-read.new.errors } in
+    let source =
+    stands_again c.self.inside.found r.source c.read_here_and_collect-read.new.reader.source c.go_back.new.source
+    c.of-start.ensures.start
+    (c.in-Err.ensures.err.moves.text ∙ text) c.go_back.ensures.source in
+    let found : c.go_back.new.found ≡ c.self.inside.found =
+    found_again c.self.inside.found now c.go_back.new.found
+    (reported_since c.of-start.result r.source c.self.inside.found now c.of-start.ensures.start
+    c.of-start.ensures.ranges (ap (λ (a : Attachment). a.pending) c.self.invariant.attachment)
+    c.in-Err.ensures.err.errors refl refl) c.go_back.ensures.found in
     rw (← c.self.view_is)
-    (undone _ _ r c.go_back.new.self c.self.inside.found c.self.inside.found _ _ c.self.inside.decoded
-    c.read_here_and_collect-read.new.decoded reader refl c.in-Err.ensures.same)
+    (undone _ _ r (record c.read_here_and_collect-read.new.reader { source = c.go_back.new.source })
+    c.self.inside.found c.go_back.new.found _ _ c.self.inside.decoded c.read_here_and_collect-read.new.decoded source
+    c.in-Err.ensures.err.moves.source_type found c.in-Err.ensures.same)
 
 pub returns-in-Err-clause-kept : goal.returns-in-Err-clause-kept
 returns-in-Err-clause-kept g c =

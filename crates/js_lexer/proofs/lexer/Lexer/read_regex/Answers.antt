@@ -1,5 +1,9 @@
-use Rattle.std.proofs.Common.{refl}
+use Rattle.std.proofs.Common.{◌≡◌, ap, refl}
 use Rattle.js_text.specs.Ascii.{slash}
+use Rattle.js_trivia.specs.Attachment.{Attachment}
+use Rattle.js_lexer.specs.declared.findings_builder.FindingsBuilder.{FindingsBuilder}
+use Rattle.js_lexer.proofs.LexerSteps.{sound_back}
+use Rattle.js_lexer.proofs.Undone.{found_again, may_go_back, reported_since, stands_again, undone}
 use Rattle.js_lexer.proofs.TakenAgain.{behind_one, expression_is_plain, plainly, regex_taken, sound_taken}
 use Rattle.js_lexer.proofs.lexer.Lexer.read_regex.Goals as goal
 
@@ -27,8 +31,8 @@ invariant_of-self g c =
     behind_one slash c.offset.result _ c.self.inside.reader c.self.inside.found
     (rw (← c.self.view_is) at c.requires.behind) (rw (← c.self.view_is) at c.requires.bytes) refl
     c.self.invariant c.offset.ensures.placed.utf8 c.offset.ensures.place in
-    sound_taken _ c.self.inside.reader c.read_expression.new.self c.self.inside.found.trivia
-    c.take_again.new.trivia
+    sound_taken _ c.self.inside.reader c.read_expression.new.self c.self.inside.found
+    (record c.self.inside.found { errors = c.read_expression.new.errors; trivia = c.take_again.new.trivia })
     (plainly _ c.self.inside.reader c.read_expression.new.self starts.1.token expression_is_plain
     starts.1.last_is (c.in-Ok.ensures.ok starts.1.token starts.1.at).reads
     c.read_expression.ensures.placed.utf8) c.self.invariant c.take_again.ensures.last
@@ -42,6 +46,51 @@ returns-in-Ok-clause-ok g c =
     let tokens = rw c.tokens-collects.ensures at c.take_again.ensures.collected in
     rw (← c.self.view_is)
     (regex_taken _ c.in-Ok.found c.self.inside.reader c.read_expression.new.self c.self.inside.found
-    (record c.self.inside.found { trivia = c.take_again.new.trivia }) starts.1.token starts.1.last_is
+    (record c.self.inside.found { errors = c.read_expression.new.errors; trivia = c.take_again.new.trivia })
+    starts.1.token starts.1.last_is
     (c.in-Ok.ensures.ok starts.1.token starts.1.at) c.read_expression.ensures.placed.utf8 c.self.invariant
     c.take_again.ensures.last refl tokens)
+
+pub go_back-requires-clause-boundary : goal.go_back-requires-clause-boundary
+go_back-requires-clause-boundary g c =
+    rw (c.of-start.ensures.start, c.in-Err.ensures.err.moves.text) c.of-start.ensures.placed.boundary
+
+pub go_back-requires-clause-found : goal.go_back-requires-clause-found
+go_back-requires-clause-found g c =
+    let now = record c.self.inside.found { errors = c.read_expression.new.errors } in
+    may_go_back c.self.inside.found now
+    (reported_since c.of-start.result c.self.inside.reader.source c.self.inside.found now c.of-start.ensures.start
+    c.of-start.ensures.ranges (ap (λ (a : Attachment). a.pending) c.self.invariant.attachment)
+    c.in-Err.ensures.err.errors refl refl)
+
+pub invariant_of-self-in-Err : goal.invariant_of-self-in-Err
+invariant_of-self-in-Err g c =
+    let now = record c.self.inside.found { errors = c.read_expression.new.errors } in
+    let source =
+    stands_again c.self.inside.found c.self.inside.reader.source c.read_expression.new.self.source c.go_back.new.source
+    c.of-start.ensures.start c.in-Err.ensures.err.moves.text c.go_back.ensures.source in
+    let found : c.go_back.new.found ≡ c.self.inside.found =
+    found_again c.self.inside.found now c.go_back.new.found
+    (reported_since c.of-start.result c.self.inside.reader.source c.self.inside.found now c.of-start.ensures.start
+    c.of-start.ensures.ranges (ap (λ (a : Attachment). a.pending) c.self.invariant.attachment)
+    c.in-Err.ensures.err.errors refl refl) c.go_back.ensures.found in
+    sound_back c.self.inside.reader.source c.go_back.new.source c.self.inside.has_read
+    c.self.inside.found.trivia c.go_back.new.found.trivia c.self.inside.decoded c.self.inside.decoded
+    source (ap (λ (f : FindingsBuilder). f.trivia) found) c.self.invariant
+    (c.self.invariant.are_values)
+
+pub returns-in-Err-clause-err : goal.returns-in-Err-clause-err
+returns-in-Err-clause-err g c =
+    let now = record c.self.inside.found { errors = c.read_expression.new.errors } in
+    let source =
+    stands_again c.self.inside.found c.self.inside.reader.source c.read_expression.new.self.source c.go_back.new.source
+    c.of-start.ensures.start c.in-Err.ensures.err.moves.text c.go_back.ensures.source in
+    let found : c.go_back.new.found ≡ c.self.inside.found =
+    found_again c.self.inside.found now c.go_back.new.found
+    (reported_since c.of-start.result c.self.inside.reader.source c.self.inside.found now c.of-start.ensures.start
+    c.of-start.ensures.ranges (ap (λ (a : Attachment). a.pending) c.self.invariant.attachment)
+    c.in-Err.ensures.err.errors refl refl) c.go_back.ensures.found in
+    rw (← c.self.view_is)
+    (undone _ _ c.self.inside.reader (record c.read_expression.new.self { source = c.go_back.new.source })
+    c.self.inside.found c.go_back.new.found _ _ c.self.inside.decoded c.self.inside.decoded source
+    c.in-Err.ensures.err.moves.source_type found refl)

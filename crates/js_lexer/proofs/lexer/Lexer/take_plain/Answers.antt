@@ -35,17 +35,18 @@ invariant_of-self-2 g c =
     let at =
     moved_on r.source c.set_position.new.self c.args.source c.position.result c.set_position.ensures
     c.position.ensures.place (plain_text r before _ _ c.args.token c.args.source p) in
-    subst
+    rw c.take_token.ensures.read
+    (subst
     (λ (a : At).
-    IsSound a (Some c.tell_alone.new.trivia.attachment.previous) c.tell_alone.new.trivia c.self.inside.decoded)
+    IsSound a (Some c.take_token.new.trivia.attachment.previous) c.take_token.new.trivia c.self.inside.decoded)
     (sym at)
     (sound_after Next (state_of r c.self.inside.found last c.self.inside.decoded) (moved r r.source (is_none last))
-    before c.args.token new (ends_told p.gap.ends before) c.tell_alone.new.trivia c.self.inside.decoded
-    (p.here r).placed.utf8 c.self.invariant.are_values
+    before c.args.token new (ends_told p.gap.ends before) c.take_token.new.trivia c.self.inside.decoded
+    (p.here r before.errors).placed.utf8 c.self.invariant.are_values
     (reader_is Next r c.self.inside.found last c.self.inside.decoded (is_none last) cleared c.self.invariant refl)
-    (behind_plain_gap last r r.source (is_none last) p.mid p.line_has_ended before c.args.token new (first_token last)
-    p.gap (p.here r))
-    (c.tell_alone.ensures ∙ ends_forgotten p.gap.ends cleared c.args.token none))
+    (behind_plain_gap last r r.source (is_none last) p.mid p.line_has_ended before c.args.token new before.errors
+    (first_token last) p.gap (p.here r before.errors))
+    (c.take_token.ensures.last ∙ ends_forgotten p.gap.ends cleared c.args.token none)))
 
 pub returns-clause-ok : goal.returns-clause-ok
 returns-clause-ok g c =
@@ -62,8 +63,8 @@ returns-clause-ok g c =
     let at =
     moved_on r.source c.set_position.new.self c.args.source c.position.result c.set_position.ensures
     c.position.ensures.place (plain_text r before _ _ c.args.token c.args.source p) in
-    rw (← c.self.view_is, tokens, at)
-    (reads_token _ _ (moved r r.source (is_none last)) before new (ends_told p.gap.ends before) c.tell_alone.new.trivia
+    rw (← c.self.view_is, tokens, at, c.take_token.ensures.read)
+    (reads_token _ _ (moved r r.source (is_none last)) before new (ends_told p.gap.ends before) c.take_token.new.trivia
     Next c.args.token c.self.inside.decoded p.gap.from.utf8
     record {
       source = refl;
@@ -73,8 +74,8 @@ returns-clause-ok g c =
       between =
           between_is Next r.source last c.self.inside.found.trivia cleared c.self.inside.decoded c.self.invariant refl;
     }
-    (behind_plain_gap last r r.source (is_none last) p.mid p.line_has_ended before c.args.token new
-    (first_token last) p.gap (p.here r))
-    (c.tell_alone.ensures ∙ ends_forgotten p.gap.ends cleared c.args.token none)
+    (behind_plain_gap last r r.source (is_none last) p.mid p.line_has_ended before c.args.token new before.errors
+    (first_token last) p.gap (p.here r before.errors))
+    (c.take_token.ensures.last ∙ ends_forgotten p.gap.ends cleared c.args.token none)
     (same.kept c.self.invariant.are_values)
     (no_value r.source.text c.self.inside.decoded c.args.token p.escaped) refl)

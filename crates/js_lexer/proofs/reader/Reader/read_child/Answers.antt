@@ -5,14 +5,14 @@ use Rattle.js_lexer.proofs.reader.Reader.read_child.Goals as goal
 
 pub token_from-requires : goal.token_from-requires
 token_from-requires c =
-    let new = record c.args.self.now { source = c.read_jsx_child.new.source; errors = c.read_jsx_child.new.errors } in
+    let new = record c.args.self.now { source = c.read_jsx_child.new.source } in
     subst (λ n. n ≤ c.read_jsx_child.new.source.place) (sym c.offset-start.ensures.place)
     (child_ordered c.args.self.now new c.in_ok-kind.kind c.requires c.read_jsx_child.ensures.placed
     c.in_ok-kind.ensures.ok)
 
 pub returns-clause-ok : goal.returns-clause-ok
 returns-clause-ok c =
-    let new = record c.args.self.now { source = c.read_jsx_child.new.source; errors = c.read_jsx_child.new.errors } in
+    let new = record c.args.self.now { source = c.read_jsx_child.new.source } in
     child_goal c.args.self.now new c.in_ok-kind.kind c.token_from.result c.requires c.read_jsx_child.ensures.placed
     c.in_ok-kind.ensures.ok refl
     (c.token_from.ensures

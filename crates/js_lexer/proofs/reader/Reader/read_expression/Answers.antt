@@ -16,7 +16,6 @@ token_from-requires c =
     expression_ordered c.args.start c.args.self.now
     (record c.args.self.now {
       source = c.read_regular_expression.new.source;
-      errors = c.read_regular_expression.new.errors;
     }) mid c.in_ok-info.info
     (behind_mark slash c.args.start c.args.self.now mid c.requires.placed c.requires.boundary c.requires.here
     c.go_behind.ensures.past) c.read_regular_expression.ensures.placed c.in_ok-info.ensures.ok
@@ -27,7 +26,6 @@ returns-clause-ok c =
     expression_goal c.args.start c.args.self.now
     (record c.args.self.now {
       source = c.read_regular_expression.new.source;
-      errors = c.read_regular_expression.new.errors;
     }) mid c.in_ok-info.info c.token_from.result
     (behind_mark slash c.args.start c.args.self.now mid c.requires.placed c.requires.boundary c.requires.here
     c.go_behind.ensures.past) c.read_regular_expression.ensures.placed c.in_ok-info.ensures.ok refl

@@ -6,13 +6,13 @@ use Rattle.js_lexer.proofs.reader.Reader.read_here.Goals as goal
 pub new-span-requires : goal.new-span-requires
 new-span-requires c =
     rw (c.offset-start.ensures.place, c.offset.ensures.place)
-    (lexeme_onward c.args.self.now c.read_lexeme.new.self c.in_ok-lexeme.lexeme c.requires.placed
+    (lexeme_onward c.args.self.now c.read_lexeme.new.self c.requires.placed
     c.offset.ensures.placed c.in_ok-lexeme.ensures.ok)
 
 pub token-requires : goal.token-requires
 token-requires c =
     rw (c.new-span.ensures, c.offset-start.ensures.place, c.offset.ensures.place)
-    (lexeme_onward c.args.self.now c.read_lexeme.new.self c.in_ok-lexeme.lexeme c.requires.placed
+    (lexeme_onward c.args.self.now c.read_lexeme.new.self c.requires.placed
     c.offset.ensures.placed c.in_ok-lexeme.ensures.ok)
 
 pub returns-clause-ok : goal.returns-clause-ok

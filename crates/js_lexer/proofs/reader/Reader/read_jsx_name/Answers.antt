@@ -13,7 +13,7 @@ pub returns-clause-reads : goal.returns-clause-reads
 returns-clause-reads c =
     name_goal c.args.start c.args.self.now (record c.args.self.now { source = c.read_jsx_identifier.new.source })
     c.token_from.result c.requires.placed c.read_jsx_identifier.ensures.placed c.requires.boundary c.requires.ordered
-    c.if-not-read_jsx_identifier.ensures.reads refl refl c.token_from.ensures
+    c.if-not-read_jsx_identifier.ensures.reads refl c.token_from.ensures
 
 pub returns-then-not-read_jsx_identifier-clause-reads : goal.returns-then-not-read_jsx_identifier-clause-reads
 returns-then-not-read_jsx_identifier-clause-reads c =

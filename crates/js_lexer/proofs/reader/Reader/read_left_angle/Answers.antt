@@ -8,5 +8,5 @@ returns-clause-reads c =
     left_angle_goal c.args.start c.args.self.now (record c.args.self.now { source = c.go_behind.new.source })
     c.token_from.result
     (behind_mark less_than_sign c.args.start c.args.self.now c.go_behind.new.source c.requires.placed
-    c.requires.boundary c.requires.here c.go_behind.ensures.past) c.go_behind.ensures.placed refl refl
+    c.requires.boundary c.requires.here c.go_behind.ensures.past) c.go_behind.ensures.placed refl
     c.token_from.ensures

@@ -9,7 +9,8 @@ token_from-requires c =
     angle_ordered c.args.start c.args.self.now
     (record c.args.self.now { source = c.read_right_angle-kind.new.source }) mid c.read_right_angle-kind.result
     (behind_mark greater_than_sign c.args.start c.args.self.now mid c.requires.placed c.requires.boundary
-    c.requires.here c.go_behind.ensures.past) c.read_right_angle-kind.ensures.placed c.read_right_angle-kind.ensures.reads
+    c.requires.here c.go_behind.ensures.past) c.read_right_angle-kind.ensures.placed
+    c.read_right_angle-kind.ensures.reads
 
 pub returns-clause-reads : goal.returns-clause-reads
 returns-clause-reads c =
@@ -18,5 +19,6 @@ returns-clause-reads c =
     (record c.args.self.now { source = c.read_right_angle-kind.new.source }) mid c.read_right_angle-kind.result
     c.token_from.result
     (behind_mark greater_than_sign c.args.start c.args.self.now mid c.requires.placed c.requires.boundary
-    c.requires.here c.go_behind.ensures.past) c.read_right_angle-kind.ensures.placed c.read_right_angle-kind.ensures.reads
-    refl refl c.token_from.ensures
+    c.requires.here c.go_behind.ensures.past) c.read_right_angle-kind.ensures.placed
+    c.read_right_angle-kind.ensures.reads
+    refl c.token_from.ensures

@@ -18,10 +18,10 @@ returns-in-Some-clause-ok c =
     let quiet = (none_behind t line_has_ended (rest c.args.self.now.source) c.requires.gap).0 in
     let read = c.in-Some.ensures t line_has_ended quiet in
     lexeme_spelled c.args.self.now _ c.in-Some.kind c.lexeme.result
-    record { source_type = refl; line_has_ended = refl; errors = refl }
+    record { source_type = refl; line_has_ended = refl }
     (punctuator_unflagged read.1.it c.in-Some.kind read.1.in_table read.1.kind)
     (punctuator_spelled t line_has_ended c.args.self.now.source c.read_punctuator.new.source c.in-Some.kind read)
-    c.lexeme.ensures
+    c.lexeme.ensures c.args.errors.now
 
 pub read_other-requires : goal.read_other-requires
 read_other-requires c =
@@ -44,9 +44,9 @@ returns-in-None-clause-ok c =
     let none =
     c.in-None.ensures t line_has_ended
     (none_behind t line_has_ended (rest c.args.self.now.source) c.requires.gap).0 in
-    answers_from c.args.self.now
+    answers_from c.args.errors.now c.read_other.new.errors c.args.self.now
     (record c.args.self.now { source = c.read_punctuator.new.source }) c.read_other.new.self c.read_other.result
-    record { source = none.0; stays = record { source_type = refl; line_has_ended = refl; errors = refl } }
+    record { source = none.0; stays = record { source_type = refl; line_has_ended = refl } }
     c.read_other.ensures.ok
 
 pub returns-in-None-clause-err : goal.returns-in-None-clause-err
@@ -56,9 +56,9 @@ returns-in-None-clause-err c =
     let none =
     c.in-None.ensures t line_has_ended
     (none_behind t line_has_ended (rest c.args.self.now.source) c.requires.gap).0 in
-    fails_from c.args.self.now
+    fails_from c.args.errors.now c.read_other.new.errors c.args.self.now
     (record c.args.self.now { source = c.read_punctuator.new.source }) c.read_other.new.self c.read_other.result
-    record { source = none.0; stays = record { source_type = refl; line_has_ended = refl; errors = refl } }
+    record { source = none.0; stays = record { source_type = refl; line_has_ended = refl } }
     c.read_other.ensures.err
 
 pub returns-in-None-clause-value : goal.returns-in-None-clause-value

@@ -6,7 +6,7 @@ pub returns-clause-ok : goal.returns-clause-ok
 returns-clause-ok c =
     rw c.escaped.ensures
     (lexeme_as c.args.self.now
-    (record c.args.self.now { source = c.read_name.new.source; errors = c.read_name.new.errors })
+    (record c.args.self.now { source = c.read_name.new.source })
     (name_here c.args.self.now c.requires.begun) refl refl c.in_ok-spelt.ensures.ok refl)
 
 pub returns-clause-kept : goal.returns-clause-kept

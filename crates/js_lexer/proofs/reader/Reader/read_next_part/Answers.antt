@@ -14,7 +14,7 @@ read_template_part-requires-clause-start c =
 pub new-requires : goal.new-requires
 new-requires c =
     let old = c.args.self.now in
-    let new = record old { source = c.read_template_part.new.source; errors = c.read_template_part.new.errors } in
+    let new = record old { source = c.read_template_part.new.source } in
     rw c.offset.ensures.place
     (part_ordered (behind_curly_bracket c.args.start c.set_start.new.self.start old new c.requires.placed
     c.read_template_part.ensures.placed c.requires.begins c.requires.here (ap (λ t. t.start) c.set_start.ensures)
@@ -23,7 +23,7 @@ new-requires c =
 pub token-requires : goal.token-requires
 token-requires c =
     let old = c.args.self.now in
-    let new = record old { source = c.read_template_part.new.source; errors = c.read_template_part.new.errors } in
+    let new = record old { source = c.read_template_part.new.source } in
     rw (c.new.ensures, c.offset.ensures.place)
     (part_ordered (behind_curly_bracket c.args.start c.set_start.new.self.start old new c.requires.placed
     c.read_template_part.ensures.placed c.requires.begins c.requires.here (ap (λ t. t.start) c.set_start.ensures)
@@ -32,7 +32,7 @@ token-requires c =
 pub returns-clause-ok : goal.returns-clause-ok
 returns-clause-ok c =
     let old = c.args.self.now in
-    let new = record old { source = c.read_template_part.new.source; errors = c.read_template_part.new.errors } in
+    let new = record old { source = c.read_template_part.new.source } in
     reads_next_part c.token.result
     (behind_curly_bracket c.args.start c.set_start.new.self.start old new c.requires.placed
     c.read_template_part.ensures.placed c.requires.begins c.requires.here (ap (λ t. t.start) c.set_start.ensures)
@@ -42,7 +42,7 @@ returns-clause-ok c =
 pub returns-clause-value : goal.returns-clause-value
 returns-clause-value c =
     let old = c.args.self.now in
-    let new = record old { source = c.read_template_part.new.source; errors = c.read_template_part.new.errors } in
+    let new = record old { source = c.read_template_part.new.source } in
     rw (c.token.ensures, c.new.ensures, c.escaped.ensures)
     (next_part_kept c.args.decoded.now c.keep_part.new.decoded
     (behind_curly_bracket c.args.start c.set_start.new.self.start old new c.requires.placed
@@ -52,7 +52,7 @@ returns-clause-value c =
 pub returns-clause-kept : goal.returns-clause-kept
 returns-clause-kept c =
     let old = c.args.self.now in
-    let new = record old { source = c.read_template_part.new.source; errors = c.read_template_part.new.errors } in
+    let new = record old { source = c.read_template_part.new.source } in
     (next_part_kept c.args.decoded.now c.keep_part.new.decoded
     (behind_curly_bracket c.args.start c.set_start.new.self.start old new c.requires.placed
     c.read_template_part.ensures.placed c.requires.begins c.requires.here (ap (λ t. t.start) c.set_start.ensures)
@@ -63,7 +63,7 @@ returns-in_err-spelt-clause-err c =
     let old = c.args.self.now in
     let p = err_from_is_err_and c.from_residual.result c.from_residual.ensures.1 in
     rw p.1
-    (broke_off old (record old { source = c.read_template_part.new.source; errors = c.read_template_part.new.errors })
+    (broke_off old (record old { source = c.read_template_part.new.source })
     (c.in_err-spelt.ensures.err right_curly_bracket) refl refl)
 
 pub returns-in_err-keep_part-clause-err : goal.returns-in_err-keep_part-clause-err
@@ -71,5 +71,5 @@ returns-in_err-keep_part-clause-err c =
     let old = c.args.self.now in
     let p = err_from_is_err_and c.from_residual-in_err-keep_part.result c.from_residual-in_err-keep_part.ensures.1 in
     rw p.1
-    (was_spelt old (record old { source = c.read_template_part.new.source; errors = c.read_template_part.new.errors })
+    (was_spelt old (record old { source = c.read_template_part.new.source })
     (c.in_ok-spelt.ensures.ok right_curly_bracket) refl refl)

@@ -8,7 +8,7 @@ pub returns-clause-ok : goal.returns-clause-ok
 returns-clause-ok c =
     rw (c.escaped.ensures, c.has_separator.ensures)
     (lexeme_of_number c.args.self.now
-    (record c.args.self.now { source = c.read_number.new.source; errors = c.read_number.new.errors })
+    (record c.args.self.now { source = c.read_number.new.source })
     c.requires.begun refl c.in_ok-spelt.ensures.ok refl)
 
 pub returns-clause-plain : goal.returns-clause-plain

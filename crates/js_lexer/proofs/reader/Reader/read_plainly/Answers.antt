@@ -11,7 +11,8 @@ new-span-requires c =
     spelled_from r c.here-source.result c.read_plain_spelling.new.source c.in_ok-kind.kind c.here-source.ensures.same
     (λ none. rw c.in_ok-kind.was at (c.read_plain_spelling.ensures.spells r r.line_has_ended none)) c.requires.gap in
     rw (c.offset-start.ensures.place, c.offset.ensures.place)
-    (spelled_onward r c.read_plain_spelling.new.source c.in_ok-kind.kind c.requires.placed c.offset.ensures.placed spells)
+    (spelled_onward r c.read_plain_spelling.new.source c.in_ok-kind.kind c.requires.placed c.offset.ensures.placed
+    spells)
 
 pub new-requires : goal.new-requires
 new-requires c =
@@ -20,10 +21,11 @@ new-requires c =
     spelled_from r c.here-source.result c.read_plain_spelling.new.source c.in_ok-kind.kind c.here-source.ensures.same
     (λ none. rw c.in_ok-kind.was at (c.read_plain_spelling.ensures.spells r r.line_has_ended none)) c.requires.gap in
     rw (c.new-span.ensures, c.offset-start.ensures.place, c.offset.ensures.place)
-    (spelled_onward r c.read_plain_spelling.new.source c.in_ok-kind.kind c.requires.placed c.offset.ensures.placed spells)
+    (spelled_onward r c.read_plain_spelling.new.source c.in_ok-kind.kind c.requires.placed c.offset.ensures.placed
+    spells)
 
 pub returns-clause-some : goal.returns-clause-some
-returns-clause-some c =
+returns-clause-some c = λ errors.
     let r = c.args.self.now in
     let lexeme = plain_lexeme c.in_ok-kind.kind r.line_has_ended in
     record {
@@ -32,7 +34,7 @@ returns-clause-some c =
           spelled_from r c.here-source.result c.read_plain_spelling.new.source c.in_ok-kind.kind
           c.here-source.ensures.same
           (λ none. rw c.in_ok-kind.was at (c.read_plain_spelling.ensures.spells r r.line_has_ended none))
-          c.requires.gap;
+          c.requires.gap errors;
       token_is =
           c.new.ensures ∙ ap (λ s. lexeme_token s.start s.end lexeme) c.new-span.ensures
           ∙ ap (λ n. lexeme_token n c.offset.result lexeme) c.offset-start.ensures.place

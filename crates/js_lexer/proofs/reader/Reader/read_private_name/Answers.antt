@@ -13,7 +13,7 @@ returns-clause-ok c =
     let behind = behind_mark number_sign old.source mid (omega arith) c.requires.placed c.next_char.ensures.placed
     reads in
     rw c.escaped.ensures
-    (lexeme_as old (record old { source = c.read_private_name.new.source; errors = c.read_private_name.new.errors })
+    (lexeme_as old (record old { source = c.read_private_name.new.source })
     (private_here old mid reads) refl reads.text (c.in_ok-spelt.ensures.ok old.source.place behind) refl)
 
 pub returns-clause-kept : goal.returns-clause-kept
@@ -48,7 +48,7 @@ returns-in_err-spelt-clause-err c =
     reads in
     let p = err_from_is_err_and c.from_residual.result c.from_residual.ensures.1 in
     rw p.1
-    (broke_off old (record old { source = c.read_private_name.new.source; errors = c.read_private_name.new.errors })
+    (broke_off old (record old { source = c.read_private_name.new.source })
     (c.in_err-spelt.ensures.err old.source.place behind) reads.text refl)
 
 pub returns-in_err-keep_value-clause-err : goal.returns-in_err-keep_value-clause-err
@@ -60,5 +60,5 @@ returns-in_err-keep_value-clause-err c =
     reads in
     let p = err_from_is_err_and c.from_residual-in_err-keep_value.result c.from_residual-in_err-keep_value.ensures.1 in
     rw p.1
-    (was_spelt old (record old { source = c.read_private_name.new.source; errors = c.read_private_name.new.errors })
+    (was_spelt old (record old { source = c.read_private_name.new.source })
     (c.in_ok-spelt.ensures.ok old.source.place behind) reads.text refl)

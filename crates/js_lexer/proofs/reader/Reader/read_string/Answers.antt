@@ -6,7 +6,7 @@ pub returns-clause-ok : goal.returns-clause-ok
 returns-clause-ok c =
     rw c.escaped.ensures
     (lexeme_as c.args.self.now
-    (record c.args.self.now { source = c.read_string.new.source; errors = c.read_string.new.errors })
+    (record c.args.self.now { source = c.read_string.new.source })
     (string_here c.args.self.now c.requires.begun)
     (ap (λ t. t.start) c.set_start.ensures ∙ c.offset-start.ensures.place) refl c.in_ok-spelt.ensures.ok refl)
 

@@ -19,7 +19,7 @@ returns-clause-ok c =
     let mid = c.next_char.new.self in
     let reads = takes_backquote old.source mid c.requires.begun c.next_char.ensures.past in
     rw c.escaped.ensures
-    (lexeme_as old (record old { source = c.read_template_part.new.source; errors = c.read_template_part.new.errors })
+    (lexeme_as old (record old { source = c.read_template_part.new.source })
     (template_here old mid reads)
     (ap (λ t. t.start) c.set_start.ensures ∙ c.offset-start.ensures.place) reads.text
     (c.in_ok-spelt.ensures.ok grave_accent) refl)
@@ -50,7 +50,7 @@ returns-in_err-spelt-clause-err c =
     let reads = takes_backquote old.source mid c.requires.begun c.next_char.ensures.past in
     let p = err_from_is_err_and c.from_residual.result c.from_residual.ensures.1 in
     rw p.1
-    (broke_off old (record old { source = c.read_template_part.new.source; errors = c.read_template_part.new.errors })
+    (broke_off old (record old { source = c.read_template_part.new.source })
     (c.in_err-spelt.ensures.err grave_accent) reads.text refl)
 
 pub returns-in_err-keep_part-clause-err : goal.returns-in_err-keep_part-clause-err
@@ -60,5 +60,5 @@ returns-in_err-keep_part-clause-err c =
     let reads = takes_backquote old.source mid c.requires.begun c.next_char.ensures.past in
     let p = err_from_is_err_and c.from_residual-in_err-keep_part.result c.from_residual-in_err-keep_part.ensures.1 in
     rw p.1
-    (was_spelt old (record old { source = c.read_template_part.new.source; errors = c.read_template_part.new.errors })
+    (was_spelt old (record old { source = c.read_template_part.new.source })
     (c.in_ok-spelt.ensures.ok grave_accent) reads.text refl)

@@ -10,14 +10,14 @@ loop-self-init c =
     record {
       is_next = blanks.next;
       placed = blanks.placed;
-      within = record { source_type = refl; errors = refl };
       text = blanks.text;
+      source_type = refl;
       leads =
           leads_to c.args.self.now (record c.args.self.now { source = c.skip_blanks-next.new.source }) _
           c.args.found.now c.args.found.now
           (blanks_lead c.args.self.now.tables.blanks c.args.self.now.tables.gap_blanks c.args.self.now
           c.skip_blanks-next.new.source c.args.found.now c.requires blanks.placed blanks.text blanks.run)
-          (record { source = refl; stays = record { source_type = refl; line_has_ended = refl; errors = refl } });
+          (record { source = refl; stays = record { source_type = refl; line_has_ended = refl } });
       grown = grows_none c.args.found.now;
     }
 
@@ -34,19 +34,17 @@ loop-self-preserved c =
     c.if-branch.true c.in_ok-skip_piece.ensures.ok in
     let blanks = c.skip_blanks-next-in-loop-self.ensures in
     let passes =
-    leads_to c.skip_piece.new.self (record c.skip_piece.new.self { source = c.skip_blanks-next-in-loop-self.new.source }) _
+    leads_to c.skip_piece.new.self
+    (record c.skip_piece.new.self { source = c.skip_blanks-next-in-loop-self.new.source }) _
     c.skip_piece.new.found c.skip_piece.new.found
     (blanks_lead c.skip_piece.new.self.tables.blanks c.skip_piece.new.self.tables.gap_blanks c.skip_piece.new.self
     c.skip_blanks-next-in-loop-self.new.source c.skip_piece.new.found some.placed blanks.placed blanks.text blanks.run)
-    (record { source = refl; stays = record { source_type = refl; line_has_ended = refl; errors = refl } }) in
+    (record { source = refl; stays = record { source_type = refl; line_has_ended = refl } }) in
     record {
       is_next = blanks.next;
       placed = blanks.placed;
-      within = record {
-        source_type = some.within.source_type ∙ inv.within.source_type;
-        errors = some.within.errors ∙ inv.within.errors;
-      };
       text = blanks.text ∙ some.text ∙ inv.text;
+      source_type = some.source_type ∙ inv.source_type;
       leads = λ later found s. inv.leads later found (some.leads later found (passes later found s));
       grown = grows_on c.args.found.now c.loop-self.found c.skip_piece.new.found inv.grown c.skip_piece.ensures.grown;
     }

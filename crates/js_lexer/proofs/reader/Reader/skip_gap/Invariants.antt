@@ -1,15 +1,16 @@
 use Rattle.std.proofs.Common.{◌≡◌, false, length}
 use Rattle.js_source.specs.Source.{rest, IsPlaced}
-use Rattle.js_lexer.specs.Gaps.{IsNext, Grows}
-use Rattle.js_lexer.specs.Reader.{SkipsWithin, Leads}
+use Rattle.js_lexer.specs.Found.{Grows}
+use Rattle.js_lexer.specs.Gaps.{IsNext}
+use Rattle.js_lexer.specs.Reader.{Leads}
 use Rattle.js_lexer.proofs.reader.Reader.skip_gap.Given as goal
 
 abbrev pub invariant-loop-self : goal.invariant-loop-self
 invariant-loop-self l = record {
   is_next : IsNext l.next (rest l.self.source);
   placed : IsPlaced l.self.source;
-  within : SkipsWithin l.fn.self l.self;
   text : l.self.source.text ≡ l.fn.self.source.text;
+  source_type : l.self.source_type ≡ l.fn.self.source_type;
   leads : Leads false l.fn.self l.fn.found false l.self l.found;
   grown : Grows l.fn.found l.found;
 }

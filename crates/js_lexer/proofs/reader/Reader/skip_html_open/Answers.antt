@@ -5,7 +5,7 @@ use Rattle.js_lexer.proofs.reader.Reader.skip_html_open.Goals as goal
 
 pub returns-then-is_module-clause-ok : goal.returns-then-is_module-clause-ok
 returns-then-is_module-clause-ok c = (
-  record { source = refl; stays = record { source_type = refl; line_has_ended = refl; errors = refl } },
+  record { source = refl; stays = record { source_type = refl; line_has_ended = refl } },
   refl,
   no_open_in_module c.args.self.now c.requires.next (sym c.is_module.ensures ∙ c.if-is_module.true),
 )

@@ -20,7 +20,7 @@ add_line_comment-requires-clause-placed c =
 
 pub returns-in_err-add_line_comment-clause-grown : goal.returns-in_err-add_line_comment-clause-grown
 returns-in_err-add_line_comment-clause-grown c =
-    grows_by c.args.found.now _ [] refl c.in_err-add_line_comment.ensures.err
+    grows_by c.args.found.now _ [] refl refl c.in_err-add_line_comment.ensures.err
 
 pub returns-clause-ok : goal.returns-clause-ok
 returns-clause-ok c =
@@ -31,4 +31,4 @@ returns-clause-ok c =
     refl (rw (same, c.offset-start.ensures.place, c.offset-end.ensures.place) at c.in_ok-add_line_comment.ensures.ok)
 
 pub returns-clause-grown : goal.returns-clause-grown
-returns-clause-grown c = grows_by c.args.found.now _ (comment _ ∷ []) refl c.in_ok-add_line_comment.ensures.ok
+returns-clause-grown c = grows_by c.args.found.now _ (comment _ ∷ []) refl refl c.in_ok-add_line_comment.ensures.ok
