@@ -13,7 +13,8 @@ use Rattle.js_grammar.specs.ReLexed.{again_kinds, fits}
 use Rattle.js_grammar.specs.declared.goal.Goal.{Goal}
 use Rattle.js_grammar.specs.declared.goal.Goal.TheVariants.{Next as NextGoal, RegularExpression}
 use Rattle.js_grammar.specs.declared.goal.Goal.TheVariants.{TemplateTail as TailGoal}
-use Rattle.js_lexer.specs.Goals.{ReadsRegex, info_of}
+use Rattle.js_lexer.specs.Goals.{ReadsRegex}
+use Rattle.js_reader.specs.Goals.{info_of}
 use Rattle.js_lexer.specs.Lexer.{IsBehindFor, IsOnPlaces, LexerState, ReadsAgain, ReadsToken, token_or_default}
 use Rattle.js_session.specs.Effects.{effect_of}
 use Rattle.js_session.specs.Effects.Effect.{re_lexes}
@@ -24,7 +25,7 @@ use Rattle.js_session.specs.RowReader.{AddsAgain, AddsLive, AddsNotTaken, RowRea
 use Rattle.js_session.specs.Session.{AddsRow, SessionState}
 use Rattle.js_session.specs.declared.command.Command.{Command}
 use Rattle.js_session.specs.declared.command.Command.TheVariants.{Next, Regex, TemplateTail}
-use Rattle.js_lexer.specs.declared.regex.RegexToken.{RegexToken}
+use Rattle.js_reader.specs.declared.regex.RegexToken.{RegexToken}
 use Rattle.js_session.proofs.AgainLemmas.{part_again}
 use Rattle.js_session.proofs.LiveLemmas.{same_live}
 use Rattle.js_session.proofs.StepLemmas.{in_order_lies, on_adds_row, order_added, order_re_lexed, re_lex_adds_row, seen}

@@ -13,7 +13,7 @@ use Rattle.js_grammar.specs.Reads.{is_onward}
 use Rattle.js_grammar.specs.Values.{IsValueOf, decoded_units, template_row_value, template_units}
 use Rattle.js_grammar.specs.declared.goal.Goal.{Goal}
 use Rattle.js_grammar.proofs.Values.{goal_reads_value}
-use Rattle.js_lexer.specs.Decoded.{HasValue, IsKeptAs, Values}
+use Rattle.js_reader.specs.Decoded.{HasValue, IsKeptAs, Values}
 use Rattle.js_lexer.specs.Lexer.{LexerState, ReadsAgain, ReadsOutcome, ReadsToken}
 use Rattle.js_session.specs.Live.{row_of}
 use Rattle.js_session.specs.RowReader.{HoldsKept, HoldsPart, HoldsUnits, HoldsValue, ReadsRow}

@@ -15,7 +15,7 @@ use Rattle.js_kind.specs.declared.kind.Kind.{Kind}
 use Rattle.js_kind.specs.declared.kind.Kind.TheVariants.{Eof}
 use Rattle.js_grammar.specs.ReLexed.{again_kinds}
 use Rattle.js_grammar.specs.declared.goal.Goal.{Goal}
-use Rattle.js_lexer.specs.Decoded as of_values
+use Rattle.js_reader.specs.Decoded as of_values
 use Rattle.js_lexer.specs.Lexer as of_state
 use Rattle.js_lexer.specs.Lexer.{IsBehindFor}
 use Rattle.js_lexer.proofs.GoesOn as of_lexer

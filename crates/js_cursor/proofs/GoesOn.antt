@@ -10,7 +10,7 @@ use Rattle.js_kind.specs.declared.kind.Kind.{Kind}
 use Rattle.js_grammar.specs.Outcome.{joined, no_findings}
 use Rattle.js_grammar.specs.declared.goal.Goal.{Goal}
 use Rattle.js_grammar.specs.declared.goal.Goal.TheVariants.{Next}
-use Rattle.js_lexer.specs.Decoded.{Keeps, Values}
+use Rattle.js_reader.specs.Decoded.{Keeps, Values}
 use Rattle.js_lexer.specs.Lexer.{BeginsAlike, IsRestored, LexerState}
 use Rattle.js_lexer.specs.Lexer as of_lexer
 use Rattle.js_lexer.proofs.FindingLaws.{joined-assoc, joined-none}

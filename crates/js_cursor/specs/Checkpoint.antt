@@ -2,7 +2,7 @@
 use Rattle.std.specs.Prelude.{◌≡◌, ℕ, ◌≤◌, List, ◌++◌, length, take, Option, Some, None}
 use Rattle.js_text.specs.declared.diagnostic.Diagnostic.{Diagnostic}
 use Rattle.js_kind.specs.TokenParts.{TokenParts}
-use Rattle.js_lexer.specs.Decoded.{Keeps}
+use Rattle.js_reader.specs.Decoded.{Keeps}
 use Rattle.js_lexer.specs.Lexer as of_lexer
 use Rattle.js_cursor.specs.Cursor.{CursorState, HasByte}
 use Rattle.js_cursor.specs.declared.diagnostic.CursorDiagnostic.{CursorDiagnostic}

@@ -9,7 +9,7 @@ use Rattle.js_kind.specs.declared.kind.Kind.{Kind}
 use Rattle.js_kind.specs.declared.kind.Kind.TheVariants.{Eof, Semicolon, RCurly}
 use Rattle.js_grammar.specs.declared.goal.Goal.{Goal}
 use Rattle.js_grammar.specs.declared.goal.Goal.TheVariants.{Next}
-use Rattle.js_lexer.specs.Decoded.{Keeps}
+use Rattle.js_reader.specs.Decoded.{Keeps}
 use Rattle.js_lexer.specs.Lexer.{LexerState, IsRestored, ReadsToken}
 use Rattle.js_cursor.specs.declared.diagnostic.CursorDiagnostic.{CursorDiagnostic}
 use Rattle.js_cursor.specs.declared.diagnostic.CursorDiagnostic.TheVariants.{EscapedKeyword}

@@ -25,9 +25,9 @@ use Rattle.js_grammar.specs.declared.goal.Goal.{Goal}
 use Rattle.js_grammar.specs.declared.goal.Goal.TheVariants.{JsxChild, JsxIdentifier, RegularExpression, RightAngle}
 use Rattle.js_grammar.specs.declared.goal.Goal.TheVariants.{TypeScriptLeftAngle, TypeScriptRightAngle}
 use Rattle.js_grammar.proofs.AgainKinds.{again_is_re_lexed, only_one}
-use Rattle.js_lexer.specs.Decoded.{HasValue, Values}
-use Rattle.js_lexer.specs.Reader.{ReadsGoal}
-use Rattle.js_lexer.specs.declared.reader.Reader.{Reader}
+use Rattle.js_reader.specs.Decoded.{HasValue, Values}
+use Rattle.js_reader.specs.Reader.{ReadsGoal}
+use Rattle.js_reader.specs.declared.reader.Reader.{Reader}
 use Rattle.js_lexer.specs.Lexer.{IsBehindFor, IsOnPlaces, LexerState, kind_of_last, token_or_default}
 use Rattle.js_lexer.proofs.CheckpointSteps.{spelling_is_ascii}
 
@@ -78,11 +78,6 @@ starts_with goal mark bytes text last place token marked u is one of_last at lie
       },
     )
 
--- a token without an escape needs no value
-pub no_value : (text : List ℕ) (values : Values) (token : TokenParts) → token.escaped ≡ false
-    → HasValue text values token
-no_value text values token none = λ is. absurd (let no : true ≡ false = sym is ∙ none in cc)
-
 -- a `>` alone is one byte
 pub one_angle : (l : LexerState) → IsBehindFor RightAngle l → 1 ≡ length (kind_text (kind_of_last l))
 one_angle l behind =
@@ -130,14 +125,6 @@ name_unescaped before old new token r =
     ap (λ t. t.escaped) r.token_is
     ∙ (jsx_name_takes old.source.text before r.outcome r.reads).escaped
 
-pub child_unescaped : (before : Option TokenParts) (old new : Reader) (token : TokenParts)
-    → ReadsGoal JsxChild before old token new → token.escaped ≡ false
-child_unescaped before old new token r =
-    let here = rest old.source in
-    ap (λ t. t.escaped) r.token_is
-    ∙ (from_takes old.source.text (line_has_ended_behind before) old.source.place (Some (jsx_child_reading here))
-    r.outcome (child_is_read here) r.reads).escaped
-
 -- what was read again starts where the token before did
 pub left_starts : (before : TokenParts) (old new : Reader) (token : TokenParts)
     → ReadsGoal TypeScriptLeftAngle (Some before) old token new → token.start ≡ before.start
@@ -163,8 +150,3 @@ pub name_starts : (before : TokenParts) (old new : Reader) (token : TokenParts)
     → ReadsGoal JsxIdentifier (Some before) old token new → token.start ≡ before.start
 name_starts before old new token r =
     ap (λ t. t.start) r.token_is ∙ ap (λ o. o.token.start) r.reads.reads.outcome_is
-
--- a child of JSX starts where the reader stood
-pub child_starts : (before : Option TokenParts) (old new : Reader) (token : TokenParts)
-    → (r : ReadsGoal JsxChild before old token new) → old.source.place ≤ r.outcome.token.start
-child_starts before old new token r = omega (arith, ap (λ o. o.token.start) r.reads.outcome_is)

@@ -106,8 +106,3 @@ cut_to-all f =
       take_all (length f.irregular) f.irregular (omega arith),
     )
     refl
-
--- Findings are the same, list by list.
-pub same_findings : (a b : Findings) → a.diagnostics ≡ b.diagnostics → a.deferred ≡ b.deferred
-    → a.comments ≡ b.comments → a.irregular ≡ b.irregular → a ≡ b
-same_findings a b diagnostics deferred comments irregular = rw (diagnostics, deferred, comments, irregular) refl

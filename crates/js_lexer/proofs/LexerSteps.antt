@@ -25,16 +25,16 @@ use Rattle.js_text.specs.declared.comment.Comment.{Comment}
 use Rattle.js_text.specs.declared.diagnostic.Diagnostic.{Diagnostic}
 use Rattle.js_grammar.proofs.KindTexts.{goal_reads_spelling}
 use Rattle.js_grammar.proofs.Texts.{goal_reads_text}
-use Rattle.js_lexer.specs.Decoded.{Values, AreValues, Keeps, HasValue}
+use Rattle.js_reader.specs.Decoded.{Values, AreValues, Keeps, HasValue}
 use Rattle.js_grammar.proofs.GoalWays.{goal_reads_span, goal_reads_places}
-use Rattle.js_lexer.specs.Found.{findings_in}
+use Rattle.js_reader.specs.Found.{findings_in}
 use Rattle.js_lexer.specs.Lexer.{LexerState, IsOnPlaces, IsSound, IsRestored, collected, ReadsOutcome, ReadsToken}
 use Rattle.js_lexer.specs.Lexer.{Checkpoint, checkpoint_of, checkpoint_with_errors_of, put_back, put_errors_back}
 use Rattle.js_lexer.specs.Lexer.{rewound, BeginsAlike, GoesOnFrom, with_diagnostics, with_comments}
 use Rattle.js_lexer.specs.Lexer.{ReadsAgain, after_re_lex, last_read, token_or_default, range_before, trivia_before}
-use Rattle.js_lexer.specs.Reader.{ReadsGoal, ReadsWithGap, ReadsWithoutGap, AddsGap, MovesOn}
-use Rattle.js_lexer.specs.declared.findings_builder.FindingsBuilder.{FindingsBuilder}
-use Rattle.js_lexer.specs.declared.reader.Reader.{Reader}
+use Rattle.js_reader.specs.Reader.{ReadsGoal, ReadsWithGap, ReadsWithoutGap, AddsGap, MovesOn}
+use Rattle.js_reader.specs.declared.findings_builder.FindingsBuilder.{FindingsBuilder}
+use Rattle.js_reader.specs.declared.reader.Reader.{Reader}
 use Rattle.js_lexer.proofs.FindingLaws.{cut_to-joined, cut_to-recovered}
 use Rattle.js_lexer.proofs.TriviaLaws.{IsBetweenGaps, behind_token, told, held_before_token, held_later}
 use Rattle.js_trivia.specs.Attachment.{Attachment, between_gaps, after_token}
@@ -130,12 +130,6 @@ sound_back old new has_read trivia now values more same e sound are =
       held = sound.held;
       are_values = are;
     }))
-
--- a token before a place where a line has ended or not
-pub some_token_before : (line_has_ended : Bool)
-    → (previous : Option TokenParts) × (line_has_ended_behind previous ≡ line_has_ended)
-some_token_before true = (None, refl)
-some_token_before false = (Some default_parts, refl)
 
 -- the ends of a token that was read
 pub read_places : (goal : Goal) (previous : Option TokenParts) (old : Reader) (token : TokenParts) (new : Reader)

@@ -14,7 +14,7 @@ use Rattle.js_trivia.specs.Attachment.{Attachment, between_gaps}
 use Rattle.js_trivia.specs.Marks.{IsRangeOf, mark, marked_within, mark_range}
 use Rattle.js_trivia.specs.Trivia.{Trivia, held, comment_starts, span_starts, is_past}
 use Rattle.js_trivia.proofs.Marking.{starts_of_marked}
-use Rattle.js_lexer.specs.Decoded.{Values}
+use Rattle.js_reader.specs.Decoded.{Values}
 use Rattle.js_lexer.specs.Lexer.{LexerState, IsSound, GoesOnFrom, last_read, with_comments}
 
 -- a list is its front, a stretch behind that, and the rest

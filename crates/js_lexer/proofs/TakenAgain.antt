@@ -12,18 +12,19 @@ use Rattle.js_grammar.specs.ReLexed.{again_kinds}
 use Rattle.js_grammar.specs.declared.goal.Goal.{Goal}
 use Rattle.js_grammar.specs.declared.goal.Goal.TheVariants.{JsxIdentifier, RegularExpression, RightAngle, TemplateTail}
 use Rattle.js_grammar.specs.declared.goal.Goal.TheVariants.{TypeScriptLeftAngle, TypeScriptRightAngle}
-use Rattle.js_lexer.specs.Decoded.{Values, KeepsValues, HasValue}
-use Rattle.js_lexer.specs.Goals.{ReadsExpression, ReadsRegex, info_of}
+use Rattle.js_reader.specs.Decoded.{Values, KeepsValues, HasValue}
+use Rattle.js_lexer.specs.Goals.{ReadsRegex}
+use Rattle.js_reader.specs.Goals.{ReadsExpression, info_of}
 use Rattle.js_lexer.specs.Lexer.{IsBehindFor, IsSound, ReadsAgain, kind_of_last, last_read, lexer_of}
-use Rattle.js_lexer.specs.Reader.{ReadsGoal, ReadsSilently, ReadsWithoutGap}
-use Rattle.js_lexer.specs.declared.findings_builder.FindingsBuilder.{FindingsBuilder}
-use Rattle.js_lexer.specs.declared.reader.Reader.{Reader}
-use Rattle.js_lexer.specs.declared.regex.RegexToken.{RegexToken}
-use Rattle.js_lexer.proofs.AgainSteps.{StartsWith, has_mark, no_value, starts_with}
+use Rattle.js_reader.specs.Reader.{ReadsGoal, ReadsSilently, ReadsWithoutGap}
+use Rattle.js_reader.specs.declared.findings_builder.FindingsBuilder.{FindingsBuilder}
+use Rattle.js_reader.specs.declared.reader.Reader.{Reader}
+use Rattle.js_reader.specs.declared.regex.RegexToken.{RegexToken}
+use Rattle.js_lexer.proofs.AgainSteps.{StartsWith, has_mark, starts_with}
 use Rattle.js_lexer.proofs.AgainSteps.{expression_starts, expression_unescaped, left_starts, left_unescaped}
 use Rattle.js_lexer.proofs.AgainSteps.{longest_starts, longest_unescaped, name_starts, name_unescaped}
 use Rattle.js_lexer.proofs.AgainSteps.{right_starts, right_unescaped}
-use Rattle.js_lexer.proofs.DecodedSteps.{keeps_same}
+use Rattle.js_reader.proofs.DecodedSteps.{keeps_same, no_value}
 use Rattle.js_lexer.proofs.LexerSteps.{reads_again, sound_again, told_again, told_last}
 use Rattle.js_trivia.specs.Trivia.{handle_token}
 

@@ -26,8 +26,8 @@ use Rattle.js_trivia.proofs.CutBack.{cut_back_restores}
 use Rattle.js_trivia.proofs.PieceLaw.{calls_for_pieces, held_after_pieces}
 use Rattle.js_trivia.proofs.Starts.{is_past_more}
 use Rattle.js_lexer.specs.Lexer.{range_of}
-use Rattle.js_lexer.specs.Reader.{AddsGap}
-use Rattle.js_lexer.specs.declared.findings_builder.FindingsBuilder.{FindingsBuilder}
+use Rattle.js_reader.specs.Reader.{AddsGap}
+use Rattle.js_reader.specs.declared.findings_builder.FindingsBuilder.{FindingsBuilder}
 
 pub held_later : (low high : ℕ) (s : Trivia) → HeldBefore low s → low ≤ high → HeldBefore high s
 held_later low high s h le = record {

@@ -6,15 +6,15 @@ use Rattle.js_trivia.specs.Attachment.{Attachment}
 use Rattle.js_trivia.specs.Trivia.{Trivia, AreRangesUpTo, GrewFrom, held}
 use Rattle.js_trivia.specs.declared.lengths.TriviaLengths.{TriviaLengths}
 use Rattle.js_grammar.specs.declared.goal.Goal.{Goal}
-use Rattle.js_lexer.specs.Decoded.{Values}
-use Rattle.js_lexer.specs.Found.{Extends, Grows, HasFound, found_up_to, start_of}
+use Rattle.js_reader.specs.Decoded.{Values}
+use Rattle.js_reader.specs.Found.{Extends, Grows, HasFound, found_up_to, start_of}
 use Rattle.js_lexer.specs.Lexer.{IsRestored, IsSound, last_read, lexer_of, trivia_before}
-use Rattle.js_lexer.specs.declared.findings_builder.FindingsBuilder.{FindingsBuilder}
-use Rattle.js_lexer.specs.declared.reader.Reader.{Reader}
-use Rattle.js_lexer.specs.declared.reading_start.ReadingStart.{ReadingStart}
+use Rattle.js_reader.specs.declared.findings_builder.FindingsBuilder.{FindingsBuilder}
+use Rattle.js_reader.specs.declared.reader.Reader.{Reader}
+use Rattle.js_reader.specs.declared.reading_start.ReadingStart.{ReadingStart}
 use Rattle.js_lexer.proofs.LexerSteps.{cut_back}
 use Rattle.js_lexer.proofs.TriviaLaws.{back_after_calls, grew_by_calls, long_enough}
-use Rattle.js_lexer.proofs.TriviaSteps.{extends_same, grows_reports}
+use Rattle.js_reader.proofs.TriviaSteps.{extends_same, grows_reports}
 
 -- What has been found since a reading began: between two gaps, where the builder of trivia had forgotten no more than
 -- ranges of annotations, more may have been found.

@@ -23,10 +23,10 @@ use Rattle.js_trivia.specs.Attachment.{between_gaps}
 use Rattle.js_trivia.specs.Trivia.{Trivia, HeldBefore, extend_if, is_past, is_pure_not_applied}
 use Rattle.js_trivia.specs.Trivia.{is_no_side_effects_not_applied, comment_starts, span_starts, AreRangesUpTo}
 use Rattle.js_trivia.specs.declared.lengths.TriviaLengths.{TriviaLengths}
-use Rattle.js_lexer.specs.Decoded.{Values, no_values, AreValues, Keeps, HasValue}
-use Rattle.js_lexer.specs.Found.{findings_in}
-use Rattle.js_lexer.specs.declared.findings_builder.FindingsBuilder.{FindingsBuilder}
-use Rattle.js_lexer.specs.declared.reader.Reader.{Reader}
+use Rattle.js_reader.specs.Decoded.{Values, no_values, AreValues, Keeps, HasValue}
+use Rattle.js_reader.specs.Found.{findings_in}
+use Rattle.js_reader.specs.declared.findings_builder.FindingsBuilder.{FindingsBuilder}
+use Rattle.js_reader.specs.declared.reader.Reader.{Reader}
 use Rattle.js_kind.specs.Kinds.{is_one_of, number}
 use Rattle.js_kind.specs.TokenParts.{TokenParts, default_parts}
 use Rattle.js_kind.specs.declared.kind.Kind.{Kind}

@@ -8,9 +8,9 @@ ghost use Rattle.js_kind.specs.Kinds.{kind_text};
 ghost use Rattle.js_grammar.specs.ReLexed.{is_re_lexed, HasSpelling};
 ghost use Rattle.js_lexer.specs.Lexer.{IsOnPlaces, put_back, asked_lengths};
 
-use crate::reading_start::ReadingStart;
 use js_grammar::is_re_lexed;
 use js_kind::{Kind, Token, TokenList};
+use js_reader::ReadingStart;
 use js_source::Source;
 use js_text::DiagnosticList;
 use std::marker::Model;
@@ -27,7 +27,7 @@ pub struct LexerCheckpoint {
 }
 
 impl Model for LexerCheckpoint {
-    ghost use Rattle.js_lexer.specs.Found.{lengths_in};
+    ghost use Rattle.js_reader.specs.Found.{lengths_in};
     ghost use Rattle.js_lexer.specs.Lexer.{Checkpoint, IsBehindToken};
 
     ghost Value = { Checkpoint };

@@ -14,14 +14,14 @@ ghost use Rattle.js_grammar.specs.Reads.{is_onward};
 ghost use Rattle.js_kind.specs.TokenParts.{TokenParts};
 ghost use Rattle.js_source.specs.Source.{IsPlaced};
 ghost use Rattle.js_trivia.specs.Trivia.{handle_token, without_ranges};
-ghost use Rattle.js_lexer.specs.Decoded.{Keeps, KeepsValues, HasValue, value_of, GivesDecoded, GivesPart, GivesText};
-ghost use Rattle.js_lexer.specs.Decoded.{GivesTemplate, GivesStretch};
-ghost use Rattle.js_lexer.specs.Found.{Grows};
+ghost use Rattle.js_reader.specs.Decoded.{Keeps, KeepsValues, HasValue, value_of, GivesDecoded, GivesPart, GivesText};
+ghost use Rattle.js_reader.specs.Decoded.{GivesTemplate, GivesStretch};
+ghost use Rattle.js_reader.specs.Found.{Grows};
 ghost use Rattle.js_lexer.specs.Lexer.{LexerState, fresh, token_or_default, ReadsToken, IsRestored, IsOnPlaces, Peeks};
 ghost use Rattle.js_lexer.specs.Lexer.{checkpoint_of, CanRewind, rewound, GoesOnFrom, collected, is_hashbang};
 ghost use Rattle.js_lexer.specs.Lexer.{IsBehindFor, ReadsAgain, checkpoint_with_errors_of, trivia_before};
 ghost use Rattle.js_lexer.specs.Lexer.{with_comments, with_diagnostics};
-ghost use Rattle.js_lexer.specs.Reader.{ReadsWithGap, MovesOn};
+ghost use Rattle.js_reader.specs.Reader.{ReadsWithGap, MovesOn};
 
 mod annotations;
 mod goals;
@@ -32,15 +32,10 @@ use crate::checkpoint::{
     LexerCheckpoint, has_spelling_if_some, is_on_places_if_some, is_place, put_back,
     put_errors_back,
 };
-use crate::decoded::DecodedValues;
-use crate::findings::Findings;
-use crate::findings_builder::FindingsBuilder;
-use crate::reader::Reader;
-use crate::reading_start::ReadingStart;
-use crate::tables::ByteTables;
 use crate::token_text::{is_template, text_span};
 use js_grammar::Goal;
 use js_kind::{Kind, LexerConfig, Token, TokenList};
+use js_reader::{ByteTables, DecodedValues, Findings, FindingsBuilder, Reader, ReadingStart};
 use js_source::Source;
 use js_text::{
     Comment, CommentList, Diagnostic, DiagnosticList, JsText, SourceType, Span, SpanList,

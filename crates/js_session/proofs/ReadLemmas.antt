@@ -14,7 +14,7 @@ use Rattle.js_grammar.specs.declared.goal.Goal.{Goal}
 use Rattle.js_grammar.proofs.Values.{goal_reads_value}
 use Rattle.js_kind.specs.Kinds.{is_template_kind}
 use Rattle.js_kind.specs.TokenParts.{TokenParts}
-use Rattle.js_lexer.specs.Decoded.{Values, value_of, IsKeptAs, HasValue}
+use Rattle.js_reader.specs.Decoded.{Values, value_of, IsKeptAs, HasValue}
 use Rattle.js_lexer.specs.Lexer.{LexerState, IsOnPlaces, ReadsToken, ReadsOutcome}
 use Rattle.js_lexer.specs.Lexer.{Checkpoint, checkpoint_of}
 use Rattle.js_lexer.proofs.FindingLaws.{found_since-joined}

@@ -4,7 +4,7 @@ use Rattle.std.specs.List.{AllByRecursion}
 use Rattle.js_text.specs.declared.source_type.SourceType.{SourceType}
 use Rattle.js_grammar.specs.Outcome.{Findings, cut_to}
 use Rattle.js_kind.specs.TokenParts.{TokenParts}
-use Rattle.js_lexer.specs.Decoded.{no_values}
+use Rattle.js_reader.specs.Decoded.{no_values}
 use Rattle.js_lexer.specs.Lexer.{LexerState, GoesOnFrom, CanRewind, checkpoint_of, put_back, IsOnPlaces}
 use Rattle.js_session.specs.Live.{Live, State, last_live, place_behind_last}
 use Rattle.js_session.specs.Report.{all_collected, LiesOnPlaces}

@@ -8,7 +8,7 @@ use Rattle.js_grammar.specs.Values.{template_row_value}
 use Rattle.js_grammar.specs.TokenText.{plain_value}
 use Rattle.js_grammar.specs.ReLexed.{fits}
 use Rattle.js_grammar.specs.declared.goal.Goal.{Goal}
-use Rattle.js_lexer.specs.Decoded.{Values, value_of}
+use Rattle.js_reader.specs.Decoded.{Values, value_of}
 use Rattle.js_kind.specs.Kinds.{is_template_kind}
 use Rattle.js_kind.specs.TokenParts.{TokenParts}
 use Rattle.js_lexer.specs.Lexer.{LexerState, ReadsToken, IsRestored, GoesOnFrom, CanRewind, Checkpoint, checkpoint_of}

@@ -7,7 +7,7 @@ ghost use Rattle.js_grammar.specs.Reads.{is_onward};
 ghost use Rattle.js_grammar.specs.TokenText.{text_start, text_end};
 ghost use Rattle.js_grammar.specs.TokenText.{plain_value};
 ghost use Rattle.js_kind.specs.Kinds.{is_template_kind};
-ghost use Rattle.js_lexer.specs.Decoded.{value_of};
+ghost use Rattle.js_reader.specs.Decoded.{value_of};
 ghost use Rattle.js_lexer.specs.Lexer.{ReadsToken, IsRestored, CanRewind, GoesOnFrom, checkpoint_of};
 ghost use Rattle.js_lexer.specs.Lexer.{IsOnPlaces, token_or_default};
 ghost use Rattle.js_session.specs.RowReader.{RowReaderState, ReadsRow, AddsLive, AddsPeek, MayGoOn, IsUndone, GoesBack};

@@ -2,15 +2,14 @@
 
 ghost use Rattle.std.specs.Prelude.{◌≡◌, length, IfOk, OnErr};
 ghost use Rattle.js_kind.specs.Kinds.{kind_text};
-ghost use Rattle.js_lexer.specs.Decoded.{Keeps};
+ghost use Rattle.js_reader.specs.Decoded.{Keeps};
 ghost use Rattle.js_lexer.specs.Goals.{IsBehindName, ReadsName, ReadsRegex};
 ghost use Rattle.js_lexer.specs.Lexer.{IsBehindFor, IsRestored, ReadsAgain, ReadsToken, kind_of_last};
 
 use super::{Lexer, take_again};
-use crate::reading_start::ReadingStart;
-use crate::regex::RegexToken;
 use js_grammar::{Goal, spelled_length};
 use js_kind::{Kind, LexerConfig, Token};
+use js_reader::{ReadingStart, RegexToken};
 use std::alloc::AllocError;
 
 impl<C: LexerConfig + Drop> Lexer<'_, C> {

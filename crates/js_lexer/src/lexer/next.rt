@@ -4,18 +4,17 @@ ghost use Rattle.std.specs.Prelude.{◌≡◌, ◌++◌, true, None, IfOk, OnOk,
 ghost use Rattle.js_text.specs.Characters.{is_identifier_start};
 ghost use Rattle.js_grammar.specs.Gap.{whole_gap_piece};
 ghost use Rattle.js_source.specs.Source.{IsPlaced, rest};
-ghost use Rattle.js_lexer.specs.Decoded.{Keeps, KeepsValues, HasValue};
-ghost use Rattle.js_lexer.specs.Plain.{MeetsByte, PassesPlainGap, ReadsPlainToken, SpellsPlainly};
+ghost use Rattle.js_reader.specs.Decoded.{Keeps, KeepsValues, HasValue};
+ghost use Rattle.js_reader.specs.Plain.{MeetsByte, PassesPlainGap, ReadsPlainToken, SpellsPlainly};
 ghost use Rattle.js_lexer.specs.Lexer.{here, ReadsNext, ReadsToken, IsRestored, collected};
-ghost use Rattle.js_lexer.specs.Reader.{ReadsInPart, ReadsTokenHere};
+ghost use Rattle.js_reader.specs.Reader.{ReadsInPart, ReadsTokenHere};
 
 use super::{Lexer, collect, take_token};
-use crate::decoded::DecodedValues;
-use crate::plain::{GapEnd, pass_plain_gap, read_name_plainly, read_plain_mark};
-use crate::reader::Reader;
-use crate::reading_start::ReadingStart;
 use js_grammar::Goal;
 use js_kind::{Kind, LexerConfig, Token, TokenList};
+use js_reader::{
+    DecodedValues, GapEnd, Reader, ReadingStart, pass_plain_gap, read_name_plainly, read_plain_mark,
+};
 use js_source::Source;
 use js_text::{DiagnosticList, Span};
 use std::alloc::AllocError;

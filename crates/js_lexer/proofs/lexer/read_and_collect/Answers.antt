@@ -1,5 +1,6 @@
 use Rattle.std.proofs.lemmas.Result.{err_from_is_err_and}
-use Rattle.js_lexer.proofs.LexerSteps.{reads_moves_on, some_token_before}
+use Rattle.js_lexer.proofs.LexerSteps.{reads_moves_on}
+use Rattle.js_reader.proofs.ReadingSteps.{some_token_before}
 use Rattle.js_lexer.proofs.lexer.read_and_collect.Goals as goal
 
 pub returns-in_err-collect-clause-err : goal.returns-in_err-collect-clause-err

@@ -2,7 +2,7 @@ use Rattle.std.proofs.Common.{◌≡◌, refl, sym, ◌∙◌, ap}
 use Rattle.js_lexer.specs.Lexer.{token_or_default}
 use Rattle.js_lexer.proofs.LexerSteps.{curly_here, sound_back}
 use Rattle.js_trivia.specs.Attachment.{Attachment}
-use Rattle.js_lexer.specs.declared.findings_builder.FindingsBuilder.{FindingsBuilder}
+use Rattle.js_reader.specs.declared.findings_builder.FindingsBuilder.{FindingsBuilder}
 use Rattle.js_lexer.proofs.Undone.{found_again, may_go_back, reported_since, stands_again, undone}
 use Rattle.js_lexer.proofs.TakenAgain.{part_again, reads_taken, sound_taken}
 use Rattle.js_lexer.proofs.lexer.Lexer.next_template_substitution_tail.Goals as goal

@@ -1,6 +1,6 @@
 use Rattle.std.proofs.Common.{◌≡◌, refl, ap, subst, not}
 use Rattle.std.specs.Str.{IsUtf8}
-use Rattle.js_lexer.specs.declared.findings_builder.FindingsBuilder.{FindingsBuilder}
+use Rattle.js_reader.specs.declared.findings_builder.FindingsBuilder.{FindingsBuilder}
 use Rattle.js_lexer.proofs.LexerSteps.{state_of, reader_is, no_token_yet, between_is, sound_after, sound_back}
 use Rattle.js_lexer.proofs.LexerSteps.{reads_token}
 use Rattle.js_lexer.proofs.Undone.{found_again, may_go_back, read_since, stands_again, undone}

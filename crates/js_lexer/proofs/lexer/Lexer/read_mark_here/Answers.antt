@@ -1,7 +1,7 @@
 use Rattle.std.proofs.Common.{◌≡◌, None, sym, subst}
 use Rattle.js_grammar.specs.Gap.{whole_gap_piece}
 use Rattle.js_source.specs.Source.{At, rest}
-use Rattle.js_lexer.specs.Plain.{SpellsFor}
+use Rattle.js_reader.specs.Plain.{SpellsFor}
 use Rattle.js_lexer.proofs.lexer.Lexer.read_mark_here.Goals as goal
 
 pub take_spelled-requires-clause-spells : goal.take_spelled-requires-clause-spells

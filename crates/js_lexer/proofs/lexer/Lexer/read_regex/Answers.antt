@@ -1,7 +1,7 @@
 use Rattle.std.proofs.Common.{◌≡◌, ap, refl}
 use Rattle.js_text.specs.Ascii.{slash}
 use Rattle.js_trivia.specs.Attachment.{Attachment}
-use Rattle.js_lexer.specs.declared.findings_builder.FindingsBuilder.{FindingsBuilder}
+use Rattle.js_reader.specs.declared.findings_builder.FindingsBuilder.{FindingsBuilder}
 use Rattle.js_lexer.proofs.LexerSteps.{sound_back}
 use Rattle.js_lexer.proofs.Undone.{found_again, may_go_back, reported_since, stands_again, undone}
 use Rattle.js_lexer.proofs.TakenAgain.{behind_one, expression_is_plain, plainly, regex_taken, sound_taken}

@@ -1,5 +1,0 @@
-use Rattle.js_lexer.proofs.FastSteps.{tells_none}
-use Rattle.js_lexer.proofs.gap.begins_no_piece.Goals as goal
-
-pub returns : goal.returns
-returns c = tells_none c.args.b c.if-b-le32.false c.if-b-ge128.false c.if-b-eq47.false c.if-b-eq60.false

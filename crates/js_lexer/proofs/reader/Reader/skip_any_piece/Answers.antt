@@ -1,5 +1,0 @@
-use Rattle.js_lexer.proofs.TriviaSteps.{grows_none}
-use Rattle.js_lexer.proofs.reader.Reader.skip_any_piece.Goals as goal
-
-pub returns-in-None-clause-grown : goal.returns-in-None-clause-grown
-returns-in-None-clause-grown c = grows_none c.args.found.now

@@ -1,5 +1,0 @@
-use Rattle.js_lexer.proofs.TriviaSteps.{grows_none}
-use Rattle.js_lexer.proofs.reader.Reader.skip_character.Goals as goal
-
-pub returns-clause-grown : goal.returns-clause-grown
-returns-clause-grown c = grows_none c.args.found.now

@@ -1,6 +1,0 @@
-use Rattle.std.proofs.Common.{refl}
-use Rattle.js_lexer.proofs.PartSteps.{tells_blanks}
-use Rattle.js_lexer.proofs.tables.blanks.Goals as goal
-
-pub returns : goal.returns
-returns c = tells_blanks _ refl refl

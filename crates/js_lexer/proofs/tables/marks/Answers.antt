@@ -1,6 +1,0 @@
-use Rattle.std.proofs.Common.{refl}
-use Rattle.js_lexer.proofs.PartSteps.{tells_marks}
-use Rattle.js_lexer.proofs.tables.marks.Goals as goal
-
-pub returns : goal.returns
-returns c = tells_marks _ refl refl

@@ -1,0 +1,20 @@
+use Rattle.std.proofs.Common.{sym, ◌∙◌}
+use Rattle.std.proofs.lemmas.Option.{IfSome_then}
+use Rattle.js_kind.proofs.Digits.{digits_of_ten}
+use Rattle.js_reader.proofs.PlainSteps.{string_plainly, string_begins, number_plainly, number_begins}
+use Rattle.js_reader.proofs.plain.read_value.Goals as goal
+
+pub returns-then-is_quote-clause-spells : goal.returns-then-is_quote-clause-spells
+returns-then-is_quote-clause-spells c = λ ended.
+    IfSome_then c.read_plain_string.result c.read_plain_string.ensures.some
+    (λ kind spells. string_plainly ended c.args.source.now c.read_plain_string.new.source kind
+    (string_begins c.args.b _ c.requires.ascii c.requires.next (sym c.if-is_quote.ensures)) spells)
+
+pub read_plain_number-requires-clause-digit : goal.read_plain_number-requires-clause-digit
+read_plain_number-requires-clause-digit c = sym (digits_of_ten c.args.b) ∙ sym c.if-is_ascii_digit.ensures.value
+
+pub returns-then-is_ascii_digit-clause-spells : goal.returns-then-is_ascii_digit-clause-spells
+returns-then-is_ascii_digit-clause-spells c = λ ended.
+    IfSome_then c.read_plain_number.result c.read_plain_number.ensures.some
+    (λ kind spells. number_plainly ended c.args.source.now c.read_plain_number.new.source kind
+    (number_begins c.args.b _ c.requires.next (sym c.if-is_ascii_digit.ensures.value)) spells)

@@ -1,0 +1,64 @@
+use Rattle.std.proofs.Common.{◌∙◌, ◌+◌, ap, arith, refl}
+use Rattle.js_text.specs.Ascii.{grave_accent}
+use Rattle.std.proofs.lemmas.Result.{err_from_is_err_and}
+use Rattle.js_reader.proofs.SpeltSteps.{behind_mark, broke_off, lexeme_as, takes_backquote, template_here, value_kept}
+use Rattle.js_reader.proofs.SpeltSteps.{was_spelt}
+use Rattle.js_reader.proofs.reader.Reader.read_template.Goals as goal
+
+pub read_template_part-requires-clause-start : goal.read_template_part-requires-clause-start
+read_template_part-requires-clause-start c =
+    let old = c.args.self.now in
+    let mid = c.next_char.new.self in
+    let reads = takes_backquote old.source mid c.requires.begun c.next_char.ensures.past in
+    ap (λ t. t.start + 1) c.set_start.ensures ∙ ap (λ n. n + 1) c.offset-start.ensures.place
+    ∙ behind_mark grave_accent old.source mid (omega arith) c.requires.placed c.next_char.ensures.placed reads
+
+pub returns-clause-ok : goal.returns-clause-ok
+returns-clause-ok c =
+    let old = c.args.self.now in
+    let mid = c.next_char.new.self in
+    let reads = takes_backquote old.source mid c.requires.begun c.next_char.ensures.past in
+    rw c.escaped.ensures
+    (lexeme_as old (record old { source = c.read_template_part.new.source })
+    (template_here old mid reads)
+    (ap (λ t. t.start) c.set_start.ensures ∙ c.offset-start.ensures.place) reads.text
+    (c.in_ok-spelt.ensures.ok grave_accent) refl)
+
+pub returns-clause-kept : goal.returns-clause-kept
+returns-clause-kept c =
+    let old = c.args.self.now in
+    let mid = c.next_char.new.self in
+    let reads = takes_backquote old.source mid c.requires.begun c.next_char.ensures.past in
+    (value_kept old.source c.args.decoded.now c.keep_part.new.decoded c.offset-start.result
+    (template_here old mid reads).valued c.offset-start.ensures.place (c.in_ok-spelt.ensures.ok grave_accent)
+    c.in_ok-keep_part.ensures.ok).kept
+
+pub returns-clause-value : goal.returns-clause-value
+returns-clause-value c =
+    let old = c.args.self.now in
+    let mid = c.next_char.new.self in
+    let reads = takes_backquote old.source mid c.requires.begun c.next_char.ensures.past in
+    rw c.escaped.ensures
+    (value_kept old.source c.args.decoded.now c.keep_part.new.decoded c.offset-start.result
+    (template_here old mid reads).valued c.offset-start.ensures.place (c.in_ok-spelt.ensures.ok grave_accent)
+    c.in_ok-keep_part.ensures.ok).has_value
+
+pub returns-in_err-spelt-clause-err : goal.returns-in_err-spelt-clause-err
+returns-in_err-spelt-clause-err c =
+    let old = c.args.self.now in
+    let mid = c.next_char.new.self in
+    let reads = takes_backquote old.source mid c.requires.begun c.next_char.ensures.past in
+    let p = err_from_is_err_and c.from_residual.result c.from_residual.ensures.1 in
+    rw p.1
+    (broke_off old (record old { source = c.read_template_part.new.source })
+    (c.in_err-spelt.ensures.err grave_accent) reads.text refl)
+
+pub returns-in_err-keep_part-clause-err : goal.returns-in_err-keep_part-clause-err
+returns-in_err-keep_part-clause-err c =
+    let old = c.args.self.now in
+    let mid = c.next_char.new.self in
+    let reads = takes_backquote old.source mid c.requires.begun c.next_char.ensures.past in
+    let p = err_from_is_err_and c.from_residual-in_err-keep_part.result c.from_residual-in_err-keep_part.ensures.1 in
+    rw p.1
+    (was_spelt old (record old { source = c.read_template_part.new.source })
+    (c.in_ok-spelt.ensures.ok grave_accent) reads.text refl)

@@ -1,0 +1,70 @@
+-- What readings have found, as the lexer keeps it.
+use Rattle.std.specs.Prelude.{◌≡◌, ◌≤◌, List, ◌++◌, length, take}
+use Rattle.js_text.specs.declared.diagnostic.Diagnostic.{Diagnostic}
+use Rattle.js_grammar.specs.GapItems.{Item}
+use Rattle.js_grammar.specs.Outcome.{Findings, FindingLengths}
+use Rattle.js_source.specs.Source.{At}
+use Rattle.js_trivia.specs.Trivia.{AreRangesUpTo, calls, cut_to, held, lengths_of}
+use Rattle.js_reader.specs.declared.findings_builder.FindingsBuilder.{FindingsBuilder}
+use Rattle.js_reader.specs.declared.findings_builder.FindingsLengths.{FindingsLengths}
+use Rattle.js_reader.specs.declared.reading_start.ReadingStart.{ReadingStart}
+
+-- what was found
+abbrev pub findings_in : FindingsBuilder → Findings
+findings_in found = record {
+  diagnostics = found.errors;
+  deferred = found.deferred;
+  comments = found.trivia.attachment.attached;
+  irregular = found.trivia.irregular_whitespaces;
+}
+
+-- how much that was
+abbrev pub lengths_in : FindingsLengths → FindingLengths
+lengths_in lengths = record {
+  diagnostics = lengths.errors;
+  deferred = lengths.deferred;
+  comments = lengths.trivia.comments;
+  irregular = lengths.trivia.irregular;
+}
+
+-- how much a builder has found
+abbrev pub found_lengths : FindingsBuilder → FindingsLengths
+found_lengths found = record {
+  errors = length found.errors;
+  deferred = length found.deferred;
+  trivia = lengths_of found.trivia;
+}
+
+-- what it has found up to these lengths
+abbrev pub found_up_to : FindingsLengths → FindingsBuilder → FindingsBuilder
+found_up_to to found = record {
+  errors = take to.errors found.errors;
+  deferred = take to.deferred found.deferred;
+  trivia = cut_to to.trivia found.trivia;
+}
+
+-- The builder of trivia has at least as much, and its ranges are of comments that stay.
+pub record HasFound (to : FindingsLengths) (found : FindingsBuilder) : Type 0 where
+  pub comments : to.trivia.comments ≤ length (held found.trivia.attachment)
+  pub irregular : to.trivia.irregular ≤ length found.trivia.irregular_whitespaces
+  pub ranges : AreRangesUpTo to.trivia.comments to.trivia.pure_range to.trivia.no_side_effects
+
+-- where a reading begins, and how much was found before it
+abbrev pub start_of : At → FindingsBuilder → ReadingStart
+start_of source found = record { position = source.place; found = found_lengths found }
+
+-- these diagnostics were reported, and nothing else was found
+abbrev pub reported : List Diagnostic → FindingsBuilder → FindingsBuilder
+reported more found = record found { errors = found.errors ++ more }
+
+-- Some diagnostics may have been reported.
+pub record Extends (old new : List Diagnostic) : Type 0 where
+  pub more : List Diagnostic
+  pub is_more : new ≡ old ++ more
+
+-- Some diagnostics may have been reported, and the builder of trivia may have been told of some items.
+pub record Grows (old new : FindingsBuilder) : Type 0 where
+  pub errors : Extends old.errors new.errors
+  pub deferred : Extends old.deferred new.deferred
+  pub items : List Item
+  pub trivia : new.trivia ≡ calls items old.trivia

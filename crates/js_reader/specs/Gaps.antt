@@ -1,0 +1,70 @@
+-- What the steps of a gap do to the source, and to what is found in it.
+use Rattle.std.specs.Prelude.{◌≡◌, ℕ, ◌<◌, ◌≤◌, Bool, true, false, not, List, [], ◌++◌, codes, Option, IfNone}
+use Rattle.std.specs.Prelude.{IfSome}
+use Rattle.js_text.specs.Ascii.{slash, less_than_sign, hyphen_minus}
+use Rattle.js_text.specs.Characters.{begins, is_white_space, is_line_terminator}
+use Rattle.js_text.specs.declared.comment.CommentKind.{CommentKind}
+use Rattle.js_text.specs.declared.comment.CommentKind.TheVariants.{Line, SingleLineBlock, MultiLineBlock, HtmlOpen}
+use Rattle.js_text.specs.declared.comment.CommentKind.TheVariants.{HtmlClose}
+use Rattle.js_text.specs.declared.source_type.SourceType.{SourceType}
+use Rattle.js_grammar.specs.Gap.{is_prefix, Piece, PieceKind, single_line_comment, multi_line_comment}
+use Rattle.js_grammar.specs.Gap.{html_open_comment, html_close_comment}
+use Rattle.js_grammar.specs.Outcome.{gap_deferred, gap_diagnostics}
+use Rattle.js_grammar.specs.PieceItems.{items_from}
+use Rattle.js_trivia.specs.Trivia.{calls}
+use Rattle.js_reader.specs.declared.findings_builder.FindingsBuilder.{FindingsBuilder}
+use Rattle.js_source.specs.Source.{At, rest, HasFirstByte}
+
+-- the byte is an ASCII character that begins no piece of a gap
+pub record BeginsNoPiece (b : ℕ) : Type 0 where
+  pub ascii : b < 128
+  pub no_white_space : is_white_space b ≡ false
+  pub no_line_terminator : is_line_terminator b ≡ false
+  pub no_slash : b ≡ slash → ⊥
+  pub no_angle : b ≡ less_than_sign → ⊥
+  pub no_minus : b ≡ hyphen_minus → ⊥
+
+-- the next byte, if there is one
+pub record IsNext (next : Option ℕ) (here : List ℕ) : Type 0 where
+  pub none : IfNone next (here ≡ [])
+  pub some : IfSome next (λ b. HasFirstByte b here)
+
+-- The mark was next, and it was taken; or it was not, and nothing was read.
+abbrev pub TakesMark : List ℕ → At → Bool → At → Type 0
+TakesMark mark old true new = (new.text ≡ old.text) × (rest old ≡ mark ++ rest new) × (old.place ≤ new.place)
+TakesMark mark old false new = (is_prefix mark (rest old) ≡ false) × (new ≡ old)
+
+-- the mark that a comment of the kind begins with
+abbrev pub opening_mark : CommentKind → List ℕ
+opening_mark Line = codes "//"
+opening_mark SingleLineBlock = codes "/*"
+opening_mark MultiLineBlock = codes "/*"
+opening_mark HtmlOpen = codes "<!--"
+opening_mark HtmlClose = codes "-->"
+
+-- what a comment of the kind is as a piece of any gap
+abbrev pub piece_kind : CommentKind → PieceKind
+piece_kind Line = single_line_comment
+piece_kind SingleLineBlock = multi_line_comment
+piece_kind MultiLineBlock = multi_line_comment
+piece_kind HtmlOpen = html_open_comment
+piece_kind HtmlClose = html_close_comment
+
+-- the comment is an HTML-like one
+abbrev pub is_html : CommentKind → Bool
+is_html Line = false
+is_html SingleLineBlock = false
+is_html MultiLineBlock = false
+is_html HtmlOpen = true
+is_html HtmlClose = true
+
+-- a line terminator is next, or nothing is left
+abbrev pub IsAtLineEnd : List ℕ → Type 0
+IsAtLineEnd here = begins (λ c. not (is_line_terminator c)) here ≡ false
+
+-- what pieces at the place, of which the first stands right behind a line comment or not, add to what was found
+pub record AddsPieces (behind : Bool) (t : SourceType) (place : ℕ) (pieces : List Piece) (old new : FindingsBuilder)
+    : Type 0 where
+  pub errors : new.errors ≡ old.errors ++ gap_diagnostics place pieces
+  pub deferred : new.deferred ≡ old.deferred ++ gap_deferred t place pieces
+  pub trivia : new.trivia ≡ calls (items_from place behind pieces) old.trivia

@@ -1,0 +1,10 @@
+pub mod Comments
+pub mod Decoded
+pub mod Families
+pub mod Found
+pub mod Gaps
+pub mod Goals
+pub mod Plain
+pub mod Reader
+pub mod Spellings
+pub mod Tables

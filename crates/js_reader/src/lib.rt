@@ -1,0 +1,34 @@
+//! What a lexer reads at a place: gaps, and the token of each goal (ECMA-262 12, B.1.1, JSX).
+#![tactic(auto)]
+
+mod angle;
+mod comment;
+mod decoded;
+mod findings;
+mod findings_builder;
+mod gap;
+mod jsx;
+mod lexeme;
+mod mark;
+mod pieces;
+mod plain;
+mod punctuator;
+mod re_lex;
+mod reader;
+mod reading;
+mod reading_start;
+mod recover;
+mod recovery;
+mod regex;
+mod restart;
+mod skipped;
+mod tables;
+
+pub use decoded::DecodedValues;
+pub use findings::Findings;
+pub use findings_builder::{FindingsBuilder, FindingsLengths};
+pub use plain::{GapEnd, pass_plain_gap, read_name_plainly, read_plain_mark};
+pub use reader::Reader;
+pub use reading_start::ReadingStart;
+pub use regex::RegexToken;
+pub use tables::ByteTables;
