@@ -7,6 +7,8 @@ ghost use Rattle.js_kind.specs.Kinds.{is_identifier, is_literal, is_assignment_o
 ghost use Rattle.js_kind.specs.Kinds.{is_logical_operator};
 ghost use Rattle.js_kind.specs.Digits.{is_integer_kind, is_digit_of, radix_of};
 
+use js_text::either;
+
 /// What a token is.
 #[derive(Clone, Copy, PartialEq, Eq, Debug)]
 pub enum Kind {
@@ -354,11 +356,4 @@ impl Kind {
             _ => b.is_ascii_digit(),
         }
     }
-}
-
-/// Whether one of two things holds.
-pub(crate) const fn either(first: bool, second: bool) -> bool
-    ensures { result ≡ (first || second) }
-{
-    first || second
 }

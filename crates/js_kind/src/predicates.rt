@@ -10,7 +10,8 @@ ghost use Rattle.js_kind.specs.Predicates.{is_identifier_or_keyword, is_unary_op
 ghost use Rattle.js_kind.specs.Predicates.{is_template_start_of_tagged_template, is_modifier_kind};
 ghost use Rattle.js_kind.specs.Predicates.{is_binding_identifier_or_private_identifier_or_pattern};
 
-use crate::kind::{Kind, either};
+use crate::kind::Kind;
+use js_text::either;
 
 impl Kind {
     /// Whether it is this kind.

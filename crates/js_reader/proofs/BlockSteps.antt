@@ -19,12 +19,12 @@ use Rattle.js_grammar.proofs.PieceLemmas.{piece-block_comment, piece-slash}
 use Rattle.js_source.specs.Source.{At, rest, IsPlaced, BeginsWith}
 use Rattle.js_source.proofs.Places.{begins_with}
 use Rattle.js_trivia.specs.Trivia.{add_comment, found_in}
-use Rattle.js_reader.specs.Comments.{ReadsCut}
-use Rattle.js_reader.specs.Gaps.{TakesMark}
+use Rattle.js_spell.specs.Comments.{ReadsCut}
+use Rattle.js_spell.specs.Marks.{TakesMark}
 use Rattle.js_reader.specs.Reader.{SkipsSome}
 use Rattle.js_reader.specs.declared.findings_builder.FindingsBuilder.{FindingsBuilder}
 use Rattle.js_reader.specs.declared.reader.Reader.{Reader}
-use Rattle.js_reader.specs.declared.skipped.Skipped.TheVariants.{Piece as Skips}
+use Rattle.js_spell.specs.declared.skipped.Skipped.TheVariants.{Piece as Skips}
 use Rattle.js_reader.proofs.CommentTexts.{IsMarked, found_is}
 use Rattle.js_reader.proofs.GapSteps.{IsBehindPiece, on_to, some_skipped}
 use Rattle.js_reader.proofs.TriviaSteps.{adds_items}

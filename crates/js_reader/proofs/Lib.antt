@@ -1,9 +1,7 @@
 pub mod AttributeSteps
 pub mod BlockSteps
-pub mod CommentSteps
 pub mod CommentTexts
 pub mod DecodedSteps
-pub mod FamilyFacts
 pub mod FastSteps
 pub mod GapSteps
 pub mod GoalSteps
@@ -12,11 +10,9 @@ pub mod NumberSteps
 pub mod PartSteps
 pub mod PlainSteps
 pub mod ReadingSteps
-pub mod RecoverSteps
 pub mod ReLexSteps
 pub mod SpellingSteps
 pub mod SpeltSteps
-pub mod Steps
 pub mod TableFacts
 pub mod TriviaSteps
 pub mod WholeSteps

@@ -20,7 +20,8 @@ use Rattle.js_grammar.proofs.Tests.{prefix_of}
 use Rattle.js_source.specs.Source.{At, rest, IsPlaced, BeginsWith}
 use Rattle.js_source.proofs.Places.{begins_with}
 use Rattle.js_trivia.specs.Trivia.{calls, add_comment, found_in}
-use Rattle.js_reader.specs.Gaps.{TakesMark, opening_mark, piece_kind, is_html, IsAtLineEnd}
+use Rattle.js_reader.specs.Gaps.{opening_mark, piece_kind, is_html, IsAtLineEnd}
+use Rattle.js_spell.specs.Marks.{TakesMark}
 use Rattle.js_reader.specs.Reader.{IsBehindLine, IsOnlyPiece, SkipsSome, SkipsEndOfLine}
 use Rattle.js_reader.specs.declared.findings_builder.FindingsBuilder.{FindingsBuilder}
 use Rattle.js_reader.specs.declared.reader.Reader.{Reader}

@@ -38,7 +38,7 @@ use Rattle.js_reader.specs.Plain.{EndsGap, EndsGapInAscii, MeetsByte, PassesPiec
 use Rattle.js_reader.specs.Plain.{moved, after_ends, ends_told, PassesPlainGap, SpellsFor, SpellsPlainly}
 use Rattle.js_reader.specs.Plain.{ReadsPlainToken}
 use Rattle.js_reader.specs.Reader.{ReadsInPart, ReadsTokenHere, ReadsWithGap, lexeme_token, plain_lexeme}
-use Rattle.js_reader.specs.Spellings.{ReadsPunctuator}
+use Rattle.js_spell.specs.Families.{ReadsPunctuator}
 use Rattle.js_reader.specs.Tables.{TellsBlanks, TellsMarks, TellsStarts, is_name_start}
 use Rattle.js_reader.specs.declared.findings_builder.FindingsBuilder.{FindingsBuilder}
 use Rattle.js_reader.specs.declared.reader.Reader.{Reader}

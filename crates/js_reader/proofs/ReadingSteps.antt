@@ -45,21 +45,22 @@ use Rattle.js_grammar.proofs.Tests.{prefix_of, prefix_is, and_true}
 use Rattle.js_grammar.proofs.GapLemmas.{reported, unreported, piece_takes}
 use Rattle.js_grammar.proofs.Reported.{piece_texts, whole_gap_piece_text, place_behind-append}
 use Rattle.js_trivia.specs.Pieces.{HaveBytes, end_of}
-use Rattle.js_reader.specs.Gaps.{TakesMark}
+use Rattle.js_spell.specs.Marks.{TakesMark}
 use Rattle.js_reader.specs.Reader.{lexeme_of, StaysWithin, SkipsWholeGap, ReadsLexeme, ReadsBehind, IsHashbangRead}
 use Rattle.js_reader.specs.Reader.{ReadsTokenHere, lexeme_token, ReadsWithGap, ReadsWithoutGap, AddsGap, NothingHere}
 use Rattle.js_reader.specs.Reader.{MovesOn, IsUnmoved, ReadsInPart}
 use Rattle.js_reader.specs.Reader.{plain_lexeme}
-use Rattle.js_reader.specs.Spellings.{Spells, Recovers}
+use Rattle.js_reader.specs.Spellings.{SpellsLongest}
+use Rattle.js_spell.specs.Recovery.{Recovers}
 use Rattle.js_reader.specs.declared.findings_builder.FindingsBuilder.{FindingsBuilder}
 use Rattle.js_reader.specs.declared.lexeme.Lexeme.{Lexeme}
 use Rattle.js_reader.specs.declared.reader.Reader.{Reader}
-use Rattle.js_reader.specs.declared.recovery.Recovered.{Recovered}
+use Rattle.js_spell.specs.declared.recovery.Recovered.{Recovered}
 use Rattle.js_reader.proofs.WholeSteps.{pieces_lead, line_shorter}
 
 -- a spelling without a flag and a value was read
 pub lexeme_spelled : (old new : Reader) (k : Kind) (l : Lexeme) → StaysWithin old new → IsUnflagged k
-    → Spells old.source_type old.line_has_ended old.source new.source k
+    → SpellsLongest old.source_type old.line_has_ended old.source new.source k
     → l ≡ plain_lexeme k new.line_has_ended → (errors : List Diagnostic) → ReadsLexeme old errors l new errors
 lexeme_spelled old new k l within plain s is errors = record {
   text = s.text;

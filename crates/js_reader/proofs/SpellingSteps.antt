@@ -6,7 +6,8 @@ use Rattle.js_kind.specs.declared.kind.Kind.TheVariants.{Eof}
 use Rattle.js_source.specs.Source.{At, rest}
 use Rattle.js_grammar.specs.Spelling.Spelling.{end_of_source}
 use Rattle.js_grammar.proofs.SpellingClasses.{longest_of_punctuator}
-use Rattle.js_reader.specs.Spellings.{Spells, ReadsPunctuator}
+use Rattle.js_reader.specs.Spellings.{SpellsLongest}
+use Rattle.js_spell.specs.Families.{ReadsPunctuator}
 
 empty_longest : (us vs : List ℕ) → [] ≡ us ++ vs → length us ≤ 0
 empty_longest [] vs e = omega arith
@@ -14,7 +15,7 @@ empty_longest (u ∷ us) vs e = absurd (cc)
 
 -- the end of the text
 pub end_spelled : (t : SourceType) (line_has_ended : Bool) (old : At) → rest old ≡ []
-    → Spells t line_has_ended old old Eof
+    → SpellsLongest t line_has_ended old old Eof
 end_spelled t line_has_ended old e = record {
   text = refl;
   spelled = [];
@@ -29,7 +30,7 @@ end_spelled t line_has_ended old e = record {
 -- the longest punctuator is spelled
 pub punctuator_spelled : (t : SourceType) (line_has_ended : Bool) (old new : At) (k : Kind)
     → ReadsPunctuator t line_has_ended old new (Some k)
-    → Spells t line_has_ended old new k
+    → SpellsLongest t line_has_ended old new k
 punctuator_spelled t line_has_ended old new k read =
     record {
       text = read.0;

@@ -40,7 +40,7 @@ use Rattle.js_reader.specs.Reader.{ReadsInPart, ReadsLexeme}
 use Rattle.js_reader.specs.declared.reader.Reader.{Reader}
 use Rattle.js_reader.proofs.DecodedSteps.{keeps_same, keeps_string, keeps_template, has_string, has_template}
 use Rattle.js_reader.proofs.DecodedSteps.{needs_no_value}
-use Rattle.js_reader.proofs.RecoverSteps.{leads_to}
+use Rattle.js_spell.proofs.RecoverSteps.{leads_to}
 
 -- What is read where the reader stands, with its value: that of a part of a template or not.
 pub record IsReadHere (template : Bool) (old : Reader) (reading : Reading) : Type 0 where

@@ -4,7 +4,7 @@ use Rattle.std.specs.Char.{encode_utf8}
 use Rattle.std.specs.Option.{SomeIff}
 use Rattle.js_source.specs.Search.{matches_char, three_bytes}
 use Rattle.js_source.proofs.Skips.{line_terminator_matches}
-use Rattle.js_reader.specs.Comments.{stopping_bytes, StopsAtLineEnds, StopsInBlocks}
+use Rattle.js_spell.specs.Comments.{stopping_bytes, StopsAtLineEnds, StopsInBlocks}
 
 pub value_of : {T : Type 0} (P : Type 0) (r : Option T) (v x : T) → SomeIff r P v → r ≡ Some x → x ≡ v
 value_of P None v x h e = absurd (cc)

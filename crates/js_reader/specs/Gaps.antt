@@ -1,5 +1,5 @@
 -- What the steps of a gap do to the source, and to what is found in it.
-use Rattle.std.specs.Prelude.{◌≡◌, ℕ, ◌<◌, ◌≤◌, Bool, true, false, not, List, [], ◌++◌, codes, Option, IfNone}
+use Rattle.std.specs.Prelude.{◌≡◌, ℕ, ◌<◌, Bool, true, false, not, List, [], ◌++◌, codes, Option, IfNone}
 use Rattle.std.specs.Prelude.{IfSome}
 use Rattle.js_text.specs.Ascii.{slash, less_than_sign, hyphen_minus}
 use Rattle.js_text.specs.Characters.{begins, is_white_space, is_line_terminator}
@@ -7,13 +7,13 @@ use Rattle.js_text.specs.declared.comment.CommentKind.{CommentKind}
 use Rattle.js_text.specs.declared.comment.CommentKind.TheVariants.{Line, SingleLineBlock, MultiLineBlock, HtmlOpen}
 use Rattle.js_text.specs.declared.comment.CommentKind.TheVariants.{HtmlClose}
 use Rattle.js_text.specs.declared.source_type.SourceType.{SourceType}
-use Rattle.js_grammar.specs.Gap.{is_prefix, Piece, PieceKind, single_line_comment, multi_line_comment}
+use Rattle.js_grammar.specs.Gap.{Piece, PieceKind, single_line_comment, multi_line_comment}
 use Rattle.js_grammar.specs.Gap.{html_open_comment, html_close_comment}
 use Rattle.js_grammar.specs.Outcome.{gap_deferred, gap_diagnostics}
 use Rattle.js_grammar.specs.PieceItems.{items_from}
 use Rattle.js_trivia.specs.Trivia.{calls}
 use Rattle.js_reader.specs.declared.findings_builder.FindingsBuilder.{FindingsBuilder}
-use Rattle.js_source.specs.Source.{At, rest, HasFirstByte}
+use Rattle.js_source.specs.Source.{HasFirstByte}
 
 -- the byte is an ASCII character that begins no piece of a gap
 pub record BeginsNoPiece (b : ℕ) : Type 0 where
@@ -28,11 +28,6 @@ pub record BeginsNoPiece (b : ℕ) : Type 0 where
 pub record IsNext (next : Option ℕ) (here : List ℕ) : Type 0 where
   pub none : IfNone next (here ≡ [])
   pub some : IfSome next (λ b. HasFirstByte b here)
-
--- The mark was next, and it was taken; or it was not, and nothing was read.
-abbrev pub TakesMark : List ℕ → At → Bool → At → Type 0
-TakesMark mark old true new = (new.text ≡ old.text) × (rest old ≡ mark ++ rest new) × (old.place ≤ new.place)
-TakesMark mark old false new = (is_prefix mark (rest old) ≡ false) × (new ≡ old)
 
 -- the mark that a comment of the kind begins with
 abbrev pub opening_mark : CommentKind → List ℕ

@@ -1,6 +1,4 @@
-pub mod Comments
 pub mod Decoded
-pub mod Families
 pub mod Found
 pub mod Gaps
 pub mod Goals

@@ -2,26 +2,20 @@
 #![tactic(auto)]
 
 mod angle;
-mod comment;
 mod decoded;
 mod findings;
 mod findings_builder;
 mod gap;
 mod jsx;
 mod lexeme;
-mod mark;
 mod pieces;
 mod plain;
-mod punctuator;
 mod re_lex;
 mod reader;
 mod reading;
 mod reading_start;
-mod recover;
-mod recovery;
 mod regex;
 mod restart;
-mod skipped;
 mod tables;
 
 pub use decoded::DecodedValues;

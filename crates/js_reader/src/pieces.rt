@@ -14,12 +14,12 @@ ghost use Rattle.js_reader.specs.Found.{Grows};
 ghost use Rattle.js_reader.specs.Gaps.{opening_mark, is_html, IsAtLineEnd};
 ghost use Rattle.js_reader.specs.Reader.{SkipsPiece, SkipsSome, SkipsMarkedLine, SkipsEndOfLine, MovesOn, IsOnlyPiece};
 
-use crate::comment::{either, skip_block, skip_line};
 use crate::findings_builder::FindingsBuilder;
-use crate::mark::advance_if_mark;
 use crate::reader::Reader;
-use crate::skipped::Skipped;
-use js_text::{CommentKind, Diagnostic, DiagnosticList, SourceType, Span, is_irregular_whitespace};
+use js_spell::{Skipped, advance_if_mark, skip_block, skip_line};
+use js_text::{
+    CommentKind, Diagnostic, DiagnosticList, SourceType, Span, either, is_irregular_whitespace,
+};
 use js_trivia::TriviaBuilder;
 use std::alloc::AllocError;
 

@@ -15,14 +15,13 @@ ghost use Rattle.js_reader.specs.declared.reader.Reader.{Reader};
 ghost use Rattle.js_reader.specs.Tables.{TellsBlanks, TellsMarks};
 
 use crate::gap::skip_blanks;
-use crate::punctuator::read_punctuator;
 use crate::reading::begins_ascii_name;
 use crate::tables::ByteTables;
 use js_kind::Kind;
 use js_source::Source;
 use js_spell::{
     read_plain_name_by, read_plain_number, read_plain_part, read_plain_private_name,
-    read_plain_string,
+    read_plain_string, read_punctuator,
 };
 
 /// Whether the byte `b`, which is next, is a `<` or a `-` that begins no comment.

@@ -21,19 +21,16 @@ ghost use Rattle.js_reader.specs.Reader.{ReadsTokenHere, ReadsLexeme, ReadsBehin
 ghost use Rattle.js_reader.specs.Reader.{NothingHere, MovesOn, ReadsInPart};
 ghost use Rattle.js_reader.specs.Tables.{TellsStarts, is_name_start};
 
-use crate::comment::skip_line;
 use crate::decoded::DecodedValues;
 use crate::findings_builder::FindingsBuilder;
 use crate::lexeme::Lexeme;
-use crate::mark::advance_if_mark;
 use crate::plain::read_plain_spelling;
-use crate::punctuator::read_punctuator;
 use crate::reader::Reader;
-use crate::recover::recover;
 use js_grammar::Goal;
 use js_kind::{Kind, Token};
 use js_spell::{
-    Spelt, SpeltValue, read_name, read_number, read_private_name, read_string, read_template_part,
+    Spelt, SpeltValue, advance_if_mark, read_name, read_number, read_private_name, read_punctuator,
+    read_string, read_template_part, recover, skip_line,
 };
 use js_text::{DiagnosticList, Span, is_identifier_start};
 use std::alloc::AllocError;
@@ -114,7 +111,7 @@ impl Reader<'_> {
         ensures plain { IfOk result (λ lexeme. lexeme.escaped ≡ false) }
         ensures err { OnErr result (ReadsInPart self.old errors.old self.new errors.new) }
     {
-        let recovered = recover(&mut self.source, &self.tables, self.line_has_ended);
+        let recovered = recover(&mut self.source, &self.tables.line, self.line_has_ended);
         errors.push(recovered.diagnostic)?;
         Ok(Lexeme {
             kind: recovered.kind,

@@ -2,7 +2,7 @@
 
 ghost use Rattle.std.specs.Prelude.{◌≡◌, false};
 ghost use Rattle.js_spell.specs.Name.{TellsParts};
-ghost use Rattle.js_reader.specs.Comments.{StopsAtLineEnds, StopsInBlocks, stopping_bytes};
+ghost use Rattle.js_spell.specs.Comments.{StopsAtLineEnds, StopsInBlocks, stopping_bytes};
 ghost use Rattle.js_reader.specs.Tables.{TellsStarts, TellsBlanks, TellsMarks};
 
 use js_source::SafeByteMatchTable;

@@ -1,8 +1,10 @@
 pub mod BreakSteps
+pub mod CommentSteps
 pub mod DecodeSteps
 pub mod EndSteps
 pub mod EscapeSteps
 pub mod ExpressionSteps
+pub mod FamilyFacts
 pub mod FlagSteps
 pub mod IntegerRows
 pub mod IntegerSteps
@@ -10,10 +12,12 @@ pub mod ItemSteps
 pub mod JsxSteps
 pub mod LeadSteps
 pub mod LegacySteps
+pub mod MarkSteps
 pub mod NameReadings
 pub mod NameSteps
 pub mod NumericSteps
 pub mod PlainNumbers
 pub mod PlainSteps
 pub mod PrefixSteps
+pub mod RecoverSteps
 pub mod SpellSteps

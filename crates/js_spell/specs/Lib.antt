@@ -1,9 +1,13 @@
 pub mod Breaks
+pub mod Comments
 pub mod Escape
+pub mod Families
 pub mod Goals
 pub mod Integer
+pub mod Marks
 pub mod Name
 pub mod Numeric
+pub mod Recovery
 pub mod RegularExpression
 pub mod Spells
 pub mod Strings

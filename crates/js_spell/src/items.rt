@@ -23,7 +23,7 @@ use crate::plain::{Literal, pass_characters};
 use crate::spelt::SpeltValue;
 use js_kind::Token;
 use js_source::{Source, SourcePosition};
-use js_text::{Diagnostic, DiagnosticList, JSStrBuilder, Span};
+use js_text::{Diagnostic, DiagnosticList, JSStrBuilder, Span, either};
 use std::alloc::{AllocError, Global};
 
 /// Passes characters that stand for themselves, and adds their units.
@@ -175,13 +175,6 @@ fn read_marked_item(
         }
         Mark::End => Ok(None),
     }
-}
-
-/// Whether one of the two holds.
-pub(crate) fn either(first: bool, second: bool) -> bool
-    ensures { result ≡ (first || second) }
-{
-    first || second
 }
 
 /// Reads all items that are left, from a place on where no character stands for itself, and tells whether a bad escape

@@ -14,11 +14,12 @@ ghost use Rattle.js_spell.specs.RegularExpression.{AddsLetter, BreaksLine, Passe
 ghost use Rattle.js_spell.specs.RegularExpression.{SpellsFlags, flags_told};
 ghost use Rattle.js_spell.specs.RegularExpression.{TakesLetter};
 
-use crate::items::either;
 use crate::parts::name_parts;
 use bitflags::Flags;
 use js_source::Source;
-use js_text::{Diagnostic, DiagnosticList, RegExpFlags, RegexInfo, Span, is_line_terminator};
+use js_text::{
+    Diagnostic, DiagnosticList, RegExpFlags, RegexInfo, Span, either, is_line_terminator,
+};
 use std::alloc::AllocError;
 
 /// What the characters stand in.

@@ -1,6 +1,7 @@
 //! What every layer speaks of: spans, source types, diagnostics, comments, lists and characters.
 #![tactic(auto)]
 
+mod boolean;
 mod characters;
 mod comment;
 mod comment_newlines;
@@ -14,6 +15,7 @@ mod source_type;
 mod span;
 mod value;
 
+pub use boolean::either;
 pub use characters::{
     is_identifier_part, is_identifier_start, is_irregular_whitespace, is_line_terminator,
     is_white_space,

@@ -1,6 +1,6 @@
 use Rattle.std.proofs.Common.{◌∙◌, sym, subst}
 use Rattle.js_source.specs.Search.{three_bytes}
-use Rattle.js_reader.specs.Comments.{StopsAtLineEnds, StopsInBlocks}
+use Rattle.js_spell.specs.Comments.{StopsAtLineEnds, StopsInBlocks}
 use Rattle.js_reader.proofs.TableFacts.{value_of, stops_at_three, stops_in_blocks}
 use Rattle.js_reader.proofs.tables.ByteTables.new.Goals as goal
 

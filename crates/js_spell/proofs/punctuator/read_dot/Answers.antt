@@ -1,0 +1,28 @@
+use Rattle.std.proofs.Common.{◌∙◌, ap, sym, refl}
+use Rattle.js_grammar.proofs.PunctuatorLeaves.{dot, dot3, none_dot}
+use Rattle.js_source.specs.Source.{rest}
+use Rattle.js_spell.proofs.MarkSteps.{behind}
+use Rattle.js_spell.proofs.punctuator.read_dot.Goals as goal
+
+pub returns-then-advance_if_mark : goal.returns-then-advance_if_mark
+returns-then-advance_if_mark c = λ t line_has_ended.
+    let first = behind 46 c.args.source.now c.next_char.new.self c.requires c.next_char.ensures.past in
+    let dots = c.if-advance_if_mark.ensures in
+    (dots.0 ∙ first.0, rw (first.1, dots.1) (dot3 t line_has_ended _))
+
+pub returns-then-is_digit_next : goal.returns-then-is_digit_next
+returns-then-is_digit_next c = λ t line_has_ended.
+    let first = behind 46 c.args.source.now c.next_char.new.self c.requires c.next_char.ensures.past in
+    let dots = c.if-advance_if_mark.ensures in
+    let digit = sym c.is_digit_next.ensures ∙ c.if-is_digit_next.true in (
+      c.set_position.ensures
+          ∙ rw (dots.1, first.0, c.position-start.ensures.place) refl,
+      rw first.1 (none_dot t line_has_ended (rest c.next_char.new.self) (rw dots.1 at digit)),
+    )
+
+pub returns-else-is_digit_next : goal.returns-else-is_digit_next
+returns-else-is_digit_next c = λ t line_has_ended.
+    let first = behind 46 c.args.source.now c.next_char.new.self c.requires c.next_char.ensures.past in
+    let dots = c.if-advance_if_mark.ensures in
+    let digit = sym c.is_digit_next.ensures ∙ c.if-is_digit_next.false in
+    (ap (λ s. s.text) dots.1 ∙ first.0, rw (first.1, dots.1) (dot t line_has_ended _ dots.0 (rw dots.1 at digit)))

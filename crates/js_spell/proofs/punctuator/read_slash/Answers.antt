@@ -1,0 +1,32 @@
+use Rattle.std.proofs.Common.{◌∙◌, ap, refl}
+use Rattle.js_grammar.proofs.PunctuatorLeaves.{slash, slash_eq, none_slash}
+use Rattle.js_source.specs.Source.{rest}
+use Rattle.js_spell.proofs.MarkSteps.{behind}
+use Rattle.js_spell.proofs.punctuator.read_slash.Goals as goal
+
+pub returns-then-advance_if_ascii_eq : goal.returns-then-advance_if_ascii_eq
+returns-then-advance_if_ascii_eq c = λ t line_has_ended.
+    let first = behind 47 c.args.source.now c.next_char.new.self c.requires c.next_char.ensures.past in
+    let second = c.if-advance_if_ascii_eq.ensures.cases in
+    (second.text ∙ first.0, rw (first.1, second.here) (slash_eq t line_has_ended _))
+
+pub returns-then-advance_if_ascii_eq-2 : goal.returns-then-advance_if_ascii_eq-2
+returns-then-advance_if_ascii_eq-2 c = λ t line_has_ended.
+    let first = behind 47 c.args.source.now c.next_char.new.self c.requires c.next_char.ensures.past in
+    let second = c.if-advance_if_ascii_eq.ensures.cases in
+    let third = c.if-advance_if_ascii_eq-2.ensures.cases in (
+      c.set_position.ensures
+          ∙ rw (third.text, second.1, first.0, c.position-start.ensures.place) refl,
+      rw (first.1, ← second.1, third.here)
+          (none_slash t line_has_ended (rest c.advance_if_ascii_eq-else-advance_if_ascii_eq.new.self)),
+    )
+
+pub returns-else-advance_if_ascii_eq-2 : goal.returns-else-advance_if_ascii_eq-2
+returns-else-advance_if_ascii_eq-2 c = λ t line_has_ended.
+    let first = behind 47 c.args.source.now c.next_char.new.self c.requires c.next_char.ensures.past in
+    let second = c.if-advance_if_ascii_eq.ensures.cases in
+    let third = c.if-advance_if_ascii_eq-2.ensures.cases in (
+      ap (λ s. s.text) (third.1 ∙ second.1)
+          ∙ first.0,
+      rw (first.1, third.1, second.1) (slash t line_has_ended _ (rw second.1 at third.0) second.0),
+    )
