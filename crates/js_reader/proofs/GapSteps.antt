@@ -16,14 +16,15 @@ use Rattle.js_grammar.specs.PieceItems.{piece_length, piece_span, is_line_commen
 use Rattle.js_grammar.proofs.GapLemmas.{piece_takes, all_pieces-cons, all_pieces-nil}
 use Rattle.js_grammar.proofs.PieceLemmas.{piece-white, piece-line_terminator}
 use Rattle.js_source.specs.Source.{At, rest, IsPlaced, Reads}
-use Rattle.js_source.specs.Runs.{IsRun, PassesRun}
+use Rattle.js_source.specs.Runs.{IsRun, PassesRun, TellsClass}
 use Rattle.js_trivia.specs.Trivia.{calls, handle_newline}
 use Rattle.js_reader.specs.Gaps.{AddsPieces, IsAtLineEnd}
 use Rattle.js_reader.specs.Reader.{SkipsGap, Leads, SkipsSome, SkipsPiece}
 use Rattle.js_reader.specs.Reader.{SkipsEndOfLine, IsUnmoved}
-use Rattle.js_reader.specs.Tables.{TellsBlanks}
+use Rattle.js_reader.specs.Tables.{is_blank}
 use Rattle.js_reader.specs.declared.findings_builder.FindingsBuilder.{FindingsBuilder}
 use Rattle.js_reader.specs.declared.reader.Reader.{Reader}
+use Rattle.js_reader.proofs.PartSteps.{blank_is_plain, blank_is_white}
 use Rattle.js_reader.proofs.TriviaSteps.{adds_none, adds_items, adds_behind, calls-append}
 
 -- one piece of a gap, behind which the reader stands, and what was told of it
@@ -355,7 +356,7 @@ line_feed_skipped old before source after h g text here errors deferred trivia =
     (line_end_skipped old before source 10 h g text here false after refl refl errors deferred trivia) g
 
 -- TABs and SPs
-blank_run : (table : List Bool) → TellsBlanks table → (run : List ℕ) (old : Reader) (source : At)
+blank_run : (table : List Bool) → TellsClass is_blank table → (run : List ℕ) (old : Reader) (source : At)
     (found : FindingsBuilder)
     → IsRun table run → IsPlaced old.source → IsPlaced source → source.text ≡ old.source.text
     → rest old.source ≡ run ++ rest source → Leads false old found false (record old { source = source }) found
@@ -370,13 +371,14 @@ blank_run table tells (b ∷ bs) old source found all h g text here later after 
     let past = past_character old.source.text old.source.place b (bs ++ rest source) h.utf8 h.boundary here in
     let mid : At = record { text = old.source.text; place = old.source.place + len_utf8 b } in
     let placed : IsPlaced mid = record { utf8 = h.utf8; short = h.short; boundary = past.0 } in
+    let blank : is_blank b ≡ true = sym (tells.tells b all.0) ∙ all.1 in
     let p : IsBehindPiece false old found false (record old { source = mid }) found =
     white_skipped old found mid b h placed refl (here ∙ ap (λ cs. b ∷ cs) (sym past.1)) found
-    (tells.tells b all.0 all.1) refl refl (rw (tells.plain b all.0 all.1) refl) in
+    (blank_is_white b blank) refl refl (rw (blank_is_plain b blank) refl) in
     piece_leads false old found false (record old { source = mid }) found p later after
     (blank_run table tells bs (record old { source = mid }) source found all.2 placed g text past.1 later after s)
 
-pub blanks_lead : (table : List Bool) → TellsBlanks table → (old : Reader) (source : At) (found : FindingsBuilder)
+pub blanks_lead : (table : List Bool) → TellsClass is_blank table → (old : Reader) (source : At) (found : FindingsBuilder)
     → IsPlaced old.source → IsPlaced source → source.text ≡ old.source.text
     → PassesRun table old.source.text old.source.place source.place
     → Leads false old found false (record old { source = source }) found

@@ -25,7 +25,7 @@ use Rattle.js_grammar.proofs.Flags.{punctuator_unflagged}
 use Rattle.js_grammar.proofs.GapLemmas.{none_behind, unreported}
 use Rattle.js_grammar.proofs.NumberClasses.{all_below, below}
 use Rattle.js_grammar.proofs.PieceLemmas.{piece-other, piece-minus, piece-angle}
-use Rattle.js_source.specs.Runs.{HasAscii, PassesRun, place_of}
+use Rattle.js_source.specs.Runs.{HasAscii, PassesRun, TellsClass, place_of}
 use Rattle.js_source.specs.Source.{At, rest, Reads, IsPlaced, HasFirstByte, HasFirstTwoBytes}
 use Rattle.js_source.specs.Search.{matches_at}
 use Rattle.js_spell.specs.Name.{SpellsPlainName, SpellsPlainPrivateName}
@@ -39,12 +39,12 @@ use Rattle.js_reader.specs.Plain.{moved, after_ends, ends_told, PassesPlainGap, 
 use Rattle.js_reader.specs.Plain.{ReadsPlainToken}
 use Rattle.js_reader.specs.Reader.{ReadsInPart, ReadsTokenHere, ReadsWithGap, lexeme_token, plain_lexeme}
 use Rattle.js_spell.specs.Families.{ReadsPunctuator}
-use Rattle.js_reader.specs.Tables.{TellsBlanks, TellsMarks, TellsStarts, is_name_start}
+use Rattle.js_reader.specs.Tables.{is_blank, is_mark, is_name_start}
 use Rattle.js_reader.specs.declared.findings_builder.FindingsBuilder.{FindingsBuilder}
 use Rattle.js_reader.specs.declared.reader.Reader.{Reader}
 use Rattle.js_reader.proofs.GapSteps.{blanks_lead, line_feed_skipped, no_gap_left}
 use Rattle.js_reader.proofs.FastSteps.{begins_none}
-use Rattle.js_reader.proofs.PartSteps.{is_start}
+use Rattle.js_reader.proofs.PartSteps.{is_start, mark_begins_none}
 use Rattle.js_reader.proofs.NumberSteps.{digit_begins}
 use Rattle.js_reader.proofs.ReadingSteps.{lexeme_spelled, lexeme_onward}
 use Rattle.js_reader.proofs.ReadingSteps.{goal_behind, token_behind}
@@ -58,7 +58,7 @@ pub none_passed : (start : At) (ended : Bool) → IsPlaced start → PassesPiece
 none_passed start ended h = record { from = h; placed = h; ends = 0; leads = λ r before later found skips. skips }
 
 -- a run of blanks
-pub blanks_passed : (table : List Bool) → TellsBlanks table → (start now next : At) (had has : Bool)
+pub blanks_passed : (table : List Bool) → TellsClass is_blank table → (start now next : At) (had has : Bool)
     → PassesPieces start had now has → IsPlaced next → next.text ≡ now.text
     → PassesRun table now.text now.place next.place → PassesPieces start had next has
 blanks_passed table tells start now next had has s g text run = record {
@@ -90,11 +90,11 @@ small_of table b ascii is = by_test (nat_le 128 b) refl
     by_test true e = absurd (let both : true ≡ false = sym is ∙ ascii b (leb-true 128 b e) in cc)
     by_test false e = leb-false 128 b e
 
-pub blank_is_ascii : (table : List Bool) (b : ℕ) → TellsBlanks table → matches_at table b ≡ true → b < 128
+pub blank_is_ascii : (table : List Bool) (b : ℕ) → TellsClass is_blank table → matches_at table b ≡ true → b < 128
 blank_is_ascii table b tells is = small_of table b tells.ascii is
 
 -- one blank
-pub blank_passed : (table : List Bool) → TellsBlanks table → (start now next : At) (had has : Bool) (b : ℕ)
+pub blank_passed : (table : List Bool) → TellsClass is_blank table → (start now next : At) (had has : Bool) (b : ℕ)
     → PassesPieces start had now has → matches_at table b ≡ true → rest now ≡ b ∷ rest next → next.text ≡ now.text
     → now.place ≤ next.place → IsPlaced next → PassesPieces start had next has
 blank_passed table tells start now next had has b s is here text onward g =
@@ -179,18 +179,19 @@ byte_met b start now had has s ends next =
     record { gap = gap_passed start now had has s ends.ends; ascii = ends.ascii; next = next; ends = ends.ends }
 
 -- what the table of marks tells
-pub mark_ends : (table : List Bool) (b : ℕ) (ended : Bool) (cs : List ℕ) → TellsMarks table
+pub mark_ends : (table : List Bool) (b : ℕ) (ended : Bool) (cs : List ℕ) → TellsClass is_mark table
     → matches_at table b ≡ true → HasFirstByte b cs → EndsGapInAscii b ended cs
 mark_ends table b ended cs tells is first =
-    no_piece_ends b ended cs first (tells.tells b (small_of table b tells.ascii is) is)
+    let small = small_of table b tells.ascii is in
+    no_piece_ends b ended cs first (mark_begins_none b small (sym (tells.tells b small) ∙ is))
 
 -- what the table of the starts of names tells
-pub starts_name : (table : List Bool) (b : ℕ) → TellsStarts table → matches_at table b ≡ true
+pub starts_name : (table : List Bool) (b : ℕ) → TellsClass is_identifier_start table → matches_at table b ≡ true
     → is_identifier_start b ≡ true
 starts_name table b tells is = sym (tells.tells b (small_of table b tells.ascii is)) ∙ is
 
 -- the table of the starts of names tells as much
-pub tells_ends : (table : List Bool) (b : ℕ) (ended : Bool) (cs : List ℕ) → TellsStarts table
+pub tells_ends : (table : List Bool) (b : ℕ) (ended : Bool) (cs : List ℕ) → TellsClass is_identifier_start table
     → matches_at table b ≡ true → HasFirstByte b cs → EndsGapInAscii b ended cs
 tells_ends table b ended cs tells is first = by_test (nat_le 128 b) refl
   where

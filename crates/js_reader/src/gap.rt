@@ -7,11 +7,11 @@ ghost use Rattle.js_text.specs.Characters.{is_white_space, is_line_terminator};
 ghost use Rattle.js_text.specs.declared.source_type.SourceType.{SourceType};
 ghost use Rattle.js_grammar.specs.Gap.{piece, is_reported};
 ghost use Rattle.js_source.specs.Source.{rest, BeginsWith, IsPlaced};
-ghost use Rattle.js_source.specs.Runs.{PassesRun};
+ghost use Rattle.js_source.specs.Runs.{PassesRun, TellsClass};
 ghost use Rattle.js_reader.specs.Found.{Grows};
 ghost use Rattle.js_reader.specs.Gaps.{BeginsNoPiece, IsNext};
 ghost use Rattle.js_reader.specs.Reader.{SkipsPiece, SkipsGap, SkipsWholeGap, SkipsReported, MovesOn};
-ghost use Rattle.js_reader.specs.Tables.{TellsBlanks};
+ghost use Rattle.js_reader.specs.Tables.{is_blank};
 
 use crate::findings_builder::FindingsBuilder;
 use crate::reader::Reader;
@@ -42,7 +42,7 @@ pub fn begins_no_piece(b: u8) -> bool
 /// Skips TABs and SPs, and tells the byte behind them.
 #[inline(always)]
 pub fn skip_blanks(source: &mut Source<'_>, table: &[bool; 256]) -> Option<u8>
-    requires { TellsBlanks table.now }
+    requires { TellsClass is_blank table.now }
     ensures next { IsNext result (rest source.new) }
     ensures text { source.new.text ≡ source.old.text }
     ensures run { PassesRun table.now source.old.text source.old.place source.new.place }

@@ -4,15 +4,15 @@
 
 ghost use Rattle.std.specs.Prelude.{◌≡◌, ◌<◌, Bool, true, None, IfSome, MatchBool};
 ghost use Rattle.js_text.specs.Ascii.{grave_accent, line_feed, number_sign};
-ghost use Rattle.js_text.specs.Characters.{is_identifier_start};
+ghost use Rattle.js_text.specs.Characters.{is_identifier_part, is_identifier_start};
 ghost use Rattle.js_grammar.specs.Gap.{whole_gap_piece};
 ghost use Rattle.js_grammar.specs.StringItems.{is_quote};
 ghost use Rattle.js_source.specs.Source.{At, rest, IsPlaced, HasFirstByte};
 ghost use Rattle.js_source.specs.Search.{matches_at};
-ghost use Rattle.js_spell.specs.Name.{TellsParts};
+ghost use Rattle.js_source.specs.Runs.{TellsClass};
 ghost use Rattle.js_reader.specs.Plain.{EndsAt, EndsGapInAscii, GoesOnWithGap, PassesPieces, SpellsFor, SpellsPlainly};
 ghost use Rattle.js_reader.specs.declared.reader.Reader.{Reader};
-ghost use Rattle.js_reader.specs.Tables.{TellsBlanks, TellsMarks};
+ghost use Rattle.js_reader.specs.Tables.{is_blank, is_mark};
 
 use crate::gap::skip_blanks;
 use crate::reading::begins_ascii_name;
@@ -46,7 +46,7 @@ fn is_mark_alone(source: &Source<'_>, b: u8, line_has_ended: bool) -> bool
 /// one.
 #[inline(always)]
 fn ends_gap(source: &Source<'_>, marks: &[bool; 256], b: u8, line_has_ended: bool) -> bool
-    requires marks { TellsMarks marks.now }
+    requires marks { TellsClass is_mark marks.now }
     requires next { HasFirstByte b (rest source.now) }
     ensures { MatchBool result (EndsGapInAscii b line_has_ended (rest source.now)) (Unit {0}) }
 {
@@ -59,7 +59,7 @@ fn ends_gap(source: &Source<'_>, marks: &[bool; 256], b: u8, line_has_ended: boo
 /// Passes the TAB or the SP that is next, if one is.
 #[inline(always)]
 fn pass_blank(source: &mut Source<'_>, blanks: &[bool; 256])
-    requires blanks { TellsBlanks blanks.now }
+    requires blanks { TellsClass is_blank blanks.now }
     requires placed { IsPlaced source.old }
     ensures { (start : At) (had has : Bool) → PassesPieces start had source.old has
         → PassesPieces start had source.new has }
@@ -73,7 +73,7 @@ fn pass_blank(source: &mut Source<'_>, blanks: &[bool; 256])
 /// Passes the line feed that is next, and the blanks behind it.
 #[inline(always)]
 fn pass_line_feed(source: &mut Source<'_>, blanks: &[bool; 256], line_has_ended: &mut bool)
-    requires blanks { TellsBlanks blanks.now }
+    requires blanks { TellsClass is_blank blanks.now }
     requires next { HasFirstByte line_feed (rest source.old) }
     ensures { GoesOnWithGap source.old line_has_ended.old source.new line_has_ended.new }
 {
@@ -85,7 +85,7 @@ fn pass_line_feed(source: &mut Source<'_>, blanks: &[bool; 256], line_has_ended:
 /// Passes the blank `b`, which is next, and the blanks behind it.
 #[inline(always)]
 fn pass_blanks(source: &mut Source<'_>, blanks: &[bool; 256], b: u8)
-    requires blanks { TellsBlanks blanks.now }
+    requires blanks { TellsClass is_blank blanks.now }
     requires blank { matches_at blanks.now b ≡ true }
     requires next { HasFirstByte b (rest source.old) }
     ensures { (line_has_ended : Bool) → GoesOnWithGap source.old line_has_ended source.new line_has_ended }
@@ -102,7 +102,7 @@ fn pass_more(
     b: u8,
     line_has_ended: &mut bool,
 ) -> bool
-    requires blanks { TellsBlanks blanks.now }
+    requires blanks { TellsClass is_blank blanks.now }
     requires next { HasFirstByte b (rest source.old) }
     ensures { MatchBool result (GoesOnWithGap source.old line_has_ended.old source.new line_has_ended.new) (Unit {0}) }
 {
@@ -238,7 +238,7 @@ pub fn read_plain_mark(source: &mut Source<'_>, b: u8) -> Option<Kind>
 /// Reads the name that begins with the ASCII character `b`, which is next, where no escape stands in it.
 #[inline(always)]
 pub fn read_name_plainly(source: &mut Source<'_>, parts: &[bool; 256], b: u8) -> Option<Kind>
-    requires parts { TellsParts parts.now }
+    requires parts { TellsClass is_identifier_part parts.now }
     requires placed { IsPlaced source.old }
     requires ascii { b < 128 }
     requires next { HasFirstByte b (rest source.old) }

@@ -14,12 +14,13 @@ ghost use Rattle.js_grammar.specs.Punctuators.{NoPunctuator};
 ghost use Rattle.js_grammar.specs.Reads.{is_onward};
 ghost use Rattle.js_grammar.specs.StringItems.{is_quote};
 ghost use Rattle.js_kind.specs.TokenParts.{TokenParts};
+ghost use Rattle.js_source.specs.Runs.{TellsClass};
 ghost use Rattle.js_source.specs.Source.{rest, IsPlaced, BeginsWith};
 ghost use Rattle.js_reader.specs.Decoded.{HasValue, HasValueHere, KeepsValues, KeepsSpelt, KeepsPart};
 ghost use Rattle.js_reader.specs.Found.{Grows};
 ghost use Rattle.js_reader.specs.Reader.{ReadsTokenHere, ReadsLexeme, ReadsBehind, ReadsWithGap, ReadsHashbang};
 ghost use Rattle.js_reader.specs.Reader.{NothingHere, MovesOn, ReadsInPart};
-ghost use Rattle.js_reader.specs.Tables.{TellsStarts, is_name_start};
+ghost use Rattle.js_reader.specs.Tables.{is_name_start};
 
 use crate::decoded::DecodedValues;
 use crate::findings_builder::FindingsBuilder;
@@ -38,7 +39,7 @@ use std::alloc::AllocError;
 /// Whether a name begins with the ASCII character.
 #[inline(always)]
 pub fn begins_ascii_name(table: &[bool; 256], b: u8) -> bool
-    requires table { TellsStarts table.now }
+    requires table { TellsClass is_identifier_start table.now }
     requires ascii { b < 128 }
     ensures { result ≡ is_identifier_start b }
 {

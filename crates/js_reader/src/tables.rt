@@ -1,40 +1,13 @@
 //! Tables of bytes: the ASCII characters of a class, and where a search through a comment stops.
 
 ghost use Rattle.std.specs.Prelude.{◌≡◌, false};
-ghost use Rattle.js_spell.specs.Name.{TellsParts};
+ghost use Rattle.js_text.specs.Characters.{is_identifier_part, is_identifier_start};
+ghost use Rattle.js_source.specs.Runs.{TellsClass};
 ghost use Rattle.js_spell.specs.Comments.{StopsAtLineEnds, StopsInBlocks, stopping_bytes};
-ghost use Rattle.js_reader.specs.Tables.{TellsStarts, TellsBlanks, TellsMarks};
+ghost use Rattle.js_reader.specs.Tables.{is_blank, is_mark};
 
-use js_source::SafeByteMatchTable;
+use js_source::{SafeByteMatchTable, of_each_byte};
 use js_spell::name_parts;
-
-/// Tells of each byte, at its place, whether it is of a class.
-macro_rules! of_each_byte {
-    ($is_of:ident) => {
-        of_each_byte!(
-            $is_of
-            0 1 2 3 4 5 6 7 8 9 10 11 12 13 14 15
-            16 17 18 19 20 21 22 23 24 25 26 27 28 29 30 31
-            32 33 34 35 36 37 38 39 40 41 42 43 44 45 46 47
-            48 49 50 51 52 53 54 55 56 57 58 59 60 61 62 63
-            64 65 66 67 68 69 70 71 72 73 74 75 76 77 78 79
-            80 81 82 83 84 85 86 87 88 89 90 91 92 93 94 95
-            96 97 98 99 100 101 102 103 104 105 106 107 108 109 110 111
-            112 113 114 115 116 117 118 119 120 121 122 123 124 125 126 127
-            128 129 130 131 132 133 134 135 136 137 138 139 140 141 142 143
-            144 145 146 147 148 149 150 151 152 153 154 155 156 157 158 159
-            160 161 162 163 164 165 166 167 168 169 170 171 172 173 174 175
-            176 177 178 179 180 181 182 183 184 185 186 187 188 189 190 191
-            192 193 194 195 196 197 198 199 200 201 202 203 204 205 206 207
-            208 209 210 211 212 213 214 215 216 217 218 219 220 221 222 223
-            224 225 226 227 228 229 230 231 232 233 234 235 236 237 238 239
-            240 241 242 243 244 245 246 247 248 249 250 251 252 253 254 255
-        )
-    };
-    ($is_of:ident $($byte:literal)*) => {
-        [$($is_of!($byte),)*]
-    };
-}
 
 /// Of ASCII characters, `is_identifier_start` of the grammar.
 macro_rules! is_identifier_start {
@@ -72,7 +45,7 @@ static MARKS: [bool; 256] = of_each_byte!(is_mark);
 /// The table of the ASCII characters that begin names.
 #[inline(always)]
 pub fn starts() -> &'static [bool; 256]
-    ensures { TellsStarts result.now }
+    ensures { TellsClass is_identifier_start result.now }
 {
     &STARTS
 }
@@ -80,7 +53,7 @@ pub fn starts() -> &'static [bool; 256]
 /// The table of TAB and SP.
 #[inline(always)]
 pub fn blanks() -> &'static [bool; 256]
-    ensures { TellsBlanks result.now }
+    ensures { TellsClass is_blank result.now }
 {
     &BLANKS
 }
@@ -88,7 +61,7 @@ pub fn blanks() -> &'static [bool; 256]
 /// The table of ASCII characters that begin no piece of a gap.
 #[inline(always)]
 pub fn marks() -> &'static [bool; 256]
-    ensures { TellsMarks result.now }
+    ensures { TellsClass is_mark result.now }
 {
     &MARKS
 }
@@ -111,10 +84,10 @@ pub struct ByteTables {
     pub marks: [bool; 256],
     ghost line_ends: { StopsAtLineEnds line },
     ghost block_ends: { StopsInBlocks block },
-    ghost name_starts: { TellsStarts starts },
-    ghost name_parts: { TellsParts parts },
-    ghost gap_blanks: { TellsBlanks blanks },
-    ghost gap_ends: { TellsMarks marks },
+    ghost name_starts: { TellsClass is_identifier_start starts },
+    ghost name_parts: { TellsClass is_identifier_part parts },
+    ghost gap_blanks: { TellsClass is_blank blanks },
+    ghost gap_ends: { TellsClass is_mark marks },
 }
 
 /// The first bytes of the line terminators, LF, CR and that of U+2028 and U+2029, and with them `*` where it is wanted.

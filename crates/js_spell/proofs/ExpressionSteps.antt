@@ -20,25 +20,17 @@ use Rattle.js_grammar.specs.RegularExpression.{behind_all, behind_body_character
 use Rattle.js_grammar.specs.RegularExpression.{behind_class, behind_class_character, left_square_bracket}
 use Rattle.js_grammar.specs.RegularExpression.{right_square_bracket}
 use Rattle.js_grammar.proofs.GoalReadings.{FindsParts, finds_body_characters, finds_class_characters, no_part, one_part}
-use Rattle.js_grammar.proofs.NumberClasses.{all_below}
 use Rattle.js_grammar.proofs.NumberItems.{true_or_false}
 use Rattle.js_grammar.proofs.NumberSound.{first_is}
-use Rattle.js_source.specs.Runs.{IsRun, PassesRun}
+use Rattle.js_source.specs.Runs.{IsRun, PassesRun, TellsClass}
 use Rattle.js_source.specs.Source.{At, rest, HasFirstByte, IsPlaced, StepsPast}
 use Rattle.js_source.proofs.RunSteps.{from_first-run}
 use Rattle.js_spell.specs.RegularExpression.{IsAtLineEnd, PassesBackslash, PassesBody, PassesClass, PassesParts}
-use Rattle.js_spell.specs.RegularExpression.{StaysInLine, TellsCharacters, is_line_end, marks, part_of}
+use Rattle.js_spell.specs.RegularExpression.{StaysInLine, is_line_end, marks, part_of}
 use Rattle.js_spell.specs.declared.regular_expression.Within.{Within}
 use Rattle.js_spell.specs.declared.regular_expression.Within.TheVariants.{Body, Class}
 use Rattle.js_spell.proofs.NameSteps.{run_fewer}
-use Rattle.js_spell.proofs.NumericSteps.{tells_as, tells_class}
 use Rattle.js_spell.proofs.PlainSteps.{wide_first}
-
-pub tells_characters : (within : Within) (table : List Bool)
-    → all_below (tells_as (λ c. not (marks within c)) table) 256 ≡ true → length table ≡ 256
-    → TellsCharacters within table
-tells_characters within table e n =
-    let told = tells_class (λ c. not (marks within c)) table e n in record { ascii = told.ascii; tells = told.tells }
 
 finds_of : (within : Within) → FindsParts (part_of within)
 finds_of Body = finds_body_characters
@@ -112,7 +104,7 @@ pub passes_then : (within : Within) (a b c : At) → PassesParts within a b → 
     → PassesParts within a c
 passes_then within a b c h g = record { stays = stays_then a b c h.stays g.stays; left = h.left ∙ g.left }
 
-run_left : (within : Within) (table : List Bool) (run left : List ℕ) → TellsCharacters within table → IsRun table run
+run_left : (within : Within) (table : List Bool) (run left : List ℕ) → TellsClass (λ b. not (marks within b)) table → IsRun table run
     → behind_all (part_of within) (run ++ left) ≡ behind_all (part_of within) left
 run_left within table [] left tells is = refl
 run_left within table (b ∷ bs) left tells is =
@@ -120,7 +112,7 @@ run_left within table (b ∷ bs) left tells is =
     (character_part within b (bs ++ left) (not_true (marks within b) (sym (tells.tells b is.0) ∙ is.1)))
     ∙ run_left within table bs left tells is.2
 
-pub passes_run : (within : Within) (table : List Bool) (old new : At) → TellsCharacters within table
+pub passes_run : (within : Within) (table : List Bool) (old new : At) → TellsClass (λ b. not (marks within b)) table
     → new.text ≡ old.text → PassesRun table old.text old.place new.place → PassesParts within old new
 passes_run within table old new tells text run =
     let here : rest old ≡ run.run ++ rest new =

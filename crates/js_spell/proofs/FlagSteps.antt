@@ -24,12 +24,12 @@ use Rattle.std.specs.Option.{option_map}
 use Rattle.std.specs.Char.{encode_utf8}
 use Rattle.std.specs.Str.{encode_utf8_all}
 use Rattle.std.proofs.Common.{add-zero, length-append, subst}
+use Rattle.js_source.specs.Runs.{TellsClass}
 use Rattle.js_source.specs.Source.{At, rest, HasFirstByte, IsPlaced, StepsPast}
 use Rattle.js_source.proofs.Places.{ascii_next, begins_with}
 use Rattle.js_grammar.proofs.NumberItems.{true_or_false}
 use Rattle.js_source.specs.Search.{matches_at}
 use Rattle.js_text.specs.RegExpFlags.{flag_bits, flags_of_bits}
-use Rattle.js_spell.specs.Name.{TellsParts}
 use Rattle.js_spell.specs.Breaks.{BreaksOff}
 use Rattle.js_spell.specs.RegularExpression.{AddsLetter, BreaksLine, PassesBody, SpellsExpression, SpellsFlags}
 use Rattle.js_spell.specs.RegularExpression.{TakesLetter}
@@ -174,7 +174,7 @@ pub letter_place : (old new : At) (b at : ℕ) → at ≡ old.place → IsPlaced
 letter_place old new b at is placed taken = omega (arith, is, taken.place, placed.boundary.0, placed.short)
 
 -- the table of parts has ASCII characters alone
-pub low_letter : (table : List Bool) (b : ℕ) → TellsParts table → matches_at table b ≡ true → b < 128
+pub low_letter : (table : List Bool) (b : ℕ) → TellsClass is_identifier_part table → matches_at table b ≡ true → b < 128
 low_letter table b tells is =
     elim (true_or_false (ltb b 128)) [
       | inl low ↦ ltb-true b 128 low

@@ -22,21 +22,20 @@ use Rattle.js_grammar.specs.NumberReads.{empty_span}
 use Rattle.js_grammar.specs.Reading.{Reading, place_behind, read_up_to, reported_at, size_of}
 use Rattle.js_grammar.specs.StringItems.{is_quote, stretch}
 use Rattle.js_grammar.specs.UnicodeEscape.{left_curly_bracket}
-use Rattle.js_grammar.proofs.NumberClasses.{all_below}
 use Rattle.js_grammar.proofs.NumberItems.{true_or_false}
-use Rattle.js_source.specs.Runs.{PassesRun}
+use Rattle.js_source.specs.Runs.{PassesRun, TellsClass}
 use Rattle.js_source.specs.Search.{matches_at}
 use Rattle.js_source.specs.Source.{At, rest, HasFirstByte, IsPlaced, Reads, StepsPast}
 use Rattle.js_source.proofs.Places.{ascii_next, begins_with}
 use Rattle.js_source.proofs.RunSteps.{from_first-run}
 use Rattle.js_spell.specs.Spells.{ReadsAs}
 use Rattle.js_spell.specs.Goals.{SpellsAngle, SpellsJsxString, StopsAt, TakesEquals}
-use Rattle.js_spell.specs.Goals.{TakesJsxQuote, TellsText, ends_of, equals_kind}
+use Rattle.js_spell.specs.Goals.{TakesJsxQuote, ends_of, equals_kind}
 use Rattle.js_spell.specs.declared.jsx.Text.{Text}
 use Rattle.js_spell.specs.declared.jsx.Text.TheVariants.{Child, DoubleQuoted, SingleQuoted}
 use Rattle.js_spell.proofs.ExpressionSteps.{size_to}
 use Rattle.std.proofs.Common.{add-zero, ◌+◌}
-use Rattle.js_spell.proofs.NumericSteps.{leads_to, tells_as, tells_class}
+use Rattle.js_spell.proofs.NumericSteps.{leads_to}
 use Rattle.js_spell.proofs.PlainSteps.{wide_first}
 
 -- a mark that does not begin a text
@@ -190,11 +189,6 @@ past_hyphen old new read =
     ap (from_first ends_jsx_name) read.here
     ∙ from_first-cons ends_jsx_name hyphen_minus (rest new) (hyphen_goes_on hyphen_minus refl)
 
-pub tells_text : (within : Text) (table : List Bool)
-    → all_below (tells_as (λ c. not (ends_of within c)) table) 256 ≡ true → length table ≡ 256 → TellsText within table
-tells_text within table e n =
-    let told = tells_class (λ c. not (ends_of within c)) table e n in record { ascii = told.ascii; tells = told.tells }
-
 not_true : (a : Bool) → not a ≡ true → a ≡ false
 not_true true e = absurd (cc)
 not_true false e = refl
@@ -203,7 +197,7 @@ not_false : (a : Bool) → not a ≡ false → a ≡ true
 not_false true e = refl
 not_false false e = absurd (cc)
 
-pub text_run : (within : Text) (table : List Bool) (old new : At) → TellsText within table → new.text ≡ old.text
+pub text_run : (within : Text) (table : List Bool) (old new : At) → TellsClass (λ b. not (ends_of within b)) table → new.text ≡ old.text
     → PassesRun table old.text old.place new.place
     → from_first (ends_of within) (rest old) ≡ from_first (ends_of within) (rest new)
 text_run within table old new tells text run =
@@ -238,7 +232,7 @@ past_text b old new first past = of (rest old) refl first
     of (c ∷ cs) here first = (past c cs here).0
 
 -- the byte at which a run stops
-pub text_stops : (within : Text) (table : List Bool) (b : ℕ) (text : List ℕ) → TellsText within table → b < 128
+pub text_stops : (within : Text) (table : List Bool) (b : ℕ) (text : List ℕ) → TellsClass (λ b. not (ends_of within b)) table → b < 128
     → HasFirstByte b text → begins (matches_at table) text ≡ false → StopsAt within b text
 text_stops within table b text tells low first stop =
     let next = ascii_next b text low first in

@@ -6,7 +6,7 @@ use Rattle.js_text.specs.Characters.{begins, from_place}
 use Rattle.js_text.specs.declared.diagnostic.Diagnostic.{Diagnostic}
 use Rattle.js_source.specs.Source.{At, rest, IsPlaced}
 use Rattle.js_source.specs.Search.{matches_at}
-use Rattle.js_source.specs.Runs.{IsRun, PassesRun}
+use Rattle.js_source.specs.Runs.{IsRun, PassesRun, TellsClass}
 use Rattle.js_grammar.specs.Number.{Item, whole, are_digits}
 use Rattle.js_kind.specs.Digits.{is_digit_of}
 use Rattle.js_grammar.specs.NumberReads.{contains_separator, plain_digits, legacy_items, items-cons, last_item}
@@ -15,13 +15,13 @@ use Rattle.js_grammar.proofs.NumberCuts.{plain_digits_append, octal_digits}
 use Rattle.js_grammar.proofs.NumberSteps.{legacy_octal_items, legacy_decimal_items}
 use Rattle.js_kind.specs.declared.kind.Kind.{Kind}
 use Rattle.js_kind.specs.declared.kind.Kind.TheVariants.{Octal}
-use Rattle.js_spell.specs.Numeric.{TellsDigits, PassesPlainDigits, ReadsEnd}
+use Rattle.js_spell.specs.Numeric.{PassesPlainDigits, ReadsEnd}
 use Rattle.js_spell.specs.Breaks.{BreaksOff}
 use Rattle.js_spell.proofs.NumericSteps.{items_broken}
 use Rattle.js_spell.proofs.NumericSteps.{any_append, no_separator, stops_digits, items_append, whole_item_read}
 
 -- digits of a table
-run_digits : (radix : ℕ) (table : List Bool) (xs : List ℕ) → TellsDigits radix table → IsRun table xs
+run_digits : (radix : ℕ) (table : List Bool) (xs : List ℕ) → TellsClass (is_digit_of radix) table → IsRun table xs
     → are_digits radix xs ≡ true
 run_digits radix table [] tells h = refl
 run_digits radix table (b ∷ bs) tells h =
@@ -46,7 +46,7 @@ not_octal : (xs ys : List ℕ) → begins (is_digit_of 10) (xs ++ ys) ≡ true �
 not_octal [] ys digit none other = absurd (cc)
 not_octal (x ∷ xs) ys digit none other = rw other refl
 
-module _ (octal : List Bool) (old mid : At) (tells : TellsDigits 8 octal)
+module _ (octal : List Bool) (old mid : At) (tells : TellsClass (is_digit_of 8) octal)
     (text : mid.text ≡ old.text) (run : PassesRun octal old.text old.place mid.place) where
   first_here : rest old ≡ run.run ++ rest mid
   first_here = run.here ∙ ap (λ t. run.run ++ from_place t mid.place) (sym text)
@@ -63,7 +63,7 @@ module _ (octal : List Bool) (old mid : At) (tells : TellsDigits 8 octal)
     separator = no_separator 8 octal run.run (omega arith) tells run.all;
   }
 
-  pub passes_decimal : (decimal : List Bool) → TellsDigits 10 decimal → (new : At) → new.text ≡ mid.text
+  pub passes_decimal : (decimal : List Bool) → TellsClass (is_digit_of 10) decimal → (new : At) → new.text ≡ mid.text
       → (more : PassesRun decimal mid.text mid.place new.place)
       → begins (matches_at octal) (rest mid) ≡ false → begins (is_digit_of 10) (rest mid) ≡ true
       → begins (matches_at decimal) (rest new) ≡ false

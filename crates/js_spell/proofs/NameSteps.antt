@@ -13,7 +13,8 @@ use Rattle.js_text.specs.Characters.{is_identifier_part}
 use Rattle.js_text.proofs.CharacterLemmas.{part_in_ascii}
 use Rattle.js_text.proofs.TextLemmas.{before_from}
 use Rattle.js_source.specs.Source.{At, rest, Reads, BeginsWith, HasFirstByte, StepsPast}
-use Rattle.js_source.specs.Runs.{PassesRun}
+use Rattle.js_source.proofs.Classes.{tells_class, tells_from, tells_other}
+use Rattle.js_source.specs.Runs.{PassesRun, TellsClass}
 use Rattle.js_source.proofs.Places.{begins_with}
 use Rattle.js_source.proofs.RunSteps.{from_first-run}
 use Rattle.js_grammar.specs.Name.{NameItem, CutsInto, items_text, plain_item, is_no_part, begins_name, is_surrogate}
@@ -25,28 +26,25 @@ use Rattle.js_grammar.proofs.NameItems.{of_not_allowed, of_surrogate, surrogate_
 use Rattle.js_grammar.proofs.NameItems.{other_escape, no_escape, low_there, no_low, brace_begins}
 use Rattle.js_grammar.proofs.NameLaws.{plain_here, plain_parts, plain_values}
 use Rattle.js_grammar.proofs.NameLemmas.{parts_end}
-use Rattle.js_grammar.proofs.NumberClasses.{all_below}
 use Rattle.js_grammar.proofs.NumberSound.{first_is}
 use Rattle.js_grammar.proofs.Tests.{and_false}
 use Rattle.js_spell.specs.Escape.{ReadsUnicodeEscape}
-use Rattle.js_spell.specs.Name.{TellsParts, PassesPlain, Decodes}
+use Rattle.js_spell.specs.Name.{PassesPlain, Decodes}
 use Rattle.js_spell.specs.declared.name.Decoding.{Decoding}
 use Rattle.js_spell.specs.declared.name.Decoding.TheVariants.{Character, NotAllowed, Bad}
 use Rattle.js_spell.specs.declared.name.Position.TheVariants.{First, Later}
-use Rattle.js_spell.proofs.NumericSteps.{tells_as, tells_class}
 
 -- the table of the parts in ASCII
 abbrev pub is_ascii_part : ℕ → Bool
 is_ascii_part b = is_ascii_alphanumeric b || ((b == 36) || (b == 95))
 
-pub tells_parts : (table : List Bool) → all_below (tells_as is_ascii_part table) 256 ≡ true → length table ≡ 256
-    → TellsParts table
+pub tells_parts : (table : List Bool) → tells_from is_ascii_part 0 table ≡ true → length table ≡ 256
+    → TellsClass is_identifier_part table
 tells_parts table e n =
-    let told = tells_class is_ascii_part table e n in
-    record { ascii = told.ascii; tells = λ b small. told.tells b small ∙ sym (part_in_ascii b small) }
+    tells_other is_ascii_part is_identifier_part table part_in_ascii (tells_class is_ascii_part table e n)
 
 -- the run that it passes
-pub parts_passed : (table : List Bool) (old new : At) → TellsParts table → new.text ≡ old.text
+pub parts_passed : (table : List Bool) (old new : At) → TellsClass is_identifier_part table → new.text ≡ old.text
     → PassesRun table old.text old.place new.place → from_first is_no_part (rest new) ≡ from_first is_no_part (rest old)
 parts_passed table old new tells text run =
     ap (λ u. from_first is_no_part (from_place u new.place)) text

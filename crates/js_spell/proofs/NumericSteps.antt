@@ -1,5 +1,5 @@
 -- The steps of reading a number.
-use Rattle.std.proofs.Common.{◌≡◌, ℕ, ◌<◌, ◌≤◌, Bool, true, false, not, ◌&&◌, ◌||◌, ◌==◌, ltb, List, [], ◌∷◌, ◌++◌}
+use Rattle.std.proofs.Common.{◌≡◌, ℕ, ◌<◌, ◌≤◌, Bool, true, false, ◌||◌, ◌==◌, ltb, List, [], ◌∷◌, ◌++◌}
 use Rattle.std.proofs.Common.{length, drop, length-append, refl, sym, ◌∙◌, ap, subst, arith, inl, inr}
 use Rattle.std.proofs.Common.{append_assoc, add-zero}
 use Rattle.std.proofs.lemmas.List.{append-nil}
@@ -7,7 +7,6 @@ use Rattle.std.specs.List.{list_any}
 use Rattle.std.specs.Prelude.{codes, IfOk, Result, Ok, Err}
 use Rattle.std.proofs.lemmas.Bool.{ltb-true, ltb-false, eqb-true}
 use Rattle.std.proofs.lemmas.Bool.Decides.{nat_tests}
-use Rattle.std.proofs.Math.ListN.{get_or-eq_default}
 use Rattle.js_text.specs.Ascii.{full_stop, low_line, plus_sign, hyphen_minus}
 use Rattle.js_text.specs.Characters.{begins, from_place}
 use Rattle.js_source.specs.Source.{At, rest, HasFirstByte, Reads, IsPlaced}
@@ -24,16 +23,16 @@ use Rattle.js_grammar.proofs.NumberSteps.{run_there, run_missing, integer_zero, 
 use Rattle.js_grammar.proofs.NumberSteps.{suffix_missing, exponent_there, exponent_missing, fraction_there}
 use Rattle.js_grammar.proofs.NumberSteps.{fraction_missing, behind_digits_point, behind_digits_other}
 use Rattle.js_source.specs.Search.{matches_at}
-use Rattle.js_source.specs.Runs.{HasAscii, IsRun, PassesRun}
+use Rattle.js_source.specs.Runs.{IsRun, PassesRun, TellsClass}
 use Rattle.js_grammar.specs.Number.{Item, whole, broken, item-cons, digits_on, run, integer, digit_zero}
 use Rattle.js_kind.specs.Digits.{is_digit_of}
 use Rattle.js_grammar.specs.Number.{Sign, sign_text, sign_kind, is_exponent_mark}
 use Rattle.js_grammar.specs.NumberReads.{contains_separator, missing_digit, missing_digits, items_text, sign_of}
 use Rattle.js_grammar.specs.NumberReads.{exponent_or, exponent_items, items-cons, last_item, fraction_items}
 use Rattle.js_grammar.specs.NumberReads.{point_items, behind_digits, decimal_items, suffix_or, Items}
-use Rattle.js_grammar.proofs.NumberClasses.{all_below, below, digit_is_ascii, digit_more, is_exponent}
+use Rattle.js_grammar.proofs.NumberClasses.{digit_is_ascii, digit_more, is_exponent}
 use Rattle.js_grammar.proofs.NumberItems.{stopped, true_or_false}
-use Rattle.js_spell.specs.Numeric.{TellsDigits, radix_of_digits, prepend, item_behind, passed_separator, PassesDigits}
+use Rattle.js_spell.specs.Numeric.{radix_of_digits, prepend, item_behind, passed_separator, PassesDigits}
 use Rattle.js_spell.specs.Breaks.{BreaksOff}
 use Rattle.js_spell.proofs.BreakSteps.{broken_behind, broken_first, unreported}
 use Rattle.js_spell.specs.Numeric.{PassesGroups, ReadsRun, ReadsItems, ReadsPart, ReadsInteger, ReadsEnd}
@@ -42,58 +41,6 @@ use Rattle.js_spell.specs.declared.digits.Digits.{Digits}
 use Rattle.js_spell.specs.declared.digits.Digits.TheVariants.{Binary, Octal, Decimal, Hex}
 use Rattle.js_spell.specs.declared.numeric.Passed.{Passed}
 use Rattle.js_spell.specs.declared.numeric.Passed.TheVariants.{Whole, Separator, Broken}
-
--- two tests answer alike
-abbrev pub same : Bool → Bool → Bool
-same true y = y
-same false y = not y
-
-pub same_true : (x y : Bool) → same x y ≡ true → x ≡ y
-same_true true true e = refl
-same_true true false e = absurd (cc)
-same_true false true e = absurd (cc)
-same_true false false e = refl
-
--- the entry of a byte tells whether it is an ASCII character of the class
-abbrev pub tells_as : (ℕ → Bool) → List Bool → ℕ → Bool
-tells_as class table b = same (matches_at table b) (ltb b 128 && class b)
-
--- a table of the ASCII characters of a class
-pub record TellsClass (class : ℕ → Bool) (table : List Bool) : Type 0 where
-  pub ascii : HasAscii table
-  pub tells : (b : ℕ) → b < 128 → matches_at table b ≡ class b
-
-pub tells_class : (class : ℕ → Bool) (table : List Bool) → all_below (tells_as class table) 256 ≡ true
-    → length table ≡ 256 → TellsClass class table
-tells_class class table e n = record { ascii = alone; tells = told }
-  where
-    entry : (b : ℕ) → b < 256 → matches_at table b ≡ (ltb b 128 && class b)
-    entry b h = same_true (matches_at table b) (ltb b 128 && class b) (below (tells_as class table) 256 b e h)
-
-    low : (x y : Bool) → y ≡ true → (y && x) ≡ x
-    low x true t = refl
-    low x false t = absurd (cc)
-
-    high : (x y : Bool) → y ≡ false → (y && x) ≡ false
-    high x true t = absurd (cc)
-    high x false t = refl
-
-    told : (b : ℕ) → b < 128 → matches_at table b ≡ class b
-    told b h = entry b (omega arith) ∙ low (class b) (ltb b 128) (grind (arith, nat_tests))
-
-    alone : HasAscii table
-    alone b h =
-        elim (true_or_false (ltb b 256)) [
-          | inl is ↦ entry b (ltb-true b 256 is) ∙ high (class b) (ltb b 128) (grind (arith, nat_tests))
-          | inr no_entry ↦ get_or-eq_default table false (omega (arith, ltb-false b 256 no_entry))
-        ]
-
-pub tells_digits : (radix : ℕ) (table : List Bool) → all_below (tells_as (is_digit_of radix) table) 256 ≡ true
-    → length table ≡ 256
-    → TellsDigits radix table
-tells_digits radix table e n =
-    let told = tells_class (is_digit_of radix) table e n in
-    record { ascii = told.ascii; tells = told.tells }
 
 pub radix_is_small : (digits : Digits) → radix_of_digits digits ≤ 16
 radix_is_small Binary = omega arith
@@ -110,7 +57,7 @@ wide_is_no_digit radix c small h =
     ]
 
 -- the table tells whether a digit is next
-pub first_digit : (radix : ℕ) (table : List Bool) (b : ℕ) (cs : List ℕ) → radix ≤ 16 → TellsDigits radix table
+pub first_digit : (radix : ℕ) (table : List Bool) (b : ℕ) (cs : List ℕ) → radix ≤ 16 → TellsClass (is_digit_of radix) table
     → HasFirstByte b cs
     → matches_at table b ≡ begins (is_digit_of radix) cs
 first_digit radix table b [] small tells h = absurd h
@@ -129,7 +76,7 @@ first_digit radix table b (c ∷ cs) small tells h =
           ])
     ]
 
-pub stops_digits : (radix : ℕ) (table : List Bool) (cs : List ℕ) → radix ≤ 16 → TellsDigits radix table
+pub stops_digits : (radix : ℕ) (table : List Bool) (cs : List ℕ) → radix ≤ 16 → TellsClass (is_digit_of radix) table
     → begins (matches_at table) cs ≡ false → begins (is_digit_of radix) cs ≡ false
 stops_digits radix table [] small tells e = refl
 stops_digits radix table (c ∷ cs) small tells e =
@@ -153,14 +100,14 @@ digit_is_no_separator radix b small e =
     ]
 
 -- digits of the table, and what stands behind them
-digits_run : (radix : ℕ) (table : List Bool) (xs ys : List ℕ) → radix ≤ 16 → TellsDigits radix table → IsRun table xs
+digits_run : (radix : ℕ) (table : List Bool) (xs ys : List ℕ) → radix ≤ 16 → TellsClass (is_digit_of radix) table → IsRun table xs
     → digits_on radix (xs ++ ys) ≡ prepend xs (digits_on radix ys)
 digits_run radix table [] ys small tells h = refl
 digits_run radix table (b ∷ bs) ys small tells h =
     let digit : is_digit_of radix b ≡ true = sym (tells.tells b h.0) ∙ h.1 in
     rw digit (ap (item-cons b) (digits_run radix table bs ys small tells h.2))
 
-pub no_separator : (radix : ℕ) (table : List Bool) (xs : List ℕ) → radix ≤ 16 → TellsDigits radix table → IsRun table xs
+pub no_separator : (radix : ℕ) (table : List Bool) (xs : List ℕ) → radix ≤ 16 → TellsClass (is_digit_of radix) table → IsRun table xs
     → contains_separator xs ≡ false
 no_separator radix table [] small tells h = refl
 no_separator radix table (b ∷ bs) small tells h =
@@ -184,7 +131,7 @@ separator_breaks : (radix : ℕ) (ys : List ℕ) → radix ≤ 16 → begins (is
     → digits_on radix (low_line ∷ ys) ≡ broken (low_line ∷ []) ys
 separator_breaks radix ys small e = rw (separator_is_no_digit radix small, e) refl
 
-module _ (radix : ℕ) (table : List Bool) (old mid : At) (small : radix ≤ 16) (tells : TellsDigits radix table)
+module _ (radix : ℕ) (table : List Bool) (old mid : At) (small : radix ≤ 16) (tells : TellsClass (is_digit_of radix) table)
     (text : mid.text ≡ old.text) (run : PassesRun table old.text old.place mid.place) where
   run_here : rest old ≡ run.run ++ rest mid
   run_here = run.here ∙ ap (λ t. run.run ++ from_place t mid.place) (sym text)

@@ -7,13 +7,14 @@ use Rattle.std.proofs.lemmas.Bool.{eqb-true, ne_eqb, ltb-true, ltb-false, le-leb
 use Rattle.std.specs.Char.{is_ascii_alphabetic, is_ascii_alphanumeric}
 use Rattle.js_text.proofs.CharacterLemmas.{start_in_ascii, part_in_ascii}
 use Rattle.js_text.specs.Ascii.{full_stop, low_line}
-use Rattle.js_text.specs.Characters.{begins, from_place}
+use Rattle.js_text.specs.Characters.{begins, from_place, is_identifier_part}
 use Rattle.js_text.specs.declared.diagnostic.Diagnostic.{Diagnostic}
 use Rattle.js_kind.specs.Digits.{is_digit_of}
 use Rattle.js_kind.specs.TokenParts.{TokenParts}
 use Rattle.js_kind.specs.declared.kind.Kind.{Kind}
 use Rattle.js_kind.specs.declared.kind.Kind.TheVariants.{Decimal, Float, DecimalBigInt}
-use Rattle.js_source.specs.Runs.{PassesRun}
+use Rattle.js_source.proofs.Classes.{same, same_true}
+use Rattle.js_source.specs.Runs.{PassesRun, TellsClass}
 use Rattle.js_source.specs.Search.{matches_at}
 use Rattle.js_source.specs.Source.{At, rest, Reads, IsPlaced, HasFirstByte}
 use Rattle.js_grammar.specs.Number.{may_not_follow_number, digit_zero, latin_small_letter_n, is_exponent_mark}
@@ -22,8 +23,7 @@ use Rattle.js_grammar.specs.NumberReads.{behind_digits, decimal_items, fraction_
 use Rattle.js_grammar.proofs.NumberClasses.{all_below, below, contraposed, ends_number}
 use Rattle.js_grammar.proofs.NumberCuts.{NoPrefix, no_prefix_ended, no_prefix_suffix, no_prefix_point, no_prefix_mark}
 use Rattle.js_grammar.proofs.NumberItems.{true_or_false}
-use Rattle.js_spell.specs.Name.{TellsParts}
-use Rattle.js_spell.specs.Numeric.{TellsDigits, PassesDigits, PassesGroups, ReadsRun, ReadsInteger, ReadsPart, ReadsEnd}
+use Rattle.js_spell.specs.Numeric.{PassesDigits, PassesGroups, ReadsRun, ReadsInteger, ReadsPart, ReadsEnd}
 use Rattle.js_spell.specs.Numeric.{ReadsCut, MayGoOn, FollowsInteger, TakesExponentMark, TakesSign}
 use Rattle.js_spell.specs.Numeric.{HasPrefix, base_of_prefix}
 use Rattle.js_spell.specs.declared.numeric.Prefix.{Prefix}
@@ -33,7 +33,7 @@ use Rattle.js_spell.proofs.EndSteps.{good_number_read, number_spells}
 use Rattle.js_spell.specs.Spells.{Spells}
 use Rattle.js_grammar.specs.NumberReads.{number_reading}
 use Rattle.js_spell.proofs.LeadSteps.{zero_leads, other_leads}
-use Rattle.js_spell.proofs.NumericSteps.{stops_digits, same, same_true, passes_whole, run_whole_read, integer_read}
+use Rattle.js_spell.proofs.NumericSteps.{stops_digits, passes_whole, run_whole_read, integer_read}
 use Rattle.js_spell.proofs.NumericSteps.{fraction_read, exponent_read, behind_point_read}
 use Rattle.js_spell.proofs.NumericSteps.{behind_other_read, no_suffix_read, decimal_read}
 use Rattle.js_spell.proofs.PrefixSteps.{led_read, prefixed_read, prefix_big_read, prefix_plain_read}
@@ -50,7 +50,7 @@ groups_of_digits radix old new digits = record {
 }
 
 pub plain_run_read : (radix : ℕ) (table : List Bool) (old new : At) (errors : List Diagnostic) → radix ≤ 16
-    → TellsDigits radix table → new.text ≡ old.text → PassesRun table old.text old.place new.place
+    → TellsClass (is_digit_of radix) table → new.text ≡ old.text → PassesRun table old.text old.place new.place
     → begins (matches_at table) (rest new) ≡ false → begins (is_digit_of radix) (rest old) ≡ true
     → begins (λ c. c == low_line) (rest new) ≡ false → ReadsRun radix old new errors errors false false true
 plain_run_read radix table old new errors small tells text run stops digit none =
@@ -96,7 +96,7 @@ pub other_items_are : (b : ℕ) (cs : List ℕ) → b < 128 → HasFirstByte b c
 other_items_are b cs small first digit other =
     other_leads cs (no_point b cs small first digit) (other_digit b cs small first other)
 
-pub integer_passed : (b : ℕ) (table : List Bool) (old new : At) (errors : List Diagnostic) → TellsDigits 10 table
+pub integer_passed : (b : ℕ) (table : List Bool) (old new : At) (errors : List Diagnostic) → TellsClass (is_digit_of 10) table
     → new.text ≡ old.text → PassesRun table old.text old.place new.place → begins (matches_at table) (rest new) ≡ false
     → b < 128 → HasFirstByte b (rest old) → is_digit_of 10 b ≡ true → (b ≡ 48 → ⊥) → FollowsInteger (rest new)
     → ReadsInteger old new errors errors false false
@@ -106,7 +106,7 @@ integer_passed b table old new errors tells text run stops small first digit oth
     (first_there (is_digit_of 10) true b (rest old) small first digit) follows.separator)
 
 -- at least one digit was passed
-pub digit_passed : (table : List Bool) (b : ℕ) (old new : At) → TellsDigits 10 table → new.text ≡ old.text
+pub digit_passed : (table : List Bool) (b : ℕ) (old new : At) → TellsClass (is_digit_of 10) table → new.text ≡ old.text
     → PassesRun table old.text old.place new.place → begins (matches_at table) (rest new) ≡ false → b < 128
     → HasFirstByte b (rest old) → is_digit_of 10 b ≡ true → length (rest new) < length (rest old)
 digit_passed table b old new tells text run stops small first is =
@@ -121,7 +121,7 @@ digit_passed table b old new tells text run stops small first is =
 
 -- a fraction, and none
 pub fraction_passed : (table : List Bool) (old mid new : At) (errors : List Diagnostic) (kind : Kind) → IsPlaced old
-    → IsPlaced mid → TellsDigits 10 table → mid.text ≡ old.text → PassesRun table old.text old.place mid.place
+    → IsPlaced mid → TellsClass (is_digit_of 10) table → mid.text ≡ old.text → PassesRun table old.text old.place mid.place
     → begins (matches_at table) (rest mid) ≡ false → begins (is_digit_of 10) (rest old) ≡ true
     → FollowsInteger (rest mid) → ReadsEnd mid new errors errors false false kind (exponent_or Float (rest mid))
     → ReadsPart old new errors errors false false (fraction_items (rest old))
@@ -132,7 +132,7 @@ fraction_passed table old mid new errors kind h g tells text run stops digit fol
 -- an exponent
 pub exponent_passed : (table : List Bool) (old marked signed new : At) (errors : List Diagnostic) (without kind : Kind)
     → IsPlaced old → IsPlaced signed → TakesExponentMark old marked → TakesSign marked signed kind
-    → TellsDigits 10 table → new.text ≡ signed.text → PassesRun table signed.text signed.place new.place
+    → TellsClass (is_digit_of 10) table → new.text ≡ signed.text → PassesRun table signed.text signed.place new.place
     → begins (matches_at table) (rest new) ≡ false → begins (is_digit_of 10) (rest signed) ≡ true
     → begins may_not_follow_number (rest new) ≡ false
     → ReadsEnd old new errors errors false false kind (exponent_or without (rest old))
@@ -198,7 +198,7 @@ behind_exponent old new errors kind no_point no_suffix end =
 pub prefixed_suffix : (prefix : Prefix) (radix : ℕ) (table : List Bool) (old mid here new : At)
     (errors : List Diagnostic) → radix ≡ (base_of_prefix prefix).radix → radix ≤ 16 → IsPlaced old → IsPlaced mid
     → IsPlaced here → (p : HasPrefix prefix (rest old)) → mid.text ≡ old.text → rest mid ≡ p.behind
-    → TellsDigits radix table → here.text ≡ mid.text → PassesRun table mid.text mid.place here.place
+    → TellsClass (is_digit_of radix) table → here.text ≡ mid.text → PassesRun table mid.text mid.place here.place
     → begins (matches_at table) (rest here) ≡ false → begins (is_digit_of radix) (rest mid) ≡ true
     → Reads here new latin_small_letter_n
     → ReadsCut old new errors errors false false (base_of_prefix prefix).big_kind (number_items (rest old))
@@ -215,7 +215,7 @@ prefixed_suffix prefix radix table old mid here new errors is small h g k p text
 pub prefixed_alone : (prefix : Prefix) (radix : ℕ) (table : List Bool) (old mid here : At)
     (errors : List Diagnostic) → radix ≡ (base_of_prefix prefix).radix → radix ≤ 16 → IsPlaced old → IsPlaced mid
     → IsPlaced here → (p : HasPrefix prefix (rest old)) → mid.text ≡ old.text → rest mid ≡ p.behind
-    → TellsDigits radix table → here.text ≡ mid.text → PassesRun table mid.text mid.place here.place
+    → TellsClass (is_digit_of radix) table → here.text ≡ mid.text → PassesRun table mid.text mid.place here.place
     → begins (matches_at table) (rest here) ≡ false → begins (is_digit_of radix) (rest mid) ≡ true
     → begins may_not_follow_number (rest here) ≡ false
     → ReadsCut old here errors errors false false (base_of_prefix prefix).kind (number_items (rest old))
@@ -265,7 +265,7 @@ parts_are_followers
 unfolding is_digit_of
 parts_are_followers = refl
 
-pub part_may_not_follow : (table : List Bool) (b : ℕ) → TellsParts table → b < 128
+pub part_may_not_follow : (table : List Bool) (b : ℕ) → TellsClass is_identifier_part table → b < 128
     → matches_at table b ≡ may_not_follow_number b
 part_may_not_follow table b tells small =
     tells.tells b small ∙ part_in_ascii b small
@@ -274,7 +274,7 @@ part_may_not_follow table b tells small =
     parts_are_followers small)
     ∙ sym (follower_in_ascii b small)
 
-pub follower_by_table : (table : List Bool) (b : ℕ) → TellsParts table → b < 128
+pub follower_by_table : (table : List Bool) (b : ℕ) → TellsClass is_identifier_part table → b < 128
     → MatchBool (not (matches_at table b)) ((b < 128) × (may_not_follow_number b ≡ false))
     ((128 ≤ b) ⊎ (may_not_follow_number b ≡ true))
 follower_by_table table b tells small = by_test (matches_at table b) refl

@@ -1,5 +1,5 @@
 -- The characters of strings and templates that stand for themselves.
-use Rattle.std.proofs.Common.{◌≡◌, ℕ, ◌<◌, ◌≤◌, Bool, true, false, not, ◌&&◌, ◌||◌, ◌==◌, List, [], ◌∷◌, ◌++◌, length}
+use Rattle.std.proofs.Common.{◌≡◌, ℕ, ◌<◌, ◌≤◌, Bool, true, false, not, ◌&&◌, ◌||◌, ◌==◌, List, [], ◌∷◌, ◌++◌}
 use Rattle.std.proofs.Common.{refl}
 use Rattle.std.proofs.Common.{sym, ◌∙◌, ap, subst, arith, Some, None, inl, inr, append_assoc, ltb}
 use Rattle.std.specs.Prelude.{codes}
@@ -24,22 +24,14 @@ use Rattle.js_grammar.proofs.StringSteps.{FindsHeads, one_item, items_before-app
 use Rattle.js_grammar.proofs.StringSteps.{string_units-append, string_plain, string_ends, string_item_heads}
 use Rattle.js_grammar.proofs.StringSteps.{template_plain, template_ends, template_item_heads, carriage_return_escaped}
 use Rattle.js_grammar.proofs.Tests.{and_true}
-use Rattle.js_source.specs.Runs.{IsRun, PassesRun}
+use Rattle.js_source.specs.Runs.{IsRun, PassesRun, TellsClass}
 use Rattle.js_source.specs.Search.{matches_at}
 use Rattle.js_source.specs.Source.{At, rest, Reads, HasFirstByte, HasFirstTwoBytes, HasAtMostOneByte, StepsPast}
 use Rattle.js_source.proofs.Places.{begins_with, ascii_next}
-use Rattle.js_spell.specs.Strings.{in_template, item_of, stops, plain_here, escape_here, TellsPlain, StopsAt}
+use Rattle.js_spell.specs.Strings.{in_template, item_of, stops, plain_here, escape_here, StopsAt}
 use Rattle.js_spell.specs.Strings.{IsPlainBefore, PassesCharacters}
 use Rattle.js_spell.specs.declared.plain.Literal.{Literal}
 use Rattle.js_spell.specs.declared.plain.Literal.TheVariants.{DoubleQuoted, SingleQuoted, Template}
-use Rattle.js_spell.proofs.NumericSteps.{tells_as, tells_class}
-use Rattle.js_grammar.proofs.NumberClasses.{all_below}
-
-pub tells_plain : (literal : Literal) (table : List Bool)
-    → all_below (tells_as (λ c. not (stops literal c)) table) 256 ≡ true → length table ≡ 256
-    → TellsPlain literal table
-tells_plain literal table e n =
-    let told = tells_class (λ c. not (stops literal c)) table e n in record { ascii = told.ascii; tells = told.tells }
 
 pub heads_of : (literal : Literal) → FindsHeads (item_of literal)
 heads_of DoubleQuoted = string_item_heads quotation_mark
@@ -141,7 +133,7 @@ plain_then literal text mid left first second =
     }
 
 -- a run of the table
-plain_run : (literal : Literal) (table : List Bool) (xs left : List ℕ) → TellsPlain literal table → IsRun table xs
+plain_run : (literal : Literal) (table : List Bool) (xs left : List ℕ) → TellsClass (λ b. not (stops literal b)) table → IsRun table xs
     → IsPlainBefore literal (xs ++ left) left
 plain_run literal table [] left tells run = plain_nothing literal left
 plain_run literal table (x ∷ xs) left tells run =
@@ -160,7 +152,7 @@ passes_then literal old mid new first second = record {
   plain = plain_then literal (rest old) (rest mid) (rest new) first.plain second.plain;
 }
 
-pub passes_run : (literal : Literal) (table : List Bool) (old new : At) → TellsPlain literal table
+pub passes_run : (literal : Literal) (table : List Bool) (old new : At) → TellsClass (λ b. not (stops literal b)) table
     → new.text ≡ old.text → PassesRun table old.text old.place new.place → PassesCharacters literal old new
 passes_run literal table old new tells text run =
     let here : rest old ≡ run.run ++ rest new =
@@ -202,7 +194,7 @@ plain_wide literal b [] h first = absurd first
 plain_wide literal b (c ∷ cs) h first = rw (wide_goes_on literal c (wide_first b c cs h first)) refl
 
 -- the byte at which a run stops
-pub stops_at : (literal : Literal) (table : List Bool) (b : ℕ) (text : List ℕ) → TellsPlain literal table → b < 128
+pub stops_at : (literal : Literal) (table : List Bool) (b : ℕ) (text : List ℕ) → TellsClass (λ b. not (stops literal b)) table → b < 128
     → HasFirstByte b text → begins (matches_at table) text ≡ false → StopsAt literal b text
 stops_at literal table b text tells low first stop =
     let found = begins_with b text (ascii_next b text low first) in

@@ -1,5 +1,5 @@
 -- What readers of angles and of parts of JSX give, and their steps.
-use Rattle.std.specs.Prelude.{◌≡◌, ℕ, ◌<◌, Bool, true, false, not, List, [], ◌∷◌, ◌==◌, Some, None}
+use Rattle.std.specs.Prelude.{◌≡◌, ℕ, Bool, true, false, List, [], ◌∷◌, ◌==◌, Some, None}
 use Rattle.std.specs.Prelude.{if◌then◌else◌, drop}
 use Rattle.std.specs.Option.{option_map_or}
 use Rattle.js_text.specs.Ascii.{apostrophe, equals_sign, greater_than_sign, quotation_mark}
@@ -10,8 +10,6 @@ use Rattle.js_grammar.specs.Angle.{angle_reading, right_angles}
 use Rattle.js_grammar.specs.Jsx.{ends_jsx_text, jsx_name_reading, jsx_name_up_to, jsx_string_reading}
 use Rattle.js_grammar.specs.Reading.{Reading, read_up_to, reported_at}
 use Rattle.js_spell.specs.Spells.{ReadsAs}
-use Rattle.js_source.specs.Runs.{HasAscii}
-use Rattle.js_source.specs.Search.{matches_at}
 use Rattle.js_source.specs.Source.{At, rest, BeginsWith, Reads}
 use Rattle.js_spell.specs.declared.jsx.Text.{Text}
 use Rattle.js_spell.specs.declared.jsx.Text.TheVariants.{Child, DoubleQuoted, SingleQuoted}
@@ -43,11 +41,6 @@ abbrev pub ends_of : Text → ℕ → Bool
 ends_of Child c = ends_jsx_text c
 ends_of DoubleQuoted c = c == quotation_mark
 ends_of SingleQuoted c = c == apostrophe
-
--- the table has the ASCII characters that stand for themselves
-pub record TellsText (within : Text) (table : List Bool) : Type 0 where
-  pub ascii : HasAscii table
-  pub tells : (b : ℕ) → b < 128 → matches_at table b ≡ not (ends_of within b)
 
 -- a character that ends the text is next
 pub record StopsAt (within : Text) (b : ℕ) (text : List ℕ) : Type 0 where

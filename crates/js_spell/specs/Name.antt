@@ -15,8 +15,6 @@ use Rattle.js_grammar.specs.Name.NameFault.{bad_escape, not_allowed}
 use Rattle.js_grammar.specs.UnicodeEscape.{unicode_escape}
 use Rattle.js_kind.specs.Keywords.{name_kind}
 use Rattle.js_kind.specs.declared.kind.Kind.{Kind}
-use Rattle.js_source.specs.Runs.{HasAscii}
-use Rattle.js_source.specs.Search.{matches_at}
 use Rattle.js_source.specs.Source.{At, rest}
 use Rattle.js_spell.specs.declared.name.Decoding.{Decoding}
 use Rattle.js_spell.specs.declared.name.Decoding.TheVariants.{Character, NotAllowed, Bad}
@@ -26,11 +24,6 @@ use Rattle.js_spell.specs.declared.spelt.Spelt.{Spelt}
 use Rattle.js_spell.specs.declared.spelt.SpeltValue.TheVariants.{Decoded}
 use Rattle.js_spell.specs.Spells.{SpellsPlainly}
 use Rattle.js_grammar.specs.Reading.{Reading, moved_diagnostic}
-
--- the ASCII characters that are parts of names
-pub record TellsParts (table : List Bool) : Type 0 where
-  pub ascii : HasAscii table
-  pub tells : (b : ℕ) → b < 128 → matches_at table b ≡ is_identifier_part b
 
 -- the characters that an item of a name may be of
 abbrev pub class_of : Position → ℕ → Bool

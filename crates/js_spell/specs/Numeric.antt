@@ -1,11 +1,9 @@
 -- The steps of reading a number.
-use Rattle.std.specs.Prelude.{◌≡◌, ℕ, ◌<◌, Bool, true, false, List, [], ◌∷◌, ◌++◌, ◌||◌, not, length, drop, ◌⊎◌, Some}
+use Rattle.std.specs.Prelude.{◌≡◌, ℕ, Bool, true, false, List, [], ◌∷◌, ◌++◌, ◌||◌, not, length, drop, ◌⊎◌, Some}
 use Rattle.std.specs.Prelude.{None, nat_le, ◌==◌}
 use Rattle.js_text.specs.Ascii.{low_line}
 use Rattle.js_text.specs.declared.diagnostic.Diagnostic.{Diagnostic}
 use Rattle.js_text.specs.Characters.{begins}
-use Rattle.js_source.specs.Runs.{HasAscii}
-use Rattle.js_source.specs.Search.{matches_at}
 use Rattle.js_source.specs.Source.{At, rest, Reads}
 use Rattle.js_grammar.specs.Number.{Item, Base, may_not_follow_number, base_of, digit_zero, whole, broken, digits_on}
 use Rattle.js_grammar.specs.Number.{run, integer, are_digits, is_exponent_mark, sign_text, sign_kind}
@@ -30,11 +28,6 @@ radix_of_digits Binary = 2
 radix_of_digits Octal = 8
 radix_of_digits Decimal = 10
 radix_of_digits Hex = 16
-
--- the table has the digits of the radix
-pub record TellsDigits (radix : ℕ) (table : List Bool) : Type 0 where
-  pub ascii : HasAscii table
-  pub tells : (b : ℕ) → b < 128 → matches_at table b ≡ is_digit_of radix b
 
 -- an item with more characters in front
 abbrev pub prepend : List ℕ → Item → Item

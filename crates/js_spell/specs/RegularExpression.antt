@@ -1,5 +1,5 @@
 -- The steps of reading a regular expression.
-use Rattle.std.specs.Prelude.{◌≡◌, ℕ, ◌+◌, ◌<◌, ◌≤◌, Bool, true, false, not, List, [], ◌∷◌, ◌++◌, length, ◌==◌, ◌||◌}
+use Rattle.std.specs.Prelude.{◌≡◌, ℕ, ◌+◌, ◌≤◌, Bool, true, false, List, [], ◌∷◌, ◌++◌, length, ◌==◌, ◌||◌}
 use Rattle.std.specs.Prelude.{drop, Option, Some, None}
 use Rattle.js_text.specs.Ascii.{backslash, slash}
 use Rattle.js_text.specs.Characters.{begins, before_first, from_first, is_line_terminator}
@@ -15,8 +15,6 @@ use Rattle.js_grammar.specs.RegularExpression.{is_flag_character}
 use Rattle.js_grammar.specs.RegularExpression.{left_square_bracket, with_letters}
 use Rattle.js_grammar.specs.RegularExpression.{letter_reports, no_flags, right_square_bracket, with_letter}
 use Rattle.js_grammar.specs.StringItems.{stretch}
-use Rattle.js_source.specs.Runs.{HasAscii}
-use Rattle.js_source.specs.Search.{matches_at}
 use Rattle.js_source.specs.Source.{At, rest, IsPlaced, Reads}
 use Rattle.js_spell.specs.declared.regular_expression.Within.{Within}
 use Rattle.js_spell.specs.declared.regular_expression.Within.TheVariants.{Body, Class}
@@ -37,11 +35,6 @@ marks Class c = (c == backslash) || ((c == right_square_bracket) || is_line_term
 abbrev pub closing : Within → ℕ
 closing Body = slash
 closing Class = right_square_bracket
-
--- the table has the ASCII characters that stand for themselves
-pub record TellsCharacters (within : Within) (table : List Bool) : Type 0 where
-  pub ascii : HasAscii table
-  pub tells : (b : ℕ) → b < 128 → matches_at table b ≡ not (marks within b)
 
 -- a line or the text ends here
 abbrev pub is_line_end : List ℕ → Bool

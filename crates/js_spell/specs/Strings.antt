@@ -17,8 +17,6 @@ use Rattle.js_grammar.specs.StringItems.{are_good, item_reports, stretch}
 use Rattle.js_grammar.specs.StringItems.StringValue.{no_value, units, bad_value}
 use Rattle.js_grammar.specs.Template.{template_item, template_value, template_part_reading}
 use Rattle.js_grammar.specs.Quoted.{quoted_reading}
-use Rattle.js_source.specs.Runs.{HasAscii}
-use Rattle.js_source.specs.Search.{matches_at}
 use Rattle.js_source.specs.Source.{At, rest, Reads}
 use Rattle.js_spell.specs.declared.plain.Literal.{Literal}
 use Rattle.js_spell.specs.declared.plain.Literal.TheVariants.{DoubleQuoted, SingleQuoted, Template}
@@ -64,11 +62,6 @@ plain_here literal (c ∷ cs) =
 abbrev pub escape_here : Literal → List ℕ → Bool
 escape_here literal text =
     begins (λ c. c == backslash) text || (in_template literal && begins (λ c. c == carriage_return) text)
-
--- the table has the ASCII characters that always stand for themselves
-pub record TellsPlain (literal : Literal) (table : List Bool) : Type 0 where
-  pub ascii : HasAscii table
-  pub tells : (b : ℕ) → b < 128 → matches_at table b ≡ not (stops literal b)
 
 -- the byte b is next, a character of those that do not always stand for themselves
 pub record StopsAt (literal : Literal) (b : ℕ) (text : List ℕ) : Type 0 where

@@ -1,20 +1,21 @@
 //! Reading parts of JSX.
 
-ghost use Rattle.std.specs.Prelude.{◌≡◌, ◌==◌, ◌≤◌, true, IfOk, IfNone, IfSome, OnErr, []};
+ghost use Rattle.std.specs.Prelude.{◌≡◌, ◌==◌, ◌≤◌, true, not, IfOk, IfNone, IfSome, OnErr, []};
 ghost use Rattle.js_text.specs.Characters.{begins, from_first};
 ghost use Rattle.js_grammar.specs.Jsx.{begins_child, ends_jsx_name, jsx_child_reading, jsx_text_reading};
 ghost use Rattle.js_grammar.specs.Reading.{reported_at};
 ghost use Rattle.js_grammar.specs.StringItems.{is_quote};
+ghost use Rattle.js_source.specs.Runs.{TellsClass};
 ghost use Rattle.js_source.specs.Source.{rest, IsPlaced};
 ghost use Rattle.js_spell.specs.Spells.{ReadsAs};
-ghost use Rattle.js_spell.specs.Goals.{SpellsJsxName, SpellsJsxString, StopsAt, TakesJsxQuote, TellsText};
+ghost use Rattle.js_spell.specs.Goals.{SpellsJsxName, SpellsJsxString, StopsAt, TakesJsxQuote};
 ghost use Rattle.js_spell.specs.Goals.{ends_of, jsx_string_reports};
 ghost use Rattle.js_spell.specs.Breaks.{BreaksOff};
 
 use crate::escape::report_unterminated;
 use crate::name::skip_parts;
 use js_kind::Kind;
-use js_source::Source;
+use js_source::{Source, of_each_byte};
 use js_text::{Diagnostic, DiagnosticList, Span};
 use std::alloc::AllocError;
 
@@ -56,76 +57,40 @@ enum Text {
     SingleQuoted,
 }
 
+/// ASCII, and none of `<`, `>`, `{` and `}`.
+macro_rules! stands_in_child {
+    ($byte:literal) => {
+        $byte < 128 && $byte != b'<' && $byte != b'>' && $byte != b'{' && $byte != b'}'
+    };
+}
+
 /// The ASCII characters that stand for themselves in the text of a child.
-static CHILD: [bool; 256] = [
-    true, true, true, true, true, true, true, true, true, true, true, true, true, true, true, true,
-    true, true, true, true, true, true, true, true, true, true, true, true, true, true, true, true,
-    true, true, true, true, true, true, true, true, true, true, true, true, true, true, true, true,
-    true, true, true, true, true, true, true, true, true, true, true, true, false, true, false,
-    true, true, true, true, true, true, true, true, true, true, true, true, true, true, true, true,
-    true, true, true, true, true, true, true, true, true, true, true, true, true, true, true, true,
-    true, true, true, true, true, true, true, true, true, true, true, true, true, true, true, true,
-    true, true, true, true, true, true, true, true, true, true, true, true, false, true, false,
-    true, true, false, false, false, false, false, false, false, false, false, false, false, false,
-    false, false, false, false, false, false, false, false, false, false, false, false, false,
-    false, false, false, false, false, false, false, false, false, false, false, false, false,
-    false, false, false, false, false, false, false, false, false, false, false, false, false,
-    false, false, false, false, false, false, false, false, false, false, false, false, false,
-    false, false, false, false, false, false, false, false, false, false, false, false, false,
-    false, false, false, false, false, false, false, false, false, false, false, false, false,
-    false, false, false, false, false, false, false, false, false, false, false, false, false,
-    false, false, false, false, false, false, false, false, false, false, false, false, false,
-    false, false, false, false, false, false, false, false, false, false, false, false,
-];
+static CHILD: [bool; 256] = of_each_byte!(stands_in_child);
+
+/// ASCII, and no `"`.
+macro_rules! stands_in_double_quotes {
+    ($byte:literal) => {
+        $byte < 128 && $byte != b'"'
+    };
+}
 
 /// The ASCII characters that stand for themselves between double quotes.
-static DOUBLE_QUOTED: [bool; 256] = [
-    true, true, true, true, true, true, true, true, true, true, true, true, true, true, true, true,
-    true, true, true, true, true, true, true, true, true, true, true, true, true, true, true, true,
-    true, true, false, true, true, true, true, true, true, true, true, true, true, true, true,
-    true, true, true, true, true, true, true, true, true, true, true, true, true, true, true, true,
-    true, true, true, true, true, true, true, true, true, true, true, true, true, true, true, true,
-    true, true, true, true, true, true, true, true, true, true, true, true, true, true, true, true,
-    true, true, true, true, true, true, true, true, true, true, true, true, true, true, true, true,
-    true, true, true, true, true, true, true, true, true, true, true, true, true, true, true, true,
-    true, false, false, false, false, false, false, false, false, false, false, false, false,
-    false, false, false, false, false, false, false, false, false, false, false, false, false,
-    false, false, false, false, false, false, false, false, false, false, false, false, false,
-    false, false, false, false, false, false, false, false, false, false, false, false, false,
-    false, false, false, false, false, false, false, false, false, false, false, false, false,
-    false, false, false, false, false, false, false, false, false, false, false, false, false,
-    false, false, false, false, false, false, false, false, false, false, false, false, false,
-    false, false, false, false, false, false, false, false, false, false, false, false, false,
-    false, false, false, false, false, false, false, false, false, false, false, false, false,
-    false, false, false, false, false, false, false, false, false, false, false, false,
-];
+static DOUBLE_QUOTED: [bool; 256] = of_each_byte!(stands_in_double_quotes);
+
+/// ASCII, and no `'`.
+macro_rules! stands_in_single_quotes {
+    ($byte:literal) => {
+        $byte < 128 && $byte != b'\''
+    };
+}
 
 /// The ASCII characters that stand for themselves between single quotes.
-static SINGLE_QUOTED: [bool; 256] = [
-    true, true, true, true, true, true, true, true, true, true, true, true, true, true, true, true,
-    true, true, true, true, true, true, true, true, true, true, true, true, true, true, true, true,
-    true, true, true, true, true, true, true, false, true, true, true, true, true, true, true,
-    true, true, true, true, true, true, true, true, true, true, true, true, true, true, true, true,
-    true, true, true, true, true, true, true, true, true, true, true, true, true, true, true, true,
-    true, true, true, true, true, true, true, true, true, true, true, true, true, true, true, true,
-    true, true, true, true, true, true, true, true, true, true, true, true, true, true, true, true,
-    true, true, true, true, true, true, true, true, true, true, true, true, true, true, true, true,
-    true, false, false, false, false, false, false, false, false, false, false, false, false,
-    false, false, false, false, false, false, false, false, false, false, false, false, false,
-    false, false, false, false, false, false, false, false, false, false, false, false, false,
-    false, false, false, false, false, false, false, false, false, false, false, false, false,
-    false, false, false, false, false, false, false, false, false, false, false, false, false,
-    false, false, false, false, false, false, false, false, false, false, false, false, false,
-    false, false, false, false, false, false, false, false, false, false, false, false, false,
-    false, false, false, false, false, false, false, false, false, false, false, false, false,
-    false, false, false, false, false, false, false, false, false, false, false, false, false,
-    false, false, false, false, false, false, false, false, false, false, false, false,
-];
+static SINGLE_QUOTED: [bool; 256] = of_each_byte!(stands_in_single_quotes);
 
 /// The table of the ASCII characters that stand for themselves.
 #[inline(always)]
 fn table_of(within: Text) -> &'static [bool; 256]
-    ensures { TellsText within result.now }
+    ensures { TellsClass (λ b. not (ends_of within b)) result.now }
 {
     match within {
         Text::Child => &CHILD,

@@ -12,11 +12,12 @@ ghost use Rattle.js_grammar.specs.Reading.{reported_at};
 ghost use Rattle.js_spell.specs.Name.{behind_sign};
 ghost use Rattle.js_spell.specs.Spells.{Spells};
 ghost use Rattle.js_kind.specs.Keywords.{name_kind};
+ghost use Rattle.js_source.specs.Runs.{TellsClass};
 ghost use Rattle.js_source.specs.Source.{rest, IsPlaced, BeginsWith, HasFirstByte};
 ghost use Rattle.js_spell.specs.Name.{class_of, PassesPlain, DecodesEscape, DecodesUnicode, ReadsEscape, ReadsItems};
 ghost use Rattle.js_spell.specs.Name.{PassesParts, ReadsToEnd, SpellsDecoded, ReportsNoName};
 ghost use Rattle.js_spell.specs.Name.{SpellsPlainName, MeetsEscape, SpellsPlainPrivateName};
-ghost use Rattle.js_spell.specs.Name.{MeetsNoPlainName, TellsParts, items_told};
+ghost use Rattle.js_spell.specs.Name.{MeetsNoPlainName, items_told};
 ghost use Rattle.js_spell.specs.Breaks.{BreaksOff};
 ghost use Rattle.js_spell.specs.declared.name.Position.TheVariants.{Later};
 ghost use Rattle.js_spell.specs.declared.spelt.SpeltValue.TheVariants.{Decoded};
@@ -417,7 +418,7 @@ fn end_of_parts(source: Source<'_>) -> SourcePosition
 #[inline(always)]
 fn pass_to_end(source: &mut Source<'_>, parts: &[bool; 256]) -> Option<u8>
     requires placed { IsPlaced source.old }
-    requires parts { TellsParts parts.now }
+    requires parts { TellsClass is_identifier_part parts.now }
     ensures text { source.new.text ≡ source.old.text }
     ensures rest { rest source.new ≡ from_first is_no_part (rest source.old) }
     ensures none { IfNone result (rest source.new ≡ []) }
@@ -438,7 +439,7 @@ fn pass_to_end(source: &mut Source<'_>, parts: &[bool; 256]) -> Option<u8>
 /// gives the byte that is next.
 #[inline(always)]
 fn pass_plain_from(source: &mut Source<'_>, parts: &[bool; 256], b: u8) -> Option<u8>
-    requires parts { TellsParts parts.now }
+    requires parts { TellsClass is_identifier_part parts.now }
     requires ascii { b < 128 }
     requires next { HasFirstByte b (rest source.old) }
     requires begun { begins_name (rest source.old) ≡ true }
@@ -472,7 +473,7 @@ fn is_backslash(next: Option<u8>) -> bool
 #[inline(always)]
 pub fn read_plain_name_by(source: &mut Source<'_>, parts: &[bool; 256], b: u8) -> Option<Kind>
     requires placed { IsPlaced source.old }
-    requires parts { TellsParts parts.now }
+    requires parts { TellsClass is_identifier_part parts.now }
     requires ascii { b < 128 }
     requires next { HasFirstByte b (rest source.old) }
     requires begun { begins_name (rest source.old) ≡ true }

@@ -1,16 +1,16 @@
 //! The characters of strings and templates that stand for themselves.
 
-ghost use Rattle.std.specs.Prelude.{◌≡◌, ◌==◌, ◌&&◌, false, codes, IfNone, IfSome, []};
+ghost use Rattle.std.specs.Prelude.{◌≡◌, ◌==◌, ◌&&◌, false, not, codes, IfNone, IfSome, []};
 ghost use Rattle.js_text.specs.Ascii.{dollar_sign};
 ghost use Rattle.js_grammar.specs.Gap.{is_prefix};
 ghost use Rattle.js_grammar.specs.UnicodeEscape.{left_curly_bracket};
 ghost use Rattle.std.specs.Str.{IsCharBoundary};
 ghost use Rattle.js_text.specs.Characters.{from_place};
-ghost use Rattle.js_source.specs.Runs.{place_of};
+ghost use Rattle.js_source.specs.Runs.{TellsClass, place_of};
 ghost use Rattle.js_source.specs.Source.{rest, IsPlaced, HasFirstByte};
-ghost use Rattle.js_spell.specs.Strings.{in_template, plain_here, TellsPlain, PassesCharacters, StopsAt};
+ghost use Rattle.js_spell.specs.Strings.{in_template, plain_here, stops, PassesCharacters, StopsAt};
 
-use js_source::{Source, SourcePosition};
+use js_source::{Source, SourcePosition, of_each_byte};
 
 /// What the characters stand in.
 #[derive(Clone, Copy, Debug)]
@@ -35,77 +35,40 @@ impl Literal {
     }
 }
 
+/// ASCII, and none of `\`, `"`, LF and CR.
+macro_rules! stands_in_double_quotes {
+    ($byte:literal) => {
+        $byte < 128 && $byte != b'\\' && $byte != b'"' && $byte != b'\n' && $byte != b'\r'
+    };
+}
+
 /// The ASCII characters that stand for themselves between double quotes.
-static DOUBLE_QUOTED: [bool; 256] = [
-    true, true, true, true, true, true, true, true, true, true, false, true, true, false, true,
-    true, true, true, true, true, true, true, true, true, true, true, true, true, true, true, true,
-    true, true, true, false, true, true, true, true, true, true, true, true, true, true, true,
-    true, true, true, true, true, true, true, true, true, true, true, true, true, true, true, true,
-    true, true, true, true, true, true, true, true, true, true, true, true, true, true, true, true,
-    true, true, true, true, true, true, true, true, true, true, true, true, true, true, false,
-    true, true, true, true, true, true, true, true, true, true, true, true, true, true, true, true,
-    true, true, true, true, true, true, true, true, true, true, true, true, true, true, true, true,
-    true, true, true, false, false, false, false, false, false, false, false, false, false, false,
-    false, false, false, false, false, false, false, false, false, false, false, false, false,
-    false, false, false, false, false, false, false, false, false, false, false, false, false,
-    false, false, false, false, false, false, false, false, false, false, false, false, false,
-    false, false, false, false, false, false, false, false, false, false, false, false, false,
-    false, false, false, false, false, false, false, false, false, false, false, false, false,
-    false, false, false, false, false, false, false, false, false, false, false, false, false,
-    false, false, false, false, false, false, false, false, false, false, false, false, false,
-    false, false, false, false, false, false, false, false, false, false, false, false, false,
-    false, false, false, false, false, false, false, false, false, false, false, false, false,
-];
+static DOUBLE_QUOTED: [bool; 256] = of_each_byte!(stands_in_double_quotes);
+
+/// ASCII, and none of `\`, `'`, LF and CR.
+macro_rules! stands_in_single_quotes {
+    ($byte:literal) => {
+        $byte < 128 && $byte != b'\\' && $byte != b'\'' && $byte != b'\n' && $byte != b'\r'
+    };
+}
 
 /// The ASCII characters that stand for themselves between single quotes.
-static SINGLE_QUOTED: [bool; 256] = [
-    true, true, true, true, true, true, true, true, true, true, false, true, true, false, true,
-    true, true, true, true, true, true, true, true, true, true, true, true, true, true, true, true,
-    true, true, true, true, true, true, true, true, false, true, true, true, true, true, true,
-    true, true, true, true, true, true, true, true, true, true, true, true, true, true, true, true,
-    true, true, true, true, true, true, true, true, true, true, true, true, true, true, true, true,
-    true, true, true, true, true, true, true, true, true, true, true, true, true, true, false,
-    true, true, true, true, true, true, true, true, true, true, true, true, true, true, true, true,
-    true, true, true, true, true, true, true, true, true, true, true, true, true, true, true, true,
-    true, true, true, false, false, false, false, false, false, false, false, false, false, false,
-    false, false, false, false, false, false, false, false, false, false, false, false, false,
-    false, false, false, false, false, false, false, false, false, false, false, false, false,
-    false, false, false, false, false, false, false, false, false, false, false, false, false,
-    false, false, false, false, false, false, false, false, false, false, false, false, false,
-    false, false, false, false, false, false, false, false, false, false, false, false, false,
-    false, false, false, false, false, false, false, false, false, false, false, false, false,
-    false, false, false, false, false, false, false, false, false, false, false, false, false,
-    false, false, false, false, false, false, false, false, false, false, false, false, false,
-    false, false, false, false, false, false, false, false, false, false, false, false, false,
-];
+static SINGLE_QUOTED: [bool; 256] = of_each_byte!(stands_in_single_quotes);
+
+/// ASCII, and none of `\`, `` ` ``, `$` and CR.
+macro_rules! stands_in_template {
+    ($byte:literal) => {
+        $byte < 128 && $byte != b'\\' && $byte != b'`' && $byte != b'$' && $byte != b'\r'
+    };
+}
 
 /// The ASCII characters that always stand for themselves in templates.
-static TEMPLATE: [bool; 256] = [
-    true, true, true, true, true, true, true, true, true, true, true, true, true, false, true,
-    true, true, true, true, true, true, true, true, true, true, true, true, true, true, true, true,
-    true, true, true, true, true, false, true, true, true, true, true, true, true, true, true,
-    true, true, true, true, true, true, true, true, true, true, true, true, true, true, true, true,
-    true, true, true, true, true, true, true, true, true, true, true, true, true, true, true, true,
-    true, true, true, true, true, true, true, true, true, true, true, true, true, true, false,
-    true, true, true, false, true, true, true, true, true, true, true, true, true, true, true,
-    true, true, true, true, true, true, true, true, true, true, true, true, true, true, true, true,
-    true, true, true, true, false, false, false, false, false, false, false, false, false, false,
-    false, false, false, false, false, false, false, false, false, false, false, false, false,
-    false, false, false, false, false, false, false, false, false, false, false, false, false,
-    false, false, false, false, false, false, false, false, false, false, false, false, false,
-    false, false, false, false, false, false, false, false, false, false, false, false, false,
-    false, false, false, false, false, false, false, false, false, false, false, false, false,
-    false, false, false, false, false, false, false, false, false, false, false, false, false,
-    false, false, false, false, false, false, false, false, false, false, false, false, false,
-    false, false, false, false, false, false, false, false, false, false, false, false, false,
-    false, false, false, false, false, false, false, false, false, false, false, false, false,
-    false,
-];
+static TEMPLATE: [bool; 256] = of_each_byte!(stands_in_template);
 
 /// The table of the ASCII characters that stand for themselves.
 #[inline(always)]
 fn table_of(literal: Literal) -> &'static [bool; 256]
-    ensures { TellsPlain literal result.now }
+    ensures { TellsClass (λ b. not (stops literal b)) result.now }
 {
     match literal {
         Literal::DoubleQuoted => &DOUBLE_QUOTED,

@@ -1,22 +1,23 @@
 //! Reading regular expressions (ECMA-262 12.9.5).
 
 ghost use Rattle.std.specs.Prelude.{◌≡◌, ◌+◌, ◌≤◌, ◌<◌, ◌^◌, [], List, ℕ, true, false, IfOk, OnErr};
-ghost use Rattle.std.specs.Prelude.{IfNone, IfSome, ◌==◌};
+ghost use Rattle.std.specs.Prelude.{IfNone, IfSome, ◌==◌, not};
 ghost use Rattle.js_text.specs.Ascii.{backslash};
 ghost use Rattle.js_text.specs.Characters.{begins, is_line_terminator};
 ghost use Rattle.js_grammar.specs.RegularExpression.{is_flag_character};
 ghost use Rattle.js_grammar.specs.Reading.{reported_at};
 ghost use Rattle.js_grammar.specs.RegularExpression.{regular_expression};
 ghost use Rattle.js_source.specs.Source.{rest, IsPlaced, BeginsWith};
+ghost use Rattle.js_source.specs.Runs.{TellsClass};
 ghost use Rattle.js_spell.specs.Breaks.{BreaksOff};
-ghost use Rattle.js_spell.specs.RegularExpression.{PassesParts, StopIs, TellsCharacters, marks, PassesBackslash};
+ghost use Rattle.js_spell.specs.RegularExpression.{PassesParts, StopIs, marks, PassesBackslash};
 ghost use Rattle.js_spell.specs.RegularExpression.{AddsLetter, BreaksLine, PassesClass, PassesBody, SpellsExpression};
 ghost use Rattle.js_spell.specs.RegularExpression.{SpellsFlags, flags_told};
 ghost use Rattle.js_spell.specs.RegularExpression.{TakesLetter};
 
 use crate::parts::name_parts;
 use bitflags::Flags;
-use js_source::Source;
+use js_source::{Source, of_each_byte};
 use js_text::{
     Diagnostic, DiagnosticList, RegExpFlags, RegexInfo, Span, either, is_line_terminator,
 };
@@ -44,54 +45,35 @@ enum Stop {
     LineEnd,
 }
 
+/// ASCII, and none of `\`, `[`, `/`, LF and CR.
+macro_rules! stands_in_body {
+    ($byte:literal) => {
+        $byte < 128
+            && $byte != b'\\'
+            && $byte != b'['
+            && $byte != b'/'
+            && $byte != b'\n'
+            && $byte != b'\r'
+    };
+}
+
 /// The ASCII characters that stand for themselves in the body of a regular expression.
-static BODY: [bool; 256] = [
-    true, true, true, true, true, true, true, true, true, true, false, true, true, false, true,
-    true, true, true, true, true, true, true, true, true, true, true, true, true, true, true, true,
-    true, true, true, true, true, true, true, true, true, true, true, true, true, true, true, true,
-    false, true, true, true, true, true, true, true, true, true, true, true, true, true, true,
-    true, true, true, true, true, true, true, true, true, true, true, true, true, true, true, true,
-    true, true, true, true, true, true, true, true, true, true, true, true, true, false, false,
-    true, true, true, true, true, true, true, true, true, true, true, true, true, true, true, true,
-    true, true, true, true, true, true, true, true, true, true, true, true, true, true, true, true,
-    true, true, true, false, false, false, false, false, false, false, false, false, false, false,
-    false, false, false, false, false, false, false, false, false, false, false, false, false,
-    false, false, false, false, false, false, false, false, false, false, false, false, false,
-    false, false, false, false, false, false, false, false, false, false, false, false, false,
-    false, false, false, false, false, false, false, false, false, false, false, false, false,
-    false, false, false, false, false, false, false, false, false, false, false, false, false,
-    false, false, false, false, false, false, false, false, false, false, false, false, false,
-    false, false, false, false, false, false, false, false, false, false, false, false, false,
-    false, false, false, false, false, false, false, false, false, false, false, false, false,
-    false, false, false, false, false, false, false, false, false, false, false, false, false,
-];
+static BODY: [bool; 256] = of_each_byte!(stands_in_body);
+
+/// ASCII, and none of `\`, `]`, LF and CR.
+macro_rules! stands_in_class {
+    ($byte:literal) => {
+        $byte < 128 && $byte != b'\\' && $byte != b']' && $byte != b'\n' && $byte != b'\r'
+    };
+}
 
 /// The ASCII characters that stand for themselves in a class.
-static CLASS: [bool; 256] = [
-    true, true, true, true, true, true, true, true, true, true, false, true, true, false, true,
-    true, true, true, true, true, true, true, true, true, true, true, true, true, true, true, true,
-    true, true, true, true, true, true, true, true, true, true, true, true, true, true, true, true,
-    true, true, true, true, true, true, true, true, true, true, true, true, true, true, true, true,
-    true, true, true, true, true, true, true, true, true, true, true, true, true, true, true, true,
-    true, true, true, true, true, true, true, true, true, true, true, true, true, false, false,
-    true, true, true, true, true, true, true, true, true, true, true, true, true, true, true, true,
-    true, true, true, true, true, true, true, true, true, true, true, true, true, true, true, true,
-    true, true, false, false, false, false, false, false, false, false, false, false, false, false,
-    false, false, false, false, false, false, false, false, false, false, false, false, false,
-    false, false, false, false, false, false, false, false, false, false, false, false, false,
-    false, false, false, false, false, false, false, false, false, false, false, false, false,
-    false, false, false, false, false, false, false, false, false, false, false, false, false,
-    false, false, false, false, false, false, false, false, false, false, false, false, false,
-    false, false, false, false, false, false, false, false, false, false, false, false, false,
-    false, false, false, false, false, false, false, false, false, false, false, false, false,
-    false, false, false, false, false, false, false, false, false, false, false, false, false,
-    false, false, false, false, false, false, false, false, false, false, false, false,
-];
+static CLASS: [bool; 256] = of_each_byte!(stands_in_class);
 
 /// The table of the ASCII characters that stand for themselves.
 #[inline(always)]
 fn table_of(within: Within) -> &'static [bool; 256]
-    ensures { TellsCharacters within result.now }
+    ensures { TellsClass (λ b. not (marks within b)) result.now }
 {
     match within {
         Within::Body => &BODY,

@@ -1,6 +1,7 @@
 use Rattle.std.proofs.Common.{refl}
-use Rattle.js_reader.proofs.PartSteps.{tells_blanks}
+use Rattle.js_source.proofs.Classes.{tells_class}
+use Rattle.js_reader.specs.Tables.{is_blank}
 use Rattle.js_reader.proofs.tables.blanks.Goals as goal
 
 pub returns : goal.returns
-returns c = tells_blanks _ refl refl
+returns c = tells_class is_blank _ refl refl

@@ -1,13 +1,14 @@
-use Rattle.std.proofs.Common.{refl}
+use Rattle.std.proofs.Common.{refl, not}
 use Rattle.js_spell.specs.declared.plain.Literal.TheVariants.{DoubleQuoted, SingleQuoted, Template}
-use Rattle.js_spell.proofs.PlainSteps.{tells_plain}
+use Rattle.js_spell.specs.Strings.{stops}
+use Rattle.js_source.proofs.Classes.{tells_class}
 use Rattle.js_spell.proofs.plain.table_of.Goals as goal
 
 pub returns-in-DoubleQuoted : goal.returns-in-DoubleQuoted
-returns-in-DoubleQuoted c = rw c.in-DoubleQuoted.is (tells_plain DoubleQuoted _ refl refl)
+returns-in-DoubleQuoted c = rw c.in-DoubleQuoted.is (tells_class (λ b. not (stops DoubleQuoted b)) _ refl refl)
 
 pub returns-in-SingleQuoted : goal.returns-in-SingleQuoted
-returns-in-SingleQuoted c = rw c.in-SingleQuoted.is (tells_plain SingleQuoted _ refl refl)
+returns-in-SingleQuoted c = rw c.in-SingleQuoted.is (tells_class (λ b. not (stops SingleQuoted b)) _ refl refl)
 
 pub returns-in-Template : goal.returns-in-Template
-returns-in-Template c = rw c.in-Template.is (tells_plain Template _ refl refl)
+returns-in-Template c = rw c.in-Template.is (tells_class (λ b. not (stops Template b)) _ refl refl)
