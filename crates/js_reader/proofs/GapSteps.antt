@@ -378,7 +378,8 @@ blank_run table tells (b ∷ bs) old source found all h g text here later after 
     piece_leads false old found false (record old { source = mid }) found p later after
     (blank_run table tells bs (record old { source = mid }) source found all.2 placed g text past.1 later after s)
 
-pub blanks_lead : (table : List Bool) → TellsClass is_blank table → (old : Reader) (source : At) (found : FindingsBuilder)
+pub blanks_lead : (table : List Bool) → TellsClass is_blank table
+    → (old : Reader) (source : At) (found : FindingsBuilder)
     → IsPlaced old.source → IsPlaced source → source.text ≡ old.source.text
     → PassesRun table old.source.text old.source.place source.place
     → Leads false old found false (record old { source = source }) found

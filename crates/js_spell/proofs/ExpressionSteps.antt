@@ -104,8 +104,8 @@ pub passes_then : (within : Within) (a b c : At) → PassesParts within a b → 
     → PassesParts within a c
 passes_then within a b c h g = record { stays = stays_then a b c h.stays g.stays; left = h.left ∙ g.left }
 
-run_left : (within : Within) (table : List Bool) (run left : List ℕ) → TellsClass (λ b. not (marks within b)) table → IsRun table run
-    → behind_all (part_of within) (run ++ left) ≡ behind_all (part_of within) left
+run_left : (within : Within) (table : List Bool) (run left : List ℕ) → TellsClass (λ b. not (marks within b)) table
+    → IsRun table run → behind_all (part_of within) (run ++ left) ≡ behind_all (part_of within) left
 run_left within table [] left tells is = refl
 run_left within table (b ∷ bs) left tells is =
     one_part (part_of within) (finds_of within) (b ∷ (bs ++ left)) (bs ++ left)

@@ -1,6 +1,6 @@
 -- Angles and parts of JSX, as they are read.
-use Rattle.std.proofs.Common.{◌≡◌, ℕ, ◌<◌, ◌≤◌, Bool, true, false, not, ◌&&◌, ◌||◌, ◌==◌, List, [], ◌∷◌, ◌++◌, length, drop}
-use Rattle.std.proofs.Common.{refl, sym, ◌∙◌, ap, subst, arith, Option, Some, inl, inr, append-nil}
+use Rattle.std.proofs.Common.{◌≡◌, ℕ, ◌<◌, ◌≤◌, Bool, true, false, not, ◌&&◌, ◌||◌, ◌==◌, List, [], ◌∷◌, ◌++◌, length}
+use Rattle.std.proofs.Common.{drop, refl, sym, ◌∙◌, ap, subst, arith, Option, Some, inl, inr, append-nil}
 use Rattle.std.specs.Prelude.{codes, IfOk, Result, if◌then◌else◌}
 use Rattle.std.proofs.lemmas.Bool.Decides.{nat_tests}
 use Rattle.js_text.specs.Ascii.{equals_sign, greater_than_sign, hyphen_minus, less_than_sign}
@@ -197,8 +197,8 @@ not_false : (a : Bool) → not a ≡ false → a ≡ true
 not_false true e = refl
 not_false false e = absurd (cc)
 
-pub text_run : (within : Text) (table : List Bool) (old new : At) → TellsClass (λ b. not (ends_of within b)) table → new.text ≡ old.text
-    → PassesRun table old.text old.place new.place
+pub text_run : (within : Text) (table : List Bool) (old new : At) → TellsClass (λ b. not (ends_of within b)) table
+    → new.text ≡ old.text → PassesRun table old.text old.place new.place
     → from_first (ends_of within) (rest old) ≡ from_first (ends_of within) (rest new)
 text_run within table old new tells text run =
     ap (from_first (ends_of within)) (run.here ∙ ap (λ t. run.run ++ from_place t new.place) (sym text))
@@ -232,7 +232,8 @@ past_text b old new first past = of (rest old) refl first
     of (c ∷ cs) here first = (past c cs here).0
 
 -- the byte at which a run stops
-pub text_stops : (within : Text) (table : List Bool) (b : ℕ) (text : List ℕ) → TellsClass (λ b. not (ends_of within b)) table → b < 128
+pub text_stops : (within : Text) (table : List Bool) (b : ℕ) (text : List ℕ)
+    → TellsClass (λ b. not (ends_of within b)) table → b < 128
     → HasFirstByte b text → begins (matches_at table) text ≡ false → StopsAt within b text
 text_stops within table b text tells low first stop =
     let next = ascii_next b text low first in

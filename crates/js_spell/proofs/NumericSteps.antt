@@ -57,8 +57,8 @@ wide_is_no_digit radix c small h =
     ]
 
 -- the table tells whether a digit is next
-pub first_digit : (radix : ℕ) (table : List Bool) (b : ℕ) (cs : List ℕ) → radix ≤ 16 → TellsClass (is_digit_of radix) table
-    → HasFirstByte b cs
+pub first_digit : (radix : ℕ) (table : List Bool) (b : ℕ) (cs : List ℕ) → radix ≤ 16
+    → TellsClass (is_digit_of radix) table → HasFirstByte b cs
     → matches_at table b ≡ begins (is_digit_of radix) cs
 first_digit radix table b [] small tells h = absurd h
 first_digit radix table b (c ∷ cs) small tells h =
@@ -100,15 +100,15 @@ digit_is_no_separator radix b small e =
     ]
 
 -- digits of the table, and what stands behind them
-digits_run : (radix : ℕ) (table : List Bool) (xs ys : List ℕ) → radix ≤ 16 → TellsClass (is_digit_of radix) table → IsRun table xs
-    → digits_on radix (xs ++ ys) ≡ prepend xs (digits_on radix ys)
+digits_run : (radix : ℕ) (table : List Bool) (xs ys : List ℕ) → radix ≤ 16 → TellsClass (is_digit_of radix) table
+    → IsRun table xs → digits_on radix (xs ++ ys) ≡ prepend xs (digits_on radix ys)
 digits_run radix table [] ys small tells h = refl
 digits_run radix table (b ∷ bs) ys small tells h =
     let digit : is_digit_of radix b ≡ true = sym (tells.tells b h.0) ∙ h.1 in
     rw digit (ap (item-cons b) (digits_run radix table bs ys small tells h.2))
 
-pub no_separator : (radix : ℕ) (table : List Bool) (xs : List ℕ) → radix ≤ 16 → TellsClass (is_digit_of radix) table → IsRun table xs
-    → contains_separator xs ≡ false
+pub no_separator : (radix : ℕ) (table : List Bool) (xs : List ℕ) → radix ≤ 16 → TellsClass (is_digit_of radix) table
+    → IsRun table xs → contains_separator xs ≡ false
 no_separator radix table [] small tells h = refl
 no_separator radix table (b ∷ bs) small tells h =
     let digit : is_digit_of radix b ≡ true = sym (tells.tells b h.0) ∙ h.1 in
@@ -131,8 +131,9 @@ separator_breaks : (radix : ℕ) (ys : List ℕ) → radix ≤ 16 → begins (is
     → digits_on radix (low_line ∷ ys) ≡ broken (low_line ∷ []) ys
 separator_breaks radix ys small e = rw (separator_is_no_digit radix small, e) refl
 
-module _ (radix : ℕ) (table : List Bool) (old mid : At) (small : radix ≤ 16) (tells : TellsClass (is_digit_of radix) table)
-    (text : mid.text ≡ old.text) (run : PassesRun table old.text old.place mid.place) where
+module _ (radix : ℕ) (table : List Bool) (old mid : At) (small : radix ≤ 16)
+    (tells : TellsClass (is_digit_of radix) table) (text : mid.text ≡ old.text)
+    (run : PassesRun table old.text old.place mid.place) where
   run_here : rest old ≡ run.run ++ rest mid
   run_here = run.here ∙ ap (λ t. run.run ++ from_place t mid.place) (sym text)
 

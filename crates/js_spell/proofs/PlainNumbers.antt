@@ -96,7 +96,8 @@ pub other_items_are : (b : ℕ) (cs : List ℕ) → b < 128 → HasFirstByte b c
 other_items_are b cs small first digit other =
     other_leads cs (no_point b cs small first digit) (other_digit b cs small first other)
 
-pub integer_passed : (b : ℕ) (table : List Bool) (old new : At) (errors : List Diagnostic) → TellsClass (is_digit_of 10) table
+pub integer_passed : (b : ℕ) (table : List Bool) (old new : At) (errors : List Diagnostic)
+    → TellsClass (is_digit_of 10) table
     → new.text ≡ old.text → PassesRun table old.text old.place new.place → begins (matches_at table) (rest new) ≡ false
     → b < 128 → HasFirstByte b (rest old) → is_digit_of 10 b ≡ true → (b ≡ 48 → ⊥) → FollowsInteger (rest new)
     → ReadsInteger old new errors errors false false
@@ -121,7 +122,8 @@ digit_passed table b old new tells text run stops small first is =
 
 -- a fraction, and none
 pub fraction_passed : (table : List Bool) (old mid new : At) (errors : List Diagnostic) (kind : Kind) → IsPlaced old
-    → IsPlaced mid → TellsClass (is_digit_of 10) table → mid.text ≡ old.text → PassesRun table old.text old.place mid.place
+    → IsPlaced mid → TellsClass (is_digit_of 10) table → mid.text ≡ old.text
+    → PassesRun table old.text old.place mid.place
     → begins (matches_at table) (rest mid) ≡ false → begins (is_digit_of 10) (rest old) ≡ true
     → FollowsInteger (rest mid) → ReadsEnd mid new errors errors false false kind (exponent_or Float (rest mid))
     → ReadsPart old new errors errors false false (fraction_items (rest old))

@@ -133,8 +133,8 @@ plain_then literal text mid left first second =
     }
 
 -- a run of the table
-plain_run : (literal : Literal) (table : List Bool) (xs left : List ℕ) → TellsClass (λ b. not (stops literal b)) table → IsRun table xs
-    → IsPlainBefore literal (xs ++ left) left
+plain_run : (literal : Literal) (table : List Bool) (xs left : List ℕ) → TellsClass (λ b. not (stops literal b)) table
+    → IsRun table xs → IsPlainBefore literal (xs ++ left) left
 plain_run literal table [] left tells run = plain_nothing literal left
 plain_run literal table (x ∷ xs) left tells run =
     let on = not_true (stops literal x) (sym (tells.tells x run.0) ∙ run.1) in
@@ -194,7 +194,8 @@ plain_wide literal b [] h first = absurd first
 plain_wide literal b (c ∷ cs) h first = rw (wide_goes_on literal c (wide_first b c cs h first)) refl
 
 -- the byte at which a run stops
-pub stops_at : (literal : Literal) (table : List Bool) (b : ℕ) (text : List ℕ) → TellsClass (λ b. not (stops literal b)) table → b < 128
+pub stops_at : (literal : Literal) (table : List Bool) (b : ℕ) (text : List ℕ)
+    → TellsClass (λ b. not (stops literal b)) table → b < 128
     → HasFirstByte b text → begins (matches_at table) text ≡ false → StopsAt literal b text
 stops_at literal table b text tells low first stop =
     let found = begins_with b text (ascii_next b text low first) in

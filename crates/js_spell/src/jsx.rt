@@ -147,9 +147,9 @@ fn read_jsx_text(source: &mut Source<'_>, errors: &mut DiagnosticList) -> Result
     Ok(Kind::Eof)
 }
 
-/// Reads what stands between two tags of JSX, and gives its kind: a `<`, a `{`, or text up to one of them. Text that the
-/// source ends is of kind `Eof`, and so is text before a `>` or a `}`, which is reported. It asks for no memory but for
-/// that.
+/// Reads what stands between two tags of JSX, and gives its kind: a `<`, a `{`, or text up to one of them. Text that
+/// the source ends is of kind `Eof`, and so is text before a `>` or a `}`, which is reported. It asks for no memory but
+/// for that.
 pub fn read_jsx_child(
     source: &mut Source<'_>,
     errors: &mut DiagnosticList,

@@ -468,8 +468,9 @@ fn is_backslash(next: Option<u8>) -> bool
 }
 
 /// Reads the name that is next and begins with the ASCII character `b`, which is no `\`, where no escape stands in it
-/// (ECMA-262 12.7). None: one does, and the source stands somewhere in the same text. The table is that of `name_parts`,
-/// handed in from where the caller has it: a loop over a static takes its address anew at every few bytes.
+/// (ECMA-262 12.7). None: one does, and the source stands somewhere in the same text. The table is that of
+/// `name_parts`, handed in from where the caller has it: a loop over a static takes its address anew at every few
+/// bytes.
 #[inline(always)]
 pub fn read_plain_name_by(source: &mut Source<'_>, parts: &[bool; 256], b: u8) -> Option<Kind>
     requires placed { IsPlaced source.old }

@@ -322,8 +322,8 @@ fn report_unterminated(
     })
 }
 
-/// Reads a regular expression behind the `/` that begins it, which stands at the offset, good or at fault: what is to be
-/// reported is added to the list. One that a line or the source ends before its pattern does takes the rest of the
+/// Reads a regular expression behind the `/` that begins it, which stands at the offset, good or at fault: what is to
+/// be reported is added to the list. One that a line or the source ends before its pattern does takes the rest of the
 /// source. It asks for no memory but for what is reported.
 pub fn read_regular_expression(
     source: &mut Source<'_>,
