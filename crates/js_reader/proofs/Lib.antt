@@ -2,13 +2,13 @@ pub mod AttributeSteps
 pub mod BlockSteps
 pub mod CommentTexts
 pub mod DecodedSteps
-pub mod FastSteps
+pub mod FirstBytes
 pub mod GapSteps
 pub mod GoalSteps
 pub mod LineSteps
 pub mod NumberSteps
 pub mod PartSteps
-pub mod PlainSteps
+pub mod PlainReadings
 pub mod ReadingSteps
 pub mod ReLexSteps
 pub mod SpellingSteps

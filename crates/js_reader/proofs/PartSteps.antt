@@ -10,7 +10,7 @@ use Rattle.js_source.specs.Runs.{PassesRun, TellsClass}
 use Rattle.js_source.proofs.Classes.{tells_class, tells_from, tells_other}
 use Rattle.js_reader.specs.Gaps.{BeginsNoPiece}
 use Rattle.js_reader.specs.Tables.{is_blank, is_mark}
-use Rattle.js_reader.proofs.FastSteps.{begins_none}
+use Rattle.js_reader.proofs.FirstBytes.{begins_none}
 
 abbrev pub is_start : ℕ → Bool
 is_start b = is_ascii_alphabetic b || ((b == 36) || (b == 95))

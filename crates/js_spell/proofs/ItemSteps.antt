@@ -41,7 +41,7 @@ use Rattle.js_spell.specs.declared.spelt.SpeltValue.{SpeltValue}
 use Rattle.js_spell.specs.declared.spelt.SpeltValue.TheVariants.{Plain}
 use Rattle.js_spell.proofs.BreakSteps.{broken_behind}
 use Rattle.js_spell.proofs.NumericSteps.{leads_to}
-use Rattle.js_spell.proofs.PlainSteps.{heads_of, escape_item_here, no_item_here, escaped_item_here}
+use Rattle.js_spell.proofs.PlainCharacters.{heads_of, escape_item_here, no_item_here, escaped_item_here}
 
 scalars_front : (xs ys : List ℕ) → scalars (xs ++ ys) ≡ true → scalars xs ≡ true
 scalars_front [] ys e = refl

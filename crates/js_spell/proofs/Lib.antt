@@ -16,8 +16,8 @@ pub mod MarkSteps
 pub mod NameReadings
 pub mod NameSteps
 pub mod NumericSteps
+pub mod PlainCharacters
 pub mod PlainNumbers
-pub mod PlainSteps
 pub mod PrefixSteps
 pub mod RecoverSteps
 pub mod SpellSteps

@@ -1,4 +1,4 @@
-use Rattle.js_reader.proofs.FastSteps.{tells_none}
+use Rattle.js_reader.proofs.FirstBytes.{tells_none}
 use Rattle.js_reader.proofs.gap.begins_no_piece.Goals as goal
 
 pub returns : goal.returns

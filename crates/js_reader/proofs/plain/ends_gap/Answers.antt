@@ -1,4 +1,4 @@
-use Rattle.js_reader.proofs.PlainSteps.{mark_ends}
+use Rattle.js_reader.proofs.PlainReadings.{mark_ends}
 use Rattle.js_reader.proofs.plain.ends_gap.Goals as goal
 
 pub returns-then-marks-b : goal.returns-then-marks-b

@@ -1,4 +1,4 @@
-use Rattle.js_reader.proofs.PlainSteps.{minus_alone, angle_alone}
+use Rattle.js_reader.proofs.PlainReadings.{minus_alone, angle_alone}
 use Rattle.js_reader.proofs.plain.is_mark_alone.Goals as goal
 
 pub returns-then-b-eq45 : goal.returns-then-b-eq45

@@ -1,4 +1,4 @@
-use Rattle.js_reader.proofs.PlainSteps.{blank_is_ascii, blank_passed}
+use Rattle.js_reader.proofs.PlainReadings.{blank_is_ascii, blank_passed}
 use Rattle.js_reader.proofs.plain.pass_blank.Goals as goal
 
 pub next_ascii-requires-clause-ascii : goal.next_ascii-requires-clause-ascii

@@ -1,5 +1,5 @@
 use Rattle.std.proofs.Common.{ap, arith, length}
-use Rattle.js_reader.proofs.PlainSteps.{blank_is_ascii, blank_passed, blanks_passed}
+use Rattle.js_reader.proofs.PlainReadings.{blank_is_ascii, blank_passed, blanks_passed}
 use Rattle.js_reader.proofs.plain.pass_blanks.Goals as goal
 
 pub next_ascii-requires-clause-ascii : goal.next_ascii-requires-clause-ascii

@@ -1,5 +1,5 @@
 use Rattle.std.proofs.Common.{ap, arith, length}
-use Rattle.js_reader.proofs.PlainSteps.{blanks_passed, line_feed_passed}
+use Rattle.js_reader.proofs.PlainReadings.{blanks_passed, line_feed_passed}
 use Rattle.js_reader.proofs.plain.pass_line_feed.Goals as goal
 
 pub returns : goal.returns

@@ -1,4 +1,4 @@
-use Rattle.js_reader.proofs.PlainSteps.{byte_met, starts_name, tells_ends}
+use Rattle.js_reader.proofs.PlainReadings.{byte_met, starts_name, tells_ends}
 use Rattle.js_reader.proofs.plain.pass_plain_gap.Goals as goal
 
 pub returns-then-tables-next : goal.returns-then-tables-next

@@ -1,5 +1,5 @@
 use Rattle.std.proofs.lemmas.Option.{IfSome_then}
-use Rattle.js_reader.proofs.PlainSteps.{name_begins, name_plainly, start_is_plain}
+use Rattle.js_reader.proofs.PlainReadings.{name_begins, name_plainly, start_is_plain}
 use Rattle.js_reader.proofs.plain.read_name_plainly.Goals as goal
 
 pub read_plain_name_by-requires-clause-begun : goal.read_plain_name_by-requires-clause-begun

@@ -4,7 +4,7 @@ use Rattle.std.proofs.lemmas.Option.{IfSome_then}
 use Rattle.js_text.specs.declared.source_type.SourceType.TheVariants.{Script}
 use Rattle.js_source.specs.Source.{At}
 use Rattle.js_reader.specs.Plain.{SpellsFor}
-use Rattle.js_reader.proofs.PlainSteps.{and_false, punctuator_plainly}
+use Rattle.js_reader.proofs.PlainReadings.{and_false, punctuator_plainly}
 use Rattle.js_reader.proofs.plain.read_plain_mark.Goals as goal
 
 pub returns-in-Some-clause-spells : goal.returns-in-Some-clause-spells

@@ -1,5 +1,5 @@
 use Rattle.std.proofs.lemmas.Option.{IfSome_then}
-use Rattle.js_reader.proofs.PlainSteps.{private_plainly}
+use Rattle.js_reader.proofs.PlainReadings.{private_plainly}
 use Rattle.js_reader.proofs.plain.read_plain_private.Goals as goal
 
 pub returns-clause-spells : goal.returns-clause-spells

@@ -1,7 +1,7 @@
 use Rattle.std.proofs.Common.{sym, ◌∙◌}
 use Rattle.std.proofs.lemmas.Option.{IfSome_then}
 use Rattle.js_kind.proofs.Digits.{digits_of_ten}
-use Rattle.js_reader.proofs.PlainSteps.{string_plainly, string_begins, number_plainly, number_begins}
+use Rattle.js_reader.proofs.PlainReadings.{string_plainly, string_begins, number_plainly, number_begins}
 use Rattle.js_reader.proofs.plain.read_value.Goals as goal
 
 pub returns-then-is_quote-clause-spells : goal.returns-then-is_quote-clause-spells

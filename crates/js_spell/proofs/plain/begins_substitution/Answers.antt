@@ -1,6 +1,6 @@
 use Rattle.std.proofs.Common.{◌∙◌}
 use Rattle.js_source.specs.Source.{rest}
-use Rattle.js_spell.proofs.PlainSteps.{two_bytes, one_byte}
+use Rattle.js_spell.proofs.PlainCharacters.{two_bytes, one_byte}
 use Rattle.js_spell.proofs.plain.begins_substitution.Goals as goal
 
 pub returns-in-Some : goal.returns-in-Some

@@ -1,8 +1,8 @@
 use Rattle.std.proofs.Common.{sym}
 use Rattle.std.proofs.lemmas.Bool.{ne_eqb}
 use Rattle.js_source.specs.Source.{rest}
-use Rattle.js_spell.proofs.PlainSteps.{passes_then, passes_past, nothing_plain, stop_not_plain}
-use Rattle.js_spell.proofs.PlainSteps.{substitution_not_plain, dollar_is_plain, first_of_stop}
+use Rattle.js_spell.proofs.PlainCharacters.{passes_then, passes_past, nothing_plain, stop_not_plain}
+use Rattle.js_spell.proofs.PlainCharacters.{substitution_not_plain, dollar_is_plain, first_of_stop}
 use Rattle.js_spell.proofs.plain.pass_characters.Goals as goal
 
 pub returns-in-None-clause-passes : goal.returns-in-None-clause-passes

@@ -1,4 +1,4 @@
-use Rattle.js_spell.proofs.PlainSteps.{passes_then, passes_run, passes_past, plain_wide, stops_at}
+use Rattle.js_spell.proofs.PlainCharacters.{passes_then, passes_run, passes_past, plain_wide, stops_at}
 use Rattle.js_spell.proofs.plain.pass_plain.Goals as goal
 
 pub returns-in-None-clause-passes : goal.returns-in-None-clause-passes

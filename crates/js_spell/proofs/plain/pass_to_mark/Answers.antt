@@ -2,7 +2,7 @@ use Rattle.std.proofs.Common.{subst}
 use Rattle.js_source.specs.Runs.{place_of}
 use Rattle.js_source.specs.Source.{At}
 use Rattle.js_spell.specs.Strings.{PassesCharacters}
-use Rattle.js_spell.proofs.PlainSteps.{passes_then, passes_run}
+use Rattle.js_spell.proofs.PlainCharacters.{passes_then, passes_run}
 use Rattle.js_spell.proofs.plain.pass_to_mark.Goals as goal
 
 pub returns-in_err-b-clause-passes : goal.returns-in_err-b-clause-passes

@@ -9,7 +9,7 @@ use Rattle.js_lexer.specs.Lexer.{last_read}
 use Rattle.js_reader.specs.declared.findings_builder.FindingsBuilder.{FindingsBuilder}
 use Rattle.js_lexer.proofs.LexerSteps.{state_of, reader_is, between_is, first_token, sound_after, sound_back}
 use Rattle.js_lexer.proofs.LexerSteps.{reads_token}
-use Rattle.js_reader.proofs.PlainSteps.{behind_plain_gap, ends_forgotten}
+use Rattle.js_reader.proofs.PlainReadings.{behind_plain_gap, ends_forgotten}
 use Rattle.js_lexer.proofs.Undone.{found_again, may_go_back, reported_since, stands_again, undone}
 use Rattle.js_lexer.proofs.lexer.Lexer.read_here.Goals as goal
 

@@ -9,7 +9,7 @@ use Rattle.js_lexer.specs.Lexer.{IsSound, last_read}
 use Rattle.js_reader.specs.Plain.{ends_told, moved}
 use Rattle.js_reader.proofs.DecodedSteps.{keeps_same, no_value}
 use Rattle.js_lexer.proofs.LexerSteps.{state_of, reader_is, between_is, first_token, sound_after, reads_token}
-use Rattle.js_reader.proofs.PlainSteps.{behind_plain_gap, ends_forgotten, moved_on, plain_text}
+use Rattle.js_reader.proofs.PlainReadings.{behind_plain_gap, ends_forgotten, moved_on, plain_text}
 use Rattle.js_lexer.proofs.lexer.Lexer.take_plain.Goals as goal
 
 pub set_position-requires : goal.set_position-requires

@@ -1,7 +1,7 @@
 use Rattle.std.proofs.Common.{◌∙◌, ap}
 use Rattle.js_reader.specs.Reader.{plain_lexeme}
 use Rattle.js_reader.specs.Reader.{lexeme_token}
-use Rattle.js_reader.proofs.PlainSteps.{plain_token, plain_onward}
+use Rattle.js_reader.proofs.PlainReadings.{plain_token, plain_onward}
 use Rattle.js_lexer.proofs.lexer.Lexer.take_spelled.Goals as goal
 
 pub new-span-requires : goal.new-span-requires

@@ -3,7 +3,7 @@ use Rattle.std.proofs.lemmas.Result.{IfOk-weaker, on_err_weaker}
 use Rattle.js_reader.specs.Reader.{MovesOn, ReadsTokenHere}
 use Rattle.js_reader.specs.declared.reader.Reader.{Reader}
 use Rattle.js_reader.proofs.WholeSteps.{pieces_move_on}
-use Rattle.js_reader.proofs.PlainSteps.{token_moves_on}
+use Rattle.js_reader.proofs.PlainReadings.{token_moves_on}
 use Rattle.js_reader.proofs.ReadingSteps.{token_behind}
 use Rattle.js_reader.proofs.TriviaSteps.{either_way, extends_none, grows_on, grows_reports}
 use Rattle.js_reader.proofs.reader.Reader.read_behind_gap.Goals as goal

@@ -1,7 +1,7 @@
 use Rattle.std.proofs.Common.{◌∙◌, ap}
 use Rattle.js_reader.specs.Reader.{plain_lexeme}
 use Rattle.js_reader.specs.Reader.{lexeme_token}
-use Rattle.js_reader.proofs.PlainSteps.{spelled_from, spelled_onward}
+use Rattle.js_reader.proofs.PlainReadings.{spelled_from, spelled_onward}
 use Rattle.js_reader.proofs.reader.Reader.read_plainly.Goals as goal
 
 pub new-span-requires : goal.new-span-requires

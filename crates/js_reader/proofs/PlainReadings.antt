@@ -43,7 +43,7 @@ use Rattle.js_reader.specs.Tables.{is_blank, is_mark, is_name_start}
 use Rattle.js_reader.specs.declared.findings_builder.FindingsBuilder.{FindingsBuilder}
 use Rattle.js_reader.specs.declared.reader.Reader.{Reader}
 use Rattle.js_reader.proofs.GapSteps.{blanks_lead, line_feed_skipped, no_gap_left}
-use Rattle.js_reader.proofs.FastSteps.{begins_none}
+use Rattle.js_reader.proofs.FirstBytes.{begins_none}
 use Rattle.js_reader.proofs.PartSteps.{is_start, mark_begins_none}
 use Rattle.js_reader.proofs.NumberSteps.{digit_begins}
 use Rattle.js_reader.proofs.ReadingSteps.{lexeme_spelled, lexeme_onward}
