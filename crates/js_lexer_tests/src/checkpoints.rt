@@ -26,7 +26,10 @@ pub fn read_again<C: LexerConfig + Drop>(
     lexer.rewind(fresh);
     let again = lexer.first_token()?.end();
     let collected = lexer.tokens().len();
-    write!(text, "{remaining} {first} {again} {collected}")
+    write!(
+        text,
+        "{remaining} first ends {first}, again {again}, collected {collected}"
+    )
 }
 
 /// Adds where the lexer stands, where its last token ends, and how much was reported.
@@ -37,7 +40,7 @@ fn push_stand<C: LexerConfig + Drop>(
     let offset = lexer.offset();
     let end = lexer.last_token().end();
     let reported = lexer.errors().len();
-    write!(text, "{offset} {end} {reported};")
+    write!(text, "at {offset}, last ends {end}, reported {reported};")
 }
 
 /// Peeks at a token, reads it, and goes back before it. Adds whether both are the same, and how the lexer stands behind
@@ -53,7 +56,7 @@ fn peek_and_read<C: LexerConfig + Drop>(
     push_stand(text, lexer)?;
     let is_back = goes_back(lexer, checkpoint) && peeked.is_same(&read);
     push_stand(text, lexer)?;
-    write!(text, "{is_back}")
+    write!(text, "back, with the same token {is_back}")
 }
 
 /// A fault that is peeked at, or before which the lexer goes back, is not reported.
@@ -72,7 +75,7 @@ pub fn hand_out_errors<C: LexerConfig + Drop>(
 ) -> Result<(), AllocError> {
     next(lexer)?;
     let handed = lexer.take_errors().len();
-    write!(text, "{handed};")?;
+    write!(text, "handed out {handed};")?;
     push_stand(text, lexer)
 }
 
@@ -90,7 +93,10 @@ pub fn hand_out_tokens<C: LexerConfig + Drop>(
     let handed = lexer.take_tokens().len();
     let left = lexer.tokens().len();
     let behind = lexer.can_rewind(&checkpoint);
-    write!(text, "{handed} {left} {before} {behind};")?;
+    write!(
+        text,
+        "handed out {handed}, left {left}, back before that {before}, behind {behind};"
+    )?;
     push_stand(text, lexer)
 }
 
@@ -140,7 +146,7 @@ pub fn tell_texts<C: LexerConfig + Drop>(
     let first = next(lexer)?;
     let second = next(lexer)?;
     let is_back = goes_back(lexer, fresh);
-    write!(text, "{is_back};")?;
+    write!(text, "back {is_back};")?;
     push_string(text, lexer, first)?;
     push_string(text, lexer, second)
 }

@@ -44,7 +44,7 @@ pub fn read_regular_expression<C: LexerConfig + Drop>(
     push_token(text, &found.token)?;
     let end = found.pattern_end;
     let is_at_fault = found.flags_error;
-    write!(text, "{end} {is_at_fault};")?;
+    write!(text, "pattern ends {end}, flags at fault {is_at_fault};")?;
     Ok(push_rest(text, lexer)?)
 }
 

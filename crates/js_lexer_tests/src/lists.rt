@@ -20,7 +20,7 @@ pub fn finalize<C: LexerConfig + Drop>(
     let tokens = lexer.finalize_tokens();
     push_tokens(text, tokens.as_slice())?;
     let left = lexer.tokens().len();
-    write!(text, "{left}")
+    write!(text, "left {left}")
 }
 
 /// Rewrites the last collected token, once before any was read, and adds all, and the last that was read.
@@ -50,7 +50,10 @@ pub fn recover<C: LexerConfig + Drop>(
     let second = lexer.pop_error().is_some();
     let plainly = lexer.can_rewind(&plain);
     let is_back = goes_back(lexer, recovery);
-    write!(text, "{first} {second} {plainly} {is_back};")?;
+    write!(
+        text,
+        "taken back {first}, another {second}, back plainly {plainly}, with the copy {is_back};"
+    )?;
     push_diagnostics(text, lexer.errors())?;
     push_token(text, &lexer.last_token())
 }
@@ -87,8 +90,9 @@ fn push_annotations<C: LexerConfig + Drop>(
     if let Some(comment) = lexer.comments().first() {
         text.push_str(comment.content.name())?;
     }
-    text.push_str(" ")?;
+    text.push_str(" pure ")?;
     push_range(text, lexer.previous_token_pure_comments())?;
+    text.push_str("without side effects ")?;
     push_range(text, lexer.previous_token_no_side_effects_comments())
 }
 
@@ -134,7 +138,7 @@ pub fn hand_out_comments<C: LexerConfig + Drop>(
     next(lexer)?;
     push_annotations(text, lexer)?;
     let count = lexer.take_comments().len();
-    write!(text, "{count}")?;
+    write!(text, "handed out {count}")?;
     push_annotations(text, lexer)
 }
 
