@@ -13,19 +13,16 @@ use Rattle.js_kind.specs.declared.kind.Kind.{Kind}
 use Rattle.js_kind.specs.declared.kind.Kind.TheVariants.{RAngle}
 use Rattle.js_kind.proofs.Members.{one_passes}
 use Rattle.js_grammar.specs.Angle.{angle_reading, first_left_angle, first_right_angle, right_angles}
-use Rattle.js_grammar.specs.Goals.{ReadsAngle, line_has_ended_behind}
-use Rattle.js_grammar.specs.Jsx.{jsx_child_reading}
+use Rattle.js_grammar.specs.Goals.{ReadsAngle}
 use Rattle.js_grammar.specs.Outcome.{Outcome}
 use Rattle.js_grammar.specs.RegularExpression.{regular_expression_reading}
-use Rattle.js_grammar.proofs.GoalReadings.{angle_is_read, angles, child_is_read, expression_read, is_angle}
+use Rattle.js_grammar.proofs.GoalReadings.{angle_is_read, angles, expression_read, is_angle}
 use Rattle.js_grammar.proofs.GoalWays.{from_takes, jsx_name_takes}
-use Rattle.js_source.specs.Source.{rest}
 use Rattle.js_grammar.specs.ReLexed.{HasSpelling, again_kinds}
 use Rattle.js_grammar.specs.declared.goal.Goal.{Goal}
-use Rattle.js_grammar.specs.declared.goal.Goal.TheVariants.{JsxChild, JsxIdentifier, RegularExpression, RightAngle}
+use Rattle.js_grammar.specs.declared.goal.Goal.TheVariants.{JsxIdentifier, RegularExpression, RightAngle}
 use Rattle.js_grammar.specs.declared.goal.Goal.TheVariants.{TypeScriptLeftAngle, TypeScriptRightAngle}
 use Rattle.js_grammar.proofs.AgainKinds.{again_is_re_lexed, only_one}
-use Rattle.js_reader.specs.Decoded.{HasValue, Values}
 use Rattle.js_reader.specs.Reader.{ReadsGoal}
 use Rattle.js_reader.specs.declared.reader.Reader.{Reader}
 use Rattle.js_lexer.specs.Lexer.{IsBehindFor, IsOnPlaces, LexerState, kind_of_last, token_or_default}

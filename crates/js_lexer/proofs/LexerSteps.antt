@@ -9,7 +9,7 @@ use Rattle.std.proofs.lemmas.Str.{IsCharBoundary-start}
 use Rattle.std.proofs.Math.Seq.{take-append_seam}
 use Rattle.js_text.specs.Characters.{from_place}
 use Rattle.js_text.specs.Lists.{with_last}
-use Rattle.js_kind.specs.TokenParts.{TokenParts, default_parts}
+use Rattle.js_kind.specs.TokenParts.{TokenParts}
 use Rattle.js_grammar.specs.GapItems.{token_before}
 use Rattle.js_grammar.specs.Goals.{GoalReads, line_has_ended_behind}
 use Rattle.js_grammar.specs.Outcome.{Outcome, lengths_of, cut_to}

@@ -13,10 +13,10 @@ ghost use Rattle.js_grammar.specs.TokenText.{text_start, text_end};
 ghost use Rattle.js_grammar.specs.Reads.{is_onward};
 ghost use Rattle.js_kind.specs.TokenParts.{TokenParts};
 ghost use Rattle.js_source.specs.Source.{IsPlaced};
-ghost use Rattle.js_trivia.specs.Trivia.{handle_token, without_ranges};
+ghost use Rattle.js_trivia.specs.Trivia.{handle_token, without_ranges, AreRangesUpTo};
 ghost use Rattle.js_reader.specs.Decoded.{Keeps, KeepsValues, HasValue, value_of, GivesDecoded, GivesPart, GivesText};
 ghost use Rattle.js_reader.specs.Decoded.{GivesTemplate, GivesStretch};
-ghost use Rattle.js_reader.specs.Found.{Grows};
+ghost use Rattle.js_reader.specs.Found.{Grows, found_lengths};
 ghost use Rattle.js_lexer.specs.Lexer.{LexerState, fresh, token_or_default, ReadsToken, IsRestored, IsOnPlaces, Peeks};
 ghost use Rattle.js_lexer.specs.Lexer.{checkpoint_of, CanRewind, rewound, GoesOnFrom, collected, is_hashbang};
 ghost use Rattle.js_lexer.specs.Lexer.{IsBehindFor, ReadsAgain, checkpoint_with_errors_of, trivia_before};
@@ -36,7 +36,7 @@ use crate::token_text::{is_template, text_span};
 use js_grammar::Goal;
 use js_kind::{Kind, LexerConfig, Token, TokenList};
 use js_reader::{ByteTables, DecodedValues, Findings, FindingsBuilder, Reader, ReadingStart};
-use js_source::Source;
+use js_source::{Source, SourcePosition};
 use js_text::{
     Comment, CommentList, Diagnostic, DiagnosticList, JsText, SourceType, Span, SpanList,
     TemplateValue,
@@ -103,6 +103,29 @@ fn take_again(trivia: &mut TriviaBuilder, tokens: &mut TokenList, collects: bool
         tokens.replace_last(token);
     }
     trivia.handle_token(token);
+}
+
+/// Where a reading began that has reported, and found nothing else: from its place, and how much was reported before.
+/// Such a reading keeps these two alone.
+fn start_behind_reports(
+    position: SourcePosition,
+    reported: usize,
+    found: &FindingsBuilder,
+) -> ReadingStart
+    requires { found.now.trivia.attachment.pending ≡ [] }
+    ensures start { result ≡ record {
+      position = position;
+      found = record (found_lengths found.now) { errors = reported };
+    } }
+    ensures ranges { AreRangesUpTo result.found.trivia.comments result.found.trivia.pure_range
+        result.found.trivia.no_side_effects }
+{
+    let mut lengths = found.lengths();
+    lengths.errors = reported;
+    ReadingStart {
+        position,
+        found: lengths,
+    }
 }
 
 /// Forgets the annotations of the gap before, as a reading begins that has a gap of its own: all but that of a child of
@@ -273,7 +296,8 @@ impl<'a, C: LexerConfig + Drop> Lexer<'a, C> {
         ensures kept { Keeps self.old.decoded self.new.decoded }
     {
         let offset = self.last_token().start();
-        let start = ReadingStart::of(&self.reader.source, &self.found);
+        let position = self.reader.source.position();
+        let reported = self.found.errors.len();
         let read = self
             .reader
             .read_next_part(offset, &mut self.found.errors, &mut self.decoded);
@@ -284,6 +308,7 @@ impl<'a, C: LexerConfig + Drop> Lexer<'a, C> {
                 Ok(token)
             }
             Err(error) => {
+                let start = start_behind_reports(position, reported, &self.found);
                 start.go_back(&mut self.reader.source, &mut self.found);
                 Err(error)
             }

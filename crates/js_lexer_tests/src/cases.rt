@@ -114,7 +114,8 @@ static CASES: [Case; 18] = [
         SourceType::Module,
         "/[/]\\//gg;",
         Script::RegularExpression,
-        "RegExp 0..9;pattern ends 6, flags at fault true;Semicolon 9..10;|RegExp 0..9;Semicolon 9..10;RegExpFlagTwice 8..9;",
+        "RegExp 0..9;pattern ends 6, flags at fault true;Semicolon 9..10;|\
+         RegExp 0..9;Semicolon 9..10;RegExpFlagTwice 8..9;",
         "RegExp 0..9;pattern ends 6, flags at fault true;Semicolon 9..10;|RegExpFlagTwice 8..9;",
     ),
     (

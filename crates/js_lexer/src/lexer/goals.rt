@@ -6,10 +6,10 @@ ghost use Rattle.js_reader.specs.Decoded.{Keeps};
 ghost use Rattle.js_lexer.specs.Goals.{IsBehindName, ReadsName, ReadsRegex};
 ghost use Rattle.js_lexer.specs.Lexer.{IsBehindFor, IsRestored, ReadsAgain, ReadsToken, kind_of_last};
 
-use super::{Lexer, take_again};
+use super::{Lexer, start_behind_reports, take_again};
 use js_grammar::{Goal, spelled_length};
 use js_kind::{Kind, LexerConfig, Token};
-use js_reader::{ReadingStart, RegexToken};
+use js_reader::RegexToken;
 use std::alloc::AllocError;
 
 impl<C: LexerConfig + Drop> Lexer<'_, C> {
@@ -21,7 +21,8 @@ impl<C: LexerConfig + Drop> Lexer<'_, C> {
         ensures err { OnErr result (IsRestored self.old self.new) }
         ensures kept { Keeps self.old.decoded self.new.decoded }
     {
-        let start = ReadingStart::of(&self.reader.source, &self.found);
+        let position = self.reader.source.position();
+        let reported = self.found.errors.len();
         let offset = self.reader.source.offset() - bytes;
         match self.reader.read_expression(offset, &mut self.found.errors) {
             Ok(found) => {
@@ -35,6 +36,7 @@ impl<C: LexerConfig + Drop> Lexer<'_, C> {
                 Ok(found)
             }
             Err(error) => {
+                let start = start_behind_reports(position, reported, &self.found);
                 start.go_back(&mut self.reader.source, &mut self.found);
                 Err(error)
             }

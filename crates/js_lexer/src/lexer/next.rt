@@ -9,11 +9,11 @@ ghost use Rattle.js_reader.specs.Plain.{MeetsByte, PassesPlainGap, ReadsPlainTok
 ghost use Rattle.js_lexer.specs.Lexer.{here, ReadsNext, ReadsToken, IsRestored, collected};
 ghost use Rattle.js_reader.specs.Reader.{ReadsInPart, ReadsTokenHere};
 
-use super::{Lexer, collect, take_token};
+use super::{Lexer, collect, start_behind_reports, take_token};
 use js_grammar::Goal;
 use js_kind::{Kind, LexerConfig, Token, TokenList};
 use js_reader::{
-    DecodedValues, GapEnd, Reader, ReadingStart, pass_plain_gap, read_name_plainly, read_plain_mark,
+    DecodedValues, GapEnd, Reader, pass_plain_gap, read_name_plainly, read_plain_mark,
 };
 use js_source::Source;
 use js_text::{DiagnosticList, Span};
@@ -184,7 +184,8 @@ impl<'a, C: LexerConfig + Drop> Lexer<'a, C> {
         ensures err { OnErr result (IsRestored self.old self.new) }
         ensures kept { Keeps self.old.decoded self.new.decoded }
     {
-        let start = ReadingStart::of(&self.reader.source, &self.found);
+        let position = self.reader.source.position();
+        let reported = self.found.errors.len();
         self.reader.source = source;
         self.reader.line_has_ended = line_has_ended;
         let read = read_here_and_collect(
@@ -200,6 +201,7 @@ impl<'a, C: LexerConfig + Drop> Lexer<'a, C> {
                 Ok(())
             }
             Err(error) => {
+                let start = start_behind_reports(position, reported, &self.found);
                 start.go_back(&mut self.reader.source, &mut self.found);
                 Err(error)
             }

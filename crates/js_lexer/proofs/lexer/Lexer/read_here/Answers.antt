@@ -46,14 +46,16 @@ pub go_back-requires-clause-boundary : goal.go_back-requires-clause-boundary
 go_back-requires-clause-boundary g c =
     let p = rw (← c.self.view_is) at c.requires in
     let text = (p.skips c.self.inside.reader c.self.inside.found).skips.text in
-    rw (c.of-start.ensures.start, c.in-Err.ensures.err.moves.text, text) p.from.boundary
+    let at = c.position-position.ensures.place in
+    rw (c.start_behind_reports-start.ensures.start, at, c.in-Err.ensures.err.moves.text, text) p.from.boundary
 
 pub go_back-requires-clause-found : goal.go_back-requires-clause-found
 go_back-requires-clause-found g c =
     let now = record c.self.inside.found { errors = c.read_here_and_collect-read.new.errors } in
     may_go_back c.self.inside.found now
-    (reported_since c.of-start.result c.self.inside.reader.source c.self.inside.found now c.of-start.ensures.start
-    c.of-start.ensures.ranges (ap (λ (a : Attachment). a.pending) c.self.invariant.attachment)
+    (reported_since c.start_behind_reports-start.result c.self.inside.reader.source c.self.inside.found now
+    (c.start_behind_reports-start.ensures.start ∙ rw (c.position-position.ensures.place, c.len-reported.ensures) refl)
+    c.start_behind_reports-start.ensures.ranges (ap (λ (a : Attachment). a.pending) c.self.invariant.attachment)
     c.in-Err.ensures.err.errors refl refl)
 
 pub invariant_of-self-in-Err : goal.invariant_of-self-in-Err
@@ -67,12 +69,13 @@ invariant_of-self-in-Err g c =
     let now = record c.self.inside.found { errors = c.read_here_and_collect-read.new.errors } in
     let source =
     stands_again c.self.inside.found r.source c.read_here_and_collect-read.new.reader.source c.go_back.new.source
-    c.of-start.ensures.start
+    (c.start_behind_reports-start.ensures.start ∙ rw (c.position-position.ensures.place, c.len-reported.ensures) refl)
     (c.in-Err.ensures.err.moves.text ∙ text) c.go_back.ensures.source in
     let found : c.go_back.new.found ≡ c.self.inside.found =
     found_again c.self.inside.found now c.go_back.new.found
-    (reported_since c.of-start.result r.source c.self.inside.found now c.of-start.ensures.start
-    c.of-start.ensures.ranges (ap (λ (a : Attachment). a.pending) c.self.invariant.attachment)
+    (reported_since c.start_behind_reports-start.result r.source c.self.inside.found now
+    (c.start_behind_reports-start.ensures.start ∙ rw (c.position-position.ensures.place, c.len-reported.ensures) refl)
+    c.start_behind_reports-start.ensures.ranges (ap (λ (a : Attachment). a.pending) c.self.invariant.attachment)
     c.in-Err.ensures.err.errors refl refl) c.go_back.ensures.found in
     sound_back r.source c.go_back.new.source c.self.inside.has_read c.self.inside.found.trivia
     c.go_back.new.found.trivia c.self.inside.decoded c.read_here_and_collect-read.new.decoded source
@@ -135,12 +138,13 @@ returns-in-Err-clause-err g c =
     let now = record c.self.inside.found { errors = c.read_here_and_collect-read.new.errors } in
     let source =
     stands_again c.self.inside.found r.source c.read_here_and_collect-read.new.reader.source c.go_back.new.source
-    c.of-start.ensures.start
+    (c.start_behind_reports-start.ensures.start ∙ rw (c.position-position.ensures.place, c.len-reported.ensures) refl)
     (c.in-Err.ensures.err.moves.text ∙ text) c.go_back.ensures.source in
     let found : c.go_back.new.found ≡ c.self.inside.found =
     found_again c.self.inside.found now c.go_back.new.found
-    (reported_since c.of-start.result r.source c.self.inside.found now c.of-start.ensures.start
-    c.of-start.ensures.ranges (ap (λ (a : Attachment). a.pending) c.self.invariant.attachment)
+    (reported_since c.start_behind_reports-start.result r.source c.self.inside.found now
+    (c.start_behind_reports-start.ensures.start ∙ rw (c.position-position.ensures.place, c.len-reported.ensures) refl)
+    c.start_behind_reports-start.ensures.ranges (ap (λ (a : Attachment). a.pending) c.self.invariant.attachment)
     c.in-Err.ensures.err.errors refl refl) c.go_back.ensures.found in
     rw (← c.self.view_is)
     (undone _ _ r (record c.read_here_and_collect-read.new.reader { source = c.go_back.new.source })

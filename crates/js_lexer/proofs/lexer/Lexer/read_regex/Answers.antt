@@ -1,4 +1,4 @@
-use Rattle.std.proofs.Common.{◌≡◌, ap, refl}
+use Rattle.std.proofs.Common.{◌≡◌, ◌∙◌, ap, refl}
 use Rattle.js_text.specs.Ascii.{slash}
 use Rattle.js_trivia.specs.Attachment.{Attachment}
 use Rattle.js_reader.specs.declared.findings_builder.FindingsBuilder.{FindingsBuilder}
@@ -53,14 +53,16 @@ returns-in-Ok-clause-ok g c =
 
 pub go_back-requires-clause-boundary : goal.go_back-requires-clause-boundary
 go_back-requires-clause-boundary g c =
-    rw (c.of-start.ensures.start, c.in-Err.ensures.err.moves.text) c.of-start.ensures.placed.boundary
+    rw (c.start_behind_reports-start.ensures.start, c.position-position.ensures.place, c.in-Err.ensures.err.moves.text)
+    c.position-position.ensures.placed.boundary
 
 pub go_back-requires-clause-found : goal.go_back-requires-clause-found
 go_back-requires-clause-found g c =
     let now = record c.self.inside.found { errors = c.read_expression.new.errors } in
     may_go_back c.self.inside.found now
-    (reported_since c.of-start.result c.self.inside.reader.source c.self.inside.found now c.of-start.ensures.start
-    c.of-start.ensures.ranges (ap (λ (a : Attachment). a.pending) c.self.invariant.attachment)
+    (reported_since c.start_behind_reports-start.result c.self.inside.reader.source c.self.inside.found now
+    (c.start_behind_reports-start.ensures.start ∙ rw (c.position-position.ensures.place, c.len-reported.ensures) refl)
+    c.start_behind_reports-start.ensures.ranges (ap (λ (a : Attachment). a.pending) c.self.invariant.attachment)
     c.in-Err.ensures.err.errors refl refl)
 
 pub invariant_of-self-in-Err : goal.invariant_of-self-in-Err
@@ -68,11 +70,13 @@ invariant_of-self-in-Err g c =
     let now = record c.self.inside.found { errors = c.read_expression.new.errors } in
     let source =
     stands_again c.self.inside.found c.self.inside.reader.source c.read_expression.new.self.source c.go_back.new.source
-    c.of-start.ensures.start c.in-Err.ensures.err.moves.text c.go_back.ensures.source in
+    (c.start_behind_reports-start.ensures.start ∙ rw (c.position-position.ensures.place, c.len-reported.ensures) refl)
+    c.in-Err.ensures.err.moves.text c.go_back.ensures.source in
     let found : c.go_back.new.found ≡ c.self.inside.found =
     found_again c.self.inside.found now c.go_back.new.found
-    (reported_since c.of-start.result c.self.inside.reader.source c.self.inside.found now c.of-start.ensures.start
-    c.of-start.ensures.ranges (ap (λ (a : Attachment). a.pending) c.self.invariant.attachment)
+    (reported_since c.start_behind_reports-start.result c.self.inside.reader.source c.self.inside.found now
+    (c.start_behind_reports-start.ensures.start ∙ rw (c.position-position.ensures.place, c.len-reported.ensures) refl)
+    c.start_behind_reports-start.ensures.ranges (ap (λ (a : Attachment). a.pending) c.self.invariant.attachment)
     c.in-Err.ensures.err.errors refl refl) c.go_back.ensures.found in
     sound_back c.self.inside.reader.source c.go_back.new.source c.self.inside.has_read
     c.self.inside.found.trivia c.go_back.new.found.trivia c.self.inside.decoded c.self.inside.decoded
@@ -84,11 +88,13 @@ returns-in-Err-clause-err g c =
     let now = record c.self.inside.found { errors = c.read_expression.new.errors } in
     let source =
     stands_again c.self.inside.found c.self.inside.reader.source c.read_expression.new.self.source c.go_back.new.source
-    c.of-start.ensures.start c.in-Err.ensures.err.moves.text c.go_back.ensures.source in
+    (c.start_behind_reports-start.ensures.start ∙ rw (c.position-position.ensures.place, c.len-reported.ensures) refl)
+    c.in-Err.ensures.err.moves.text c.go_back.ensures.source in
     let found : c.go_back.new.found ≡ c.self.inside.found =
     found_again c.self.inside.found now c.go_back.new.found
-    (reported_since c.of-start.result c.self.inside.reader.source c.self.inside.found now c.of-start.ensures.start
-    c.of-start.ensures.ranges (ap (λ (a : Attachment). a.pending) c.self.invariant.attachment)
+    (reported_since c.start_behind_reports-start.result c.self.inside.reader.source c.self.inside.found now
+    (c.start_behind_reports-start.ensures.start ∙ rw (c.position-position.ensures.place, c.len-reported.ensures) refl)
+    c.start_behind_reports-start.ensures.ranges (ap (λ (a : Attachment). a.pending) c.self.invariant.attachment)
     c.in-Err.ensures.err.errors refl refl) c.go_back.ensures.found in
     rw (← c.self.view_is)
     (undone _ _ c.self.inside.reader (record c.read_expression.new.self { source = c.go_back.new.source })
