@@ -32,7 +32,7 @@ use Rattle.js_grammar.specs.declared.goal.Goal.TheVariants.{JsxAttributeValue}
 use Rattle.js_grammar.proofs.GapLemmas.{whole_gap_unique}
 use Rattle.js_grammar.proofs.NumberReadings.{faulty_number_reports}
 use Rattle.js_grammar.proofs.Reported.{longest_of_whole, whole_of_longest, gap_reports_nothing, append_nil}
-use Rattle.js_grammar.proofs.PunctuatorLeaves.{none_reported}
+use Rattle.js_grammar.proofs.LongestPunctuators.{none_reported}
 use Rattle.js_grammar.proofs.NameReadings.{faulty_name_reports, faulty_private_reports}
 use Rattle.js_grammar.proofs.QuotedReadings.{faulty_quoted_reports}
 use Rattle.js_grammar.proofs.NumberSound.{first_is}

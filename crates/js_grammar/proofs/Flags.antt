@@ -5,7 +5,7 @@ use Rattle.js_text.specs.declared.value.RowValue.TheVariants.{Nothing}
 use Rattle.js_kind.specs.Kinds.{is_identifier_name, is_number_kind, is_string_kind, is_template_kind, keywords}
 use Rattle.js_kind.specs.declared.kind.Kind.{Kind}
 use Rattle.js_kind.specs.declared.kind.Kind.TheVariants.{Eof, Ident, PrivateIdentifier}
-use Rattle.js_kind.proofs.Members.{one_passes, is_later}
+use Rattle.js_kind.proofs.Members.{name_passes}
 use Rattle.js_grammar.specs.Name.{has_escape}
 use Rattle.js_grammar.specs.Punctuators.{Punctuator, punctuators, IsIn}
 use Rattle.js_grammar.specs.Spelling.{is_escaped}
@@ -91,16 +91,12 @@ has_no_escape kind xs e =
 abbrev is_unquoted : Kind → Bool
 is_unquoted kind = not (is_quoted kind)
 
-names_are_unquoted : list_all is_unquoted (PrivateIdentifier ∷ Ident ∷ keywords) ≡ true
+names_are_unquoted : list_all is_unquoted (Ident ∷ keywords) ≡ true
 unfolding is_string_kind is_template_kind
 names_are_unquoted = refl
 
 pub name_is_unquoted : (kind : Kind) → is_identifier_name kind ≡ true → is_quoted kind ≡ false
-unfolding is_identifier_name
-name_is_unquoted kind is =
-    not_true (is_quoted kind)
-    (one_passes is_unquoted (PrivateIdentifier ∷ Ident ∷ keywords) kind names_are_unquoted
-    (is_later kind PrivateIdentifier (Ident ∷ keywords) is))
+name_is_unquoted kind is = not_true (is_quoted kind) (name_passes is_unquoted kind names_are_unquoted is)
 
 pub private_name_is_unquoted : is_quoted PrivateIdentifier ≡ false
 unfolding is_string_kind is_template_kind

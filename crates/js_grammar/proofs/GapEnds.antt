@@ -35,7 +35,7 @@ use Rattle.js_grammar.proofs.NumberSound.{first_is}
 use Rattle.js_grammar.proofs.PieceLemmas.{piece-white}
 use Rattle.js_grammar.proofs.Printable.{lone_characters, lone_begin, none_of, is_known, printable_known, known_at}
 use Rattle.js_grammar.proofs.Printable.{spelled_there}
-use Rattle.js_grammar.proofs.PunctuatorLeaves.{listed}
+use Rattle.js_grammar.proofs.LongestPunctuators.{listed}
 use Rattle.js_grammar.proofs.QuotedReadings.{quoted_reads_here}
 use Rattle.js_grammar.proofs.ReadingLemmas.{by_choice}
 use Rattle.js_grammar.proofs.SpellingClasses.{nothing_spelled}

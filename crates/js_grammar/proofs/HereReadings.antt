@@ -23,6 +23,7 @@ use Rattle.js_grammar.specs.Name.{begins_name, name_reading, private_reading}
 use Rattle.js_grammar.specs.Number.{begins_number}
 use Rattle.js_grammar.specs.NumberReads.{number_reading}
 use Rattle.js_grammar.specs.Punctuators.{Punctuator, punctuators, IsIn, is_spelled, LongestPunctuator, NoPunctuator}
+use Rattle.js_grammar.specs.Punctuators.{is_excluded}
 use Rattle.js_grammar.specs.Quoted.{begins_quoted, quoted_reading}
 use Rattle.js_grammar.specs.Reading.{Reading, read_up_to}
 use Rattle.js_grammar.specs.Readings.{longer, longest_of, read_punctuator, nothing_reading, punctuator_or_nothing}
@@ -124,7 +125,8 @@ abbrev longest_punctuator : (t : SourceType) (line_has_ended : Bool) (text : Lis
     → IsLongest t line_has_ended text punctuators (Some p)
     → LongestPunctuator t line_has_ended text (drop (length p.text) text) p.kind
 longest_punctuator t line_has_ended text p is =
-    let both = and_true (is_prefix p.text text) (not (p.excluded t line_has_ended (drop (length p.text) text))) is.1 in
+    let both =
+    and_true (is_prefix p.text text) (not (is_excluded p t line_has_ended (drop (length p.text) text))) is.1 in
     record {
       it = p;
       in_table = is.0;

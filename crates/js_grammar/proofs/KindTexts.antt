@@ -13,7 +13,7 @@ use Rattle.js_kind.specs.declared.kind.Kind.{Kind}
 use Rattle.js_kind.specs.declared.kind.Kind.TheVariants.{Eof, HashbangComment, Ident, NoSubstitutionTemplate}
 use Rattle.js_kind.specs.declared.kind.Kind.TheVariants.{PrivateIdentifier, Str, TemplateHead, TemplateMiddle}
 use Rattle.js_kind.specs.declared.kind.Kind.TheVariants.{TemplateTail, Undetermined}
-use Rattle.js_kind.proofs.Members.{one_passes}
+use Rattle.js_kind.proofs.Members.{name_passes}
 use Rattle.js_kind.proofs.NameKinds.{name_kind-is_identifier_name}
 use Rattle.js_grammar.specs.Gap.{is_prefix}
 use Rattle.js_grammar.specs.Goals.{ReadsHere, ReadsPlainly, GoalReads, next_part}
@@ -58,9 +58,8 @@ unfolding is_re_lexed
 names_are_read_once = refl
 
 name_is_read_once : (kind : Kind) → is_identifier_name kind ≡ true → is_re_lexed kind ≡ false
-unfolding is_identifier_name
 name_is_read_once kind is =
-    not_true (is_re_lexed kind) (one_passes is_read_once (Ident ∷ keywords) kind names_are_read_once is)
+    not_true (is_re_lexed kind) (name_passes is_read_once kind names_are_read_once is)
 
 -- the other kinds of what is read, apart from punctuators and numbers
 pub record AreReadOnce : Type 0 where

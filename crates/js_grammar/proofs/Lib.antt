@@ -19,6 +19,7 @@ pub mod ItemsAhead
 pub mod KindTexts
 pub mod LocalGoals
 pub mod LocalReadings
+pub mod LongestPunctuators
 pub mod Marks
 pub mod Moved
 pub mod MovedGaps
@@ -46,7 +47,6 @@ pub mod NumberWhole
 pub mod NumbersAhead
 pub mod PieceLemmas
 pub mod Printable
-pub mod PunctuatorLeaves
 pub mod PunctuatorLemmas
 pub mod PunctuatorsAhead
 pub mod QuotedReadings

@@ -11,7 +11,7 @@ use Rattle.js_text.specs.Characters.{is_identifier_start, is_white_space, is_irr
 use Rattle.js_text.specs.declared.source_type.SourceType.{SourceType}
 use Rattle.js_kind.specs.Digits.{is_digit_of}
 use Rattle.js_grammar.specs.Quoted.{begins_quoted}
-use Rattle.js_grammar.specs.Punctuators.{Punctuator, punctuators, IsIn, is_spelled, NoPunctuator}
+use Rattle.js_grammar.specs.Punctuators.{Punctuator, punctuators, IsIn, is_spelled, NoPunctuator, is_excluded}
 use Rattle.js_grammar.proofs.PunctuatorLemmas.{passes_at, spelled_at}
 use Rattle.js_grammar.specs.Spelling.{begins_named}
 use Rattle.js_grammar.proofs.Tests.{and_true}
@@ -22,7 +22,7 @@ not_both false e f = cc
 
 -- a punctuator that stands there, with what may follow it
 pub spelled_there : (t : SourceType) (line_has_ended : Bool) (p : Punctuator) (vs : List ℕ) → IsIn p punctuators
-    → p.excluded t line_has_ended vs ≡ false → NoPunctuator t line_has_ended (p.text ++ vs) → ⊥
+    → is_excluded p t line_has_ended vs ≡ false → NoPunctuator t line_has_ended (p.text ++ vs) → ⊥
 spelled_there t line_has_ended p vs i allowed none =
     not_both _ (passes_at (λ q. not (is_spelled t line_has_ended (p.text ++ vs) q)) p punctuators i none)
     (spelled_at t line_has_ended p vs allowed)

@@ -7,6 +7,7 @@ use Rattle.std.proofs.Math.Seq.{drop-append_seam}
 use Rattle.js_text.specs.declared.source_type.SourceType.{SourceType}
 use Rattle.js_kind.specs.declared.kind.Kind.{Kind}
 use Rattle.js_grammar.specs.Punctuators.{Punctuator, punctuators, IsIn, is_spelled, LongestPunctuator, NoPunctuator}
+use Rattle.js_grammar.specs.Punctuators.{is_excluded}
 use Rattle.js_grammar.proofs.Tests.{and_true, prefix_of}
 
 pub passes_at : (test : Punctuator → Bool) (p : Punctuator) (ps : List Punctuator) → IsIn p ps
@@ -18,7 +19,7 @@ passes_at test p (q ∷ ps) h e =
 
 -- a text that the punctuator begins, with a rest that may follow it
 pub spelled_at : (t : SourceType) (line_has_ended : Bool) (p : Punctuator) (vs : List ℕ)
-    → p.excluded t line_has_ended vs ≡ false → is_spelled t line_has_ended (p.text ++ vs) p ≡ true
+    → is_excluded p t line_has_ended vs ≡ false → is_spelled t line_has_ended (p.text ++ vs) p ≡ true
 spelled_at t line_has_ended p vs e = rw (prefix_of p.text vs) (rw drop-append_seam (rw e refl))
 
 -- what a test of each entry says of one that is spelled
@@ -33,7 +34,8 @@ not_true false h e = cc
 -- each punctuator that is spelled there is no longer
 pub longest_at : (t : SourceType) (line_has_ended : Bool) (text rest : List ℕ) (k : Kind)
     (l : LongestPunctuator t line_has_ended text rest k)
-    (p : Punctuator) (vs : List ℕ) → IsIn p punctuators → text ≡ p.text ++ vs → p.excluded t line_has_ended vs ≡ false
+    (p : Punctuator) (vs : List ℕ) → IsIn p punctuators → text ≡ p.text ++ vs
+    → is_excluded p t line_has_ended vs ≡ false
     → length p.text ≤ length l.it.text
 longest_at t line_has_ended text rest k l p vs i e f =
     let spelled : is_spelled t line_has_ended text p ≡ true =
@@ -59,7 +61,7 @@ some_text p i none =
 
 -- a punctuator that stands there, where none does
 pub stands_there : (t : SourceType) (line_has_ended : Bool) (text vs : List ℕ) (p : Punctuator) → IsIn p punctuators
-    → text ≡ p.text ++ vs → p.excluded t line_has_ended vs ≡ false → NoPunctuator t line_has_ended text → ⊥
+    → text ≡ p.text ++ vs → is_excluded p t line_has_ended vs ≡ false → NoPunctuator t line_has_ended text → ⊥
 stands_there t line_has_ended text vs p i e allowed none =
     let spelled : is_spelled t line_has_ended text p ≡ true =
     subst (λ u. is_spelled t line_has_ended u p ≡ true) (sym e) (spelled_at t line_has_ended p vs allowed) in

@@ -16,7 +16,7 @@ use Rattle.js_grammar.specs.Punctuators.{Punctuator, punctuators, NoPunctuator}
 use Rattle.js_grammar.specs.Spelling.{begins_named}
 use Rattle.js_grammar.proofs.NumberClasses.{all_below, below, digit_more, digit_is_ascii}
 use Rattle.js_grammar.proofs.NumberItems.{true_or_false}
-use Rattle.js_grammar.proofs.PunctuatorLeaves.{none, none_dot}
+use Rattle.js_grammar.proofs.LongestPunctuators.{none, none_dot}
 use Rattle.js_grammar.proofs.Tests.{and_true}
 
 not_true : (b : Bool) → not b ≡ true → b ≡ false

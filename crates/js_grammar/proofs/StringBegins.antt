@@ -36,7 +36,7 @@ use Rattle.js_grammar.proofs.TemplateLaws.{substitution_is_read}
 use Rattle.js_kind.specs.declared.kind.Kind.TheVariants.{NoSubstitutionTemplate, TemplateHead}
 use Rattle.js_grammar.proofs.EscapeCases.{escape_is_one}
 use Rattle.js_grammar.proofs.NumberItems.{true_or_false}
-use Rattle.js_grammar.proofs.PunctuatorLeaves.{none}
+use Rattle.js_grammar.proofs.LongestPunctuators.{none}
 use Rattle.js_grammar.proofs.StringSteps.{none_or_some, some_is, string_plain, string_ends, template_plain}
 use Rattle.js_grammar.proofs.StringSteps.{template_ends}
 use Rattle.js_grammar.proofs.StringSteps.{carriage_return_two, carriage_return_one}

@@ -8,7 +8,7 @@ use Rattle.std.specs.Prelude.{unwrap_or, if◌then◌else◌}
 use Rattle.std.specs.List.{list_all}
 use Rattle.std.specs.Str.{IsUtf8, encode_utf8_all}
 use Rattle.std.proofs.lemmas.Bool.{not-true}
-use Rattle.js_kind.proofs.Members.{one_passes}
+use Rattle.js_kind.proofs.Members.{name_passes}
 use Rattle.js_text.specs.Ascii.{number_sign}
 use Rattle.js_text.specs.Characters.{begins, from_place, is_identifier_start}
 use Rattle.js_text.specs.JsStr.{units_of}
@@ -136,9 +136,8 @@ unfolding is_private_name
 names_are_not_private = refl
 
 identifier_is_not_private : (kind : Kind) → is_identifier_name kind ≡ true → is_private_name kind ≡ false
-unfolding is_identifier_name
 identifier_is_not_private kind is =
-    not-true (is_private_name kind) (one_passes is_no_private (Ident ∷ keywords) kind names_are_not_private is)
+    not-true (is_private_name kind) (name_passes is_no_private kind names_are_not_private is)
 
 -- names, private or not, have their text as value
 name_plain_value : (kind : Kind) (start end : ℕ) → is_identifier_name kind ≡ true

@@ -1,6 +1,6 @@
 -- The punctuators of the plain goal (ECMA-262 12.8, with `@`), and what may not follow one.
 use Rattle.std.specs.Prelude.{◌≡◌, ℕ, Bool, true, false, List, [], ◌∷◌, ◌++◌, length, drop, ◌==◌, ◌&&◌, ◌||◌, not}
-use Rattle.std.specs.Prelude.{nat_le, codes, ◌⊎◌}
+use Rattle.std.specs.Prelude.{nat_le, codes, take, if◌then◌else◌, ◌⊎◌}
 use Rattle.std.specs.Char.{is_ascii_digit}
 use Rattle.std.specs.List.{list_all}
 use Rattle.js_text.specs.Ascii.{asterisk, full_stop}
@@ -23,37 +23,46 @@ abbrev pub is_optional_dot : List ℕ → Bool
 is_optional_dot [] = false
 is_optional_dot (c ∷ cs) = (c == full_stop) && not (begins is_ascii_digit cs)
 
--- A punctuator: its text, its kind, and which texts may not follow it. The source type and whether a line has ended
--- before the punctuator may matter for that.
+-- what may not follow a punctuator
+pub data Exclusion : Type 0 where
+  excludes_nothing : Exclusion
+  excludes_digits : Exclusion
+  excludes_asterisk : Exclusion
+  excludes_reported_comment : Exclusion
+
+-- The text may not follow. A reported comment is one in a module where a line has ended.
+abbrev pub excludes : Exclusion → SourceType → Bool → List ℕ → Bool
+excludes excludes_nothing t line_has_ended rest = false
+excludes excludes_digits t line_has_ended rest = begins is_ascii_digit rest
+excludes excludes_asterisk t line_has_ended rest = begins (λ c. c == asterisk) rest
+excludes excludes_reported_comment t line_has_ended rest =
+    is_prefix (codes "!--") rest && (is_module t && line_has_ended)
+
+-- A punctuator: its text, its kind, and what may not follow it.
 pub record Punctuator : Type 0 where
   pub text : List ℕ
   pub kind : Kind
-  pub excluded : SourceType → Bool → List ℕ → Bool
+  pub exclusion : Exclusion
+
+-- the text may not follow the punctuator
+abbrev pub is_excluded : Punctuator → SourceType → Bool → List ℕ → Bool
+is_excluded p = excludes p.exclusion
 
 -- a punctuator that anything may follow
 abbrev pub plain : Kind → Punctuator
-plain k = record { text = kind_text k; kind = k; excluded = λ t line_has_ended rest. false }
+plain k = record { text = kind_text k; kind = k; exclusion = excludes_nothing }
 
 -- a punctuator that no digit may follow
 abbrev pub before_no_digit : Kind → Punctuator
-before_no_digit k =
-    record { text = kind_text k; kind = k; excluded = λ t line_has_ended rest. begins is_ascii_digit rest }
+before_no_digit k = record { text = kind_text k; kind = k; exclusion = excludes_digits }
 
 -- `/`, which begins a comment before `*`
 abbrev pub slash : Punctuator
-slash = record {
-  text = kind_text Slash;
-  kind = Slash;
-  excluded = λ t line_has_ended rest. begins (λ c. c == asterisk) rest;
-}
+slash = record { text = kind_text Slash; kind = Slash; exclusion = excludes_asterisk }
 
--- `<`, which begins a reported comment before `!--`, in a module where a line has ended
+-- `<`, which begins a reported comment before `!--`
 abbrev pub left_angle : Punctuator
-left_angle = record {
-  text = kind_text LAngle;
-  kind = LAngle;
-  excluded = λ t line_has_ended rest. is_prefix (codes "!--") rest && (is_module t && line_has_ended);
-}
+left_angle = record { text = kind_text LAngle; kind = LAngle; exclusion = excludes_reported_comment }
 
 -- All punctuators. Of those that begin with `>`, a plain step gives `>` alone.
 abbrev pub punctuators : List Punctuator
@@ -120,7 +129,7 @@ IsIn x (y ∷ ys) = (x ≡ y) ⊎ IsIn x ys
 
 -- the text begins with the punctuator, and what follows may follow it
 abbrev pub is_spelled : SourceType → Bool → List ℕ → Punctuator → Bool
-is_spelled t line_has_ended cs p = is_prefix p.text cs && not (p.excluded t line_has_ended (drop (length p.text) cs))
+is_spelled t line_has_ended cs p = is_prefix p.text cs && not (is_excluded p t line_has_ended (drop (length p.text) cs))
 
 -- The text begins with the punctuator `it`, after which rest is left, and with no longer one.
 pub record LongestPunctuator (t : SourceType) (line_has_ended : Bool) (text rest : List ℕ)
@@ -128,7 +137,7 @@ pub record LongestPunctuator (t : SourceType) (line_has_ended : Bool) (text rest
   pub it : Punctuator
   pub in_table : IsIn it punctuators
   pub here : text ≡ it.text ++ rest
-  pub allowed : it.excluded t line_has_ended rest ≡ false
+  pub allowed : is_excluded it t line_has_ended rest ≡ false
   pub kind : kind_is ≡ it.kind
   pub longest : list_all
       (λ q. not (is_spelled t line_has_ended text q) || nat_le (length q.text) (length it.text)) punctuators ≡ true
@@ -136,3 +145,16 @@ pub record LongestPunctuator (t : SourceType) (line_has_ended : Bool) (text rest
 -- No punctuator is spelled at the beginning of the text.
 abbrev pub NoPunctuator : SourceType → Bool → List ℕ → Type 0
 NoPunctuator t line_has_ended text = list_all (λ q. not (is_spelled t line_has_ended text q)) punctuators ≡ true
+
+-- the character behind the text in a longer one that it begins
+abbrev pub next_in : List ℕ → List ℕ → List ℕ
+next_in text longer = if is_prefix text longer then take 1 (drop (length text) longer) else []
+
+-- the characters behind the text in those of these punctuators that it begins
+abbrev pub going_on : List ℕ → List Punctuator → List ℕ
+going_on text [] = []
+going_on text (p ∷ ps) = next_in text p.text ++ going_on text ps
+
+-- the text does not begin with the character
+abbrev pub is_not_next : List ℕ → ℕ → Bool
+is_not_next text c = not (begins (λ x. x == c) text)

@@ -10,7 +10,7 @@ use Rattle.js_text.specs.declared.value.RowValue.{RowValue}
 use Rattle.js_text.specs.declared.value.RowValue.TheVariants.{Nothing}
 use Rattle.js_grammar.specs.Name.{IsName, decoded, has_escape, continues_name, name_value}
 use Rattle.js_grammar.specs.Number.{IsNumber, excluded_after}
-use Rattle.js_grammar.specs.Punctuators.{Punctuator, punctuators, IsIn}
+use Rattle.js_grammar.specs.Punctuators.{Punctuator, punctuators, IsIn, is_excluded}
 use Rattle.js_kind.specs.Keywords.{name_kind}
 use Rattle.js_grammar.specs.Quoted.{quoted_reading, is_backslash_or_return}
 use Rattle.js_grammar.specs.StringItems.{IsString}
@@ -27,7 +27,7 @@ pub data Spelling (t : SourceType) (line_has_ended : Bool) (xs ys : List ℕ) (k
       → Spelling t line_has_ended xs ys kind
   private_name : (named : List ℕ) → IsName named → continues_name ys ≡ false → xs ≡ number_sign ∷ named
       → kind ≡ PrivateIdentifier → Spelling t line_has_ended xs ys kind
-  punctuator : (p : Punctuator) → IsIn p punctuators → xs ≡ p.text → p.excluded t line_has_ended ys ≡ false
+  punctuator : (p : Punctuator) → IsIn p punctuators → xs ≡ p.text → is_excluded p t line_has_ended ys ≡ false
       → kind ≡ p.kind → Spelling t line_has_ended xs ys kind
   number : IsNumber xs kind → excluded_after kind ys ≡ false → Spelling t line_has_ended xs ys kind
   string : IsString xs ys → kind ≡ Str → Spelling t line_has_ended xs ys kind

@@ -5,8 +5,7 @@ use Rattle.js_kind.specs.declared.kind.Kind.{Kind}
 use Rattle.js_kind.specs.declared.kind.Kind.TheVariants as variant
 use Rattle.js_kind.specs.Kinds.{number, is_name_kind, is_identifier_name, is_number_kind, is_reserved_keyword}
 use Rattle.js_kind.specs.Kinds.{is_literal}
-use Rattle.js_kind.specs.Predicates.{is_kind, is_contextual_keyword, is_literal_property_name}
-use Rattle.js_kind.specs.Predicates.{is_identifier_or_keyword}
+use Rattle.js_kind.specs.Predicates.{is_contextual_keyword, is_literal_property_name}
 
 -- The numbers of words stand in a row.
 pub words_are_between : (kind : Kind) → is_in_range (number variant.Await) (number variant.Null) (number kind)
@@ -62,10 +61,3 @@ pub property_names_are_between : (kind : Kind)
 unfolding is_literal_property_name
 property_names_are_between variant.Eof = refl
 property_names_are_between _ = refl
-
--- Names of members are those, and private names.
-pub member_names_by_parts : (kind : Kind)
-    → is_literal_property_name kind || is_kind variant.PrivateIdentifier kind ≡ is_identifier_or_keyword kind
-unfolding is_literal_property_name is_identifier_or_keyword
-member_names_by_parts variant.Eof = refl
-member_names_by_parts _ = refl

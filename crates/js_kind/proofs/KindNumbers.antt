@@ -10,8 +10,8 @@ use Rattle.js_kind.specs.declared.kind.Kind.{Kind}
 use Rattle.js_kind.specs.declared.kind.Kind.TheVariants as variant
 use Rattle.js_kind.specs.declared.kind.TheConstants.Kind.{VARIANTS}
 use Rattle.js_kind.specs.declared.kind_rows.Row.{Row}
-use Rattle.js_kind.specs.KindRows.{kind_row}
-use Rattle.js_kind.specs.Kinds.{number, row_of, HasEachRow}
+use Rattle.js_kind.specs.declared.kind_rows.TheConstants.{COUNT}
+use Rattle.js_kind.specs.Kinds.{number, names_of, row_of, HasEachRow}
 
 -- Two kinds of one number are one kind.
 pub number_injective : (j k : Kind) → number j ≡ number k → j ≡ k
@@ -31,19 +31,19 @@ filled (k ∷ ks) n zero d = refl
 filled (k ∷ ks) n (suc i) d = filled ks n i d
 
 -- A table of the rows of all kinds has each at the place of its number.
-pub has_each_row : (rows : List Row) → length rows ≡ 169 → map row_of rows ≡ map kind_row VARIANTS → HasEachRow rows
+pub has_each_row : (rows : List Row) → length rows ≡ COUNT → map row_of rows ≡ map names_of VARIANTS → HasEachRow rows
 has_each_row rows count all = record {
   count = count;
   at_number = λ kind.
       ap (λ xs. slice_get xs (number kind)) all
-      ∙ slice_get-map kind_row VARIANTS (number kind)
-      ∙ ap (option_map kind_row) (kind_at_number kind);
+      ∙ slice_get-map names_of VARIANTS (number kind)
+      ∙ ap (option_map names_of) (kind_at_number kind);
 }
 
 -- What such a table has at the number of a kind.
 pub row_at : (rows : List Row) (n : ℕ) (kind : Kind) (d : Row) → HasEachRow rows → n ≡ number kind
-    → row_of (get_or rows n d) ≡ kind_row kind
+    → row_of (get_or rows n d) ≡ names_of kind
 row_at rows n kind d has is =
-    let at : slice_get (map row_of rows) n ≡ Some (kind_row kind) =
+    let at : slice_get (map row_of rows) n ≡ Some (names_of kind) =
     ap (slice_get (map row_of rows)) is ∙ has.at_number kind
-    in sym (get_or-map row_of rows n d) ∙ get_or_from_slice_get (map row_of rows) n (kind_row kind) (row_of d) at
+    in sym (get_or-map row_of rows n d) ∙ get_or_from_slice_get (map row_of rows) n (names_of kind) (row_of d) at

@@ -1,9 +1,10 @@
 -- Kinds in a list of kinds.
-use Rattle.std.proofs.Common.{◌≡◌, ◌⊎◌, ◌==◌, Bool, true, List, [], ◌∷◌, refl, ◌∙◌, ap, inl, inr}
+use Rattle.std.proofs.Common.{◌≡◌, ◌⊎◌, ◌==◌, Bool, true, List, [], ◌∷◌, refl, sym, ◌∙◌, ap, inl, inr}
 use Rattle.std.proofs.lemmas.Bool.{and_parts, or_cases, or_left, or_right, eq-eqb, eqb-true}
 use Rattle.std.specs.List.{list_all}
 use Rattle.js_kind.specs.declared.kind.Kind.{Kind}
-use Rattle.js_kind.specs.Kinds.{number, is_one_of}
+use Rattle.js_kind.specs.declared.kind.Kind.TheVariants as variant
+use Rattle.js_kind.specs.Kinds.{number, is_one_of, is_name_kind, is_identifier_name, keywords}
 use Rattle.js_kind.proofs.KindNumbers.{number_injective}
 
 -- A kind is one of a list that begins with it.
@@ -27,3 +28,25 @@ one_passes test (k ∷ ks) kind all is =
         → (is_one_of ks kind ≡ true → test kind ≡ true) → test kind ≡ true
     by_cases (inl same) first later = ap test (number_injective kind k (eqb-true _ _ same)) ∙ first
     by_cases (inr in_rest) first later = later in_rest
+
+-- The words are the kinds of their list.
+pub listed : (kind : Kind) → is_name_kind kind ≡ is_one_of keywords kind
+unfolding is_name_kind
+listed variant.Eof = refl
+listed _ = refl
+
+-- The kinds of identifier names are those and `Ident`.
+pub name_listed : (kind : Kind) → is_identifier_name kind ≡ is_one_of (variant.Ident ∷ keywords) kind
+unfolding is_identifier_name
+name_listed variant.Eof = refl
+name_listed _ = refl
+
+-- What a test tells of each word, it tells of a kind that is one.
+pub word_passes : (test : Kind → Bool) (kind : Kind) → list_all test keywords ≡ true → is_name_kind kind ≡ true
+    → test kind ≡ true
+word_passes test kind all word = one_passes test keywords kind all (sym (listed kind) ∙ word)
+
+-- What it tells of `Ident` too, it tells of each kind of identifier names.
+pub name_passes : (test : Kind → Bool) (kind : Kind) → list_all test (variant.Ident ∷ keywords) ≡ true
+    → is_identifier_name kind ≡ true → test kind ≡ true
+name_passes test kind all name = one_passes test (variant.Ident ∷ keywords) kind all (sym (name_listed kind) ∙ name)

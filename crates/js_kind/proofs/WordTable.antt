@@ -16,9 +16,9 @@ use Rattle.js_kind.specs.Kinds.{number, keywords, kind_text, is_name_kind}
 use Rattle.js_kind.specs.Keywords.{name_kind, key_of, place_of, empty, is_placed, is_empty_or_word}
 use Rattle.js_kind.specs.Keywords.{is_empty, is_word, HoldsWords, IsOnlyWord, IsKindOfName}
 use Rattle.js_kind.proofs.KindNumbers.{number_injective}
-use Rattle.js_kind.proofs.Members.{one_passes}
+use Rattle.js_kind.proofs.Members.{word_passes}
 use Rattle.js_kind.proofs.NameKeys.{AreBytes, are_bytes_to, same_bytes}
-use Rattle.js_kind.proofs.NameKinds.{name_kind-is_kind_of_name, keyword_of_text}
+use Rattle.js_kind.proofs.NameKinds.{name_kind-is_kind_of_name, keyword_of_text, ident_is_no_word}
 
 -- a table that computes
 pub holds_words : (table : List Word) → length table ≡ 512 → list_all (is_placed table) keywords ≡ true
@@ -36,7 +36,6 @@ at_place test (w ∷ ws) (suc n) d all h =
 -- the entry at the place of a key
 pub only_word : (table : List Word) (key n : ℕ) (d : Word) → HoldsWords table → n ≡ place_of key → n < 512
     → IsOnlyWord key (get_or table n d)
-unfolding is_name_kind
 only_word table key n d is at h =
     let within : n < length table = omega (arith, h, is.count) in
     record {
@@ -44,7 +43,7 @@ only_word table key n d is at h =
           sym (number_injective (get_or table n d).kind other
           (ap (λ w. number w.kind) (get_or_default table n d empty within)
           ∙ ap (λ m. number (get_or table m empty).kind) (at ∙ ap place_of (sym same))
-          ∙ eqb-true _ _ (one_passes (is_placed table) keywords other is.places word)));
+          ∙ eqb-true _ _ (word_passes (is_placed table) other is.places word)));
       entry = at_place is_empty_or_word table n d is.words within;
     }
 
@@ -61,8 +60,7 @@ all_short : list_all is_short keywords ≡ true
 all_short = refl
 
 is_short_word : (kind : Kind) → is_name_kind kind ≡ true → is_short kind ≡ true
-unfolding is_name_kind
-is_short_word kind word = one_passes is_short keywords kind all_short word
+is_short_word kind word = word_passes is_short kind all_short word
 
 -- no word is as long
 pub too_long : (text : List ℕ) → 11 < length text → Ident ≡ name_kind text
@@ -95,10 +93,6 @@ told word is = by_cases (or_cases (is_empty word) (is_word word) is)
         let rest = and_parts (is_name_kind word.kind && key) count some in
         let name = and_parts (is_name_kind word.kind) key rest.0 in
         inr (record { name = name.0; key = eqb-true _ _ name.1; length = eqb-true _ _ rest.1 })
-
-ident_is_no_word : (kind : Kind) → kind ≡ Ident → is_name_kind kind ≡ true → ⊥
-unfolding is_name_kind
-ident_is_no_word kind ident name = both_ways (is_name_kind Ident) refl (sym (ap is_name_kind ident) ∙ name)
 
 -- the entry of a kind of words tells of the word
 tells : (word : Word) → is_name_kind word.kind ≡ true → IsTold word → Tells word
@@ -157,8 +151,7 @@ below (b ∷ bs) all zero = omega (arith, leb-true _ _ (and_parts (nat_le b 255)
 below (b ∷ bs) all (suc i) = below bs (and_parts (nat_le b 255) (list_all (λ b. nat_le b 255) bs) all).1 i
 
 word_is_bytes : (kind : Kind) → is_name_kind kind ≡ true → AreBytes (kind_text kind)
-unfolding is_name_kind
-word_is_bytes kind name = below (kind_text kind) (one_passes is_bytes keywords kind all_bytes name)
+word_is_bytes kind name = below (kind_text kind) (word_passes is_bytes kind all_bytes name)
 
 -- Where the keys, the lengths and what is behind the first eight bytes are the same, the texts are.
 same_texts : (xs ys : List ℕ) → AreBytes xs → AreBytes ys → key_of xs ≡ key_of ys → length xs ≡ length ys

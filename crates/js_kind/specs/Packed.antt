@@ -3,6 +3,7 @@ use Rattle.std.specs.Prelude.{◌≡◌, ℕ, ◌+◌, ◌*◌, ◌/◌, ◌%◌
 use Rattle.js_kind.specs.declared.kind.Kind.{Kind}
 use Rattle.js_kind.specs.declared.kind.Kind.TheVariants.{Eof}
 use Rattle.js_kind.specs.declared.kind.TheConstants.Kind.{VARIANTS}
+use Rattle.js_kind.specs.declared.kind_rows.TheConstants.{ENDS}
 use Rattle.js_kind.specs.Kinds.{number}
 use Rattle.js_kind.specs.TokenParts.{TokenParts}
 
@@ -10,9 +11,9 @@ use Rattle.js_kind.specs.TokenParts.{TokenParts}
 abbrev pub kind_at : ℕ → Kind
 kind_at n = get_or VARIANTS n Eof
 
--- the kinds of the numbers from 0 to 255
+-- the kinds of all bytes, and of some more numbers
 abbrev pub kinds_by_number : List Kind
-kinds_by_number = VARIANTS ++ replicate 87 Eof
+kinds_by_number = VARIANTS ++ replicate ENDS Eof
 
 -- a flag in a byte
 abbrev pub flag : Bool → ℕ

@@ -1,13 +1,10 @@
 -- What a parser asks of the kind of a token at a place, beyond the classes of kinds.
-use Rattle.std.specs.Prelude.{Bool, List, [], ◌∷◌, ◌++◌, ◌==◌, ◌&&◌, ◌||◌, not}
+use Rattle.std.specs.Prelude.{Bool, List, [], ◌∷◌, ◌&&◌, ◌||◌, not}
 use Rattle.js_kind.specs.declared.kind.Kind.{Kind}
 use Rattle.js_kind.specs.declared.kind.Kind.TheVariants as variant
-use Rattle.js_kind.specs.Kinds.{number, is_one_of, keywords, contextual_words, typescript_words, number_kinds}
+use Rattle.js_kind.specs.KindRows.{contextual_word, typescript_word, number_literal}
+use Rattle.js_kind.specs.Kinds.{is_kind, is_of, is_one_of, is_word}
 use Rattle.js_kind.specs.Kinds.{is_identifier, is_identifier_name, is_literal, is_binary_operator}
-
--- the kind is this one
-abbrev pub is_kind : Kind → Kind → Bool
-is_kind other kind = number kind == number other
 
 -- the end of the source
 unfoldable pub is_eof : Kind → Bool
@@ -15,7 +12,7 @@ is_eof kind = is_kind variant.Eof kind
 
 -- words with a meaning of their own at some places, in JavaScript or in TypeScript
 unfoldable pub is_contextual_keyword : Kind → Bool
-is_contextual_keyword kind = is_one_of (contextual_words ++ typescript_words) kind
+is_contextual_keyword kind = is_of contextual_word kind || is_of typescript_word kind
 
 -- the words that strict mode code reserves, without `let` and `yield` (ECMA-262 12.7.2)
 abbrev pub future_reserved_words : List Kind
@@ -61,18 +58,14 @@ is_after_let kind =
 unfoldable pub is_after_await_or_yield : Kind → Bool
 is_after_await_or_yield kind = (is_literal kind || is_identifier_name kind) && not (is_binary_operator kind)
 
--- strings and numbers
-abbrev pub string_and_number_kinds : List Kind
-string_and_number_kinds = variant.Str ∷ number_kinds
-
 -- tokens of the kind are names of properties, computed ones left out (ECMA-262 13.2.5, LiteralPropertyName)
 unfoldable pub is_literal_property_name : Kind → Bool
-is_literal_property_name kind = is_one_of (variant.Ident ∷ keywords ++ string_and_number_kinds) kind
+is_literal_property_name kind =
+    is_kind variant.Ident kind || is_word kind || is_kind variant.Str kind || is_of number_literal kind
 
 -- tokens of the kind are such names or private names
 unfoldable pub is_identifier_or_keyword : Kind → Bool
-is_identifier_or_keyword kind =
-    is_one_of (variant.Ident ∷ keywords ++ string_and_number_kinds ++ variant.PrivateIdentifier ∷ []) kind
+is_identifier_or_keyword kind = is_literal_property_name kind || is_kind variant.PrivateIdentifier kind
 
 -- the kinds of unary operators
 abbrev pub unary_operators : List Kind

@@ -1,9 +1,8 @@
 //! The table of kinds, with their names and texts.
 
 ghost use Rattle.std.specs.Prelude.{◌≡◌};
-ghost use Rattle.js_kind.specs.KindRows.{kind_row};
 ghost use Rattle.js_kind.specs.Packed.{kind_at, kinds_by_number};
-ghost use Rattle.js_kind.specs.Kinds.{ListsByNumber, HasEachRow, row_of};
+ghost use Rattle.js_kind.specs.Kinds.{ListsByNumber, HasEachRow, names_of, row_of};
 
 use crate::kind::Kind;
 
@@ -198,24 +197,23 @@ macro_rules! kinds {
     };
 }
 
-/// All kinds in the order of their numbers, then `Eof` up to the place 255.
+/// All kinds in the order of their numbers, then `Eof` so many times that each byte has a place.
 macro_rules! kinds_then_ends {
     ($($kind:ident $name:literal $text:literal,)*) => {
         [
             $(Kind::$kind,)*
-            Kind::Eof, Kind::Eof, Kind::Eof, Kind::Eof, Kind::Eof, Kind::Eof, Kind::Eof,
-            Kind::Eof, Kind::Eof, Kind::Eof, Kind::Eof, Kind::Eof, Kind::Eof, Kind::Eof,
-            Kind::Eof, Kind::Eof, Kind::Eof, Kind::Eof, Kind::Eof, Kind::Eof, Kind::Eof,
-            Kind::Eof, Kind::Eof, Kind::Eof, Kind::Eof, Kind::Eof, Kind::Eof, Kind::Eof,
-            Kind::Eof, Kind::Eof, Kind::Eof, Kind::Eof, Kind::Eof, Kind::Eof, Kind::Eof,
-            Kind::Eof, Kind::Eof, Kind::Eof, Kind::Eof, Kind::Eof, Kind::Eof, Kind::Eof,
-            Kind::Eof, Kind::Eof, Kind::Eof, Kind::Eof, Kind::Eof, Kind::Eof, Kind::Eof,
-            Kind::Eof, Kind::Eof, Kind::Eof, Kind::Eof, Kind::Eof, Kind::Eof, Kind::Eof,
-            Kind::Eof, Kind::Eof, Kind::Eof, Kind::Eof, Kind::Eof, Kind::Eof, Kind::Eof,
-            Kind::Eof, Kind::Eof, Kind::Eof, Kind::Eof, Kind::Eof, Kind::Eof, Kind::Eof,
-            Kind::Eof, Kind::Eof, Kind::Eof, Kind::Eof, Kind::Eof, Kind::Eof, Kind::Eof,
-            Kind::Eof, Kind::Eof, Kind::Eof, Kind::Eof, Kind::Eof, Kind::Eof, Kind::Eof,
-            Kind::Eof, Kind::Eof, Kind::Eof,
+            Kind::Eof, Kind::Eof, Kind::Eof, Kind::Eof, Kind::Eof, Kind::Eof, Kind::Eof, Kind::Eof,
+            Kind::Eof, Kind::Eof, Kind::Eof, Kind::Eof, Kind::Eof, Kind::Eof, Kind::Eof, Kind::Eof,
+            Kind::Eof, Kind::Eof, Kind::Eof, Kind::Eof, Kind::Eof, Kind::Eof, Kind::Eof, Kind::Eof,
+            Kind::Eof, Kind::Eof, Kind::Eof, Kind::Eof, Kind::Eof, Kind::Eof, Kind::Eof, Kind::Eof,
+            Kind::Eof, Kind::Eof, Kind::Eof, Kind::Eof, Kind::Eof, Kind::Eof, Kind::Eof, Kind::Eof,
+            Kind::Eof, Kind::Eof, Kind::Eof, Kind::Eof, Kind::Eof, Kind::Eof, Kind::Eof, Kind::Eof,
+            Kind::Eof, Kind::Eof, Kind::Eof, Kind::Eof, Kind::Eof, Kind::Eof, Kind::Eof, Kind::Eof,
+            Kind::Eof, Kind::Eof, Kind::Eof, Kind::Eof, Kind::Eof, Kind::Eof, Kind::Eof, Kind::Eof,
+            Kind::Eof, Kind::Eof, Kind::Eof, Kind::Eof, Kind::Eof, Kind::Eof, Kind::Eof, Kind::Eof,
+            Kind::Eof, Kind::Eof, Kind::Eof, Kind::Eof, Kind::Eof, Kind::Eof, Kind::Eof, Kind::Eof,
+            Kind::Eof, Kind::Eof, Kind::Eof, Kind::Eof, Kind::Eof, Kind::Eof, Kind::Eof, Kind::Eof,
+            Kind::Eof, Kind::Eof, Kind::Eof, Kind::Eof, Kind::Eof, Kind::Eof, Kind::Eof, Kind::Eof,
         ]
     };
 }
@@ -226,6 +224,9 @@ macro_rules! rows {
     };
 }
 
+/// How many kinds there are.
+const COUNT: usize = with_kinds!(kinds).len();
+
 /// The name of a kind, and its text.
 pub(crate) struct Row {
     pub(crate) name: &'static str,
@@ -233,21 +234,24 @@ pub(crate) struct Row {
 }
 
 /// The names and texts of all kinds, in the order of their numbers.
-static ROWS: [Row; 169] = with_kinds!(rows);
+static ROWS: [Row; COUNT] = with_kinds!(rows);
 
 /// The table of names and texts.
-fn rows() -> &'static [Row; 169]
+fn rows() -> &'static [Row; COUNT]
     ensures { HasEachRow result.now }
 {
     &ROWS
 }
 
+/// How many ends stand behind the kinds in the table of bytes.
+const ENDS: usize = 96;
+
 /// The kind of each byte, so that a look-up tests no bound.
-static KINDS: [Kind; 256] = with_kinds!(kinds_then_ends);
+static KINDS: [Kind; COUNT + ENDS] = with_kinds!(kinds_then_ends);
 
 /// The table of the kinds of bytes.
 #[inline(always)]
-fn by_number() -> &'static [Kind; 256]
+fn by_number() -> &'static [Kind; COUNT + ENDS]
     ensures { result.now ≡ kinds_by_number }
 {
     &KINDS
@@ -262,11 +266,11 @@ impl Kind {
     }
 
     /// All kinds, in the order of their numbers.
-    pub const VARIANTS: [Kind; 169] = with_kinds!(kinds);
+    pub const VARIANTS: [Kind; COUNT] = with_kinds!(kinds);
 
     /// The name and the text of the kind.
     pub(crate) fn row(self) -> &'static Row
-        ensures { row_of result.now ≡ kind_row self }
+        ensures { row_of result.now ≡ names_of self }
     {
         &rows()[self.number() as usize]
     }

@@ -1,7 +1,8 @@
 //! What a parser asks of the kind of a token at a place.
 
 ghost use Rattle.std.specs.Prelude.{◌≡◌};
-ghost use Rattle.js_kind.specs.Predicates.{is_kind, is_eof, is_contextual_keyword};
+ghost use Rattle.js_kind.specs.Kinds.{is_kind};
+ghost use Rattle.js_kind.specs.Predicates.{is_eof, is_contextual_keyword};
 ghost use Rattle.js_kind.specs.Predicates.{is_strict_mode_contextual_keyword};
 ghost use Rattle.js_kind.specs.Predicates.{is_future_reserved_keyword, is_binding_identifier};
 ghost use Rattle.js_kind.specs.Predicates.{is_identifier_reference, is_ts_identifier, is_after_let};
@@ -146,7 +147,7 @@ impl Kind {
     }
 
     /// Whether tokens of the kind are names of properties, computed ones left out, or private names.
-    #[tactic(auto, using(crate::proofs::Classes::member_names_by_parts))]
+    #[tactic(auto, unfolding(crate::specs::Predicates::is_identifier_or_keyword))]
     pub const fn is_identifier_or_keyword(self) -> bool
         ensures { result ≡ is_identifier_or_keyword self }
     {

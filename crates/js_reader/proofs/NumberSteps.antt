@@ -14,7 +14,7 @@ use Rattle.js_grammar.specs.Number.{begins_number}
 use Rattle.js_grammar.specs.Punctuators.{NoPunctuator, before_no_digit}
 use Rattle.js_grammar.proofs.NumberItems.{true_or_false}
 use Rattle.js_grammar.proofs.Printable.{spelled_there}
-use Rattle.js_grammar.proofs.PunctuatorLeaves.{listed}
+use Rattle.js_grammar.proofs.LongestPunctuators.{listed}
 use Rattle.js_grammar.proofs.Tests.{and_true}
 
 -- the digits of a radix of ten are those of ASCII

@@ -14,7 +14,7 @@ use Rattle.js_kind.specs.TokenParts.{TokenParts}
 use Rattle.js_kind.specs.declared.kind.Kind.{Kind}
 use Rattle.js_kind.specs.declared.kind.Kind.TheVariants.{Eof, Ident, RegExp}
 use Rattle.js_kind.specs.declared.kind.Kind.TheVariants.{TemplateMiddle, TemplateTail}
-use Rattle.js_kind.proofs.Members.{one_passes}
+use Rattle.js_kind.proofs.Members.{name_passes, one_passes}
 use Rattle.js_grammar.specs.Angle.{angle_reading, right_angles, first_left_angle, first_right_angle}
 use Rattle.js_grammar.specs.Gap.{is_prefix}
 use Rattle.js_grammar.specs.Reading.{Reading, moved_regex}
@@ -223,8 +223,7 @@ names_pass : list_all no_hashbangs (Ident ∷ keywords) ≡ true
 names_pass = refl
 
 name_is_none : (kind : Kind) → is_identifier_name kind ≡ true → is_hashbang kind ≡ false
-unfolding is_identifier_name
-name_is_none kind is = none_of kind (one_passes no_hashbangs (Ident ∷ keywords) kind names_pass is)
+name_is_none kind is = none_of kind (name_passes no_hashbangs kind names_pass is)
 
 end_is_no_name : is_identifier_name Eof ≡ false
 unfolding is_identifier_name

@@ -1,146 +1,68 @@
 //! Punctuators: the longest one is taken (ECMA-262 12.8).
 
-ghost use Rattle.std.specs.Prelude.{◌≡◌, ◌<◌, ◌∷◌, [], ℕ, Bool, List, false, MatchBool};
+ghost use Rattle.std.specs.Prelude.{◌≡◌, ◌<◌, ◌∷◌, Bool, true, false, None, MatchBool};
 ghost use Rattle.std.specs.Char.{is_ascii_digit};
-ghost use Rattle.js_text.specs.Ascii.{equals_sign, exclamation_mark, full_stop, question_mark, slash};
+ghost use Rattle.js_text.specs.Ascii.{full_stop, question_mark, slash};
 ghost use Rattle.js_text.specs.Characters.{begins};
 ghost use Rattle.js_text.specs.declared.source_type.SourceType.{SourceType};
 ghost use Rattle.js_grammar.specs.Gap.{is_reported};
 ghost use Rattle.js_grammar.specs.Punctuators.{LongestPunctuator, is_optional_dot};
 ghost use Rattle.js_source.specs.Source.{rest, BeginsWith};
-ghost use Rattle.js_spell.specs.Families.{IsDoubled, IsRepeated, IsAssigned};
-ghost use Rattle.js_spell.specs.Families.{ReadsPunctuator};
+ghost use Rattle.js_spell.specs.Families.{is_family, ReadsPunctuator, TakesNext};
 
 use crate::mark::advance_if_mark;
 use js_kind::Kind;
 use js_source::Source;
 
-/// The punctuators `a`, `aa`, `aa=` and `a=` of a character `a`.
+/// The punctuators that begin with a character `a`.
 #[derive(Clone, Copy)]
-struct Doubled {
+struct Family {
+    /// `a`
     alone: Kind,
-    twice: Kind,
-    twice_equals: Kind,
-    equals: Kind,
+    /// `aa`
+    twice: Option<Kind>,
+    /// `aa=`
+    twice_equals: Option<Kind>,
+    /// `a=`
+    equals: Option<Kind>,
+    /// `a==`
+    equals_twice: Option<Kind>,
+    /// `a>`
+    greater: Option<Kind>,
 }
 
-/// Reads the longest of them, where no reported comment stands.
+/// Takes the character, where it is next and a punctuator goes on with it, whose kind is the answer then.
 #[inline(always)]
-fn read_doubled(source: &mut Source<'_>, a: u8, kinds: Doubled) -> Kind
+fn advance_if_member(source: &mut Source<'_>, b: u8, member: Option<Kind>) -> Option<Kind>
+    requires { b < 128 }
+    ensures { TakesNext b member source.old source.new result }
+{
+    let kind = member?;
+    if source.advance_if_ascii_eq(b) {
+        Some(kind)
+    } else {
+        None
+    }
+}
+
+/// Reads the longest of a family, where no reported comment stands.
+#[inline(always)]
+fn read_family(source: &mut Source<'_>, a: u8, family: Family) -> Kind
     requires ascii { a < 128 }
     requires next { BeginsWith a (rest source.old) }
-    requires family { IsDoubled a kinds }
+    requires family { is_family a family ≡ true }
     ensures text { source.new.text ≡ source.old.text }
     ensures longest { (t : SourceType) (line_has_ended : Bool) → is_reported t line_has_ended (rest source.old) ≡ false
         → LongestPunctuator t line_has_ended (rest source.old) (rest source.new) result }
 {
     source.next_char();
-    if source.advance_if_ascii_eq(a) {
-        if source.advance_if_ascii_eq(b'=') {
-            kinds.twice_equals
-        } else {
-            kinds.twice
-        }
-    } else if source.advance_if_ascii_eq(b'=') {
-        kinds.equals
-    } else {
-        kinds.alone
+    if let Some(twice) = advance_if_member(source, a, family.twice) {
+        return advance_if_member(source, b'=', family.twice_equals).unwrap_or(twice);
     }
-}
-
-/// The punctuators `a`, `aa` and `a=` of a character `a`.
-#[derive(Clone, Copy)]
-struct Repeated {
-    alone: Kind,
-    twice: Kind,
-    equals: Kind,
-}
-
-/// Reads the longest of them.
-#[inline(always)]
-fn read_repeated(source: &mut Source<'_>, a: u8, kinds: Repeated) -> Kind
-    requires ascii { a < 128 }
-    requires next { BeginsWith a (rest source.old) }
-    requires family { IsRepeated a kinds }
-    ensures text { source.new.text ≡ source.old.text }
-    ensures longest { (t : SourceType) (line_has_ended : Bool)
-        → LongestPunctuator t line_has_ended (rest source.old) (rest source.new) result }
-{
-    source.next_char();
-    if source.advance_if_ascii_eq(a) {
-        kinds.twice
-    } else if source.advance_if_ascii_eq(b'=') {
-        kinds.equals
-    } else {
-        kinds.alone
+    if let Some(equals) = advance_if_member(source, b'=', family.equals) {
+        return advance_if_member(source, b'=', family.equals_twice).unwrap_or(equals);
     }
-}
-
-/// The punctuators `a` and `a=` of a character `a`.
-#[derive(Clone, Copy)]
-struct Assigned {
-    alone: Kind,
-    equals: Kind,
-}
-
-/// Reads the longer of them that stands there.
-#[inline(always)]
-fn read_assigned(source: &mut Source<'_>, a: u8, kinds: Assigned) -> Kind
-    requires ascii { a < 128 }
-    requires next { BeginsWith a (rest source.old) }
-    requires family { IsAssigned a kinds }
-    ensures text { source.new.text ≡ source.old.text }
-    ensures longest { (t : SourceType) (line_has_ended : Bool)
-        → LongestPunctuator t line_has_ended (rest source.old) (rest source.new) result }
-{
-    source.next_char();
-    if source.advance_if_ascii_eq(b'=') {
-        kinds.equals
-    } else {
-        kinds.alone
-    }
-}
-
-/// Reads the punctuator that begins with a `!`.
-#[inline(always)]
-fn read_bang(source: &mut Source<'_>) -> Kind
-    requires { BeginsWith exclamation_mark (rest source.old) }
-    ensures text { source.new.text ≡ source.old.text }
-    ensures longest { (t : SourceType) (line_has_ended : Bool)
-        → LongestPunctuator t line_has_ended (rest source.old) (rest source.new) result }
-{
-    source.next_char();
-    if source.advance_if_ascii_eq(b'=') {
-        if source.advance_if_ascii_eq(b'=') {
-            Kind::Neq2
-        } else {
-            Kind::Neq
-        }
-    } else {
-        Kind::Bang
-    }
-}
-
-/// Reads the punctuator that begins with a `=`.
-#[inline(always)]
-fn read_equals(source: &mut Source<'_>) -> Kind
-    requires { BeginsWith equals_sign (rest source.old) }
-    ensures text { source.new.text ≡ source.old.text }
-    ensures longest { (t : SourceType) (line_has_ended : Bool)
-        → LongestPunctuator t line_has_ended (rest source.old) (rest source.new) result }
-{
-    source.next_char();
-    if source.advance_if_ascii_eq(b'=') {
-        if source.advance_if_ascii_eq(b'=') {
-            Kind::Eq3
-        } else {
-            Kind::Eq2
-        }
-    } else if source.advance_if_ascii_eq(b'>') {
-        Kind::Arrow
-    } else {
-        Kind::Eq
-    }
+    advance_if_member(source, b'>', family.greater).unwrap_or(family.alone)
 }
 
 /// Whether a digit is next.
@@ -230,17 +152,43 @@ fn read_slash(source: &mut Source<'_>) -> Option<Kind>
     }
 }
 
-/// Reads a punctuator of one character that begins no other.
+/// Reads the longest punctuator by its first character: by a table of families, each with the kind of the character
+/// alone and those of the others, and three characters apart, which no digit or `*` may follow.
+macro_rules! read_by_first_character {
+    ($source:ident $($a:literal $alone:ident { $($form:ident: $kind:ident),* })*) => {
+        match $source.peek_byte()? {
+            b'.' => read_dot($source),
+            b'/' => read_slash($source),
+            b'?' => Some(read_question($source)),
+            $($a => Some(read_family($source, $a, Family {
+                $($form: Some(Kind::$kind),)*
+                ..alone(Kind::$alone)
+            })),)*
+            _ => None,
+        }
+    };
+}
+
+/// The family of a punctuator that is the only one with its first character.
 #[inline(always)]
-fn read_single(source: &mut Source<'_>, kind: Kind, b: u8) -> Option<Kind>
-    requires ascii { b < 128 }
-    requires next { BeginsWith b (rest source.old) }
-    requires alone { (t : SourceType) (line_has_ended : Bool) (cs : List ℕ)
-        → LongestPunctuator t line_has_ended (b ∷ cs) cs kind }
-    ensures { (t : SourceType) (line_has_ended : Bool) → ReadsPunctuator t line_has_ended source.old source.new result }
+const fn alone(kind: Kind) -> Family
+    ensures { result ≡ record {
+      alone = kind;
+      twice = None;
+      twice_equals = None;
+      equals = None;
+      equals_twice = None;
+      greater = None;
+    } }
 {
-    source.next_char();
-    Some(kind)
+    Family {
+        alone: kind,
+        twice: None,
+        twice_equals: None,
+        equals: None,
+        equals_twice: None,
+        greater: None,
+    }
 }
 
 /// Reads the longest punctuator, where no reported comment stands.
@@ -249,98 +197,28 @@ pub fn read_punctuator(source: &mut Source<'_>) -> Option<Kind>
     ensures { (t : SourceType) (line_has_ended : Bool) → is_reported t line_has_ended (rest source.old) ≡ false
         → ReadsPunctuator t line_has_ended source.old source.new result }
 {
-    match source.peek_byte()? {
-        b'!' => Some(read_bang(source)),
-        b'%' => Some(read_assigned(
-            source,
-            b'%',
-            Assigned {
-                alone: Kind::Percent,
-                equals: Kind::PercentEq,
-            },
-        )),
-        b'&' => Some(read_doubled(
-            source,
-            b'&',
-            Doubled {
-                alone: Kind::Amp,
-                twice: Kind::Amp2,
-                twice_equals: Kind::Amp2Eq,
-                equals: Kind::AmpEq,
-            },
-        )),
-        b'(' => read_single(source, Kind::LParen, b'('),
-        b')' => read_single(source, Kind::RParen, b')'),
-        b'*' => Some(read_doubled(
-            source,
-            b'*',
-            Doubled {
-                alone: Kind::Star,
-                twice: Kind::Star2,
-                twice_equals: Kind::Star2Eq,
-                equals: Kind::StarEq,
-            },
-        )),
-        b'+' => Some(read_repeated(
-            source,
-            b'+',
-            Repeated {
-                alone: Kind::Plus,
-                twice: Kind::Plus2,
-                equals: Kind::PlusEq,
-            },
-        )),
-        b',' => read_single(source, Kind::Comma, b','),
-        b'-' => Some(read_repeated(
-            source,
-            b'-',
-            Repeated {
-                alone: Kind::Minus,
-                twice: Kind::Minus2,
-                equals: Kind::MinusEq,
-            },
-        )),
-        b'.' => read_dot(source),
-        b'/' => read_slash(source),
-        b':' => read_single(source, Kind::Colon, b':'),
-        b';' => read_single(source, Kind::Semicolon, b';'),
-        b'<' => Some(read_doubled(
-            source,
-            b'<',
-            Doubled {
-                alone: Kind::LAngle,
-                twice: Kind::ShiftLeft,
-                twice_equals: Kind::ShiftLeftEq,
-                equals: Kind::LtEq,
-            },
-        )),
-        b'=' => Some(read_equals(source)),
-        b'>' => read_single(source, Kind::RAngle, b'>'),
-        b'?' => Some(read_question(source)),
-        b'@' => read_single(source, Kind::At, b'@'),
-        b'[' => read_single(source, Kind::LBrack, b'['),
-        b']' => read_single(source, Kind::RBrack, b']'),
-        b'^' => Some(read_assigned(
-            source,
-            b'^',
-            Assigned {
-                alone: Kind::Caret,
-                equals: Kind::CaretEq,
-            },
-        )),
-        b'{' => read_single(source, Kind::LCurly, b'{'),
-        b'|' => Some(read_doubled(
-            source,
-            b'|',
-            Doubled {
-                alone: Kind::Pipe,
-                twice: Kind::Pipe2,
-                twice_equals: Kind::Pipe2Eq,
-                equals: Kind::PipeEq,
-            },
-        )),
-        b'}' => read_single(source, Kind::RCurly, b'}'),
-        b'~' => read_single(source, Kind::Tilde, b'~'),
-        _ => None,
+    read_by_first_character! { source
+        b'!' Bang { equals: Neq, equals_twice: Neq2 }
+        b'%' Percent { equals: PercentEq }
+        b'&' Amp { twice: Amp2, twice_equals: Amp2Eq, equals: AmpEq }
+        b'(' LParen {}
+        b')' RParen {}
+        b'*' Star { twice: Star2, twice_equals: Star2Eq, equals: StarEq }
+        b'+' Plus { twice: Plus2, equals: PlusEq }
+        b',' Comma {}
+        b'-' Minus { twice: Minus2, equals: MinusEq }
+        b':' Colon {}
+        b';' Semicolon {}
+        b'<' LAngle { twice: ShiftLeft, twice_equals: ShiftLeftEq, equals: LtEq }
+        b'=' Eq { equals: Eq2, equals_twice: Eq3, greater: Arrow }
+        b'>' RAngle {}
+        b'@' At {}
+        b'[' LBrack {}
+        b']' RBrack {}
+        b'^' Caret { equals: CaretEq }
+        b'{' LCurly {}
+        b'|' Pipe { twice: Pipe2, twice_equals: Pipe2Eq, equals: PipeEq }
+        b'}' RCurly {}
+        b'~' Tilde {}
     }
 }

@@ -1,5 +1,7 @@
 use Rattle.std.proofs.Common.{◌∙◌, ap, refl}
-use Rattle.js_grammar.proofs.PunctuatorLeaves.{slash, slash_eq, none_slash}
+use Rattle.js_grammar.specs.Punctuators.{plain, slash}
+use Rattle.js_grammar.proofs.LongestPunctuators.{listed, longest, none_slash}
+use Rattle.js_kind.specs.declared.kind.Kind.TheVariants.{SlashEq}
 use Rattle.js_source.specs.Source.{rest}
 use Rattle.js_spell.proofs.MarkSteps.{behind}
 use Rattle.js_spell.proofs.punctuator.read_slash.Goals as goal
@@ -7,8 +9,10 @@ use Rattle.js_spell.proofs.punctuator.read_slash.Goals as goal
 pub returns-then-advance_if_ascii_eq : goal.returns-then-advance_if_ascii_eq
 returns-then-advance_if_ascii_eq c = λ t line_has_ended.
     let first = behind 47 c.args.source.now c.next_char.new.self c.requires c.next_char.ensures.past in
-    let second = c.if-advance_if_ascii_eq.ensures.cases in
-    (second.text ∙ first.0, rw (first.1, second.here) (slash_eq t line_has_ended _))
+    let second = c.if-advance_if_ascii_eq.ensures.cases in (
+      second.text ∙ first.0,
+      rw (first.1, second.here) (longest t line_has_ended (plain SlashEq) _ (listed refl) refl refl),
+    )
 
 pub returns-then-advance_if_ascii_eq-2 : goal.returns-then-advance_if_ascii_eq-2
 returns-then-advance_if_ascii_eq-2 c = λ t line_has_ended.
@@ -28,5 +32,6 @@ returns-else-advance_if_ascii_eq-2 c = λ t line_has_ended.
     let third = c.if-advance_if_ascii_eq-2.ensures.cases in (
       ap (λ s. s.text) (third.1 ∙ second.1)
           ∙ first.0,
-      rw (first.1, third.1, second.1) (slash t line_has_ended _ (rw second.1 at third.0) second.0),
+      rw (first.1, third.1, second.1)
+          (longest t line_has_ended slash _ (listed refl) (rw second.1 at third.0) (rw second.0 refl)),
     )
