@@ -3,31 +3,10 @@
 use bitflags::Flags;
 use js_text::{
     ByteList, Comment, CommentContent, CommentKind, CommentList, CommentPosition, Diagnostic,
-    DiagnosticList, JSStrBuilder, RegExpFlags, SourceText, SourceType, Span, SpanList,
-    is_identifier_part, is_identifier_start, is_irregular_whitespace, is_line_terminator,
-    is_white_space,
+    DiagnosticList, JSStrBuilder, RegExpFlags, SourceText, Span, SpanList, is_identifier_part,
+    is_identifier_start, is_irregular_whitespace, is_line_terminator, is_white_space,
 };
 use std::test::Fail;
-
-#[test]
-fn spans(rt: HostRuntime) {
-    assert_eq!(rt; Span::new(2, 5), Span { start: 2, end: 5 });
-    assert_eq!(rt; Span::empty(7), Span { start: 7, end: 7 });
-    assert_eq!(rt; Span::sized(3, 4), Span { start: 3, end: 7 });
-}
-
-#[test]
-fn source_types(rt: HostRuntime) {
-    for (source_type, module, strict, unambiguous) in [
-        (SourceType::Module, true, true, false),
-        (SourceType::Script, false, false, false),
-        (SourceType::Unambiguous, false, false, true),
-    ] {
-        assert_eq!(rt; source_type.is_module(), module);
-        assert_eq!(rt; source_type.is_strict(), strict);
-        assert_eq!(rt; source_type.is_unambiguous(), unambiguous);
-    }
-}
 
 #[test]
 fn diagnostics(rt: HostRuntime) {
@@ -139,17 +118,6 @@ fn flags_of_letters(rt: HostRuntime) {
     for letter in [b'G', b'a', b'x', b'0', b'_', 0, 255] {
         assert_eq!(rt; RegExpFlags::of_letter(letter), None);
     }
-}
-
-#[test]
-fn sets_of_flags(rt: HostRuntime) {
-    let mut flags = RegExpFlags::G;
-    flags.insert(RegExpFlags::U);
-    assert_eq!(rt; flags.bits(), 17);
-    assert!(rt; flags.contains(RegExpFlags::U));
-    assert!(rt; !flags.contains(RegExpFlags::I));
-    flags.remove(RegExpFlags::G);
-    assert_eq!(rt; flags, RegExpFlags::U);
 }
 
 #[test]
