@@ -3,25 +3,29 @@ use Rattle.std.proofs.Common.{◌≡◌, ◌||◌, refl}
 use Rattle.std.specs.Int.{is_in_range}
 use Rattle.js_kind.specs.declared.kind.Kind.{Kind}
 use Rattle.js_kind.specs.declared.kind.Kind.TheVariants as variant
-use Rattle.js_kind.specs.Kinds.{number, is_name_kind, is_identifier_name, is_number_kind, is_reserved_keyword}
+use Rattle.js_kind.specs.Kinds.{number, is_kind, is_name_kind, is_identifier_name, is_number_kind, is_reserved_keyword}
 use Rattle.js_kind.specs.Kinds.{is_literal}
 use Rattle.js_kind.specs.Predicates.{is_contextual_keyword, is_literal_property_name}
 
--- The numbers of words stand in a row.
-pub words_are_between : (kind : Kind) → is_in_range (number variant.Await) (number variant.Null) (number kind)
+-- The numbers of words stand in a row, but for one.
+pub words_are_between : (kind : Kind)
+    → is_in_range (number variant.Await) (number variant.Null) (number kind)
+    || is_kind variant.MatchKw kind
     ≡ is_name_kind kind
 unfolding is_name_kind
 words_are_between variant.Eof = refl
 words_are_between _ = refl
 
--- So do the numbers of all identifier names.
-pub names_are_between : (kind : Kind) → is_in_range (number variant.Ident) (number variant.Null) (number kind)
+-- So do those of all identifier names.
+pub names_are_between : (kind : Kind)
+    → is_in_range (number variant.Ident) (number variant.Null) (number kind)
+    || is_kind variant.MatchKw kind
     ≡ is_identifier_name kind
 unfolding is_identifier_name
 names_are_between variant.Eof = refl
 names_are_between _ = refl
 
--- So do those of all kinds of numbers.
+-- Those of numbers stand in a row.
 pub numbers_are_between : (kind : Kind) → is_in_range (number variant.Decimal) (number variant.HexBigInt) (number kind)
     ≡ is_number_kind kind
 unfolding is_number_kind
@@ -46,18 +50,18 @@ unfolding is_literal
 literals_are_between variant.Eof = refl
 literals_are_between _ = refl
 
--- The words with a meaning of their own stand in a row.
+-- The words with a meaning of their own stand in a row, but for one.
 pub contextual_words_are_between : (kind : Kind)
-    → is_in_range (number variant.Async) (number variant.Override) (number kind) ≡ is_contextual_keyword kind
+    → is_in_range (number variant.Async) (number variant.Override) (number kind) || is_kind variant.MatchKw kind
+    ≡ is_contextual_keyword kind
 unfolding is_contextual_keyword
 contextual_words_are_between variant.Eof = refl
 contextual_words_are_between _ = refl
 
--- The names of properties stand in two rows.
-pub property_names_are_between : (kind : Kind)
-    → is_in_range (number variant.Ident) (number variant.Null) (number kind)
-    || is_in_range (number variant.Decimal) (number variant.Str) (number kind)
+-- The names of properties are names, and the numbers and strings, which stand in a row.
+pub property_names_by_parts : (kind : Kind)
+    → is_identifier_name kind || is_in_range (number variant.Decimal) (number variant.Str) (number kind)
     ≡ is_literal_property_name kind
-unfolding is_literal_property_name
-property_names_are_between variant.Eof = refl
-property_names_are_between _ = refl
+unfolding is_literal_property_name is_identifier_name
+property_names_by_parts variant.Eof = refl
+property_names_by_parts _ = refl

@@ -212,3 +212,5 @@ kind_row variant.TemplateTail = row template_part (codes "TemplateTail") (codes 
 kind_row variant.PrivateIdentifier = row other (codes "PrivateIdentifier") (codes "#identifier")
 kind_row variant.JSXText = row other (codes "JSXText") (codes "jsx")
 kind_row variant.At = row punctuator (codes "At") (codes "@")
+kind_row variant.PipeGt = row punctuator (codes "PipeGt") (codes "|>")
+kind_row variant.MatchKw = row contextual_word (codes "Match") (codes "match")

@@ -112,7 +112,7 @@ binary_operators =
     variant.Eq2 ∷ variant.Neq ∷ variant.Eq3 ∷ variant.Neq2 ∷ variant.LAngle ∷ variant.LtEq ∷ variant.RAngle
     ∷ variant.GtEq ∷ variant.ShiftLeft ∷ variant.ShiftRight ∷ variant.ShiftRight3 ∷ variant.Plus
     ∷ variant.Minus ∷ variant.Star ∷ variant.Slash ∷ variant.Percent ∷ variant.Pipe ∷ variant.Caret
-    ∷ variant.Amp ∷ variant.In ∷ variant.Instanceof ∷ variant.Star2 ∷ []
+    ∷ variant.Amp ∷ variant.In ∷ variant.Instanceof ∷ variant.Star2 ∷ variant.PipeGt ∷ []
 
 -- tokens of the kind are binary operators (ECMA-262 13.6 to 13.12)
 unfoldable pub is_binary_operator : Kind → Bool

@@ -1,9 +1,9 @@
 //! Kinds of tokens.
 
-ghost use Rattle.std.specs.Prelude.{◌≡◌, ◌↔◌, ◌||◌, IsTrue};
+ghost use Rattle.std.specs.Prelude.{◌≡◌, ◌↔◌, IsTrue};
 ghost use Rattle.std.specs.Int.{is_in_range};
-ghost use Rattle.js_kind.specs.Kinds.{number, is_name_kind, is_identifier_name, is_number_kind, is_reserved_keyword};
-ghost use Rattle.js_kind.specs.Kinds.{is_identifier, is_literal, is_assignment_operator, is_binary_operator};
+ghost use Rattle.js_kind.specs.Kinds.{number, is_kind, is_name_kind, is_identifier_name, is_number_kind};
+ghost use Rattle.js_kind.specs.Kinds.{is_reserved_keyword, is_identifier, is_literal, is_assignment_operator, is_binary_operator};
 ghost use Rattle.js_kind.specs.Kinds.{is_logical_operator};
 ghost use Rattle.js_kind.specs.Digits.{is_integer_kind, is_digit_of, radix_of};
 
@@ -189,6 +189,8 @@ pub enum Kind {
     PrivateIdentifier,
     JSXText,
     At,
+    PipeGt,
+    MatchKw,
 }
 
 impl Default for Kind {
@@ -216,6 +218,13 @@ impl Kind {
         self.number() == other.number()
     }
 
+    /// Whether it is this kind.
+    pub(crate) const fn is_kind(self, other: Kind) -> bool
+        ensures { result ≡ is_kind other self }
+    {
+        self.number() == other.number()
+    }
+
     /// Whether the number of the kind is one of those from `first` to `last`.
     pub(crate) const fn is_between(self, first: Kind, last: Kind) -> bool
         ensures { result ≡ is_in_range (number first) (number last) (number self) }
@@ -228,7 +237,10 @@ impl Kind {
     pub const fn is_any_keyword(self) -> bool
         ensures { result ≡ is_name_kind self }
     {
-        self.is_between(Kind::Await, Kind::Null)
+        either(
+            self.is_between(Kind::Await, Kind::Null),
+            self.is_kind(Kind::MatchKw),
+        )
     }
 
     /// Whether the tokens of the kind are names (ECMA-262 12.7, IdentifierName).
@@ -236,7 +248,10 @@ impl Kind {
     pub const fn is_identifier_name(self) -> bool
         ensures { result ≡ is_identifier_name self }
     {
-        self.is_between(Kind::Ident, Kind::Null)
+        either(
+            self.is_between(Kind::Ident, Kind::Null),
+            self.is_kind(Kind::MatchKw),
+        )
     }
 
     /// Whether the tokens of the kind are numbers (ECMA-262 12.9.3, NumericLiteral).
@@ -332,6 +347,7 @@ impl Kind {
                 | Kind::In
                 | Kind::Instanceof
                 | Kind::Star2
+                | Kind::PipeGt
         )
     }
 

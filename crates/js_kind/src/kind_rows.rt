@@ -187,6 +187,8 @@ macro_rules! with_kinds {
             PrivateIdentifier "PrivateIdentifier" "#identifier",
             JSXText "JSXText" "jsx",
             At "At" "@",
+            PipeGt "PipeGt" "|>",
+            MatchKw "Match" "match",
         }
     };
 }

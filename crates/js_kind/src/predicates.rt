@@ -1,7 +1,6 @@
 //! What a parser asks of the kind of a token at a place.
 
 ghost use Rattle.std.specs.Prelude.{◌≡◌};
-ghost use Rattle.js_kind.specs.Kinds.{is_kind};
 ghost use Rattle.js_kind.specs.Predicates.{is_eof, is_contextual_keyword};
 ghost use Rattle.js_kind.specs.Predicates.{is_strict_mode_contextual_keyword};
 ghost use Rattle.js_kind.specs.Predicates.{is_future_reserved_keyword, is_binding_identifier};
@@ -15,13 +14,6 @@ use crate::kind::Kind;
 use js_text::either;
 
 impl Kind {
-    /// Whether it is this kind.
-    const fn is_kind(self, other: Kind) -> bool
-        ensures { result ≡ is_kind other self }
-    {
-        self.number() == other.number()
-    }
-
     /// Whether it is the end of the source.
     #[tactic(auto, unfolding(crate::specs::Predicates::is_eof))]
     pub const fn is_eof(self) -> bool
@@ -36,7 +28,10 @@ impl Kind {
     pub const fn is_contextual_keyword(self) -> bool
         ensures { result ≡ is_contextual_keyword self }
     {
-        self.is_between(Kind::Async, Kind::Override)
+        either(
+            self.is_between(Kind::Async, Kind::Override),
+            self.is_kind(Kind::MatchKw),
+        )
     }
 
     /// Whether the text of the kind is `let` or a word that strict mode code reserves, `yield` left out
@@ -136,12 +131,12 @@ impl Kind {
 
     /// Whether tokens of the kind are names of properties, computed ones left out (ECMA-262 13.2.5,
     /// LiteralPropertyName).
-    #[tactic(auto, using(crate::proofs::Classes::property_names_are_between))]
+    #[tactic(auto, using(crate::proofs::Classes::property_names_by_parts))]
     pub const fn is_literal_property_name(self) -> bool
         ensures { result ≡ is_literal_property_name self }
     {
         either(
-            self.is_between(Kind::Ident, Kind::Null),
+            self.is_identifier_name(),
             self.is_between(Kind::Decimal, Kind::Str),
         )
     }

@@ -130,7 +130,7 @@ static WORDS: [Word; 512] = words! {
     [Accessor 8 b'a' b'c' b'c' b'e' b's' b's' b'o' b'r'] [] [] [] []
     [Readonly 8 b'r' b'e' b'a' b'd' b'o' b'n' b'l' b'y'] [] [] []
     [Constructor 11 b'c' b'o' b'n' b's' b't' b'r' b'u' b'c'] [] [] [] [] [] [] [] [] [] [] [] [] []
-    []
+    [MatchKw 5 b'm' b'a' b't' b'c' b'h']
 };
 
 /// The table of words.

@@ -217,7 +217,7 @@ pub fn read_punctuator(source: &mut Source<'_>) -> Option<Kind>
         b']' RBrack {}
         b'^' Caret { equals: CaretEq }
         b'{' LCurly {}
-        b'|' Pipe { twice: Pipe2, twice_equals: Pipe2Eq, equals: PipeEq }
+        b'|' Pipe { twice: Pipe2, twice_equals: Pipe2Eq, equals: PipeEq, greater: PipeGt }
         b'}' RCurly {}
         b'~' Tilde {}
     }
