@@ -147,17 +147,21 @@ from_moves text other line_has_ended start by read all both = record {
 child_moves : (text other : List ℕ) (line_has_ended : Bool) (place by : ℕ) → BothStand text other place by
     → Moves by (ReadsJsxChild text line_has_ended place) (ReadsJsxChild other line_has_ended (by + place))
 child_moves text other line_has_ended place by both =
-    let moves = from_moves text other line_has_ended place by (λ here. Some (jsx_child_reading here)) child_is_read both in
+    let moves =
+    from_moves text other line_has_ended place by (λ here. Some (jsx_child_reading here)) child_is_read both in
+    let there = jsx_child_warnings (by + place) (from_place other (by + place)) in
     record {
       forward = λ o reads. record {
         child = moved_outcome by reads.child;
         reads = moves.forward reads.child reads.reads;
-        outcome_is = ap (moved_outcome by) reads.outcome_is ∙ ap (λ ws. with_warnings ws (moved_outcome by reads.child)) moved;
+        outcome_is =
+            ap (moved_outcome by) reads.outcome_is
+            ∙ ap (λ ws. with_warnings ws (moved_outcome by reads.child)) moved;
       };
       back = λ o reads.
           let own = moves.back reads.child reads.reads in (
             with_warnings (jsx_child_warnings place (from_place text place)) own.0,
-            reads.outcome_is ∙ ap (with_warnings (jsx_child_warnings (by + place) (from_place other (by + place)))) own.1
+            reads.outcome_is ∙ ap (with_warnings there) own.1
                 ∙ ap (λ ws. with_warnings ws (moved_outcome by own.0)) (sym moved),
             record { child = own.0; reads = own.2; outcome_is = refl },
           );

@@ -296,7 +296,8 @@ pub end_of_line : (old : Reader) (before : FindingsBuilder) (source : At) (c : �
     → IsPlaced old.source
     → IsPlaced source → Reads old.source source c → IsAtLineEnd (rest old.source)
     → after.errors ≡ before.errors → after.deferred ≡ before.deferred → after.trivia ≡ handle_newline before.trivia
-    → after.warnings ≡ before.warnings → SkipsEndOfLine old before (record old { source = source; line_has_ended = true }) after
+    → after.warnings ≡ before.warnings
+    → SkipsEndOfLine old before (record old { source = source; line_has_ended = true }) after
 end_of_line old before source c after h g reads end errors deferred trivia warnings =
     let ends : is_line_terminator c ≡ true =
     not_false (is_line_terminator c) (sym (ap (begins (λ d. not (is_line_terminator d))) reads.here) ∙ end) in
@@ -354,7 +355,8 @@ pub line_feed_skipped : (old : Reader) (before : FindingsBuilder) (source : At) 
     → IsPlaced old.source
     → IsPlaced source → source.text ≡ old.source.text → rest old.source ≡ 10 ∷ rest source
     → after.errors ≡ before.errors → after.deferred ≡ before.deferred → after.trivia ≡ handle_newline before.trivia
-    → after.warnings ≡ before.warnings → SkipsSome old before (record old { source = source; line_has_ended = true }) after
+    → after.warnings ≡ before.warnings
+    → SkipsSome old before (record old { source = source; line_has_ended = true }) after
 unfolding is_white_space is_irregular_whitespace is_line_terminator is_separator
 line_feed_skipped old before source after h g text here errors deferred trivia warnings =
     some_skipped old before (record old { source = source; line_has_ended = true }) after

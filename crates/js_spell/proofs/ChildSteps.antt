@@ -47,7 +47,8 @@ angles_past place c cs e =
     let front = leaves_from_first ends_jsx_text cs in
     ap (λ t. angles_among place (before_rest (c ∷ cs) t)) (from_first-cons ends_jsx_text c cs e)
     ∙ ap (angles_among place) (taken_is (c ∷ cs) (c ∷ front.0) left (ap (λ t. c ∷ t) front.1))
-    ∙ ap (λ t. angle_at place c ++ angles_among (place_behind place (c ∷ [])) t) (sym (taken_is cs front.0 left front.1))
+    ∙ ap (λ t. angle_at place c ++ angles_among (place_behind place (c ∷ [])) t)
+    (sym (taken_is cs front.0 left front.1))
 
 -- what stands before a `>` or the end of the text has no `>`
 record Skips (place : ℕ) (text : List ℕ) : Type 0 where
@@ -179,10 +180,11 @@ pub ends_here : (end : Option ℕ) (text : List ℕ) → begins (λ c. c == grea
     → IfNone end (text ≡ []) → IfSome end (λ b. StopsAt Child b text) → IsAtChildEnd end text
 ends_here None text no_angle none some = none
 ends_here (Some b) text no_angle none some =
-    let found = begins_with b text some.next in
-    (some.next,
-    second_fails (ends_jsx_text b) (b == greater_than_sign)
-    (sym (ap (begins (λ c. c == greater_than_sign)) found.1) ∙ no_angle) some.ends)
+    let found = begins_with b text some.next in (
+      some.next,
+      second_fails (ends_jsx_text b) (b == greater_than_sign)
+          (sym (ap (begins (λ c. c == greater_than_sign)) found.1) ∙ no_angle) some.ends,
+    )
   where
     second_fails : (a b : Bool) → b ≡ false → (a || b) ≡ true → a ≡ true
     second_fails true b e f = refl

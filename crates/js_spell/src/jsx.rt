@@ -128,10 +128,7 @@ fn begins_child(b: u8) -> bool
 }
 
 /// Goes to the character that ends the text of a child, and gives it. Each `>` on the way is warned of.
-fn pass_child(
-    source: &mut Source<'_>,
-    warnings: &mut SpanList,
-) -> Result<Option<u8>, AllocError>
+fn pass_child(source: &mut Source<'_>, warnings: &mut SpanList) -> Result<Option<u8>, AllocError>
     requires { IsPlaced source.old }
     ensures ok { IfOk result (PassesChild source.old source.new warnings.old warnings.new) }
     ensures text { source.new.text ≡ source.old.text }

@@ -169,7 +169,13 @@ static CHILDREN: [(&str, Kind, u32, Option<(&str, u32, u32)>, usize); 12] = [
     ("x}>", Kind::Eof, 1, Some(("UnexpectedJsxEnd", 1, 1)), 0),
     ("}", Kind::Eof, 0, Some(("UnexpectedJsxEnd", 0, 0)), 0),
     ("\n>>", Kind::Eof, 3, None, 2),
-    (">\u{E9}>a>}", Kind::Eof, 6, Some(("UnexpectedJsxEnd", 6, 6)), 3),
+    (
+        ">\u{E9}>a>}",
+        Kind::Eof,
+        6,
+        Some(("UnexpectedJsxEnd", 6, 6)),
+        3,
+    ),
     ("x>y</a>", Kind::JSXText, 3, None, 1),
 ];
 
