@@ -86,6 +86,7 @@ joined_moved by a b =
       map-append (moved_diagnostic by) a.deferred b.deferred,
       map-append (moved_comment by) a.comments b.comments,
       map-append (moved_span by) a.irregular b.irregular,
+      map-append (moved_span by) a.warnings b.warnings,
     ) refl
 
 gap_moved : (by : ℕ) (t : SourceType) (before : Option TokenParts) (place : ℕ) (pieces : List Piece) (o : Outcome)

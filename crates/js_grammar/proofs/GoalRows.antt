@@ -15,7 +15,7 @@ use Rattle.js_kind.specs.declared.kind.Kind.TheVariants.{ShiftRight, ShiftRight3
 use Rattle.js_grammar.specs.Angle.{angle_reading, right_angles, first_left_angle, first_right_angle}
 use Rattle.js_grammar.specs.Reading.{Reading, read_up_to, size_of}
 use Rattle.js_grammar.specs.TokenText.{plain_value}
-use Rattle.js_grammar.specs.Jsx.{jsx_child_reading, jsx_name_reading, jsx_string_reading}
+use Rattle.js_grammar.specs.Jsx.{jsx_child_reading, jsx_name_reading, jsx_string_reading, jsx_child_warnings}
 use Rattle.js_grammar.specs.RegularExpression.{expression_of_body, regular_expression_reading}
 use Rattle.js_grammar.specs.StringItems.{stretch}
 
@@ -86,8 +86,10 @@ children :
     (UnexpectedJsxEnd 0x7D (stretch 1 1) ∷ [])
     × Reads (Some (jsx_child_reading (codes "}"))) Eof (codes "}") (codes "}")
     (UnexpectedJsxEnd 0x7D (stretch 0 0) ∷ [])
-    × Reads (Some (jsx_child_reading (0x20 ∷ line_feed ∷ codes ">>>"))) Eof (0x20 ∷ line_feed ∷ codes ">>>")
-    (codes ">>>") (UnexpectedJsxEnd 0x3E (stretch 2 2) ∷ [])
+    × Reads (Some (jsx_child_reading (0x20 ∷ line_feed ∷ codes ">>}"))) Eof (0x20 ∷ line_feed ∷ codes ">>}")
+    (codes "}") (UnexpectedJsxEnd 0x7D (stretch 4 4) ∷ [])
+    × Reads (Some (jsx_child_reading (codes ">a"))) Eof (codes ">a") [] []
+    × Reads (Some (jsx_child_reading (codes "a>>b{"))) JSXText (codes "a>>b{") (codes "{") []
     × Reads (Some (jsx_child_reading (codes " a 'b' \\{c"))) JSXText (codes " a 'b' \\{c") (codes "{c") []
     × Reads (Some (jsx_child_reading (codes "a</b>"))) JSXText (codes "a</b>") (codes "</b>") []
     × Reads (Some (jsx_child_reading (codes "</b>"))) LAngle (codes "</b>") (codes "/b>") []
@@ -95,7 +97,18 @@ children :
     × Reads (Some (jsx_child_reading (codes "a"))) Eof (codes "a") [] []
     × Reads (Some (jsx_child_reading [])) Eof [] [] []
 unfolding encode_utf8
-children = (refl, refl, refl, refl, refl, refl, refl, refl, refl)
+children = (refl, refl, refl, refl, refl, refl, refl, refl, refl, refl, refl)
+
+-- what a child is warned of: each `>` in its text, and none behind it
+child_warnings :
+    (jsx_child_warnings 3 (codes "x>y</a>") ≡ stretch 4 5 ∷ [])
+    × (jsx_child_warnings 1 (codes "é>>{a>}") ≡ stretch 3 4 ∷ stretch 4 5 ∷ [])
+    × (jsx_child_warnings 1 (codes ">") ≡ stretch 1 2 ∷ [])
+    × (jsx_child_warnings 1 (codes "}>") ≡ [])
+    × (jsx_child_warnings 0 (codes "<a>") ≡ [])
+    × (jsx_child_warnings 0 (codes "{>") ≡ [])
+unfolding encode_utf8
+child_warnings = (refl, refl, refl, refl, refl, refl)
 
 names :
     ReadsText (jsx_name_reading (codes "a") (codes "-b>x")) Ident (codes "a" ++ (codes "-b>x")) (codes ">x")

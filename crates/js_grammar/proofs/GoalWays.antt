@@ -15,9 +15,10 @@ use Rattle.js_grammar.specs.Angle.{angle_reading, right_angles, first_left_angle
 use Rattle.js_grammar.specs.Reading.{Reading, size_of, moved_value}
 use Rattle.js_grammar.specs.Goals.{GoalReads, ReadsAgain, ReadsAngle, ReadsAttributeString, ReadsAttributeValue, ReadsExpression}
 use Rattle.js_grammar.specs.Goals.{ReadsFrom, ReadsJsxName, ReadsOn, ReadsPart, ReadsPlainly, line_has_ended_behind}
+use Rattle.js_grammar.specs.Goals.{ReadsJsxChild, with_warnings}
 use Rattle.js_grammar.specs.Goals.ReadsAttributeValue.{string, plain}
 use Rattle.js_grammar.specs.Goals.ReadsPlainly.{behind_gap}
-use Rattle.js_grammar.specs.Jsx.{jsx_child_reading, jsx_name_reading, jsx_string_reading}
+use Rattle.js_grammar.specs.Jsx.{jsx_child_reading, jsx_name_reading, jsx_string_reading, jsx_child_warnings}
 use Rattle.js_grammar.specs.Outcome.{Outcome, outcome_at}
 use Rattle.js_grammar.specs.RegularExpression.{regular_expression_reading}
 use Rattle.js_grammar.specs.ReLexed.{HasSpelling, is_re_lexed}
@@ -170,6 +171,28 @@ attribute_way : (text : List ℕ) (t : SourceType) (before : Option TokenParts) 
 attribute_way text t before place o (string reads) = alone (string_takes text t before place o reads)
 attribute_way text t before place o (plain no_quote reads) = plainly Next (behind_gap refl reads)
 
+-- warnings change nothing of a token
+child_takes : (text : List ℕ) (line_has_ended : Bool) (place : ℕ) (o : Outcome)
+    → ReadsJsxChild text line_has_ended place o → Takes text o
+child_takes text line_has_ended place o reads =
+    subst (Takes text) (sym reads.outcome_is)
+    (warned
+    (from_takes text line_has_ended place (Some (jsx_child_reading (from_place text place))) reads.child
+    (child_is_read (from_place text place)) reads.reads))
+  where
+    warned : Takes text reads.child
+        → Takes text (with_warnings (jsx_child_warnings place (from_place text place)) reads.child)
+    warned t = record {
+      begins = t.begins;
+      end = t.end;
+      span = t.span;
+      escaped = t.escaped;
+      value = t.value;
+      no_private = t.no_private;
+      spelling = t.spelling;
+      quotes = t.quotes;
+    }
+
 pub ways : (text : List ℕ) (t : SourceType) (goal : Goal) (before : Option TokenParts) (place : ℕ) (o : Outcome)
     → GoalReads text t goal before place o → Way text t before place o
 ways text t First before place o reads = plainly First reads
@@ -187,8 +210,7 @@ ways text t TypeScriptRightAngle before place o reads =
 ways text t JsxIdentifier before place o reads =
     on text t place (ReadsJsxName text) before o (λ name r. alone (jsx_name_takes text name o r)) reads
 ways text t JsxChild before place o reads =
-    alone (from_takes text (line_has_ended_behind before) place (Some (jsx_child_reading (from_place text place))) o
-    (child_is_read (from_place text place)) reads)
+    alone (child_takes text (line_has_ended_behind before) place o reads)
 ways text t JsxAttributeValue before place o reads = attribute_way text t before place o reads
 
 -- Each token that is read has a span in order, with a byte at least but for the end of the source.

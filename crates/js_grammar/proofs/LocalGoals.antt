@@ -20,12 +20,12 @@ use Rattle.js_grammar.specs.Angle.{angle_reading, first_left_angle, first_right_
 use Rattle.js_grammar.specs.Gap.{Piece, Pieces, is_prefix, whole_gap_piece}
 use Rattle.js_grammar.specs.Goals.{GoalReads, ReadsAngle, ReadsAttributeString, ReadsAttributeValue, ReadsBehindGap}
 use Rattle.js_grammar.specs.Goals.{ReadsFrom, ReadsHashbang, ReadsHere, ReadsJsxName, ReadsPart, ReadsPlainly}
-use Rattle.js_grammar.specs.Goals.{line_has_ended_behind, next_part, with_gap}
+use Rattle.js_grammar.specs.Goals.{line_has_ended_behind, next_part, with_gap, ReadsJsxChild, with_warnings}
 use Rattle.js_grammar.specs.Goals.ReadsAttributeValue.{string, plain}
 use Rattle.js_grammar.specs.Goals.ReadsPlainly.{hashbang, behind_gap}
 use Rattle.js_grammar.specs.Hashbang.{begins_hashbang}
 use Rattle.js_grammar.specs.Jsx.{ends_jsx_name, jsx_child_reading, jsx_name_reading, jsx_name_up_to, jsx_string_before}
-use Rattle.js_grammar.specs.Jsx.{jsx_string_reading}
+use Rattle.js_grammar.specs.Jsx.{jsx_string_reading, angles_among}
 use Rattle.js_grammar.specs.Name.{begins_name, items_text, name_items, no_private_name, private_name_of}
 use Rattle.js_grammar.specs.Name.{private_reading}
 use Rattle.js_grammar.specs.NumberReads.{number_reading}
@@ -203,7 +203,7 @@ ReaderIsLocal read =
     (xs ys zs : List ℕ) → BeginAlike ys zs → AgreeFor 4 ys zs → ReadsSame ys zs (read (xs ++ ys)) (read (xs ++ zs))
 
 -- from a place on
-from_local : (front rest other : List ℕ) (line_has_ended : Bool) (start : ℕ) (read : List ℕ → Option Reading)
+abbrev from_local : (front rest other : List ℕ) (line_has_ended : Bool) (start : ℕ) (read : List ℕ → Option Reading)
     (o : Outcome) → ReaderIsLocal read → ((here : List ℕ) → IfSome (read here) (IsRead here))
     → SameFront front rest other → o.token.end + 4 ≤ length front
     → ReadsFrom (front ++ rest) line_has_ended start (read (from_place (front ++ rest) start)) o
@@ -320,6 +320,27 @@ child_reader xs ys zs alike agree r found left =
     let same : jsx_child_reading (xs ++ ys) ≡ r = cc in
     ap Some (jsx_child_local xs ys zs alike (ap (λ (z : Reading). z.rest) same ∙ left))
     ∙ ap (λ (z : Reading). Some (record z { rest = zs })) same
+
+-- what JSX has between tags
+child_goal : (front rest other : List ℕ) (line_has_ended : Bool) (place : ℕ) (o : Outcome)
+    → SameFront front rest other → o.token.end + 4 ≤ length front
+    → ReadsJsxChild (front ++ rest) line_has_ended place o → ReadsJsxChild (front ++ other) line_has_ended place o
+child_goal front rest other line_has_ended place o both room reads =
+    let here = from_place (front ++ rest) place in
+    let moved = from_place (front ++ other) place in
+    let there =
+    from_local front rest other line_has_ended place (λ text. Some (jsx_child_reading text)) reads.child child_reader
+    child_is_read both (subst (λ (x : Outcome). x.token.end + 4 ≤ length front) reads.outcome_is room) reads.reads in
+    let found : Some (jsx_child_reading here) ≡ Some reads.reads.found = reads.reads.read_is in
+    let found_there : Some (jsx_child_reading moved) ≡ Some there.found = there.read_is in
+    let same : jsx_child_reading here ≡ reads.reads.found = cc in
+    let same_there : jsx_child_reading moved ≡ there.found = cc in
+    let warned : Reading → Outcome = λ r. with_warnings (angles_among place r.taken) reads.child in
+    record {
+      child = reads.child;
+      reads = there;
+      outcome_is = reads.outcome_is ∙ ap warned same ∙ sym (ap warned same_there);
+    }
 
 string_reader : ReaderIsLocal jsx_string_reading
 string_reader xs ys zs alike agree = jsx_string_local xs ys zs alike
@@ -619,8 +640,7 @@ goal_local front rest other t JsxAttributeValue None place o both b room reads =
 goal_local front rest other t JsxAttributeValue (Some token) place o both b room reads =
     attribute_goal front rest other t (Some token) place o both b room reads
 goal_local front rest other t JsxChild before place o both b room reads =
-    from_local front rest other (line_has_ended_behind before) place (λ here. Some (jsx_child_reading here)) o
-    child_reader child_is_read both room reads
+    child_goal front rest other (line_has_ended_behind before) place o both room reads
 goal_local front rest other t TailGoal None place o both b room reads = reads
 goal_local front rest other t TailGoal (Some token) place o both b room reads =
     part_goal front rest other token.start o both room reads

@@ -1,8 +1,8 @@
 -- What is reported of a text at one place is, moved by the difference, what is reported of it at another.
 use Rattle.std.proofs.lemmas.List.{map-append}
-use Rattle.std.proofs.Common.{◌≡◌, ℕ, ◌+◌, Bool, true, false, List, [], ◌∷◌, ◌++◌, refl, sym, ◌∙◌, ap, arith}
+use Rattle.std.proofs.Common.{◌≡◌, ℕ, ◌+◌, Bool, true, false, List, [], ◌∷◌, ◌++◌, refl, sym, ◌∙◌, ap, arith, ◌==◌}
 use Rattle.std.proofs.Common.{Option, Some, None}
-use Rattle.std.specs.Prelude.{if◌then◌else◌}
+use Rattle.std.specs.Prelude.{if◌then◌else◌, map}
 use Rattle.js_text.specs.RegExpFlags.{flag_of_letter}
 use Rattle.js_text.specs.declared.diagnostic.Diagnostic.{Diagnostic}
 use Rattle.js_text.specs.declared.reg_exp_flags.RegExpFlags.{RegExpFlags}
@@ -22,6 +22,8 @@ use Rattle.js_text.specs.declared.diagnostic.Diagnostic.TheVariants.{InvalidEsca
 use Rattle.js_text.specs.declared.diagnostic.Diagnostic.TheVariants.{UnexpectedJsxEnd, HtmlCommentInModule}
 use Rattle.js_text.specs.declared.span.Span.{Span}
 use Rattle.js_grammar.specs.StringItems.Fault.{no_fault, bad_escape, unfinished_escape}
+use Rattle.js_grammar.specs.Jsx.{angles_among, angle_at}
+use Rattle.js_text.specs.Ascii.{greater_than_sign}
 
 -- what is moved twice is moved by both
 pub moved_twice : (a b : ℕ) (diagnostics : List Diagnostic)
@@ -177,6 +179,23 @@ flag_reports_moved flags by place (c ∷ cs) =
     ∙ sym
     (map-append (moved_diagnostic by) (letter_reports flags place c)
     (flag_reports (with_letter flags c) (place + 1) cs))
+
+-- of the `>` among characters
+pub angles_moved : (by place : ℕ) (xs : List ℕ)
+    → angles_among (by + place) xs ≡ map (moved_span by) (angles_among place xs)
+angles_moved by place [] = refl
+angles_moved by place (c ∷ cs) =
+    let end = place_behind place (c ∷ []) in
+    ap (λ ss. ss ++ angles_among (place_behind (by + place) (c ∷ [])) cs) (by_angle (c == greater_than_sign))
+    ∙ ap (λ ss. map (moved_span by) (angle_at place c) ++ ss)
+    (ap (λ p. angles_among p cs) (behind_moved by place (c ∷ [])) ∙ angles_moved by end cs)
+    ∙ sym (map-append (moved_span by) (angle_at place c) (angles_among end cs))
+  where
+    by_angle : (b : Bool)
+        → (if b then stretch (by + place) (by + place + 1) ∷ [] else [])
+        ≡ map (moved_span by) (if b then stretch place (place + 1) ∷ [] else [])
+    by_angle true = let next : by + place + 1 ≡ by + (place + 1) = omega arith in rw next refl
+    by_angle false = refl
 
 -- whether anything is reported does not depend on the place
 pub any_moved : (by : ℕ) (diagnostics : List Diagnostic)

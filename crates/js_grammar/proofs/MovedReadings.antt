@@ -1,7 +1,7 @@
 -- A reading at one place is, moved by the difference, the reading at another from which the same characters stand.
 use Rattle.std.proofs.Common.{◌≡◌, ◌≢◌, ℕ, ◌+◌, Bool, true, false, List, ◌∷◌, ◌++◌, refl, sym, ◌∙◌, ap}
 use Rattle.std.proofs.Common.{subst, arith, Option, Some, None}
-use Rattle.std.specs.Prelude.{IfSome}
+use Rattle.std.specs.Prelude.{IfSome, map}
 use Rattle.std.specs.Option.{option_map}
 use Rattle.std.specs.Str.{IsCharBoundary, IsUtf8}
 use Rattle.js_text.specs.Characters.{begins, from_place}
@@ -14,14 +14,14 @@ use Rattle.std.specs.List.{list_all}
 use Rattle.js_grammar.specs.Angle.{angle_reading, first_left_angle, first_right_angle, right_angles}
 use Rattle.js_grammar.specs.Goals.{GoalReads, ReadsAngle, ReadsAttributeString, ReadsAttributeValue, ReadsBehindGap}
 use Rattle.js_grammar.specs.Goals.{ReadsFrom, ReadsJsxName, ReadsPart, ReadsPlainly, line_has_ended_behind, next_part}
-use Rattle.js_grammar.specs.Goals.{with_gap}
+use Rattle.js_grammar.specs.Goals.{with_gap, ReadsJsxChild, with_warnings}
 use Rattle.js_grammar.specs.Gap.{WholeGap}
 use Rattle.js_grammar.specs.Goals.ReadsAttributeValue.{string, plain}
 use Rattle.js_grammar.specs.Goals.ReadsPlainly.{hashbang, behind_gap}
-use Rattle.js_grammar.specs.Jsx.{jsx_child_reading, jsx_name_reading, jsx_string_reading}
+use Rattle.js_grammar.specs.Jsx.{jsx_child_reading, jsx_name_reading, jsx_string_reading, jsx_child_warnings}
 use Rattle.js_grammar.specs.Moved.{StandsMoved, moved_outcome, moved_token, reads_from}
 use Rattle.js_grammar.specs.Outcome.{Outcome, outcome_at}
-use Rattle.js_grammar.specs.Reading.{Reading, place_behind}
+use Rattle.js_grammar.specs.Reading.{Reading, place_behind, moved_span}
 use Rattle.js_grammar.specs.RegularExpression.{regular_expression_reading}
 use Rattle.js_grammar.specs.StringItems.{is_quote}
 use Rattle.js_grammar.specs.UnicodeEscape.{right_curly_bracket}
@@ -35,7 +35,7 @@ use Rattle.js_grammar.proofs.AtPlaces.{outcome_moved, outcome_of, outcome_of_mov
 use Rattle.js_grammar.proofs.GoalReadings.{IsRead, angle_is_read, angles, attribute_is_read, child_is_read}
 use Rattle.js_grammar.proofs.GoalReadings.{expression_read, is_angle, jsx_name_is_read}
 use Rattle.js_grammar.proofs.GoalWays.{found_is_read}
-use Rattle.js_grammar.proofs.Moved.{behind_moved}
+use Rattle.js_grammar.proofs.Moved.{behind_moved, angles_moved}
 use Rattle.js_grammar.proofs.ReadingLemmas.{IsTaken}
 use Rattle.js_grammar.proofs.Reported.{piece_texts, pieces_text}
 use Rattle.js_grammar.proofs.Spans.{part_is_taken}
@@ -142,6 +142,35 @@ from_moves text other line_has_ended start by read all both = record {
             (ap read same ∙ reads.read_is) (subst (λ h. IsTaken h reads.found) (sym same) taken),
       );
 }
+
+-- what JSX has between tags
+child_moves : (text other : List ℕ) (line_has_ended : Bool) (place by : ℕ) → BothStand text other place by
+    → Moves by (ReadsJsxChild text line_has_ended place) (ReadsJsxChild other line_has_ended (by + place))
+child_moves text other line_has_ended place by both =
+    let moves =
+    from_moves text other line_has_ended place by (λ here. Some (jsx_child_reading here)) child_is_read both in
+    let there = jsx_child_warnings (by + place) (from_place other (by + place)) in
+    record {
+      forward = λ o reads. record {
+        child = moved_outcome by reads.child;
+        reads = moves.forward reads.child reads.reads;
+        outcome_is =
+            ap (moved_outcome by) reads.outcome_is
+            ∙ ap (λ ws. with_warnings ws (moved_outcome by reads.child)) moved;
+      };
+      back = λ o reads.
+          let own = moves.back reads.child reads.reads in (
+            with_warnings (jsx_child_warnings place (from_place text place)) own.0,
+            reads.outcome_is ∙ ap (with_warnings there) own.1
+                ∙ ap (λ ws. with_warnings ws (moved_outcome by own.0)) (sym moved),
+            record { child = own.0; reads = own.2; outcome_is = refl },
+          );
+    }
+  where
+    moved : map (moved_span by) (jsx_child_warnings place (from_place text place))
+        ≡ jsx_child_warnings (by + place) (from_place other (by + place))
+    moved = ap (λ here. map (moved_span by) (jsx_child_warnings place here)) both.stands.same
+        ∙ sym (angles_moved by place (jsx_child_reading (from_place other (by + place))).taken)
 
 -- the next part of a template
 part_at : (text : List ℕ) (start : ℕ) (behind : List ℕ) → IsUtf8 text → IsCharBoundary text start
@@ -357,9 +386,9 @@ goal_moves text other t JsxAttributeValue None place by not_first both =
 goal_moves text other t JsxAttributeValue (Some token) place by not_first both =
     attribute_moves text other t (Some token) place by both
 goal_moves text other t JsxChild None place by not_first both =
-    from_moves text other true place by (λ here. Some (jsx_child_reading here)) child_is_read both
+    child_moves text other true place by both
 goal_moves text other t JsxChild (Some token) place by not_first both =
-    from_moves text other false place by (λ here. Some (jsx_child_reading here)) child_is_read both
+    child_moves text other false place by both
 goal_moves text other t TailGoal None place by not_first both = nothing_moves by
 goal_moves text other t TailGoal (Some token) place by not_first both = part_moves text other token.start by both
 goal_moves text other t RegularExpression None place by not_first both = nothing_moves by

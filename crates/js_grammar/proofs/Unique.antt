@@ -14,7 +14,7 @@ use Rattle.js_kind.specs.TokenParts.{TokenParts}
 use Rattle.js_kind.proofs.KindNumbers.{number_injective}
 use Rattle.js_kind.specs.declared.kind.Kind.{Kind}
 use Rattle.js_grammar.specs.Goals.{ReadsHere, ReadsBehindGap, ReadsHashbang, ReadsPlainly, ReadsPart, GoalReads}
-use Rattle.js_grammar.specs.Goals.{spelled_reading, with_gap}
+use Rattle.js_grammar.specs.Goals.{spelled_reading, with_gap, ReadsJsxChild, with_warnings}
 use Rattle.js_grammar.specs.Goals.{token_alone, line_has_ended_behind}
 use Rattle.js_grammar.specs.Goals.ReadsHere.{spelled as spelled_here, recovers}
 use Rattle.js_grammar.specs.Goals.ReadsPlainly.{hashbang as hashbang_read, behind_gap}
@@ -32,6 +32,7 @@ use Rattle.js_grammar.specs.Goals.{ReadsAgain, ReadsAngle, ReadsAttributeString,
 use Rattle.js_grammar.specs.Goals.{ReadsFrom, ReadsJsxName, ReadsOn}
 use Rattle.js_grammar.specs.Goals.ReadsAttributeValue.{string as attribute_string, plain}
 use Rattle.js_grammar.specs.Jsx.{jsx_child_reading, jsx_name_reading, jsx_string_before, jsx_string_reading}
+use Rattle.js_grammar.specs.Jsx.{jsx_child_warnings}
 use Rattle.js_grammar.specs.RegularExpression.{regular_expression_reading}
 use Rattle.std.proofs.lemmas.List.{append_cancel_right}
 use Rattle.js_grammar.specs.Punctuators.{Punctuator, punctuators, IsIn}
@@ -334,6 +335,15 @@ jsx_name_unique text (Some token) a b utf8 h g =
     h.reads)
     g.reads
 
+jsx_child_unique : (text : List ℕ) (line_has_ended : Bool) (place : ℕ) (a b : Outcome) → IsUtf8 text
+    → ReadsJsxChild text line_has_ended place a → ReadsJsxChild text line_has_ended place b → a ≡ b
+jsx_child_unique text line_has_ended place a b utf8 h g =
+    let here = from_place text place in
+    h.outcome_is
+    ∙ ap (with_warnings (jsx_child_warnings place here))
+    (from_unique text line_has_ended place (Some (jsx_child_reading here)) h.child g.child utf8 h.reads g.reads)
+    ∙ sym g.outcome_is
+
 -- the value of an attribute begins at one place
 attribute_string_unique : (text : List ℕ) (t : SourceType) (before : Option TokenParts) (place : ℕ) (a b : Outcome)
     → IsUtf8 text → ReadsAttributeString text t before place a
@@ -411,7 +421,6 @@ goal_reads_unique text t TypeScriptRightAngle before place a b utf8 h g =
     angle_unique text first_right_angle before a b utf8 h g
 goal_reads_unique text t JsxIdentifier before place a b utf8 h g = jsx_name_unique text before a b utf8 h g
 goal_reads_unique text t JsxChild before place a b utf8 h g =
-    from_unique text (line_has_ended_behind before) place (Some (jsx_child_reading (from_place text place))) a b utf8
-    h g
+    jsx_child_unique text (line_has_ended_behind before) place a b utf8 h g
 goal_reads_unique text t JsxAttributeValue before place a b utf8 h g =
     attribute_unique text t before place a b utf8 h g

@@ -4,10 +4,11 @@ use Rattle.std.specs.Prelude.{◌++◌, length}
 use Rattle.std.specs.Str.{IsCharBoundary, encode_utf8_all}
 use Rattle.js_text.specs.Characters.{begins, from_place}
 use Rattle.js_text.specs.declared.source_type.SourceType.{SourceType}
+use Rattle.js_text.specs.declared.span.Span.{Span}
 use Rattle.js_text.specs.declared.value.RowValue.TheVariants.{Nothing}
 use Rattle.js_grammar.specs.Angle.{angle_reading, right_angles, first_left_angle, first_right_angle}
 use Rattle.js_grammar.specs.Gap.{Piece, WholeGap}
-use Rattle.js_grammar.specs.Jsx.{jsx_name_reading, jsx_child_reading, jsx_string_reading}
+use Rattle.js_grammar.specs.Jsx.{jsx_name_reading, jsx_child_reading, jsx_child_warnings, jsx_string_reading}
 use Rattle.js_grammar.specs.RegularExpression.{regular_expression_reading}
 use Rattle.js_grammar.specs.Hashbang.{begins_hashbang, IsHashbang}
 use Rattle.js_grammar.specs.Outcome.{Outcome, joined, no_findings, gap_findings, outcome_at}
@@ -138,6 +139,16 @@ pub record ReadsJsxName (text : List ℕ) (name : TokenParts) (outcome : Outcome
   pub here : from_place text name.start ≡ part ++ from_place text name.end
   pub reads : ReadsFrom text false name.start (jsx_name_reading part (from_place text name.end)) outcome
 
+-- what was read, and these warnings
+abbrev pub with_warnings : List Span → Outcome → Outcome
+with_warnings warnings outcome = record outcome { findings = record outcome.findings { warnings = warnings } }
+
+-- What JSX has between tags, from the place on, with a warning of each `>` in it.
+pub record ReadsJsxChild (text : List ℕ) (line_has_ended : Bool) (place : ℕ) (outcome : Outcome) : Type 0 where
+  pub child : Outcome
+  pub reads : ReadsFrom text line_has_ended place (Some (jsx_child_reading (from_place text place))) child
+  pub outcome_is : outcome ≡ with_warnings (jsx_child_warnings place (from_place text place)) child
+
 -- The string of an attribute, behind a whole gap; `before` is the token before the gap, if there is one.
 pub record ReadsAttributeString (text : List ℕ) (t : SourceType) (before : Option TokenParts) (place : ℕ)
     (outcome : Outcome) : Type 0 where
@@ -176,7 +187,7 @@ GoalReads text t TypeScriptRightAngle before place outcome =
     ReadsAgain (ReadsAngle text first_right_angle) before outcome
 GoalReads text t JsxIdentifier before place outcome = ReadsOn (ReadsJsxName text) before outcome
 GoalReads text t JsxChild before place outcome =
-    ReadsFrom text (line_has_ended_behind before) place (Some (jsx_child_reading (from_place text place))) outcome
+    ReadsJsxChild text (line_has_ended_behind before) place outcome
 GoalReads text t JsxAttributeValue before place outcome = ReadsAttributeValue text t before place outcome
 
 -- What the grammar says of a reading of the first or the plain goal: it has no diagnostic exactly where the grammar

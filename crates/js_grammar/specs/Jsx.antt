@@ -1,10 +1,11 @@
 -- Parts of JSX: names with `-`, the text of children, and the strings of attributes.
-use Rattle.std.specs.Prelude.{ℕ, Bool, List, [], ◌∷◌, ◌++◌, ◌==◌, ◌||◌, not, Option, Some, None}
+use Rattle.std.specs.Prelude.{ℕ, ◌+◌, Bool, List, [], ◌∷◌, ◌++◌, ◌==◌, ◌||◌, not, Option, Some, None}
 use Rattle.std.specs.Prelude.{if◌then◌else◌}
 use Rattle.js_text.specs.Ascii.{less_than_sign, greater_than_sign, hyphen_minus}
 use Rattle.js_text.specs.Characters.{begins, from_first, is_identifier_part}
 use Rattle.js_text.specs.declared.diagnostic.Diagnostic.{Diagnostic}
 use Rattle.js_text.specs.declared.diagnostic.Diagnostic.TheVariants.{UnexpectedJsxEnd, UnterminatedString}
+use Rattle.js_text.specs.declared.span.Span.{Span}
 use Rattle.js_kind.specs.declared.kind.Kind.{Kind}
 use Rattle.js_kind.specs.declared.kind.Kind.TheVariants.{Eof, Ident, JSXText, LAngle, LCurly, Str}
 use Rattle.js_grammar.specs.NumberReads.{empty_span}
@@ -40,7 +41,7 @@ begins_child c = (c == less_than_sign) || (c == left_curly_bracket)
 
 -- the characters that end the text of a child
 abbrev pub ends_jsx_text : ℕ → Bool
-ends_jsx_text c = begins_child c || ((c == greater_than_sign) || (c == right_curly_bracket))
+ends_jsx_text c = begins_child c || (c == right_curly_bracket)
 
 -- What is read of the text of a child, by what is left behind it: text, where a mark follows; the end of the source; or
 -- a character that may not stand there.
@@ -50,7 +51,7 @@ jsx_text_before text (c ∷ cs) =
     if begins_child c then read_up_to JSXText text (c ∷ cs)
     else reported Eof text (c ∷ cs) (UnexpectedJsxEnd c (empty_span (size_of (read_up_to Eof text (c ∷ cs)))))
 
--- the text of a child
+-- the text of a child, in which a `>` may stand
 abbrev pub jsx_text_reading : List ℕ → Reading
 jsx_text_reading text = jsx_text_before text (from_first ends_jsx_text text)
 
@@ -61,6 +62,19 @@ jsx_child_reading (c ∷ cs) =
     if c == less_than_sign then read_up_to LAngle (c ∷ cs) cs
     else if c == left_curly_bracket then read_up_to LCurly (c ∷ cs) cs
     else jsx_text_reading (c ∷ cs)
+
+-- a `>` that stands at the place
+abbrev pub angle_at : ℕ → ℕ → List Span
+angle_at place c = if c == greater_than_sign then stretch place (place + 1) ∷ [] else []
+
+-- the spans of the characters `>` among these, the first of which stands at the place
+abbrev pub angles_among : ℕ → List ℕ → List Span
+angles_among place [] = []
+angles_among place (c ∷ cs) = angle_at place c ++ angles_among (place_behind place (c ∷ [])) cs
+
+-- What a child of JSX that begins at the place is warned of: each `>` in what is read of it.
+abbrev pub jsx_child_warnings : ℕ → List ℕ → List Span
+jsx_child_warnings place text = angles_among place (jsx_child_reading text).taken
 
 -- what is read of a string of an attribute, by what is left of the text from its next quote on
 abbrev pub jsx_string_before : List ℕ → List ℕ → Reading

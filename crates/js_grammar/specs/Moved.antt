@@ -23,6 +23,7 @@ moved_findings by found = record {
   deferred = moved_diagnostics by found.deferred;
   comments = map (moved_comment by) found.comments;
   irregular = map (moved_span by) found.irregular;
+  warnings = map (moved_span by) found.warnings;
 }
 
 abbrev pub moved_outcome : ℕ → Outcome → Outcome

@@ -20,15 +20,16 @@ use Rattle.js_grammar.specs.Reading.{Reading, size_of, place_behind, reported_at
 use Rattle.js_kind.specs.TokenParts.{TokenParts}
 
 -- What readings find beside their tokens: what they report, what they report for the case that the source is a module,
--- comments, and irregular white space.
+-- comments, irregular white space, and what they warn of.
 pub record Findings : Type 0 where
   pub diagnostics : List Diagnostic
   pub deferred : List Diagnostic
   pub comments : List Comment
   pub irregular : List Span
+  pub warnings : List Span
 
 abbrev pub no_findings : Findings
-no_findings = record { diagnostics = []; deferred = []; comments = []; irregular = [] }
+no_findings = record { diagnostics = []; deferred = []; comments = []; irregular = []; warnings = [] }
 
 -- diagnostics alone
 abbrev pub reports : List Diagnostic → Findings
@@ -41,6 +42,7 @@ joined a b = record {
   deferred = a.deferred ++ b.deferred;
   comments = a.comments ++ b.comments;
   irregular = a.irregular ++ b.irregular;
+  warnings = a.warnings ++ b.warnings;
 }
 
 -- how much was found, list by list
@@ -49,6 +51,7 @@ pub record FindingLengths : Type 0 where
   pub deferred : ℕ
   pub comments : ℕ
   pub irregular : ℕ
+  pub warnings : ℕ
 
 abbrev pub lengths_of : Findings → FindingLengths
 lengths_of found = record {
@@ -56,6 +59,7 @@ lengths_of found = record {
   deferred = length found.deferred;
   comments = length found.comments;
   irregular = length found.irregular;
+  warnings = length found.warnings;
 }
 
 -- what was found up to these lengths
@@ -65,6 +69,7 @@ cut_to lengths found = record {
   deferred = take lengths.deferred found.deferred;
   comments = take lengths.comments found.comments;
   irregular = take lengths.irregular found.irregular;
+  warnings = take lengths.warnings found.warnings;
 }
 
 -- what was found beyond these lengths
@@ -74,6 +79,7 @@ found_since lengths found = record {
   deferred = drop lengths.deferred found.deferred;
   comments = drop lengths.comments found.comments;
   irregular = drop lengths.irregular found.irregular;
+  warnings = drop lengths.warnings found.warnings;
 }
 
 -- no list is shorter than this
@@ -82,6 +88,7 @@ pub record AreWithin (lengths : FindingLengths) (found : Findings) : Type 0 wher
   pub deferred : lengths.deferred ≤ length found.deferred
   pub comments : lengths.comments ≤ length found.comments
   pub irregular : lengths.irregular ≤ length found.irregular
+  pub warnings : lengths.warnings ≤ length found.warnings
 
 -- A token, its value, what is known of a regular expression, and what was found on the way.
 pub record Outcome : Type 0 where
@@ -149,4 +156,5 @@ gap_findings t before place pieces token = record {
   deferred = gap_deferred t place pieces;
   comments = attach (gap_of (is_none before) (token_before before) place pieces token);
   irregular = irregular_of (items_of place pieces);
+  warnings = [];
 }

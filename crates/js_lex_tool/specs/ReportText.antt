@@ -133,9 +133,9 @@ comment_rest c =
 abbrev pub comment_line : Comment → List ℕ
 comment_line c = comment_head c ++ comment_rest c ++ 10 ∷ []
 
--- irregular white space
-abbrev pub irregular_line : Span → List ℕ
-irregular_line span = codes "irregular " ++ span_text span.start span.end ++ 10 ∷ []
+-- irregular white space, or a warning
+abbrev pub span_line : List ℕ → Span → List ℕ
+span_line label span = label ++ codes " " ++ span_text span.start span.end ++ 10 ∷ []
 
 -- The text of a report: its rows, then what is live.
 abbrev pub report_text_of : List ℕ → Report → List ℕ
@@ -146,4 +146,5 @@ report_text_of source report =
     ++ flat_map (diagnostic_line (codes "diagnostic")) report.diagnostics
     ++ flat_map (diagnostic_line (codes "deferred")) report.deferred
     ++ flat_map comment_line report.comments
-    ++ flat_map irregular_line report.irregular
+    ++ flat_map (span_line (codes "irregular")) report.irregular
+    ++ flat_map (span_line (codes "warning")) report.warnings

@@ -7,7 +7,7 @@ ghost use Rattle.js_lex_tool.specs.ReportText.{flags_text, token_text, step_name
 ghost use Rattle.js_lex_tool.specs.ReportText.{row_line, row_lines, token_line, span_or_dash, named_character};
 ghost use Rattle.js_lex_tool.specs.ReportText.{diagnostic_text, diagnostic_line, report_text_of};
 ghost use Rattle.js_lex_tool.specs.ReportText.{flag_letter, regex_flags_text, regex_text};
-ghost use Rattle.js_lex_tool.specs.ReportText.{comment_head, comment_rest, comment_line, irregular_line};
+ghost use Rattle.js_lex_tool.specs.ReportText.{comment_head, comment_rest, comment_line, span_line};
 
 use crate::command::command_word;
 use crate::units::{push_number, push_text_in_units, push_units};
@@ -283,25 +283,27 @@ fn push_comments(text: &mut String, comments: &[Comment]) -> Result<(), AllocErr
     Ok(())
 }
 
-fn push_irregular(text: &mut String, span: &Span) -> Result<(), AllocError>
-    ensures { OnOk result (string_bytes text.new ≡ string_bytes text.old ++ irregular_line span.now) }
+fn push_span_line(text: &mut String, label: &str, span: &Span) -> Result<(), AllocError>
+    ensures { OnOk result (string_bytes text.new ≡ string_bytes text.old ++ span_line label.now span.now) }
 {
-    text.push_str("irregular ")?;
+    text.push_str(label)?;
+    text.push_str(" ")?;
     push_span(text, Some(*span))?;
     text.push_str("\n")
 }
 
-fn push_all_irregular(text: &mut String, spans: &[Span]) -> Result<(), AllocError>
-    ensures { OnOk result (string_bytes text.new ≡ string_bytes text.old ++ flat_map irregular_line spans.now) }
+fn push_spans(text: &mut String, label: &str, spans: &[Span]) -> Result<(), AllocError>
+    ensures { OnOk result (string_bytes text.new ≡ string_bytes text.old ++ flat_map (span_line label.now) spans.now) }
 {
     for span in spans {
-        push_irregular(text, span)?;
+        push_span_line(text, label, span)?;
     }
     Ok(())
 }
 
-/// The text of a report: a line for each row, with what the row found, then one for each live token, each collected one,
-/// each live diagnostic, each deferred one, each live comment, and each live stretch of irregular white space.
+/// The text of a report: a line for each row, with what the row found, then one for each live token, each collected
+/// one, each live diagnostic, each deferred one, each live comment, each live stretch of irregular white space, and each
+/// live warning.
 pub fn report_text(alloc: Global, source: &str, report: &Report) -> Result<String, AllocError>
     requires { AllByRecursion (λ row. IsSliceOnPlaces source.now row.value) report.now.rows }
     ensures { IfOk result (λ text. string_bytes text ≡ report_text_of source.now report.now) }
@@ -313,6 +315,7 @@ pub fn report_text(alloc: Global, source: &str, report: &Report) -> Result<Strin
     push_diagnostics(&mut text, "diagnostic", report.diagnostics.as_slice())?;
     push_diagnostics(&mut text, "deferred", report.deferred.as_slice())?;
     push_comments(&mut text, report.comments.as_slice())?;
-    push_all_irregular(&mut text, report.irregular.as_slice())?;
+    push_spans(&mut text, "irregular", report.irregular.as_slice())?;
+    push_spans(&mut text, "warning", report.warnings.as_slice())?;
     Ok(text)
 }

@@ -39,7 +39,7 @@ const CHOICE: &str = concat!(
 );
 
 /// Words, a source, and the text that is written.
-static TEXTS: [(&str, &str, &str); 32] = [
+static TEXTS: [(&str, &str, &str); 35] = [
     ("module no-tokens next*5", "a?.1:b", CHOICE),
     (
         "module no-tokens",
@@ -321,6 +321,49 @@ static TEXTS: [(&str, &str, &str); 32] = [
             "token Eof 6..6 -\n",
             "diagnostic UnexpectedJsxEnd 6..6 U+007D\n",
             "diagnostic UnexpectedJsxEnd 6..6 U+007D\n",
+        ),
+    ),
+    (
+        "module no-tokens next*2 jsx-child next",
+        "<a>x>y</a>",
+        concat!(
+            "row 0 first 0 1 LAngle 0..1 n\n",
+            "row 1 next 1 1 Ident 1..2 - =a\n",
+            "row 2 next 2 1 RAngle 2..3 -\n",
+            "row 3 jsx-child 3 1 JSXText 3..6 -\n",
+            "row 4 next 6 1 LAngle 6..7 -\n",
+            "token LAngle 0..1 n\n",
+            "token Ident 1..2 -\n",
+            "token RAngle 2..3 -\n",
+            "token JSXText 3..6 -\n",
+            "token LAngle 6..7 -\n",
+            "warning 4..5\n",
+        ),
+    ),
+    (
+        "module no-tokens jsx-child*2",
+        ">}",
+        concat!(
+            "row 0 first 0 1 RAngle 0..1 n\n",
+            "row 1 jsx-child 1 1 Eof 1..1 -\n",
+            "row 2 jsx-child 1 1 Eof 1..1 -\n",
+            "token RAngle 0..1 n\n",
+            "token Eof 1..1 -\n",
+            "token Eof 1..1 -\n",
+            "diagnostic UnexpectedJsxEnd 1..1 U+007D\n",
+            "diagnostic UnexpectedJsxEnd 1..1 U+007D\n",
+        ),
+    ),
+    (
+        "module no-tokens mark jsx-child rewind jsx-child",
+        "a\u{A0}>",
+        concat!(
+            "row 0 first 0 1 Ident 0..1 n =a\n",
+            "row 1 jsx-child 1 1 Eof 1..4 -\n",
+            "row 2 jsx-child 1 1 Eof 1..4 -\n",
+            "token Ident 0..1 n\n",
+            "token Eof 1..4 -\n",
+            "warning 3..4\n",
         ),
     ),
     (

@@ -15,16 +15,30 @@ joined-assoc a b c =
       append_assoc a.deferred b.deferred c.deferred,
       append_assoc a.comments b.comments c.comments,
       append_assoc a.irregular b.irregular c.irregular,
+      append_assoc a.warnings b.warnings c.warnings,
     )
     refl
 
 pub joined-none : (a : Findings) → joined a no_findings ≡ a
-joined-none a = rw (append-nil a.diagnostics, append-nil a.deferred, append-nil a.comments, append-nil a.irregular) refl
+joined-none a =
+    rw (
+      append-nil a.diagnostics,
+      append-nil a.deferred,
+      append-nil a.comments,
+      append-nil a.irregular,
+      append-nil a.warnings,
+    )
+    refl
 
 -- no list is shorter than itself
 pub within-own : (a : Findings) → AreWithin (lengths_of a) a
-within-own a =
-    record { diagnostics = omega arith; deferred = omega arith; comments = omega arith; irregular = omega arith }
+within-own a = record {
+  diagnostics = omega arith;
+  deferred = omega arith;
+  comments = omega arith;
+  irregular = omega arith;
+  warnings = omega arith;
+}
 
 pub within-joined : (lengths : FindingLengths) (a b : Findings) → AreWithin lengths a → AreWithin lengths (joined a b)
 within-joined lengths a b h = record {
@@ -32,6 +46,7 @@ within-joined lengths a b h = record {
   deferred = omega (arith, h.deferred, length-append a.deferred b.deferred);
   comments = omega (arith, h.comments, length-append a.comments b.comments);
   irregular = omega (arith, h.irregular, length-append a.irregular b.irregular);
+  warnings = omega (arith, h.warnings, length-append a.warnings b.warnings);
 }
 
 -- findings that have only grown, cut back
@@ -42,6 +57,7 @@ cut_to-joined old more =
       take-append_seam old.deferred more.deferred,
       take-append_seam old.comments more.comments,
       take-append_seam old.irregular more.irregular,
+      take-append_seam old.warnings more.warnings,
     )
     refl
 
@@ -53,6 +69,7 @@ found_since-joined old more =
       drop-append_seam old.deferred more.deferred,
       drop-append_seam old.comments more.comments,
       drop-append_seam old.irregular more.irregular,
+      drop-append_seam old.warnings more.warnings,
     )
     refl
 
@@ -65,6 +82,7 @@ cut_to-recovered old more left =
       take-append_seam old.deferred more.deferred,
       take-append_seam old.comments more.comments,
       take-append_seam old.irregular more.irregular,
+      take-append_seam old.warnings more.warnings,
     )
     refl
 
@@ -76,6 +94,7 @@ cut_to-joined-le l f g h =
       take-append-le l.deferred f.deferred g.deferred h.deferred,
       take-append-le l.comments f.comments g.comments h.comments,
       take-append-le l.irregular f.irregular g.irregular h.irregular,
+      take-append-le l.warnings f.warnings g.warnings h.warnings,
     )
     refl
 
@@ -93,6 +112,7 @@ cut_to-cut_to l m f h g =
       take-take l.comments m.comments f.comments (shorter l.comments m.comments f.comments h.comments g.comments),
       take-take l.irregular m.irregular f.irregular
           (shorter l.irregular m.irregular f.irregular h.irregular g.irregular),
+      take-take l.warnings m.warnings f.warnings (shorter l.warnings m.warnings f.warnings h.warnings g.warnings),
     )
     refl
 
@@ -104,5 +124,6 @@ cut_to-all f =
       take_all (length f.deferred) f.deferred (omega arith),
       take_all (length f.comments) f.comments (omega arith),
       take_all (length f.irregular) f.irregular (omega arith),
+      take_all (length f.warnings) f.warnings (omega arith),
     )
     refl

@@ -47,6 +47,7 @@ pub record IsReaderOf (goal : Goal) (l : LexerState) (r : Reader) (found : Findi
   pub source_type : r.source_type ≡ l.source_type
   pub errors : found.errors ≡ l.findings.diagnostics
   pub deferred : found.deferred ≡ l.findings.deferred
+  pub warnings : found.warnings ≡ l.findings.warnings
   pub between : IsBetweenGaps l.last l.place l.findings.comments l.findings.irregular
       (range_before goal l.pure_comments) (range_before goal l.no_side_effects_comments) found.trivia
 
@@ -112,6 +113,7 @@ reader_is goal r found last values line_has_ended cleared sound e = record {
   source_type = refl;
   errors = refl;
   deferred = refl;
+  warnings = refl;
   between = between_is goal r.source last found.trivia cleared values sound e;
 }
 
@@ -264,6 +266,8 @@ reads_token old new r before reader after trivia goal token values u is with_gap
     with_gap.gap.errors ∙ ap (λ es. es ++ reads.outcome.findings.diagnostics) is.errors in
     let deferred : after.deferred ≡ old.findings.deferred ++ reads.outcome.findings.deferred =
     with_gap.gap.deferred ∙ ap (λ es. es ++ reads.outcome.findings.deferred) is.deferred in
+    let warnings : after.warnings ≡ old.findings.warnings ++ reads.outcome.findings.warnings =
+    with_gap.gap.warnings ∙ ap (λ ws. ws ++ reads.outcome.findings.warnings) is.warnings in
     record {
       outcome = reads.outcome;
       token_is = reads.token_is;
@@ -279,7 +283,7 @@ reads_token old new r before reader after trivia goal token values u is with_gap
         last =
             ap (λ x. x.last) e ∙ ap Some (told_last token after.trivia trivia told ∙ reads.token_is);
         tokens = ap (λ x. x.tokens) e ∙ ap (λ x. old.tokens ++ collected old.collects x) reads.token_is;
-        findings = ap (λ x. x.findings) e ∙ rw (errors, deferred, now) refl;
+        findings = ap (λ x. x.findings) e ∙ rw (errors, deferred, warnings, now) refl;
         pure_comments = ap (λ x. x.pure_comments) e ∙ ap (λ (s : Trivia). s.pure_comments) now;
         no_side_effects_comments =
             ap (λ x. x.no_side_effects_comments) e ∙ ap (λ (s : Trivia). s.no_side_effects_comments) now;
@@ -379,6 +383,7 @@ reads_again old new r goal token reader told later comments last values u source
               append-nil old.findings.deferred,
               append-nil old.findings.comments,
               append-nil old.findings.irregular,
+              append-nil old.findings.warnings,
             ) refl;
         pure_comments = ap (λ x. x.pure_comments) e;
         no_side_effects_comments = ap (λ x. x.no_side_effects_comments) e;

@@ -121,11 +121,11 @@ abbrev pub reads_taken : {goal : Goal} {token : TokenParts} {collects : Bool} {t
     after.errors more
     → IsSound old.source (last_read has_read found.trivia.attachment.previous) found.trivia values
     → after.trivia ≡ handle_token token found.trivia → after.deferred ≡ found.deferred
-    → now ≡ (if collects then with_last tokens token else tokens)
+    → after.warnings ≡ found.warnings → now ≡ (if collects then with_last tokens token else tokens)
     → ReadsAgain goal (lexer_of collects old found has_read tokens values) token
     (lexer_of collects new after has_read now more)
 reads_taken {goal} {token} {collects} {tokens} {now} {values} {more} has_read old new found after r sound told deferred
-    collected =
+    warnings collected =
     let same =
     told_again (last_read has_read found.trivia.attachment.previous) token found.trivia after.trivia old.source values
     sound told in
@@ -137,6 +137,7 @@ reads_taken {goal} {token} {collects} {tokens} {now} {values} {more} has_read ol
       was_read has_read found.trivia.attachment.previous r.before r.last_is,
       collected,
       deferred,
+      warnings,
       same.1,
       same.2,
       same.3,
@@ -150,10 +151,10 @@ pub regex_taken : {collects : Bool} {tokens now : List TokenParts} {values : Val
     → IsUtf8 new.source.text
     → IsSound old.source (last_read has_read found.trivia.attachment.previous) found.trivia values
     → after.trivia ≡ handle_token read.token found.trivia → after.deferred ≡ found.deferred
-    → now ≡ (if collects then with_last tokens read.token else tokens)
+    → after.warnings ≡ found.warnings → now ≡ (if collects then with_last tokens read.token else tokens)
     → ReadsRegex (lexer_of collects old found has_read tokens values) read
     (lexer_of collects new after has_read now values)
-regex_taken has_read read old new found after before is reads utf8 sound told deferred collected =
+regex_taken has_read read old new found after before is reads utf8 sound told deferred warnings collected =
     let last = last_read has_read found.trivia.attachment.previous in
     let both : (again : ReadsWithoutGap RegularExpression last old found.errors read.token new after.errors)
     × (again.read.outcome.regex ≡ Some (info_of read)) =
@@ -165,7 +166,7 @@ regex_taken has_read read old new found after before is reads utf8 sound told de
       again =
           reads_taken has_read old new found after
           (record (plainly last old new before expression_is_plain is reads.reads utf8) { reads = both.0 })
-          sound told deferred collected;
+          sound told deferred warnings collected;
       info = both.1;
     }
 

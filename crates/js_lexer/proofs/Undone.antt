@@ -46,8 +46,9 @@ may_go_back before now h =
       ranges = h.ranges;
     }
 
-same_found : (a b : FindingsBuilder) → a.errors ≡ b.errors → a.deferred ≡ b.deferred → a.trivia ≡ b.trivia → a ≡ b
-same_found a b errors deferred trivia = rw (errors, deferred, trivia) refl
+same_found : (a b : FindingsBuilder) → a.errors ≡ b.errors → a.deferred ≡ b.deferred → a.trivia ≡ b.trivia
+    → a.warnings ≡ b.warnings → a ≡ b
+same_found a b errors deferred trivia warnings = rw (errors, deferred, trivia, warnings) refl
 
 -- Then all is found that was found before.
 pub found_again : {start : ReadingStart} {source : At} (before now back : FindingsBuilder)
@@ -57,6 +58,7 @@ found_again before now back h e =
     ∙ same_found _ before (cut_back before.errors h.grows.errors.more now.errors h.grows.errors.is_more)
     (cut_back before.deferred h.grows.deferred.more now.deferred h.grows.deferred.is_more)
     (back_after_calls before.trivia now.trivia h.between (grew before now h))
+    (cut_back before.warnings h.grows.warnings.more now.warnings h.grows.warnings.is_more)
 
 -- And the source stands where it stood.
 pub stands_again : {start : ReadingStart} (before : FindingsBuilder) (old between new : At)
@@ -87,15 +89,15 @@ pub reported_since : (start : ReadingStart) (source : At) (before now : Findings
     → start ≡ start_of source before
     → AreRangesUpTo start.found.trivia.comments start.found.trivia.pure_range start.found.trivia.no_side_effects
     → before.trivia.attachment.pending ≡ [] → Extends before.errors now.errors → now.deferred ≡ before.deferred
-    → now.trivia ≡ before.trivia → HasGrown start source before now
-reported_since start source before now start_is ranges between errors deferred trivia = record {
+    → now.trivia ≡ before.trivia → now.warnings ≡ before.warnings → HasGrown start source before now
+reported_since start source before now start_is ranges between errors deferred trivia warnings = record {
   start_is = start_is;
   ranges = ranges;
   between = between;
   cleared = before.trivia;
   attachment = refl;
   irregular = refl;
-  grows = grows_reports before now errors (extends_same before.deferred now.deferred deferred) trivia;
+  grows = grows_reports before now errors (extends_same before.deferred now.deferred deferred) trivia warnings;
 }
 
 -- and what was found behind the start of a reading of the goal

@@ -483,6 +483,13 @@ impl<'a, C: LexerConfig + Drop> Lexer<'a, C> {
         self.found.trivia.irregular_whitespaces()
     }
 
+    /// What was warned of, in the order in which it was met: each `>` in the text of a child of JSX, over its byte.
+    pub fn warnings(&self) -> &[Span]
+        ensures { result.now ≡ self.now.findings.warnings }
+    {
+        self.found.warnings.as_slice()
+    }
+
     /// Hands out what was reported, and leaves nothing.
     pub fn take_errors(&mut self) -> DiagnosticList
         ensures errors { result ≡ self.old.findings.diagnostics }
@@ -523,6 +530,15 @@ impl<'a, C: LexerConfig + Drop> Lexer<'a, C> {
             .take_irregular_whitespaces(self.reader.alloc)
     }
 
+    /// Hands out what was warned of, and leaves nothing.
+    pub fn take_warnings(&mut self) -> SpanList
+        ensures spans { result ≡ self.old.findings.warnings }
+        ensures after { self.new ≡ record self.old { findings = record self.old.findings { warnings = [] } } }
+    {
+        let alloc = self.reader.alloc;
+        std::mem::replace(&mut self.found.warnings, SpanList::new_in(alloc))
+    }
+
     /// Hands out what was found, and leaves nothing, and no range of comments.
     pub fn take_findings(&mut self) -> Findings
         ensures findings { result ≡ self.old.findings }
@@ -537,6 +553,7 @@ impl<'a, C: LexerConfig + Drop> Lexer<'a, C> {
             deferred: self.take_deferred_module_errors(),
             comments: self.take_comments(),
             irregular: self.take_irregular_whitespaces(),
+            warnings: self.take_warnings(),
         }
     }
 

@@ -10,7 +10,7 @@ use std::test::Fail;
 /// A source, what is done with it, and what is told where tokens are collected, and where they are not.
 type Case = (SourceType, &'static str, Script, &'static str, &'static str);
 
-static CASES: [Case; 18] = [
+static CASES: [Case; 19] = [
     (
         SourceType::Module,
         "#!x\na",
@@ -146,6 +146,16 @@ static CASES: [Case; 18] = [
         "JSXText 0..2 n;LAngle 2..3;Str 4..8;Eof 8..8;RCurly 8..9;|\
          JSXText 0..2 n;LAngle 2..3;Str 4..8;Eof 8..8;RCurly 8..9;UnexpectedJsxEnd 8..8;",
         "JSXText 0..2 n;LAngle 2..3;Str 4..8;Eof 8..8;RCurly 8..9;|UnexpectedJsxEnd 8..8;",
+    ),
+    (
+        SourceType::Module,
+        ">x>< ''>}",
+        Script::Jsx,
+        "JSXText 0..3 n;LAngle 3..4;Str 5..7;Eof 7..8;RCurly 8..9;|\
+         JSXText 0..3 n;LAngle 3..4;Str 5..7;Eof 7..8;RCurly 8..9;UnexpectedJsxEnd 8..8;\
+         warning 0..1;warning 2..3;warning 7..8;",
+        "JSXText 0..3 n;LAngle 3..4;Str 5..7;Eof 7..8;RCurly 8..9;|UnexpectedJsxEnd 8..8;\
+         warning 0..1;warning 2..3;warning 7..8;",
     ),
 ];
 

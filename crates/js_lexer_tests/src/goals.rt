@@ -5,18 +5,30 @@ ghost use Rattle.std.specs.Prelude.{◌≡◌, None};
 use crate::script::{next, push_diagnostics, push_token, push_tokens};
 use js_kind::{Kind, LexerConfig};
 use js_lexer::Lexer;
+use js_text::Span;
 use std::alloc::AllocError;
 use std::fmt::Write;
 use std::test::Fail;
 
-/// Adds the collected tokens, and what was reported.
+/// Adds the collected tokens, what was reported, and what was warned of.
 fn push_lists<C: LexerConfig + Drop>(
     text: &mut String,
     lexer: &Lexer<'_, C>,
 ) -> Result<(), AllocError> {
     text.push_str("|")?;
     push_tokens(text, lexer.tokens())?;
-    push_diagnostics(text, lexer.errors())
+    push_diagnostics(text, lexer.errors())?;
+    push_warnings(text, lexer.warnings())
+}
+
+/// Adds what was warned of.
+fn push_warnings(text: &mut String, warnings: &[Span]) -> Result<(), AllocError> {
+    for warning in warnings {
+        let start = warning.start;
+        let end = warning.end;
+        write!(text, "warning {start}..{end};")?;
+    }
+    Ok(())
 }
 
 /// Reads the next token, and adds it with all that is collected and reported.

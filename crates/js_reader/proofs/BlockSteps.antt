@@ -125,8 +125,10 @@ pub block_skipped : (old : Reader) (before : FindingsBuilder) (mid : At) (new : 
     ≡ add_comment
     (found_in old.source.text (kind_by inside) (record { start = old.source.place; end = new.source.place }))
     before.trivia
+    → after.warnings ≡ before.warnings
     → SkipsSome old before new after
-block_skipped old before mid new after inside h g takes text cuts source_type line_has_ended errors deferred trivia =
+block_skipped old before mid new after inside h g takes text cuts source_type line_has_ended errors deferred trivia
+    warnings =
     let cut = cuts.0 in
     let marked = block_marked old.source mid new.source inside h g takes text cuts in
     let front = block_front old.source mid new.source inside h g takes text cuts in
@@ -162,7 +164,7 @@ block_skipped old before mid new after inside h g takes text cuts source_type li
           ∙ ap (λ f. add_comment f before.trivia)
           (found_is old.source.text (kind_by inside) old.source.place new.source.place (codes "/*") front.0 (codes "*/")
           marked x (ap (λ cs. codes "/*" ++ cs) front.1)
-          ∙ ap (λ k. found_comment old.source.place k x) (sym kind)));
+          ∙ ap (λ k. found_comment old.source.place k x) (sym kind))) warnings;
       ends_line = refl;
     } in
     some_skipped old before new after p g

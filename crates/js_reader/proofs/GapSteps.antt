@@ -197,9 +197,9 @@ module _ (old : Reader) (before : FindingsBuilder) (source : At) (c : ℕ) (h : 
       → after.deferred ≡ before.deferred
       → after.trivia
       ≡ calls (listed_if (is_irregular_whitespace c) (record { start = old.source.place; end = source.place }))
-      before.trivia
+      before.trivia → after.warnings ≡ before.warnings
       → IsBehindPiece false old before false (record old { source = source }) after
-  white_skipped after white errors deferred trivia =
+  white_skipped after white errors deferred trivia warnings =
       let x = one_character white_space old.line_has_ended c (rest source) in
       let place : source.place ≡ old.source.place + piece_length x = on_to old.source source (c ∷ []) h g text here in
       record {
@@ -217,7 +217,7 @@ module _ (old : Reader) (before : FindingsBuilder) (source : At) (c : ℕ) (h : 
             (listed_if (is_irregular_whitespace c) (piece_span old.source.place x)) refl refl refl errors deferred
             (trivia
             ∙ ap (λ n. calls (listed_if (is_irregular_whitespace c) (record { start = old.source.place; end = n }))
-            before.trivia) place);
+            before.trivia) place) warnings;
         ends_line = refl;
       }
 
@@ -228,9 +228,9 @@ module _ (old : Reader) (before : FindingsBuilder) (source : At) (c : ℕ) (h : 
       → after.trivia
       ≡ handle_newline
       (calls (listed_if (is_separator c && not behind) (record { start = old.source.place; end = source.place }))
-      before.trivia)
+      before.trivia) → after.warnings ≡ before.warnings
       → IsBehindPiece behind old before false (record old { source = source; line_has_ended = true }) after
-  line_end_skipped behind after dark ends errors deferred trivia =
+  line_end_skipped behind after dark ends errors deferred trivia warnings =
       let x = one_character line_terminator true c (rest source) in
       let place : source.place ≡ old.source.place + piece_length x = on_to old.source source (c ∷ []) h g text here in
       let listed = listed_if (is_separator c && not behind) (piece_span old.source.place x) in
@@ -250,7 +250,7 @@ module _ (old : Reader) (before : FindingsBuilder) (source : At) (c : ℕ) (h : 
             (trivia
             ∙ ap (λ n. handle_newline (calls (listed_if (is_separator c && not behind)
             (record { start = old.source.place; end = n })) before.trivia)) place
-            ∙ sym (calls-append listed (line_end ∷ []) before.trivia));
+            ∙ sym (calls-append listed (line_end ∷ []) before.trivia)) warnings;
         ends_line = refl;
       }
 
@@ -296,8 +296,9 @@ pub end_of_line : (old : Reader) (before : FindingsBuilder) (source : At) (c : �
     → IsPlaced old.source
     → IsPlaced source → Reads old.source source c → IsAtLineEnd (rest old.source)
     → after.errors ≡ before.errors → after.deferred ≡ before.deferred → after.trivia ≡ handle_newline before.trivia
+    → after.warnings ≡ before.warnings
     → SkipsEndOfLine old before (record old { source = source; line_has_ended = true }) after
-end_of_line old before source c after h g reads end errors deferred trivia =
+end_of_line old before source c after h g reads end errors deferred trivia warnings =
     let ends : is_line_terminator c ≡ true =
     not_false (is_line_terminator c) (sym (ap (begins (λ d. not (is_line_terminator d))) reads.here) ∙ end) in
     let span : Span = record { start = old.source.place; end = source.place } in
@@ -305,7 +306,7 @@ end_of_line old before source c after h g reads end errors deferred trivia =
     line_end_skipped old before source c h g reads.text reads.here true after
     (line_end_is_dark c ends) ends errors deferred
     (trivia
-    ∙ ap (λ b. handle_newline (calls (listed_if b span) before.trivia)) (sym (and_false (is_separator c)))) in
+    ∙ ap (λ b. handle_newline (calls (listed_if b span) before.trivia)) (sym (and_false (is_separator c)))) warnings in
     record {
       text = p.text;
       source_type = p.source_type;
@@ -339,7 +340,12 @@ end_of_text old before source same none =
             text = s.text;
             source_type = s.source_type;
             gap = record { pieces = []; all = all };
-            adds = record { errors = adds.errors; deferred = adds.deferred; trivia = adds.trivia };
+            adds = record {
+              errors = adds.errors;
+              deferred = adds.deferred;
+              trivia = adds.trivia;
+              warnings = adds.warnings;
+            };
           };
       fewer = omega arith;
     }
@@ -349,11 +355,13 @@ pub line_feed_skipped : (old : Reader) (before : FindingsBuilder) (source : At) 
     → IsPlaced old.source
     → IsPlaced source → source.text ≡ old.source.text → rest old.source ≡ 10 ∷ rest source
     → after.errors ≡ before.errors → after.deferred ≡ before.deferred → after.trivia ≡ handle_newline before.trivia
+    → after.warnings ≡ before.warnings
     → SkipsSome old before (record old { source = source; line_has_ended = true }) after
 unfolding is_white_space is_irregular_whitespace is_line_terminator is_separator
-line_feed_skipped old before source after h g text here errors deferred trivia =
+line_feed_skipped old before source after h g text here errors deferred trivia warnings =
     some_skipped old before (record old { source = source; line_has_ended = true }) after
-    (line_end_skipped old before source 10 h g text here false after refl refl errors deferred trivia) g
+    (line_end_skipped old before source 10 h g text here false after refl refl errors deferred trivia warnings)
+    g
 
 -- TABs and SPs
 blank_run : (table : List Bool) → TellsClass is_blank table → (run : List ℕ) (old : Reader) (source : At)
@@ -374,7 +382,7 @@ blank_run table tells (b ∷ bs) old source found all h g text here later after 
     let blank : is_blank b ≡ true = sym (tells.tells b all.0) ∙ all.1 in
     let p : IsBehindPiece false old found false (record old { source = mid }) found =
     white_skipped old found mid b h placed refl (here ∙ ap (λ cs. b ∷ cs) (sym past.1)) found
-    (blank_is_white b blank) refl refl (rw (blank_is_plain b blank) refl) in
+    (blank_is_white b blank) refl refl (rw (blank_is_plain b blank) refl) refl in
     piece_leads false old found false (record old { source = mid }) found p later after
     (blank_run table tells bs (record old { source = mid }) source found all.2 placed g text past.1 later after s)
 

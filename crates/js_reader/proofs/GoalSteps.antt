@@ -13,9 +13,9 @@ use Rattle.js_kind.specs.TokenParts.{TokenParts}
 use Rattle.js_kind.specs.declared.kind.Kind.{Kind}
 use Rattle.js_kind.specs.declared.kind.Kind.TheVariants.{Ident, LAngle, RAngle, RegExp}
 use Rattle.js_grammar.specs.Angle.{angle_reading, first_left_angle, first_right_angle, right_angles}
-use Rattle.js_grammar.specs.Goals.{GoalReads, ReadsAngle, ReadsFrom, line_has_ended_behind}
+use Rattle.js_grammar.specs.Goals.{GoalReads, ReadsAngle, ReadsFrom, line_has_ended_behind, with_warnings}
 use Rattle.js_grammar.specs.Goals.{ReadsExpression as ExpressionReads}
-use Rattle.js_grammar.specs.Jsx.{jsx_child_reading, jsx_name_reading, jsx_name_up_to}
+use Rattle.js_grammar.specs.Jsx.{jsx_child_reading, jsx_name_reading, jsx_name_up_to, jsx_child_warnings}
 use Rattle.js_grammar.specs.Outcome.{Outcome, outcome_at}
 use Rattle.js_grammar.specs.Reading.{Reading, read_up_to, reported_at, size_of}
 use Rattle.js_grammar.specs.RegularExpression.{behind_body, regular_expression, regular_expression_reading}
@@ -37,8 +37,10 @@ use Rattle.js_spell.specs.RegularExpression.{SpellsExpression}
 use Rattle.js_spell.specs.Spells.{ReadsAs}
 use Rattle.js_spell.proofs.NumericSteps.{leads_to}
 use Rattle.js_reader.specs.Goals.{ReadsExpression, ReadsNameOn}
-use Rattle.js_reader.specs.Reader.{ReadsGoal, ReadsSilently, ReadsWithoutGap, read_token}
+use Rattle.js_reader.specs.Reader.{ReadsGoal, ReadsSilently, ReadsWithoutGap, read_token, ReadsWithGap}
 use Rattle.js_reader.specs.declared.reader.Reader.{Reader}
+use Rattle.js_text.specs.declared.span.Span.{Span}
+use Rattle.js_reader.specs.declared.findings_builder.FindingsBuilder.{FindingsBuilder}
 
 -- This was read of a token from the start on, without a flag, and the source stands behind it.
 pub record ReadTo (text : List ℕ) (start : ℕ) (read : Option Reading) (found : Reading) (new : At) : Type 0 where
@@ -374,30 +376,51 @@ pub child_ordered : {told later : List Diagnostic} (old new : Reader) (kind : Ki
     → old.source.place ≤ new.source.place
 child_ordered old new kind h g spells = goes_on (child_to old new kind h g spells)
 
-pub child_goal : {told later : List Diagnostic} (old new : Reader) (kind : Kind) (token : TokenParts)
-    → IsPlaced old.source → IsPlaced new.source
-    → ReadsAs (jsx_child_reading (rest old.source)) old.source.place old.source new.source told later kind
+pub child_goal : (old new : Reader) (found : FindingsBuilder) (later : List Diagnostic) (warned : List Span)
+    (kind : Kind) (token : TokenParts) → IsPlaced old.source → IsPlaced new.source
+    → ReadsAs (jsx_child_reading (rest old.source)) old.source.place old.source new.source found.errors later kind
+    → warned ≡ found.warnings ++ jsx_child_warnings old.source.place (rest old.source)
     → new.source_type ≡ old.source_type
     → token ≡ read_token old.line_has_ended old.source.place new.source.place kind
     → (before : Option TokenParts) → line_has_ended_behind before ≡ old.line_has_ended
-    → ReadsWithoutGap JsxChild before old told token new later
-child_goal old new kind token h g spells source_type is before same =
+    → ReadsWithGap JsxChild before old found token new (record found { errors = later; warnings = warned })
+child_goal old new found later warned kind token h g spells warns source_type is before same =
     let read = jsx_child_reading (rest old.source) in
     let to = child_to old new kind h g spells in
-    goal_read JsxChild before old new old.line_has_ended kind token to source_type is spells.kind_is spells.reports
-    (subst (λ b. ReadsFrom old.source.text b old.source.place (Some read)
-    (outcome_at old.line_has_ended old.source.place read)) (sym same) (read_from old.line_has_ended to))
+    let child = outcome_at old.line_has_ended old.source.place read in
+    record {
+      read = record {
+        text = to.same;
+        source_type = source_type;
+        end = sym (ap (λ t. t.end) is);
+        outcome = with_warnings (jsx_child_warnings old.source.place (rest old.source)) child;
+        token_is = is ∙ token_of old.line_has_ended kind to spells.kind_is;
+        reads = record {
+          child = child;
+          reads =
+              subst (λ b. ReadsFrom old.source.text b old.source.place (Some read) child) (sym same)
+              (read_from old.line_has_ended to);
+          outcome_is = refl;
+        };
+      };
+      gap = record {
+        pieces = [];
+        have_bytes = tt;
+        up_to = omega arith;
+        comments = refl;
+        irregular = refl;
+        errors = spells.reports;
+        deferred = sym (append-nil found.deferred);
+        trivia = refl;
+        warnings = warns;
+      };
+    }
 
 -- which has no escape
 pub child_unescaped : (before : Option TokenParts) (old new : Reader) (token : TokenParts)
     → ReadsGoal JsxChild before old token new → token.escaped ≡ false
 child_unescaped before old new token r =
     let here = rest old.source in
-    ap (λ t. t.escaped) r.token_is
+    ap (λ t. t.escaped) r.token_is ∙ ap (λ o. o.token.escaped) r.reads.outcome_is
     ∙ (from_takes old.source.text (line_has_ended_behind before) old.source.place (Some (jsx_child_reading here))
-    r.outcome (child_is_read here) r.reads).escaped
-
--- a child of JSX starts where the reader stood
-pub child_starts : (before : Option TokenParts) (old new : Reader) (token : TokenParts)
-    → (r : ReadsGoal JsxChild before old token new) → old.source.place ≤ r.outcome.token.start
-child_starts before old new token r = omega (arith, ap (λ o. o.token.start) r.reads.outcome_is)
+    r.reads.child (child_is_read here) r.reads.reads).escaped

@@ -77,8 +77,10 @@ pub behind_line : (kind : CommentKind) → is_line_kind kind ≡ true → (old :
     → after.trivia
     ≡ add_comment
     (found_in old.source.text kind (record { start = old.source.place; end = new.source.place })) before.trivia
+    → after.warnings ≡ before.warnings
     → IsBehindLine kind old before new after
-behind_line kind line old before mid new after h g takes text left source_type line_has_ended errors deferred trivia =
+behind_line kind line old before mid new after h g takes text left source_type line_has_ended errors deferred trivia
+    warnings =
     let marked = line_marked kind line old.source mid new.source h g takes text left in
     let placed =
     placed_in old.source.text kind old.source.place new.source.place (opening_mark kind)
@@ -92,6 +94,7 @@ behind_line kind line old before mid new after h g takes text left source_type l
       onward = omega (arith, placed.marks);
       errors = errors;
       deferred = deferred;
+      warnings = warnings;
       trivia =
           trivia
           ∙ ap (λ f. add_comment f before.trivia)
@@ -111,9 +114,10 @@ pub line_piece : (kind : CommentKind) (piece_is : PieceKind) (behind : Bool) (ol
     → is_line_comment piece_is ≡ true → ((place : ℕ) → piece_diagnostics place piece_is ≡ [])
     → more.errors ≡ after.errors
     → more.deferred ≡ after.deferred ++ piece_deferred old.source_type old.source.place piece_is
-    → more.trivia ≡ after.trivia
+    → more.trivia ≡ after.trivia → more.warnings ≡ after.warnings
     → IsBehindPiece behind old before true new more
-line_piece kind piece_is behind old before new after more h g line is items ends silent errors deferred trivia =
+line_piece kind piece_is behind old before new after more h g line is items ends silent errors deferred trivia
+    warnings =
     let x = line_comment piece_is old.line_has_ended (rest old.source) in
     record {
       text = line.text;
@@ -139,6 +143,7 @@ line_piece kind piece_is behind old before new after more h g line is items ends
             trivia ∙ line.trivia
             ∙ ap (λ is. calls is before.trivia)
             (sym (append-nil (items_of_kind piece_is old.source.place behind x) ∙ items old.source.place x));
+        warnings = warnings ∙ line.warnings;
       };
       ends_line = ends;
     }
@@ -180,7 +185,7 @@ slashes old before new after h g line =
     (ap (piece old.source_type old.line_has_ended) line.here
     ∙ piece-line_comment old.source_type old.line_has_ended line.behind
     ∙ ap (λ cs. Some (line_comment single_line_comment old.line_has_ended cs)) (sym line.here)) (λ place x. refl) refl
-    (λ place. refl) refl (sym (append-nil after.deferred)) refl
+    (λ place. refl) refl (sym (append-nil after.deferred)) refl refl
 
 -- an HTML-like comment, where it is the only piece that may stand here
 html_items : (kind : CommentKind) → is_html kind ≡ true → (place : ℕ) (x : Piece)
@@ -229,16 +234,16 @@ pub html_piece : (kind : CommentKind) → is_html kind ≡ true → (old : Reade
     ≡ after.deferred
     ++ html_deferred old.source_type
     (record { start = old.source.place; end = old.source.place + opening_length kind })
-    → more.trivia ≡ after.trivia
+    → more.trivia ≡ after.trivia → more.warnings ≡ after.warnings
     → IsBehindPiece false old before true new more
-html_piece kind html old before new after more h g line only errors deferred trivia =
+html_piece kind html old before new after more h g line only errors deferred trivia warnings =
     let begins : is_prefix (opening_mark kind) (rest old.source) ≡ true =
     ap (is_prefix (opening_mark kind)) line.here ∙ prefix_of (opening_mark kind) line.behind in
     line_piece kind (piece_kind kind) false old before new after more h g line
     (only
     ∙ ap (λ b. if b then Some (line_comment (piece_kind kind) old.line_has_ended (rest old.source)) else None) begins)
     (html_items kind html) (html_ends kind html) (html_silent kind html) errors
-    (deferred ∙ ap (λ ds. after.deferred ++ ds) (html_reports kind html old)) trivia
+    (deferred ∙ ap (λ ds. after.deferred ++ ds) (html_reports kind html old)) trivia warnings
 
 pub no_html : (kind : CommentKind) (old : Reader) → IsOnlyPiece kind old
     → is_prefix (opening_mark kind) (rest old.source) ≡ false

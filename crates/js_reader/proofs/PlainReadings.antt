@@ -111,7 +111,7 @@ line_feed_passed start now next had has s here text g = record {
   leads = λ r before later found skips.
       s.leads r before later found
       ((line_feed_skipped (moved r now has) (ends_told s.ends before) next (ends_told (suc s.ends) before) s.placed g
-      text here refl refl refl).leads later found skips);
+      text here refl refl refl refl).leads later found skips);
 }
 
 -- the gap has ended

@@ -209,6 +209,9 @@ gap_told previous old before mid told outcome ds later f h gap start found repor
           gap.skips.adds.deferred ∙ ap (λ es. before.deferred ++ es)
           (sym (ap (λ (x : Findings). x.deferred) found ∙ append-nil (gap_deferred t old.source.place pieces)));
       trivia = gap.skips.adds.trivia;
+      warnings =
+          gap.skips.adds.warnings ∙ sym (append-nil before.warnings)
+          ∙ ap (λ ws. before.warnings ++ ws) (sym (ap (λ (x : Findings). x.warnings) found));
     }
 
 -- the place behind the token that was read here
@@ -348,28 +351,7 @@ goal_hashbang previous old new found token line_has_ended h = record {
     errors = sym (append-nil found.errors);
     deferred = sym (append-nil found.deferred);
     trivia = refl;
-  };
-}
-
--- a reading without a gap from the place on, as one with a gap that has nothing
-pub with_no_gap : (goal : Goal) (previous : Option TokenParts) (old new : Reader) (found : FindingsBuilder)
-    (token : TokenParts) (later : List Diagnostic)
-    → (r : ReadsWithoutGap goal previous old found.errors token new later)
-    → old.source.place ≤ r.read.outcome.token.start
-    → ReadsWithGap goal previous old found token new (record found { errors = later })
-with_no_gap goal previous old new found token later r onward = record {
-  read = r.read;
-  gap = record {
-    pieces = [];
-    have_bytes = tt;
-    up_to = onward;
-    comments = ap (λ (x : Findings). x.comments) r.findings;
-    irregular = ap (λ (x : Findings). x.irregular) r.findings;
-    errors = r.errors;
-    deferred =
-        sym (append-nil found.deferred)
-        ∙ ap (λ ds. found.deferred ++ ds) (sym (ap (λ (x : Findings). x.deferred) r.findings));
-    trivia = refl;
+    warnings = sym (append-nil found.warnings);
   };
 }
 

@@ -20,19 +20,19 @@ pub calls-append : (xs ys : List Item) (s : Trivia) → calls (xs ++ ys) s ≡ c
 calls-append [] ys s = refl
 calls-append (x ∷ xs) ys s = calls-append xs ys (call x s)
 
-pub extends_none : (ds : List Diagnostic) → Extends ds ds
+pub extends_none : {A : Type 0} (ds : List A) → Extends ds ds
 extends_none ds = record { more = []; is_more = sym (append-nil ds) }
 
-pub extends_same : (a b : List Diagnostic) → b ≡ a → Extends a b
+pub extends_same : {A : Type 0} (a b : List A) → b ≡ a → Extends a b
 extends_same a b same = record { more = []; is_more = same ∙ sym (append-nil a) }
 
 -- whatever a call answers
-pub either_way : {A : Type 0} {a b : List Diagnostic} (r : Result A AllocError) → IfOk r (λ x. Extends a b)
+pub either_way : {A B : Type 0} {a b : List B} (r : Result A AllocError) → IfOk r (λ x. Extends a b)
     → OnErr r (Extends a b) → Extends a b
 either_way (Ok x) h e = h
 either_way (Err x) h e = e
 
-pub extends_on : (a b c : List Diagnostic) → Extends a b → Extends b c → Extends a c
+pub extends_on : {A : Type 0} (a b c : List A) → Extends a b → Extends b c → Extends a c
 extends_on a b c f g = record {
   more = f.more ++ g.more;
   is_more = g.is_more ∙ ap (λ ds. ds ++ g.more) f.is_more ∙ append_assoc a f.more g.more;
@@ -44,6 +44,7 @@ grows_none found = record {
   deferred = extends_none found.deferred;
   items = [];
   trivia = refl;
+  warnings = extends_none found.warnings;
 }
 
 pub grows_on : (a b c : FindingsBuilder) → Grows a b → Grows b c → Grows a c
@@ -52,23 +53,30 @@ grows_on a b c f g = record {
   deferred = extends_on a.deferred b.deferred c.deferred f.deferred g.deferred;
   items = f.items ++ g.items;
   trivia = g.trivia ∙ ap (calls g.items) f.trivia ∙ sym (calls-append f.items g.items a.trivia);
+  warnings = extends_on a.warnings b.warnings c.warnings f.warnings g.warnings;
 }
 
 -- items alone
 pub grows_by : (a b : FindingsBuilder) (items : List Item) → b.errors ≡ a.errors → b.deferred ≡ a.deferred
-    → b.trivia ≡ calls items a.trivia → Grows a b
-grows_by a b items errors deferred trivia = record {
+    → b.trivia ≡ calls items a.trivia → b.warnings ≡ a.warnings → Grows a b
+grows_by a b items errors deferred trivia warnings = record {
   errors = extends_same a.errors b.errors errors;
   deferred = extends_same a.deferred b.deferred deferred;
   items = items;
   trivia = trivia;
+  warnings = extends_same a.warnings b.warnings warnings;
 }
 
 -- what is reported alone
 pub grows_reports : (a b : FindingsBuilder) → Extends a.errors b.errors → Extends a.deferred b.deferred
-    → b.trivia ≡ a.trivia → Grows a b
-grows_reports a b errors deferred trivia =
-    record { errors = errors; deferred = deferred; items = []; trivia = trivia }
+    → b.trivia ≡ a.trivia → b.warnings ≡ a.warnings → Grows a b
+grows_reports a b errors deferred trivia warnings = record {
+  errors = errors;
+  deferred = deferred;
+  items = [];
+  trivia = trivia;
+  warnings = extends_same a.warnings b.warnings warnings;
+}
 
 pub adds_none : (behind : Bool) (t : SourceType) (place : ℕ) (found : FindingsBuilder)
     → AddsPieces behind t place [] found found
@@ -76,14 +84,15 @@ adds_none behind t place found = record {
   errors = sym (append-nil found.errors);
   deferred = sym (append-nil found.deferred);
   trivia = refl;
+  warnings = refl;
 }
 
 -- a piece that adds these items, and reports nothing
 pub adds_items : (behind : Bool) (t : SourceType) (place : ℕ) (x : Piece) (a b : FindingsBuilder) (items : List Item)
     → items_of_kind x.kind place behind x ≡ items → piece_diagnostics place x.kind ≡ []
     → piece_deferred t place x.kind ≡ [] → b.errors ≡ a.errors → b.deferred ≡ a.deferred
-    → b.trivia ≡ calls items a.trivia → AddsPieces behind t place (x ∷ []) a b
-adds_items behind t place x a b items same silent none errors deferred trivia = record {
+    → b.trivia ≡ calls items a.trivia → b.warnings ≡ a.warnings → AddsPieces behind t place (x ∷ []) a b
+adds_items behind t place x a b items same silent none errors deferred trivia warnings = record {
   errors =
       errors ∙ sym (append-nil a.errors)
       ∙ ap (λ ds. a.errors ++ ds) (sym (append-nil (piece_diagnostics place x.kind) ∙ silent));
@@ -91,6 +100,7 @@ adds_items behind t place x a b items same silent none errors deferred trivia = 
       deferred ∙ sym (append-nil a.deferred)
       ∙ ap (λ ds. a.deferred ++ ds) (sym (append-nil (piece_deferred t place x.kind) ∙ none));
   trivia = trivia ∙ ap (λ is. calls is a.trivia) (sym (append-nil (items_of_kind x.kind place behind x) ∙ same));
+  warnings = warnings;
 }
 
 -- a piece, and then more pieces
@@ -115,6 +125,7 @@ adds_behind behind t place x xs a b c f g =
       trivia =
           g.trivia ∙ ap (calls later) (f.trivia ∙ ap (λ is. calls is a.trivia) (append-nil items))
           ∙ sym (calls-append items later a.trivia);
+      warnings = g.warnings ∙ f.warnings;
     }
 
 -- whether the last of the pieces is a line comment
@@ -171,9 +182,11 @@ adds_further behind t place xs ys a b c f g =
           g.trivia ∙ ap (calls (items_from there behind_there ys)) f.trivia
           ∙ sym (calls-append (items_from place behind xs) (items_from there behind_there ys) a.trivia)
           ∙ ap (λ is. calls is a.trivia) (sym (items_from-append place behind xs ys));
+      warnings = g.warnings ∙ f.warnings;
     }
 
 -- Findings are the same, list by list.
 pub same_findings : (a b : Findings) → a.diagnostics ≡ b.diagnostics → a.deferred ≡ b.deferred
-    → a.comments ≡ b.comments → a.irregular ≡ b.irregular → a ≡ b
-same_findings a b diagnostics deferred comments irregular = rw (diagnostics, deferred, comments, irregular) refl
+    → a.comments ≡ b.comments → a.irregular ≡ b.irregular → a.warnings ≡ b.warnings → a ≡ b
+same_findings a b diagnostics deferred comments irregular warnings =
+    rw (diagnostics, deferred, comments, irregular, warnings) refl

@@ -147,6 +147,7 @@ reported_skips old before line told found noted new after h g module_is line_end
               deferred =
                   ap (λ (f : FindingsBuilder). f.deferred) noted_is ∙ is.deferred ∙ sym (append-nil before.deferred);
               trivia = ap (λ (f : FindingsBuilder). f.trivia) noted_is ∙ is.trivia;
+              warnings = ap (λ (f : FindingsBuilder). f.warnings) noted_is ∙ is.warnings;
             }) later;
       },
       ends_in_gap true told new noted after gap,
@@ -257,7 +258,7 @@ any_flag : (ends : Bool) (t : SourceType) (line_had_ended : Bool) (cs : List ℕ
     → Pieces (whole_gap_piece t) line_had_ended cs pieces line_has_ended left → piece t line_had_ended cs ≡ None
     → AddsPieces false t place pieces before after → AddsPieces ends t place pieces before after
 any_flag ends t line_had_ended cs place [] line_has_ended left before after h none a =
-    record { errors = a.errors; deferred = a.deferred; trivia = a.trivia }
+    record { errors = a.errors; deferred = a.deferred; trivia = a.trivia; warnings = a.warnings }
 any_flag ends t line_had_ended cs place (x ∷ xs) line_has_ended left before after h none a =
     by_test (is_reported t line_had_ended cs) refl
   where
@@ -269,7 +270,12 @@ any_flag ends t line_had_ended cs place (x ∷ xs) line_has_ended left before af
         let there : AddsPieces false t place (line_comment reported_comment line_had_ended cs ∷ xs) before after =
         subst (λ z. AddsPieces false t place (z ∷ xs) before after) (sym same) a in
         subst (λ z. AddsPieces ends t place (z ∷ xs) before after) same
-        (record { errors = there.errors; deferred = there.deferred; trivia = there.trivia })
+        (record {
+          errors = there.errors;
+          deferred = there.deferred;
+          trivia = there.trivia;
+          warnings = there.warnings;
+        })
     by_test false e = absurd (let both : None ≡ Some x = sym none ∙ sym (unreported t line_had_ended cs e) ∙ h.0 in cc)
 
 -- a longest gap, and then the rest of the whole gap

@@ -16,6 +16,7 @@ findings_in found = record {
   deferred = found.deferred;
   comments = found.trivia.attachment.attached;
   irregular = found.trivia.irregular_whitespaces;
+  warnings = found.warnings;
 }
 
 -- how much that was
@@ -25,6 +26,7 @@ lengths_in lengths = record {
   deferred = lengths.deferred;
   comments = lengths.trivia.comments;
   irregular = lengths.trivia.irregular;
+  warnings = lengths.warnings;
 }
 
 -- how much a builder has found
@@ -33,6 +35,7 @@ found_lengths found = record {
   errors = length found.errors;
   deferred = length found.deferred;
   trivia = lengths_of found.trivia;
+  warnings = length found.warnings;
 }
 
 -- what it has found up to these lengths
@@ -41,6 +44,7 @@ found_up_to to found = record {
   errors = take to.errors found.errors;
   deferred = take to.deferred found.deferred;
   trivia = cut_to to.trivia found.trivia;
+  warnings = take to.warnings found.warnings;
 }
 
 -- The builder of trivia has at least as much, and its ranges are of comments that stay.
@@ -57,14 +61,15 @@ start_of source found = record { position = source.place; found = found_lengths 
 abbrev pub reported : List Diagnostic → FindingsBuilder → FindingsBuilder
 reported more found = record found { errors = found.errors ++ more }
 
--- Some diagnostics may have been reported.
-pub record Extends (old new : List Diagnostic) : Type 0 where
-  pub more : List Diagnostic
+-- Some items may have been added.
+pub record Extends {A : Type 0} (old new : List A) : Type 0 where
+  pub more : List A
   pub is_more : new ≡ old ++ more
 
--- Some diagnostics may have been reported, and the builder of trivia may have been told of some items.
+-- Something may have been reported or warned of, and the builder of trivia may have been told of some items.
 pub record Grows (old new : FindingsBuilder) : Type 0 where
   pub errors : Extends old.errors new.errors
   pub deferred : Extends old.deferred new.deferred
   pub items : List Item
   pub trivia : new.trivia ≡ calls items old.trivia
+  pub warnings : Extends old.warnings new.warnings

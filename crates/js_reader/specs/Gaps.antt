@@ -63,3 +63,4 @@ pub record AddsPieces (behind : Bool) (t : SourceType) (place : ℕ) (pieces : L
   pub errors : new.errors ≡ old.errors ++ gap_diagnostics place pieces
   pub deferred : new.deferred ≡ old.deferred ++ gap_deferred t place pieces
   pub trivia : new.trivia ≡ calls (items_from place behind pieces) old.trivia
+  pub warnings : new.warnings ≡ old.warnings

@@ -84,6 +84,7 @@ pub record IsBehindLine (kind : CommentKind) (old : Reader) (before : FindingsBu
   pub onward : old.source.place + opening_length kind ≤ new.source.place
   pub errors : after.errors ≡ before.errors
   pub deferred : after.deferred ≡ before.deferred
+  pub warnings : after.warnings ≡ before.warnings
   pub trivia : after.trivia
       ≡ add_comment
       (found_comment old.source.place kind (line_comment single_line_comment old.line_has_ended (rest old.source)))
@@ -210,6 +211,7 @@ pub record AddsGap (previous : Option TokenParts) (t : SourceType) (place : ℕ)
   pub errors : after.errors ≡ before.errors ++ outcome.findings.diagnostics
   pub deferred : after.deferred ≡ before.deferred ++ outcome.findings.deferred
   pub trivia : after.trivia ≡ calls (items_of place pieces) before.trivia
+  pub warnings : after.warnings ≡ before.warnings ++ outcome.findings.warnings
 
 -- A reading of a goal, behind the token `previous`: the token is that of the outcome, and the reader stands at its end.
 pub record ReadsGoal (goal : Goal) (previous : Option TokenParts) (old : Reader) (token : TokenParts) (new : Reader)

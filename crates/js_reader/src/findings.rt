@@ -17,6 +17,8 @@ pub struct Findings {
     pub comments: CommentList,
     /// Irregular white space.
     pub irregular: SpanList,
+    /// What was warned of: each `>` in the text of JSX.
+    pub warnings: SpanList,
 }
 
 impl Model for Findings {
@@ -29,6 +31,7 @@ impl Model for Findings {
       deferred = f.deferred;
       comments = f.comments;
       irregular = f.irregular;
+      warnings = f.warnings;
     } };
 }
 
@@ -42,6 +45,7 @@ impl Findings {
             deferred: DiagnosticList::new_in(alloc),
             comments: CommentList::new_in(alloc),
             irregular: SpanList::new_in(alloc),
+            warnings: SpanList::new_in(alloc),
         }
     }
 }

@@ -6,17 +6,18 @@ ghost use Rattle.js_trivia.specs.Trivia.{no_trivia, AreRangesUpTo, CanCutBack};
 ghost use Rattle.js_reader.specs.Found.{HasFound, findings_in, found_lengths, found_up_to, lengths_in};
 
 use crate::findings::{Findings, items_from};
-use js_text::DiagnosticList;
+use js_text::{DiagnosticList, SpanList};
 use js_trivia::{TriviaBuilder, TriviaLengths};
 use std::alloc::{AllocError, Global};
 
-/// What was reported, what was reported for the case that the source is a module, and comments and irregular white
-/// space.
+/// What was reported, what was reported for the case that the source is a module, comments and irregular white space,
+/// and what was warned of.
 #[derive(Drop)]
 pub struct FindingsBuilder {
     pub errors: DiagnosticList,
     pub deferred: DiagnosticList,
     pub trivia: TriviaBuilder,
+    pub warnings: SpanList,
 }
 
 /// How much was found.
@@ -25,17 +26,19 @@ pub struct FindingsLengths {
     pub errors: usize,
     pub deferred: usize,
     pub trivia: TriviaLengths,
+    pub warnings: usize,
 }
 
 impl FindingsBuilder {
     /// Nothing is found yet. It takes no memory.
     pub fn new_in(alloc: Global) -> FindingsBuilder
-        ensures { result ≡ record { errors = []; deferred = []; trivia = no_trivia } }
+        ensures { result ≡ record { errors = []; deferred = []; trivia = no_trivia; warnings = [] } }
     {
         FindingsBuilder {
             errors: DiagnosticList::new_in(alloc),
             deferred: DiagnosticList::new_in(alloc),
             trivia: TriviaBuilder::new_in(alloc),
+            warnings: SpanList::new_in(alloc),
         }
     }
 
@@ -50,6 +53,7 @@ impl FindingsBuilder {
             errors: self.errors.len(),
             deferred: self.deferred.len(),
             trivia: self.trivia.lengths(),
+            warnings: self.warnings.len(),
         }
     }
 
@@ -57,9 +61,10 @@ impl FindingsBuilder {
     /// comments that stay, and what stays starts before the token that was the last one.
     pub fn can_cut_back(&self, to: &FindingsLengths) -> bool
         ensures { IsTrue result ↔ (to.now.deferred ≤ length self.now.deferred)
+            × (to.now.warnings ≤ length self.now.warnings)
             × CanCutBack to.now.trivia to.now.trivia.previous.start self.now.trivia }
     {
-        if to.deferred > self.deferred.len() {
+        if to.deferred > self.deferred.len() || to.warnings > self.warnings.len() {
             return false;
         }
         self.trivia
@@ -73,6 +78,7 @@ impl FindingsBuilder {
     {
         self.errors.truncate(to.errors);
         self.deferred.truncate(to.deferred);
+        self.warnings.truncate(to.warnings);
         self.trivia.cut_back(to.trivia);
     }
 
@@ -89,6 +95,7 @@ impl FindingsBuilder {
             deferred: items_from(alloc, self.deferred.as_slice(), then.deferred)?,
             comments: items_from(alloc, self.trivia.comments(), comments)?,
             irregular: items_from(alloc, self.trivia.irregular_whitespaces(), irregular)?,
+            warnings: items_from(alloc, self.warnings.as_slice(), then.warnings)?,
         })
     }
 }

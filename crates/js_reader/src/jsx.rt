@@ -11,7 +11,7 @@ ghost use Rattle.js_grammar.specs.StringItems.{is_quote};
 ghost use Rattle.js_reader.specs.Decoded.{HasValue, KeepsValues};
 ghost use Rattle.js_reader.specs.Goals.{ReadsAttributeHere, ReadsNameOn, ReadsStringHere};
 ghost use Rattle.js_reader.specs.Found.{Grows};
-ghost use Rattle.js_reader.specs.Reader.{ReadsWithGap, ReadsWithoutGap, MovesOn, ReadsInPart};
+ghost use Rattle.js_reader.specs.Reader.{ReadsWithGap, MovesOn, ReadsInPart};
 
 use crate::decoded::DecodedValues;
 use crate::findings_builder::FindingsBuilder;
@@ -51,16 +51,17 @@ impl Reader<'_> {
     }
 
     /// Reads what stands between two tags of JSX.
-    pub fn read_child(&mut self, errors: &mut DiagnosticList) -> Result<Token, AllocError>
+    pub fn read_child(&mut self, found: &mut FindingsBuilder) -> Result<Token, AllocError>
         requires { IsPlaced self.old.source }
-        ensures ok { IfOk result (λ token. (before : Option TokenParts)
-            → line_has_ended_behind before ≡ self.old.line_has_ended
-            → ReadsWithoutGap Goal.JsxChild before self.old errors.old token self.new errors.new) }
-        ensures err { OnErr result (ReadsInPart self.old errors.old self.new errors.new) }
+        ensures ok { IfOk result (λ token. (previous : Option TokenParts)
+            → line_has_ended_behind previous ≡ self.old.line_has_ended
+            → ReadsWithGap Goal.JsxChild previous self.old found.old token self.new found.new) }
+        ensures grown { Grows found.old found.new }
+        ensures err { OnErr result (MovesOn self.old self.new) }
         ensures placed { IsPlaced self.new.source }
     {
         let start = self.source.offset();
-        let kind = read_jsx_child(&mut self.source, errors)?;
+        let kind = read_jsx_child(&mut self.source, &mut found.errors, &mut found.warnings)?;
         Ok(token_from(&self.source, start, kind, self.line_has_ended))
     }
 

@@ -521,7 +521,7 @@ impl Reader<'_> {
                 None => self.read_behind_gap(found, decoded),
             },
             Goal::Next => self.read_behind_gap(found, decoded),
-            Goal::JsxChild => self.read_child(&mut found.errors),
+            Goal::JsxChild => self.read_child(found),
             Goal::JsxAttributeValue => self.read_attribute_value(found, decoded),
             _ => unreachable!(),
         }

@@ -214,8 +214,9 @@ onward_regex text t TypeScriptLeftAngle before place o onward reads = absurd (cc
 onward_regex text t TypeScriptRightAngle before place o onward reads = absurd (cc)
 onward_regex text t JsxIdentifier before place o onward reads = absurd (cc)
 onward_regex text t JsxChild before place o onward reads =
-    (from_plain text _ place (Some (jsx_child_reading (from_place text place))) o
-    (child_plain (from_place text place)) reads).0
+    ap (λ x. x.regex) reads.outcome_is
+    ∙ (from_plain text _ place (Some (jsx_child_reading (from_place text place))) reads.child
+    (child_plain (from_place text place)) reads.reads).0
 onward_regex text t JsxAttributeValue before place o onward reads = attribute_regex text t before place o reads
 
 -- names are no hashbang comments

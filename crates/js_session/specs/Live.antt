@@ -18,6 +18,7 @@ row_findings row = record {
   deferred = row.deferred;
   comments = row.comments;
   irregular = row.irregular;
+  warnings = row.warnings;
 }
 
 -- what the reading of a row gave
@@ -37,6 +38,7 @@ row_of command place taken outcome = record {
   deferred = outcome.findings.deferred;
   comments = outcome.findings.comments;
   irregular = outcome.findings.irregular;
+  warnings = outcome.findings.warnings;
 }
 
 -- the live tokens, and what is live of what was found
@@ -125,6 +127,7 @@ report_live r = record {
     deferred = r.deferred;
     comments = r.comments;
     irregular = r.irregular;
+    warnings = r.warnings;
   };
 }
 
@@ -138,4 +141,5 @@ report_with rows collected now = record {
   deferred = now.findings.deferred;
   comments = now.findings.comments;
   irregular = now.findings.irregular;
+  warnings = now.findings.warnings;
 }

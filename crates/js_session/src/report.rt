@@ -19,6 +19,7 @@ pub struct Report {
     pub deferred: DiagnosticList,
     pub comments: CommentList,
     pub irregular: SpanList,
+    pub warnings: SpanList,
 }
 
 impl Report {
@@ -36,6 +37,7 @@ impl Report {
             deferred,
             comments,
             irregular,
+            warnings,
         } = found;
         Report {
             rows,
@@ -45,6 +47,7 @@ impl Report {
             deferred,
             comments,
             irregular,
+            warnings,
         }
     }
 }

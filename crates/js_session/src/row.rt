@@ -32,6 +32,8 @@ pub struct Row {
     pub comments: CommentList,
     /// The irregular white space of its gap.
     pub irregular: SpanList,
+    /// What the reading warned of.
+    pub warnings: SpanList,
 }
 
 impl Row {
@@ -53,6 +55,7 @@ impl Row {
             deferred,
             comments,
             irregular,
+            warnings,
         } = found;
         Row {
             command,
@@ -65,6 +68,7 @@ impl Row {
             deferred,
             comments,
             irregular,
+            warnings,
         }
     }
 
@@ -92,6 +96,7 @@ impl Row {
             deferred: self.deferred.copy(alloc)?,
             comments: self.comments.copy(alloc)?,
             irregular: self.irregular.copy(alloc)?,
+            warnings: self.warnings.copy(alloc)?,
         })
     }
 

@@ -14,8 +14,9 @@ use Rattle.js_kind.specs.declared.kind.Kind.TheVariants.{ShiftRight3, ShiftRight
 use Rattle.js_grammar.specs.Angle.{angle_reading, punctuator_reading, right_angles}
 use Rattle.js_kind.specs.Kinds.{kind_text}
 use Rattle.js_grammar.specs.Gap.{is_prefix}
-use Rattle.js_grammar.specs.Jsx.{begins_child, ends_jsx_name, ends_jsx_text, jsx_child_reading, reported}
+use Rattle.js_grammar.specs.Jsx.{begins_child, ends_jsx_name, ends_jsx_text, jsx_child_reading, reported, angles_among}
 use Rattle.js_grammar.specs.Jsx.{jsx_string_before, jsx_string_reading, jsx_text_before, jsx_text_reading}
+use Rattle.js_grammar.specs.Jsx.{jsx_child_warnings}
 use Rattle.js_grammar.proofs.GoalReadings.{Leaves, leaves_from_first}
 use Rattle.js_grammar.specs.Name.{is_no_part}
 use Rattle.js_grammar.specs.NumberReads.{empty_span}
@@ -25,11 +26,11 @@ use Rattle.js_grammar.specs.UnicodeEscape.{left_curly_bracket}
 use Rattle.js_grammar.proofs.NumberItems.{true_or_false}
 use Rattle.js_source.specs.Runs.{PassesRun, TellsClass}
 use Rattle.js_source.specs.Search.{matches_at}
-use Rattle.js_source.specs.Source.{At, rest, HasFirstByte, IsPlaced, Reads, StepsPast}
+use Rattle.js_source.specs.Source.{At, rest, HasFirstByte, IsPlaced, Reads, StepsPast, BeginsWith}
 use Rattle.js_source.proofs.Places.{ascii_next, begins_with}
 use Rattle.js_source.proofs.RunSteps.{from_first-run}
 use Rattle.js_spell.specs.Spells.{ReadsAs}
-use Rattle.js_spell.specs.Goals.{SpellsAngle, SpellsJsxString, StopsAt, TakesEquals}
+use Rattle.js_spell.specs.Goals.{SpellsAngle, SpellsJsxString, StopsAt, TakesEquals, text_warnings}
 use Rattle.js_spell.specs.Goals.{TakesJsxQuote, ends_of, equals_kind}
 use Rattle.js_spell.specs.declared.jsx.Text.{Text}
 use Rattle.js_spell.specs.declared.jsx.Text.TheVariants.{Child, DoubleQuoted, SingleQuoted}
@@ -247,19 +248,19 @@ stopped within b text stop =
     let found = begins_with b text stop.next in
     ap (from_first (ends_of within)) found.1 ∙ from_first-found (ends_of within) b found.0 stop.ends ∙ sym found.1
 
-text_before : (old new : At) (b : ℕ) → rest new ≡ from_first ends_jsx_text (rest old) → StopsAt Child b (rest new)
+text_before : (old new : At) (b : ℕ) → rest new ≡ from_first ends_jsx_text (rest old) → BeginsWith b (rest new)
     → (ds : List ℕ) × (rest new ≡ b ∷ ds) × (jsx_text_reading (rest old) ≡ jsx_text_before (rest old) (b ∷ ds))
-text_before old new b left stop =
-    let found = begins_with b (rest new) stop.next in
+text_before old new b left next =
+    let found = begins_with b (rest new) next in
     (found.0, found.1, ap (jsx_text_before (rest old)) (sym left ∙ found.1))
 
 pub text_before_other : (old new : At) (before after : List Diagnostic) (b at : ℕ) → IsPlaced old → IsPlaced new
     → new.text ≡ old.text → rest new ≡ from_first ends_jsx_text (rest old)
-    → StopsAt Child b (rest new) → begins_child b ≡ false → at ≡ new.place
+    → BeginsWith b (rest new) → begins_child b ≡ false → at ≡ new.place
     → after ≡ before ++ UnexpectedJsxEnd b (empty_span at) ∷ []
     → ReadsAs (jsx_text_reading (rest old)) old.place old new before after Eof
-text_before_other old new before after b at h g text left stop none is e =
-    let found = text_before old new b left stop in
+text_before_other old new before after b at h g text left next none is e =
+    let found = text_before old new b left next in
     let size = size_of (read_up_to Eof (rest old) (b ∷ found.0)) in
     let read : jsx_text_reading (rest old)
     ≡ reported Eof (rest old) (b ∷ found.0) (UnexpectedJsxEnd b (empty_span size)) = found.2 ∙ (rw none refl) in
@@ -372,3 +373,13 @@ child_of_text r old mid behind new before after angle first bracket second reads
     child_text (rest old) angle (ap (λ s. begins (λ c. c == left_curly_bracket) (rest s)) (sym first) ∙ bracket) in
     subst (λ read. IfOk r (ReadsAs read old.place old new before after)) (sym text)
     (subst (λ s. IfOk r (ReadsAs (jsx_text_reading (rest s)) s.place s new before after)) same reads)
+
+-- what it is warned of is what its text is
+pub warnings_of_text : (old mid behind : At) → begins (λ c. c == less_than_sign) (rest old) ≡ false → mid ≡ old
+    → begins (λ c. c == left_curly_bracket) (rest mid) ≡ false → behind ≡ mid
+    → text_warnings behind.place (rest behind) ≡ jsx_child_warnings old.place (rest old)
+warnings_of_text old mid behind angle first bracket second =
+    let text : jsx_child_reading (rest old) ≡ jsx_text_reading (rest old) =
+    child_text (rest old) angle (ap (λ s. begins (λ c. c == left_curly_bracket) (rest s)) (sym first) ∙ bracket) in
+    ap (λ (s : At). text_warnings s.place (rest s)) (second ∙ first)
+    ∙ ap (λ (r : Reading). angles_among old.place r.taken) (sym text)

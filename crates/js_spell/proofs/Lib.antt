@@ -1,4 +1,5 @@
 pub mod BreakSteps
+pub mod ChildSteps
 pub mod CommentSteps
 pub mod DecodeSteps
 pub mod EndSteps

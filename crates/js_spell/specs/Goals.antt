@@ -1,13 +1,15 @@
 -- What readers of angles and of parts of JSX give, and their steps.
-use Rattle.std.specs.Prelude.{◌≡◌, ℕ, Bool, true, false, List, [], ◌∷◌, ◌==◌, Some, None}
+use Rattle.std.specs.Prelude.{◌≡◌, ℕ, Bool, true, false, List, [], ◌∷◌, ◌++◌, ◌==◌, ◌||◌, Option, Some, None}
 use Rattle.std.specs.Prelude.{if◌then◌else◌, drop}
 use Rattle.std.specs.Option.{option_map_or}
 use Rattle.js_text.specs.Ascii.{apostrophe, equals_sign, greater_than_sign, quotation_mark}
-use Rattle.js_text.specs.Characters.{begins}
+use Rattle.js_text.specs.Characters.{begins, from_first}
 use Rattle.js_text.specs.declared.diagnostic.Diagnostic.{Diagnostic}
+use Rattle.js_text.specs.declared.span.Span.{Span}
 use Rattle.js_kind.specs.declared.kind.Kind.{Kind}
 use Rattle.js_grammar.specs.Angle.{angle_reading, right_angles}
-use Rattle.js_grammar.specs.Jsx.{ends_jsx_text, jsx_name_reading, jsx_name_up_to, jsx_string_reading}
+use Rattle.js_grammar.specs.Jsx.{angles_among, ends_jsx_text, jsx_name_reading, jsx_name_up_to, jsx_string_reading}
+use Rattle.js_grammar.specs.Jsx.{jsx_text_reading}
 use Rattle.js_grammar.specs.Reading.{Reading, read_up_to, reported_at}
 use Rattle.js_spell.specs.Spells.{ReadsAs}
 use Rattle.js_source.specs.Source.{At, rest, BeginsWith, Reads}
@@ -36,16 +38,39 @@ SpellsJsxName old new true =
     × ((part : List ℕ) → jsx_name_reading part (rest old) ≡ Some (jsx_name_up_to part (rest old) (rest new)))
 SpellsJsxName old new false = (new ≡ old) × ((part : List ℕ) → jsx_name_reading part (rest old) ≡ None)
 
--- the characters that end a text
+-- the characters that a run of text ends before: those that end the text, and in a child a `>`, which is warned of
 abbrev pub ends_of : Text → ℕ → Bool
-ends_of Child c = ends_jsx_text c
+ends_of Child c = ends_jsx_text c || (c == greater_than_sign)
 ends_of DoubleQuoted c = c == quotation_mark
 ends_of SingleQuoted c = c == apostrophe
 
--- a character that ends the text is next
+-- a character that ends the run is next
 pub record StopsAt (within : Text) (b : ℕ) (text : List ℕ) : Type 0 where
   pub next : BeginsWith b text
   pub ends : ends_of within b ≡ true
+
+-- the character that ends the text of a child is next, or nothing is left
+abbrev pub IsAtChildEnd : Option ℕ → List ℕ → Type 0
+IsAtChildEnd None text = text ≡ []
+IsAtChildEnd (Some b) text = BeginsWith b text × (ends_jsx_text b ≡ true)
+
+-- what the text of a child that begins at the place is warned of
+abbrev pub text_warnings : ℕ → List ℕ → List Span
+text_warnings place text = angles_among place (jsx_text_reading text).taken
+
+-- The text of a child was passed, with a warning of each `>` in it.
+pub record PassesChild (old new : At) (before after : List Span) (end : Option ℕ) : Type 0 where
+  pub text : new.text ≡ old.text
+  pub left : rest new ≡ from_first ends_jsx_text (rest old)
+  pub end_is : IsAtChildEnd end (rest new)
+  pub warnings : after ≡ before ++ text_warnings old.place (rest old)
+
+-- A beginning of all that the reading warns of was warned of.
+pub record WarnsInPart (all before after : List Span) : Type 0 where
+  pub more : List Span
+  pub warnings : after ≡ before ++ more
+  pub rest_of : List Span
+  pub beginning : more ++ rest_of ≡ all
 
 -- the quote of a string was taken
 pub record TakesJsxQuote (old new : At) (within : Text) : Type 0 where

@@ -1,22 +1,23 @@
 //! Reading parts of JSX.
 
-ghost use Rattle.std.specs.Prelude.{◌≡◌, ◌==◌, ◌≤◌, true, not, IfOk, IfNone, IfSome, OnErr, []};
+ghost use Rattle.std.specs.Prelude.{◌≡◌, ◌==◌, ◌≤◌, true, not, ◌++◌, IfOk, IfNone, IfSome, OnErr, OnOk, []};
 ghost use Rattle.js_text.specs.Characters.{begins, from_first};
-ghost use Rattle.js_grammar.specs.Jsx.{begins_child, ends_jsx_name, jsx_child_reading, jsx_text_reading};
+ghost use Rattle.js_grammar.specs.Jsx.{begins_child, ends_jsx_name, jsx_child_reading, jsx_child_warnings};
+ghost use Rattle.js_grammar.specs.Jsx.{jsx_text_reading};
 ghost use Rattle.js_grammar.specs.Reading.{reported_at};
 ghost use Rattle.js_grammar.specs.StringItems.{is_quote};
 ghost use Rattle.js_source.specs.Runs.{TellsClass};
 ghost use Rattle.js_source.specs.Source.{rest, IsPlaced};
 ghost use Rattle.js_spell.specs.Spells.{ReadsAs};
 ghost use Rattle.js_spell.specs.Goals.{SpellsJsxName, SpellsJsxString, StopsAt, TakesJsxQuote};
-ghost use Rattle.js_spell.specs.Goals.{ends_of, jsx_string_reports};
+ghost use Rattle.js_spell.specs.Goals.{ends_of, jsx_string_reports, text_warnings, PassesChild, WarnsInPart};
 ghost use Rattle.js_spell.specs.Breaks.{BreaksOff};
 
 use crate::escape::report_unterminated;
 use crate::name::skip_parts;
 use js_kind::Kind;
 use js_source::{Source, of_each_byte};
-use js_text::{Diagnostic, DiagnosticList, Span};
+use js_text::{Diagnostic, DiagnosticList, Span, SpanList};
 use std::alloc::AllocError;
 
 /// Goes to the first character that is no part of a name of JSX.
@@ -99,7 +100,7 @@ fn table_of(within: Text) -> &'static [bool; 256]
     }
 }
 
-/// Goes to the character that ends the text, and gives it. None: the source ends before one.
+/// Goes to the character that ends the run of text, and gives it. None: the source ends before one.
 fn pass_text(source: &mut Source<'_>, within: Text) -> Option<u8>
     requires { IsPlaced source.old }
     ensures text { source.new.text ≡ source.old.text }
@@ -126,15 +127,42 @@ fn begins_child(b: u8) -> bool
     b == b'<' || b == b'{'
 }
 
+/// Goes to the character that ends the text of a child, and gives it. Each `>` on the way is warned of.
+fn pass_child(source: &mut Source<'_>, warnings: &mut SpanList) -> Result<Option<u8>, AllocError>
+    requires { IsPlaced source.old }
+    ensures ok { IfOk result (PassesChild source.old source.new warnings.old warnings.new) }
+    ensures text { source.new.text ≡ source.old.text }
+    ensures onward { source.old.place ≤ source.new.place }
+    ensures err { OnErr result (WarnsInPart (text_warnings source.old.place (rest source.old)) warnings.old
+        warnings.new) }
+    ensures placed { IsPlaced source.new }
+{
+    'angles: loop {
+        let end = pass_text(source, Text::Child);
+        let start = source.offset();
+        if !source.advance_if_ascii_eq(b'>') {
+            return Ok(end);
+        }
+        warnings.push(Span::new(start, source.offset()))?;
+    }
+}
+
 /// Reads the text of a child.
-fn read_jsx_text(source: &mut Source<'_>, errors: &mut DiagnosticList) -> Result<Kind, AllocError>
+fn read_jsx_text(
+    source: &mut Source<'_>,
+    errors: &mut DiagnosticList,
+    warnings: &mut SpanList,
+) -> Result<Kind, AllocError>
     requires { IsPlaced source.old }
     ensures ok { IfOk result (ReadsAs (jsx_text_reading (rest source.old)) source.old.place source.old source.new
         errors.old errors.new) }
+    ensures warned { OnOk result (warnings.new ≡ warnings.old ++ text_warnings source.old.place (rest source.old)) }
     ensures err { OnErr result (BreaksOff [] source.old source.new errors.old errors.new) }
+    ensures in_part { OnErr result (WarnsInPart (text_warnings source.old.place (rest source.old)) warnings.old
+        warnings.new) }
     ensures placed { IsPlaced source.new }
 {
-    let b = match pass_text(source, Text::Child) {
+    let b = match pass_child(source, warnings)? {
         Some(b) => b,
         None => return Ok(Kind::Eof),
     };
@@ -148,17 +176,22 @@ fn read_jsx_text(source: &mut Source<'_>, errors: &mut DiagnosticList) -> Result
 }
 
 /// Reads what stands between two tags of JSX, and gives its kind: a `<`, a `{`, or text up to one of them. Text that
-/// the source ends is of kind `Eof`, and so is text before a `>` or a `}`, which is reported. It asks for no memory but
-/// for that.
+/// the source ends is of kind `Eof`, and so is text before a `}`, which is reported. Each `>` in the text is warned of.
+/// It asks for no memory but for these.
 pub fn read_jsx_child(
     source: &mut Source<'_>,
     errors: &mut DiagnosticList,
+    warnings: &mut SpanList,
 ) -> Result<Kind, AllocError>
     requires { IsPlaced source.old }
     ensures ok { IfOk result (ReadsAs (jsx_child_reading (rest source.old)) source.old.place source.old source.new
         errors.old errors.new) }
+    ensures warned { OnOk result (warnings.new
+        ≡ warnings.old ++ jsx_child_warnings source.old.place (rest source.old)) }
     ensures err { OnErr result (BreaksOff (reported_at source.old.place (jsx_child_reading (rest source.old)))
         source.old source.new errors.old errors.new) }
+    ensures in_part { OnErr result (WarnsInPart (jsx_child_warnings source.old.place (rest source.old)) warnings.old
+        warnings.new) }
     ensures placed { IsPlaced source.new }
 {
     if source.advance_if_ascii_eq(b'<') {
@@ -167,7 +200,7 @@ pub fn read_jsx_child(
     if source.advance_if_ascii_eq(b'{') {
         return Ok(Kind::LCurly);
     }
-    read_jsx_text(source, errors)
+    read_jsx_text(source, errors, warnings)
 }
 
 /// Takes the quote that is next.

@@ -7,7 +7,7 @@ use js_source::Source;
 use js_spell::{
     read_jsx_child, read_jsx_identifier, read_jsx_string, read_regular_expression, read_right_angle,
 };
-use js_text::{Diagnostic, DiagnosticList, RegexInfo};
+use js_text::{Diagnostic, DiagnosticList, RegexInfo, SpanList};
 use std::alloc::AllocError;
 use std::test::Fail;
 
@@ -156,29 +156,40 @@ fn names_of_jsx(rt: HostRuntime) {
     }
 }
 
-/// Texts, and the kind and the end of the child of JSX that each begins with, and what is reported of it.
-static CHILDREN: [(&str, Kind, u32, Option<(&str, u32, u32)>); 10] = [
-    ("<a", Kind::LAngle, 1, None),
-    ("{a", Kind::LCurly, 1, None),
-    (" a 'b' \\{c", Kind::JSXText, 8, None),
-    ("\u{E9}\u{2028}</b>", Kind::JSXText, 5, None),
-    ("&gt;<", Kind::JSXText, 4, None),
-    ("a", Kind::Eof, 1, None),
-    ("", Kind::Eof, 0, None),
-    ("x}", Kind::Eof, 1, Some(("UnexpectedJsxEnd", 1, 1))),
-    ("}", Kind::Eof, 0, Some(("UnexpectedJsxEnd", 0, 0))),
-    ("\n>>", Kind::Eof, 1, Some(("UnexpectedJsxEnd", 1, 1))),
+/// Texts, and the kind and the end of the child of JSX that each begins with, what is reported of it, and how many
+/// warnings it has.
+static CHILDREN: [(&str, Kind, u32, Option<(&str, u32, u32)>, usize); 12] = [
+    ("<a>", Kind::LAngle, 1, None, 0),
+    ("{a>", Kind::LCurly, 1, None, 0),
+    (" a 'b' \\{c", Kind::JSXText, 8, None, 0),
+    ("\u{E9}\u{2028}</b>", Kind::JSXText, 5, None, 0),
+    ("&gt;<", Kind::JSXText, 4, None, 0),
+    ("a", Kind::Eof, 1, None, 0),
+    ("", Kind::Eof, 0, None, 0),
+    ("x}>", Kind::Eof, 1, Some(("UnexpectedJsxEnd", 1, 1)), 0),
+    ("}", Kind::Eof, 0, Some(("UnexpectedJsxEnd", 0, 0)), 0),
+    ("\n>>", Kind::Eof, 3, None, 2),
+    (
+        ">\u{E9}>a>}",
+        Kind::Eof,
+        6,
+        Some(("UnexpectedJsxEnd", 6, 6)),
+        3,
+    ),
+    ("x>y</a>", Kind::JSXText, 3, None, 1),
 ];
 
 #[test]
 fn children_of_jsx(rt: HostRuntime) -> Result<(), Fail> {
-    for (text, kind, end, first) in CHILDREN {
+    for (text, kind, end, first, warned) in CHILDREN {
         let mut source = Source::new(text);
         let mut errors = DiagnosticList::new_in(rt.alloc());
-        let read = read_jsx_child(&mut source, &mut errors)?;
+        let mut warnings = SpanList::new_in(rt.alloc());
+        let read = read_jsx_child(&mut source, &mut errors, &mut warnings)?;
         assert!(rt; read.is_same(kind), "{text}");
         assert_eq!(rt; source.offset(), end, "{text}");
         assert_eq!(rt; first_of(errors.as_slice()), first, "{text}");
+        assert_eq!(rt; warnings.len(), warned, "{text}");
     }
     Ok(())
 }

@@ -21,5 +21,5 @@ returns g c =
           (record c.self.inside.found { trivia = c.take_again.new.trivia })
           (plainly _ c.self.inside.reader c.read_jsx_name.new.self behind.token name_is_plain behind.last
           (c.in_ok-token.ensures.reads.1 behind.token behind.start_is (sym behind.place) _)
-          c.read_jsx_name.ensures.placed.utf8) c.self.invariant c.take_again.ensures.last refl tokens,
+          c.read_jsx_name.ensures.placed.utf8) c.self.invariant c.take_again.ensures.last refl refl tokens,
     )

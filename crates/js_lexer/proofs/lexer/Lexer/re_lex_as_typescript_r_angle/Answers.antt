@@ -45,4 +45,4 @@ returns g c =
     (record c.self.inside.found { trivia = c.take_again.new.trivia })
     (from_mark _ c.self.inside.reader c.read_right_angle-token.new.self right_is_plain starts.1
     c.read_right_angle-token.ensures.reads c.read_right_angle-token.ensures.placed.utf8) c.self.invariant
-    c.take_again.ensures.last refl tokens)
+    c.take_again.ensures.last refl refl tokens)

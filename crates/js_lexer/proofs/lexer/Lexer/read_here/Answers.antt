@@ -56,7 +56,7 @@ go_back-requires-clause-found g c =
     (reported_since c.start_behind_reports-start.result c.self.inside.reader.source c.self.inside.found now
     (c.start_behind_reports-start.ensures.start ∙ rw (c.position-position.ensures.place, c.len-reported.ensures) refl)
     c.start_behind_reports-start.ensures.ranges (ap (λ (a : Attachment). a.pending) c.self.invariant.attachment)
-    c.in-Err.ensures.err.errors refl refl)
+    c.in-Err.ensures.err.errors refl refl refl)
 
 pub invariant_of-self-in-Err : goal.invariant_of-self-in-Err
 invariant_of-self-in-Err g c =
@@ -76,7 +76,7 @@ invariant_of-self-in-Err g c =
     (reported_since c.start_behind_reports-start.result r.source c.self.inside.found now
     (c.start_behind_reports-start.ensures.start ∙ rw (c.position-position.ensures.place, c.len-reported.ensures) refl)
     c.start_behind_reports-start.ensures.ranges (ap (λ (a : Attachment). a.pending) c.self.invariant.attachment)
-    c.in-Err.ensures.err.errors refl refl) c.go_back.ensures.found in
+    c.in-Err.ensures.err.errors refl refl refl) c.go_back.ensures.found in
     sound_back r.source c.go_back.new.source c.self.inside.has_read c.self.inside.found.trivia
     c.go_back.new.found.trivia c.self.inside.decoded c.read_here_and_collect-read.new.decoded source
     (ap (λ (f : FindingsBuilder). f.trivia) found) c.self.invariant (kept.are_values c.self.invariant.are_values)
@@ -109,6 +109,7 @@ returns-in-Ok-clause-ok g c =
             source_type = refl;
             errors = refl;
             deferred = refl;
+            warnings = refl;
             between =
                 between_is Next r.source last c.self.inside.found.trivia cleared c.self.inside.decoded c.self.invariant
                 refl;
@@ -145,7 +146,7 @@ returns-in-Err-clause-err g c =
     (reported_since c.start_behind_reports-start.result r.source c.self.inside.found now
     (c.start_behind_reports-start.ensures.start ∙ rw (c.position-position.ensures.place, c.len-reported.ensures) refl)
     c.start_behind_reports-start.ensures.ranges (ap (λ (a : Attachment). a.pending) c.self.invariant.attachment)
-    c.in-Err.ensures.err.errors refl refl) c.go_back.ensures.found in
+    c.in-Err.ensures.err.errors refl refl refl) c.go_back.ensures.found in
     rw (← c.self.view_is)
     (undone _ _ r (record c.read_here_and_collect-read.new.reader { source = c.go_back.new.source })
     c.self.inside.found c.go_back.new.found _ _ c.self.inside.decoded c.read_here_and_collect-read.new.decoded source

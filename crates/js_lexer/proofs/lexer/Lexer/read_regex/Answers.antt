@@ -49,7 +49,7 @@ returns-in-Ok-clause-ok g c =
     (record c.self.inside.found { errors = c.read_expression.new.errors; trivia = c.take_again.new.trivia })
     starts.1.token starts.1.last_is
     (c.in-Ok.ensures.ok starts.1.token starts.1.at) c.read_expression.ensures.placed.utf8 c.self.invariant
-    c.take_again.ensures.last refl tokens)
+    c.take_again.ensures.last refl refl tokens)
 
 pub go_back-requires-clause-boundary : goal.go_back-requires-clause-boundary
 go_back-requires-clause-boundary g c =
@@ -63,7 +63,7 @@ go_back-requires-clause-found g c =
     (reported_since c.start_behind_reports-start.result c.self.inside.reader.source c.self.inside.found now
     (c.start_behind_reports-start.ensures.start ∙ rw (c.position-position.ensures.place, c.len-reported.ensures) refl)
     c.start_behind_reports-start.ensures.ranges (ap (λ (a : Attachment). a.pending) c.self.invariant.attachment)
-    c.in-Err.ensures.err.errors refl refl)
+    c.in-Err.ensures.err.errors refl refl refl)
 
 pub invariant_of-self-in-Err : goal.invariant_of-self-in-Err
 invariant_of-self-in-Err g c =
@@ -77,7 +77,7 @@ invariant_of-self-in-Err g c =
     (reported_since c.start_behind_reports-start.result c.self.inside.reader.source c.self.inside.found now
     (c.start_behind_reports-start.ensures.start ∙ rw (c.position-position.ensures.place, c.len-reported.ensures) refl)
     c.start_behind_reports-start.ensures.ranges (ap (λ (a : Attachment). a.pending) c.self.invariant.attachment)
-    c.in-Err.ensures.err.errors refl refl) c.go_back.ensures.found in
+    c.in-Err.ensures.err.errors refl refl refl) c.go_back.ensures.found in
     sound_back c.self.inside.reader.source c.go_back.new.source c.self.inside.has_read
     c.self.inside.found.trivia c.go_back.new.found.trivia c.self.inside.decoded c.self.inside.decoded
     source (ap (λ (f : FindingsBuilder). f.trivia) found) c.self.invariant
@@ -95,7 +95,7 @@ returns-in-Err-clause-err g c =
     (reported_since c.start_behind_reports-start.result c.self.inside.reader.source c.self.inside.found now
     (c.start_behind_reports-start.ensures.start ∙ rw (c.position-position.ensures.place, c.len-reported.ensures) refl)
     c.start_behind_reports-start.ensures.ranges (ap (λ (a : Attachment). a.pending) c.self.invariant.attachment)
-    c.in-Err.ensures.err.errors refl refl) c.go_back.ensures.found in
+    c.in-Err.ensures.err.errors refl refl refl) c.go_back.ensures.found in
     rw (← c.self.view_is)
     (undone _ _ c.self.inside.reader (record c.read_expression.new.self { source = c.go_back.new.source })
     c.self.inside.found c.go_back.new.found _ _ c.self.inside.decoded c.self.inside.decoded source

@@ -70,6 +70,7 @@ returns-clause-ok g c =
       source_type = refl;
       errors = refl;
       deferred = refl;
+      warnings = refl;
       between =
           between_is Next r.source last c.self.inside.found.trivia cleared c.self.inside.decoded c.self.invariant refl;
     }

@@ -11,3 +11,4 @@ returns c =
     (c.comments.ensures ∙ ap (λ cs. c.args.self.now.trivia.attachment.attached ++ cs) c.requires.between
     ∙ append-nil c.args.self.now.trivia.attachment.attached))
     (c.in_ok-items_from-4.ensures ∙ ap (drop c.args.then.now.trivia.irregular) c.irregular_whitespaces.ensures)
+    (c.in_ok-items_from-5.ensures ∙ ap (drop c.args.then.now.warnings) c.as_slice-3.ensures)

@@ -27,4 +27,4 @@ returns-clause-grown c =
     (on_err_weaker c.read_attribute.result (λ part. part.errors) c.read_attribute.ensures.err) in
     grows_on c.args.found.now found _ c.skip_whole_gap.ensures.grown
     (grows_reports found (record found { errors = c.read_attribute.new.errors }) reports (extends_none found.deferred)
-    refl)
+    refl refl)

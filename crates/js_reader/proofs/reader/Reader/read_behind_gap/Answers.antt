@@ -42,7 +42,8 @@ returns-in-None-clause-grown c =
     (IfOk-weaker c.read_here.result _ _ (λ token read. (token_moves_on _ _ read).errors) c.read_here.ensures.ok)
     (on_err_weaker c.read_here.result (λ part. part.errors) c.read_here.ensures.err) in
     grows_on c.args.found.now found _ c.skip_whole_gap.ensures.grown
-    (grows_reports found (record found { errors = c.read_here.new.errors }) reports (extends_none found.deferred) refl)
+    (grows_reports found (record found { errors = c.read_here.new.errors }) reports (extends_none found.deferred) refl
+    refl)
 
 pub returns-in-Some-clause-placed : goal.returns-in-Some-clause-placed
 returns-in-Some-clause-placed c = (c.in-Some.ensures.some c.skip_whole_gap.new.found.errors).placed

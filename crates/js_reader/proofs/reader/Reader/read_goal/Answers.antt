@@ -4,12 +4,15 @@ use Rattle.js_grammar.specs.Reads.{is_plain}
 use Rattle.js_grammar.specs.declared.goal.Goal.{Goal}
 use Rattle.js_grammar.specs.declared.goal.Goal.TheVariants.{JsxChild}
 use Rattle.std.proofs.lemmas.Result.{IfOk-weaker, on_err_weaker}
-use Rattle.js_reader.proofs.GoalSteps.{child_starts, child_unescaped}
+use Rattle.js_reader.proofs.GoalSteps.{child_unescaped}
 use Rattle.js_reader.proofs.DecodedSteps.{keeps_same, no_value}
 use Rattle.js_reader.specs.Reader.{ReadsWithGap}
-use Rattle.js_reader.proofs.ReadingSteps.{goal_hashbang, goal_answers, some_token_before, with_no_gap}
+use Rattle.js_reader.proofs.ReadingSteps.{goal_hashbang, goal_answers, some_token_before}
 use Rattle.js_reader.proofs.TriviaSteps.{either_way, extends_none, grows_none, grows_reports}
 use Rattle.js_reader.proofs.reader.Reader.read_goal.Goals as goal
+use Rattle.js_grammar.specs.Goals.{line_has_ended_behind}
+use Rattle.js_kind.specs.TokenParts.{TokenParts}
+use Rattle.std.specs.Prelude.{Option, IfOk}
 
 pub returns-in-Some-clause-ok : goal.returns-in-Some-clause-ok
 returns-in-Some-clause-ok c = λ previous line_has_ended.
@@ -42,27 +45,10 @@ returns-in-Next-clause-ok c =
 
 pub returns-in-JsxChild-clause-ok : goal.returns-in-JsxChild-clause-ok
 returns-in-JsxChild-clause-ok c =
-    IfOk-weaker c.read_child.result _ _
-    (λ token read previous first. subst (λ (g : Goal). ReadsWithGap g previous c.args.self.now c.args.found.now token
-    c.read_child.new.self (record c.args.found.now { errors = c.read_child.new.errors })) (sym c.in-JsxChild.is)
-    (with_no_gap JsxChild previous c.args.self.now c.read_child.new.self c.args.found.now token c.read_child.new.errors
-    (read previous first)
-    (child_starts previous c.args.self.now c.read_child.new.self token (read previous first).read)))
-    c.read_child.ensures.ok
-
-pub returns-in-JsxChild-clause-grown : goal.returns-in-JsxChild-clause-grown
-returns-in-JsxChild-clause-grown c =
-    let before = some_token_before c.args.self.now.line_has_ended in
-    let found = c.args.found.now in
-    let reports =
-    either_way c.read_child.result
-    (IfOk-weaker c.read_child.result _ _
-    (λ token read. record { more = _; is_more = (read before.0 before.1).errors }) c.read_child.ensures.ok)
-    (on_err_weaker c.read_child.result (λ part. part.errors) c.read_child.ensures.err) in
-    grows_reports found (record found { errors = c.read_child.new.errors }) reports (extends_none found.deferred) refl
-
-pub returns-in-JsxChild-clause-err : goal.returns-in-JsxChild-clause-err
-returns-in-JsxChild-clause-err c = on_err_weaker c.read_child.result (λ part. part.moves) c.read_child.ensures.err
+    subst (λ (g : Goal). IfOk c.read_child.result (λ token. (previous : Option TokenParts)
+    → line_has_ended_behind previous ≡ c.args.self.now.line_has_ended
+    → ReadsWithGap g previous c.args.self.now c.args.found.now token c.read_child.new.self c.read_child.new.found))
+    (sym c.in-JsxChild.is) c.read_child.ensures.ok
 
 pub returns-in-JsxChild-clause-value : goal.returns-in-JsxChild-clause-value
 returns-in-JsxChild-clause-value c =

@@ -28,7 +28,7 @@ add_block_comment-requires-clause-placed c =
 
 pub returns-in_err-add_block_comment-in-Piece-clause-grown : goal.returns-in_err-add_block_comment-in-Piece-clause-grown
 returns-in_err-add_block_comment-in-Piece-clause-grown c =
-    grows_by c.args.found.now _ [] refl refl c.in_err-add_block_comment-in-Piece.ensures.err
+    grows_by c.args.found.now _ [] refl refl c.in_err-add_block_comment-in-Piece.ensures.err refl
 
 pub returns-in_ok-add_block_comment-in-Piece-clause-ok : goal.returns-in_ok-add_block_comment-in-Piece-clause-ok
 returns-in_ok-add_block_comment-in-Piece-clause-ok c =
@@ -38,11 +38,11 @@ returns-in_ok-add_block_comment-in-Piece-clause-ok c =
     c.requires.placed c.offset-end.ensures.placed takes c.skip_block.ensures.text c.in-Piece.ensures.cut refl
     c.either-self.ensures refl refl
     (rw (same, c.offset-start.ensures.place, c.offset-end.ensures.place, c.block_kind-kind.ensures)
-    at c.in_ok-add_block_comment-in-Piece.ensures.ok)
+    at c.in_ok-add_block_comment-in-Piece.ensures.ok) refl
 
 pub returns-in_ok-add_block_comment-in-Piece-clause-grown : goal.returns-in_ok-add_block_comment-in-Piece-clause-grown
 returns-in_ok-add_block_comment-in-Piece-clause-grown c =
-    grows_by c.args.found.now _ (comment _ ∷ []) refl refl c.in_ok-add_block_comment-in-Piece.ensures.ok
+    grows_by c.args.found.now _ (comment _ ∷ []) refl refl c.in_ok-add_block_comment-in-Piece.ensures.ok refl
 
 pub returns-in-Nothing-clause-ok : goal.returns-in-Nothing-clause-ok
 returns-in-Nothing-clause-ok c =

@@ -23,7 +23,7 @@ returns-clause-ok c =
     (html_piece c.args.kind c.requires.kind c.args.self.now c.args.found.now c.skip_marked_line.new.self
     c.skip_marked_line.new.found told c.requires.placed c.in_ok-skip_marked_line.ensures.placed line c.requires.is refl
     (rw (← line.stays.source_type, ← c.offset-start.ensures.place, ← c.opening_length.ensures, ← c.sized-span.ensures)
-    c.in_ok-defer_html.ensures.ok) refl) c.skip_end_of_line.ensures.ends c.skip_end_of_line.ensures.placed
+    c.in_ok-defer_html.ensures.ok) refl refl) c.skip_end_of_line.ensures.ends c.skip_end_of_line.ensures.placed
 
 pub returns-clause-grown : goal.returns-clause-grown
 returns-clause-grown c =
@@ -32,5 +32,5 @@ returns-clause-grown c =
     grows_on c.args.found.now told c.skip_end_of_line.new.found
     (grows_on c.args.found.now c.skip_marked_line.new.found told c.skip_marked_line.ensures.grown
     (grows_reports c.skip_marked_line.new.found told (extends_none c.skip_marked_line.new.found.errors)
-    (record { more = _; is_more = c.in_ok-defer_html.ensures.ok }) refl))
+    (record { more = _; is_more = c.in_ok-defer_html.ensures.ok }) refl refl))
     c.skip_end_of_line.ensures.grown

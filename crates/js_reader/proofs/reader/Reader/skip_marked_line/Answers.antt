@@ -20,7 +20,7 @@ add_line_comment-requires-clause-placed c =
 
 pub returns-in_err-add_line_comment-clause-grown : goal.returns-in_err-add_line_comment-clause-grown
 returns-in_err-add_line_comment-clause-grown c =
-    grows_by c.args.found.now _ [] refl refl c.in_err-add_line_comment.ensures.err
+    grows_by c.args.found.now _ [] refl refl c.in_err-add_line_comment.ensures.err refl
 
 pub returns-clause-ok : goal.returns-clause-ok
 returns-clause-ok c =
@@ -29,6 +29,8 @@ returns-clause-ok c =
     behind_line c.args.kind c.requires.kind c.args.self.now c.args.found.now c.advance_if_mark.new.source _ _
     c.requires.placed c.offset-end.ensures.placed takes c.skip_line.ensures.text c.skip_line.ensures.rest refl refl refl
     refl (rw (same, c.offset-start.ensures.place, c.offset-end.ensures.place) at c.in_ok-add_line_comment.ensures.ok)
+    refl
 
 pub returns-clause-grown : goal.returns-clause-grown
-returns-clause-grown c = grows_by c.args.found.now _ (comment _ ∷ []) refl refl c.in_ok-add_line_comment.ensures.ok
+returns-clause-grown c =
+    grows_by c.args.found.now _ (comment _ ∷ []) refl refl c.in_ok-add_line_comment.ensures.ok refl

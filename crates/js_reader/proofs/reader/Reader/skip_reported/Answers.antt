@@ -38,7 +38,7 @@ returns-in_err-skip_gap-clause-grown c =
     let reports : Extends line.errors noted.errors = record { more = _; is_more = c.in_ok-push.ensures.ok } in
     grows_on c.args.found.now noted c.skip_gap.new.found
     (grows_on c.args.found.now line noted c.skip_marked_line.ensures.grown
-    (grows_reports line noted reports (extends_none line.deferred) refl))
+    (grows_reports line noted reports (extends_none line.deferred) refl refl))
     (grows_on noted c.skip_end_of_line.new.found c.skip_gap.new.found c.skip_end_of_line.ensures.grown
     c.skip_gap.ensures.grown)
 
@@ -64,6 +64,6 @@ returns-clause-grown c =
     let reports : Extends line.errors noted.errors = record { more = _; is_more = c.in_ok-push.ensures.ok } in
     grows_on c.args.found.now noted c.skip_gap.new.found
     (grows_on c.args.found.now line noted c.skip_marked_line.ensures.grown
-    (grows_reports line noted reports (extends_none line.deferred) refl))
+    (grows_reports line noted reports (extends_none line.deferred) refl refl))
     (grows_on noted c.skip_end_of_line.new.found c.skip_gap.new.found c.skip_end_of_line.ensures.grown
     c.skip_gap.ensures.grown)

@@ -1,9 +1,0 @@
-use Rattle.std.proofs.Common.{◌≡◌, ◌++◌, take, string_bytes}
-use Rattle.std.specs.List.{flat_map}
-use Rattle.js_lex_tool.specs.ReportText.{irregular_line}
-use Rattle.js_lex_tool.proofs.report.push_all_irregular.Given as goal
-
--- The lines so far were appended.
-abbrev pub invariant-loop-span : goal.invariant-loop-span
-invariant-loop-span l =
-    string_bytes l.text ≡ string_bytes l.initial.text ++ flat_map irregular_line (take l.span-index l.spans)
