@@ -1,16 +1,17 @@
--- What a run comes to whose words are a command line, and one that has none.
+-- What a run comes to whose words ask for something, and one whose words do not.
 use Rattle.std.proofs.Common.{◌≡◌, ◌≢◌, ℕ, ◌≤◌, ◌⊎◌, List, [], ◌∷◌, length, arith, refl, sym, inl, inr}
 use Rattle.std.proofs.Common.{Option, None, Some, append-nil, length-append}
 use Rattle.std.specs.Io.KnownBytes.{Consumes, IsAtEnd}
 use Rattle.std.proofs.KnownBytes.{Consumes-nil}
-use Rattle.js_session.specs.Faults.{HasMarks}
+use Rattle.js_lex_tool.specs.Generated.{generated, summary_of}
 use Rattle.js_lex_tool.specs.Outside.{InputState, OutputState, Rises}
-use Rattle.js_lex_tool.specs.Run.{CanRun, RunsLine, RunsTool, listed_commands}
+use Rattle.js_lex_tool.specs.Run.{CanRun, RunsTask, RunsTool, lexes_lines}
 use Rattle.js_lex_tool.specs.Status.{number, later_than, IsOneOf}
-use Rattle.js_lex_tool.specs.Status.Status.{Done, OutOfMemory, Usage, ReadFailed, TooLong}
+use Rattle.js_lex_tool.specs.Status.Status.{Done, OutOfMemory, Usage, ReadFailed, WriteFailed, TooLong}
 use Rattle.js_lex_tool.specs.declared.tool.ToolOutcome.{ToolOutcome}
-use Rattle.js_lex_tool.specs.declared.words.CommandLine.{CommandLine}
-use Rattle.js_lex_tool.proofs.Answering.{without_run}
+use Rattle.js_lex_tool.specs.declared.words.Task.{Task}
+use Rattle.js_lex_tool.specs.declared.words.Task.TheVariants.{Lex, Generate}
+use Rattle.js_lex_tool.proofs.Answering.{without_run, answers_at_memory}
 use Rattle.js_lex_tool.proofs.Courses.{InTime-refl}
 
 -- What was taken of known bytes up to the end is all of them.
@@ -33,14 +34,15 @@ one_left : (n : ℕ) → IsOneOf (OutOfMemory ∷ ReadFailed ∷ TooLong ∷ [])
     → IsOneOf (Done ∷ OutOfMemory ∷ []) n
 one_left n known a b = grind (arith, known)
 
+three_left : (n : ℕ) → IsOneOf (OutOfMemory ∷ WriteFailed ∷ Done ∷ []) n → n ≢ 4 → IsOneOf (Done ∷ OutOfMemory ∷ []) n
+three_left n known a = grind (arith, known)
+
 -- A run over words and bytes that can be run, whose two ends don't fail, is done or out of memory.
-pub completes : (line : CommandLine) (input input_new : InputState) (output output_new : OutputState)
-    (outcome : ToolOutcome) → RunsLine line input input_new output output_new outcome → CanRun (Some line) input.left
+pub completes : (task : Task) (input input_new : InputState) (output output_new : OutputState) (outcome : ToolOutcome)
+    → RunsTask task input input_new output output_new outcome → CanRun (Some task) input.left
     → ¬ (Rises input.faults input_new.faults) → ¬ (Rises output.faults output_new.faults)
     → IsOneOf (Done ∷ OutOfMemory ∷ []) outcome.status
-completes line input input_new output output_new outcome runs can no_read_fault no_write_fault =
-    let same : line ≡ can.line = cc in
-    let marks : HasMarks (listed_commands line.commands) = rw same can.marks in
+completes (Lex line) input input_new output output_new outcome runs can no_read_fault no_write_fault =
     let took : Consumes (Some can.bytes) input_new.left runs.bytes = rw can.left_is at runs.read in
     let few = taken_few can.bytes runs.bytes input_new.left took in
     elim runs.ends [
@@ -50,33 +52,37 @@ completes line input input_new output output_new outcome runs can no_read_fault 
           let all = all_taken can.bytes runs.bytes input_new.left took answers.0 in
           let a = rw all at answers.1 in
           two_left outcome.status a.known (λ e. no_write_fault (a.faults.rises e)) (λ e. a.utf8.fails e can.utf8)
-          (λ e. a.marks.fails e marks)
+          (λ e. a.marks.fails e can.marks)
     ]
+completes (Generate lines) input input_new output output_new outcome runs can no_read_fault no_write_fault =
+    three_left outcome.status runs.known (λ e. no_write_fault (runs.answers.faults.rises e))
 
--- every status of a run of a command line is one that is known
-known_line : (line : CommandLine) (input input_new : InputState) (output output_new : OutputState)
-    (outcome : ToolOutcome) → RunsLine line input input_new output output_new outcome
+-- every status of a run is one that is known
+known_task : (task : Task) (input input_new : InputState) (output output_new : OutputState) (outcome : ToolOutcome)
+    → RunsTask task input input_new output output_new outcome
     → IsOneOf (later_than Usage) outcome.status ⊎ (outcome.status ≡ number OutOfMemory)
-known_line line input input_new output output_new outcome runs = elim runs.ends [
+known_task (Lex line) input input_new output output_new outcome runs = elim runs.ends [
   | inl gave ↦ let known = gave.known in grind (arith, known)
   | inr answers ↦ let known = answers.1.known in grind (arith, known)
 ]
+known_task (Generate lines) input input_new output output_new outcome runs =
+    let known = runs.known in grind (arith, known)
 
--- The words of a run are a command line, and it has run.
-pub runs_line : (words : Option CommandLine) (line : CommandLine) (input input_new : InputState)
-    (output output_new : OutputState) (outcome : ToolOutcome) → words ≡ Some line
-    → RunsLine line input input_new output output_new outcome → RunsTool words input input_new output output_new outcome
-runs_line words line input input_new output output_new outcome is runs =
-    let known = known_line line input input_new output output_new outcome runs in
+-- The words of a run ask for something, and that has run.
+pub runs_task : (words : Option Task) (task : Task) (input input_new : InputState) (output output_new : OutputState)
+    (outcome : ToolOutcome) → words ≡ Some task → RunsTask task input input_new output output_new outcome
+    → RunsTool words input input_new output output_new outcome
+runs_task words task input input_new output output_new outcome is runs =
+    let known = known_task task input input_new output output_new outcome runs in
     rw is (record {
       known = grind (arith, known);
       usage = record { fails = λ e. absurd (omega (arith, e, known)); passes = λ _. refl };
       unread = λ e. absurd cc;
       runs = runs;
-      complete = completes line input input_new output output_new outcome runs;
+      complete = completes task input input_new output output_new outcome runs;
     })
 
--- The words are no command line.
+-- The words ask for nothing that there is.
 pub refuses_words : (input : InputState) (output : OutputState)
     → RunsTool None input input output output (without_run 2)
 refuses_words input output = record {
@@ -84,20 +90,13 @@ refuses_words input output = record {
   usage = record { fails = λ _. refl; passes = λ h. absurd (omega (arith, h)) };
   unread = λ _. (refl, refl, refl);
   runs = tt;
-  complete = λ can. absurd (let e = can.words_are in cc);
+  complete = λ can. absurd can;
 }
 
--- there was no memory for the command line
-pub runs_out : (words : Option CommandLine) (input : InputState) (output : OutputState)
-    → RunsTool words input input output output (without_run 1)
-runs_out None input output = record {
-  known = inl refl;
-  usage = record { fails = λ e. absurd (omega (arith, e)); passes = λ h. absurd (omega (arith, h)) };
-  unread = λ _. (refl, refl, refl);
-  runs = tt;
-  complete = λ can. absurd (let e = can.words_are in cc);
-}
-runs_out (Some line) input output = runs_line (Some line) line input input output output (without_run 1) refl (record {
+-- there was no memory for what the words ask for
+task_out : (task : Task) (input : InputState) (output : OutputState)
+    → RunsTask task input input output output (without_run 1)
+task_out (Lex line) input output = record {
   bytes = [];
   read = Consumes-nil input.left;
   bounded = omega arith;
@@ -105,4 +104,43 @@ runs_out (Some line) input output = runs_line (Some line) line input input outpu
   faults = record { rises = λ e. absurd (omega (arith, e)); stays = λ _. refl };
   in_time = InTime-refl input.course;
   ends = inl (record { known = inl refl; ran = refl; quiet = refl });
-})
+}
+task_out (Generate lines) input output = record {
+  known = inl refl;
+  unread = refl;
+  answers = answers_at_memory lexes_lines (generated lines) (summary_of lines) output;
+}
+
+-- there was no memory for the words
+pub runs_out : (words : Option Task) (input : InputState) (output : OutputState)
+    → RunsTool words input input output output (without_run 1)
+runs_out None input output = record {
+  known = inl refl;
+  usage = record { fails = λ e. absurd (omega (arith, e)); passes = λ h. absurd (omega (arith, h)) };
+  unread = λ _. (refl, refl, refl);
+  runs = tt;
+  complete = λ can. absurd can;
+}
+runs_out (Some task) input output =
+    runs_task (Some task) task input input output output (without_run 1) refl (task_out task input output)
+
+-- A status that an end calls for does not come where that end does not fail.
+pub never_fails : (words : Option Task) (input input_new : InputState) (output output_new : OutputState)
+    (outcome : ToolOutcome) → RunsTool words input input_new output output_new outcome
+    → ¬ (Rises input.faults input_new.faults) → ¬ (Rises output.faults output_new.faults)
+    → (outcome.status ≢ number ReadFailed) × (outcome.status ≢ number WriteFailed)
+never_fails None input input_new output output_new outcome runs no_read_fault no_write_fault = (
+  λ e. absurd (let passed = runs.usage.passes (inl e) in cc),
+  λ e. absurd (let passed = runs.usage.passes (inr (inr (inr (inr (inl e))))) in cc),
+)
+never_fails (Some (Lex line)) input input_new output output_new outcome runs no_read_fault no_write_fault = (
+  λ e. no_read_fault (runs.runs.faults.rises e),
+  λ e. elim runs.runs.ends [
+    | inl gave ↦ let known = gave.known in omega (arith, e, known)
+    | inr answers ↦ no_write_fault (answers.1.faults.rises e)
+  ],
+)
+never_fails (Some (Generate lines)) input input_new output output_new outcome runs no_read_fault no_write_fault = (
+  λ e. let known = runs.runs.known in omega (arith, e, known),
+  λ e. no_write_fault (runs.runs.answers.faults.rises e),
+)

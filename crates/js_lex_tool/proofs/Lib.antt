@@ -2,5 +2,6 @@ pub mod Answering
 pub mod Completing
 pub mod Counts
 pub mod Courses
+pub mod Generating
 pub mod Pieces
 pub mod Stars

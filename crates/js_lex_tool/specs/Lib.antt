@@ -1,5 +1,6 @@
 pub mod Command
 pub mod Exit
+pub mod Generated
 pub mod Memory
 pub mod Outside
 pub mod Program

@@ -1,6 +1,6 @@
 -- What a run reads, answers and writes.
 use Rattle.std.specs.Prelude.{◌≡◌, ◌≢◌, ℕ, ◌+◌, ◌≤◌, ◌⊎◌, ◌↔◌, List, [], ◌∷◌, length, Option, Some, None, IfSome}
-use Rattle.std.specs.Prelude.{IsSome, Bool}
+use Rattle.std.specs.Prelude.{IsSome, Bool, true, ⊤}
 use Rattle.std.specs.Io.KnownBytes.{Consumes, Keeps, IsAtEnd}
 use Rattle.std.specs.Str.{IsUtf8}
 use Rattle.js_auto.specs.Auto.{ReportOfChosen}
@@ -13,6 +13,8 @@ use Rattle.js_session.specs.declared.fault.LexFault.TheVariants.{Overlong, NotUt
 use Rattle.js_session.specs.declared.fault.LexFault.TheVariants.{NoMark as NoMarkFault, Memory}
 use Rattle.js_session.specs.declared.report.Report.{Report}
 use Rattle.js_text.specs.declared.source_type.SourceType.{SourceType}
+use Rattle.js_text.specs.declared.source_type.SourceType.TheVariants.{Module}
+use Rattle.js_lex_tool.specs.Generated.{generated, summary_of}
 use Rattle.js_lex_tool.specs.Outside.{InputState, OutputState, Rises, WritesAll, WritesPrefix, InTime}
 use Rattle.js_lex_tool.specs.ReportText.{report_text_of}
 use Rattle.js_lex_tool.specs.Status.{Status, number, order, later_than, IsOneOf, HasPassed, Tests}
@@ -22,6 +24,8 @@ use Rattle.js_lex_tool.specs.declared.tool.ToolOutcome.{ToolOutcome}
 use Rattle.js_lex_tool.specs.declared.words.CommandLine.{CommandLine}
 use Rattle.js_lex_tool.specs.declared.words.Commands.{Commands}
 use Rattle.js_lex_tool.specs.declared.words.Commands.TheVariants.{Listed, All, Auto}
+use Rattle.js_lex_tool.specs.declared.words.Task.{Task}
+use Rattle.js_lex_tool.specs.declared.words.Task.TheVariants.{Lex, Generate}
 
 -- the most bytes that an input may have
 abbrev pub most_bytes : ℕ
@@ -74,13 +78,15 @@ HasReport line bytes report =
     × ReportOf bytes line.source_type line.tokens commands report
 
 -- nothing was written, or a beginning of the text of a report over the bytes
-abbrev pub MayWrite : CommandLine → List ℕ → OutputState → OutputState → Type 0
-MayWrite line bytes old new =
+abbrev pub MayWrite : CommandLine → List ℕ → (Report → List ℕ) → OutputState → OutputState → Type 0
+MayWrite line bytes text_of old new =
     Keeps old.written new.written
-    ⊎ ((report : Report) × HasReport line bytes report × WritesPrefix old new (report_text_of bytes report))
+    ⊎ ((report : Report) × HasReport line bytes report × WritesPrefix old new (text_of report))
 
--- What a run of a command line comes to that has read its input to its end, by the bytes that it read.
-pub record Answers (line : CommandLine) (bytes : List ℕ) (old new : OutputState) (outcome : ToolOutcome) : Type 0 where
+-- What a run of a command line comes to once it has all bytes of its source, by these bytes and by the text that it
+-- makes of a report.
+pub record Answers (line : CommandLine) (bytes : List ℕ) (text_of : Report → List ℕ) (old new : OutputState)
+    (outcome : ToolOutcome) : Type 0 where
   pub known : IsOneOf (OutOfMemory ∷ later_than TooLong) outcome.status
   -- the tests of the bytes and the commands
   pub utf8 : Tests NotUtf8 outcome.status (¬ (IsUtf8 bytes)) (IsUtf8 bytes)
@@ -89,13 +95,13 @@ pub record Answers (line : CommandLine) (bytes : List ℕ) (old new : OutputStat
   -- where all of these were passed, the outcome tells what ran, and its text was written or the output failed
   pub has_run : IsSome outcome.ran ↔ HasPassed NoMark outcome.status
   pub ran : IfSome outcome.ran (IsRunOver line bytes)
-  pub text : IfSome outcome.ran (λ ran. Writes (report_text_of bytes ran.report) old new outcome.status)
+  pub text : IfSome outcome.ran (λ ran. Writes (text_of ran.report) old new outcome.status)
   pub faults : CountsFault WriteFailed outcome.status old.faults new.faults
   -- no call came after a write or a flush that failed
   pub in_time : InTime old.course new.course
   -- else nothing was written; a run that is out of memory may have begun to write
   pub quiet : (¬ (HasPassed NoMark outcome.status)) → outcome.status ≢ number OutOfMemory → new ≡ old
-  pub memory : outcome.status ≡ number OutOfMemory → MayWrite line bytes old new
+  pub memory : outcome.status ≡ number OutOfMemory → MayWrite line bytes text_of old new
 
 -- a run that gave up before its input was read to its end, and has written nothing
 pub record GivesUp (old new : OutputState) (outcome : ToolOutcome) : Type 0 where
@@ -115,28 +121,53 @@ pub record RunsLine (line : CommandLine) (input input_new : InputState) (output 
   -- no read came after one that found the end, nor after one that failed
   pub in_time : InTime input.course input_new.course
   -- it gave up while it read, or has read all bytes and answers
-  pub ends : GivesUp output output_new outcome ⊎ (IsAtEnd input_new.left × Answers line bytes output output_new outcome)
+  pub ends : GivesUp output output_new outcome
+      ⊎ (IsAtEnd input_new.left × Answers line bytes (report_text_of bytes) output output_new outcome)
 
--- A run that can only be done, or out of memory, if neither the input nor the output fails: the words are a command
--- line, the commands close no mark too many, and the bytes of the input are few enough and UTF-8.
-pub record CanRun (words : Option CommandLine) (left : Option (List ℕ)) : Type 0 where
-  pub line : CommandLine
-  pub words_are : words ≡ Some line
+-- generated lines are lexed to their end as a module, and their tokens are collected
+abbrev pub lexes_lines : CommandLine
+lexes_lines = record { source_type = Module; tokens = true; commands = All }
+
+-- What a run over so many generated lines comes to, by what its input and its output tell before and after it.
+pub record RunsGenerated (lines : ℕ) (input input_new : InputState) (output output_new : OutputState)
+    (outcome : ToolOutcome) : Type 0 where
+  pub known : IsOneOf (OutOfMemory ∷ WriteFailed ∷ Done ∷ []) outcome.status
+  -- nothing is read
+  pub unread : input_new ≡ input
+  -- what was lexed is the lines, and the summary of their report is written
+  pub answers : Answers lexes_lines (generated lines) (summary_of lines) output output_new outcome
+
+-- What a run comes to, by what its words ask for.
+abbrev pub RunsTask : Task → InputState → InputState → OutputState → OutputState → ToolOutcome → Type 0
+RunsTask (Lex line) input input_new output output_new outcome =
+    RunsLine line input input_new output output_new outcome
+RunsTask (Generate lines) input input_new output output_new outcome =
+    RunsGenerated lines input input_new output output_new outcome
+
+-- A command line can be run: its commands close no mark too many, and the bytes of the input are few enough and UTF-8.
+pub record CanRunLine (line : CommandLine) (left : Option (List ℕ)) : Type 0 where
   pub marks : HasMarks (listed_commands line.commands)
   pub bytes : List ℕ
   pub left_is : left ≡ Some bytes
   pub few : length bytes ≤ most_bytes
   pub utf8 : IsUtf8 bytes
 
--- What a run of the program comes to, by the command line that its words are, and by what its input and its output tell
--- before and after it.
-pub record RunsTool (words : Option CommandLine) (input input_new : InputState) (output output_new : OutputState)
+-- A run can only be done, or out of memory, if neither the input nor the output fails: the words ask for lines, whatever
+-- the input is, or for a command line that can be run.
+abbrev pub CanRun : Option Task → Option (List ℕ) → Type 0
+CanRun None left = ⊥
+CanRun (Some (Lex line)) left = CanRunLine line left
+CanRun (Some (Generate lines)) left = ⊤
+
+-- What a run of the program comes to, by what its words ask for, and by what its input and its output tell before and
+-- after it.
+pub record RunsTool (words : Option Task) (input input_new : InputState) (output output_new : OutputState)
     (outcome : ToolOutcome) : Type 0 where
   pub known : IsOneOf (OutOfMemory ∷ order) outcome.status
-  -- the words are read first: where they are no command line, nothing else is done
+  -- the words are read first: where they ask for nothing that there is, nothing else is done
   pub usage : Tests Usage outcome.status (words ≡ None) (IsSome words)
   pub unread : words ≡ None → (outcome.ran ≡ None) × (input_new ≡ input) × (output_new ≡ output)
-  pub runs : IfSome words (λ line. RunsLine line input input_new output output_new outcome)
-  -- no other status comes of a command line and of bytes that can be run, where neither end fails
+  pub runs : IfSome words (λ task. RunsTask task input input_new output output_new outcome)
+  -- no other status comes of words and of bytes that can be run, where neither end fails
   pub complete : CanRun words input.left → (¬ (Rises input.faults input_new.faults))
       → (¬ (Rises output.faults output_new.faults)) → IsOneOf (Done ∷ OutOfMemory ∷ []) outcome.status

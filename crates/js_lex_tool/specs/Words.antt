@@ -1,19 +1,23 @@
 -- The words of the program, and what they mean.
 use Rattle.std.specs.Prelude.{ℕ, String, map, string_bytes, Bool, true, false, List, [], ◌∷◌, ◌++◌, ◌&&◌, ◌==◌, length}
-use Rattle.std.specs.Prelude.{replicate, nat_lt, nat_le, if◌then◌else◌, codes, Option, Some, None, option_map}
+use Rattle.std.specs.Prelude.{replicate, ◌≤◌, ⊤, nat_lt, nat_le, if◌then◌else◌, codes, Option, Some, None, option_map}
 use Rattle.std.specs.Prelude.{option_and_then, find}
 use Rattle.std.specs.declared.alloc.Global.{Global}
 use Rattle.std.specs.Fmt.{decimal}
 use Rattle.std.specs.List.{list_any, before_first, after_first}
+use Rattle.std.specs.Option.{option_or}
 use Rattle.std.specs.Str.{bytes_eq}
 use Rattle.std.specs.Str.Parse.{digits_value}
 use Rattle.js_text.specs.declared.source_type.SourceType.{SourceType}
 use Rattle.js_text.specs.declared.source_type.SourceType.TheVariants.{Module, Script, Unambiguous}
 use Rattle.js_lex_tool.specs.Command.{command_word, all_commands}
+use Rattle.js_lex_tool.specs.Generated.{most_lines}
 use Rattle.js_session.specs.declared.command.Command.{Command}
 use Rattle.js_lex_tool.specs.declared.words.CommandLine.{CommandLine}
 use Rattle.js_lex_tool.specs.declared.words.Commands.{Commands}
 use Rattle.js_lex_tool.specs.declared.words.Commands.TheVariants.{Listed, All, Auto}
+use Rattle.js_lex_tool.specs.declared.words.Task.{Task}
+use Rattle.js_lex_tool.specs.declared.words.Task.TheVariants.{Lex, Generate}
 
 -- at most so many commands, and so many repetitions of one
 abbrev pub most_commands : ℕ
@@ -96,6 +100,22 @@ command_line_in (first ∷ []) = None
 command_line_in (first ∷ second ∷ words) =
     command_line (entry_for source_type_words first) (entry_for tokens_words second) (commands_meant words)
 
--- the command line that the words of a run are
-abbrev pub command_line_of : List (String Global) → Option CommandLine
-command_line_of words = command_line_in (map string_bytes words)
+-- how many lines words ask for: `gen` and a number, alone
+abbrev pub lines_in : List (List ℕ) → Option ℕ
+lines_in [] = None
+lines_in (first ∷ []) = None
+lines_in (first ∷ number ∷ []) = if bytes_eq first (codes "gen") then count_in most_lines number else None
+lines_in (first ∷ number ∷ other ∷ words) = None
+
+-- as many lines as words may ask for
+abbrev pub IsAllowed : Task → Type 0
+IsAllowed (Lex line) = ⊤
+IsAllowed (Generate lines) = (1 ≤ lines) × (lines ≤ most_lines)
+
+-- what words ask for: so many lines, or what a command line says. No words are both, since `gen` is no source type.
+abbrev pub task_in : List (List ℕ) → Option Task
+task_in words = option_or (option_map Generate (lines_in words)) (option_map Lex (command_line_in words))
+
+-- what the words of a run ask for
+abbrev pub task_of : List (String Global) → Option Task
+task_of words = task_in (map string_bytes words)

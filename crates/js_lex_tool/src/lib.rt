@@ -5,6 +5,7 @@ mod arguments;
 mod calls;
 mod command;
 mod exit;
+mod generator;
 mod memory_in;
 mod memory_out;
 mod outside;
@@ -21,6 +22,7 @@ pub mod write_all;
 
 pub use arguments::{program_words, status_without_words, words_behind_name};
 pub use exit::end_program;
+pub use generator::{MOST_LINES, gen_summary, generated};
 pub use memory_in::{MemoryIn, SureIn};
 pub use memory_out::{MemoryOut, SureOut};
 pub use outside::{ByteIn, ByteOut, Course, FlushAnswer, InAnswer, OutAnswer};
@@ -30,4 +32,6 @@ pub use report::report_text;
 pub use status::{StatusLine, line_for, status_line};
 pub use std_streams::{StdIn, StdOut};
 pub use tool::{Ran, ToolOutcome, lex_tool_run, lex_tool_run_sure};
-pub use words::{CommandLine, Commands, parse_count, parse_source_type, parse_tokens, read_words};
+pub use words::{
+    CommandLine, Commands, Task, parse_count, parse_source_type, parse_tokens, read_words,
+};

@@ -1,6 +1,7 @@
 //! A run of the program: from words and bytes to a status and a text.
 
-ghost use Rattle.std.specs.Prelude.{◌≡◌, ◌≢◌, ◌≤◌, ◌⊎◌, [], ◌∷◌, length, string_bytes, IfOk, OnOk, IfErr, Some};
+ghost use Rattle.std.specs.Prelude.{◌≡◌, ◌≢◌, ◌<◌, ◌≤◌, ◌⊎◌, ◌^◌, ℕ, [], ◌∷◌, length, string_bytes};
+ghost use Rattle.std.specs.Prelude.{IfOk, OnOk, IfErr, Some};
 ghost use Rattle.std.specs.List.{AllByRecursion};
 ghost use Rattle.std.specs.Str.{IsUtf8};
 ghost use Rattle.js_session.specs.Faults.{IsReadable, HasMarks, SourceCause, Cause};
@@ -9,18 +10,20 @@ ghost use Rattle.js_lex_tool.specs.Memory.{sure_input, sure_output};
 ghost use Rattle.js_lex_tool.specs.Outside.{InTime};
 ghost use Rattle.js_lex_tool.specs.ReportText.{report_text_of};
 ghost use Rattle.js_lex_tool.specs.Run.{most_bytes, status_of, CountsFault, Writes, Answers, RunsLine, RunsTool};
-ghost use Rattle.js_lex_tool.specs.Run.{CanRun, AreMeant, listed_commands};
+ghost use Rattle.js_lex_tool.specs.Run.{CanRun, AreMeant, RunsTask, listed_commands, lexes_lines};
+ghost use Rattle.js_lex_tool.specs.Generated.{most_lines, generated, gen_summary, summary_of};
 ghost use Rattle.js_lex_tool.specs.Status.{number, IsOneOf, HasPassed};
 ghost use Rattle.js_lex_tool.specs.Status.Status.{Done, OutOfMemory, ReadFailed, WriteFailed, NoMark};
-ghost use Rattle.js_lex_tool.specs.Words.{command_line_of};
+ghost use Rattle.js_lex_tool.specs.Words.{task_of, IsAllowed};
 
+use crate::generator::{gen_summary, generated};
 use crate::memory_in::SureIn;
 use crate::memory_out::SureOut;
 use crate::outside::{ByteIn, ByteOut};
 use crate::read_all::{MOST_BYTES, ReadFault, read_to_end};
 use crate::report::report_text;
 use crate::status::{DONE, MEMORY, NO_MARK, NOT_UTF8, READ_FAILED, TOO_LONG, USAGE, WRITE_FAILED};
-use crate::words::{CommandLine, Commands, push_repeated, read_words};
+use crate::words::{CommandLine, Commands, Task, push_repeated, read_words};
 use crate::write_all::{WriteFault, write_all};
 use js_auto::{Auto, auto_session};
 use js_session::{Command, CommandList, LexFault, Report, lex_all, lex_session};
@@ -30,7 +33,7 @@ use std::alloc::{AllocError, Global};
 /// What was run over, and what a session gave for it.
 #[derive(Drop)]
 pub struct Ran {
-    /// All bytes of the input.
+    /// All bytes of the input, or of the generated lines.
     pub source: ByteList,
     pub source_type: SourceType,
     /// Whether tokens are collected.
@@ -44,7 +47,7 @@ pub struct Ran {
 pub struct ToolOutcome {
     /// The exit status of the program.
     pub status: u8,
-    /// What was run over. It is Some where the text of the report was written, or the output failed.
+    /// What was run over. It is Some where the text was written, or the output failed.
     pub ran: Option<Ran>,
 }
 
@@ -87,6 +90,29 @@ fn text_of(alloc: Global, ran: &Ran) -> Result<String, AllocError>
     report_text(alloc, source, &ran.report)
 }
 
+/// The summary of what ran over so many generated lines.
+fn summary_of(alloc: Global, lines: u32, ran: &Ran) -> Result<String, AllocError>
+    requires { length ran.now.source < 2 ^ 32 }
+    ensures { IfOk result (λ text. string_bytes text ≡ gen_summary lines (length ran.now.source) ran.now.report) }
+{
+    gen_summary(alloc, lines, ran.source.len() as u32, &ran.report)
+}
+
+/// Writes the text for what ran.
+fn write_text<O: ByteOut>(text: &str, ran: Ran, output: &mut O) -> ToolOutcome
+    ensures outcome { (result ≡ record { status = number OutOfMemory; ran = None })
+        ⊎ (HasPassed NoMark result.status × (result.ran ≡ Some ran)) }
+    ensures text { Writes text.now (O.state output.old) (O.state output.new) result.status }
+    ensures faults { CountsFault WriteFailed result.status (O.state output.old).faults (O.state output.new).faults }
+    ensures in_time { InTime (O.state output.old).course (O.state output.new).course }
+{
+    match write_all(output, text.as_bytes()) {
+        Ok(()) => outcome_of(DONE, ran),
+        Err(WriteFault::Memory) => outcome_without_run(MEMORY),
+        Err(WriteFault::Failed) => outcome_of(WRITE_FAILED, ran),
+    }
+}
+
 /// Writes the text of what ran.
 fn write_report<O: ByteOut>(alloc: Global, ran: Ran, output: &mut O) -> ToolOutcome
     requires utf8 { IsUtf8 ran.source }
@@ -98,14 +124,25 @@ fn write_report<O: ByteOut>(alloc: Global, ran: Ran, output: &mut O) -> ToolOutc
     ensures faults { CountsFault WriteFailed result.status (O.state output.old).faults (O.state output.new).faults }
     ensures in_time { InTime (O.state output.old).course (O.state output.new).course }
 {
-    let text = match text_of(alloc, &ran) {
-        Ok(text) => text,
-        Err(_) => return outcome_without_run(MEMORY),
-    };
-    match write_all(output, text.as_bytes()) {
-        Ok(()) => outcome_of(DONE, ran),
-        Err(WriteFault::Memory) => outcome_without_run(MEMORY),
-        Err(WriteFault::Failed) => outcome_of(WRITE_FAILED, ran),
+    match text_of(alloc, &ran) {
+        Ok(text) => write_text(text.as_str(), ran, output),
+        Err(_) => outcome_without_run(MEMORY),
+    }
+}
+
+/// Writes the summary of what ran over so many generated lines.
+fn write_summary<O: ByteOut>(alloc: Global, lines: u32, ran: Ran, output: &mut O) -> ToolOutcome
+    requires { length ran.source < 2 ^ 32 }
+    ensures outcome { (result ≡ record { status = number OutOfMemory; ran = None })
+        ⊎ (HasPassed NoMark result.status × (result.ran ≡ Some ran)) }
+    ensures text { Writes (gen_summary lines (length ran.source) ran.report)
+        (O.state output.old) (O.state output.new) result.status }
+    ensures faults { CountsFault WriteFailed result.status (O.state output.old).faults (O.state output.new).faults }
+    ensures in_time { InTime (O.state output.old).course (O.state output.new).course }
+{
+    match summary_of(alloc, lines, &ran) {
+        Ok(text) => write_text(text.as_str(), ran, output),
+        Err(_) => outcome_without_run(MEMORY),
     }
 }
 
@@ -202,7 +239,7 @@ fn answer<O: ByteOut>(
     output: &mut O,
 ) -> ToolOutcome
     requires { length source ≤ most_bytes }
-    ensures { Answers line source (O.state output.old) (O.state output.new) result }
+    ensures { Answers line source (report_text_of source) (O.state output.old) (O.state output.new) result }
 {
     let CommandLine {
         source_type,
@@ -246,20 +283,66 @@ fn run_line<I: ByteIn, O: ByteOut>(
     }
 }
 
-/// Runs the program: reads what the words mean, then the input to its end, and writes the report of a session over it.
+/// Runs a session over so many generated lines, and writes its summary.
+fn run_generated<O: ByteOut>(alloc: Global, lines: u32, output: &mut O) -> ToolOutcome
+    requires some { 1 ≤ lines }
+    requires few { lines ≤ most_lines }
+    ensures known { IsOneOf (OutOfMemory ∷ WriteFailed ∷ Done ∷ []) result.status }
+    ensures answers { Answers lexes_lines (generated lines) (summary_of lines)
+        (O.state output.old) (O.state output.new) result }
+{
+    let source = match generated(alloc, lines) {
+        Ok(source) => source,
+        Err(_) => return outcome_without_run(MEMORY),
+    };
+    let (commands, report) = match run_all(alloc, source.as_bytes(), SourceType::Module, true) {
+        Ok(ran) => ran,
+        Err(fault) => return outcome_without_run(status_of(fault)),
+    };
+    let ran = Ran {
+        source: ByteList::from_vec(source.into_bytes()),
+        source_type: SourceType::Module,
+        tokens: true,
+        commands,
+        report,
+    };
+    write_summary(alloc, lines, ran, output)
+}
+
+/// Does what the words ask for.
+fn run_task<I: ByteIn, O: ByteOut>(
+    alloc: Global,
+    task: Task,
+    input: &mut I,
+    output: &mut O,
+) -> ToolOutcome
+    requires { IsAllowed task }
+    ensures run { RunsTask task (I.state input.old) (I.state input.new) (O.state output.old) (O.state output.new) result }
+    ensures unread { (lines : ℕ) → task ≡ Task.Generate lines → input.new ≡ input.old }
+{
+    match task {
+        Task::Lex(line) => run_line(alloc, line, input, output),
+        Task::Generate(lines) => run_generated(alloc, lines, output),
+    }
+}
+
+/// Runs the program: reads what the words ask for. With a command line it then reads the input to its end, and writes the
+/// report of a session over it; with generated lines it reads nothing, and writes the summary of one over these.
 pub fn lex_tool_run<I: ByteIn, O: ByteOut>(
     alloc: Global,
     words: &Vec<String>,
     input: &mut I,
     output: &mut O,
 ) -> ToolOutcome
-    ensures run { RunsTool (command_line_of words.now.items)
+    ensures run { RunsTool (task_of words.now.items)
         (I.state input.old) (I.state input.new) (O.state output.old) (O.state output.new) result }
-    // Where the words are no command line, nothing is read and nothing is written.
-    ensures unread { command_line_of words.now.items ≡ None → (input.new ≡ input.old) × (output.new ≡ output.old) }
+    // Where the words are not valid, nothing is read and nothing is written.
+    ensures unread { task_of words.now.items ≡ None → (input.new ≡ input.old) × (output.new ≡ output.old) }
+    // Where they ask for generated lines, nothing is read.
+    ensures generated { (lines : ℕ) → task_of words.now.items ≡ Some (Task.Generate lines) → input.new ≡ input.old }
 {
     match read_words(alloc, words) {
-        Ok(Some(line)) => run_line(alloc, line, input, output),
+        Ok(Some(task)) => run_task(alloc, task, input, output),
         Ok(None) => outcome_without_run(USAGE),
         Err(_) => outcome_without_run(MEMORY),
     }
@@ -273,9 +356,9 @@ pub fn lex_tool_run_sure(
     output: &mut SureOut,
 ) -> ToolOutcome
     ensures never { (result.status ≢ number ReadFailed) × (result.status ≢ number WriteFailed) }
-    ensures complete { CanRun (command_line_of words.now.items) (Some input.old.left)
+    ensures complete { CanRun (task_of words.now.items) (Some input.old.left)
         → IsOneOf (Done ∷ OutOfMemory ∷ []) result.status }
-    ensures run { RunsTool (command_line_of words.now.items)
+    ensures run { RunsTool (task_of words.now.items)
         (sure_input input.old) (sure_input input.new) (sure_output output.old) (sure_output output.new) result }
 {
     lex_tool_run(alloc, words, input, output)

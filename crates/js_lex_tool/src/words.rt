@@ -1,11 +1,13 @@
 //! The words of the program.
 
-ghost use Rattle.std.specs.Prelude.{◌≡◌, ◌++◌, IfOk, OnOk, map, replicate, string_bytes};
+ghost use Rattle.std.specs.Prelude.{◌≡◌, ◌≤◌, ◌++◌, IfOk, IfSome, OnOk, map, replicate, string_bytes};
+ghost use Rattle.js_lex_tool.specs.Generated.{most_lines};
 ghost use Rattle.js_lex_tool.specs.Words.{entry_for, source_type_words, tokens_words, command_of, count_in};
 ghost use Rattle.js_lex_tool.specs.Words.{repeated_command, allowed_commands_in, is_alone, commands_meant};
-ghost use Rattle.js_lex_tool.specs.Words.{command_line_of};
+ghost use Rattle.js_lex_tool.specs.Words.{command_line_in, lines_in, task_of, IsAllowed};
 
 use crate::command::{COMMANDS, command_word};
+use crate::generator::MOST_LINES;
 use js_session::{Command, CommandList};
 use js_text::SourceType;
 use std::alloc::{AllocError, Global};
@@ -31,6 +33,15 @@ pub struct CommandLine {
     /// Whether the tokens are collected.
     pub tokens: bool,
     pub commands: Commands,
+}
+
+/// What the words of a run ask for.
+#[derive(Drop)]
+pub enum Task {
+    /// To lex the input, and to write the report.
+    Lex(CommandLine),
+    /// To lex so many generated lines, and to write a summary.
+    Generate(u32),
 }
 
 /// The source type that the word means.
@@ -145,9 +156,9 @@ fn read_commands(alloc: Global, words: &[String]) -> Result<Option<Commands>, Al
     }
 }
 
-/// The command line that the words after the program's name are. None: they are not valid.
-pub fn read_words(alloc: Global, words: &Vec<String>) -> Result<Option<CommandLine>, AllocError>
-    ensures { IfOk result (λ line. line ≡ command_line_of words.now.items) }
+/// The command line that words are. None: they are none.
+fn read_command_line(alloc: Global, words: &[String]) -> Result<Option<CommandLine>, AllocError>
+    ensures { IfOk result (λ line. line ≡ command_line_in (map string_bytes words.now)) }
 {
     let Some((first, words)) = words.split_first() else {
         return Ok(None);
@@ -169,4 +180,32 @@ pub fn read_words(alloc: Global, words: &Vec<String>) -> Result<Option<CommandLi
         tokens,
         commands,
     }))
+}
+
+/// How many lines the words ask for. None: they ask for none.
+fn read_lines(words: &[String]) -> Option<u32>
+    ensures lines { result ≡ lines_in (map string_bytes words.now) }
+    ensures bounds { IfSome result (λ lines. (1 ≤ lines) × (lines ≤ most_lines)) }
+{
+    match words {
+        [first, number] if first.as_str() == "gen" => {
+            let lines = parse_count(number.as_str(), MOST_LINES)?;
+            Some(lines as u32)
+        }
+        _ => None,
+    }
+}
+
+/// What the words after the program's name ask for. None: they are not valid.
+pub fn read_words(alloc: Global, words: &Vec<String>) -> Result<Option<Task>, AllocError>
+    ensures task { IfOk result (λ task. task ≡ task_of words.now.items) }
+    ensures allowed { IfOk result (λ task. IfSome task IsAllowed) }
+{
+    if let Some(lines) = read_lines(words.as_slice()) {
+        return Ok(Some(Task::Generate(lines)));
+    }
+    match read_command_line(alloc, words.as_slice())? {
+        Some(line) => Ok(Some(Task::Lex(line))),
+        None => Ok(None),
+    }
 }
