@@ -42,7 +42,7 @@ abbrev slashes : List Kind
 slashes = again_kinds RegularExpression
 
 -- what is known of a kind that is not notable
-record IsPlain (kind : Kind) : Type 0 where
+record IsUnnotable (kind : Kind) : Type 0 where
   eof : (number kind == number Eof) ≡ false
   left_curly : (number kind == number LCurly) ≡ false
   right_curly : (number kind == number RCurly) ≡ false
@@ -55,8 +55,8 @@ not_first : (kind other : Kind) (kinds : List Kind) → is_one_of (other ∷ kin
     → ((number kind == number other) ≡ false) × (is_one_of kinds kind ≡ false)
 not_first kind other kinds none = or_parts (number kind == number other) (is_one_of kinds kind) none
 
-is_plain : (kind : Kind) → is_one_of notable_kinds kind ≡ false → IsPlain kind
-is_plain kind none =
+is_unnotable : (kind : Kind) → is_one_of notable_kinds kind ≡ false → IsUnnotable kind
+is_unnotable kind none =
     let eof = not_first kind Eof (LCurly ∷ RCurly ∷ TemplateHead ∷ TemplateTail ∷ slashes) none in
     let left = not_first kind LCurly (RCurly ∷ TemplateHead ∷ TemplateTail ∷ slashes) eof.1 in
     let right = not_first kind RCurly (TemplateHead ∷ TemplateTail ∷ slashes) left.1 in
@@ -71,20 +71,20 @@ is_plain kind none =
       again = tail.1;
     }
 
-no_effect : (kind : Kind) → IsPlain kind → effect_of kind ≡ Leaves
+no_effect : (kind : Kind) → IsUnnotable kind → effect_of kind ≡ Leaves
 unfolding effect_of
 no_effect kind is = rw (is.left_curly, is.head, is.right_curly, is.tail) refl
 
 -- Behind a last token that is not notable the braces are those before it.
 leaves_braces : (last : Option Kind) (stack : List Brace) → is_notable last ≡ false → open_behind last stack ≡ stack
 leaves_braces None stack plain = refl
-leaves_braces (Some kind) stack plain = ap (λ effect. after_effect effect stack) (no_effect kind (is_plain kind plain))
+leaves_braces (Some kind) stack plain = ap (λ effect. after_effect effect stack) (no_effect kind (is_unnotable kind plain))
 
 -- Such a token changes nothing of what a chooser keeps of those before it.
 pub leaves_chooser : (c : Chooser) → is_notable c.last ≡ false → c ≡ record c { stack = open_behind c.last c.stack }
 leaves_chooser c plain = ap (λ stack. record c { stack = stack }) (sym (leaves_braces c.last c.stack plain))
 
-reads_behind : (stack : List Brace) (before : Option Kind) (kind : Kind) → IsPlain kind
+reads_behind : (stack : List Brace) (before : Option Kind) (kind : Kind) → IsUnnotable kind
     → choice_behind stack before (Some kind) ≡ Some Next
 unfolding is_eof
 reads_behind stack before kind is = rw (is.eof, is.right_curly, is.again) refl
@@ -93,4 +93,4 @@ reads_behind stack before kind is = rw (is.eof, is.right_curly, is.again) refl
 pub reads_on : (stack : List Brace) (before last : Option Kind) → is_notable last ≡ false
     → choice_behind stack before last ≡ Some Next
 reads_on stack before None plain = refl
-reads_on stack before (Some kind) plain = reads_behind stack before kind (is_plain kind plain)
+reads_on stack before (Some kind) plain = reads_behind stack before kind (is_unnotable kind plain)

@@ -6,37 +6,37 @@ use Rattle.js_kind.specs.TokenParts.{TokenParts}
 use Rattle.js_kind.specs.declared.kind.Kind.{Kind}
 use Rattle.js_kind.specs.declared.kind.Kind.TheVariants.{LCurly, RCurly, TemplateHead, TemplateTail}
 use Rattle.js_auto.specs.declared.brace.Brace.{Brace}
-use Rattle.js_auto.specs.declared.brace.Brace.TheVariants.{Plain, Template}
+use Rattle.js_auto.specs.declared.brace.Brace.TheVariants.{Block, Template}
 use Rattle.js_auto.specs.declared.brace.BraceEffect.{BraceEffect}
-use Rattle.js_auto.specs.declared.brace.BraceEffect.TheVariants.{Opens, ClosesPlain, ClosesAny, Leaves}
+use Rattle.js_auto.specs.declared.brace.BraceEffect.TheVariants.{Opens, ClosesBlock, ClosesAny, Leaves}
 
 -- what a token of the kind does to the braces that are open
 unfoldable pub effect_of : Kind → BraceEffect
 effect_of kind =
-    if number kind == number LCurly then Opens Plain
+    if number kind == number LCurly then Opens Block
     else if number kind == number TemplateHead then Opens Template
-    else if number kind == number RCurly then ClosesPlain
+    else if number kind == number RCurly then ClosesBlock
     else if number kind == number TemplateTail then ClosesAny
     else Leaves
 
 -- the brace is that of a substitution
 abbrev pub is_substitution : Option Brace → Bool
 is_substitution None = false
-is_substitution (Some Plain) = false
+is_substitution (Some Block) = false
 is_substitution (Some Template) = true
 
 -- The brace that was opened last is that of a substitution in a template. It is the first of the list.
 abbrev pub is_in_substitution : List Brace → Bool
 is_in_substitution stack = is_substitution (slice_get stack 0)
 
--- the braces without the one that was opened last, where that is a plain one
-abbrev pub without_plain : List Brace → List Brace
-without_plain stack = if is_in_substitution stack then stack else drop 1 stack
+-- the braces without the one that was opened last, where that is one of a block
+abbrev pub without_block : List Brace → List Brace
+without_block stack = if is_in_substitution stack then stack else drop 1 stack
 
 -- the braces that are open behind a token with this effect, where these were open before it
 abbrev pub after_effect : BraceEffect → List Brace → List Brace
 after_effect (Opens brace) stack = brace ∷ stack
-after_effect ClosesPlain stack = without_plain stack
+after_effect ClosesBlock stack = without_block stack
 after_effect ClosesAny stack = drop 1 stack
 after_effect Leaves stack = stack
 

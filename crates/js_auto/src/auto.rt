@@ -13,7 +13,7 @@ ghost use Rattle.js_auto.specs.declared.fault.AutoFault.{AutoFault};
 use crate::chooser::GoalChooser;
 use crate::fault::{AutoFault, fault_of};
 use js_kind::{LexerConfig, RuntimeLexerConfig, Token};
-use js_session::{Command, CommandList, Report, Row, Session, Steps, text_of};
+use js_session::{Command, CommandList, Report, Row, Session, Steps, utf8_text};
 use js_text::SourceType;
 use std::alloc::{AllocError, Global};
 use std::marker::Brand;
@@ -105,7 +105,7 @@ fn auto_uncounted<L: Ledger>(
     ensures ok { OnOk result (IsReadable source.now) }
     ensures cause { IfErr result (λ fault. (fault ≡ AutoFault.Memory) ⊎ AutoCause source.now fault) }
 {
-    let text = match text_of(source) {
+    let text = match utf8_text(source) {
         Ok(text) => text,
         Err(fault) => return Err(fault_of(fault)),
     };

@@ -9,7 +9,7 @@ use js_kind::Kind;
 #[derive(Clone, Copy, PartialEq, Eq, Debug)]
 pub(crate) enum Brace {
     /// A block, an object or another thing between `{` and `}`.
-    Plain,
+    Block,
     /// A substitution in a template, between `${` and `}`.
     Template,
 }
@@ -19,8 +19,8 @@ pub(crate) enum Brace {
 pub(crate) enum BraceEffect {
     /// Opens one.
     Opens(Brace),
-    /// Closes the one that was opened last, if that is a plain one.
-    ClosesPlain,
+    /// Closes the one that was opened last, if that is one of a block.
+    ClosesBlock,
     /// Closes the one that was opened last.
     ClosesAny,
     Leaves,
@@ -32,9 +32,9 @@ pub(crate) fn effect_of(kind: Kind) -> BraceEffect
     ensures { result ≡ effect_of kind }
 {
     match kind {
-        Kind::LCurly => BraceEffect::Opens(Brace::Plain),
+        Kind::LCurly => BraceEffect::Opens(Brace::Block),
         Kind::TemplateHead => BraceEffect::Opens(Brace::Template),
-        Kind::RCurly => BraceEffect::ClosesPlain,
+        Kind::RCurly => BraceEffect::ClosesBlock,
         Kind::TemplateTail => BraceEffect::ClosesAny,
         _ => BraceEffect::Leaves,
     }

@@ -6,7 +6,7 @@ ghost use Rattle.js_text.specs.Lists.{with_last};
 ghost use Rattle.js_kind.specs.Kinds.{is_one_of};
 ghost use Rattle.js_kind.specs.TokenParts.{TokenParts};
 ghost use Rattle.js_grammar.specs.ReLexed.{again_kinds};
-ghost use Rattle.js_auto.specs.Braces.{effect_of, after_effect, open_behind, without_plain, is_in_substitution};
+ghost use Rattle.js_auto.specs.Braces.{effect_of, after_effect, open_behind, without_block, is_in_substitution};
 ghost use Rattle.js_auto.specs.Choice.{begins_expression, choice, chooser_of, ends_only_jsx, ends_operand};
 ghost use Rattle.js_auto.specs.Choice.{choice_behind, ends_substitution};
 
@@ -105,9 +105,9 @@ impl GoalChooser {
         self.stack.pop();
     }
 
-    /// Closes the brace that was opened last, if it is a plain one.
-    fn close_plain(&mut self)
-        ensures { self.new ≡ record self.old { stack = without_plain self.old.stack } }
+    /// Closes the brace that was opened last, if it is one of a block.
+    fn close_block(&mut self)
+        ensures { self.new ≡ record self.old { stack = without_block self.old.stack } }
     {
         if !self.is_in_substitution() {
             self.close_any();
@@ -129,7 +129,7 @@ impl GoalChooser {
     {
         match effect_of(kind) {
             BraceEffect::Opens(brace) => self.open_brace(brace)?,
-            BraceEffect::ClosesPlain => self.close_plain(),
+            BraceEffect::ClosesBlock => self.close_block(),
             BraceEffect::ClosesAny => self.close_any(),
             BraceEffect::Leaves => {}
         }

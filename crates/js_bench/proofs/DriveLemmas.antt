@@ -15,7 +15,7 @@ use Rattle.js_grammar.specs.declared.goal.Goal.TheVariants.{Next as NextGoal, Re
 use Rattle.js_grammar.specs.declared.goal.Goal.TheVariants.{TemplateTail as TailGoal}
 use Rattle.js_lexer.specs.Goals.{ReadsRegex}
 use Rattle.js_reader.specs.Goals.{info_of}
-use Rattle.js_lexer.specs.Lexer.{IsBehindFor, IsOnPlaces, LexerState, ReadsAgain, ReadsToken, token_or_default}
+use Rattle.js_lexer.specs.Lexer.{IsBehindFor, IsOnPlaces, LexerState, LexesAgain, ReadsToken, token_or_default}
 use Rattle.js_session.specs.Effects.{effect_of}
 use Rattle.js_session.specs.Effects.Effect.{re_lexes}
 use Rattle.js_session.specs.Live.{State}
@@ -120,7 +120,7 @@ length-with_last (t ∷ u ∷ us) token = ap (λ n. suc n) (length-with_last (u 
 step_again : (goal : Goal) (command : Command) (old new : LexerState) (c d : Chooser) (token : TokenParts)
     (regex : Option RegexInfo) → effect_of command ≡ re_lexes goal
     → fits old.text goal (token_or_default old.last) ≡ true
-    → (r : ReadsAgain goal old token new) → r.outcome.regex ≡ regex
+    → (r : LexesAgain goal old token new) → r.outcome.regex ≡ regex
     → ((tokens : List TokenParts) → c ≡ chooser_of tokens → d ≡ chooser_of (with_last tokens token))
     → MakesStep command 0 old c new d
 step_again goal command old new c d token regex effect fit r known told s h =
@@ -238,7 +238,7 @@ step_expression old new c d found to r told =
 
 -- a token that was read again, as a part of a template
 pub step_part : (old new : LexerState) (c d : Chooser) (token : TokenParts) → DrivesTo TemplateTail old c
-    → ReadsAgain TailGoal old token new
+    → LexesAgain TailGoal old token new
     → ((tokens : List TokenParts) → c ≡ chooser_of tokens → d ≡ chooser_of (with_last tokens token))
     → MakesStep TemplateTail 0 old c new d
 step_part old new c d token to r told =

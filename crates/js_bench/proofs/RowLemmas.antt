@@ -14,7 +14,7 @@ use Rattle.js_grammar.specs.Values.{IsValueOf, decoded_units, template_row_value
 use Rattle.js_grammar.specs.declared.goal.Goal.{Goal}
 use Rattle.js_grammar.proofs.Values.{goal_reads_value}
 use Rattle.js_reader.specs.Decoded.{HasValue, IsKeptAs, Values}
-use Rattle.js_lexer.specs.Lexer.{LexerState, ReadsAgain, ReadsOutcome, ReadsToken}
+use Rattle.js_lexer.specs.Lexer.{LexerState, LexesAgain, ReadsOutcome, ReadsToken}
 use Rattle.js_session.specs.Live.{row_of}
 use Rattle.js_session.specs.RowReader.{HoldsKept, HoldsPart, HoldsUnits, HoldsValue, ReadsRow}
 use Rattle.js_session.specs.RowReader.{ReadsRowAgain}
@@ -51,7 +51,7 @@ holds_value goal old decoded token o u reads same has =
     record {
       escaped = λ e. holds_kept (is_template_kind token.kind) decoded token.start (from_place old.text token.start)
           o.value (has e) (is.decoded e);
-      plain = is.plain;
+      unescaped = is.unescaped;
     }
 
 -- The row of a token that was read on.
@@ -68,7 +68,7 @@ row_read goal command old new token onward u r =
 
 -- The row of a token that was read again, of which this is known as a regular expression.
 pub row_read_again : (goal : Goal) (command : Option Command) (old new : LexerState) (token : TokenParts)
-    (regex : Option RegexInfo) → IsUtf8 old.text → (r : ReadsAgain goal old token new) → r.outcome.regex ≡ regex
+    (regex : Option RegexInfo) → IsUtf8 old.text → (r : LexesAgain goal old token new) → r.outcome.regex ≡ regex
     → ReadsRowAgain goal command old (row_made command old token regex r.outcome.value new) new
 row_read_again goal command old new token regex u r known =
     made_row_again goal command old new (lengths_of old.findings) old.place (record { token = token; regex = regex }) u

@@ -8,7 +8,7 @@ use Rattle.js_kind.specs.declared.kind.Kind.{Kind}
 use Rattle.js_grammar.specs.ReLexed.{again_kinds}
 use Rattle.js_grammar.specs.declared.goal.Goal.{Goal}
 use Rattle.js_lexer.specs.Goals.{ReadsRegex}
-use Rattle.js_lexer.specs.Lexer.{ReadsAgain}
+use Rattle.js_lexer.specs.Lexer.{LexesAgain}
 use Rattle.js_cursor.specs.Cursor.{CursorState, is_at, is_at_token_end}
 
 -- No fatal error stands, and the lexer stands where the current token ends.
@@ -21,7 +21,7 @@ may_re_lex goal c = is_one_of (again_kinds goal) c.token.kind && is_free c
 
 -- The current token was read again for the goal, and the new one stands in its place.
 pub record ReLexes (goal : Goal) (old new : CursorState) : Type 0 where
-  pub read : ReadsAgain goal old.lexer new.token new.lexer
+  pub read : LexesAgain goal old.lexer new.token new.lexer
   pub others : new ≡ record old { lexer = new.lexer; token = new.token }
 
 -- the `-` is next with which a name of JSX goes on

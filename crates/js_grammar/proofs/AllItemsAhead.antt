@@ -5,7 +5,7 @@ use Rattle.std.proofs.Common.{Option, Some, None, append_assoc}
 use Rattle.std.proofs.lemmas.Bool.{eqb-true}
 use Rattle.std.proofs.lemmas.List.{append_cancel_right}
 use Rattle.js_text.specs.Ascii.{carriage_return, backslash}
-use Rattle.js_grammar.specs.StringItems.{StringItem, StringItems, plain_item, escape, ends_string, string_item, no_item}
+use Rattle.js_grammar.specs.StringItems.{StringItem, StringItems, ordinary_item, escape, ends_string, string_item, no_item}
 use Rattle.js_grammar.specs.StringItems.{items_before, items_up_to, string_text}
 use Rattle.js_grammar.specs.Template.{ends_part, carriage_return_item, template_item}
 use Rattle.js_grammar.proofs.Ahead.{BeginAlike, alike_behind}
@@ -110,8 +110,8 @@ made here there find local xs us ys zs item alike here_is there_is is e =
     ∙ ap Some
     (local xs us ys zs alike (ap (λ (i : StringItem). i.rest) same ∙ e) ∙ ap (λ i. up_to i (us ++ zs)) same)
 
-plain_local : (c : ℕ) → IsLocal (plain_item c)
-plain_local c xs us ys zs alike e = ap (plain_item c) (drop_local 0 xs us ys zs alike e)
+plain_local : (c : ℕ) → IsLocal (ordinary_item c)
+plain_local c xs us ys zs alike e = ap (ordinary_item c) (drop_local 0 xs us ys zs alike e)
 
 none_or : {A : Type 0} (found : Option StringItem) (item : StringItem) → found ≡ Some item → found ≡ None → A
 none_or found item is e = absurd (let none : None ≡ Some item = sym e ∙ is in cc)
@@ -133,7 +133,7 @@ string_some quote (x ∷ xs) us ys zs item alike is e =
           elim (true_or_false (ends_string quote x)) [
             | inl ends ↦ none_or here item is (string_ends quote x (xs ++ ys) other ends)
             | inr on ↦
-                made here there (plain_item x) (plain_local x) xs us ys zs item alike
+                made here there (ordinary_item x) (plain_local x) xs us ys zs item alike
                 (string_plain quote x (xs ++ ys) other on) (string_plain quote x (xs ++ zs) other on) is e
           ]
     ]
@@ -149,7 +149,7 @@ string_none quote x us ys zs alike e =
       | inr other ↦
           elim (true_or_false (ends_string quote x)) [
             | inl ends ↦ string_ends quote x (us ++ zs) other ends
-            | inr on ↦ none_or here (plain_item x (us ++ ys)) (string_plain quote x (us ++ ys) other on) e
+            | inr on ↦ none_or here (ordinary_item x (us ++ ys)) (string_plain quote x (us ++ ys) other on) e
           ]
     ]
 
@@ -186,7 +186,7 @@ template_some (x ∷ xs) us ys zs item alike is e =
                       (ap (λ d. template_item (d ∷ (xs ++ ys))) same)
                       (ap (λ d. template_item (d ∷ (xs ++ zs))) same) is e)
                   | inr plain ↦
-                      made here there (plain_item x) (plain_local x) xs us ys zs item alike
+                      made here there (ordinary_item x) (plain_local x) xs us ys zs item alike
                       (template_plain x (xs ++ ys) other on plain)
                       (template_plain x (xs ++ zs) other (same_end ∙ on) plain) is e
                 ]
@@ -211,7 +211,7 @@ template_none x us ys zs alike e =
                       none_or here (carriage_return_item (us ++ ys))
                       (ap (λ d. template_item (d ∷ (us ++ ys))) (eqb-true x carriage_return line)) e
                   | inr plain ↦
-                      none_or here (plain_item x (us ++ ys)) (template_plain x (us ++ ys) other on plain) e
+                      none_or here (ordinary_item x (us ++ ys)) (template_plain x (us ++ ys) other on plain) e
                 ]
           ]
     ]

@@ -11,7 +11,7 @@ use Rattle.js_grammar.specs.Punctuators.{Punctuator, punctuators, IsIn}
 use Rattle.js_grammar.specs.Spelling.{is_escaped}
 use Rattle.js_grammar.specs.TokenText.{is_named, is_private_name, is_quoted, is_valued}
 use Rattle.js_grammar.specs.Spelling.{value_of}
-use Rattle.js_grammar.specs.TokenText.{plain_value}
+use Rattle.js_grammar.specs.TokenText.{unescaped_value}
 use Rattle.js_grammar.proofs.PunctuatorLemmas.{passes_at}
 use Rattle.js_grammar.proofs.Tests.{and_true}
 
@@ -77,9 +77,9 @@ pub has_no_value : (kind : Kind) (xs ys : List ℕ) (end : ℕ) → is_valued ki
 has_no_value kind xs ys end e =
     let none = none_of_them kind e in rw (none.no_name, none.no_private_name, none.no_quoted) refl
 
-pub has_no_plain_value : (kind : Kind) (start end : ℕ) → is_valued kind ≡ false
-    → plain_value kind start end ≡ Nothing
-has_no_plain_value kind start end e = rw e refl
+pub has_no_unescaped_value : (kind : Kind) (start end : ℕ) → is_valued kind ≡ false
+    → unescaped_value kind start end ≡ Nothing
+has_no_unescaped_value kind start end e = rw e refl
 
 pub has_no_escape : (kind : Kind) (xs : List ℕ) → is_valued kind ≡ false → is_escaped kind xs ≡ false
 has_no_escape kind xs e =

@@ -26,7 +26,7 @@ use Rattle.js_grammar.specs.RegularExpression.{ends_flags, expression_of_body, l
 use Rattle.js_grammar.specs.RegularExpression.{regular_expression_reading, right_square_bracket}
 use Rattle.js_grammar.specs.RegularExpression.{unterminated_expression}
 use Rattle.js_grammar.specs.RegularExpression.{with_flags_behind}
-use Rattle.js_grammar.specs.TokenText.{is_private_name, is_quoted, is_valued, plain_value}
+use Rattle.js_grammar.specs.TokenText.{is_private_name, is_quoted, is_valued, unescaped_value}
 use Rattle.js_grammar.specs.StringItems.{is_quote}
 use Rattle.js_grammar.specs.UnicodeEscape.{left_curly_bracket}
 use Rattle.js_grammar.proofs.NumberItems.{true_or_false}
@@ -205,7 +205,7 @@ pub record IsRead (text : List ℕ) (read : Reading) : Type 0 where
   pub line : read.line_ended ≡ false
   pub escaped : read.escaped ≡ false
   pub separator : read.has_separator ≡ false
-  pub value : read.value ≡ plain_value read.kind 0 (size_of read)
+  pub value : read.value ≡ unescaped_value read.kind 0 (size_of read)
   pub no_private : is_private_name read.kind ≡ false
   pub spelling : is_re_lexed read.kind ≡ true → read.taken ≡ kind_text read.kind
   pub quotes : is_quoted read.kind ≡ true → IsBetweenQuotes text read.rest read.kind
@@ -258,7 +258,7 @@ pub record IsPlain (text : List ℕ) (read : Reading) : Type 0 where
   pub separator : read.has_separator ≡ false
 
 of_kind : (text : List ℕ) (read : Reading) → IsBare read.kind → IsPlain text read
-    → read.value ≡ plain_value read.kind 0 (size_of read) → IsTaken text read → IsRead text read
+    → read.value ≡ unescaped_value read.kind 0 (size_of read) → IsTaken text read → IsRead text read
 of_kind text read is plain value taken = record {
   taken = taken;
   line = plain.line;
@@ -270,7 +270,7 @@ of_kind text read is plain value taken = record {
   quotes = never (is_quoted read.kind) is.no_quotes;
 }
 
-nothing_is_plain : (kind : Kind) (size : ℕ) → is_valued kind ≡ false → Nothing ≡ plain_value kind 0 size
+nothing_is_plain : (kind : Kind) (size : ℕ) → is_valued kind ≡ false → Nothing ≡ unescaped_value kind 0 size
 nothing_is_plain kind size none = rw none refl
 
 characters_are_taken : (text : List ℕ) (read : Reading) → IsPlain text read → TakesCharacters text read.rest

@@ -14,7 +14,7 @@ use Rattle.js_kind.specs.declared.kind.Kind.TheVariants.{Eof, GtEq, Ident, JSXTe
 use Rattle.js_kind.specs.declared.kind.Kind.TheVariants.{ShiftRight, ShiftRight3, ShiftRight3Eq, ShiftRightEq, Str}
 use Rattle.js_grammar.specs.Angle.{angle_reading, right_angles, first_left_angle, first_right_angle}
 use Rattle.js_grammar.specs.Reading.{Reading, read_up_to, size_of}
-use Rattle.js_grammar.specs.TokenText.{plain_value}
+use Rattle.js_grammar.specs.TokenText.{unescaped_value}
 use Rattle.js_grammar.specs.Jsx.{jsx_child_reading, jsx_name_reading, jsx_string_reading, jsx_child_warnings}
 use Rattle.js_grammar.specs.RegularExpression.{expression_of_body, regular_expression_reading}
 use Rattle.js_grammar.specs.StringItems.{stretch}
@@ -67,7 +67,7 @@ Reads read kind text left reported = read ≡ Some (record (read_up_to kind text
 abbrev ReadsText : Option Reading → Kind → List ℕ → List ℕ → Type 0
 ReadsText read kind text left =
     read ≡ Some (record (read_up_to kind text left)
-    { value = plain_value kind 0 (size_of (read_up_to kind text left)) })
+    { value = unescaped_value kind 0 (size_of (read_up_to kind text left)) })
 
 angles :
     Reads (angle_reading right_angles (codes ">>")) ShiftRight (codes ">>") [] []

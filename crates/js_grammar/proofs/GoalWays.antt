@@ -24,7 +24,7 @@ use Rattle.js_grammar.specs.RegularExpression.{regular_expression_reading}
 use Rattle.js_grammar.specs.ReLexed.{HasSpelling, is_re_lexed}
 use Rattle.js_grammar.specs.TokenText.{is_private_name, is_quoted, closing_length}
 use Rattle.js_kind.specs.declared.kind.Kind.TheVariants.{Eof, Str}
-use Rattle.js_grammar.specs.TokenText.{plain_value}
+use Rattle.js_grammar.specs.TokenText.{unescaped_value}
 use Rattle.js_grammar.specs.declared.goal.Goal.{Goal}
 use Rattle.js_grammar.specs.declared.goal.Goal.TheVariants.{First, Next, TemplateTail as TailGoal}
 use Rattle.js_grammar.specs.declared.goal.Goal.TheVariants.{RegularExpression, RightAngle, TypeScriptLeftAngle}
@@ -32,7 +32,7 @@ use Rattle.js_grammar.specs.declared.goal.Goal.TheVariants.{TypeScriptRightAngle
 use Rattle.js_grammar.specs.declared.goal.Goal.TheVariants.{JsxAttributeValue}
 use Rattle.js_grammar.proofs.GoalReadings.{IsBetweenQuotes, IsRead, angle_is_read, angles, attribute_is_read}
 use Rattle.js_grammar.proofs.GoalReadings.{child_is_read, expression_read, is_angle, jsx_name_is_read}
-use Rattle.js_grammar.proofs.ReadingLemmas.{plain_value_moved}
+use Rattle.js_grammar.proofs.ReadingLemmas.{unescaped_value_moved}
 use Rattle.js_grammar.proofs.Spans.{IsSpan, part_span, plainly_places, plainly_span, taken_span}
 
 -- A token without an escape was read from its start on: what is known of it.
@@ -41,7 +41,7 @@ pub record Takes (text : List ℕ) (o : Outcome) : Type 0 where
   pub end : IsCharBoundary text o.token.end
   pub span : IsUtf8 text → IsSpan o.token
   pub escaped : o.token.escaped ≡ false
-  pub value : o.value ≡ plain_value o.token.kind o.token.start o.token.end
+  pub value : o.value ≡ unescaped_value o.token.kind o.token.start o.token.end
   pub no_private : is_private_name o.token.kind ≡ false
   pub spelling : HasSpelling text o.token
   pub quotes : is_quoted o.token.kind ≡ true
@@ -85,10 +85,10 @@ outcome_takes text line_has_ended start found o begins end rest is outcome =
           };
       escaped = ap (λ x. x.token.escaped) outcome ∙ is.escaped;
       value = ap (λ x. x.value) outcome ∙ ap (moved_value start) is.value
-          ∙ plain_value_moved found.kind start (size_of found) (quotes_size (from_place text start) found is)
-          ∙ ap (λ n. plain_value found.kind start n) (sym ends)
-          ∙ ap (λ k. plain_value k start o.token.end) (sym kind)
-          ∙ ap (λ n. plain_value o.token.kind n o.token.end) (sym at);
+          ∙ unescaped_value_moved found.kind start (size_of found) (quotes_size (from_place text start) found is)
+          ∙ ap (λ n. unescaped_value found.kind start n) (sym ends)
+          ∙ ap (λ k. unescaped_value k start o.token.end) (sym kind)
+          ∙ ap (λ n. unescaped_value o.token.kind n o.token.end) (sym at);
       no_private = ap is_private_name kind ∙ is.no_private;
       spelling = λ again.
           ap (from_place text) at ∙ here

@@ -21,7 +21,7 @@ use Rattle.js_grammar.specs.Jsx.{jsx_text_reading, reported}
 use Rattle.js_grammar.specs.NumberReads.{empty_span}
 use Rattle.js_grammar.specs.Reading.{Reading, before_rest, read_up_to, size_of}
 use Rattle.js_grammar.specs.StringItems.{is_quote}
-use Rattle.js_grammar.specs.TokenText.{plain_value}
+use Rattle.js_grammar.specs.TokenText.{unescaped_value}
 use Rattle.js_grammar.specs.UnicodeEscape.{left_curly_bracket}
 use Rattle.js_grammar.proofs.Ahead.{AgreeFor, BeginAlike, agree_behind, alike_behind, are_ascii, begins_alike}
 use Rattle.js_grammar.proofs.Ahead.{nothing_before, prefix_agrees}
@@ -162,7 +162,7 @@ jsx_string_local (x ∷ xs) ys zs alike r found left =
         let rest : ds ≡ ys = ap (λ (y : Reading). y.rest) same ∙ left in
         let there = first_local (λ c. c == x) xs ys zs (d ∷ []) alike (e ∙ ap (λ t. d ∷ t) rest) in
         ap (jsx_string_before (x ∷ (xs ++ zs))) there.from
-        ∙ ap (λ (r : Reading). record r { value = plain_value Str 0 (size_of r) }) (up_to_same Str (x ∷ xs) ys zs)
+        ∙ ap (λ (r : Reading). record r { value = unescaped_value Str 0 (size_of r) }) (up_to_same Str (x ∷ xs) ys zs)
         ∙ ap (λ t. record (jsx_string_before (x ∷ (xs ++ ys)) (d ∷ t)) { rest = zs }) (sym rest)
         ∙ ap (λ (y : Reading). record y { rest = zs }) same
 

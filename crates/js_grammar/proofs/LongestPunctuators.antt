@@ -12,7 +12,7 @@ use Rattle.js_text.specs.Characters.{begins}
 use Rattle.js_text.specs.declared.source_type.SourceType.{SourceType}
 use Rattle.js_grammar.specs.Gap.{is_prefix}
 use Rattle.js_grammar.specs.Punctuators.{Punctuator, punctuators, IsIn, is_spelled, LongestPunctuator, NoPunctuator}
-use Rattle.js_grammar.specs.Punctuators.{plain, before_no_digit, slash as slash_alone, left_angle, is_optional_dot}
+use Rattle.js_grammar.specs.Punctuators.{unrestricted, before_no_digit, slash as slash_alone, left_angle, is_optional_dot}
 use Rattle.js_grammar.specs.Punctuators.{is_excluded, next_in, going_on, is_not_next}
 use Rattle.js_grammar.proofs.Tests.{and_true}
 use Rattle.js_kind.specs.Kinds.{kind_text}
@@ -135,7 +135,7 @@ dot t line_has_ended cs two digit = record {
 pub question : (t : SourceType) (line_has_ended : Bool) (cs : List ℕ) → begins (λ c. c == 63) cs ≡ false
     → is_optional_dot cs ≡ false → LongestPunctuator t line_has_ended (63 ∷ cs) cs Question
 question t line_has_ended cs one optional = record {
-  it = plain Question;
+  it = unrestricted Question;
   in_table = listed refl;
   here = refl;
   allowed = refl;

@@ -10,7 +10,7 @@ use Rattle.js_grammar.specs.Name.{NameItem, NameFault, name_item, items_at, name
 use Rattle.js_grammar.specs.Name.{items_value}
 use Rattle.js_grammar.specs.Name.{has_fault, has_escape, continues_name, items_report, items_reading, name_reading}
 use Rattle.js_grammar.specs.Name.{contains_escape, name_value, behind_items, private_name_of}
-use Rattle.js_grammar.specs.Name.{escape_item, plain_item, fault_report}
+use Rattle.js_grammar.specs.Name.{escape_item, ordinary_item, fault_report}
 use Rattle.js_grammar.specs.Reading.{Reading, place_behind}
 use Rattle.js_grammar.proofs.NameItems.{item_takes, item_anywhere}
 use Rattle.js_grammar.proofs.ReadingLemmas.{taken_is}
@@ -52,12 +52,12 @@ step_over zero c cs some = absurd (omega arith)
 step_over (suc n) c cs some = let e : n ≡ suc n - 1 = omega arith in ap (λ k. drop k cs) e
 
 -- The text, cut into its items, and what is left of it.
-pub record IsCut (allowed : ℕ → Bool) (text : List ℕ) (items : List NameItem) : Type 0 where
+pub record IsNameCut (allowed : ℕ → Bool) (text : List ℕ) (items : List NameItem) : Type 0 where
   pub rest : List ℕ
   pub cut : CutsInto allowed text items rest
 
 cut_at : (skipped : ℕ) (allowed : ℕ → Bool) (text : List ℕ)
-    → IsCut allowed (drop skipped text) (items_at skipped allowed text)
+    → IsNameCut allowed (drop skipped text) (items_at skipped allowed text)
 cut_at zero allowed [] = record { rest = []; cut = (refl, refl) }
 cut_at (suc skipped) allowed [] = record { rest = []; cut = (refl, refl) }
 cut_at (suc skipped) allowed (c ∷ cs) = cut_at skipped allowed cs
@@ -65,8 +65,8 @@ cut_at zero allowed (c ∷ cs) =
     by_item (name_item allowed (c ∷ cs)) refl (λ n. cut_at n is_identifier_part cs)
   where
     by_item : (o : Option NameItem) → name_item allowed (c ∷ cs) ≡ o
-        → ((n : ℕ) → IsCut is_identifier_part (drop n cs) (items_at n is_identifier_part cs))
-        → IsCut allowed (c ∷ cs) (items_at zero allowed (c ∷ cs))
+        → ((n : ℕ) → IsNameCut is_identifier_part (drop n cs) (items_at n is_identifier_part cs))
+        → IsNameCut allowed (c ∷ cs) (items_at zero allowed (c ∷ cs))
     by_item None e more = rw e (record { rest = c ∷ cs; cut = (e, refl) })
     by_item (Some item) e more =
         let takes = item_takes allowed (c ∷ cs) item e in
@@ -83,7 +83,7 @@ cut_at zero allowed (c ∷ cs) =
           );
         })
 
-pub items_cut : (allowed : ℕ → Bool) (text : List ℕ) → IsCut allowed text (name_items allowed text)
+pub items_cut : (allowed : ℕ → Bool) (text : List ℕ) → IsNameCut allowed text (name_items allowed text)
 items_cut allowed text = cut_at 0 allowed text
 
 pub one_cut : (allowed : ℕ → Bool) (text : List ℕ) (items others : List NameItem) (rest left : List ℕ)
@@ -170,7 +170,7 @@ nothing_continues (c ∷ cs) e = by_class (is_identifier_part c) (c == backslash
         → (is_identifier_part c || (c == backslash)) ≡ false
     by_class part true p m =
         let no : Some (escape_item is_identifier_part cs) ≡ None = rw m at e in absurd (cc)
-    by_class true false p m = let no : Some (plain_item c) ≡ None = rw (m, p) at e in absurd (cc)
+    by_class true false p m = let no : Some (ordinary_item c) ≡ None = rw (m, p) at e in absurd (cc)
     by_class false false p m = rw (p, m) refl
 
 or_false : (a b : Bool) → (a || b) ≡ false → (a ≡ false) × (b ≡ false)
@@ -251,14 +251,14 @@ escapes_of_cut allowed text (item ∷ items) rest cut =
     ∙ ap (λ b. b || has_escape (items_text items)) (item_takes allowed text item cut.0).escape
     ∙ ap (λ b. item.is_escape || b) more
 
-pub plain_items : (allowed : ℕ → Bool) (text : List ℕ) (items : List NameItem) (rest : List ℕ)
+pub ordinary_items : (allowed : ℕ → Bool) (text : List ℕ) (items : List NameItem) (rest : List ℕ)
     → CutsInto allowed text items rest → list_any (λ item. item.is_escape) items ≡ false
     → (has_fault items ≡ false) × (items_value items ≡ items_text items)
-plain_items allowed text [] rest cut none = (refl, refl)
-plain_items allowed text (item ∷ items) rest cut none =
+ordinary_items allowed text [] rest cut none = (refl, refl)
+ordinary_items allowed text (item ∷ items) rest cut none =
     let both = or_false item.is_escape (list_any (λ item. item.is_escape) items) none in
     let takes = item_takes allowed text item cut.0 in
-    let more = plain_items is_identifier_part (drop (length item.text) text) items rest cut.1 both.1 in (
+    let more = ordinary_items is_identifier_part (drop (length item.text) text) items rest cut.1 both.1 in (
       rw (takes.whole both.0) more.0,
       ap (λ xs. xs ++ items_value items) (takes.plain both.0) ∙ ap (λ xs. item.text ++ xs) more.1,
     )

@@ -15,7 +15,7 @@ use Rattle.js_kind.specs.Digits.{is_digit_of}
 use Rattle.js_grammar.specs.Gap.{is_prefix}
 use Rattle.js_grammar.specs.Name.{NameItem, NameFault, latin_small_letter_u, is_surrogate, low_surrogate_escape}
 use Rattle.js_grammar.specs.Name.{surrogate_text, item_of_code_point, item_of_escape, escape_item, name_item}
-use Rattle.js_grammar.specs.Name.{plain_item}
+use Rattle.js_grammar.specs.Name.{ordinary_item}
 use Rattle.js_grammar.specs.Name.{good_escape, faulty_escape, has_escape}
 use Rattle.js_grammar.specs.Name.NameFault.{bad_escape, not_allowed}
 use Rattle.js_grammar.specs.UnicodeEscape.{UnicodeEscape, hex_digits, four_digits, digits_of_code_point, braced_digits}
@@ -413,7 +413,7 @@ escape_is_item text item takes = record {
   plain = λ none. let no : true ≡ false = sym takes.is_escape ∙ none in absurd (cc);
 }
 
-plain_is_item : (c : ℕ) (cs : List ℕ) → (c == backslash) ≡ false → TakesItem (c ∷ cs) (plain_item c)
+plain_is_item : (c : ℕ) (cs : List ℕ) → (c == backslash) ≡ false → TakesItem (c ∷ cs) (ordinary_item c)
 plain_is_item c cs other = record {
   left = cs;
   here = refl;
@@ -436,8 +436,8 @@ item_takes allowed (c ∷ cs) item e =
           (escape_is_item cs (escape_item allowed cs) (escape_takes allowed cs))))
       | inr other ↦ elim (true_or_false (allowed c)) [
         | inl is ↦ (
-            let found : Some (plain_item c) ≡ Some item = rw (other, is) at e in
-            let same : plain_item c ≡ item = cc in
+            let found : Some (ordinary_item c) ≡ Some item = rw (other, is) at e in
+            let same : ordinary_item c ≡ item = cc in
             subst (λ x. TakesItem (c ∷ cs) x) same (plain_is_item c cs other))
         | inr none ↦ (let no : None ≡ Some item = rw (other, none) at e in absurd (cc))
       ]
@@ -541,8 +541,8 @@ item_anywhere allowed (c ∷ cs) ys item e good =
           (escaped_anywhere allowed cs ys (ap (λ (x : NameItem). x.fault) same ∙ good)))
       | inr other ↦ elim (true_or_false (allowed c)) [
         | inl is ↦ (
-            let found : Some (plain_item c) ≡ Some item = rw (other, is) at e in
-            let same : plain_item c ≡ item = cc in
+            let found : Some (ordinary_item c) ≡ Some item = rw (other, is) at e in
+            let same : ordinary_item c ≡ item = cc in
             subst (λ (x : NameItem). name_item allowed (x.text ++ ys) ≡ Some x) same (rw (other, is) refl))
         | inr none ↦ (let no : None ≡ Some item = rw (other, none) at e in absurd (cc))
       ]

@@ -16,10 +16,10 @@ use Rattle.js_grammar.specs.Name.{NameItem, name_item, name_items, CutsInto, ite
 use Rattle.js_grammar.specs.Name.{has_escape, decoded, begins_name, continues_name, IsName, name_reading, name_value}
 use Rattle.js_grammar.specs.Name.{contains_escape, private_name_of}
 use Rattle.js_grammar.specs.Reading.{Reading, before_rest}
-use Rattle.js_grammar.specs.Name.{items_report, is_no_part, plain_item, escape_item}
+use Rattle.js_grammar.specs.Name.{items_report, is_no_part, ordinary_item, escape_item}
 use Rattle.js_grammar.proofs.NameCuts.{name_of, items_cut, cut_items, cut_text, read_of_cut, private_of_cut, no_item}
 use Rattle.js_grammar.proofs.NameCuts.{nothing_continues}
-use Rattle.js_grammar.proofs.NameCuts.{cut_anywhere, none_behind, escapes_of_cut, plain_items, nothing_reported}
+use Rattle.js_grammar.proofs.NameCuts.{cut_anywhere, none_behind, escapes_of_cut, ordinary_items, nothing_reported}
 use Rattle.js_grammar.proofs.NameCuts.{reports_nothing}
 use Rattle.js_grammar.proofs.NameItems.{backslash_is_no_name, item_takes}
 use Rattle.js_grammar.proofs.NameLemmas.{parts_end}
@@ -101,7 +101,7 @@ some_item (c ∷ cs) begun none =
     elim (true_or_false (c == backslash)) [
       | inl mark ↦ (let no : Some (escape_item is_identifier_start cs) ≡ None = rw mark at none in cc)
       | inr other ↦ elim (true_or_false (is_identifier_start c)) [
-        | inl is ↦ (let no : Some (plain_item c) ≡ None = rw (other, is) at none in cc)
+        | inl is ↦ (let no : Some (ordinary_item c) ≡ None = rw (other, is) at none in cc)
         | inr missing ↦ (let nothing : false ≡ true = rw (missing, other) at begun in cc)
       ]
     ]
@@ -216,17 +216,17 @@ name_has_fault_only_escaped place text faults =
     elim (true_or_false (contains_escape items)) [
       | inl some ↦ some
       | inr none ↦ (
-          let plain = plain_items is_identifier_start text items found.rest found.cut none in
+          let plain = ordinary_items is_identifier_start text items found.rest found.cut none in
           absurd (faults (nothing_reported place items plain.0)))
     ]
 
 -- A name without escapes stands for itself.
-pub plain_decoded : (xs : List ℕ) → IsName xs → has_escape xs ≡ false → decoded xs ≡ xs
-plain_decoded xs is none =
+pub unescaped_decoded : (xs : List ℕ) → IsName xs → has_escape xs ≡ false → decoded xs ≡ xs
+unescaped_decoded xs is none =
     let items = name_items is_identifier_start xs in
     let found = items_cut is_identifier_start xs in
     let escapes = sym (escapes_of_cut is_identifier_start xs items found.rest found.cut) ∙ ap has_escape is.whole in
-    (plain_items is_identifier_start xs items found.rest found.cut (escapes ∙ none)).1 ∙ is.whole
+    (ordinary_items is_identifier_start xs items found.rest found.cut (escapes ∙ none)).1 ∙ is.whole
 
 class_differs : (allowed : ℕ → Bool) (c : ℕ) → allowed backslash ≡ false → allowed c ≡ true
     → (c == backslash) ≡ false
@@ -236,34 +236,34 @@ class_differs allowed c none is =
       | inr other ↦ other
     ]
 
-pub plain_here : (allowed : ℕ → Bool) (c : ℕ) (cs : List ℕ) → allowed backslash ≡ false → allowed c ≡ true
-    → name_item allowed (c ∷ cs) ≡ Some (plain_item c)
-plain_here allowed c cs none is = rw (class_differs allowed c none is, is) refl
+pub ordinary_here : (allowed : ℕ → Bool) (c : ℕ) (cs : List ℕ) → allowed backslash ≡ false → allowed c ≡ true
+    → name_item allowed (c ∷ cs) ≡ Some (ordinary_item c)
+ordinary_here allowed c cs none is = rw (class_differs allowed c none is, is) refl
 
 -- Parts up to what is none are items, whatever items go on with the name.
-pub plain_parts : (cs : List ℕ) (more : List NameItem) (left : List ℕ)
+pub ordinary_parts : (cs : List ℕ) (more : List NameItem) (left : List ℕ)
     → CutsInto is_identifier_part (from_first is_no_part cs) more left
-    → CutsInto is_identifier_part cs (map plain_item (before_first is_no_part cs) ++ more) left
-plain_parts [] more left cut = cut
-plain_parts (c ∷ cs) more left cut =
+    → CutsInto is_identifier_part cs (map ordinary_item (before_first is_no_part cs) ++ more) left
+ordinary_parts [] more left cut = cut
+ordinary_parts (c ∷ cs) more left cut =
     elim (true_or_false (is_identifier_part c)) [
       | inl is ↦
           rw is
-          (plain_here is_identifier_part c cs backslash_is_no_name.1 is, plain_parts cs more left (rw is at cut))
+          (ordinary_here is_identifier_part c cs backslash_is_no_name.1 is, ordinary_parts cs more left (rw is at cut))
       | inr none ↦ rw none (rw none at cut)
     ]
 
 -- what they stand for
-pub record PlainItems (items : List NameItem) (xs : List ℕ) : Type 0 where
+pub record UnescapedItems (items : List NameItem) (xs : List ℕ) : Type 0 where
   pub value : items_value items ≡ xs
   pub text : items_text items ≡ xs
   pub good : has_fault items ≡ false
   pub escapes : list_any (λ item. item.is_escape) items ≡ false
 
-pub plain_values : (xs : List ℕ) → PlainItems (map plain_item xs) xs
-plain_values [] = record { value = refl; text = refl; good = refl; escapes = refl }
-plain_values (x ∷ xs) =
-    let more = plain_values xs in
+pub ordinary_values : (xs : List ℕ) → UnescapedItems (map ordinary_item xs) xs
+ordinary_values [] = record { value = refl; text = refl; good = refl; escapes = refl }
+ordinary_values (x ∷ xs) =
+    let more = ordinary_values xs in
     record {
       value = ap (λ ys. x ∷ ys) more.value;
       text = ap (λ ys. x ∷ ys) more.text;
@@ -278,8 +278,8 @@ ended [] no_part no_mark = refl
 ended (c ∷ cs) no_part no_mark = rw (no_mark, no_part) refl
 
 -- what is read of a name that has no escape
-abbrev pub plain_name_reading : List ℕ → List ℕ → Reading
-plain_name_reading xs rest = record {
+abbrev pub unescaped_name_reading : List ℕ → List ℕ → Reading
+unescaped_name_reading xs rest = record {
   taken = xs;
   rest = rest;
   kind = name_kind (encode_utf8_all xs);
@@ -291,40 +291,40 @@ plain_name_reading xs rest = record {
   diagnostics = [];
 }
 
-of_plain_items : (items : List NameItem) (xs rest : List ℕ) → items_text items ≡ xs → items_value items ≡ xs
-    → contains_escape items ≡ false → has_fault items ≡ false → name_of items rest ≡ plain_name_reading xs rest
-of_plain_items items xs rest text value escapes good =
+of_unescaped_items : (items : List NameItem) (xs rest : List ℕ) → items_text items ≡ xs → items_value items ≡ xs
+    → contains_escape items ≡ false → has_fault items ≡ false → name_of items rest ≡ unescaped_name_reading xs rest
+of_unescaped_items items xs rest text value escapes good =
     rw (text, value, escapes, nothing_reported 0 items good) refl
 
 -- A name of characters that stand for themselves.
-pub record PlainName (c : ℕ) (cs : List ℕ) : Type 0 where
+pub record UnescapedName (c : ℕ) (cs : List ℕ) : Type 0 where
   pub read : name_reading (c ∷ cs)
-      ≡ plain_name_reading (c ∷ before_first is_no_part cs) (from_first is_no_part cs)
+      ≡ unescaped_name_reading (c ∷ before_first is_no_part cs) (from_first is_no_part cs)
   pub name : BeginsWithName (c ∷ cs) (c ∷ before_first is_no_part cs) (from_first is_no_part cs)
   pub value : decoded (c ∷ before_first is_no_part cs) ≡ c ∷ before_first is_no_part cs
 
 pub plain_name : (c : ℕ) (cs : List ℕ) → is_identifier_start c ≡ true
     → begins (λ d. d == backslash) (from_first is_no_part cs) ≡ false
-    → PlainName c cs
+    → UnescapedName c cs
 plain_name c cs is end =
     let parts = before_first is_no_part cs in
     let rest = from_first is_no_part cs in
-    let items = map plain_item (c ∷ parts) in
+    let items = map ordinary_item (c ∷ parts) in
     let last : CutsInto is_identifier_part rest [] rest = (ended rest (parts_end cs) end, refl) in
     let cut : CutsInto is_identifier_start (c ∷ cs) items rest = (
-      plain_here is_identifier_start c cs backslash_is_no_name.0 is,
-      subst (λ xs. CutsInto is_identifier_part cs xs rest) (append-nil (map plain_item parts))
-          (plain_parts cs [] rest last),
+      ordinary_here is_identifier_start c cs backslash_is_no_name.0 is,
+      subst (λ xs. CutsInto is_identifier_part cs xs rest) (append-nil (map ordinary_item parts))
+          (ordinary_parts cs [] rest last),
     ) in
-    let values = plain_values (c ∷ parts) in
+    let values = ordinary_values (c ∷ parts) in
     let begun = name_of_cut (c ∷ cs) items rest cut (λ none. cc) values.good in
     let name : BeginsWithName (c ∷ cs) (c ∷ parts) rest =
     subst (λ xs. BeginsWithName (c ∷ cs) xs rest) values.text begun in
     record {
       read = read_of_cut (c ∷ cs) items rest cut
-          ∙ of_plain_items items (c ∷ parts) rest values.text values.value values.escapes values.good;
+          ∙ of_unescaped_items items (c ∷ parts) rest values.text values.value values.escapes values.good;
       name = name;
-      value = plain_decoded (c ∷ parts) name.name
+      value = unescaped_decoded (c ∷ parts) name.name
           (sym (ap has_escape values.text)
           ∙ escapes_of_cut is_identifier_start (c ∷ cs) items rest cut ∙ values.escapes);
     }

@@ -14,7 +14,7 @@ use Rattle.js_kind.specs.Digits.{is_digit_of}
 use Rattle.js_grammar.specs.Gap.{is_prefix}
 use Rattle.js_grammar.specs.Name.{NameItem, name_item, name_items, CutsInto, items_text, latin_small_letter_u}
 use Rattle.js_grammar.specs.Name.{is_surrogate, low_surrogate_escape, surrogate_text, item_of_code_point}
-use Rattle.js_grammar.specs.Name.{item_of_escape, escape_item, plain_item, good_escape, faulty_escape, name_reading}
+use Rattle.js_grammar.specs.Name.{item_of_escape, escape_item, ordinary_item, good_escape, faulty_escape, name_reading}
 use Rattle.js_grammar.specs.Name.{begins_name, private_reading, private_name_of}
 use Rattle.js_grammar.specs.Name.NameFault.{bad_escape, not_allowed}
 use Rattle.js_grammar.specs.Reading.{Reading}
@@ -278,7 +278,7 @@ none_same allowed ys zs alike none =
         elim (true_or_false (c == backslash)) [
           | inl mark ↦ (let no : Some (escape_item allowed us) ≡ None = rw mark at none in absurd (cc))
           | inr other ↦ elim (true_or_false (allowed c)) [
-            | inl good ↦ (let no : Some (plain_item c) ≡ None = rw (other, good) at none in absurd (cc))
+            | inl good ↦ (let no : Some (ordinary_item c) ≡ None = rw (other, good) at none in absurd (cc))
             | inr bad ↦ rw (other, bad) refl
           ]
         ]

@@ -6,7 +6,7 @@ use Rattle.std.proofs.lemmas.Bool.Decides.{nat_tests}
 use Rattle.unicode_ident.proofs.Computing.{unicode_ident}
 use Rattle.js_text.specs.Characters.{begins, is_identifier_start}
 use Rattle.js_text.specs.Ascii.{full_stop, low_line}
-use Rattle.js_grammar.specs.Number.{latin_small_letter_n, is_exponent_mark, may_not_follow_number}
+use Rattle.js_grammar.specs.Number.{latin_small_letter_n, is_exponent_indicator, may_not_follow_number}
 use Rattle.js_kind.specs.Digits.{is_digit_of}
 use Rattle.js_grammar.proofs.NumberItems.{Stops, true_or_false}
 use Rattle.js_grammar.proofs.Tests.{and_true}
@@ -75,8 +75,8 @@ pub or_true : (a b : Bool) → (a || b) ≡ true → (a ≡ true) ⊎ (b ≡ tru
 or_true true b e = inl refl
 or_true false b e = inr e
 
-pub is_exponent : (c : ℕ) → is_exponent_mark c ≡ true → (c ≡ 101) ⊎ (c ≡ 69)
-unfolding is_exponent_mark
+pub is_exponent : (c : ℕ) → is_exponent_indicator c ≡ true → (c ≡ 101) ⊎ (c ≡ 69)
+unfolding is_exponent_indicator
 is_exponent c e =
     elim (or_true (c == 101) (c == 69) e)
     [ inl small ↦ inl (eqb-true c 101 small) | inr large ↦ inr (eqb-true c 69 large) ]
@@ -85,7 +85,7 @@ is_exponent c e =
 pub record EndsNumber (ys : List ℕ) : Type 0 where
   pub run : (radix : ℕ) → radix ≤ 16 → Stops radix ys
   pub suffix : begins (λ c. c == latin_small_letter_n) ys ≡ false
-  pub exponent : begins is_exponent_mark ys ≡ false
+  pub exponent : begins is_exponent_indicator ys ≡ false
 
 pub ends_number : (ys : List ℕ) → begins may_not_follow_number ys ≡ false → EndsNumber ys
 ends_number ys e = record {
@@ -98,7 +98,7 @@ ends_number ys e = record {
       begins_no (λ c. c == latin_small_letter_n) may_not_follow_number ys
       (λ c same. is_mark latin_small_letter_n c marks_go_on.1 same) e;
   exponent =
-      begins_no is_exponent_mark may_not_follow_number ys
+      begins_no is_exponent_indicator may_not_follow_number ys
       (λ c mark. elim
       (is_exponent c mark) [
         | inl small ↦ ap may_not_follow_number small ∙ marks_go_on.2
@@ -123,7 +123,7 @@ exponents_are_no_digits : (is_digit_of 10 101 ≡ false) × (is_digit_of 10 69 �
 unfolding is_digit_of
 exponents_are_no_digits = (refl, refl)
 
-pub exponent_stops : (c : ℕ) (ys : List ℕ) → is_exponent_mark c ≡ true → Stops 10 (c ∷ ys)
+pub exponent_stops : (c : ℕ) (ys : List ℕ) → is_exponent_indicator c ≡ true → Stops 10 (c ∷ ys)
 exponent_stops c ys e = record {
   digit =
       elim (is_exponent c e) [
@@ -136,7 +136,7 @@ exponent_stops c ys e = record {
 }
 
 -- the mark of an exponent is no point and no suffix
-pub exponent_is_no_mark : (c : ℕ) → is_exponent_mark c ≡ true
+pub exponent_is_no_mark : (c : ℕ) → is_exponent_indicator c ≡ true
     → ((c == full_stop) ≡ false) × ((c == latin_small_letter_n) ≡ false)
 exponent_is_no_mark c e =
     elim (is_exponent c e) [

@@ -10,7 +10,7 @@ use Rattle.js_text.specs.Ascii.{full_stop}
 use Rattle.js_grammar.specs.Number.{Item, whole, run, integer, Is, IsOptional, IsExponent, IsFloatExponent}
 use Rattle.js_grammar.specs.Number.{IsLegacyOctal, IsLegacyDecimal, base_of, Sign, sign_text, sign_kind}
 use Rattle.js_kind.specs.Digits.{is_digit_of}
-use Rattle.js_grammar.specs.Number.{are_digits, is_exponent_mark, may_not_follow_number, latin_small_letter_n}
+use Rattle.js_grammar.specs.Number.{are_digits, is_exponent_indicator, may_not_follow_number, latin_small_letter_n}
 use Rattle.js_grammar.specs.Number.{digit_zero}
 use Rattle.js_grammar.specs.Number.Sign.{no_sign, plus, minus}
 use Rattle.js_grammar.specs.Number.IsExponent.{exponent}
@@ -19,7 +19,7 @@ use Rattle.js_grammar.specs.Number.IsLegacyDecimal.{legacy as legacy_decimal_dig
 use Rattle.js_grammar.specs.NumberReads.{items_text, Items, no_items, items-cons, last_item, sign_of, exponent_items}
 use Rattle.js_grammar.specs.NumberReads.{exponent_or}
 use Rattle.js_grammar.specs.NumberReads.{fraction_items, point_items, behind_digits, suffix_or, decimal_items}
-use Rattle.js_grammar.specs.NumberReads.{is_no_digit, plain_digits, legacy_items, zero_items, base_at, number_items}
+use Rattle.js_grammar.specs.NumberReads.{is_no_digit, unseparated_digits, legacy_items, zero_items, base_at, number_items}
 use Rattle.js_grammar.proofs.NumberClasses.{EndsNumber, ends_number, point_stops, suffix_stops, exponent_stops}
 use Rattle.js_grammar.proofs.NumberClasses.{exponent_is_no_mark, is_exponent, digit_more}
 use Rattle.js_grammar.proofs.NumberSteps.{exponent_missing, fraction_there, fraction_missing, behind_digits_other}
@@ -98,15 +98,15 @@ exponent_cut without kind xs ys (exponent mark sign digits is run_is here kind_i
     rw (here, kind_is, is, signed, left, run_append 10 digits ys run_is (end.run 10 (omega arith))) cut
 
 -- what an exponent begins with
-pub exponent_begins : (xs ys : List ℕ) (kind : Kind) → IsExponent xs kind → begins is_exponent_mark (xs ++ ys) ≡ true
+pub exponent_begins : (xs ys : List ℕ) (kind : Kind) → IsExponent xs kind → begins is_exponent_indicator (xs ++ ys) ≡ true
 exponent_begins xs ys kind (exponent mark sign digits is run_is here kind_is) = rw here is
 
-mark_begins : (p : ℕ → Bool) (ys : List ℕ) → begins is_exponent_mark ys ≡ true
-    → ((c : ℕ) → is_exponent_mark c ≡ true → p c ≡ false) → begins p ys ≡ false
+mark_begins : (p : ℕ → Bool) (ys : List ℕ) → begins is_exponent_indicator ys ≡ true
+    → ((c : ℕ) → is_exponent_indicator c ≡ true → p c ≡ false) → begins p ys ≡ false
 mark_begins p [] e h = refl
 mark_begins p (c ∷ cs) e h = h c e
 
-mark_stops : (ys : List ℕ) → begins is_exponent_mark ys ≡ true → Stops 10 ys
+mark_stops : (ys : List ℕ) → begins is_exponent_indicator ys ≡ true → Stops 10 ys
 mark_stops [] e = absurd (cc)
 mark_stops (c ∷ cs) e = exponent_stops c cs e
 
@@ -153,10 +153,10 @@ pub nothing_cut : (ys : List ℕ) → EndsNumber ys → begins (λ c. c == full_
 nothing_cut ys end none =
     rw (behind_digits_other ys none, exponent_missing Decimal ys end.exponent) (none_cut Decimal ys)
 
-mark_is_no_point : (ys : List ℕ) → begins is_exponent_mark ys ≡ true → begins (λ c. c == full_stop) ys ≡ false
+mark_is_no_point : (ys : List ℕ) → begins is_exponent_indicator ys ≡ true → begins (λ c. c == full_stop) ys ≡ false
 mark_is_no_point ys e = mark_begins (λ c. c == full_stop) ys e (λ c is. (exponent_is_no_mark c is).0)
 
-pub mark_is_no_suffix : (ys : List ℕ) → begins is_exponent_mark ys ≡ true
+pub mark_is_no_suffix : (ys : List ℕ) → begins is_exponent_indicator ys ≡ true
     → begins (λ c. c == latin_small_letter_n) ys ≡ false
 mark_is_no_suffix ys e = mark_begins (λ c. c == latin_small_letter_n) ys e (λ c is. (exponent_is_no_mark c is).1)
 
@@ -209,7 +209,7 @@ follower_names_no_base (c ∷ cs) e =
       follower_differs c 88 e l.5,
     ) refl
 
-mark_names_no_base : (ys : List ℕ) → begins is_exponent_mark ys ≡ true → base_at ys ≡ None
+mark_names_no_base : (ys : List ℕ) → begins is_exponent_indicator ys ≡ true → base_at ys ≡ None
 mark_names_no_base [] e = absurd (cc)
 mark_names_no_base (c ∷ cs) e = elim (is_exponent c e) [ inl small ↦ ap base_of small | inr large ↦ ap base_of large ]
 
@@ -222,7 +222,7 @@ no_prefix_suffix ys = record { letter = refl; stops = suffix_stops 10 ys (omega 
 pub no_prefix_point : (ys : List ℕ) → NoPrefix (full_stop ∷ ys)
 no_prefix_point ys = record { letter = refl; stops = point_stops ys }
 
-pub no_prefix_mark : (ys : List ℕ) → begins is_exponent_mark ys ≡ true → NoPrefix ys
+pub no_prefix_mark : (ys : List ℕ) → begins is_exponent_indicator ys ≡ true → NoPrefix ys
 no_prefix_mark ys e = record { letter = mark_names_no_base ys e; stops = mark_stops ys e }
 
 -- the digits of a decimal number are found
@@ -284,10 +284,10 @@ plain_from (c ∷ cs) ys e s =
     let both = and_true (is_digit_of 10 c) (are_digits 10 cs) e in
     rw both.0 (plain_from cs ys both.1 s)
 
-pub plain_digits_append : (xs ys : List ℕ) → are_digits 10 xs ≡ true → begins (is_digit_of 10) ys ≡ false
-    → plain_digits (xs ++ ys) ≡ whole xs ys
-unfolding plain_digits
-plain_digits_append xs ys e s = rw (plain_before xs ys e s, plain_from xs ys e s) refl
+pub unseparated_digits_append : (xs ys : List ℕ) → are_digits 10 xs ≡ true → begins (is_digit_of 10) ys ≡ false
+    → unseparated_digits (xs ++ ys) ≡ whole xs ys
+unfolding unseparated_digits
+unseparated_digits_append xs ys e s = rw (plain_before xs ys e s, plain_from xs ys e s) refl
 
 digit_begins_no_base : (ys : List ℕ) → begins (is_digit_of 10) ys ≡ true → base_at ys ≡ None
 digit_begins_no_base [] e = absurd (cc)
@@ -326,9 +326,9 @@ zero_and : (radix : ℕ) (ds : List ℕ) (b : Bool) → is_digit_of radix digit_
 zero_and radix ds b zero e = rw zero e
 
 legacy_digits : (ds ys : List ℕ) → are_digits 10 ds ≡ true → begins (is_digit_of 10) ys ≡ false
-    → plain_digits (digit_zero ∷ (ds ++ ys)) ≡ whole (digit_zero ∷ ds) ys
+    → unseparated_digits (digit_zero ∷ (ds ++ ys)) ≡ whole (digit_zero ∷ ds) ys
 legacy_digits ds ys digits stops =
-    plain_digits_append (digit_zero ∷ ds) ys (zero_and 10 ds true zero_is_digit.0 digits) stops
+    unseparated_digits_append (digit_zero ∷ ds) ys (zero_and 10 ds true zero_is_digit.0 digits) stops
 
 pub legacy_octal_cut : (xs ys : List ℕ) → IsLegacyOctal xs → EndsNumber ys → Cuts (number_items (xs ++ ys)) xs ys Octal
 legacy_octal_cut xs ys (legacy_octal_digits ds first digits here) end =

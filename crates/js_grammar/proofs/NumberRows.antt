@@ -8,10 +8,10 @@ use Rattle.js_text.specs.Characters.{is_identifier_start}
 use Rattle.js_text.specs.declared.diagnostic.Diagnostic.{Diagnostic}
 use Rattle.js_text.specs.declared.diagnostic.Diagnostic.TheVariants.{InvalidCharacter, UnexpectedEnd, InvalidNumberEnd}
 use Rattle.js_text.specs.declared.span.Span.{Span}
-use Rattle.js_grammar.specs.Number.{is_exponent_mark, may_not_follow_number, run, integer}
+use Rattle.js_grammar.specs.Number.{is_exponent_indicator, may_not_follow_number, run, integer}
 use Rattle.js_kind.specs.Digits.{is_digit_of}
 use Rattle.js_grammar.specs.NumberReads.{number_reading, exponent_items, exponent_or, fraction_items, point_items}
-use Rattle.js_grammar.specs.NumberReads.{behind_digits, suffix_or, decimal_items, plain_digits, legacy_items}
+use Rattle.js_grammar.specs.NumberReads.{behind_digits, suffix_or, decimal_items, unseparated_digits, legacy_items}
 use Rattle.js_grammar.specs.NumberReads.{behind_prefix, zero_items, number_items, items_reading}
 use Rattle.js_kind.specs.declared.kind.Kind.{Kind}
 use Rattle.js_kind.specs.declared.kind.Kind.TheVariants.{BinaryBigInt, Decimal, DecimalBigInt, Eof, Float, Hex}
@@ -45,8 +45,8 @@ good :
     × Reads (codes "1E-7") NegativeExponential [] false []
     × Reads (codes "1..x") Float (codes ".x") false []
     × Reads (codes "09.5_1") Float [] true []
-unfolding is_digit_of is_exponent_mark may_not_follow_number is_identifier_start unicode_ident encode_utf8 run integer
-    exponent_items exponent_or fraction_items point_items behind_digits suffix_or decimal_items plain_digits
+unfolding is_digit_of is_exponent_indicator may_not_follow_number is_identifier_start unicode_ident encode_utf8 run integer
+    exponent_items exponent_or fraction_items point_items behind_digits suffix_or decimal_items unseparated_digits
     legacy_items behind_prefix zero_items number_items items_reading
 good = (refl, refl, refl, refl, refl, refl, refl, refl, refl, refl, refl, refl, refl, refl, refl, refl, refl, refl)
 
@@ -70,7 +70,7 @@ at_fault :
     × Reads (codes ".9_E7") Float [] true (InvalidCharacter 69 (span 3 3) ∷ [])
     × Reads (codes "1e-") NegativeExponential [] false (UnexpectedEnd (span 3 3) ∷ [])
     × Reads (codes "0n0") Eof [] false (InvalidNumberEnd (span 2 3) ∷ [])
-unfolding is_digit_of is_exponent_mark may_not_follow_number is_identifier_start unicode_ident encode_utf8 run integer
-    exponent_items exponent_or fraction_items point_items behind_digits suffix_or decimal_items plain_digits
+unfolding is_digit_of is_exponent_indicator may_not_follow_number is_identifier_start unicode_ident encode_utf8 run integer
+    exponent_items exponent_or fraction_items point_items behind_digits suffix_or decimal_items unseparated_digits
     legacy_items behind_prefix zero_items number_items items_reading
 at_fault = (refl, refl, refl, refl, refl, refl, refl, refl, refl, refl, refl, refl, refl, refl, refl, refl, refl, refl)

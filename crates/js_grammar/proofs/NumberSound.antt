@@ -6,7 +6,7 @@ use Rattle.std.proofs.lemmas.List.{append-nil}
 use Rattle.js_text.specs.Characters.{begins}
 use Rattle.js_text.specs.Ascii.{full_stop}
 use Rattle.js_grammar.specs.Number.{whole, run, Is, IsOptional, IsExponent, IsFloatExponent, Sign, sign_text}
-use Rattle.js_grammar.specs.Number.{is_exponent_mark}
+use Rattle.js_grammar.specs.Number.{is_exponent_indicator}
 use Rattle.js_kind.specs.Digits.{is_digit_of}
 use Rattle.js_grammar.specs.Number.IsExponent.{exponent}
 use Rattle.js_grammar.specs.NumberReads.{items_text, Items, sign_of, exponent_items, exponent_or, fraction_items}
@@ -43,7 +43,7 @@ pub data Exponent (without : Kind) (xs : List ℕ) (kind : Kind) (rest : List �
   no_exponent : xs ≡ [] → kind ≡ without → Exponent without xs kind rest
   some_exponent : IsExponent xs kind → Exponent without xs kind rest
 
-exponent_items_sound : (without : Kind) (mark : ℕ) (sign : Sign) (text : List ℕ) → is_exponent_mark mark ≡ true
+exponent_items_sound : (without : Kind) (mark : ℕ) (sign : Sign) (text : List ℕ) → is_exponent_indicator mark ≡ true
     → text ≡ sign_text sign ++ drop (length (sign_text sign)) text
     → lacks_some (exponent_items mark sign text).items ≡ false
     → Sound (Exponent without) (mark ∷ text) (exponent_items mark sign text)
@@ -69,7 +69,7 @@ exponent_sound : (without : Kind) (text : List ℕ) → lacks_some (exponent_or 
 exponent_sound without [] whole =
     rw (exponent_missing without [] refl) (record { here = refl; is = no_exponent refl refl })
 exponent_sound without (c ∷ cs) whole =
-    elim (true_or_false (is_exponent_mark c)) [
+    elim (true_or_false (is_exponent_indicator c)) [
       | inl is ↦ (
           let found = exponent_there without c cs is in
           rw found (exponent_items_sound without c (sign_of cs) cs is (sign_here cs) (rw found at whole)))

@@ -7,10 +7,10 @@ use Rattle.std.proofs.lemmas.List.{append-nil}
 use Rattle.js_text.specs.Characters.{begins}
 use Rattle.js_text.specs.Ascii.{full_stop}
 use Rattle.js_grammar.specs.Number.{whole, run, integer, Base, base_of, sign_text, are_digits}
-use Rattle.js_grammar.specs.Number.{is_exponent_mark, may_not_follow_number, begins_number, digit_zero}
+use Rattle.js_grammar.specs.Number.{is_exponent_indicator, may_not_follow_number, begins_number, digit_zero}
 use Rattle.js_grammar.specs.Number.{latin_small_letter_n}
 use Rattle.js_grammar.specs.NumberReads.{Items, items_text, sign_of, exponent_items, exponent_or, fraction_items}
-use Rattle.js_grammar.specs.NumberReads.{point_items, behind_digits, suffix_or, decimal_items, plain_digits}
+use Rattle.js_grammar.specs.NumberReads.{point_items, behind_digits, suffix_or, decimal_items, unseparated_digits}
 use Rattle.js_grammar.specs.NumberReads.{legacy_items, behind_prefix, zero_items, base_at, number_items, no_items}
 use Rattle.js_grammar.specs.NumberReads.{items-cons}
 use Rattle.js_grammar.specs.NumberReads.{number_reading}
@@ -33,7 +33,7 @@ use Rattle.js_kind.specs.declared.kind.Kind.{Kind}
 use Rattle.js_kind.specs.declared.kind.Kind.TheVariants.{Eof, Decimal, DecimalBigInt, Float, Octal}
 
 -- The text is the characters of the items and what is left behind them, and their kind is none of names.
-record IsCut (text : List ℕ) (number : Items) : Type 0 where
+record IsNumberCut (text : List ℕ) (number : Items) : Type 0 where
   pub here : text ≡ items_text number.items ++ number.rest
   pub unmarked : is_marked number.kind ≡ false
 
@@ -43,7 +43,7 @@ unnamed : (is_marked Decimal ≡ false) × (is_marked DecimalBigInt ≡ false)
 unfolding is_identifier_name is_private_name is_string_kind is_template_kind is_re_lexed
 unnamed = (refl, refl, refl, refl, refl)
 
-exponent_cut : (mark : ℕ) (text : List ℕ) → IsCut (mark ∷ text) (exponent_items mark (sign_of text) text)
+exponent_cut : (mark : ℕ) (text : List ℕ) → IsNumberCut (mark ∷ text) (exponent_items mark (sign_of text) text)
 unfolding exponent_items
 exponent_cut mark text =
     let sign = sign_text (sign_of text) in
@@ -59,21 +59,21 @@ exponent_cut mark text =
     same xs ys zs = rw append-nil (sym (append_assoc xs ys zs))
 
 exponent_or_cut : (without : Kind) (text : List ℕ) → is_marked without ≡ false
-    → IsCut text (exponent_or without text)
+    → IsNumberCut text (exponent_or without text)
 exponent_or_cut without [] e = rw (exponent_missing without [] refl) (record { here = refl; unmarked = e })
 exponent_or_cut without (c ∷ cs) e =
-    elim (true_or_false (is_exponent_mark c)) [
+    elim (true_or_false (is_exponent_indicator c)) [
       | inl is ↦ rw (exponent_there without c cs is) (exponent_cut c cs)
       | inr none ↦ rw (exponent_missing without (c ∷ cs) none) (record { here = refl; unmarked = e })
     ]
 
 -- one more item in front
-behind : (xs text rest : List ℕ) (number : Items) → text ≡ xs ++ rest → IsCut rest number
+behind : (xs text rest : List ℕ) (number : Items) → text ≡ xs ++ rest → IsNumberCut rest number
     → text ≡ (xs ++ items_text number.items) ++ number.rest
 behind xs text rest number e cut =
     e ∙ ap (λ t. xs ++ t) cut.here ∙ sym (append_assoc xs (items_text number.items) number.rest)
 
-fraction_cut : (text : List ℕ) → IsCut text (fraction_items text)
+fraction_cut : (text : List ℕ) → IsNumberCut text (fraction_items text)
 fraction_cut text =
     elim (true_or_false (begins (is_digit_of 10) text)) [
       | inl digit ↦ (
@@ -86,22 +86,22 @@ fraction_cut text =
       | inr none ↦ rw (fraction_missing text none) (exponent_or_cut Float text unnamed.2)
     ]
 
-point_cut : (text : List ℕ) → begins (λ c. c == full_stop) text ≡ true → IsCut text (point_items text)
+point_cut : (text : List ℕ) → begins (λ c. c == full_stop) text ≡ true → IsNumberCut text (point_items text)
 unfolding point_items
 point_cut text first = record {
   here = first_is full_stop text first ∙ ap (λ t. full_stop ∷ t) (fraction_cut (drop 1 text)).here;
   unmarked = unnamed.2;
 }
 
-behind_digits_cut : (text : List ℕ) → IsCut text (behind_digits text)
+behind_digits_cut : (text : List ℕ) → IsNumberCut text (behind_digits text)
 behind_digits_cut text =
     elim (true_or_false (begins (λ c. c == full_stop) text)) [
       | inl first ↦ rw (behind_digits_point text first) (point_cut text first)
       | inr none ↦ rw (behind_digits_other text none) (exponent_or_cut Decimal text unnamed.0)
     ]
 
-suffix_cut : (big : Kind) (without : Items) (text : List ℕ) → is_marked big ≡ false → IsCut text without
-    → IsCut text (suffix_or big without text)
+suffix_cut : (big : Kind) (without : Items) (text : List ℕ) → is_marked big ≡ false → IsNumberCut text without
+    → IsNumberCut text (suffix_or big without text)
 suffix_cut big without text e cut =
     elim (true_or_false (begins (λ c. c == latin_small_letter_n) text)) [
       | inl first ↦
@@ -110,7 +110,7 @@ suffix_cut big without text e cut =
       | inr none ↦ rw (suffix_missing big without text none) cut
     ]
 
-decimal_cut : (text : List ℕ) → IsCut text (decimal_items text)
+decimal_cut : (text : List ℕ) → IsNumberCut text (decimal_items text)
 unfolding decimal_items
 decimal_cut text =
     let digits = integer text in
@@ -119,10 +119,10 @@ decimal_cut text =
     suffix_cut DecimalBigInt (behind_digits digits.rest) digits.rest unnamed.1 (behind_digits_cut digits.rest) in
     record { here = behind digits.text text digits.rest more (integer_text text) cut; unmarked = cut.unmarked }
 
-legacy_cut : (text : List ℕ) → IsCut text (legacy_items text)
-unfolding plain_digits
+legacy_cut : (text : List ℕ) → IsNumberCut text (legacy_items text)
+unfolding unseparated_digits
 legacy_cut text =
-    let digits = plain_digits text in
+    let digits = unseparated_digits text in
     elim (true_or_false (are_digits 8 digits.text)) [
       | inl octal ↦
           rw (legacy_octal_items text octal) (record {
@@ -139,7 +139,7 @@ legacy_cut text =
 
 -- The items reach so far, or to the end of the source where a digit is missing behind a prefix.
 abbrev Reaches : List ℕ → Items → Type 0
-Reaches text number = ((number.kind ≡ Eof) × (number.rest ≡ [])) ⊎ IsCut text number
+Reaches text number = ((number.kind ≡ Eof) × (number.rest ≡ [])) ⊎ IsNumberCut text number
 
 prefixed_reaches : (c : ℕ) (cs : List ℕ) (base : Base) → base_of c ≡ Some base
     → Reaches (digit_zero ∷ c ∷ cs)
@@ -194,7 +194,7 @@ point_characters text e = cc
 
 -- A number has characters.
 some_characters : (text : List ℕ) → begins_number text ≡ true
-    → begins may_not_follow_number (number_items text).rest ≡ false → IsCut text (number_items text)
+    → begins may_not_follow_number (number_items text).rest ≡ false → IsNumberCut text (number_items text)
     → items_text (number_items text).items ≢ []
 some_characters [] begun follows cut none = cc
 some_characters (c ∷ cs) begun follows cut none =

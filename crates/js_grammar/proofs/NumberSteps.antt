@@ -5,10 +5,10 @@ use Rattle.js_text.specs.Characters.{begins}
 use Rattle.js_text.specs.Ascii.{full_stop}
 use Rattle.js_grammar.specs.Number.{Item, whole, broken, run, integer, digits_on, Base, are_digits}
 use Rattle.js_kind.specs.Digits.{is_digit_of}
-use Rattle.js_grammar.specs.Number.{is_exponent_mark, may_not_follow_number, latin_small_letter_n, digit_zero}
+use Rattle.js_grammar.specs.Number.{is_exponent_indicator, may_not_follow_number, latin_small_letter_n, digit_zero}
 use Rattle.js_grammar.specs.NumberReads.{Items, no_items, items-cons, last_item, sign_of, exponent_items, exponent_or}
 use Rattle.js_grammar.specs.NumberReads.{fraction_items, point_items, behind_digits, suffix_or, decimal_items}
-use Rattle.js_grammar.specs.NumberReads.{plain_digits, legacy_items, behind_prefix, zero_items, base_at, number_items}
+use Rattle.js_grammar.specs.NumberReads.{unseparated_digits, legacy_items, behind_prefix, zero_items, base_at, number_items}
 use Rattle.js_grammar.specs.NumberReads.{items_reading, well_ended, badly_ended}
 use Rattle.js_kind.specs.declared.kind.Kind.{Kind}
 use Rattle.js_kind.specs.declared.kind.Kind.TheVariants.{Eof, Decimal, Float, Octal}
@@ -43,12 +43,12 @@ unfolding integer
 integer_run text e = if_false _ _ _ e
 
 -- an exponent
-pub exponent_there : (kind : Kind) (c : ℕ) (cs : List ℕ) → is_exponent_mark c ≡ true
+pub exponent_there : (kind : Kind) (c : ℕ) (cs : List ℕ) → is_exponent_indicator c ≡ true
     → exponent_or kind (c ∷ cs) ≡ exponent_items c (sign_of cs) cs
 unfolding exponent_or
 exponent_there kind c cs e = if_true _ _ _ e
 
-pub exponent_missing : (kind : Kind) (text : List ℕ) → begins is_exponent_mark text ≡ false
+pub exponent_missing : (kind : Kind) (text : List ℕ) → begins is_exponent_indicator text ≡ false
     → exponent_or kind text ≡ no_items kind text
 unfolding exponent_or
 exponent_missing kind [] e = refl
@@ -88,13 +88,13 @@ unfolding suffix_or
 suffix_missing big without text e = if_false _ _ _ e
 
 -- digits behind `0`
-pub legacy_octal_items : (text : List ℕ) → are_digits 8 (plain_digits text).text ≡ true
-    → legacy_items text ≡ last_item Octal (plain_digits text)
+pub legacy_octal_items : (text : List ℕ) → are_digits 8 (unseparated_digits text).text ≡ true
+    → legacy_items text ≡ last_item Octal (unseparated_digits text)
 unfolding legacy_items
 legacy_octal_items text e = if_true _ _ _ e
 
-pub legacy_decimal_items : (text : List ℕ) → are_digits 8 (plain_digits text).text ≡ false
-    → legacy_items text ≡ items-cons (plain_digits text) (behind_digits (plain_digits text).rest)
+pub legacy_decimal_items : (text : List ℕ) → are_digits 8 (unseparated_digits text).text ≡ false
+    → legacy_items text ≡ items-cons (unseparated_digits text) (behind_digits (unseparated_digits text).rest)
 unfolding legacy_items
 legacy_decimal_items text e = if_false _ _ _ e
 

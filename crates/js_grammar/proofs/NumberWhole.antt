@@ -18,7 +18,7 @@ use Rattle.js_grammar.specs.Number.IsNumber.{point_first, legacy_octal, legacy_d
 use Rattle.js_grammar.specs.Number.Sign.{no_sign, plus, minus}
 use Rattle.js_grammar.specs.NumberReads.{items_text, no_items, items-cons, point_items, behind_digits, suffix_or}
 use Rattle.js_grammar.specs.NumberReads.{decimal_items}
-use Rattle.js_grammar.specs.NumberReads.{is_no_digit, plain_digits, legacy_items, behind_prefix, zero_items, base_at}
+use Rattle.js_grammar.specs.NumberReads.{is_no_digit, unseparated_digits, legacy_items, behind_prefix, zero_items, base_at}
 use Rattle.js_grammar.specs.NumberReads.{number_items}
 use Rattle.js_grammar.proofs.NumberCuts.{lacks_some}
 use Rattle.js_grammar.proofs.NumberItems.{true_or_false, run_text, run_is, integer_text, integer_is}
@@ -111,11 +111,11 @@ plain_text (c ∷ cs) =
       | inr none ↦ rw none refl
     ]
 
-plain_are_digits : (text : List ℕ) → are_digits 10 (before_first is_no_digit text) ≡ true
-plain_are_digits [] = refl
-plain_are_digits (c ∷ cs) =
+unseparated_are_digits : (text : List ℕ) → are_digits 10 (before_first is_no_digit text) ≡ true
+unseparated_are_digits [] = refl
+unseparated_are_digits (c ∷ cs) =
     elim (true_or_false (is_digit_of 10 c)) [
-      | inl digit ↦ rw digit (rw digit (plain_are_digits cs))
+      | inl digit ↦ rw digit (rw digit (unseparated_are_digits cs))
       | inr none ↦ rw none refl
     ]
 
@@ -135,8 +135,8 @@ octal_first (d ∷ ds) e o = (and_true (is_digit_of 8 d) (are_digits 8 ds) o).0
 
 -- `0` and digits
 legacy_zero : (cs : List ℕ)
-    → plain_digits (digit_zero ∷ cs) ≡ whole (digit_zero ∷ before_first is_no_digit cs) (from_first is_no_digit cs)
-unfolding plain_digits
+    → unseparated_digits (digit_zero ∷ cs) ≡ whole (digit_zero ∷ before_first is_no_digit cs) (from_first is_no_digit cs)
+unfolding unseparated_digits
 legacy_zero cs = rw zero_is_octal.0 refl
 
 octal_zero : (ds : List ℕ) (b : Bool) → are_digits 8 (digit_zero ∷ ds) ≡ b → are_digits 8 ds ≡ b
@@ -150,7 +150,7 @@ legacy_sound cs first good =
     let ds = before_first is_no_digit cs in
     let left = from_first is_no_digit cs in
     let found = legacy_zero cs in
-    elim (true_or_false (are_digits 8 (plain_digits text).text)) [
+    elim (true_or_false (are_digits 8 (unseparated_digits text).text)) [
       | inl octal ↦ (
           let digits = octal_zero ds true (rw found at octal) in
           rw (legacy_octal_items text octal, found) (record {
@@ -171,7 +171,7 @@ legacy_sound cs first good =
             here = ap (λ t. digit_zero ∷ t) (plain_text cs) ∙ ap (λ t. (digit_zero ∷ ds) ++ t) end.here
                 ∙ sym (append_assoc (digit_zero ∷ ds) (items_text behind.items) behind.rest);
             is = behind_numbers (digit_zero ∷ ds) (items_text behind.items) behind.kind behind.rest
-                (inr (legacy_decimal_digits ds (plain_are_digits cs) decimal refl)) end.is;
+                (inr (legacy_decimal_digits ds (unseparated_are_digits cs) decimal refl)) end.is;
           }))
     ]
 

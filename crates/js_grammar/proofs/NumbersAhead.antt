@@ -11,11 +11,11 @@ use Rattle.js_kind.specs.Digits.{is_digit_of}
 use Rattle.js_kind.specs.declared.kind.Kind.{Kind}
 use Rattle.js_kind.specs.declared.kind.Kind.TheVariants.{Eof, Decimal, Float, Octal, DecimalBigInt}
 use Rattle.js_grammar.specs.Number.{Item, whole, broken, item-cons, digits_on, run, integer, Base, Sign}
-use Rattle.js_grammar.specs.Number.{sign_text, sign_kind, are_digits, is_exponent_mark, digit_zero}
+use Rattle.js_grammar.specs.Number.{sign_text, sign_kind, are_digits, is_exponent_indicator, digit_zero}
 use Rattle.js_grammar.specs.Number.{latin_small_letter_n, begins_number, may_not_follow_number}
 use Rattle.js_grammar.specs.NumberReads.{Items, no_items, items-cons, last_item, sign_of, exponent_items, exponent_or}
 use Rattle.js_grammar.specs.NumberReads.{fraction_items, point_items, behind_digits, suffix_or, decimal_items}
-use Rattle.js_grammar.specs.NumberReads.{is_no_digit, plain_digits, legacy_items, behind_prefix, zero_items, base_at}
+use Rattle.js_grammar.specs.NumberReads.{is_no_digit, unseparated_digits, legacy_items, behind_prefix, zero_items, base_at}
 use Rattle.js_grammar.specs.NumberReads.{number_items, items_text, missing_digit, missing_digits}
 use Rattle.js_grammar.specs.NumberReads.{items_reading, number_reading}
 use Rattle.js_grammar.proofs.Ahead.{BeginAlike}
@@ -212,8 +212,8 @@ plain_same (x ∷ xs) left us vs c e =
           rw none (refl, ap (λ t. t ++ (c ∷ vs)) (append_cancel_right (x ∷ xs) left (c ∷ us) at_end)))
     ]
 
-plain_local : LocalItem plain_digits
-unfolding plain_digits
+plain_local : LocalItem unseparated_digits
+unfolding unseparated_digits
 plain_local = record {
   leaves = λ t. record { front = before_first is_no_digit t; here = plain_behind t };
   same = λ xs left us vs c e.
@@ -368,21 +368,21 @@ exponent_or_local kind = record { leaves = leaves; same = same }
     leaves [] = all_behind []
     leaves (c ∷ cs) =
         let exponent = exponent_items c (sign_of cs) cs in
-        left_choice (is_exponent_mark c) (c ∷ cs) exponent (no_items kind (c ∷ cs))
+        left_choice (is_exponent_indicator c) (c ∷ cs) exponent (no_items kind (c ∷ cs))
         (one_behind c cs exponent.rest ((exponent_local c (sign_of cs)).leaves cs)) (all_behind (c ∷ cs))
 
     same : (xs left us vs : List ℕ) (c : ℕ) → (exponent_or kind (xs ++ (c ∷ us))).rest ≡ left ++ (c ∷ us)
         → Same (left ++ (c ∷ vs)) (exponent_or kind (xs ++ (c ∷ us))) (exponent_or kind (xs ++ (c ∷ vs)))
     same [] left us vs c e =
         let exponent = exponent_items c (sign_of us) us in
-        choice (is_exponent_mark c) (left ++ (c ∷ us)) (left ++ (c ∷ vs)) exponent (no_items kind (c ∷ us))
+        choice (is_exponent_indicator c) (left ++ (c ∷ us)) (left ++ (c ∷ vs)) exponent (no_items kind (c ∷ us))
         (exponent_items c (sign_of vs) vs) (no_items kind (c ∷ vs))
         (λ h. absurd (too_long c us exponent.rest left ((exponent_local c (sign_of us)).leaves us) h))
         ((none_local kind).same [] left us vs c) e
     same (x ∷ xs) left us vs c e =
         let a = xs ++ (c ∷ us) in
         let b = xs ++ (c ∷ vs) in
-        choice (is_exponent_mark x) (left ++ (c ∷ us)) (left ++ (c ∷ vs)) (exponent_items x (sign_of a) a)
+        choice (is_exponent_indicator x) (left ++ (c ∷ us)) (left ++ (c ∷ vs)) (exponent_items x (sign_of a) a)
         (no_items kind (x ∷ a)) (exponent_items x (sign_of b) b) (no_items kind (x ∷ b))
         (λ h. subst
         (λ s. Same (left ++ (c ∷ vs)) (exponent_items x (sign_of a) a) (exponent_items x s b)) (sign_same xs us vs c)
@@ -433,11 +433,11 @@ decimal_local =
 legacy_local : Local legacy_items
 unfolding legacy_items
 legacy_local =
-    item_test (λ text lacks. are_digits 8 text) plain_digits (λ t. last_item Octal (plain_digits t))
-    (λ t. items-cons (plain_digits t) (behind_digits (plain_digits t).rest)) plain_local
-    (last_local Octal plain_digits plain_local)
-    (cons_local plain_digits behind_digits plain_local behind_digits_local)
-    (λ t. all_behind (plain_digits t).rest) (λ t. behind_digits_local.leaves (plain_digits t).rest)
+    item_test (λ text lacks. are_digits 8 text) unseparated_digits (λ t. last_item Octal (unseparated_digits t))
+    (λ t. items-cons (unseparated_digits t) (behind_digits (unseparated_digits t).rest)) plain_local
+    (last_local Octal unseparated_digits plain_local)
+    (cons_local unseparated_digits behind_digits plain_local behind_digits_local)
+    (λ t. all_behind (unseparated_digits t).rest) (λ t. behind_digits_local.leaves (unseparated_digits t).rest)
 
 nothing_behind : (t : List ℕ) → Behind t []
 nothing_behind t = record { front = t; here = sym (append-nil t) }

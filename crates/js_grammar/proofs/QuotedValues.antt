@@ -17,7 +17,7 @@ use Rattle.js_text.specs.declared.value.RowValue.{RowValue}
 use Rattle.js_text.specs.declared.value.RowValue.TheVariants.{Nothing, Units}
 use Rattle.js_grammar.specs.Quoted.{quoted_reading, units_in}
 use Rattle.js_grammar.specs.Reading.{Reading, size_of}
-use Rattle.js_grammar.specs.TokenText.{is_named, is_private_name, is_quoted, is_valued, plain_value, text_slice}
+use Rattle.js_grammar.specs.TokenText.{is_named, is_private_name, is_quoted, is_valued, unescaped_value, text_slice}
 use Rattle.js_grammar.specs.Values.{decoded_units, template_units, template_row_value}
 use Rattle.js_grammar.specs.StringItems.{string_units}
 use Rattle.js_grammar.specs.StringItems.{StringItem, StringItems, string_of_items, IsString, is_quote, string_items}
@@ -127,12 +127,12 @@ pub record HasQuotedValue (reading : Reading) : Type 0 where
       ≡ template_row_value (units_in reading.value)
   pub units : reading.escaped ≡ true → is_template_kind reading.kind ≡ false
       → (us : List ℕ) × (reading.value ≡ Units us)
-  pub plain : reading.escaped ≡ false → reading.value ≡ plain_value reading.kind 0 (size_of reading)
+  pub unescaped : reading.escaped ≡ false → reading.value ≡ unescaped_value reading.kind 0 (size_of reading)
 
 -- a kind of strings or templates has its text as value
-pub quoted_plain_value : (kind : Kind) (start end : ℕ) → is_quoted kind ≡ true
-    → plain_value kind start end ≡ text_slice kind start end
-quoted_plain_value kind start end is =
+pub quoted_unescaped_value : (kind : Kind) (start end : ℕ) → is_quoted kind ≡ true
+    → unescaped_value kind start end ≡ text_slice kind start end
+quoted_unescaped_value kind start end is =
     ap (λ b. if b then text_slice kind start end else Nothing) (or_right (is_named kind) (is_quoted kind) is)
 
 quoted_kinds : (is_quoted Str ≡ true) × (is_template_kind Str ≡ false) × (is_valued Undetermined ≡ false)
@@ -170,9 +170,9 @@ part_flags substitute tail text found =
     ]
 
 terminated_value : (b : Bool) (us : List ℕ) (kind : Kind) (size : ℕ) → is_quoted kind ≡ true → b ≡ false
-    → quoted_value b (units us) kind size ≡ plain_value kind 0 size
+    → quoted_value b (units us) kind size ≡ unescaped_value kind 0 size
 terminated_value b us kind size is e =
-    ap (λ b. quoted_value b (units us) kind size) e ∙ sym (quoted_plain_value kind 0 size is)
+    ap (λ b. quoted_value b (units us) kind size) e ∙ sym (quoted_unescaped_value kind 0 size is)
 
 pub string_value_is : (quote : ℕ) (text : List ℕ) → HasQuotedValue (string_reading quote text)
 string_value_is quote text =
@@ -183,14 +183,14 @@ string_value_is quote text =
           (record {
             template = λ _ no. never quoted_kinds.1 no;
             units = λ e _. (string_units found.items, rw e refl);
-            plain = λ e. rw e (sym (quoted_plain_value Str 0 _ quoted_kinds.0));
+            unescaped = λ e. rw e (sym (quoted_unescaped_value Str 0 _ quoted_kinds.0));
           })
       | inr open_end ↦
           rw (string_unterminated quote (quote ∷ text) found open_end)
           (record {
             template = λ no _. cc;
             units = λ no _. cc;
-            plain = λ _. rw quoted_kinds.2 refl;
+            unescaped = λ _. rw quoted_kinds.2 refl;
           })
     ]
   where
@@ -209,10 +209,10 @@ terminated_part_value kind items reading is kind_is escaped value = record {
       value ∙ ap (λ b. quoted_value b (template_value items) kind (size_of reading)) (sym escaped ∙ e) in
       as_row ∙ template_row items ∙ ap (λ v. template_row_value (units_in v)) (sym as_row);
   units = λ e no. absurd (let both : true ≡ false = sym is ∙ ap is_template_kind (sym kind_is) ∙ no in cc);
-  plain = λ e.
+  unescaped = λ e.
       value ∙ ap (λ b. quoted_value b (template_value items) kind (size_of reading)) (sym escaped ∙ e)
-      ∙ sym (quoted_plain_value kind 0 (size_of reading) (or_right (is_string_kind kind) (is_template_kind kind) is))
-      ∙ ap (λ k. plain_value k 0 (size_of reading)) (sym kind_is);
+      ∙ sym (quoted_unescaped_value kind 0 (size_of reading) (or_right (is_string_kind kind) (is_template_kind kind) is))
+      ∙ ap (λ k. unescaped_value k 0 (size_of reading)) (sym kind_is);
 }
   where
     template_row : (items : List StringItem)
@@ -243,7 +243,7 @@ part_value_is substitute tail first last opening text =
                 (record {
                   template = λ no _. cc;
                   units = λ no _. cc;
-                  plain = λ _. rw quoted_kinds.2 refl;
+                  unescaped = λ _. rw quoted_kinds.2 refl;
                 })
           ]
     ]

@@ -9,7 +9,7 @@ use Rattle.js_kind.specs.declared.kind.Kind.{Kind}
 use Rattle.js_kind.specs.declared.kind.Kind.TheVariants.{Eof}
 use Rattle.js_grammar.specs.Reading.{Reading, before_rest, moved_value}
 use Rattle.js_grammar.specs.TokenText.{is_private_name, is_quoted, is_valued, closing_length, text_start, text_end}
-use Rattle.js_grammar.specs.TokenText.{text_slice, plain_value}
+use Rattle.js_grammar.specs.TokenText.{text_slice, unescaped_value}
 
 -- where the text is these characters and what is left, these were taken
 pub taken_is : (text xs rest : List ℕ) → text ≡ xs ++ rest → before_rest text rest ≡ xs
@@ -62,9 +62,9 @@ end_moved : (b : Bool) (place size closing : ℕ) → (b ≡ true → closing �
 end_moved true place size closing h = let enough = h refl in omega arith
 end_moved false place size closing h = refl
 
-pub plain_value_moved : (kind : Kind) (place size : ℕ) → (is_quoted kind ≡ true → closing_length kind ≤ size)
-    → moved_value place (plain_value kind 0 size) ≡ plain_value kind place (place + size)
-plain_value_moved kind place size marks =
+pub unescaped_value_moved : (kind : Kind) (place size : ℕ) → (is_quoted kind ≡ true → closing_length kind ≤ size)
+    → moved_value place (unescaped_value kind 0 size) ≡ unescaped_value kind place (place + size)
+unescaped_value_moved kind place size marks =
     by_value (is_valued kind) (text_slice kind 0 size) (text_slice kind place (place + size))
     (ap (λ n. Slice (record { start = n; end = place + text_end kind size }))
     (start_moved (is_private_name kind || is_quoted kind) place)

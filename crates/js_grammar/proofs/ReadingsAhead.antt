@@ -31,16 +31,16 @@ use Rattle.js_grammar.proofs.Tests.{prefix_of}
 abbrev pub IsSame : List ℕ → List ℕ → Reading → Reading → Type 0
 IsSame ys zs found other = found.rest ≡ ys → other ≡ record found { rest = zs }
 
-either : (ys zs : List ℕ) (b d : Bool) (f g o q : Reading) → b ≡ d → (b ≡ true → IsSame ys zs f o)
+either_agrees : (ys zs : List ℕ) (b d : Bool) (f g o q : Reading) → b ≡ d → (b ≡ true → IsSame ys zs f o)
     → (b ≡ false → IsSame ys zs g q) → IsSame ys zs (if b then f else g) (if d then o else q)
-either ys zs true d f g o q e first second left = rw (sym e) (first refl left)
-either ys zs false d f g o q e first second left = rw (sym e) (second refl left)
+either_agrees ys zs true d f g o q e first second left = rw (sym e) (first refl left)
+either_agrees ys zs false d f g o q e first second left = rw (sym e) (second refl left)
 
 -- a string or a template
 quoted_local : (x : ℕ) (xs ys zs : List ℕ) → BeginAlike ys zs
     → IsSame ys zs (quoted_reading (x ∷ (xs ++ ys))) (quoted_reading (x ∷ (xs ++ zs)))
 quoted_local x xs ys zs alike =
-    either ys zs (is_quote x) _ _ _ _ _ refl (λ _. string_local x xs ys zs alike)
+    either_agrees ys zs (is_quote x) _ _ _ _ _ refl (λ _. string_local x xs ys zs alike)
     (λ _. part_local TemplateHead NoSubstitutionTemplate x xs ys zs alike)
 
 private_here : (x : ℕ) (xs ys zs : List ℕ) → BeginAlike ys zs → (x == number_sign) ≡ true
@@ -59,7 +59,7 @@ number_begins_alike x xs ys zs alike =
 nothing_local : (x : ℕ) (xs ys zs : List ℕ) → BeginAlike ys zs
     → IsSame ys zs (nothing_reading (x ∷ (xs ++ ys))) (nothing_reading (x ∷ (xs ++ zs)))
 nothing_local x xs ys zs alike =
-    either ys zs (x == 0xFFFD) _ _ _ _ _ refl (λ _ left. nothing_left ys zs alike left) (λ _ left. character left)
+    either_agrees ys zs (x == 0xFFFD) _ _ _ _ _ refl (λ _ left. nothing_left ys zs alike left) (λ _ left. character left)
   where
     character : xs ++ ys ≡ ys
         → invalid_character x (xs ++ zs) ≡ record (invalid_character x (xs ++ ys)) { rest = zs }
@@ -85,13 +85,13 @@ pub reading_local : (t : SourceType) (line_has_ended : Bool) (x : ℕ) (xs ys zs
     → AgreeFor 4 ys zs
     → IsSame ys zs (reading t line_has_ended (x ∷ (xs ++ ys))) (reading t line_has_ended (x ∷ (xs ++ zs)))
 reading_local t line_has_ended x xs ys zs alike agree =
-    either ys zs (is_prefix (codes "/*") (x ∷ (xs ++ ys))) _ _ _ _ _
+    either_agrees ys zs (is_prefix (codes "/*") (x ∷ (xs ++ ys))) _ _ _ _ _
     (mark_agrees (codes "/*") (x ∷ xs) ys zs refl (omega arith) agree) (λ _ left. nothing_left ys zs alike left)
-    (λ _. either ys zs (begins_name (x ∷ (xs ++ ys))) _ _ _ _ _ refl (λ _. name_local (x ∷ xs) ys zs alike)
-    (λ _. either ys zs (x == number_sign) _ _ _ _ _ refl (λ is. private_here x xs ys zs alike is)
-    (λ _. either ys zs (begins_number (x ∷ (xs ++ ys))) _ _ _ _ _ (number_begins_alike x xs ys zs alike)
+    (λ _. either_agrees ys zs (begins_name (x ∷ (xs ++ ys))) _ _ _ _ _ refl (λ _. name_local (x ∷ xs) ys zs alike)
+    (λ _. either_agrees ys zs (x == number_sign) _ _ _ _ _ refl (λ is. private_here x xs ys zs alike is)
+    (λ _. either_agrees ys zs (begins_number (x ∷ (xs ++ ys))) _ _ _ _ _ (number_begins_alike x xs ys zs alike)
     (λ _. number_local (x ∷ xs) ys zs alike)
-    (λ _. either ys zs (begins begins_quoted (x ∷ (xs ++ ys))) _ _ _ _ _ refl (λ _. quoted_local x xs ys zs alike)
+    (λ _. either_agrees ys zs (begins begins_quoted (x ∷ (xs ++ ys))) _ _ _ _ _ refl (λ _. quoted_local x xs ys zs alike)
     (λ _ left.
     ap (λ found. punctuator_or_nothing found (x ∷ (xs ++ zs)))
     (sym (punctuator_agrees t line_has_ended (x ∷ (xs ++ ys)) (x ∷ (xs ++ zs))

@@ -18,7 +18,7 @@ use Rattle.js_text.specs.declared.source_type.SourceType.{SourceType}
 use Rattle.js_kind.specs.Digits.{is_digit_of}
 use Rattle.js_grammar.specs.Number.{begins_number}
 use Rattle.js_grammar.specs.Punctuators.{NoPunctuator}
-use Rattle.js_grammar.specs.StringItems.{StringItem, is_quote, ends_string, plain_item, escape, string_item}
+use Rattle.js_grammar.specs.StringItems.{StringItem, is_quote, ends_string, ordinary_item, escape, string_item}
 use Rattle.js_grammar.specs.StringItems.{items_up_to, is_good, are_good}
 use Rattle.js_grammar.specs.StringItems.{string_items, string_text, contains_escape}
 use Rattle.js_grammar.specs.Template.{template_item, template_items, ends_part, carriage_return_item}
@@ -167,7 +167,7 @@ string_escaped_by quote (c ∷ cs) item e =
           elim (true_or_false (ends_string quote c)) [
             | inl ends ↦ not_found _ item (string_ends quote c cs other ends) e
             | inr on ↦
-                found_as (λ i. i.is_escaped ≡ list_any is_backslash i.text) (plain_item c cs) item _
+                found_as (λ i. i.is_escaped ≡ list_any is_backslash i.text) (ordinary_item c cs) item _
                 (ap (λ b. b || false) (sym other)) (string_plain quote c cs other on) e
           ]
     ]
@@ -198,7 +198,7 @@ template_escaped_by (c ∷ cs) item e =
                       found_as (λ i. i.is_escaped ≡ list_any is_backslash_or_return i.text)
                       (carriage_return_item cs) item _ (line_end_by cs) refl at)
                   | inr cr ↦
-                      found_as (λ i. i.is_escaped ≡ list_any is_backslash_or_return i.text) (plain_item c cs) item _
+                      found_as (λ i. i.is_escaped ≡ list_any is_backslash_or_return i.text) (ordinary_item c cs) item _
                       (sym
                       (ap (λ b. (b || (c == carriage_return)) || false) other ∙ ap (λ b. b || false) cr))
                       (template_plain c cs other on cr) e
@@ -311,7 +311,7 @@ template_read_as text xs ys kind begun = by_part begun.part
 abbrev pub HasOwnUnits : StringItem → Type 0
 HasOwnUnits item = item.is_escaped ≡ false → item.units ≡ units_of item.text
 
-own_units_of_plain : (c : ℕ) (cs : List ℕ) → HasOwnUnits (plain_item c cs)
+own_units_of_plain : (c : ℕ) (cs : List ℕ) → HasOwnUnits (ordinary_item c cs)
 own_units_of_plain c cs e = sym (append-nil (encode_utf16 c))
 
 escaped_has_none : (item : StringItem) → item.is_escaped ≡ true → HasOwnUnits item
@@ -319,7 +319,7 @@ escaped_has_none item is e = absurd (let same : true ≡ false = sym is ∙ e in
 
 -- what holds of each escape and each character that stands for itself holds of each item of a string
 string_item_is : (P : StringItem → Type 0) → ((cs : List ℕ) → P (escape false cs))
-    → ((c : ℕ) (cs : List ℕ) → P (plain_item c cs)) → (quote : ℕ) (text : List ℕ) (item : StringItem)
+    → ((c : ℕ) (cs : List ℕ) → P (ordinary_item c cs)) → (quote : ℕ) (text : List ℕ) (item : StringItem)
     → string_item quote text ≡ Some item → P item
 string_item_is P escapes plain quote [] item e = absurd (cc)
 string_item_is P escapes plain quote (c ∷ cs) item e =
@@ -331,7 +331,7 @@ string_item_is P escapes plain quote (c ∷ cs) item e =
       | inr other ↦
           elim (true_or_false (ends_string quote c)) [
             | inl ends ↦ not_found _ item (string_ends quote c cs other ends) e
-            | inr on ↦ found_as P (plain_item c cs) item _ (plain c cs) (string_plain quote c cs other on) e
+            | inr on ↦ found_as P (ordinary_item c cs) item _ (plain c cs) (string_plain quote c cs other on) e
           ]
     ]
 
@@ -361,7 +361,7 @@ template_own_units (c ∷ cs) item e =
                       found_as HasOwnUnits (carriage_return_item cs) item _
                       (escaped_has_none (carriage_return_item cs) (carriage_return_escaped cs)) refl at)
                   | inr cr ↦
-                      found_as HasOwnUnits (plain_item c cs) item _ (own_units_of_plain c cs)
+                      found_as HasOwnUnits (ordinary_item c cs) item _ (own_units_of_plain c cs)
                       (template_plain c cs other on cr) e
                 ]
           ]

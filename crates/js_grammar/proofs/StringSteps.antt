@@ -9,7 +9,7 @@ use Rattle.std.proofs.lemmas.Bool.{eqb-true}
 use Rattle.js_text.specs.Ascii.{line_feed, carriage_return, backslash, grave_accent}
 use Rattle.js_text.specs.Characters.{begins}
 use Rattle.js_grammar.specs.Reading.{Reading, place_behind}
-use Rattle.js_grammar.specs.StringItems.{Fault, StringItem, StringItems, plain_item, escape, ends_string, string_item}
+use Rattle.js_grammar.specs.StringItems.{Fault, StringItem, StringItems, ordinary_item, escape, ends_string, string_item}
 use Rattle.js_grammar.specs.StringItems.{no_item, items_before, items_up_to, all_items, string_text, string_units}
 use Rattle.js_grammar.specs.StringItems.{are_good, contains_bad_escape, fault_reports, item_reports}
 use Rattle.js_grammar.specs.StringItems.{is_good, is_bad_escape, string_of_items, terminated_string}
@@ -139,7 +139,7 @@ good_ones_not_bad (x ∷ xs) e =
     good_one bad_escape e = absurd (cc)
     good_one unfinished_escape e = absurd (cc)
 
-plain_heads : (c : ℕ) (cs : List ℕ) → Heads (c ∷ cs) (plain_item c cs)
+plain_heads : (c : ℕ) (cs : List ℕ) → Heads (c ∷ cs) (ordinary_item c cs)
 plain_heads c cs = record { here = refl; some = omega arith; finished = λ unfinished. absurd (cc) }
 
 -- the item of a string, case by case
@@ -147,7 +147,7 @@ pub string_escape : (quote : ℕ) (cs : List ℕ) → string_item quote (backsla
 string_escape quote cs = refl
 
 pub string_plain : (quote c : ℕ) (cs : List ℕ) → (c == backslash) ≡ false → ends_string quote c ≡ false
-    → string_item quote (c ∷ cs) ≡ Some (plain_item c cs)
+    → string_item quote (c ∷ cs) ≡ Some (ordinary_item c cs)
 string_plain quote c cs other on = rw (other, on) refl
 
 pub string_ends : (quote c : ℕ) (cs : List ℕ) → (c == backslash) ≡ false → ends_string quote c ≡ true
@@ -179,7 +179,7 @@ string_item_heads quote (c ∷ cs) item e =
           elim (true_or_false (ends_string quote c)) [
             | inl ends ↦ nothing_found _ item (string_ends quote c cs other ends) e
             | inr on ↦
-                found_head (c ∷ cs) (plain_item c cs) item _ (plain_heads c cs) (string_plain quote c cs other on) e
+                found_head (c ∷ cs) (ordinary_item c cs) item _ (plain_heads c cs) (string_plain quote c cs other on) e
           ]
     ]
 
@@ -195,7 +195,7 @@ pub template_line_end : (cs : List ℕ) → template_item (carriage_return ∷ c
 template_line_end cs = refl
 
 pub template_plain : (c : ℕ) (cs : List ℕ) → (c == backslash) ≡ false → ends_part (c ∷ cs) ≡ false
-    → (c == carriage_return) ≡ false → template_item (c ∷ cs) ≡ Some (plain_item c cs)
+    → (c == carriage_return) ≡ false → template_item (c ∷ cs) ≡ Some (ordinary_item c cs)
 template_plain c cs other on cr = rw (other, on, cr) refl
 
 -- CR LF, or CR alone
@@ -246,7 +246,7 @@ template_item_heads (c ∷ cs) item e =
                       (found_head (carriage_return ∷ cs) (carriage_return_item cs) item _ (carriage_return_heads cs)
                       (template_line_end cs) at))
                   | inr cr ↦
-                      found_head (c ∷ cs) (plain_item c cs) item _ (plain_heads c cs)
+                      found_head (c ∷ cs) (ordinary_item c cs) item _ (plain_heads c cs)
                       (template_plain c cs other on cr) e
                 ]
           ]

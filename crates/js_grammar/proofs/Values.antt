@@ -38,12 +38,12 @@ use Rattle.js_grammar.specs.Recovery.{binary_file, invalid_character, unterminat
 use Rattle.js_grammar.specs.Spelling.{begins_named}
 use Rattle.js_grammar.specs.StringItems.{is_quote, string_items, string_reading}
 use Rattle.js_grammar.specs.Template.{template_items, template_part_reading}
-use Rattle.js_grammar.specs.TokenText.{closing_length, is_private_name, is_quoted, is_valued, plain_value}
+use Rattle.js_grammar.specs.TokenText.{closing_length, is_private_name, is_quoted, is_valued, unescaped_value}
 use Rattle.js_grammar.specs.UnicodeEscape.{right_curly_bracket}
 use Rattle.js_grammar.specs.Values.{decoded_units, decoded_value, name_units, template_row_value, template_units}
 use Rattle.js_grammar.specs.Values.{IsValueOf}
 use Rattle.js_grammar.specs.declared.goal.Goal.{Goal}
-use Rattle.js_grammar.proofs.Flags.{has_no_plain_value, name_is_unquoted, neither_quoted, none_of_them}
+use Rattle.js_grammar.proofs.Flags.{has_no_unescaped_value, name_is_unquoted, neither_quoted, none_of_them}
 use Rattle.js_grammar.proofs.Flags.{private_name_is_unquoted, punctuator_unflagged}
 use Rattle.js_grammar.proofs.GoalWays.{Way, ways}
 use Rattle.js_grammar.proofs.GoalWays.Way.{plainly, part_on, alone}
@@ -59,7 +59,7 @@ use Rattle.js_grammar.proofs.NumberSteps.{read_badly, read_well}
 use Rattle.js_grammar.proofs.QuotedValues.{HasQuotedValue, part_is_template, part_kind_is, part_stands, part_value_is}
 use Rattle.js_grammar.proofs.QuotedValues.{HasNoFlag, part_flags, string_flags, string_is_no_template, quoted_kind_is}
 use Rattle.js_grammar.proofs.QuotedValues.{string_value_is}
-use Rattle.js_grammar.proofs.ReadingLemmas.{by_choice, plain_value_moved}
+use Rattle.js_grammar.proofs.ReadingLemmas.{by_choice, unescaped_value_moved}
 use Rattle.js_grammar.proofs.Spans.{here_is_taken, part_is_taken}
 use Rattle.js_grammar.proofs.Starts.{excluded, name_is_named, named_apart}
 use Rattle.js_grammar.proofs.StringBegins.{quote_is_quoted, quoted_begins_no_named}
@@ -97,7 +97,7 @@ decoded_of_private cs = refl
 -- the value of a token of so many bytes, by its kind and escaped flag, and the text at its start
 abbrev pub IsValueAt : Kind → Bool → ℕ → ℕ → List ℕ → RowValue → Type 0
 IsValueAt kind escaped start end here value =
-    (escaped ≡ false → value ≡ plain_value kind start end) × (escaped ≡ true → value ≡ decoded_value kind here)
+    (escaped ≡ false → value ≡ unescaped_value kind start end) × (escaped ≡ true → value ≡ decoded_value kind here)
 
 -- the value of what was read of the text
 abbrev pub HasValue : List ℕ → Reading → Type 0
@@ -105,7 +105,7 @@ HasValue here r = IsValueAt r.kind r.escaped 0 (size_of r) here r.value
 
 no_value : (kind : Kind) (start end : ℕ) (here : List ℕ) → is_valued kind ≡ false
     → IsValueAt kind false start end here Nothing
-no_value kind start end here e = ((λ _. sym (has_no_plain_value kind start end e)), (λ no. cc))
+no_value kind start end here e = ((λ _. sym (has_no_unescaped_value kind start end e)), (λ no. cc))
 
 -- the value of a name or a string with an escape
 decoded_as_units : (kind : Kind) (here us : List ℕ) → is_template_kind kind ≡ false → us ≡ decoded_units here
@@ -121,7 +121,7 @@ private_is_no_template = refl
 
 -- the value of a name, from a start to an end
 name_value_at : (kind : Kind) (escaped : Bool) (cs here : List ℕ) (start end : ℕ) → is_template_kind kind ≡ false
-    → plain_value kind 0 end ≡ Slice (record { start = start; end = end }) → units_of cs ≡ decoded_units here
+    → unescaped_value kind 0 end ≡ Slice (record { start = start; end = end }) → units_of cs ≡ decoded_units here
     → IsValueAt kind escaped 0 end here (name_value escaped cs start end)
 name_value_at kind true cs here start end none plain units =
     ((λ no. cc), (λ _. decoded_as_units kind here _ none units))
@@ -140,13 +140,13 @@ identifier_is_not_private kind is =
     not-true (is_private_name kind) (name_passes is_no_private kind names_are_not_private is)
 
 -- names, private or not, have their text as value
-name_plain_value : (kind : Kind) (start end : ℕ) → is_identifier_name kind ≡ true
-    → plain_value kind start end ≡ Slice (record { start = start; end = end })
-name_plain_value kind start end is =
+name_unescaped_value : (kind : Kind) (start end : ℕ) → is_identifier_name kind ≡ true
+    → unescaped_value kind start end ≡ Slice (record { start = start; end = end })
+name_unescaped_value kind start end is =
     rw (is, identifier_is_not_private kind is, name_is_unquoted kind is) refl
 
-private_plain_value : (end : ℕ) → plain_value PrivateIdentifier 0 end ≡ Slice (record { start = 1; end = end })
-private_plain_value end = rw (private_kind.1, private_name_is_unquoted, private_kind.0) refl
+private_unescaped_value : (end : ℕ) → unescaped_value PrivateIdentifier 0 end ≡ Slice (record { start = 1; end = end })
+private_unescaped_value end = rw (private_kind.1, private_name_is_unquoted, private_kind.0) refl
 
 name_has_value : (here : List ℕ) → begins_name here ≡ true → HasValue here (name_reading here)
 name_has_value here begun =
@@ -157,7 +157,7 @@ name_has_value here begun =
     let size = length (encode_utf8_all (items_text items)) in
     subst (HasValue here) (sym (read_of_cut here items found.rest found.cut))
     (name_value_at kind (contains_escape items) (items_value items) here 0 size (no_template kind is)
-    (name_plain_value kind 0 size is) (decoded_of_name here begun))
+    (name_unescaped_value kind 0 size is) (decoded_of_name here begun))
 
 private_has_value : (cs : List ℕ) → HasValue (number_sign ∷ cs) (private_reading (number_sign ∷ cs))
 private_has_value cs =
@@ -173,7 +173,7 @@ private_has_value cs =
         (λ (n : ℕ). IsValueAt PrivateIdentifier (contains_escape items) 0 n (number_sign ∷ cs)
         (name_value (contains_escape items) (items_value items) 1 (1 + size))) (sym (sign_size (items_text items)))
         (name_value_at PrivateIdentifier (contains_escape items) (items_value items) (number_sign ∷ cs) 1 (1 + size)
-        private_is_no_template (private_plain_value (1 + size)) (decoded_of_private cs)))
+        private_is_no_template (private_unescaped_value (1 + size)) (decoded_of_private cs)))
 
     unnamed : (xs : List ℕ) → HasValue (number_sign ∷ cs) (no_private_name (number_sign ∷ cs) xs)
     unnamed [] = no_value Undetermined 0 _ (number_sign ∷ cs) faulty_kinds.1
@@ -201,7 +201,7 @@ quoted_units c cs us quote e =
 -- of a string or a template
 pub quoted_has_value : (here : List ℕ) → begins begins_quoted here ≡ true → HasValue here (quoted_reading here)
 quoted_has_value [] begun = absurd (cc)
-quoted_has_value (c ∷ cs) begun = (λ plain. (fact c cs).plain plain, λ escaped. by_kind escaped)
+quoted_has_value (c ∷ cs) begun = (λ plain. (fact c cs).unescaped plain, λ escaped. by_kind escaped)
   where
     fact : (c : ℕ) (cs : List ℕ) → HasQuotedValue (quoted_reading (c ∷ cs))
     fact c cs =
@@ -239,7 +239,7 @@ part_has_value : (substitute tail : Kind) → is_template_kind substitute ≡ tr
     → HasValue (opening ∷ behind) (template_part_reading substitute tail (opening ∷ behind))
 part_has_value substitute tail first last opening behind mark =
     let fact = part_value_is substitute tail first last opening behind in (
-      fact.plain,
+      fact.unescaped,
       λ escaped.
           let template = part_is_template substitute tail first last opening behind escaped in
           fact.template escaped template
@@ -362,13 +362,13 @@ value_at_place : (here : List ℕ) (r : Reading) (line_has_ended : Bool) (start 
     → (is_quoted r.kind ≡ true → closing_length r.kind ≤ size_of r)
     → o.token ≡ (outcome_at line_has_ended start r).token
     → o.value ≡ moved_value start r.value
-    → (o.token.escaped ≡ false → o.value ≡ plain_value o.token.kind o.token.start o.token.end)
+    → (o.token.escaped ≡ false → o.value ≡ unescaped_value o.token.kind o.token.start o.token.end)
     × (o.token.escaped ≡ true → o.value ≡ decoded_value o.token.kind here)
 value_at_place here r line_has_ended start o has marks token value = (
   λ plain.
       value ∙ ap (moved_value start) (has.0 (sym (ap (λ x. x.escaped) token) ∙ plain))
-      ∙ plain_value_moved r.kind start (size_of r) marks
-      ∙ sym (ap (λ x. plain_value x.kind x.start x.end) token),
+      ∙ unescaped_value_moved r.kind start (size_of r) marks
+      ∙ sym (ap (λ x. unescaped_value x.kind x.start x.end) token),
   λ escaped.
       value ∙ ap (moved_value start) (has.1 (sym (ap (λ x. x.escaped) token) ∙ escaped))
       ∙ unmoved r.kind ∙ sym (ap (λ x. decoded_value x.kind here) token),
@@ -389,7 +389,7 @@ plainly_value text t goal before place o (hashbang begun read) =
     let nothing : o.value ≡ Nothing = ap (λ x. x.value) read.alone in
     let none : is_valued o.token.kind ≡ false = ap is_valued read.is_hashbang.kind ∙ faulty_kinds.2 in
     record {
-      plain = λ _. nothing ∙ sym (has_no_plain_value o.token.kind o.token.start o.token.end none);
+      unescaped = λ _. nothing ∙ sym (has_no_unescaped_value o.token.kind o.token.start o.token.end none);
       decoded = λ e. (let no : true ≡ false = sym e ∙ read.escaped in cc);
     }
 plainly_value text t goal before place o (behind_gap begun read) =
@@ -401,7 +401,7 @@ plainly_value text t goal before place o (behind_gap begun read) =
     (here_marks t read.line_has_ended here read.reading read.here quoted)
     (here_is_taken t read.line_has_ended here read.reading read.here).here)
     (ap (λ x. x.token) read.outcome_is) (ap (λ x. x.value) read.outcome_is) in
-    record { plain = value.0; decoded = value.1 }
+    record { unescaped = value.0; decoded = value.1 }
 
 -- the value of the next part of a template
 part_value : (text : List ℕ) (start : ℕ) (o : Outcome) → ReadsPart text start o → IsValueOf text o.token o.value
@@ -414,7 +414,7 @@ part_value text start o reads =
     (part_has_marks reads.behind here reads.here quoted) (part_taken_here reads.behind here reads.here))
     (ap (λ x. x.token) reads.outcome_is) (ap (λ x. x.value) reads.outcome_is) in
     record {
-      plain = value.0;
+      unescaped = value.0;
       decoded = λ e. value.1 e ∙ ap (λ n. decoded_value o.token.kind (from_place text n)) (sym at);
     }
   where
@@ -439,7 +439,7 @@ goal_reads_value text t goal before place o u reads = by_way (ways text t goal b
     by_way (plainly goal reads) = plainly_value text t goal before place o reads
     by_way (part_on start reads) = part_value text start o reads
     by_way (alone took) = record {
-      plain = λ _. took.value;
+      unescaped = λ _. took.value;
       decoded = λ escaped. absurd (let no : true ≡ false = sym escaped ∙ took.escaped in cc);
     }
 

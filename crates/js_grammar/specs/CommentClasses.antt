@@ -60,8 +60,8 @@ abbrev pub is_hint_for : List ℕ → List ℕ → Bool
 is_hint_for tool text = begins_with tool text && begins is_capital (drop (length tool) text)
 
 -- the text, without white space around it, is the mark of a key of a property
-abbrev pub is_key_mark : List ℕ → Bool
-is_key_mark content = bytes_eq (trim content) (codes "@__KEY__") || bytes_eq (trim content) (codes "#__KEY__")
+abbrev pub is_key_sign : List ℕ → Bool
+is_key_sign content = bytes_eq (trim content) (codes "@__KEY__") || bytes_eq (trim content) (codes "#__KEY__")
 
 -- it may be such a mark
 abbrev pub may_mark_key : List ℕ → Bool
@@ -127,7 +127,7 @@ tool_class content text =
 abbrev pub worded_class : List ℕ → List ℕ → CommentContent
 worded_class content text =
     if is_empty text then variant.None
-    else if may_mark_key text && is_key_mark content then variant.PropertyKey
+    else if may_mark_key text && is_key_sign content then variant.PropertyKey
     else if is_alone_with (codes "@") text then variant.None
     else if begins_with (codes "@vite") text then variant.Vite
     else if begins_with_either (codes "@license") (codes "@preserve") text then variant.Legal

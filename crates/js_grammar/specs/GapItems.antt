@@ -1,4 +1,4 @@
--- What a gap between two tokens has beside plain white space: its items.
+-- What a gap between two tokens has beside regular white space: its items.
 use Rattle.std.specs.Prelude.{Bool, true, false, List, [], ◌∷◌, Option, Some, None, unwrap_or, if◌then◌else◌, ◌||◌}
 use Rattle.js_text.specs.Comment.{is_line_kind}
 use Rattle.js_text.specs.declared.span.Span.{Span}
@@ -13,7 +13,7 @@ pub record Found : Type 0 where
   pub kind : CommentKind
   pub content : CommentContent
 
--- What a gap has beside plain white space, in the order of the text: irregular white space that is listed, a line end,
+-- What a gap has beside regular white space, in the order of the text: irregular white space that is listed, a line end,
 -- a comment. A line end that is listed too is two items.
 pub data Item : Type 0 where
   irregular : Span → Item

@@ -11,7 +11,7 @@ use Rattle.js_kind.specs.declared.kind.Kind.TheVariants.{Eof, Ident, JSXText, LA
 use Rattle.js_grammar.specs.NumberReads.{empty_span}
 use Rattle.js_grammar.specs.Reading.{Reading, read_up_to, place_behind, size_of}
 use Rattle.js_grammar.specs.StringItems.{is_quote, stretch}
-use Rattle.js_grammar.specs.TokenText.{plain_value}
+use Rattle.js_grammar.specs.TokenText.{unescaped_value}
 use Rattle.js_grammar.specs.UnicodeEscape.{left_curly_bracket, right_curly_bracket}
 
 -- a token of the kind that is reported, up to where this is left of the text
@@ -25,7 +25,7 @@ ends_jsx_name c = not (is_identifier_part c || (c == hyphen_minus))
 -- what is read of a name whose first part has these characters, and that goes on up to where this is left of the text
 abbrev pub jsx_name_up_to : List ℕ → List ℕ → List ℕ → Reading
 jsx_name_up_to part text rest = record (read_up_to Ident (part ++ text) rest) {
-  value = plain_value Ident 0 (size_of (read_up_to Ident (part ++ text) rest));
+  value = unescaped_value Ident 0 (size_of (read_up_to Ident (part ++ text) rest));
 }
 
 -- What is read of a name whose first part has these characters, where the text behind it goes on with a `-`: all parts
@@ -80,7 +80,7 @@ jsx_child_warnings place text = angles_among place (jsx_child_reading text).take
 abbrev pub jsx_string_before : List ℕ → List ℕ → Reading
 jsx_string_before text [] = reported Eof text [] (UnterminatedString (stretch 0 (place_behind 0 text)))
 jsx_string_before text (c ∷ cs) = record (read_up_to Str text cs) {
-  value = plain_value Str 0 (size_of (read_up_to Str text cs));
+  value = unescaped_value Str 0 (size_of (read_up_to Str text cs));
 }
 
 -- What is read of the string of an attribute that the text begins with: up to the next quote like its first. It has no

@@ -43,8 +43,8 @@ pub record NameItem : Type 0 where
   pub fault : Option NameFault
 
 -- a character that stands for itself
-abbrev pub plain_item : ℕ → NameItem
-plain_item c = record { text = c ∷ []; value = c ∷ []; is_escape = false; fault = None }
+abbrev pub ordinary_item : ℕ → NameItem
+ordinary_item c = record { text = c ∷ []; value = c ∷ []; is_escape = false; fault = None }
 
 -- an escape of a character
 abbrev pub good_escape : List ℕ → ℕ → NameItem
@@ -101,7 +101,7 @@ abbrev pub name_item : (ℕ → Bool) → List ℕ → Option NameItem
 name_item allowed [] = None
 name_item allowed (c ∷ cs) =
     if c == backslash then Some (escape_item allowed cs)
-    else if allowed c then Some (plain_item c)
+    else if allowed c then Some (ordinary_item c)
     else None
 
 -- The items that the text begins with, once so many of its characters are skipped, which belong to an item before

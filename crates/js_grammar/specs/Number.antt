@@ -18,8 +18,8 @@ abbrev pub latin_small_letter_n : ℕ
 latin_small_letter_n = 110
 
 -- `e` and `E`
-unfoldable pub is_exponent_mark : ℕ → Bool
-is_exponent_mark c = (c == 101) || (c == 69)
+unfoldable pub is_exponent_indicator : ℕ → Bool
+is_exponent_indicator c = (c == 101) || (c == 69)
 
 -- An item of a number, as it stands in a text: its characters, whether a digit is missing behind them, and what is left
 -- of the text there.
@@ -98,7 +98,7 @@ sign_kind minus = NegativeExponential
 
 -- An exponent, with the kind that it gives a number without a point.
 pub data IsExponent (xs : List ℕ) (kind : Kind) : Type 0 where
-  exponent : (mark : ℕ) (sign : Sign) (digits : List ℕ) → is_exponent_mark mark ≡ true → Is (run 10) digits
+  exponent : (mark : ℕ) (sign : Sign) (digits : List ℕ) → is_exponent_indicator mark ≡ true → Is (run 10) digits
       → xs ≡ mark ∷ (sign_text sign ++ digits) → kind ≡ sign_kind sign → IsExponent xs kind
 
 -- an exponent behind a point, where its sign gives no kind

@@ -9,7 +9,7 @@ use Rattle.js_text.specs.declared.span.Span.{Span}
 use Rattle.js_text.specs.Ascii.{full_stop, low_line, plus_sign, hyphen_minus}
 use Rattle.js_grammar.specs.Number.{Item, whole, run, integer, are_digits, Base, base_of, Sign, sign_text}
 use Rattle.js_kind.specs.Digits.{is_digit_of}
-use Rattle.js_grammar.specs.Number.{sign_kind, is_exponent_mark, digit_zero, latin_small_letter_n}
+use Rattle.js_grammar.specs.Number.{sign_kind, is_exponent_indicator, digit_zero, latin_small_letter_n}
 use Rattle.js_grammar.specs.Number.{may_not_follow_number}
 use Rattle.js_grammar.specs.Number.Sign.{no_sign, plus, minus}
 use Rattle.js_grammar.specs.Reading.{Reading, read_up_to, place_behind}
@@ -47,7 +47,7 @@ exponent_items mark sign text = let rest = drop (length (sign_text sign)) text i
 -- an exponent, or none, and then this kind
 unfoldable pub exponent_or : Kind → List ℕ → Items
 exponent_or kind [] = no_items kind []
-exponent_or kind (c ∷ cs) = if is_exponent_mark c then exponent_items c (sign_of cs) cs else no_items kind (c ∷ cs)
+exponent_or kind (c ∷ cs) = if is_exponent_indicator c then exponent_items c (sign_of cs) cs else no_items kind (c ∷ cs)
 
 -- a run where a digit stands, and then an exponent or none
 unfoldable pub fraction_items : List ℕ → Items
@@ -79,13 +79,13 @@ abbrev pub is_no_digit : ℕ → Bool
 is_no_digit c = not (is_digit_of 10 c)
 
 -- all digits that stand here, with no `_`
-unfoldable pub plain_digits : List ℕ → Item
-plain_digits text = whole (before_first is_no_digit text) (from_first is_no_digit text)
+unfoldable pub unseparated_digits : List ℕ → Item
+unseparated_digits text = whole (before_first is_no_digit text) (from_first is_no_digit text)
 
 -- a number that begins with `0` and a digit (B.1.1)
 unfoldable pub legacy_items : List ℕ → Items
 legacy_items text =
-    let digits = plain_digits text in
+    let digits = unseparated_digits text in
     if are_digits 8 digits.text then last_item Octal digits else items-cons digits (behind_digits digits.rest)
 
 -- The digits behind a prefix, and what follows them. Where a digit is missing, nothing more is read, and all that is

@@ -1,4 +1,4 @@
--- The punctuators of the plain goal (ECMA-262 12.8, with `@`), and what may not follow one.
+-- The punctuators of the unrestricted goal (ECMA-262 12.8, with `@`), and what may not follow one.
 use Rattle.std.specs.Prelude.{◌≡◌, ℕ, Bool, true, false, List, [], ◌∷◌, ◌++◌, length, drop, ◌==◌, ◌&&◌, ◌||◌, not}
 use Rattle.std.specs.Prelude.{nat_le, codes, take, if◌then◌else◌, ◌⊎◌}
 use Rattle.std.specs.Char.{is_ascii_digit}
@@ -49,8 +49,8 @@ abbrev pub is_excluded : Punctuator → SourceType → Bool → List ℕ → Boo
 is_excluded p = excludes p.exclusion
 
 -- a punctuator that anything may follow
-abbrev pub plain : Kind → Punctuator
-plain k = record { text = kind_text k; kind = k; exclusion = excludes_nothing }
+abbrev pub unrestricted : Kind → Punctuator
+unrestricted k = record { text = kind_text k; kind = k; exclusion = excludes_nothing }
 
 -- a punctuator that no digit may follow
 abbrev pub before_no_digit : Kind → Punctuator
@@ -64,63 +64,63 @@ slash = record { text = kind_text Slash; kind = Slash; exclusion = excludes_aste
 abbrev pub left_angle : Punctuator
 left_angle = record { text = kind_text LAngle; kind = LAngle; exclusion = excludes_reported_comment }
 
--- All punctuators. Of those that begin with `>`, a plain step gives `>` alone.
+-- All punctuators. Of those that begin with `>`, a unrestricted step gives `>` alone.
 abbrev pub punctuators : List Punctuator
 punctuators =
-    plain Amp
-    ∷ plain Amp2
-    ∷ plain Amp2Eq
-    ∷ plain AmpEq
-    ∷ plain Bang
-    ∷ plain Caret
-    ∷ plain CaretEq
-    ∷ plain Colon
-    ∷ plain Comma
+    unrestricted Amp
+    ∷ unrestricted Amp2
+    ∷ unrestricted Amp2Eq
+    ∷ unrestricted AmpEq
+    ∷ unrestricted Bang
+    ∷ unrestricted Caret
+    ∷ unrestricted CaretEq
+    ∷ unrestricted Colon
+    ∷ unrestricted Comma
     ∷ before_no_digit Dot
-    ∷ plain Dot3
-    ∷ plain Eq
-    ∷ plain Eq2
-    ∷ plain Eq3
+    ∷ unrestricted Dot3
+    ∷ unrestricted Eq
+    ∷ unrestricted Eq2
+    ∷ unrestricted Eq3
     ∷ left_angle
-    ∷ plain LBrack
-    ∷ plain LCurly
-    ∷ plain LParen
-    ∷ plain LtEq
-    ∷ plain Minus
-    ∷ plain Minus2
-    ∷ plain MinusEq
-    ∷ plain Neq
-    ∷ plain Neq2
-    ∷ plain Percent
-    ∷ plain PercentEq
-    ∷ plain Pipe
-    ∷ plain Pipe2
-    ∷ plain Pipe2Eq
-    ∷ plain PipeEq
-    ∷ plain PipeGt
-    ∷ plain Plus
-    ∷ plain Plus2
-    ∷ plain PlusEq
-    ∷ plain Question
-    ∷ plain Question2
-    ∷ plain Question2Eq
+    ∷ unrestricted LBrack
+    ∷ unrestricted LCurly
+    ∷ unrestricted LParen
+    ∷ unrestricted LtEq
+    ∷ unrestricted Minus
+    ∷ unrestricted Minus2
+    ∷ unrestricted MinusEq
+    ∷ unrestricted Neq
+    ∷ unrestricted Neq2
+    ∷ unrestricted Percent
+    ∷ unrestricted PercentEq
+    ∷ unrestricted Pipe
+    ∷ unrestricted Pipe2
+    ∷ unrestricted Pipe2Eq
+    ∷ unrestricted PipeEq
+    ∷ unrestricted PipeGt
+    ∷ unrestricted Plus
+    ∷ unrestricted Plus2
+    ∷ unrestricted PlusEq
+    ∷ unrestricted Question
+    ∷ unrestricted Question2
+    ∷ unrestricted Question2Eq
     ∷ before_no_digit QuestionDot
-    ∷ plain RAngle
-    ∷ plain RBrack
-    ∷ plain RCurly
-    ∷ plain RParen
-    ∷ plain Semicolon
-    ∷ plain ShiftLeft
-    ∷ plain ShiftLeftEq
+    ∷ unrestricted RAngle
+    ∷ unrestricted RBrack
+    ∷ unrestricted RCurly
+    ∷ unrestricted RParen
+    ∷ unrestricted Semicolon
+    ∷ unrestricted ShiftLeft
+    ∷ unrestricted ShiftLeftEq
     ∷ slash
-    ∷ plain SlashEq
-    ∷ plain Star
-    ∷ plain Star2
-    ∷ plain Star2Eq
-    ∷ plain StarEq
-    ∷ plain Tilde
-    ∷ plain Arrow
-    ∷ plain At
+    ∷ unrestricted SlashEq
+    ∷ unrestricted Star
+    ∷ unrestricted Star2
+    ∷ unrestricted Star2Eq
+    ∷ unrestricted StarEq
+    ∷ unrestricted Tilde
+    ∷ unrestricted Arrow
+    ∷ unrestricted At
     ∷ []
 
 -- the punctuator stands in the list

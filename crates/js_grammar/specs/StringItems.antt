@@ -70,8 +70,8 @@ pub record StringItem : Type 0 where
   pub rest : List ℕ
 
 -- a character that stands for itself
-abbrev pub plain_item : ℕ → List ℕ → StringItem
-plain_item c cs =
+abbrev pub ordinary_item : ℕ → List ℕ → StringItem
+ordinary_item c cs =
     record { text = c ∷ []; units = encode_utf16 c; is_escaped = false; fault = no_fault; rest = cs }
 
 -- a good escape, with these characters behind its `\`
@@ -169,7 +169,7 @@ string_item quote [] = None
 string_item quote (c ∷ cs) =
     if c == backslash then Some (escape false cs)
     else if ends_string quote c then None
-    else Some (plain_item c cs)
+    else Some (ordinary_item c cs)
 
 -- items one after the other, and what is left of the text behind them
 pub record StringItems : Type 0 where

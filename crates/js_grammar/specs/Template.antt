@@ -7,7 +7,7 @@ use Rattle.js_text.specs.Characters.{begins}
 use Rattle.js_kind.specs.declared.kind.Kind.{Kind}
 use Rattle.js_kind.specs.declared.kind.Kind.TheVariants.{NoSubstitutionTemplate, TemplateHead}
 use Rattle.js_grammar.specs.Gap.{is_prefix}
-use Rattle.js_grammar.specs.StringItems.{StringItem, contains_bad_escape, plain_item, escape, StringItems, all_items}
+use Rattle.js_grammar.specs.StringItems.{StringItem, contains_bad_escape, ordinary_item, escape, StringItems, all_items}
 use Rattle.js_grammar.specs.StringItems.{string_text}
 use Rattle.js_grammar.specs.Reading.{Reading, read_up_to, size_of}
 use Rattle.js_grammar.specs.StringItems.{string_units, contains_escape, item_reports, StringValue}
@@ -37,7 +37,7 @@ template_item (c ∷ cs) =
     if c == backslash then Some (escape true cs)
     else if ends_part (c ∷ cs) then None
     else if c == carriage_return then Some (carriage_return_item cs)
-    else Some (plain_item c cs)
+    else Some (ordinary_item c cs)
 
 -- the items behind the mark that begins a part
 abbrev pub template_items : List ℕ → StringItems

@@ -41,5 +41,5 @@ text_slice kind start end = Slice (record { start = text_start kind start; end =
 
 -- The value of a token without an escape: of a name, a string or a part of a template its text as it stands in the
 -- source; of another token none.
-abbrev pub plain_value : Kind → ℕ → ℕ → RowValue
-plain_value kind start end = if is_valued kind then text_slice kind start end else Nothing
+abbrev pub unescaped_value : Kind → ℕ → ℕ → RowValue
+unescaped_value kind start end = if is_valued kind then text_slice kind start end else Nothing

@@ -9,7 +9,7 @@ use Rattle.js_text.specs.declared.value.RowValue.{RowValue}
 use Rattle.js_text.specs.declared.value.RowValue.TheVariants.{Units, Bad}
 use Rattle.js_grammar.specs.Name.{decoded}
 use Rattle.js_grammar.specs.Quoted.{quoted_reading, units_in}
-use Rattle.js_grammar.specs.TokenText.{plain_value, text_start, text_end}
+use Rattle.js_grammar.specs.TokenText.{unescaped_value, text_start, text_end}
 use Rattle.js_grammar.specs.StringItems.{is_quote}
 use Rattle.js_kind.specs.Kinds.{is_template_kind}
 use Rattle.js_kind.specs.TokenParts.{TokenParts}
@@ -40,7 +40,7 @@ decoded_value kind here =
 
 -- This is the value of the token: its text in the source exactly where it has no escape.
 pub record IsValueOf (text : List ℕ) (token : TokenParts) (value : RowValue) : Type 0 where
-  pub plain : token.escaped ≡ false → value ≡ plain_value token.kind token.start token.end
+  pub unescaped : token.escaped ≡ false → value ≡ unescaped_value token.kind token.start token.end
   pub decoded : token.escaped ≡ true → value ≡ decoded_value token.kind (from_place text token.start)
 
 -- The text of the token, without its marks, lies on places of the source, in order.

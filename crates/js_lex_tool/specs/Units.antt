@@ -10,12 +10,12 @@ abbrev pub four_digits : Bool → ℕ → List ℕ
 four_digits upper n = padded_integral (format_spec 32 0 4 4 (2 ^ 64 - 1)) false [] (digits 16 upper n)
 
 -- a unit that stands for itself: from a space to `~`, but for `\`
-abbrev pub is_plain : ℕ → Bool
-is_plain u = nat_le 32 u && nat_le u 126 && not (u == 92)
+abbrev pub is_printed_as_itself : ℕ → Bool
+is_printed_as_itself u = nat_le 32 u && nat_le u 126 && not (u == 92)
 
 -- a unit of a value: itself, or an escape
 abbrev pub unit_text : ℕ → List ℕ
-unit_text u = cond (is_plain u) (u ∷ []) (codes "\\u" ++ four_digits false u)
+unit_text u = cond (is_printed_as_itself u) (u ∷ []) (codes "\\u" ++ four_digits false u)
 
 -- the units of a text
 abbrev pub all_units_text : List ℕ → List ℕ

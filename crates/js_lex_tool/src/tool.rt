@@ -81,7 +81,7 @@ fn status_of(fault: LexFault) -> u8
 }
 
 /// The text of what ran.
-fn text_of(alloc: Global, ran: &Ran) -> Result<String, AllocError>
+fn output_text(alloc: Global, ran: &Ran) -> Result<String, AllocError>
     requires utf8 { IsUtf8 ran.now.source }
     requires slices { AllByRecursion (λ row. IsSliceOnPlaces ran.now.source row.value) ran.now.report.rows }
     ensures { IfOk result (λ text. string_bytes text ≡ report_text_of ran.now.source ran.now.report) }
@@ -124,7 +124,7 @@ fn write_report<O: ByteOut>(alloc: Global, ran: Ran, output: &mut O) -> ToolOutc
     ensures faults { CountsFault WriteFailed result.status (O.state output.old).faults (O.state output.new).faults }
     ensures in_time { InTime (O.state output.old).course (O.state output.new).course }
 {
-    match text_of(alloc, &ran) {
+    match output_text(alloc, &ran) {
         Ok(text) => write_text(text.as_str(), ran, output),
         Err(_) => outcome_without_run(MEMORY),
     }

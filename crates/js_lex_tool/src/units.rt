@@ -1,15 +1,15 @@
 //! Characters and UTF-16 units, as a report prints them.
 
 ghost use Rattle.std.specs.Prelude.{◌≡◌, ◌<◌, ◌++◌, true, false, OnOk, codes, string_bytes};
-ghost use Rattle.js_lex_tool.specs.Units.{is_plain, four_digits, unit_text, units_text, text_in_units, number_text};
+ghost use Rattle.js_lex_tool.specs.Units.{is_printed_as_itself, four_digits, unit_text, units_text, text_in_units, number_text};
 ghost use Rattle.js_lex_tool.specs.Units.{all_units_text};
 
 use std::alloc::AllocError;
 use std::fmt::Write;
 
 /// Whether a unit stands for itself.
-fn is_plain_unit(unit: u16) -> bool
-    ensures plain { result ≡ is_plain unit }
+fn is_printed_as_itself(unit: u16) -> bool
+    ensures itself { result ≡ is_printed_as_itself unit }
     ensures ascii { result ≡ true → unit < 128 }
 {
     matches!(unit, 0x20..=0x7e) && unit != 0x5c
@@ -24,7 +24,7 @@ fn push_escape(text: &mut String, unit: u16) -> Result<(), AllocError>
 fn push_unit(text: &mut String, unit: u16) -> Result<(), AllocError>
     ensures { OnOk result (string_bytes text.new ≡ string_bytes text.old ++ unit_text unit) }
 {
-    if is_plain_unit(unit) {
+    if is_printed_as_itself(unit) {
         text.push(char::from(unit as u8))
     } else {
         push_escape(text, unit)

@@ -31,7 +31,7 @@ use Rattle.js_reader.specs.Found.{findings_in}
 use Rattle.js_lexer.specs.Lexer.{LexerState, IsOnPlaces, IsSound, IsRestored, collected, ReadsOutcome, ReadsToken}
 use Rattle.js_lexer.specs.Lexer.{Checkpoint, checkpoint_of, checkpoint_with_errors_of, put_back, put_errors_back}
 use Rattle.js_lexer.specs.Lexer.{rewound, BeginsAlike, GoesOnFrom, with_diagnostics, with_comments}
-use Rattle.js_lexer.specs.Lexer.{ReadsAgain, after_re_lex, last_read, token_or_default, range_before, trivia_before}
+use Rattle.js_lexer.specs.Lexer.{LexesAgain, after_re_lex, last_read, token_or_default, range_before, trivia_before}
 use Rattle.js_reader.specs.Reader.{ReadsGoal, ReadsWithGap, ReadsWithoutGap, AddsGap, MovesOn}
 use Rattle.js_reader.specs.declared.findings_builder.FindingsBuilder.{FindingsBuilder}
 use Rattle.js_reader.specs.declared.reader.Reader.{Reader}
@@ -344,7 +344,7 @@ abbrev pub reads_again : (old new : LexerState) (r : Reader) (goal : Goal) (toke
       findings = record old.findings { diagnostics = later; comments = comments };
       decoded = values;
     }
-    → ReadsAgain goal old token new
+    → LexesAgain goal old token new
 reads_again old new r goal token reader told later comments last values u source source_type errors alone kept has same
     last_is e =
     let reads = alone.read in
@@ -534,7 +534,7 @@ goes_on-re_lexed l o = record {
 }
 
 -- and so does a lexer that read a token again
-pub re_lexing_goes_on : (goal : Goal) (old new : LexerState) (token : TokenParts) → ReadsAgain goal old token new
+pub re_lexing_goes_on : (goal : Goal) (old new : LexerState) (token : TokenParts) → LexesAgain goal old token new
     → GoesOnFrom old new
 re_lexing_goes_on goal old new token r = record {
   text = r.after.text;

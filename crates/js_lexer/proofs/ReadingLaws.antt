@@ -8,7 +8,7 @@ use Rattle.js_grammar.specs.Outcome.{Outcome}
 use Rattle.js_grammar.specs.declared.goal.Goal.{Goal}
 use Rattle.js_grammar.specs.declared.goal.Goal.TheVariants.{Next}
 use Rattle.js_grammar.proofs.Unique.{goal_reads_unique}
-use Rattle.js_lexer.specs.Lexer.{LexerState, ReadsOutcome, ReadsToken, ReadsAgain, Peeks}
+use Rattle.js_lexer.specs.Lexer.{LexerState, ReadsOutcome, ReadsToken, LexesAgain, Peeks}
 
 has_bytes : (goal : Goal) (l : LexerState) (token : TokenParts) (o : Outcome) → token ≡ o.token
     → ReadsOutcome goal l o → token.kind ≢ Eof → token.start < token.end
@@ -19,7 +19,7 @@ pub read_has_bytes : (goal : Goal) (old new : LexerState) (token : TokenParts) �
     → token.kind ≢ Eof → token.start < token.end
 read_has_bytes goal old new token r = has_bytes goal old token r.outcome r.token_is r.reads
 
-pub again_has_bytes : (goal : Goal) (old new : LexerState) (token : TokenParts) → ReadsAgain goal old token new
+pub again_has_bytes : (goal : Goal) (old new : LexerState) (token : TokenParts) → LexesAgain goal old token new
     → token.kind ≢ Eof → token.start < token.end
 again_has_bytes goal old new token r = has_bytes goal old token r.outcome r.token_is r.reads
 

@@ -32,7 +32,7 @@ use Rattle.js_grammar.specs.StringItems.{string_text, string_units}
 use Rattle.js_grammar.specs.Template.{IsTemplatePart}
 use Rattle.js_grammar.specs.Template.IsTemplatePart.{no_substitution, head}
 use Rattle.js_grammar.specs.Values.{IsValueOf, decoded_value, decoded_units}
-use Rattle.js_grammar.specs.TokenText.{plain_value}
+use Rattle.js_grammar.specs.TokenText.{unescaped_value}
 use Rattle.js_grammar.specs.declared.goal.Goal.{Goal}
 use Rattle.js_grammar.specs.declared.goal.Goal.TheVariants.{First, Next, TemplateTail}
 use Rattle.js_grammar.specs.declared.goal.Goal.TheVariants.{RegularExpression, RightAngle, TypeScriptLeftAngle}
@@ -219,9 +219,9 @@ string_value text o ys r value kind escaped rest found =
           ∙ ap (λ zs. Units (decoded_units zs)) here
           ∙ ap Units
           (string_stands_for found.characters (from_place text o.token.end) moved (items_escaped ∙ is));
-      plain_value = λ none. (
-        value.plain none ∙ ap (λ k. plain_value k o.token.start o.token.end) kind
-            ∙ plain_string o.token.start o.token.end,
+      unescaped_value = λ none. (
+        value.unescaped none ∙ ap (λ k. unescaped_value k o.token.start o.token.end) kind
+            ∙ unescaped_string o.token.start o.token.end,
         string_stands_for_itself found.characters (from_place text o.token.end) moved (items_escaped ∙ none),
       );
     }
@@ -229,8 +229,8 @@ string_value text o ys r value kind escaped rest found =
     decoded_string : (here : List ℕ) → decoded_value Str here ≡ Units (decoded_units here)
     decoded_string here = rw string_kinds.1 refl
 
-    plain_string : (start end : ℕ) → plain_value Str start end ≡ text_slice Str start end
-    plain_string start end = rw string_kinds.0 refl
+    unescaped_string : (start end : ℕ) → unescaped_value Str start end ≡ text_slice Str start end
+    unescaped_string start end = rw string_kinds.0 refl
 
 plainly_string : (text : List ℕ) (t : SourceType) (goal : Goal) (before : Option TokenParts) (place : ℕ) (o : Outcome)
     → IsValueOf text o.token o.value → ReadsPlainly text t goal before place o → o.findings.diagnostics ≡ []

@@ -15,7 +15,7 @@ use Rattle.js_grammar.specs.declared.goal.Goal.TheVariants.{TypeScriptLeftAngle,
 use Rattle.js_reader.specs.Decoded.{Values, KeepsValues, HasValue}
 use Rattle.js_lexer.specs.Goals.{ReadsRegex}
 use Rattle.js_reader.specs.Goals.{ReadsExpression, info_of}
-use Rattle.js_lexer.specs.Lexer.{IsBehindFor, IsSound, ReadsAgain, kind_of_last, last_read, lexer_of}
+use Rattle.js_lexer.specs.Lexer.{IsBehindFor, IsSound, LexesAgain, kind_of_last, last_read, lexer_of}
 use Rattle.js_reader.specs.Reader.{ReadsGoal, ReadsSilently, ReadsWithoutGap}
 use Rattle.js_reader.specs.declared.findings_builder.FindingsBuilder.{FindingsBuilder}
 use Rattle.js_reader.specs.declared.reader.Reader.{Reader}
@@ -122,7 +122,7 @@ abbrev pub reads_taken : {goal : Goal} {token : TokenParts} {collects : Bool} {t
     → IsSound old.source (last_read has_read found.trivia.attachment.previous) found.trivia values
     → after.trivia ≡ handle_token token found.trivia → after.deferred ≡ found.deferred
     → after.warnings ≡ found.warnings → now ≡ (if collects then with_last tokens token else tokens)
-    → ReadsAgain goal (lexer_of collects old found has_read tokens values) token
+    → LexesAgain goal (lexer_of collects old found has_read tokens values) token
     (lexer_of collects new after has_read now more)
 reads_taken {goal} {token} {collects} {tokens} {now} {values} {more} has_read old new found after r sound told deferred
     warnings collected =

@@ -31,6 +31,6 @@ pub record IsStringOfItems (text : List ℕ) (outcome : Outcome) : Type 0 where
   pub here : from_place text outcome.token.start ≡ characters ++ from_place text outcome.token.end
   pub string : IsString characters (from_place text outcome.token.end)
   pub decoded_value : outcome.token.escaped ≡ true → outcome.value ≡ Units (units_of_items string.items)
-  pub plain_value : outcome.token.escaped ≡ false
+  pub unescaped_value : outcome.token.escaped ≡ false
       → (outcome.value ≡ text_slice Str outcome.token.start outcome.token.end)
       × (units_of (string_text string.items) ≡ units_of_items string.items)

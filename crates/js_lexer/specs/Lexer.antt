@@ -180,7 +180,7 @@ pub record ReadsOutcome (goal : Goal) (l : LexerState) (outcome : Outcome) : Typ
   pub spelling : HasSpelling l.text outcome.token
 
 -- A token that was read again, in the place of the last one.
-pub record ReadsAgain (goal : Goal) (old : LexerState) (token : TokenParts) (new : LexerState) : Type 0 where
+pub record LexesAgain (goal : Goal) (old : LexerState) (token : TokenParts) (new : LexerState) : Type 0 where
   pub outcome : Outcome
   pub token_is : token ≡ outcome.token
   pub reads : ReadsOutcome goal old outcome

@@ -11,7 +11,7 @@ ghost use Rattle.js_kind.specs.Kinds.{is_identifier_name};
 ghost use Rattle.js_kind.specs.TokenParts.{TokenParts};
 ghost use Rattle.js_trivia.specs.Marks.{IsRangeOf, marked_within};
 ghost use Rattle.js_lexer.specs.Laws.{IsNameOfWord, IsStringOfItems};
-ghost use Rattle.js_lexer.specs.Lexer.{LexerState, ReadsToken, ReadsAgain, Peeks, GoesOnFrom, Checkpoint, CanRewind};
+ghost use Rattle.js_lexer.specs.Lexer.{LexerState, ReadsToken, LexesAgain, Peeks, GoesOnFrom, Checkpoint, CanRewind};
 ghost use Rattle.js_lexer.specs.Lexer.{with_comments};
 
 use js_grammar::Goal;
@@ -21,7 +21,7 @@ use js_kind::Kind;
 pub fn a_token_has_a_byte()
     ensures read { (goal : Goal) (old new : LexerState) (token : TokenParts) → ReadsToken goal old token new
         → token.kind ≢ Kind.Eof → token.start < token.end }
-    ensures again { (goal : Goal) (old new : LexerState) (token : TokenParts) → ReadsAgain goal old token new
+    ensures again { (goal : Goal) (old new : LexerState) (token : TokenParts) → LexesAgain goal old token new
         → token.kind ≢ Kind.Eof → token.start < token.end }
 {}
 
@@ -50,7 +50,7 @@ pub fn a_string_has_the_units_of_its_items()
 pub fn a_reading_goes_on()
     ensures read { (goal : Goal) (old new : LexerState) (token : TokenParts) → ReadsToken goal old token new
         → GoesOnFrom old new }
-    ensures again { (goal : Goal) (old new : LexerState) (token : TokenParts) → ReadsAgain goal old token new
+    ensures again { (goal : Goal) (old new : LexerState) (token : TokenParts) → LexesAgain goal old token new
         → GoesOnFrom old new }
 {}
 

@@ -19,7 +19,7 @@ ghost use Rattle.js_reader.specs.Decoded.{GivesTemplate, GivesStretch};
 ghost use Rattle.js_reader.specs.Found.{Grows, found_lengths};
 ghost use Rattle.js_lexer.specs.Lexer.{LexerState, fresh, token_or_default, ReadsToken, IsRestored, IsOnPlaces, Peeks};
 ghost use Rattle.js_lexer.specs.Lexer.{checkpoint_of, CanRewind, rewound, GoesOnFrom, collected, is_hashbang};
-ghost use Rattle.js_lexer.specs.Lexer.{IsBehindFor, ReadsAgain, checkpoint_with_errors_of, trivia_before};
+ghost use Rattle.js_lexer.specs.Lexer.{IsBehindFor, LexesAgain, checkpoint_with_errors_of, trivia_before};
 ghost use Rattle.js_lexer.specs.Lexer.{with_comments, with_diagnostics};
 ghost use Rattle.js_reader.specs.Reader.{ReadsWithGap, MovesOn};
 
@@ -291,7 +291,7 @@ impl<'a, C: LexerConfig + Drop> Lexer<'a, C> {
     /// token that is read begins with this `}`, and stands in its place.
     pub fn next_template_substitution_tail(&mut self) -> Result<Token, AllocError>
         requires { IsBehindFor Goal.TemplateTail self.old }
-        ensures ok { IfOk result (λ token. ReadsAgain Goal.TemplateTail self.old token self.new) }
+        ensures ok { IfOk result (λ token. LexesAgain Goal.TemplateTail self.old token self.new) }
         ensures err { OnErr result (IsRestored self.old self.new) }
         ensures kept { Keeps self.old.decoded self.new.decoded }
     {

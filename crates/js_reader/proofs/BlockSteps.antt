@@ -20,7 +20,7 @@ use Rattle.js_source.specs.Source.{At, rest, IsPlaced, BeginsWith}
 use Rattle.js_source.proofs.Places.{begins_with}
 use Rattle.js_trivia.specs.Trivia.{add_comment, found_in}
 use Rattle.js_spell.specs.Comments.{ReadsCut}
-use Rattle.js_spell.specs.Marks.{TakesMark}
+use Rattle.js_spell.specs.Sequences.{TakesSequence}
 use Rattle.js_reader.specs.Reader.{SkipsSome}
 use Rattle.js_reader.specs.declared.findings_builder.FindingsBuilder.{FindingsBuilder}
 use Rattle.js_reader.specs.declared.reader.Reader.{Reader}
@@ -83,7 +83,7 @@ unfolding lib.Utf8.encode
 two_bytes = (refl, refl)
 
 module _ (old mid new : At) (inside : Bool) (h : IsPlaced old) (g : IsPlaced new)
-    (takes : TakesMark (codes "/*") old true mid) (text : new.text ≡ mid.text)
+    (takes : TakesSequence (codes "/*") old true mid) (text : new.text ≡ mid.text)
     (cuts : ReadsCut false (cut_behind (codes "*/") (rest mid)) new (Skips inside)) where
   pub block_front : (front : List ℕ) × (cuts.0.front ≡ front ++ codes "*/")
   block_front = front_of (rest mid) cuts.0 cuts.1
@@ -116,7 +116,7 @@ mark_has_no_line_end cs = refl
 -- a block comment that ends
 pub block_skipped : (old : Reader) (before : FindingsBuilder) (mid : At) (new : Reader) (after : FindingsBuilder)
     (inside : Bool)
-    → IsPlaced old.source → IsPlaced new.source → TakesMark (codes "/*") old.source true mid
+    → IsPlaced old.source → IsPlaced new.source → TakesSequence (codes "/*") old.source true mid
     → new.source.text ≡ mid.text → ReadsCut false (cut_behind (codes "*/") (rest mid)) new.source (Skips inside)
     → new.source_type ≡ old.source_type
     → new.line_has_ended ≡ (old.line_has_ended || inside) → after.errors ≡ before.errors
@@ -189,7 +189,7 @@ no_block old begun line block =
     second b (c ∷ cs) e = alone (c == b) e
 
 -- a block comment that nothing ends
-pub no_block_end : (old : Reader) (mid : At) → TakesMark (codes "/*") old.source true mid
+pub no_block_end : (old : Reader) (mid : At) → TakesSequence (codes "/*") old.source true mid
     → cut_behind (codes "*/") (rest mid) ≡ None
     → piece old.source_type old.line_has_ended (rest old.source) ≡ None
 no_block_end old mid takes none =

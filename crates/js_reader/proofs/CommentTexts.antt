@@ -18,17 +18,17 @@ use Rattle.js_grammar.specs.Gap.{Piece}
 use Rattle.js_grammar.specs.GapItems.{found_at}
 use Rattle.js_grammar.specs.PieceItems.{content_characters, found_comment, piece_length}
 use Rattle.js_trivia.specs.Trivia.{IsPlacedIn, found_in}
-use Rattle.js_reader.specs.Gaps.{opening_mark}
+use Rattle.js_reader.specs.Gaps.{opening_sequence}
 
 -- the mark of a line comment
 pub record IsLineMark (kind : CommentKind) : Type 0 where
-  pub bytes : length (encode_utf8_all (opening_mark kind)) ≡ opening_length kind
-  pub characters : length (opening_mark kind) ≡ opening_length kind
+  pub bytes : length (encode_utf8_all (opening_sequence kind)) ≡ opening_length kind
+  pub characters : length (opening_sequence kind) ≡ opening_length kind
   pub unclosed : closing_length kind ≡ 0
   pub before : (cs : List ℕ)
-      → before_first is_line_terminator (opening_mark kind ++ cs) ≡ opening_mark kind ++ before_first is_line_terminator cs
+      → before_first is_line_terminator (opening_sequence kind ++ cs) ≡ opening_sequence kind ++ before_first is_line_terminator cs
   pub from : (cs : List ℕ)
-      → from_first is_line_terminator (opening_mark kind ++ cs) ≡ from_first is_line_terminator cs
+      → from_first is_line_terminator (opening_sequence kind ++ cs) ≡ from_first is_line_terminator cs
 
 pub line_mark : (kind : CommentKind) → is_line_kind kind ≡ true → IsLineMark kind
 unfolding is_line_terminator lib.Utf8.encode

@@ -8,7 +8,7 @@ pub mod GoalSteps
 pub mod LineSteps
 pub mod NumberSteps
 pub mod PartSteps
-pub mod PlainReadings
+pub mod SimpleReadings
 pub mod ReadingSteps
 pub mod ReLexSteps
 pub mod SpellingSteps

@@ -20,8 +20,8 @@ use Rattle.js_grammar.proofs.Tests.{prefix_of}
 use Rattle.js_source.specs.Source.{At, rest, IsPlaced, BeginsWith}
 use Rattle.js_source.proofs.Places.{begins_with}
 use Rattle.js_trivia.specs.Trivia.{calls, add_comment, found_in}
-use Rattle.js_reader.specs.Gaps.{opening_mark, piece_kind, is_html, IsAtLineEnd}
-use Rattle.js_spell.specs.Marks.{TakesMark}
+use Rattle.js_reader.specs.Gaps.{opening_sequence, piece_kind, is_html, IsAtLineEnd}
+use Rattle.js_spell.specs.Sequences.{TakesSequence}
 use Rattle.js_reader.specs.Reader.{IsBehindLine, IsOnlyPiece, SkipsSome, SkipsEndOfLine}
 use Rattle.js_reader.specs.declared.findings_builder.FindingsBuilder.{FindingsBuilder}
 use Rattle.js_reader.specs.declared.reader.Reader.{Reader}
@@ -29,13 +29,13 @@ use Rattle.js_reader.proofs.CommentTexts.{IsMarked, line_mark, placed_in, found_
 use Rattle.js_reader.proofs.GapSteps.{IsBehindPiece, piece_leads, piece_shorter, on_to}
 
 module _ (kind : CommentKind) (line : is_line_kind kind ≡ true) (old mid new : At) (h : IsPlaced old) (g : IsPlaced new)
-    (takes : TakesMark (opening_mark kind) old true mid) (text : new.text ≡ mid.text)
+    (takes : TakesSequence (opening_sequence kind) old true mid) (text : new.text ≡ mid.text)
     (left : rest new ≡ from_first is_line_terminator (rest mid)) where
   inside : List ℕ
   inside = before_first is_line_terminator (rest mid)
 
   -- a line comment in the text
-  pub line_marked : IsMarked old.text kind old.place new.place (opening_mark kind)
+  pub line_marked : IsMarked old.text kind old.place new.place (opening_sequence kind)
       (before_first is_line_terminator (rest mid)) []
   line_marked =
       let mark = line_mark kind line in
@@ -47,11 +47,11 @@ module _ (kind : CommentKind) (line : is_line_kind kind ≡ true) (old mid new :
         end = subst (λ (u : List ℕ). IsCharBoundary u new.place) same g.boundary;
         here =
             takes.1
-            ∙ ap (λ cs. opening_mark kind ++ cs)
+            ∙ ap (λ cs. opening_sequence kind ++ cs)
             (sym (before_from is_line_terminator (rest mid)) ∙ ap (λ cs. inside ++ cs) (sym left)
             ∙ ap (λ u. inside ++ from_place u new.place) same
             ∙ ap (λ cs. cs ++ from_place old.text new.place) (sym (append-nil inside)))
-            ∙ sym (append_assoc (opening_mark kind) (inside ++ []) (from_place old.text new.place));
+            ∙ sym (append_assoc (opening_sequence kind) (inside ++ []) (from_place old.text new.place));
         opening = mark.bytes;
         opening_characters = mark.characters;
         closing = sym mark.unclosed;
@@ -59,10 +59,10 @@ module _ (kind : CommentKind) (line : is_line_kind kind ≡ true) (old mid new :
       }
 
   pub line_text : before_first is_line_terminator (rest old)
-      ≡ opening_mark kind ++ (before_first is_line_terminator (rest mid) ++ [])
+      ≡ opening_sequence kind ++ (before_first is_line_terminator (rest mid) ++ [])
   line_text =
       ap (before_first is_line_terminator) takes.1 ∙ (line_mark kind line).before (rest mid)
-      ∙ ap (λ cs. opening_mark kind ++ cs) (sym (append-nil (before_first is_line_terminator (rest mid))))
+      ∙ ap (λ cs. opening_sequence kind ++ cs) (sym (append-nil (before_first is_line_terminator (rest mid))))
 
   pub line_left : rest new ≡ from_first is_line_terminator (rest old)
   line_left = left ∙ sym (ap (from_first is_line_terminator) takes.1 ∙ (line_mark kind line).from (rest mid))
@@ -70,7 +70,7 @@ module _ (kind : CommentKind) (line : is_line_kind kind ≡ true) (old mid new :
 -- what is told of a line comment
 pub behind_line : (kind : CommentKind) → is_line_kind kind ≡ true → (old : Reader) (before : FindingsBuilder)
     (mid : At) (new : Reader) (after : FindingsBuilder) → IsPlaced old.source → IsPlaced new.source
-    → TakesMark (opening_mark kind) old.source true mid → new.source.text ≡ mid.text
+    → TakesSequence (opening_sequence kind) old.source true mid → new.source.text ≡ mid.text
     → rest new.source ≡ from_first is_line_terminator (rest mid)
     → new.source_type ≡ old.source_type → new.line_has_ended ≡ old.line_has_ended → after.errors ≡ before.errors
     → after.deferred ≡ before.deferred
@@ -83,7 +83,7 @@ behind_line kind line old before mid new after h g takes text left source_type l
     warnings =
     let marked = line_marked kind line old.source mid new.source h g takes text left in
     let placed =
-    placed_in old.source.text kind old.source.place new.source.place (opening_mark kind)
+    placed_in old.source.text kind old.source.place new.source.place (opening_sequence kind)
     (before_first is_line_terminator (rest mid)) [] marked in
     record {
       text = text ∙ takes.0;
@@ -98,7 +98,7 @@ behind_line kind line old before mid new after h g takes text left source_type l
       trivia =
           trivia
           ∙ ap (λ f. add_comment f before.trivia)
-          (found_is old.source.text kind old.source.place new.source.place (opening_mark kind)
+          (found_is old.source.text kind old.source.place new.source.place (opening_sequence kind)
           (before_first is_line_terminator (rest mid)) [] marked
           (line_comment single_line_comment old.line_has_ended (rest old.source))
           (line_text kind line old.source mid new.source h g takes text left));
@@ -237,8 +237,8 @@ pub html_piece : (kind : CommentKind) → is_html kind ≡ true → (old : Reade
     → more.trivia ≡ after.trivia → more.warnings ≡ after.warnings
     → IsBehindPiece false old before true new more
 html_piece kind html old before new after more h g line only errors deferred trivia warnings =
-    let begins : is_prefix (opening_mark kind) (rest old.source) ≡ true =
-    ap (is_prefix (opening_mark kind)) line.here ∙ prefix_of (opening_mark kind) line.behind in
+    let begins : is_prefix (opening_sequence kind) (rest old.source) ≡ true =
+    ap (is_prefix (opening_sequence kind)) line.here ∙ prefix_of (opening_sequence kind) line.behind in
     line_piece kind (piece_kind kind) false old before new after more h g line
     (only
     ∙ ap (λ b. if b then Some (line_comment (piece_kind kind) old.line_has_ended (rest old.source)) else None) begins)
@@ -246,7 +246,7 @@ html_piece kind html old before new after more h g line only errors deferred tri
     (deferred ∙ ap (λ ds. after.deferred ++ ds) (html_reports kind html old)) trivia warnings
 
 pub no_html : (kind : CommentKind) (old : Reader) → IsOnlyPiece kind old
-    → is_prefix (opening_mark kind) (rest old.source) ≡ false
+    → is_prefix (opening_sequence kind) (rest old.source) ≡ false
     → piece old.source_type old.line_has_ended (rest old.source) ≡ None
 no_html kind old only e =
     only ∙ ap (λ b. if b then Some (line_comment (piece_kind kind) old.line_has_ended (rest old.source)) else None) e

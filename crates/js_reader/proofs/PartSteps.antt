@@ -9,7 +9,7 @@ use Rattle.js_source.specs.Source.{At, rest}
 use Rattle.js_source.specs.Runs.{PassesRun, TellsClass}
 use Rattle.js_source.proofs.Classes.{tells_class, tells_from, tells_other}
 use Rattle.js_reader.specs.Gaps.{BeginsNoPiece}
-use Rattle.js_reader.specs.Tables.{is_blank, is_mark}
+use Rattle.js_reader.specs.Tables.{is_blank, is_symbol}
 use Rattle.js_reader.proofs.FirstBytes.{begins_none}
 
 abbrev pub is_start : ℕ → Bool
@@ -44,12 +44,12 @@ and_true false b e = absurd (cc)
 is_none : (b n : ℕ) → not (b == n) ≡ true → b ≡ n → ⊥
 is_none b n e same = let both : true ≡ false = sym e ∙ ap not (eq-eqb b n same) in cc
 
-pub mark_begins_none : (b : ℕ) → b < 128 → is_mark b ≡ true → BeginsNoPiece b
+pub mark_begins_none : (b : ℕ) → b < 128 → is_symbol b ≡ true → BeginsNoPiece b
 mark_begins_none b small e =
     let is = and_true _ _ e in
     let minus = and_true _ _ is.1 in
-    let marks = and_true _ _ minus.1 in
-    begins_none b (ltb-true 32 b is.0) small (is_none b 47 marks.0) (is_none b 60 marks.1) (is_none b 45 minus.0)
+    let symbols = and_true _ _ minus.1 in
+    begins_none b (ltb-true 32 b is.0) small (is_none b 47 symbols.0) (is_none b 60 symbols.1) (is_none b 45 minus.0)
 
 pub run_fewer : (table : List Bool) (old new : At) → new.text ≡ old.text → PassesRun table old.text old.place new.place
     → length (rest new) ≤ length (rest old)

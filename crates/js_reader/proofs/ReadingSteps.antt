@@ -45,11 +45,11 @@ use Rattle.js_grammar.proofs.Tests.{prefix_of, prefix_is, and_true}
 use Rattle.js_grammar.proofs.GapLemmas.{reported, unreported, piece_takes}
 use Rattle.js_grammar.proofs.Reported.{piece_texts, whole_gap_piece_text, place_behind-append}
 use Rattle.js_trivia.specs.Pieces.{HaveBytes, end_of}
-use Rattle.js_spell.specs.Marks.{TakesMark}
+use Rattle.js_spell.specs.Sequences.{TakesSequence}
 use Rattle.js_reader.specs.Reader.{lexeme_of, StaysWithin, SkipsWholeGap, ReadsLexeme, ReadsBehind, IsHashbangRead}
 use Rattle.js_reader.specs.Reader.{ReadsTokenHere, lexeme_token, ReadsWithGap, ReadsWithoutGap, AddsGap, NothingHere}
 use Rattle.js_reader.specs.Reader.{MovesOn, IsUnmoved, ReadsInPart}
-use Rattle.js_reader.specs.Reader.{plain_lexeme}
+use Rattle.js_reader.specs.Reader.{simple_lexeme}
 use Rattle.js_reader.specs.Spellings.{SpellsLongest}
 use Rattle.js_spell.specs.Recovery.{Recovers}
 use Rattle.js_reader.specs.declared.findings_builder.FindingsBuilder.{FindingsBuilder}
@@ -61,7 +61,7 @@ use Rattle.js_reader.proofs.WholeSteps.{pieces_lead, line_shorter}
 -- a spelling without a flag and a value was read
 pub lexeme_spelled : (old new : Reader) (k : Kind) (l : Lexeme) → StaysWithin old new → IsUnflagged k
     → SpellsLongest old.source_type old.line_has_ended old.source new.source k
-    → l ≡ plain_lexeme k new.line_has_ended → (errors : List Diagnostic) → ReadsLexeme old errors l new errors
+    → l ≡ simple_lexeme k new.line_has_ended → (errors : List Diagnostic) → ReadsLexeme old errors l new errors
 lexeme_spelled old new k l within plain s is errors = record {
   text = s.text;
   source_type = within.source_type;
@@ -69,7 +69,7 @@ lexeme_spelled old new k l within plain s is errors = record {
   here = spelled s.spelled s.spelling refl;
   behind = refl;
   lexeme_is =
-      is ∙ ap (plain_lexeme k) within.line_has_ended ∙ rw
+      is ∙ ap (simple_lexeme k) within.line_has_ended ∙ rw
       (has_no_escape k s.spelled plain.no_value, plain.no_number) refl;
   errors = sym (append-nil errors);
 }
@@ -290,7 +290,7 @@ no_hashbang_mark old start e =
     begins_at_start old.text old.place start ∙ ap (λ p. is_prefix (codes "#!") (from_place old.text p)) (sym start) ∙ e
 
 pub hashbang_read : (old new : Reader) (mid : At) (token : TokenParts) (end : ℕ) → old.source.place ≡ 0
-    → IsPlaced new.source → StaysWithin old new → TakesMark (codes "#!") old.source true mid
+    → IsPlaced new.source → StaysWithin old new → TakesSequence (codes "#!") old.source true mid
     → new.source.text ≡ mid.text → rest new.source ≡ from_first is_line_terminator (rest mid) → end ≡ new.source.place
     → token
     ≡ record default_parts { start = 0; end = end; kind = HashbangComment; is_on_new_line = new.line_has_ended }

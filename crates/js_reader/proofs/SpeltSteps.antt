@@ -19,7 +19,7 @@ use Rattle.js_grammar.specs.Quoted.{quoted_reading}
 use Rattle.js_grammar.specs.Reading.{Reading, reported_at}
 use Rattle.js_grammar.specs.StringItems.{is_quote, string_reading}
 use Rattle.js_grammar.specs.Template.{template_part_reading}
-use Rattle.js_grammar.specs.TokenText.{is_valued, plain_value}
+use Rattle.js_grammar.specs.TokenText.{is_valued, unescaped_value}
 use Rattle.js_grammar.specs.UnicodeEscape.{right_curly_bracket}
 use Rattle.js_grammar.specs.Values.{decoded_units, decoded_value, template_row_value, template_units}
 use Rattle.js_grammar.proofs.Marks.{one_byte}
@@ -34,7 +34,7 @@ use Rattle.js_spell.specs.Breaks.{BreaksOff}
 use Rattle.js_spell.specs.Spells.{Spells, spelt_value}
 use Rattle.js_spell.specs.declared.spelt.Spelt.{Spelt}
 use Rattle.js_spell.specs.declared.spelt.SpeltValue.{SpeltValue}
-use Rattle.js_spell.specs.declared.spelt.SpeltValue.TheVariants.{Plain}
+use Rattle.js_spell.specs.declared.spelt.SpeltValue.TheVariants.{Unescaped}
 use Rattle.js_reader.specs.Decoded.{Values, KeepsSpelt, KeepsPart, KeepsValues, HasValueHere, HoldsTemplate}
 use Rattle.js_reader.specs.Reader.{ReadsInPart, ReadsLexeme}
 use Rattle.js_reader.specs.declared.reader.Reader.{Reader}
@@ -197,13 +197,13 @@ abbrev pub KeepsAs : Bool → ℕ → SpeltValue → Values → Values → Type 
 KeepsAs true start value old new = KeepsPart start value old new
 KeepsAs false start value old new = KeepsSpelt start value old new
 
-unchanged : (template : Bool) (start : ℕ) (old new : Values) → KeepsAs template start Plain old new → new ≡ old
+unchanged : (template : Bool) (start : ℕ) (old new : Values) → KeepsAs template start Unescaped old new → new ≡ old
 unchanged true start old new e = e
 unchanged false start old new e = e
 
 -- the value of a token as it stands in the source
-plain_is_plain : (kind : Kind) (size : ℕ) → spelt_value (plain_value kind 0 size) ≡ Plain
-plain_is_plain kind size = by_choice (λ v. spelt_value v ≡ Plain) (is_valued kind) _ _ (λ _. refl) (λ _. refl)
+unescaped_is_unescaped : (kind : Kind) (size : ℕ) → spelt_value (unescaped_value kind 0 size) ≡ Unescaped
+unescaped_is_unescaped kind size = by_choice (λ v. spelt_value v ≡ Unescaped) (is_valued kind) _ _ (λ _. refl) (λ _. refl)
 
 part_held : (start : ℕ) (o : Option (List ℕ)) (old new : Values)
     → KeepsPart start (spelt_value (template_row_value o)) old new → HoldsTemplate start o old new
@@ -248,7 +248,7 @@ value_kept {template} {reading} {now} {spelt} here values kept held valued at sp
 
     by_flag : (escaped : Bool) → reading.escaped ≡ escaped → IsKept here values kept reading.kind escaped
     by_flag false e =
-        let plain = ap spelt_value (valued.value.0 e) ∙ plain_is_plain reading.kind _ in
+        let plain = ap spelt_value (valued.value.0 e) ∙ unescaped_is_unescaped reading.kind _ in
         let same =
         unchanged template here.place values kept
         (subst (λ v. KeepsAs template here.place v values kept) plain there) in

@@ -16,7 +16,7 @@ use Rattle.js_kind.specs.TokenParts.{TokenParts}
 use Rattle.js_kind.specs.declared.kind.Kind.{Kind}
 use Rattle.js_source.specs.Source.{At, rest}
 use Rattle.js_spell.specs.declared.spelt.SpeltValue.{SpeltValue}
-use Rattle.js_spell.specs.declared.spelt.SpeltValue.TheVariants.{Plain, Bad, Decoded}
+use Rattle.js_spell.specs.declared.spelt.SpeltValue.TheVariants.{Unescaped, Bad, Decoded}
 
 -- values, with the places where their tokens start
 abbrev pub Placed : Type 0 → Type 0
@@ -50,13 +50,13 @@ pub record HoldsTemplate (start : ℕ) (units : Option (List ℕ)) (old new : Va
 
 -- the value that was spelt is kept of the name or the string that starts there, where it was decoded
 abbrev pub KeepsSpelt : ℕ → SpeltValue → Values → Values → Type 0
-KeepsSpelt start Plain old new = new ≡ old
+KeepsSpelt start Unescaped old new = new ≡ old
 KeepsSpelt start Bad old new = new ≡ old
 KeepsSpelt start (Decoded units) old new = HoldsString start units old new
 
 -- the value that was spelt is kept of the part of a template that starts there, where it is no stretch of the source
 abbrev pub KeepsPart : ℕ → SpeltValue → Values → Values → Type 0
-KeepsPart start Plain old new = new ≡ old
+KeepsPart start Unescaped old new = new ≡ old
 KeepsPart start Bad old new = HoldsTemplate start None old new
 KeepsPart start (Decoded units) old new = HoldsTemplate start (Some units) old new
 
@@ -130,7 +130,7 @@ stretch_end kind end = if is_template_kind kind then end else text_end kind end
 -- such stretch.
 pub record GivesText (text : List ℕ) (values : Values) (token : TokenParts) (answer : Option JsText) : Type 0 where
   pub escaped : token.escaped ≡ true → GivesDecoded (value_of values.strings token.start) answer
-  pub plain : token.escaped ≡ false
+  pub unescaped : token.escaped ≡ false
       → GivesStretch text (stretch_start token.kind token.start) (stretch_end token.kind token.end) answer
 
 -- the text that a template's value has, if it is good
@@ -151,6 +151,6 @@ pub record GivesTemplate (text : List ℕ) (values : Values) (token : TokenParts
   pub other : is_template_kind token.kind ≡ false → answer ≡ None
   pub escaped : is_template_kind token.kind ≡ true → token.escaped ≡ true
       → GivesPart (value_of values.templates token.start) answer
-  pub plain : is_template_kind token.kind ≡ true → token.escaped ≡ false
+  pub unescaped : is_template_kind token.kind ≡ true → token.escaped ≡ false
       → GivesStretch text (text_start token.kind token.start) (text_end token.kind token.end) (template_text answer)
       × (answer ≡ Some BadPart → ⊥)

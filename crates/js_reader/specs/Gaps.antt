@@ -30,12 +30,12 @@ pub record IsNext (next : Option ℕ) (here : List ℕ) : Type 0 where
   pub some : IfSome next (λ b. HasFirstByte b here)
 
 -- the mark that a comment of the kind begins with
-abbrev pub opening_mark : CommentKind → List ℕ
-opening_mark Line = codes "//"
-opening_mark SingleLineBlock = codes "/*"
-opening_mark MultiLineBlock = codes "/*"
-opening_mark HtmlOpen = codes "<!--"
-opening_mark HtmlClose = codes "-->"
+abbrev pub opening_sequence : CommentKind → List ℕ
+opening_sequence Line = codes "//"
+opening_sequence SingleLineBlock = codes "/*"
+opening_sequence MultiLineBlock = codes "/*"
+opening_sequence HtmlOpen = codes "<!--"
+opening_sequence HtmlClose = codes "-->"
 
 -- what a comment of the kind is as a piece of any gap
 abbrev pub piece_kind : CommentKind → PieceKind

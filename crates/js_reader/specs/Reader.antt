@@ -27,7 +27,7 @@ use Rattle.js_kind.specs.declared.kind.Kind.{Kind}
 use Rattle.js_trivia.specs.Pieces.{HaveBytes, end_of}
 use Rattle.js_trivia.specs.Trivia.{add_comment, calls}
 use Rattle.js_reader.specs.Found.{Extends}
-use Rattle.js_reader.specs.Gaps.{AddsPieces, opening_mark, piece_kind}
+use Rattle.js_reader.specs.Gaps.{AddsPieces, opening_sequence, piece_kind}
 use Rattle.js_reader.specs.declared.findings_builder.FindingsBuilder.{FindingsBuilder}
 use Rattle.js_reader.specs.declared.lexeme.Lexeme.{Lexeme}
 use Rattle.js_reader.specs.declared.reader.Reader.{Reader}
@@ -79,7 +79,7 @@ pub record IsBehindLine (kind : CommentKind) (old : Reader) (before : FindingsBu
   pub text : new.source.text ≡ old.source.text
   pub stays : StaysWithin old new
   pub behind : List ℕ
-  pub here : rest old.source ≡ opening_mark kind ++ behind
+  pub here : rest old.source ≡ opening_sequence kind ++ behind
   pub left : rest new.source ≡ from_first is_line_terminator (rest old.source)
   pub onward : old.source.place + opening_length kind ≤ new.source.place
   pub errors : after.errors ≡ before.errors
@@ -91,10 +91,10 @@ pub record IsBehindLine (kind : CommentKind) (old : Reader) (before : FindingsBu
       before.trivia
 
 -- Such a comment was skipped; or none stands here, and nothing has changed.
-abbrev pub SkipsMarkedLine : CommentKind → Reader → FindingsBuilder → Bool → Reader → FindingsBuilder → Type 0
-SkipsMarkedLine kind old before true new after = IsBehindLine kind old before new after
-SkipsMarkedLine kind old before false new after =
-    IsUnmoved old new × (after ≡ before) × (is_prefix (opening_mark kind) (rest old.source) ≡ false)
+abbrev pub SkipsOpenedLine : CommentKind → Reader → FindingsBuilder → Bool → Reader → FindingsBuilder → Type 0
+SkipsOpenedLine kind old before true new after = IsBehindLine kind old before new after
+SkipsOpenedLine kind old before false new after =
+    IsUnmoved old new × (after ≡ before) × (is_prefix (opening_sequence kind) (rest old.source) ≡ false)
 
 -- the line end behind a line comment was skipped, where the text goes on
 pub record SkipsEndOfLine (old : Reader) (before : FindingsBuilder) (new : Reader)
@@ -108,7 +108,7 @@ pub record SkipsEndOfLine (old : Reader) (before : FindingsBuilder) (new : Reade
 abbrev pub IsOnlyPiece : CommentKind → Reader → Type 0
 IsOnlyPiece kind old =
     piece old.source_type old.line_has_ended (rest old.source)
-    ≡ (if is_prefix (opening_mark kind) (rest old.source)
+    ≡ (if is_prefix (opening_sequence kind) (rest old.source)
     then Some (line_comment (piece_kind kind) old.line_has_ended (rest old.source))
     else None)
 
@@ -181,13 +181,13 @@ lexeme_token start end l = record {
 }
 
 -- what was read of the kind, without a flag
-abbrev pub plain_lexeme : Kind → Bool → Lexeme
-plain_lexeme kind line_has_ended =
+abbrev pub simple_lexeme : Kind → Bool → Lexeme
+simple_lexeme kind line_has_ended =
     record { kind = kind; is_on_new_line = line_has_ended; escaped = false; has_separator = false }
 
 -- the token of the kind from start to end, without another flag
 abbrev pub read_token : Bool → ℕ → ℕ → Kind → TokenParts
-read_token line_has_ended start end kind = lexeme_token start end (plain_lexeme kind line_has_ended)
+read_token line_has_ended start end kind = lexeme_token start end (simple_lexeme kind line_has_ended)
 
 -- The token of the lexeme that stands where the reader stood was read.
 pub record ReadsTokenHere (old : Reader) (before : List Diagnostic) (token : TokenParts) (new : Reader)

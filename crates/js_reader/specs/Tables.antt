@@ -12,5 +12,5 @@ abbrev pub is_blank : ℕ → Bool
 is_blank b = (b == 0x09) || (b == 0x20)
 
 -- above SP, and none of `-`, `/` and `<`: an ASCII character of these begins no piece of a gap
-abbrev pub is_mark : ℕ → Bool
-is_mark b = nat_lt 0x20 b && (not (b == hyphen_minus) && (not (b == slash) && not (b == less_than_sign)))
+abbrev pub is_symbol : ℕ → Bool
+is_symbol b = nat_lt 0x20 b && (not (b == hyphen_minus) && (not (b == slash) && not (b == less_than_sign)))

@@ -161,7 +161,7 @@ impl Reader<'_> {
             return Ok(false);
         }
         let start = self.source.offset();
-        if !self.skip_marked_line(found, CommentKind::HtmlOpen)? {
+        if !self.skip_opened_line(found, CommentKind::HtmlOpen)? {
             return Ok(false);
         }
         let span = Span::sized(start, CommentKind::HtmlOpen.opening_length());

@@ -11,12 +11,12 @@ ghost use Rattle.js_grammar.specs.PieceItems.{is_separator, listed_if};
 ghost use Rattle.js_source.specs.Source.{rest, BeginsWith, IsPlaced};
 ghost use Rattle.js_trivia.specs.Trivia.{calls};
 ghost use Rattle.js_reader.specs.Found.{Grows};
-ghost use Rattle.js_reader.specs.Gaps.{opening_mark, is_html, IsAtLineEnd};
-ghost use Rattle.js_reader.specs.Reader.{SkipsPiece, SkipsSome, SkipsMarkedLine, SkipsEndOfLine, MovesOn, IsOnlyPiece};
+ghost use Rattle.js_reader.specs.Gaps.{opening_sequence, is_html, IsAtLineEnd};
+ghost use Rattle.js_reader.specs.Reader.{SkipsPiece, SkipsSome, SkipsOpenedLine, SkipsEndOfLine, MovesOn, IsOnlyPiece};
 
 use crate::findings_builder::FindingsBuilder;
 use crate::reader::Reader;
-use js_spell::{Skipped, advance_if_mark, skip_block, skip_line};
+use js_spell::{Skipped, advance_if_sequence, skip_block, skip_line};
 use js_text::{
     CommentKind, Diagnostic, DiagnosticList, SourceType, Span, either, is_irregular_whitespace,
 };
@@ -25,8 +25,8 @@ use std::alloc::AllocError;
 
 /// The mark that a line comment of the kind begins with.
 #[inline(always)]
-fn opening_mark(kind: CommentKind) -> &'static [u8]
-    ensures { result.now ≡ opening_mark kind }
+fn opening_sequence(kind: CommentKind) -> &'static [u8]
+    ensures { result.now ≡ opening_sequence kind }
 {
     match kind {
         CommentKind::Line => b"//",
@@ -88,20 +88,20 @@ impl Reader<'_> {
     /// Reads a comment that begins with the mark of its kind, up to the end of its line, and tells whether one stands
     /// here.
     #[inline(always)]
-    pub fn skip_marked_line(
+    pub fn skip_opened_line(
         &mut self,
         found: &mut FindingsBuilder,
         kind: CommentKind,
     ) -> Result<bool, AllocError>
         requires placed { IsPlaced self.old.source }
         requires kind { is_line_kind kind ≡ true }
-        ensures ok { IfOk result (λ skipped. SkipsMarkedLine kind self.old found.old skipped self.new found.new) }
+        ensures ok { IfOk result (λ skipped. SkipsOpenedLine kind self.old found.old skipped self.new found.new) }
         ensures placed { OnOk result (IsPlaced self.new.source) }
         ensures grown { Grows found.old found.new }
         ensures err { OnErr result (MovesOn self.old self.new) }
     {
         let start = self.source.offset();
-        if !advance_if_mark(&mut self.source, opening_mark(kind)) {
+        if !advance_if_sequence(&mut self.source, opening_sequence(kind)) {
             return Ok(false);
         }
         skip_line(&mut self.source, &self.tables.line);
@@ -190,14 +190,14 @@ impl Reader<'_> {
     fn skip_block_comment(&mut self, found: &mut FindingsBuilder) -> Result<bool, AllocError>
         requires placed { IsPlaced self.old.source }
         requires next { BeginsWith slash (rest self.old.source) }
-        requires no_line { is_prefix (opening_mark CommentKind.Line) (rest self.old.source) ≡ false }
+        requires no_line { is_prefix (opening_sequence CommentKind.Line) (rest self.old.source) ≡ false }
         ensures ok { IfOk result (λ skipped. SkipsPiece self.old found.old skipped self.new found.new) }
         ensures grown { Grows found.old found.new }
         ensures err { OnErr result (MovesOn self.old self.new) }
     {
         let position = self.source.position();
         let start = self.source.offset();
-        if !advance_if_mark(&mut self.source, b"/*") {
+        if !advance_if_sequence(&mut self.source, b"/*") {
             return Ok(false);
         }
         match skip_block(&mut self.source, &self.tables.block, false) {
@@ -226,7 +226,7 @@ impl Reader<'_> {
         ensures grown { Grows found.old found.new }
         ensures err { OnErr result (MovesOn self.old self.new) }
     {
-        if self.skip_marked_line(found, CommentKind::Line)? {
+        if self.skip_opened_line(found, CommentKind::Line)? {
             self.skip_end_of_line(found);
             return Ok(true);
         }
@@ -247,7 +247,7 @@ impl Reader<'_> {
         ensures err { OnErr result (MovesOn self.old self.new) }
     {
         let start = self.source.offset();
-        if !self.skip_marked_line(found, kind)? {
+        if !self.skip_opened_line(found, kind)? {
             return Ok(false);
         }
         let span = Span::sized(start, kind.opening_length());

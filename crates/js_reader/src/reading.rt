@@ -25,12 +25,12 @@ ghost use Rattle.js_reader.specs.Tables.{is_name_start};
 use crate::decoded::DecodedValues;
 use crate::findings_builder::FindingsBuilder;
 use crate::lexeme::Lexeme;
-use crate::plain::read_plain_spelling;
+use crate::simple::read_simple_spelling;
 use crate::reader::Reader;
 use js_grammar::Goal;
 use js_kind::{Kind, Token};
 use js_spell::{
-    Spelt, SpeltValue, advance_if_mark, read_name, read_number, read_private_name, read_punctuator,
+    Spelt, SpeltValue, advance_if_sequence, read_name, read_number, read_private_name, read_punctuator,
     read_string, read_template_part, recover, skip_line,
 };
 use js_text::{DiagnosticList, Span, is_identifier_start};
@@ -62,7 +62,7 @@ fn keep_value(decoded: &mut DecodedValues, start: u32, value: SpeltValue) -> Res
     ensures err { OnErr result (decoded.new ≡ decoded.old) }
 {
     match value {
-        SpeltValue::Plain | SpeltValue::Bad => Ok(()),
+        SpeltValue::Unescaped | SpeltValue::Bad => Ok(()),
         SpeltValue::Decoded(units) => decoded.insert(start, units),
     }
 }
@@ -77,7 +77,7 @@ pub fn keep_part(
     ensures err { OnErr result (decoded.new ≡ decoded.old) }
 {
     match value {
-        SpeltValue::Plain => Ok(()),
+        SpeltValue::Unescaped => Ok(()),
         SpeltValue::Decoded(units) => decoded.insert_template(start, Some(units)),
         SpeltValue::Bad => decoded.insert_template(start, None),
     }
@@ -109,7 +109,7 @@ impl Reader<'_> {
         requires nothing { NothingHere self.old.source_type self.old.line_has_ended (rest self.old.source) }
         requires placed { IsPlaced self.old.source }
         ensures ok { IfOk result (λ lexeme. ReadsLexeme self.old errors.old lexeme self.new errors.new) }
-        ensures plain { IfOk result (λ lexeme. lexeme.escaped ≡ false) }
+        ensures unescaped { IfOk result (λ lexeme. lexeme.escaped ≡ false) }
         ensures err { OnErr result (ReadsInPart self.old errors.old self.new errors.new) }
     {
         let recovered = recover(&mut self.source, &self.tables.line, self.line_has_ended);
@@ -140,7 +140,7 @@ impl Reader<'_> {
         requires begun { begins_number (rest self.old.source) ≡ true }
         requires placed { IsPlaced self.old.source }
         ensures ok { IfOk result (λ lexeme. ReadsLexeme self.old errors.old lexeme self.new errors.new) }
-        ensures plain { IfOk result (λ lexeme. lexeme.escaped ≡ false) }
+        ensures unescaped { IfOk result (λ lexeme. lexeme.escaped ≡ false) }
         ensures err { OnErr result (ReadsInPart self.old errors.old self.new errors.new) }
     {
         let mut token = Token::default();
@@ -434,7 +434,7 @@ impl Reader<'_> {
 
     /// Reads the token that stands here, where no gap does, if it is one that needs the source alone.
     #[inline(always)]
-    fn read_plainly(&mut self) -> Option<Token>
+    fn read_simple(&mut self) -> Option<Token>
         requires gap { whole_gap_piece self.old.source_type self.old.line_has_ended (rest self.old.source) ≡ None }
         requires placed { IsPlaced self.old.source }
         ensures some { (errors : List Diagnostic)
@@ -448,7 +448,7 @@ impl Reader<'_> {
             return None;
         }
         let mut source = self.source.here();
-        let kind = read_plain_spelling(&mut source, &self.tables, b)?;
+        let kind = read_simple_spelling(&mut source, &self.tables, b)?;
         let span = Span::new(start, source.offset());
         self.source = source;
         Some(Token::new(kind, span, self.line_has_ended))
@@ -474,7 +474,7 @@ impl Reader<'_> {
         self.skip_whole_gap(found)?;
         // The source is between characters, as everywhere.
         let _place = self.source.position();
-        match self.read_plainly() {
+        match self.read_simple() {
             Some(token) => Ok(token),
             None => self.read_here(&mut found.errors, decoded),
         }
@@ -488,7 +488,7 @@ impl Reader<'_> {
         if self.source.offset() != 0 {
             return None;
         }
-        if !advance_if_mark(&mut self.source, b"#!") {
+        if !advance_if_sequence(&mut self.source, b"#!") {
             return None;
         }
         skip_line(&mut self.source, &self.tables.line);

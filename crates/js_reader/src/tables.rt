@@ -4,7 +4,7 @@ ghost use Rattle.std.specs.Prelude.{◌≡◌, false};
 ghost use Rattle.js_text.specs.Characters.{is_identifier_part, is_identifier_start};
 ghost use Rattle.js_source.specs.Runs.{TellsClass};
 ghost use Rattle.js_spell.specs.Comments.{StopsAtLineEnds, StopsInBlocks, stopping_bytes};
-ghost use Rattle.js_reader.specs.Tables.{is_blank, is_mark};
+ghost use Rattle.js_reader.specs.Tables.{is_blank, is_symbol};
 
 use js_source::{SafeByteMatchTable, of_each_byte};
 use js_spell::name_parts;
@@ -27,7 +27,7 @@ macro_rules! is_blank {
 }
 
 /// Above SP, and no character that a comment may begin with.
-macro_rules! is_mark {
+macro_rules! is_symbol {
     ($byte:literal) => {
         b' ' < $byte && $byte < 128 && $byte != b'-' && $byte != b'/' && $byte != b'<'
     };
@@ -40,7 +40,7 @@ static STARTS: [bool; 256] = of_each_byte!(is_identifier_start);
 static BLANKS: [bool; 256] = of_each_byte!(is_blank);
 
 /// The ASCII characters above SP but `-`, `/` and `<`: no piece of a gap begins with one.
-static MARKS: [bool; 256] = of_each_byte!(is_mark);
+static SYMBOLS: [bool; 256] = of_each_byte!(is_symbol);
 
 /// The table of the ASCII characters that begin names.
 #[inline(always)]
@@ -60,10 +60,10 @@ pub fn blanks() -> &'static [bool; 256]
 
 /// The table of ASCII characters that begin no piece of a gap.
 #[inline(always)]
-pub fn marks() -> &'static [bool; 256]
-    ensures { TellsClass is_mark result.now }
+pub fn symbols() -> &'static [bool; 256]
+    ensures { TellsClass is_symbol result.now }
 {
-    &MARKS
+    &SYMBOLS
 }
 
 /// The tables of bytes that a reading looks in.
@@ -81,13 +81,13 @@ pub struct ByteTables {
     /// TAB and SP.
     pub blanks: [bool; 256],
     /// The ASCII characters that begin no piece of a gap.
-    pub marks: [bool; 256],
+    pub symbols: [bool; 256],
     ghost line_ends: { StopsAtLineEnds line },
     ghost block_ends: { StopsInBlocks block },
     ghost name_starts: { TellsClass is_identifier_start starts },
     ghost name_parts: { TellsClass is_identifier_part parts },
     ghost gap_blanks: { TellsClass is_blank blanks },
-    ghost gap_ends: { TellsClass is_mark marks },
+    ghost gap_ends: { TellsClass is_symbol symbols },
 }
 
 /// The first bytes of the line terminators, LF, CR and that of U+2028 and U+2029, and with them `*` where it is wanted.
@@ -113,7 +113,7 @@ impl ByteTables {
             starts: *starts(),
             parts: *name_parts(),
             blanks: *blanks(),
-            marks: *marks(),
+            symbols: *symbols(),
         }
     }
 }

@@ -73,7 +73,7 @@ one_value text token a b h g = by_flag token.escaped refl
   where
     by_flag : (escaped : Bool) → token.escaped ≡ escaped → a ≡ b
     by_flag true e = h.decoded e ∙ sym (g.decoded e)
-    by_flag false e = h.plain e ∙ sym (g.plain e)
+    by_flag false e = h.unescaped e ∙ sym (g.unescaped e)
 
 -- the value that was held of a name or a string is of its units
 units_are : (here : List ℕ) (value : RowValue) (found : Option (List ℕ)) → found ≡ Some (decoded_units here)
@@ -98,7 +98,7 @@ kept_is false decoded start here value kept held = units_are here value (value_o
 held_value : (text : List ℕ) (decoded : Values) (token : TokenParts) (value : RowValue) → HasValue text decoded token
     → HoldsValue decoded token value → IsValueOf text token value
 held_value text decoded token value has h = record {
-  plain = h.plain;
+  unescaped = h.unescaped;
   decoded = λ e.
       kept_is (is_template_kind token.kind) decoded token.start (from_place text token.start) value (has e)
       (h.escaped e);
@@ -159,7 +159,7 @@ value_lies text token value lies is = by_flag token.escaped refl
         (decoded_lies (is_template_kind token.kind) text (decoded_units (from_place text token.start))
         (template_units (from_place text token.start)))
     by_flag false e =
-        subst (IsSliceOnPlaces text) (sym (is.plain e))
+        subst (IsSliceOnPlaces text) (sym (is.unescaped e))
         (plain_lies (is_valued token.kind) text (text_start token.kind token.start) (text_end token.kind token.end)
         lies.start lies.end lies.ordered)
 

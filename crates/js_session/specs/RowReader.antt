@@ -5,14 +5,14 @@ use Rattle.js_text.specs.declared.value.RowValue.{RowValue}
 use Rattle.js_text.specs.declared.value.RowValue.TheVariants.{Nothing, Units}
 use Rattle.js_grammar.specs.Outcome.{FindingLengths, found_since, no_findings}
 use Rattle.js_grammar.specs.Values.{template_row_value}
-use Rattle.js_grammar.specs.TokenText.{plain_value}
+use Rattle.js_grammar.specs.TokenText.{unescaped_value}
 use Rattle.js_grammar.specs.ReLexed.{fits}
 use Rattle.js_grammar.specs.declared.goal.Goal.{Goal}
 use Rattle.js_reader.specs.Decoded.{Values, value_of}
 use Rattle.js_kind.specs.Kinds.{is_template_kind}
 use Rattle.js_kind.specs.TokenParts.{TokenParts}
 use Rattle.js_lexer.specs.Lexer.{LexerState, ReadsToken, IsRestored, GoesOnFrom, CanRewind, Checkpoint, checkpoint_of}
-use Rattle.js_lexer.specs.Lexer.{token_or_default, ReadsAgain, IsOnPlaces}
+use Rattle.js_lexer.specs.Lexer.{token_or_default, LexesAgain, IsOnPlaces}
 use Rattle.js_session.specs.Live.{outcome_of, row_of}
 use Rattle.js_session.specs.Report.{LiesOnPlaces}
 use Rattle.js_session.specs.declared.command.Command.{Command}
@@ -50,7 +50,7 @@ HoldsKept false decoded start value = HoldsUnits (value_of decoded.strings start
 -- The value is that of the token: the decoded one where it has an escape, else the one that kind and span tell.
 pub record HoldsValue (decoded : Values) (token : TokenParts) (value : RowValue) : Type 0 where
   pub escaped : token.escaped ≡ true → HoldsKept (is_template_kind token.kind) decoded token.start value
-  pub plain : token.escaped ≡ false → value ≡ plain_value token.kind token.start token.end
+  pub unescaped : token.escaped ≡ false → value ≡ unescaped_value token.kind token.start token.end
 
 -- A row was read for a goal from where the lexer stands, and the lexer is behind its token, which lies on places.
 pub record ReadsRow (goal : Goal) (command : Option Command) (old : LexerState) (row : Row) (new : LexerState)
@@ -72,7 +72,7 @@ pub record IsMadeOf (command : Option Command) (place : ℕ) (lengths : FindingL
 
 -- The last token was read again, with this known of it as a regular expression.
 pub record ReadsAgainAs (goal : Goal) (old : LexerState) (found : ReadAgain) (new : LexerState) : Type 0 where
-  pub reads : ReadsAgain goal old found.token new
+  pub reads : LexesAgain goal old found.token new
   pub regex : reads.outcome.regex ≡ found.regex
 
 -- The last token was read again for the goal where it fits; else nothing has changed.
@@ -84,7 +84,7 @@ ReadsIfFits goal old (Some found) new =
 -- A row was read for a goal from the start of the last token, in whose place the token of the row stands now.
 pub record ReadsRowAgain (goal : Goal) (command : Option Command) (old : LexerState) (row : Row) (new : LexerState)
     : Type 0 where
-  pub reads : ReadsAgain goal old row.token new
+  pub reads : LexesAgain goal old row.token new
   pub outcome_is : outcome_of row ≡ reads.outcome
   pub command_is : row.command ≡ command
   pub place : row.place ≡ old.place

@@ -48,7 +48,7 @@ fn first_without_mark(commands: &[Command]) -> Option<usize>
 }
 
 /// The source as a text that can be read, or why it is none: `Overlong` or `NotUtf8`.
-pub fn text_of(source: &[u8]) -> Result<&str, LexFault>
+pub fn utf8_text(source: &[u8]) -> Result<&str, LexFault>
     ensures ok { IfOk result (λ text. (text.now ≡ source.now) × IsReadable source.now) }
     ensures err { IfErr result (SourceCause source.now) }
 {
@@ -66,7 +66,7 @@ pub(crate) fn check<'a>(source: &'a [u8], commands: &[Command]) -> Result<&'a st
     ensures ok { IfOk result (λ text. (text.now ≡ source.now) × IsReadable source.now × HasMarks commands.now) }
     ensures err { IfErr result (Cause source.now commands.now) }
 {
-    let text = text_of(source)?;
+    let text = utf8_text(source)?;
     match first_without_mark(commands) {
         Some(index) => Err(LexFault::NoMark(index)),
         None => Ok(text),

@@ -16,7 +16,7 @@ mod steps;
 mod whole_source;
 
 pub use command::{Command, CommandList};
-pub use fault::{LexFault, text_of};
+pub use fault::{LexFault, utf8_text};
 pub use js_lexer::NewFault;
 pub use js_text::{RegexInfo, RowValue};
 pub use lex::lex_session;

@@ -5,7 +5,7 @@ ghost use Rattle.js_grammar.specs.Outcome.{AreWithin};
 ghost use Rattle.js_grammar.specs.ReLexed.{fits};
 ghost use Rattle.js_grammar.specs.Reads.{is_onward};
 ghost use Rattle.js_grammar.specs.TokenText.{text_start, text_end};
-ghost use Rattle.js_grammar.specs.TokenText.{plain_value};
+ghost use Rattle.js_grammar.specs.TokenText.{unescaped_value};
 ghost use Rattle.js_kind.specs.Kinds.{is_template_kind};
 ghost use Rattle.js_reader.specs.Decoded.{value_of};
 ghost use Rattle.js_lexer.specs.Lexer.{ReadsToken, IsRestored, CanRewind, GoesOnFrom, checkpoint_of};
@@ -27,9 +27,9 @@ use std::alloc::{AllocError, Global};
 use std::marker::Model;
 
 /// The value of a token without an escape.
-fn plain_value(token: &Token) -> RowValue
+fn unescaped_value(token: &Token) -> RowValue
     requires { text_start token.now.kind token.now.start ≤ text_end token.now.kind token.now.end }
-    ensures { result ≡ plain_value token.now.kind token.now.start token.now.end }
+    ensures { result ≡ unescaped_value token.now.kind token.now.start token.now.end }
 {
     if !is_valued(token.kind()) {
         return RowValue::Nothing;
@@ -105,7 +105,7 @@ fn value_of<C: LexerConfig + Drop>(
     if token.escaped() {
         kept_value(lexer, alloc, token)
     } else {
-        Ok(plain_value(token))
+        Ok(unescaped_value(token))
     }
 }
 

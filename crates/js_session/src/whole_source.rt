@@ -10,7 +10,7 @@ ghost use Rattle.js_session.specs.declared.fault.LexFault.{LexFault};
 ghost use Rattle.js_session.specs.declared.row.Row.{Row};
 
 use crate::command::Command;
-use crate::fault::{LexFault, text_of};
+use crate::fault::{LexFault, utf8_text};
 use crate::report::Report;
 use crate::row::Row;
 use crate::session::Session;
@@ -72,7 +72,7 @@ fn lex_all_uncounted<L: Ledger>(
     ensures ok { OnOk result (IsReadable source.now) }
     ensures cause { IfErr result (λ fault. (fault ≡ LexFault.Memory) ⊎ SourceCause source.now fault) }
 {
-    let text = match text_of(source) {
+    let text = match utf8_text(source) {
         Ok(text) => text,
         Err(fault) => return Err(fault),
     };

@@ -63,9 +63,9 @@ skips_before p table text from to stops e =
     before_first-from_first_of p (matches_char table) stops (from_place text from)
     ∙ sym (ap (λ xs. skipped table text from ++ before_first p xs) e)
 
-either : (x y : Bool) (P : Type 0) → (x || y) ≡ true → (x ≡ true → P) → (y ≡ true → P) → P
-either true y P e f g = f refl
-either false y P e f g = g e
+either_way : (x y : Bool) (P : Type 0) → (x || y) ≡ true → (x ≡ true → P) → (y ≡ true → P) → P
+either_way true y P e f g = f refl
+either_way false y P e f g = g e
 
 -- a table that has LF, CR and the first byte of U+2028 and U+2029 stops at every line terminator
 pub line_terminator_matches : (table : List Bool) → matches_at table 10 ≡ true → matches_at table 13 ≡ true
@@ -73,9 +73,9 @@ pub line_terminator_matches : (table : List Bool) → matches_at table 10 ≡ tr
     → (c : ℕ) → is_line_terminator c ≡ true → matches_char table c ≡ true
 unfolding is_line_terminator encode_utf8
 line_terminator_matches table lf cr sep c e =
-    either ((c == 10) || (c == 13)) ((c == 0x2028) || (c == 0x2029)) _ e
-    (λ ascii. either (c == 10) (c == 13) _ ascii (λ t. at 10 (eqb-true c 10 t) lf) (λ t. at 13 (eqb-true c 13 t) cr))
-    (λ wide. either (c == 0x2028) (c == 0x2029) _ wide (λ t. at 0x2028 (eqb-true c 0x2028 t) sep)
+    either_way ((c == 10) || (c == 13)) ((c == 0x2028) || (c == 0x2029)) _ e
+    (λ ascii. either_way (c == 10) (c == 13) _ ascii (λ t. at 10 (eqb-true c 10 t) lf) (λ t. at 13 (eqb-true c 13 t) cr))
+    (λ wide. either_way (c == 0x2028) (c == 0x2029) _ wide (λ t. at 0x2028 (eqb-true c 0x2028 t) sep)
     (λ t. at 0x2029 (eqb-true c 0x2029 t) sep))
   where
     at : (d : ℕ) → c ≡ d → matches_char table d ≡ true → matches_char table c ≡ true

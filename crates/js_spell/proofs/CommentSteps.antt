@@ -14,7 +14,7 @@ use Rattle.js_grammar.specs.Gap.{is_prefix, Cut, cut-cons, cut_behind}
 use Rattle.js_spell.specs.Comments.{StopsInBlocks, ReadsCut}
 use Rattle.js_spell.specs.declared.skipped.Skipped.{Skipped}
 use Rattle.js_spell.specs.declared.skipped.Skipped.TheVariants.{Piece, Nothing}
-use Rattle.js_spell.proofs.MarkSteps.{behind}
+use Rattle.js_spell.proofs.SequenceSteps.{behind}
 
 -- a search for a character goes on from where a coarser search has stopped
 abbrev pub Searched : (ℕ → Bool) → List Bool → At → At → At → Type 0

@@ -30,7 +30,7 @@ use Rattle.js_spell.specs.RegularExpression.{StaysInLine, is_line_end, marks, pa
 use Rattle.js_spell.specs.declared.regular_expression.Within.{Within}
 use Rattle.js_spell.specs.declared.regular_expression.Within.TheVariants.{Body, Class}
 use Rattle.js_spell.proofs.NameSteps.{run_fewer}
-use Rattle.js_spell.proofs.PlainCharacters.{wide_first}
+use Rattle.js_spell.proofs.OrdinaryCharacters.{wide_first}
 
 finds_of : (within : Within) → FindsParts (part_of within)
 finds_of Body = finds_body_characters

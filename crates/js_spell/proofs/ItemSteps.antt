@@ -28,20 +28,20 @@ use Rattle.js_grammar.proofs.StringSteps.{carriage_return_two, carriage_return_o
 use Rattle.js_grammar.proofs.StringSteps.{template_value_bad}
 use Rattle.js_source.specs.Source.{At, rest, Reads, IsPlaced, HasFirstByte, StepsPast}
 use Rattle.js_spell.specs.Escape.{ReadsEscape}
-use Rattle.js_spell.specs.Strings.{in_template, item_of, plain_here, escape_here, PassesCharacters}
-use Rattle.js_spell.specs.Strings.{ReadsItems, ReadsOneItem, ReadsValue, value_of, told_value, MarkIs}
+use Rattle.js_spell.specs.Strings.{in_template, item_of, ordinary_here, escape_here, PassesCharacters}
+use Rattle.js_spell.specs.Strings.{ReadsItems, ReadsOneItem, ReadsValue, value_of, told_value, StopIs}
 use Rattle.js_spell.specs.Strings.{is_end}
 use Rattle.js_spell.specs.Breaks.{BreaksOff}
 use Rattle.js_spell.specs.Strings.{decoded_value, items_told}
-use Rattle.js_spell.specs.declared.items.Mark.{Mark}
-use Rattle.js_spell.specs.declared.items.Mark.TheVariants.{Escape, CarriageReturn, End}
-use Rattle.js_spell.specs.declared.plain.Literal.{Literal}
-use Rattle.js_spell.specs.declared.plain.Literal.TheVariants.{DoubleQuoted, SingleQuoted, Template}
+use Rattle.js_spell.specs.declared.items.Stop.{Stop}
+use Rattle.js_spell.specs.declared.items.Stop.TheVariants.{Escape, CarriageReturn, End}
+use Rattle.js_spell.specs.declared.ordinary.Literal.{Literal}
+use Rattle.js_spell.specs.declared.ordinary.Literal.TheVariants.{DoubleQuoted, SingleQuoted, Template}
 use Rattle.js_spell.specs.declared.spelt.SpeltValue.{SpeltValue}
-use Rattle.js_spell.specs.declared.spelt.SpeltValue.TheVariants.{Plain}
+use Rattle.js_spell.specs.declared.spelt.SpeltValue.TheVariants.{Unescaped}
 use Rattle.js_spell.proofs.BreakSteps.{broken_behind}
 use Rattle.js_spell.proofs.NumericSteps.{leads_to}
-use Rattle.js_spell.proofs.PlainCharacters.{heads_of, escape_item_here, no_item_here, escaped_item_here}
+use Rattle.js_spell.proofs.OrdinaryCharacters.{heads_of, escape_item_here, no_item_here, escaped_item_here}
 
 scalars_front : (xs ys : List ℕ) → scalars (xs ++ ys) ≡ true → scalars xs ≡ true
 scalars_front [] ys e = refl
@@ -59,32 +59,32 @@ stretch_chars at xs ys bytes placed here e =
     ap chars e ∙ chars-encodes xs (scalars_front xs ys (ap scalars (sym here) ∙ whole))
 
 -- characters that stand for themselves, and their units
-pub plain_items_read : (literal : Literal) (start : ℕ) (old new : At) (us vs : List ℕ) (reports : List Diagnostic)
-    (plain : PassesCharacters literal old new) → vs ≡ us ++ units_of (string_text plain.plain.items)
+pub ordinary_items_read : (literal : Literal) (start : ℕ) (old new : At) (us vs : List ℕ) (reports : List Diagnostic)
+    (plain : PassesCharacters literal old new) → vs ≡ us ++ units_of (string_text plain.ordinary.items)
     → ReadsItems literal start old new us vs reports reports false
-plain_items_read literal start old new us vs reports plain added = record {
+ordinary_items_read literal start old new us vs reports plain added = record {
   text = plain.text;
-  items = plain.plain.items;
-  here = plain.plain.here;
-  found = plain.plain.found;
-  units = added ∙ ap (λ ws. us ++ ws) (sym plain.plain.units);
+  items = plain.ordinary.items;
+  here = plain.ordinary.here;
+  found = plain.ordinary.found;
+  units = added ∙ ap (λ ws. us ++ ws) (sym plain.ordinary.units);
   reports =
       sym
       (ap (λ more. reports ++ more)
-      (good_ones (in_template literal) start old.place plain.plain.items plain.plain.good)
+      (good_ones (in_template literal) start old.place plain.ordinary.items plain.ordinary.good)
       ∙ append-nil reports);
-  bad = good_ones_not_bad plain.plain.items plain.plain.good;
+  bad = good_ones_not_bad plain.ordinary.items plain.ordinary.good;
 }
 
 pub copied : (literal : Literal) (start : ℕ) (old new : At) (us vs bytes : List ℕ) (reports : List Diagnostic)
     → IsPlaced old → (plain : PassesCharacters literal old new) → vs ≡ us ++ units_of (chars bytes)
-    → bytes ≡ encode_utf8_all (string_text plain.plain.items)
+    → bytes ≡ encode_utf8_all (string_text plain.ordinary.items)
     → ReadsItems literal start old new us vs reports reports false
 copied literal start old new us vs bytes reports placed plain added spelled =
-    plain_items_read literal start old new us vs reports plain
+    ordinary_items_read literal start old new us vs reports plain
     (added
     ∙ ap (λ cs. us ++ units_of cs)
-    (stretch_chars old (string_text plain.plain.items) (rest new) bytes placed plain.plain.here spelled))
+    (stretch_chars old (string_text plain.ordinary.items) (rest new) bytes placed plain.ordinary.here spelled))
 
 -- nothing yet
 pub no_items_read : (literal : Literal) (start : ℕ) (at : At) (us : List ℕ) (reports : List Diagnostic)
@@ -158,9 +158,9 @@ pub plain_broken : (literal : Literal) (start : ℕ) (old mid new : At) (before 
     → BreaksOff (items_told literal start mid) mid new before after
     → BreaksOff (items_told literal start old) old new before after
 plain_broken literal start old mid new before after h g plain broken =
-    let us = units_of (string_text plain.plain.items) in
+    let us = units_of (string_text plain.ordinary.items) in
     items_broken literal start old mid new [] us before before after false h g
-    (plain_items_read literal start old mid [] us before plain refl) broken
+    (ordinary_items_read literal start old mid [] us before plain refl) broken
 
 -- All items were read, and then what ends them broke off, which has reported nothing.
 pub end_broken : (literal : Literal) (start : ℕ) (old mid new : At) (before between after : List Diagnostic)
@@ -292,7 +292,7 @@ line_end_read b start old mid new us vs reports h g next past lf added =
         (found ∙ ap Some one) (ap rest (sym same)) added (sym (append-nil reports)) refl
 
 -- what a mark says
-pub mark_at_end : (literal : Literal) (text : List ℕ) → text ≡ [] → MarkIs literal End text
+pub mark_at_end : (literal : Literal) (text : List ℕ) → text ≡ [] → StopIs literal End text
 mark_at_end DoubleQuoted text e = ap (escape_here DoubleQuoted) e
 mark_at_end SingleQuoted text e = ap (escape_here SingleQuoted) e
 mark_at_end Template text e = ap (escape_here Template) e
@@ -303,7 +303,7 @@ mark_escape b [] e first = absurd first
 mark_escape b (c ∷ cs) e first = eq-eqb c backslash (first.0 (omega (arith, e)) ∙ e)
 
 pub mark_return : (literal : Literal) (b : ℕ) (text : List ℕ) → in_template literal ≡ true → b ≡ carriage_return
-    → HasFirstByte b text → MarkIs literal CarriageReturn text
+    → HasFirstByte b text → StopIs literal CarriageReturn text
 mark_return literal b [] t e first = absurd first
 mark_return literal b (c ∷ cs) t e first = (t, eq-eqb c carriage_return (first.0 (omega (arith, e)) ∙ e))
 
@@ -318,7 +318,7 @@ differs b c d cs low other first =
     ]
 
 pub mark_other : (literal : Literal) (b : ℕ) (text : List ℕ) → b ≢ backslash → b ≢ carriage_return
-    → HasFirstByte b text → MarkIs literal End text
+    → HasFirstByte b text → StopIs literal End text
 mark_other literal b [] slash cr first = absurd first
 mark_other literal b (c ∷ cs) slash cr first =
     rw (differs b c backslash cs (omega arith) slash first, differs b c carriage_return cs (omega arith) cr first)
@@ -329,11 +329,11 @@ mark_other literal b (c ∷ cs) slash cr first =
     nothing false = refl
 
 pub mark_string : (literal : Literal) (b : ℕ) (text : List ℕ) → b ≢ backslash → in_template literal ≡ false
-    → HasFirstByte b text → MarkIs literal End text
+    → HasFirstByte b text → StopIs literal End text
 mark_string literal b [] slash t first = absurd first
 mark_string literal b (c ∷ cs) slash t first = rw (differs b c backslash cs (omega arith) slash first, t) refl
 
-pub mark_not_end : (literal : Literal) (mark : Mark) (text : List ℕ) → MarkIs literal mark text
+pub mark_not_end : (literal : Literal) (mark : Stop) (text : List ℕ) → StopIs literal mark text
     → is_end mark ≡ false → escape_here literal text ≡ true
 mark_not_end literal Escape text is e = rw is refl
 mark_not_end literal CarriageReturn text (t, cr) e = rw (t, cr) (or_true (begins (λ c. c == backslash) text))
@@ -343,7 +343,7 @@ mark_not_end literal CarriageReturn text (t, cr) e = rw (t, cr) (or_true (begins
     or_true false = refl
 mark_not_end literal End text is e = absurd (cc)
 
-pub mark_end : (literal : Literal) (mark : Mark) (text : List ℕ) → MarkIs literal mark text
+pub mark_end : (literal : Literal) (mark : Stop) (text : List ℕ) → StopIs literal mark text
     → is_end mark ≡ true → escape_here literal text ≡ false
 mark_end literal Escape text is e = absurd (cc)
 mark_end literal CarriageReturn text is e = absurd (cc)
@@ -351,24 +351,24 @@ mark_end literal End text is e = is
 
 -- the value, where no item is escaped
 pub plain_value_read : (literal : Literal) (start : ℕ) (old new : At) (reports : List Diagnostic)
-    → PassesCharacters literal old new → plain_here literal (rest new) ≡ false
+    → PassesCharacters literal old new → ordinary_here literal (rest new) ≡ false
     → escape_here literal (rest new) ≡ false
-    → ReadsValue literal start old new reports reports Plain
+    → ReadsValue literal start old new reports reports Unescaped
 plain_value_read literal start old new reports plain none end =
     let nothing = no_items_here (item_of literal) (rest new) (no_item_here literal (rest new) none end) in
-    let items = plain.plain.items in
+    let items = plain.ordinary.items in
     record {
       text = plain.text;
       items = items;
-      here = plain.plain.here;
+      here = plain.ordinary.here;
       found =
-          plain.plain.found ∙ ap (items_before items) nothing
+          plain.ordinary.found ∙ ap (items_before items) nothing
           ∙ ap (λ xs. record { items = xs; rest = rest new }) (append-nil items);
       reports =
           sym
-          (ap (λ more. reports ++ more) (good_ones (in_template literal) start old.place items plain.plain.good)
+          (ap (λ more. reports ++ more) (good_ones (in_template literal) start old.place items plain.ordinary.good)
           ∙ append-nil reports);
-      value_is = ap (λ b. told_value b (value_of literal items)) (sym plain.plain.escaped);
+      value_is = ap (λ b. told_value b (value_of literal items)) (sym plain.ordinary.escaped);
     }
 
 -- and where one is
@@ -392,13 +392,13 @@ escaped_found literal text e =
 pub decoded_value_read : (literal : Literal) (start : ℕ) (old mid new : At) (us vs : List ℕ)
     (before after : List Diagnostic) (bad : Bool)
     → IsPlaced old → IsPlaced mid → (plain : PassesCharacters literal old mid)
-    → us ≡ units_of (string_text plain.plain.items)
+    → us ≡ units_of (string_text plain.ordinary.items)
     → escape_here literal (rest mid) ≡ true
     → ReadsItems literal start mid new us vs before after bad
     → item_of literal (rest new) ≡ None
     → ReadsValue literal start old new before after (decoded_value literal bad vs)
 decoded_value_read literal start old mid new us vs before after bad h g plain added marked read end =
-    let first = plain_items_read literal start old mid [] us before plain added in
+    let first = ordinary_items_read literal start old mid [] us before plain added in
     let all = items_then literal start old mid new [] us vs before before after false bad h g first read in
     let nothing = no_items_here (item_of literal) (rest new) end in
     let behind : all_items (item_of literal) (rest mid) ≡ record { items = read.items; rest = rest new } =
@@ -410,14 +410,14 @@ decoded_value_read literal start old mid new us vs before after bad h g plain ad
     all.found ∙ ap (items_before all.items) nothing
     ∙ ap (λ xs. record { items = xs; rest = rest new }) (append-nil all.items) in
     let two : all_items (item_of literal) (rest old)
-    ≡ record { items = plain.plain.items ++ read.items; rest = rest new } =
-    plain.plain.found ∙ ap (items_before plain.plain.items) behind in
-    let same : all.items ≡ plain.plain.items ++ read.items =
+    ≡ record { items = plain.ordinary.items ++ read.items; rest = rest new } =
+    plain.ordinary.found ∙ ap (items_before plain.ordinary.items) behind in
+    let same : all.items ≡ plain.ordinary.items ++ read.items =
     ap (λ (items : StringItems). items.items) (sym found ∙ two) in
     let whole : contains_escape all.items ≡ true =
     ap contains_escape same
-    ∙ list_any-append (λ (item : StringItem). item.is_escaped) plain.plain.items read.items
-    ∙ ap (λ b. contains_escape plain.plain.items || b) escaped ∙ or_true (contains_escape plain.plain.items) in
+    ∙ list_any-append (λ (item : StringItem). item.is_escaped) plain.ordinary.items read.items
+    ∙ ap (λ b. contains_escape plain.ordinary.items || b) escaped ∙ or_true (contains_escape plain.ordinary.items) in
     record {
       text = all.text;
       items = all.items;
@@ -449,7 +449,7 @@ silent_in_template literal start place end reports t = rw t (sym (append-nil rep
 pub passes_onward : (literal : Literal) (old new : At) → IsPlaced old → IsPlaced new
     → PassesCharacters literal old new → old.place ≤ new.place
 passes_onward literal old new h g plain =
-    omega (arith, leads_to old new (string_text plain.plain.items) h g plain.text plain.plain.here)
+    omega (arith, leads_to old new (string_text plain.ordinary.items) h g plain.text plain.ordinary.here)
 
 pub on_ok_map : {T E : Type 0} (r : Result T E) (P Q : Type 0) → (P → Q) → OnOk r P → OnOk r Q
 on_ok_map (Ok x) P Q f p = f p

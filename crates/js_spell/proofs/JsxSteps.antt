@@ -37,7 +37,7 @@ use Rattle.js_spell.specs.declared.jsx.Text.TheVariants.{Child, DoubleQuoted, Si
 use Rattle.js_spell.proofs.ExpressionSteps.{size_to}
 use Rattle.std.proofs.Common.{add-zero, ◌+◌}
 use Rattle.js_spell.proofs.NumericSteps.{leads_to}
-use Rattle.js_spell.proofs.PlainCharacters.{wide_first}
+use Rattle.js_spell.proofs.OrdinaryCharacters.{wide_first}
 
 -- a mark that does not begin a text
 no_prefix : (c : ℕ) (cs text : List ℕ) → begins (λ d. d == c) text ≡ false → is_prefix (c ∷ cs) text ≡ false

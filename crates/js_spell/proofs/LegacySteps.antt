@@ -9,13 +9,13 @@ use Rattle.js_source.specs.Search.{matches_at}
 use Rattle.js_source.specs.Runs.{IsRun, PassesRun, TellsClass}
 use Rattle.js_grammar.specs.Number.{Item, whole, are_digits}
 use Rattle.js_kind.specs.Digits.{is_digit_of}
-use Rattle.js_grammar.specs.NumberReads.{contains_separator, plain_digits, legacy_items, items-cons, last_item}
+use Rattle.js_grammar.specs.NumberReads.{contains_separator, unseparated_digits, legacy_items, items-cons, last_item}
 use Rattle.js_grammar.specs.NumberReads.{behind_digits, missing_digits}
-use Rattle.js_grammar.proofs.NumberCuts.{plain_digits_append, octal_digits}
+use Rattle.js_grammar.proofs.NumberCuts.{unseparated_digits_append, octal_digits}
 use Rattle.js_grammar.proofs.NumberSteps.{legacy_octal_items, legacy_decimal_items}
 use Rattle.js_kind.specs.declared.kind.Kind.{Kind}
 use Rattle.js_kind.specs.declared.kind.Kind.TheVariants.{Octal}
-use Rattle.js_spell.specs.Numeric.{PassesPlainDigits, ReadsEnd}
+use Rattle.js_spell.specs.Numeric.{PassesUnseparatedDigits, ReadsEnd}
 use Rattle.js_spell.specs.Breaks.{BreaksOff}
 use Rattle.js_spell.proofs.NumericSteps.{items_broken}
 use Rattle.js_spell.proofs.NumericSteps.{any_append, no_separator, stops_digits, items_append, whole_item_read}
@@ -51,14 +51,14 @@ module _ (octal : List Bool) (old mid : At) (tells : TellsClass (is_digit_of 8) 
   first_here : rest old ≡ run.run ++ rest mid
   first_here = run.here ∙ ap (λ t. run.run ++ from_place t mid.place) (sym text)
 
-  pub passes_octal : begins (is_digit_of 10) (rest mid) ≡ false → PassesPlainDigits old true mid
+  pub passes_octal : begins (is_digit_of 10) (rest mid) ≡ false → PassesUnseparatedDigits old true mid
   passes_octal none = record {
     text = text;
     characters = run.run;
     here = first_here;
     item =
-        ap plain_digits first_here
-        ∙ plain_digits_append run.run (rest mid) (octal_digits run.run (run_digits 8 octal run.run tells run.all)) none;
+        ap unseparated_digits first_here
+        ∙ unseparated_digits_append run.run (rest mid) (octal_digits run.run (run_digits 8 octal run.run tells run.all)) none;
     octal = run_digits 8 octal run.run tells run.all;
     separator = no_separator 8 octal run.run (omega arith) tells run.all;
   }
@@ -67,7 +67,7 @@ module _ (octal : List Bool) (old mid : At) (tells : TellsClass (is_digit_of 8) 
       → (more : PassesRun decimal mid.text mid.place new.place)
       → begins (matches_at octal) (rest mid) ≡ false → begins (is_digit_of 10) (rest mid) ≡ true
       → begins (matches_at decimal) (rest new) ≡ false
-      → PassesPlainDigits old false new
+      → PassesUnseparatedDigits old false new
   passes_decimal decimal told new moved more stops digit end =
       let later : rest mid ≡ more.run ++ rest new =
       more.here ∙ ap (λ t. more.run ++ from_place t new.place) (sym moved) in
@@ -86,7 +86,7 @@ module _ (octal : List Bool) (old mid : At) (tells : TellsClass (is_digit_of 8) 
         text = moved ∙ text;
         characters = run.run ++ more.run;
         here = here;
-        item = ap plain_digits here ∙ plain_digits_append (run.run ++ more.run) (rest new) all none;
+        item = ap unseparated_digits here ∙ unseparated_digits_append (run.run ++ more.run) (rest new) all none;
         octal =
             digits_append 8 run.run more.run
             ∙ ap (λ b. b && are_digits 8 more.run) (run_digits 8 octal run.run tells run.all) ∙ some;
@@ -97,10 +97,10 @@ module _ (octal : List Bool) (old mid : At) (tells : TellsClass (is_digit_of 8) 
       }
 
 -- a number that begins with `0` and a digit
-pub legacy_octal_read : (old new : At) (reports : List Diagnostic) (flag : Bool) → PassesPlainDigits old true new
+pub legacy_octal_read : (old new : At) (reports : List Diagnostic) (flag : Bool) → PassesUnseparatedDigits old true new
     → ReadsEnd old new reports reports flag flag Octal (legacy_items (rest old))
 legacy_octal_read old new reports flag p =
-    let octal : are_digits 8 (plain_digits (rest old)).text ≡ true =
+    let octal : are_digits 8 (unseparated_digits (rest old)).text ≡ true =
     ap (λ (i : Item). are_digits 8 i.text) p.item ∙ p.octal in
     let found : legacy_items (rest old) ≡ last_item Octal (whole p.characters (rest new)) =
     legacy_octal_items (rest old) octal ∙ ap (last_item Octal) p.item in
@@ -112,10 +112,10 @@ legacy_octal_read old new reports flag p =
 
 pub legacy_decimal_read : (old mid new : At) (before after : List Diagnostic) (f g : Bool) (kind : Kind) → IsPlaced old
     → IsPlaced mid
-    → PassesPlainDigits old false mid → ReadsEnd mid new before after f g kind (behind_digits (rest mid))
+    → PassesUnseparatedDigits old false mid → ReadsEnd mid new before after f g kind (behind_digits (rest mid))
     → ReadsEnd old new before after f g kind (legacy_items (rest old))
 legacy_decimal_read old mid new before after f g kind p q passed end =
-    let some : are_digits 8 (plain_digits (rest old)).text ≡ false =
+    let some : are_digits 8 (unseparated_digits (rest old)).text ≡ false =
     ap (λ (i : Item). are_digits 8 i.text) passed.item ∙ passed.octal in
     let found : legacy_items (rest old) ≡ items-cons (whole passed.characters (rest mid)) (behind_digits (rest mid)) =
     legacy_decimal_items (rest old) some ∙ ap (λ (i : Item). items-cons i (behind_digits i.rest)) passed.item in
@@ -130,11 +130,11 @@ legacy_decimal_read old mid new before after f g kind p q passed end =
     })
 
 pub legacy_broken : (old mid new : At) (before after : List Diagnostic) → IsPlaced old → IsPlaced mid
-    → PassesPlainDigits old false mid
+    → PassesUnseparatedDigits old false mid
     → BreaksOff (missing_digits mid.place (behind_digits (rest mid)).items) mid new before after
     → BreaksOff (missing_digits old.place (legacy_items (rest old)).items) old new before after
 legacy_broken old mid new before after p q passed broken =
-    let some : are_digits 8 (plain_digits (rest old)).text ≡ false =
+    let some : are_digits 8 (unseparated_digits (rest old)).text ≡ false =
     ap (λ (i : Item). are_digits 8 i.text) passed.item ∙ passed.octal in
     let found : legacy_items (rest old) ≡ items-cons (whole passed.characters (rest mid)) (behind_digits (rest mid)) =
     legacy_decimal_items (rest old) some ∙ ap (λ (i : Item). items-cons i (behind_digits i.rest)) passed.item in

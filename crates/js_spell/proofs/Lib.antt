@@ -13,12 +13,12 @@ pub mod ItemSteps
 pub mod JsxSteps
 pub mod LeadSteps
 pub mod LegacySteps
-pub mod MarkSteps
+pub mod SequenceSteps
 pub mod NameReadings
 pub mod NameSteps
 pub mod NumericSteps
-pub mod PlainCharacters
-pub mod PlainNumbers
+pub mod OrdinaryCharacters
+pub mod UnseparatedNumbers
 pub mod PrefixSteps
 pub mod RecoverSteps
 pub mod SpellSteps

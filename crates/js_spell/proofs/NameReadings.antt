@@ -25,21 +25,21 @@ use Rattle.js_text.specs.declared.span.Span.{Span}
 use Rattle.js_text.proofs.TextLemmas.{before_from}
 use Rattle.js_source.specs.Source.{At, rest, IsPlaced, StepsPast, Reads, HasFirstByte}
 use Rattle.js_grammar.specs.Name.{NameItem, NameFault, CutsInto, items_text, items_value, items_report, item_report}
-use Rattle.js_grammar.specs.Name.{fault_report, plain_item, is_no_part, name_item, escape_item, name_reading}
+use Rattle.js_grammar.specs.Name.{fault_report, ordinary_item, is_no_part, name_item, escape_item, name_reading}
 use Rattle.js_grammar.specs.Name.{begins_name, contains_escape, items_reading, name_items, name_value}
 use Rattle.js_grammar.specs.Name.{no_private_name, private_name_of, unnamed}
 use Rattle.js_grammar.specs.Reading.{Reading, moved_diagnostics, place_behind, reported_at}
 use Rattle.js_grammar.proofs.Moved.{items_report_moved, moved_twice}
 use Rattle.js_grammar.proofs.NameCuts.{name_of, read_of_cut, nothing_reported, items_cut, cut_items}
 use Rattle.js_grammar.proofs.NameItems.{escape_takes}
-use Rattle.js_grammar.proofs.NameLaws.{plain_parts, plain_values, ended, name_report}
+use Rattle.js_grammar.proofs.NameLaws.{ordinary_parts, ordinary_values, ended, name_report}
 use Rattle.js_grammar.proofs.NameLemmas.{parts_end}
 use Rattle.js_grammar.proofs.NumberSound.{first_is}
 use Rattle.js_grammar.proofs.Reported.{place_behind-append}
 use Rattle.js_kind.specs.Keywords.{name_kind}
 use Rattle.js_kind.specs.TokenParts.{TokenParts}
 use Rattle.js_kind.specs.declared.kind.Kind.TheVariants.{Eof, Undetermined}
-use Rattle.js_spell.specs.Name.{class_of, GoesOn, PassesPlain, Decodes, ReadsEscape, ReadsItems, PassesParts}
+use Rattle.js_spell.specs.Name.{class_of, GoesOn, PassesUnescaped, Decodes, ReadsEscape, ReadsItems, PassesParts}
 use Rattle.js_spell.specs.Name.{ReadsToEnd, SpellsDecoded, ReportsNoName, behind_sign, value_of_decoding}
 use Rattle.js_spell.specs.Spells.{Spells, spelt_value}
 use Rattle.js_spell.specs.Name.{fault_of_decoding}
@@ -48,11 +48,11 @@ use Rattle.js_spell.specs.declared.name.Decoding.TheVariants.{Character, NotAllo
 use Rattle.js_spell.specs.declared.name.Position.{Position}
 use Rattle.js_spell.specs.declared.name.Position.TheVariants.{First, Later}
 use Rattle.js_spell.specs.declared.spelt.Spelt.{Spelt}
-use Rattle.js_spell.specs.declared.spelt.SpeltValue.TheVariants.{Plain, Decoded}
+use Rattle.js_spell.specs.declared.spelt.SpeltValue.TheVariants.{Unescaped, Decoded}
 use Rattle.js_spell.proofs.NumericSteps.{leads_to}
 use Rattle.js_kind.specs.declared.kind.Kind.{Kind}
 use Rattle.js_kind.specs.declared.kind.Kind.TheVariants.{PrivateIdentifier}
-use Rattle.js_spell.specs.Name.{SpellsPlainName, SpellsPlainPrivateName}
+use Rattle.js_spell.specs.Name.{SpellsUnescapedName, SpellsUnescapedPrivateName}
 use Rattle.js_spell.specs.Breaks.{BreaksOff}
 use Rattle.js_spell.specs.Name.{items_told}
 use Rattle.js_spell.proofs.BreakSteps.{broken_behind, unreported}
@@ -191,9 +191,9 @@ parts_read old new was now bytes text left spells added =
       characters = parts;
       goes_on = record {
         text = text;
-        here = whole ∙ ap (λ xs. xs ++ rest new) (sym (plain_values parts).text);
+        here = whole ∙ ap (λ xs. xs ++ rest new) (sym (ordinary_values parts).text);
         go_on = λ more left_over cut.
-            plain_parts (rest old) more left_over
+            ordinary_parts (rest old) more left_over
             (subst (λ xs. CutsInto is_identifier_part xs more left_over) left cut);
       };
       value = added ∙ ap (λ xs. was ++ xs) (spells parts (ap (λ u. from_place u old.place) text ∙ whole));
@@ -209,16 +209,16 @@ on_pushed (Err a) P was now bytes e make = tt
 -- items that stand for themselves
 pub plain_read : (from : Position) (old : At) (to : Position) (new : At) (errors : List Diagnostic)
     (was now xs : List ℕ)
-    → GoesOn from old (map plain_item xs) to new → now ≡ was ++ encode_utf8_all xs
+    → GoesOn from old (map ordinary_item xs) to new → now ≡ was ++ encode_utf8_all xs
     → ReadsItems from old to new errors errors was now false
 plain_read from old to new errors was now xs goes bytes =
-    let values = plain_values xs in
+    let values = ordinary_values xs in
     record {
-      items = map plain_item xs;
+      items = map ordinary_item xs;
       goes_on = goes;
       reports =
           sym (append-nil errors)
-          ∙ ap (λ ds. errors ++ ds) (sym (nothing_reported old.place (map plain_item xs) values.good));
+          ∙ ap (λ ds. errors ++ ds) (sym (nothing_reported old.place (map ordinary_item xs) values.good));
       value = bytes ∙ ap (λ ys. was ++ encode_utf8_all ys) (sym values.value);
       escapes = values.escapes;
     }
@@ -325,10 +325,10 @@ parts_added from old mid new before after was between now has_escape h k so_far 
 pub parts_fewer : (old new : At) (was now : List ℕ) → PassesParts old new was now
     → length (rest new) ≤ length (rest old)
 parts_fewer old new was now passes =
-    let text = items_text (map plain_item passes.characters) in
+    let text = items_text (map ordinary_item passes.characters) in
     omega (arith, ap length passes.goes_on.here, length-append text (rest new))
 
--- a name, read on from its first escape, behind its plain beginning
+-- a name, read on from its first escape, behind its beginning without one
 pub name_decoded : (from : Position) (old mid new : At) (before during after : List Diagnostic)
     (was between now : List ℕ) (has_escape : Bool)
     → IsPlaced old → IsPlaced mid
@@ -350,7 +350,7 @@ read_is old new items goes end =
 
 -- where the value of a name is
 name_value_told : (b : Bool) (vs : List ℕ) (start end : ℕ)
-    → spelt_value (name_value b vs start end) ≡ (if b then Decoded (units_of vs) else Plain)
+    → spelt_value (name_value b vs start end) ≡ (if b then Decoded (units_of vs) else Unescaped)
 name_value_told true vs start end = refl
 name_value_told false vs start end = refl
 
@@ -359,7 +359,7 @@ items_spelled : (old new : At) (before after : List Diagnostic) (was now : Token
     (items : List NameItem) → new.text ≡ old.text → name_reading (rest old) ≡ name_of items (rest new)
     → after ≡ before ++ items_report old.place items
     → spelt.kind ≡ name_kind (encode_utf8_all (items_value items))
-    → spelt.value ≡ (if contains_escape items then Decoded (units_of (items_value items)) else Plain)
+    → spelt.value ≡ (if contains_escape items then Decoded (units_of (items_value items)) else Unescaped)
     → now ≡ record was { escaped = contains_escape items; has_separator = false }
     → Spells (name_reading (rest old)) old.place old new before after was now spelt
 items_spelled old new before after was now spelt items text read reports kind value flags =
@@ -379,19 +379,19 @@ items_spelled old new before after was now spelt items text read reports kind va
     })
 
 -- a name without escapes
-pub plain_spelled : (old new : At) (errors : List Diagnostic) (was now : TokenParts) (to : Position) (plain : List ℕ)
+pub unescaped_spelled : (old new : At) (errors : List Diagnostic) (was now : TokenParts) (to : Position) (plain : List ℕ)
     (spelt : Spelt)
-    → PassesPlain old to new → begins (λ c. c == backslash) (rest new) ≡ false
+    → PassesUnescaped old to new → begins (λ c. c == backslash) (rest new) ≡ false
     → ((xs : List ℕ) → from_place new.text old.place ≡ xs ++ rest new → plain ≡ encode_utf8_all xs)
     → now ≡ record was { escaped = false; has_separator = false }
-    → spelt.kind ≡ name_kind plain → spelt.value ≡ Plain
+    → spelt.kind ≡ name_kind plain → spelt.value ≡ Unescaped
     → Spells (name_reading (rest old)) old.place old new errors errors was now spelt
-plain_spelled old new errors was now First plain spelt passes none spells flags kind value =
+unescaped_spelled old new errors was now First plain spelt passes none spells flags kind value =
     let no : true ≡ false = sym (passes.escape refl) ∙ none in absurd (cc)
-plain_spelled old new errors was now Later plain spelt passes none spells flags kind value =
+unescaped_spelled old new errors was now Later plain spelt passes none spells flags kind value =
     let xs = passes.characters in
-    let items = map plain_item xs in
-    let values = plain_values xs in
+    let items = map ordinary_item xs in
+    let values = ordinary_values xs in
     let whole : from_place new.text old.place ≡ xs ++ rest new =
     ap (λ u. from_place u old.place) passes.goes_on.text ∙ passes.goes_on.here
     ∙ ap (λ t. t ++ rest new) values.text in
@@ -399,21 +399,21 @@ plain_spelled old new errors was now Later plain spelt passes none spells flags 
     (read_is old new items passes.goes_on (ended (rest new) passes.stops none))
     (sym (append-nil errors) ∙ ap (λ ds. errors ++ ds) (sym (nothing_reported old.place items values.good)))
     (kind ∙ ap name_kind (spells xs whole) ∙ ap (λ vs. name_kind (encode_utf8_all vs)) (sym values.value))
-    (value ∙ ap (λ b. if b then Decoded (units_of (items_value items)) else Plain) (sym values.escapes))
+    (value ∙ ap (λ b. if b then Decoded (units_of (items_value items)) else Unescaped) (sym values.escapes))
     (flags ∙ ap (λ b. record was { escaped = b; has_separator = false }) (sym values.escapes))
 
 -- and one with escapes
 pub escaped_spelled : (old mid new : At) (before after : List Diagnostic) (was now : TokenParts) (to : Position)
     (plain : List ℕ) (spelt : Spelt)
     → IsPlaced old → IsPlaced mid
-    → PassesPlain old to mid
+    → PassesUnescaped old to mid
     → ((xs : List ℕ) → from_place mid.text old.place ≡ xs ++ rest mid → plain ≡ encode_utf8_all xs)
     → SpellsDecoded to mid new before after plain spelt
     → now ≡ record was { escaped = true; has_separator = false }
     → Spells (name_reading (rest old)) old.place old new before after was now spelt
 escaped_spelled old mid new before after was now to plain spelt h k passes spells decodes flags =
     let xs = passes.characters in
-    let values = plain_values xs in
+    let values = ordinary_values xs in
     let whole : from_place mid.text old.place ≡ xs ++ rest mid =
     ap (λ u. from_place u old.place) passes.goes_on.text ∙ passes.goes_on.here
     ∙ ap (λ t. t ++ rest mid) values.text in
@@ -426,10 +426,10 @@ escaped_spelled old mid new before after was now to plain spelt h k passes spell
     (read_is old new read.items read.goes_on decodes.read.end) read.reports
     (decodes.kind ∙ ap name_kind read.value)
     (decodes.value ∙ ap (λ ys. Decoded (units_of ys)) (sym same)
-    ∙ ap (λ b. if b then Decoded (units_of characters) else Plain) (sym read.escapes))
+    ∙ ap (λ b. if b then Decoded (units_of characters) else Unescaped) (sym read.escapes))
     (flags ∙ ap (λ b. record was { escaped = b; has_separator = false }) (sym read.escapes))
 
--- A name broke off, behind its plain beginning.
+-- A name broke off, behind its beginning without one.
 reports_of_name : (place : ℕ) (text : List ℕ)
     → reported_at place (name_reading text) ≡ items_report place (name_items is_identifier_start text)
 reports_of_name place text =
@@ -438,7 +438,7 @@ reports_of_name place text =
     ∙ ap (λ n. items_report n items) (add-zero place)
 
 pub name_broken : (old mid new : At) (before after : List Diagnostic) (to : Position) → IsPlaced old → IsPlaced mid
-    → PassesPlain old to mid → BreaksOff (items_told to mid) mid new before after
+    → PassesUnescaped old to mid → BreaksOff (items_told to mid) mid new before after
     → BreaksOff (reported_at old.place (name_reading (rest old))) old new before after
 name_broken old mid new before after to h k passes broken =
     let xs = passes.characters in
@@ -543,7 +543,7 @@ pub unnamed_spelled : (old mid new : At) (before after : List Diagnostic) (was n
     → begins_name (rest old) ≡ false → ReportsNoName old before after kind → new.text ≡ old.text → rest new ≡ []
     → now ≡ record was { escaped = false; has_separator = false }
     → (start : ℕ) → start + 1 ≡ old.place
-    → Spells (behind_sign (rest old)) start old new before after was now (record { kind = kind; value = Plain })
+    → Spells (behind_sign (rest old)) start old new before after was now (record { kind = kind; value = Unescaped })
 unnamed_spelled old mid new before after was now kind none reported text end flags start at =
     let read : behind_sign (rest old) ≡ unnamed kind (number_sign ∷ rest old) reported.report =
     ap (λ b. if b then private_name_of (name_items is_identifier_start (rest old)) (number_sign ∷ rest old)
@@ -583,8 +583,8 @@ no_start_begins b (c ∷ cs) first other = by_test (nat_lt c 128) refl
         ]
 
 -- a private name without an escape
-pub plain_private : (old new : At) (kind : Kind) → begins_name (rest old) ≡ true → SpellsPlainName old new kind
-    → SpellsPlainPrivateName old new PrivateIdentifier
-plain_private old new kind begun spells start at errors token =
+pub unescaped_private : (old new : At) (kind : Kind) → begins_name (rest old) ≡ true → SpellsUnescapedName old new kind
+    → SpellsUnescapedPrivateName old new PrivateIdentifier
+unescaped_private old new kind begun spells start at errors token =
     private_spelled old new errors errors token (record token { escaped = false; has_separator = false })
-    (record { kind = kind; value = Plain }) begun (spells errors token) start at
+    (record { kind = kind; value = Unescaped }) begun (spells errors token) start at

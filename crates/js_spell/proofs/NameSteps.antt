@@ -17,19 +17,19 @@ use Rattle.js_source.proofs.Classes.{tells_class, tells_from, tells_other}
 use Rattle.js_source.specs.Runs.{PassesRun, TellsClass}
 use Rattle.js_source.proofs.Places.{begins_with}
 use Rattle.js_source.proofs.RunSteps.{from_first-run}
-use Rattle.js_grammar.specs.Name.{NameItem, CutsInto, items_text, plain_item, is_no_part, begins_name, is_surrogate}
+use Rattle.js_grammar.specs.Name.{NameItem, CutsInto, items_text, ordinary_item, is_no_part, begins_name, is_surrogate}
 use Rattle.js_grammar.specs.Name.{low_surrogate_escape, surrogate_text, item_of_escape, item_of_code_point, escape_item}
 use Rattle.js_grammar.specs.Name.{latin_small_letter_u}
 use Rattle.js_grammar.specs.UnicodeEscape.{unicode_escape, hex_digits, left_curly_bracket, last_code_point}
 use Rattle.js_grammar.proofs.NameItems.{backslash_is_no_name, escape_first, of_code_point, of_no_code_point, of_allowed}
 use Rattle.js_grammar.proofs.NameItems.{of_not_allowed, of_surrogate, surrogate_alone, surrogate_pair, escape_there}
 use Rattle.js_grammar.proofs.NameItems.{other_escape, no_escape, low_there, no_low, brace_begins}
-use Rattle.js_grammar.proofs.NameLaws.{plain_here, plain_parts, plain_values}
+use Rattle.js_grammar.proofs.NameLaws.{ordinary_here, ordinary_parts, ordinary_values}
 use Rattle.js_grammar.proofs.NameLemmas.{parts_end}
 use Rattle.js_grammar.proofs.NumberSound.{first_is}
 use Rattle.js_grammar.proofs.Tests.{and_false}
 use Rattle.js_spell.specs.Escape.{ReadsUnicodeEscape}
-use Rattle.js_spell.specs.Name.{PassesPlain, Decodes}
+use Rattle.js_spell.specs.Name.{PassesUnescaped, Decodes}
 use Rattle.js_spell.specs.declared.name.Decoding.{Decoding}
 use Rattle.js_spell.specs.declared.name.Decoding.TheVariants.{Character, NotAllowed, Bad}
 use Rattle.js_spell.specs.declared.name.Position.TheVariants.{First, Later}
@@ -78,8 +78,8 @@ behind c old new begins past =
     let after = past c found.0 found.1 in
     (after.0, found.1 ∙ ap (λ xs. c ∷ xs) (sym after.1))
 
--- no plain character, since an escape begins the name
-pub escape_begins : (old : At) → begins (λ c. c == backslash) (rest old) ≡ true → PassesPlain old First old
+-- no ordinary character, since an escape begins the name
+pub escape_begins : (old : At) → begins (λ c. c == backslash) (rest old) ≡ true → PassesUnescaped old First old
 escape_begins old mark = record {
   characters = [];
   goes_on = record { text = refl; here = refl; go_on = λ more left cut. cut };
@@ -99,7 +99,7 @@ begun (c ∷ cs) e none = (c, cs, refl, start (is_identifier_start c) (c == back
 -- the first character of a name, and the parts behind it
 pub plain_passed : (old mid new : At) → begins_name (rest old) ≡ true
     → begins (λ c. c == backslash) (rest old) ≡ false → StepsPast old mid → new.text ≡ mid.text
-    → rest new ≡ from_first is_no_part (rest mid) → PassesPlain old Later new
+    → rest new ≡ from_first is_no_part (rest mid) → PassesUnescaped old Later new
 plain_passed old mid new name none past text left =
     let found = begun (rest old) name none in
     let c = found.0 in
@@ -113,12 +113,12 @@ plain_passed old mid new name none past text left =
         text = text ∙ after.0;
         here =
             found.2 ∙ ap (λ xs. c ∷ xs) (sym (before_from is_no_part cs))
-            ∙ ap (λ xs. c ∷ (xs ++ from_first is_no_part cs)) (sym (plain_values parts).text)
-            ∙ ap (λ xs. c ∷ (items_text (map plain_item parts) ++ xs)) (sym left_is);
+            ∙ ap (λ xs. c ∷ (xs ++ from_first is_no_part cs)) (sym (ordinary_values parts).text)
+            ∙ ap (λ xs. c ∷ (items_text (map ordinary_item parts) ++ xs)) (sym left_is);
         go_on = λ more left cut.
-            subst (λ xs. CutsInto is_identifier_start xs (map plain_item (c ∷ parts) ++ more) left) (sym found.2) (
-              plain_here is_identifier_start c cs backslash_is_no_name.0 found.3,
-              plain_parts cs more left (subst (λ xs. CutsInto is_identifier_part xs more left) left_is cut),
+            subst (λ xs. CutsInto is_identifier_start xs (map ordinary_item (c ∷ parts) ++ more) left) (sym found.2) (
+              ordinary_here is_identifier_start c cs backslash_is_no_name.0 found.3,
+              ordinary_parts cs more left (subst (λ xs. CutsInto is_identifier_part xs more left) left_is cut),
             );
       };
       stops = ap (begins is_identifier_part) left_is ∙ parts_end cs;

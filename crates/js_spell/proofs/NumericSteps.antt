@@ -26,7 +26,7 @@ use Rattle.js_source.specs.Search.{matches_at}
 use Rattle.js_source.specs.Runs.{IsRun, PassesRun, TellsClass}
 use Rattle.js_grammar.specs.Number.{Item, whole, broken, item-cons, digits_on, run, integer, digit_zero}
 use Rattle.js_kind.specs.Digits.{is_digit_of}
-use Rattle.js_grammar.specs.Number.{Sign, sign_text, sign_kind, is_exponent_mark}
+use Rattle.js_grammar.specs.Number.{Sign, sign_text, sign_kind, is_exponent_indicator}
 use Rattle.js_grammar.specs.NumberReads.{contains_separator, missing_digit, missing_digits, items_text, sign_of}
 use Rattle.js_grammar.specs.NumberReads.{exponent_or, exponent_items, items-cons, last_item, fraction_items}
 use Rattle.js_grammar.specs.NumberReads.{point_items, behind_digits, decimal_items, suffix_or, Items}
@@ -36,7 +36,7 @@ use Rattle.js_spell.specs.Numeric.{radix_of_digits, prepend, item_behind, passed
 use Rattle.js_spell.specs.Breaks.{BreaksOff}
 use Rattle.js_spell.proofs.BreakSteps.{broken_behind, broken_first, unreported}
 use Rattle.js_spell.specs.Numeric.{PassesGroups, ReadsRun, ReadsItems, ReadsPart, ReadsInteger, ReadsEnd}
-use Rattle.js_spell.specs.Numeric.{TakesExponentMark, TakesSign}
+use Rattle.js_spell.specs.Numeric.{TakesExponentIndicator, TakesSign}
 use Rattle.js_spell.specs.declared.digits.Digits.{Digits}
 use Rattle.js_spell.specs.declared.digits.Digits.TheVariants.{Binary, Octal, Decimal, Hex}
 use Rattle.js_spell.specs.declared.numeric.Passed.{Passed}
@@ -340,16 +340,16 @@ run_unreported radix old new before after f g passed h k groups e =
     (omega (arith, leads_to old new groups.characters h k groups.text groups.here)) e
 
 -- the mark of an exponent
-pub exponent_marks : (is_exponent_mark 101 ≡ true) × (is_exponent_mark 69 ≡ true)
-unfolding is_exponent_mark
+pub exponent_marks : (is_exponent_indicator 101 ≡ true) × (is_exponent_indicator 69 ≡ true)
+unfolding is_exponent_indicator
 exponent_marks = (refl, refl)
 
-no_mark_one : (c : ℕ) → (c == 101) ≡ false → (c == 69) ≡ false → is_exponent_mark c ≡ false
-unfolding is_exponent_mark
+no_mark_one : (c : ℕ) → (c == 101) ≡ false → (c == 69) ≡ false → is_exponent_indicator c ≡ false
+unfolding is_exponent_indicator
 no_mark_one c small large = rw (small, large) refl
 
 pub no_mark : (cs : List ℕ) → begins (λ c. c == 101) cs ≡ false → begins (λ c. c == 69) cs ≡ false
-    → begins is_exponent_mark cs ≡ false
+    → begins is_exponent_indicator cs ≡ false
 no_mark [] small large = refl
 no_mark (c ∷ cs) small large = no_mark_one c small large
 
@@ -453,11 +453,11 @@ whole_item_read old new reports flag xs left text here none = record {
   separator = rw (append-nil xs, none) (or_false flag);
 }
 
-sign_has_no_separator : (mark : ℕ) (sign : Sign) → is_exponent_mark mark ≡ true
+sign_has_no_separator : (mark : ℕ) (sign : Sign) → is_exponent_indicator mark ≡ true
     → contains_separator (mark ∷ sign_text sign) ≡ false
 sign_has_no_separator mark sign is = rw (not_low_line mark is) (by_sign sign)
   where
-    not_low_line : (mark : ℕ) → is_exponent_mark mark ≡ true → (mark == low_line) ≡ false
+    not_low_line : (mark : ℕ) → is_exponent_indicator mark ≡ true → (mark == low_line) ≡ false
     not_low_line mark is =
         elim (is_exponent mark is)
         [ inl small ↦ ap (λ d. d == low_line) small | inr large ↦ ap (λ d. d == low_line) large ]
@@ -475,7 +475,7 @@ exponent_items_of mark sign text = refl
 
 -- an exponent
 pub no_exponent_read : (old : At) (reports : List Diagnostic) (flag : Bool) (without : Kind)
-    → begins is_exponent_mark (rest old) ≡ false
+    → begins is_exponent_indicator (rest old) ≡ false
     → ReadsEnd old old reports reports flag flag without (exponent_or without (rest old))
 no_exponent_read old reports flag without none =
     rw (exponent_missing without (rest old) none)
@@ -483,7 +483,7 @@ no_exponent_read old reports flag without none =
 
 pub exponent_read : (old marked signed new : At) (before after : List Diagnostic) (f g is_whole : Bool)
     (without kind : Kind)
-    → IsPlaced old → IsPlaced signed → TakesExponentMark old marked → TakesSign marked signed kind
+    → IsPlaced old → IsPlaced signed → TakesExponentIndicator old marked → TakesSign marked signed kind
     → ReadsRun 10 signed new before after f g is_whole
     → ReadsEnd old new before after f g kind (exponent_or without (rest old))
 exponent_read old marked signed new before after f g is_whole without kind h k taken sign digits =

@@ -23,7 +23,7 @@ use Rattle.js_grammar.specs.Recovery.{recovered, recovered_character, is_control
 use Rattle.js_grammar.specs.Reading.{Reading}
 use Rattle.js_grammar.specs.Recovery.{binary_file, invalid_character}
 use Rattle.js_grammar.proofs.Tests.{prefix_of}
-use Rattle.js_spell.specs.Marks.{TakesMark}
+use Rattle.js_spell.specs.Sequences.{TakesSequence}
 use Rattle.js_spell.specs.Recovery.{Recovers}
 
 -- a character that passes stands in the text where something is left from the first one on
@@ -73,7 +73,7 @@ span_moved place n =
     ∙ ap (λ (m : ℕ). record { start = place + 0; end = m }) end
 
 pub unterminated : (line_has_ended : Bool) (old mid new : At) (b : Bool) (start end : ℕ) → IsPlaced old → IsPlaced new
-    → TakesMark (codes "/*") old true mid → new ≡ record mid { place = length mid.text }
+    → TakesSequence (codes "/*") old true mid → new ≡ record mid { place = length mid.text }
     → rest new ≡ [] → b ≡ (list_any is_line_terminator (rest mid) || line_has_ended) → start ≡ old.place
     → end ≡ new.place
     → Recovers line_has_ended old

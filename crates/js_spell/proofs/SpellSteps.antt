@@ -36,12 +36,12 @@ use Rattle.js_spell.specs.Breaks.{BreaksOff}
 use Rattle.js_spell.specs.Strings.{in_template, item_of, quote_of, ReadsValue, value_of, told_value, Unterminated}
 use Rattle.js_spell.specs.Strings.{EndsString, EndsPart, is_elsewhere, TakesQuote}
 use Rattle.js_spell.specs.Spells.{Spells, spelt_value}
-use Rattle.js_spell.specs.Strings.{escape_here, plain_here, PassesCharacters, items_told}
-use Rattle.js_spell.specs.declared.plain.Literal.{Literal}
-use Rattle.js_spell.specs.declared.plain.Literal.TheVariants.{DoubleQuoted, SingleQuoted, Template}
+use Rattle.js_spell.specs.Strings.{escape_here, ordinary_here, PassesCharacters, items_told}
+use Rattle.js_spell.specs.declared.ordinary.Literal.{Literal}
+use Rattle.js_spell.specs.declared.ordinary.Literal.TheVariants.{DoubleQuoted, SingleQuoted, Template}
 use Rattle.js_spell.specs.declared.spelt.Spelt.{Spelt}
 use Rattle.js_spell.specs.declared.spelt.SpeltValue.{SpeltValue}
-use Rattle.js_spell.specs.declared.spelt.SpeltValue.TheVariants.{Plain}
+use Rattle.js_spell.specs.declared.spelt.SpeltValue.TheVariants.{Unescaped}
 use Rattle.js_spell.specs.declared.template.PartEnd.TheVariants.{Tail, Substitution, Missing}
 use Rattle.js_spell.proofs.NumericSteps.{leads_to}
 use Rattle.js_spell.proofs.BreakSteps.{broken_before, broken_later}
@@ -168,7 +168,7 @@ pub open_spells : (whole : List ℕ) (t : Bool) (start : ℕ) (old mid here new 
     → between ≡ before ++ item_reports t start mid.place items
     → Unterminated start here new between after
     → now ≡ record was { escaped = false; has_separator = false }
-    → spelt ≡ record { kind = Undetermined; value = Plain }
+    → spelt ≡ record { kind = Undetermined; value = Unescaped }
     → Spells (unterminated t whole (record { items = items; rest = rest here })) start old new before after was now
     spelt
 open_spells whole t start old mid here new before between after was now spelt items h g text text_here at is reported
@@ -345,7 +345,7 @@ pub string_open : (start : ℕ) (old mid here new : At) (before between after : 
     → ReadsValue literal start mid here before between value → quote ≡ quote_of literal
     → EndsString quote start here new between after false
     → now ≡ record was { escaped = false; has_separator = false }
-    → spelt ≡ record { kind = Undetermined; value = Plain }
+    → spelt ≡ record { kind = Undetermined; value = Unescaped }
     → Spells (quoted_reading (rest old)) start old new before after was now spelt
 string_open start old mid here new before between after was now spelt literal value quote h g n e taken read is_quote
     (none, missing) flags parts =
@@ -462,7 +462,7 @@ pub part_open : (substitute tail : Kind) (opening start : ℕ) (old here new : A
     → IsPlaced old → IsPlaced new → start + 1 ≡ old.place → ReadsValue Template start old here before between value
     → EndsPart start here new between after Missing
     → now ≡ record was { escaped = false; has_separator = false }
-    → spelt ≡ record { kind = Undetermined; value = Plain }
+    → spelt ≡ record { kind = Undetermined; value = Unescaped }
     → Spells (template_part_reading substitute tail (opening ∷ rest old)) start old new before after was now spelt
 part_open substitute tail opening start old here new before between after was now spelt value h g e read
     (none, not_begun, missing) flags parts =
@@ -490,33 +490,33 @@ quote_is_no_escape DoubleQuoted cs = refl
 quote_is_no_escape SingleQuoted cs = refl
 quote_is_no_escape Template cs = refl
 
-pub plain_string : (quote b : ℕ) (old mid here new : At) (errors : List Diagnostic) (token : TokenParts)
+pub unescaped_string : (quote b : ℕ) (old mid here new : At) (errors : List Diagnostic) (token : TokenParts)
     (literal : Literal) → IsPlaced old → IsPlaced mid → in_template literal ≡ false
     → quote_of literal ≡ quote → Reads old mid quote → PassesCharacters literal mid here
-    → plain_here literal (rest here) ≡ false → b ≡ quote → Reads here new b
+    → ordinary_here literal (rest here) ≡ false → b ≡ quote → Reads here new b
     → Spells (quoted_reading (rest old)) old.place old new errors errors token
-    (record token { escaped = false; has_separator = false }) (record { kind = Str; value = Plain })
-plain_string quote b old mid here new errors token literal h g string is taken passes all same closing =
+    (record token { escaped = false; has_separator = false }) (record { kind = Str; value = Unescaped })
+unescaped_string quote b old mid here new errors token literal h g string is taken passes all same closing =
     let end : Reads here new quote = subst (λ q. Reads here new q) same closing in
     let none : escape_here literal (rest here) ≡ false =
     ap (escape_here literal) (end.here ∙ ap (λ q. q ∷ rest new) (sym is)) ∙ quote_is_no_escape literal (rest new) in
     string_closed old.place old mid here new errors errors errors token
-    (record token { escaped = false; has_separator = false }) (record { kind = Str; value = Plain }) literal Plain quote
+    (record token { escaped = false; has_separator = false }) (record { kind = Str; value = Unescaped }) literal Unescaped quote
     h g refl (record { string = string; read = subst (λ q. Reads old mid q) (sym is) taken })
     (plain_value_read literal old.place mid here errors passes all none) (sym is) (end, refl) refl refl
 
 -- A part of a template without an escape and without a CR that its mark ends.
 pub plain_tail : (substitute tail : Kind) (b opening start : ℕ) (old here new : At) (errors : List Diagnostic)
     (token : TokenParts) → start + 1 ≡ old.place → PassesCharacters Template old here
-    → plain_here Template (rest here) ≡ false
+    → ordinary_here Template (rest here) ≡ false
     → b ≡ grave_accent → Reads here new b
     → Spells (template_part_reading substitute tail (opening ∷ rest old)) start old new errors errors token
-    (record token { escaped = false; has_separator = false }) (record { kind = tail; value = Plain })
+    (record token { escaped = false; has_separator = false }) (record { kind = tail; value = Unescaped })
 plain_tail substitute tail b opening start old here new errors token at passes all same closing =
     let end : Reads here new grave_accent = subst (λ q. Reads here new q) same closing in
     let none : escape_here Template (rest here) ≡ false = ap (escape_here Template) end.here in
     part_closed substitute tail opening start old here new errors errors errors token
-    (record token { escaped = false; has_separator = false }) (record { kind = tail; value = Plain }) Plain at
+    (record token { escaped = false; has_separator = false }) (record { kind = tail; value = Unescaped }) Unescaped at
     (plain_value_read Template start old here errors passes all none) (end, refl) refl refl
 
 -- what is next where `${` is
@@ -537,15 +537,15 @@ two_left (Some pair) old new begun none read = (read.text, ap (drop 2) read.here
 
 pub plain_substitution : (substitute tail : Kind) (opening start : ℕ) (found : Option (List ℕ)) (old here new : At)
     (errors : List Diagnostic) (token : TokenParts) → start + 1 ≡ old.place → PassesCharacters Template old here
-    → plain_here Template (rest here) ≡ false → is_prefix (codes "${") (rest here) ≡ true
+    → ordinary_here Template (rest here) ≡ false → is_prefix (codes "${") (rest here) ≡ true
     → IfNone found ((length (rest here) < 2) × (new ≡ here))
     → IfSome found (λ pair. ReadsTwo here new (slice_index pair 0) (slice_index pair 1))
     → Spells (template_part_reading substitute tail (opening ∷ rest old)) start old new errors errors token
-    (record token { escaped = false; has_separator = false }) (record { kind = substitute; value = Plain })
+    (record token { escaped = false; has_separator = false }) (record { kind = substitute; value = Unescaped })
 plain_substitution substitute tail opening start found old here new errors token at passes all begun none some =
     let first = begins_mark (rest here) begun in
     let left = two_left found here new begun none some in
     part_substituted substitute tail opening start old here new errors errors errors token
-    (record token { escaped = false; has_separator = false }) (record { kind = substitute; value = Plain }) Plain at
+    (record token { escaped = false; has_separator = false }) (record { kind = substitute; value = Unescaped }) Unescaped at
     (plain_value_read Template start old here errors passes all first.1)
     (first.0, begun, left.0, left.1, refl) refl refl

@@ -4,7 +4,7 @@ pub mod Escape
 pub mod Families
 pub mod Goals
 pub mod Integer
-pub mod Marks
+pub mod Sequences
 pub mod Name
 pub mod Numeric
 pub mod Recovery

@@ -8,7 +8,7 @@ use Rattle.js_text.specs.Characters.{begins, from_first, is_identifier_start, is
 use Rattle.js_text.specs.JsStr.{units_of}
 use Rattle.js_text.specs.declared.diagnostic.Diagnostic.{Diagnostic}
 use Rattle.js_grammar.specs.Name.{NameItem, NameFault, CutsInto, items_text, items_value, items_report, item_report}
-use Rattle.js_grammar.specs.Name.{is_no_part, plain_item, escape_item, item_of_escape, latin_small_letter_u}
+use Rattle.js_grammar.specs.Name.{is_no_part, ordinary_item, escape_item, item_of_escape, latin_small_letter_u}
 use Rattle.js_grammar.specs.Name.{name_reading}
 use Rattle.js_grammar.specs.Name.{private_reading, name_item, name_items, no_private_name, unnamed}
 use Rattle.js_grammar.specs.Name.NameFault.{bad_escape, not_allowed}
@@ -22,7 +22,7 @@ use Rattle.js_spell.specs.declared.name.Position.{Position}
 use Rattle.js_spell.specs.declared.name.Position.TheVariants.{First, Later}
 use Rattle.js_spell.specs.declared.spelt.Spelt.{Spelt}
 use Rattle.js_spell.specs.declared.spelt.SpeltValue.TheVariants.{Decoded}
-use Rattle.js_spell.specs.Spells.{SpellsPlainly}
+use Rattle.js_spell.specs.Spells.{SpellsSimply}
 use Rattle.js_grammar.specs.Reading.{Reading, moved_diagnostic}
 
 -- the characters that an item of a name may be of
@@ -42,9 +42,9 @@ abbrev pub items_told : Position → At → List Diagnostic
 items_told position at = items_report at.place (name_items (class_of position) (rest at))
 
 -- The characters of a name up to its first escape, or its end, were passed.
-pub record PassesPlain (old : At) (to : Position) (new : At) : Type 0 where
+pub record PassesUnescaped (old : At) (to : Position) (new : At) : Type 0 where
   pub characters : List ℕ
-  pub goes_on : GoesOn First old (map plain_item characters) to new
+  pub goes_on : GoesOn First old (map ordinary_item characters) to new
   pub stops : begins is_identifier_part (rest new) ≡ false
   pub escape : to ≡ First → begins (λ c. c == backslash) (rest new) ≡ true
 
@@ -102,7 +102,7 @@ pub record ReadsItems (from : Position) (old : At) (to : Position) (new : At) (b
 -- Parts that stand for themselves were read, all of them.
 pub record PassesParts (old new : At) (was now : List ℕ) : Type 0 where
   pub characters : List ℕ
-  pub goes_on : GoesOn Later old (map plain_item characters) Later new
+  pub goes_on : GoesOn Later old (map ordinary_item characters) Later new
   pub value : now ≡ was ++ encode_utf8_all characters
   pub stops : begins is_identifier_part (rest new) ≡ false
 
@@ -114,18 +114,18 @@ pub record ReadsToEnd (from : Position) (old new : At) (before after : List Diag
   pub end : name_item is_identifier_part (rest new) ≡ None
 
 -- A name was read on from its first escape: its kind, and its value.
-pub record SpellsDecoded (from : Position) (old new : At) (before after : List Diagnostic) (plain : List ℕ)
+pub record SpellsDecoded (from : Position) (old new : At) (before after : List Diagnostic) (front : List ℕ)
     (spelt : Spelt)
     : Type 0 where
   pub text : List ℕ
   pub utf8 : IsUtf8 text
-  pub read : ReadsToEnd from old new before after plain text true
+  pub read : ReadsToEnd from old new before after front text true
   pub kind : spelt.kind ≡ name_kind text
   pub value : spelt.value ≡ Decoded (units_of (chars text))
 
 -- A name without an escape was read, of this kind.
-abbrev pub SpellsPlainName : At → At → Kind → Type 0
-SpellsPlainName old new kind = SpellsPlainly (name_reading (rest old)) old.place old new kind
+abbrev pub SpellsUnescapedName : At → At → Kind → Type 0
+SpellsUnescapedName old new kind = SpellsSimply (name_reading (rest old)) old.place old new kind
 
 -- An escape begins the name, or stands behind its first characters.
 abbrev pub MeetsEscape : List ℕ → Type 0
@@ -144,10 +144,10 @@ abbrev pub behind_sign : List ℕ → Reading
 behind_sign text = private_reading (number_sign ∷ text)
 
 -- No ASCII character that begins a name is next, or an escape stands in the name.
-abbrev pub MeetsNoPlainName : List ℕ → Type 0
-MeetsNoPlainName text = (begins (λ c. nat_lt c 128 && is_identifier_start c) text ≡ false) ⊎ MeetsEscape text
+abbrev pub MeetsNoUnescapedName : List ℕ → Type 0
+MeetsNoUnescapedName text = (begins (λ c. nat_lt c 128 && is_identifier_start c) text ≡ false) ⊎ MeetsEscape text
 
 -- A private name without an escape was read behind its `#`, of this kind.
-abbrev pub SpellsPlainPrivateName : At → At → Kind → Type 0
-SpellsPlainPrivateName old new kind =
-    (start : ℕ) → start + 1 ≡ old.place → SpellsPlainly (behind_sign (rest old)) start old new kind
+abbrev pub SpellsUnescapedPrivateName : At → At → Kind → Type 0
+SpellsUnescapedPrivateName old new kind =
+    (start : ℕ) → start + 1 ≡ old.place → SpellsSimply (behind_sign (rest old)) start old new kind

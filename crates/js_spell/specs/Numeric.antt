@@ -6,10 +6,10 @@ use Rattle.js_text.specs.declared.diagnostic.Diagnostic.{Diagnostic}
 use Rattle.js_text.specs.Characters.{begins}
 use Rattle.js_source.specs.Source.{At, rest, Reads}
 use Rattle.js_grammar.specs.Number.{Item, Base, may_not_follow_number, base_of, digit_zero, whole, broken, digits_on}
-use Rattle.js_grammar.specs.Number.{run, integer, are_digits, is_exponent_mark, sign_text, sign_kind}
+use Rattle.js_grammar.specs.Number.{run, integer, are_digits, is_exponent_indicator, sign_text, sign_kind}
 use Rattle.js_kind.specs.Digits.{is_digit_of}
 use Rattle.js_grammar.specs.NumberReads.{Items, number_reading, invalid_number_end, number_items, legacy_items}
-use Rattle.js_grammar.specs.NumberReads.{decimal_items, behind_prefix, plain_digits, sign_of, items_text}
+use Rattle.js_grammar.specs.NumberReads.{decimal_items, behind_prefix, unseparated_digits, sign_of, items_text}
 use Rattle.js_grammar.specs.NumberReads.{contains_separator, missing_digits, base_at}
 use Rattle.js_kind.specs.declared.kind.Kind.{Kind}
 use Rattle.js_spell.specs.declared.digits.Digits.{Digits}
@@ -19,7 +19,7 @@ use Rattle.js_spell.specs.declared.numeric.Prefix.TheVariants as Prefixes
 use Rattle.js_kind.specs.declared.kind.Kind.TheVariants as kinds
 use Rattle.js_spell.specs.declared.numeric.Lead.{Lead}
 use Rattle.js_spell.specs.declared.numeric.Lead.TheVariants.{Prefix as LedByPrefix, Legacy, Decimal as DecimalLead}
-use Rattle.js_spell.specs.Spells.{ReadsAs, SpellsPlainly}
+use Rattle.js_spell.specs.Spells.{ReadsAs, SpellsSimply}
 use Rattle.js_spell.specs.declared.numeric.Passed.{Passed}
 use Rattle.js_spell.specs.declared.numeric.Passed.TheVariants.{Whole, Separator, Broken}
 
@@ -54,11 +54,11 @@ pub record PassesDigits (radix : ℕ) (old : At) (passed : Passed) (new : At) : 
   pub separator : contains_separator characters ≡ passed_separator passed
 
 -- digits without separators were passed
-pub record PassesPlainDigits (old : At) (are_octal : Bool) (new : At) : Type 0 where
+pub record PassesUnseparatedDigits (old : At) (are_octal : Bool) (new : At) : Type 0 where
   pub text : new.text ≡ old.text
   pub characters : List ℕ
   pub here : rest old ≡ characters ++ rest new
-  pub item : plain_digits (rest old) ≡ whole characters (rest new)
+  pub item : unseparated_digits (rest old) ≡ whole characters (rest new)
   pub octal : are_digits 8 characters ≡ are_octal
   pub separator : contains_separator characters ≡ false
 
@@ -146,9 +146,9 @@ abbrev pub behind_base : Base → List ℕ → Items
 behind_base base text = behind_prefix base (run base.radix text)
 
 -- the mark of an exponent was taken
-pub record TakesExponentMark (old new : At) : Type 0 where
+pub record TakesExponentIndicator (old new : At) : Type 0 where
   pub mark : ℕ
-  pub is : is_exponent_mark mark ≡ true
+  pub is : is_exponent_indicator mark ≡ true
   pub read : Reads old new mark
 
 -- the sign of an exponent was taken, if one was there
@@ -178,8 +178,8 @@ Leads Legacy text = number_items text ≡ legacy_items text
 Leads DecimalLead text = number_items text ≡ decimal_items text
 
 -- A number was read without a separator and without a fault, of this kind.
-abbrev pub SpellsPlainNumber : At → At → Kind → Type 0
-SpellsPlainNumber old new kind = SpellsPlainly (number_reading (rest old)) old.place old new kind
+abbrev pub SpellsUnseparatedNumber : At → At → Kind → Type 0
+SpellsUnseparatedNumber old new kind = SpellsSimply (number_reading (rest old)) old.place old new kind
 
 -- A character is next that may not follow a number, or one past ASCII.
 abbrev pub MayGoOn : List ℕ → Type 0

@@ -18,15 +18,15 @@ use Rattle.js_grammar.specs.StringItems.StringValue.{no_value, units, bad_value}
 use Rattle.js_grammar.specs.Template.{template_item, template_value, template_part_reading}
 use Rattle.js_grammar.specs.Quoted.{quoted_reading}
 use Rattle.js_source.specs.Source.{At, rest, Reads}
-use Rattle.js_spell.specs.declared.plain.Literal.{Literal}
-use Rattle.js_spell.specs.declared.plain.Literal.TheVariants.{DoubleQuoted, SingleQuoted, Template}
-use Rattle.js_spell.specs.declared.items.Mark.{Mark}
-use Rattle.js_spell.specs.declared.items.Mark.TheVariants.{Escape, CarriageReturn, End}
+use Rattle.js_spell.specs.declared.ordinary.Literal.{Literal}
+use Rattle.js_spell.specs.declared.ordinary.Literal.TheVariants.{DoubleQuoted, SingleQuoted, Template}
+use Rattle.js_spell.specs.declared.items.Stop.{Stop}
+use Rattle.js_spell.specs.declared.items.Stop.TheVariants.{Escape, CarriageReturn, End}
 use Rattle.js_spell.specs.declared.template.PartEnd.{PartEnd}
 use Rattle.js_spell.specs.declared.template.PartEnd.TheVariants.{Tail, Substitution, Missing}
-use Rattle.js_spell.specs.Spells.{SpellsPlainly}
+use Rattle.js_spell.specs.Spells.{SpellsSimply}
 use Rattle.js_spell.specs.declared.spelt.SpeltValue.{SpeltValue}
-use Rattle.js_spell.specs.declared.spelt.SpeltValue.TheVariants.{Plain, Decoded, Bad}
+use Rattle.js_spell.specs.declared.spelt.SpeltValue.TheVariants.{Unescaped, Decoded, Bad}
 
 abbrev pub in_template : Literal → Bool
 in_template DoubleQuoted = false
@@ -53,9 +53,9 @@ stops Template c =
     (c == backslash) || ((c == grave_accent) || ((c == dollar_sign) || (c == carriage_return)))
 
 -- a character that stands for itself is next
-abbrev pub plain_here : Literal → List ℕ → Bool
-plain_here literal [] = false
-plain_here literal (c ∷ cs) =
+abbrev pub ordinary_here : Literal → List ℕ → Bool
+ordinary_here literal [] = false
+ordinary_here literal (c ∷ cs) =
     not (stops literal c) || ((c == dollar_sign) && not (is_prefix (codes "${") (c ∷ cs)))
 
 -- an escape is next, or a CR of a template
@@ -70,7 +70,7 @@ pub record StopsAt (literal : Literal) (b : ℕ) (text : List ℕ) : Type 0 wher
   pub stops_there : stops literal b ≡ true
 
 -- The text begins with characters that stand for themselves, and this is left behind them.
-pub record IsPlainBefore (literal : Literal) (text left : List ℕ) : Type 0 where
+pub record IsOrdinaryBefore (literal : Literal) (text left : List ℕ) : Type 0 where
   pub items : List StringItem
   pub here : text ≡ string_text items ++ left
   pub found : all_items (item_of literal) text ≡ items_before items (all_items (item_of literal) left)
@@ -81,7 +81,7 @@ pub record IsPlainBefore (literal : Literal) (text left : List ℕ) : Type 0 whe
 -- characters that stand for themselves were passed
 pub record PassesCharacters (literal : Literal) (old new : At) : Type 0 where
   pub text : new.text ≡ old.text
-  pub plain : IsPlainBefore literal (rest old) (rest new)
+  pub ordinary : IsOrdinaryBefore literal (rest old) (rest new)
 
 -- Items were read: their units were added, and what is to be reported of them; the flag tells whether a bad escape is
 -- among them.
@@ -102,11 +102,11 @@ pub record ReadsOneItem (literal : Literal) (start : ℕ) (old new : At) (units_
   pub shorter : length (rest new) < length (rest old)
 
 -- An item was read that is more than a character that stands for itself, or none is next.
-abbrev pub ReadsMarkedItem : Literal → ℕ → At → At → List ℕ → List ℕ → List Diagnostic → List Diagnostic → Option Bool
+abbrev pub ReadsStopItem : Literal → ℕ → At → At → List ℕ → List ℕ → List Diagnostic → List Diagnostic → Option Bool
     → Type 0
-ReadsMarkedItem literal start old new units_before units_after before after None =
+ReadsStopItem literal start old new units_before units_after before after None =
     (item_of literal (rest old) ≡ None) × (new ≡ old) × (units_after ≡ units_before) × (after ≡ before)
-ReadsMarkedItem literal start old new units_before units_after before after (Some is_good) =
+ReadsStopItem literal start old new units_before units_after before after (Some is_good) =
     ReadsOneItem literal start old new units_before units_after before after (not is_good)
 
 -- the value of items
@@ -122,8 +122,8 @@ items_told literal start at =
 
 -- where the value is, by the escaped flag of its token
 abbrev pub told_value : Bool → StringValue → SpeltValue
-told_value false value = Plain
-told_value true no_value = Plain
+told_value false value = Unescaped
+told_value true no_value = Unescaped
 told_value true (units us) = Decoded us
 told_value true bad_value = Bad
 
@@ -151,7 +151,7 @@ EndsString quote start old new before after false =
 
 -- the value is no stretch of the source
 abbrev pub is_elsewhere : SpeltValue → Bool
-is_elsewhere Plain = false
+is_elsewhere Unescaped = false
 is_elsewhere (Decoded text) = true
 is_elsewhere Bad = true
 
@@ -171,12 +171,12 @@ EndsPart start old new before after Missing =
     × Unterminated start old new before after
 
 -- what a mark says of a text at which no character stands for itself
-abbrev pub MarkIs : Literal → Mark → List ℕ → Type 0
-MarkIs literal Escape text = begins (λ c. c == backslash) text ≡ true
-MarkIs literal CarriageReturn text = (in_template literal ≡ true) × (begins (λ c. c == carriage_return) text ≡ true)
-MarkIs literal End text = escape_here literal text ≡ false
+abbrev pub StopIs : Literal → Stop → List ℕ → Type 0
+StopIs literal Escape text = begins (λ c. c == backslash) text ≡ true
+StopIs literal CarriageReturn text = (in_template literal ≡ true) × (begins (λ c. c == carriage_return) text ≡ true)
+StopIs literal End text = escape_here literal text ≡ false
 
-abbrev pub is_end : Mark → Bool
+abbrev pub is_end : Stop → Bool
 is_end Escape = false
 is_end CarriageReturn = false
 is_end End = true
@@ -186,28 +186,28 @@ abbrev pub decoded_value : Literal → Bool → List ℕ → SpeltValue
 decoded_value literal has_bad us = if has_bad && in_template literal then Bad else Decoded us
 
 -- A string without an escape was read, of this kind.
-abbrev pub SpellsPlainString : At → At → Kind → Type 0
-SpellsPlainString old new kind = SpellsPlainly (quoted_reading (rest old)) old.place old new kind
+abbrev pub SpellsUnescapedString : At → At → Kind → Type 0
+SpellsUnescapedString old new kind = SpellsSimply (quoted_reading (rest old)) old.place old new kind
 
 -- An escape stands in the string that begins with the quote, or the quote that would end it is missing.
 pub record MeetsNoQuote (quote : ℕ) (text : List ℕ) : Type 0 where
   pub literal : Literal
   pub is : quote_of literal ≡ quote
   pub left : List ℕ
-  pub passed : IsPlainBefore literal (drop 1 text) left
-  pub all : plain_here literal left ≡ false
+  pub passed : IsOrdinaryBefore literal (drop 1 text) left
+  pub all : ordinary_here literal left ≡ false
   pub none : begins (λ c. c == quote) left ≡ false
 
 -- A part of a template was read behind its mark without an escape and without a CR, of this kind.
-abbrev pub SpellsPlainPart : Kind → Kind → At → At → Kind → Type 0
-SpellsPlainPart substitute tail old new kind =
+abbrev pub SpellsUnescapedPart : Kind → Kind → At → At → Kind → Type 0
+SpellsUnescapedPart substitute tail old new kind =
     (opening start : ℕ) → start + 1 ≡ old.place
-    → SpellsPlainly (template_part_reading substitute tail (opening ∷ rest old)) start old new kind
+    → SpellsSimply (template_part_reading substitute tail (opening ∷ rest old)) start old new kind
 
 -- An escape or a CR stands in the part of a template, or the mark that would end it is missing.
 pub record MeetsNoPartEnd (text : List ℕ) : Type 0 where
   pub left : List ℕ
-  pub passed : IsPlainBefore Template text left
-  pub all : plain_here Template left ≡ false
+  pub passed : IsOrdinaryBefore Template text left
+  pub all : ordinary_here Template left ≡ false
   pub no_tail : begins (λ c. c == grave_accent) left ≡ false
   pub no_substitution : is_prefix (codes "${") left ≡ false

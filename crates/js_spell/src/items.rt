@@ -7,8 +7,8 @@ ghost use Rattle.js_text.specs.Characters.{begins};
 ghost use Rattle.js_text.specs.declared.diagnostic.Diagnostic.{Diagnostic};
 ghost use Rattle.js_source.specs.Source.{rest, IsPlaced};
 ghost use Rattle.js_spell.specs.Breaks.{BreaksOff};
-ghost use Rattle.js_spell.specs.Strings.{plain_here, ReadsItems, ReadsOneItem, ReadsMarkedItem, ReadsValue};
-ghost use Rattle.js_spell.specs.Strings.{MarkIs, PassesCharacters, escape_here, is_end, item_of, decoded_value};
+ghost use Rattle.js_spell.specs.Strings.{ordinary_here, ReadsItems, ReadsOneItem, ReadsStopItem, ReadsValue};
+ghost use Rattle.js_spell.specs.Strings.{StopIs, PassesCharacters, escape_here, is_end, item_of, decoded_value};
 ghost use Rattle.js_spell.specs.Strings.{items_told};
 ghost use Rattle.std.specs.Prelude.{MatchOption};
 ghost use Rattle.std.specs.Str.{IsCharBoundary};
@@ -16,10 +16,10 @@ ghost use Rattle.js_text.specs.declared.diagnostic.Diagnostic.TheVariants.{Inval
 ghost use Rattle.js_grammar.specs.StringItems.{stretch};
 ghost use Rattle.js_source.specs.Source.{HasFirstByte};
 ghost use Rattle.js_source.specs.Runs.{place_of};
-ghost use Rattle.js_spell.specs.declared.plain.Literal.TheVariants.{Template};
+ghost use Rattle.js_spell.specs.declared.ordinary.Literal.TheVariants.{Template};
 
 use crate::escape::read_escape;
-use crate::plain::{Literal, pass_characters};
+use crate::ordinary::{Literal, pass_characters};
 use crate::spelt::SpeltValue;
 use js_kind::Token;
 use js_source::{Source, SourcePosition};
@@ -35,7 +35,7 @@ fn copy_characters(
     requires { IsPlaced source.old }
     ensures ok { OnOk result ((start : ℕ) (errors : List Diagnostic)
         → ReadsItems literal start source.old source.new text.old text.new errors errors false) }
-    ensures all { plain_here literal (rest source.new) ≡ false }
+    ensures all { ordinary_here literal (rest source.new) ≡ false }
     ensures same_text { source.new.text ≡ source.old.text }
     ensures onward { source.old.place ≤ source.new.place }
     ensures placed { IsPlaced source.new }
@@ -105,7 +105,7 @@ fn read_carriage_return(source: &mut Source<'_>, text: &mut JSStrBuilder) -> Res
 
 /// What stands where no character stands for itself.
 #[derive(Clone, Copy, Debug)]
-enum Mark {
+enum Stop {
     /// The `\` of an escape.
     Escape,
     /// A CR of a template.
@@ -114,36 +114,36 @@ enum Mark {
     End,
 }
 
-impl Mark {
+impl Stop {
     /// Whether the items end here.
     fn is_end(self) -> bool
         ensures { result ≡ is_end self }
     {
         match self {
-            Mark::End => true,
-            Mark::Escape | Mark::CarriageReturn => false,
+            Stop::End => true,
+            Stop::Escape | Stop::CarriageReturn => false,
         }
     }
 }
 
 /// What is next where no character stands for itself, by its first byte.
-fn find_mark(literal: Literal, next: Option<u8>) -> Mark
-    ensures { (text : List ℕ) → MatchOption next (text ≡ []) (λ b. HasFirstByte b text) → MarkIs literal result text }
+fn find_stop(literal: Literal, next: Option<u8>) -> Stop
+    ensures { (text : List ℕ) → MatchOption next (text ≡ []) (λ b. HasFirstByte b text) → StopIs literal result text }
 {
     let b = match next {
         Some(b) => b,
-        None => return Mark::End,
+        None => return Stop::End,
     };
     if b == b'\\' {
-        return Mark::Escape;
+        return Stop::Escape;
     }
     if b != b'\r' {
-        return Mark::End;
+        return Stop::End;
     }
     if literal.is_template() {
-        Mark::CarriageReturn
+        Stop::CarriageReturn
     } else {
-        Mark::End
+        Stop::End
     }
 }
 
@@ -157,23 +157,23 @@ fn read_marked_item(
 ) -> Result<Option<bool>, AllocError>
     requires placed { IsPlaced source.old }
     requires start { token.now.start ≤ source.old.place }
-    requires marked { plain_here literal (rest source.old) ≡ false }
-    ensures ok { IfOk result (ReadsMarkedItem literal token.now.start source.old source.new
+    requires marked { ordinary_here literal (rest source.old) ≡ false }
+    ensures ok { IfOk result (ReadsStopItem literal token.now.start source.old source.new
         text.old text.new errors.old errors.new) }
     ensures err { OnErr result (BreaksOff [] source.old source.new errors.old errors.new) }
     ensures onward { source.old.place ≤ source.new.place }
     ensures placed { IsPlaced source.new }
 {
-    match find_mark(literal, source.peek_byte()) {
-        Mark::Escape => {
+    match find_stop(literal, source.peek_byte()) {
+        Stop::Escape => {
             let is_good = read_escape_item(source, literal, text, errors, token)?;
             Ok(Some(is_good))
         }
-        Mark::CarriageReturn => {
+        Stop::CarriageReturn => {
             read_carriage_return(source, text)?;
             Ok(Some(true))
         }
-        Mark::End => Ok(None),
+        Stop::End => Ok(None),
     }
 }
 
@@ -188,7 +188,7 @@ fn read_items(
 ) -> Result<bool, AllocError>
     requires placed { IsPlaced source.old }
     requires start { token.now.start ≤ source.old.place }
-    requires marked { plain_here literal (rest source.old) ≡ false }
+    requires marked { ordinary_here literal (rest source.old) ≡ false }
     ensures ok { IfOk result (ReadsItems literal token.now.start source.old source.new
         text.old text.new errors.old errors.new) }
     ensures ended { IfOk result (λ _. item_of literal (rest source.new) ≡ None) }
@@ -234,7 +234,7 @@ fn read_decoded(
     requires ordered { from ≤ source.old.place }
     requires start { token.now.start ≤ from }
     requires passed { PassesCharacters literal (place_of source.old.text from) source.old }
-    requires marked { plain_here literal (rest source.old) ≡ false }
+    requires marked { ordinary_here literal (rest source.old) ≡ false }
     requires escaped { escape_here literal (rest source.old) ≡ true }
     ensures ok { IfOk result (ReadsValue literal token.now.start (place_of source.old.text from) source.new
         errors.old errors.new) }
@@ -243,9 +243,9 @@ fn read_decoded(
     ensures onward { source.old.place ≤ source.new.place }
     ensures placed { IsPlaced source.new }
 {
-    let plain = source.str_from_pos_to_current(from);
-    let mut text = JSStrBuilder::with_capacity_in(alloc, plain.len() + plain.len() / 2)?;
-    text.push_str(plain)?;
+    let front = source.str_from_pos_to_current(from);
+    let mut text = JSStrBuilder::with_capacity_in(alloc, front.len() + front.len() / 2)?;
+    text.push_str(front)?;
     let has_bad = read_items(source, literal, &mut text, errors, token)?;
     Ok(decoded(literal, has_bad, text))
 }
@@ -270,8 +270,8 @@ pub(crate) fn read_value(
 {
     let from = source.position();
     let next = pass_characters(source, literal);
-    if find_mark(literal, next).is_end() {
-        return Ok(SpeltValue::Plain);
+    if find_stop(literal, next).is_end() {
+        return Ok(SpeltValue::Unescaped);
     }
     read_decoded(alloc, source, literal, from, errors, token)
 }

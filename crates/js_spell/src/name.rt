@@ -14,10 +14,10 @@ ghost use Rattle.js_spell.specs.Spells.{Spells};
 ghost use Rattle.js_kind.specs.Keywords.{name_kind};
 ghost use Rattle.js_source.specs.Runs.{TellsClass};
 ghost use Rattle.js_source.specs.Source.{rest, IsPlaced, BeginsWith, HasFirstByte};
-ghost use Rattle.js_spell.specs.Name.{class_of, PassesPlain, DecodesEscape, DecodesUnicode, ReadsEscape, ReadsItems};
+ghost use Rattle.js_spell.specs.Name.{class_of, PassesUnescaped, DecodesEscape, DecodesUnicode, ReadsEscape, ReadsItems};
 ghost use Rattle.js_spell.specs.Name.{PassesParts, ReadsToEnd, SpellsDecoded, ReportsNoName};
-ghost use Rattle.js_spell.specs.Name.{SpellsPlainName, MeetsEscape, SpellsPlainPrivateName};
-ghost use Rattle.js_spell.specs.Name.{MeetsNoPlainName, items_told};
+ghost use Rattle.js_spell.specs.Name.{SpellsUnescapedName, MeetsEscape, SpellsUnescapedPrivateName};
+ghost use Rattle.js_spell.specs.Name.{MeetsNoUnescapedName, items_told};
 ghost use Rattle.js_spell.specs.Breaks.{BreaksOff};
 ghost use Rattle.js_spell.specs.declared.name.Position.TheVariants.{Later};
 ghost use Rattle.js_spell.specs.declared.spelt.SpeltValue.TheVariants.{Decoded};
@@ -132,10 +132,10 @@ pub(crate) fn skip_parts(source: &mut Source<'_>)
 /// Passes the characters of the name that begins here up to its first escape, or its end, and tells where in the name
 /// the source stands then.
 #[inline(always)]
-fn pass_plain(source: &mut Source<'_>) -> Position
+fn pass_unescaped(source: &mut Source<'_>) -> Position
     requires placed { IsPlaced source.old }
     requires begun { begins_name (rest source.old) ≡ true }
-    ensures passes { PassesPlain source.old result source.new }
+    ensures passes { PassesUnescaped source.old result source.new }
     ensures onward { source.old.place ≤ source.new.place }
     ensures placed { IsPlaced source.new }
 {
@@ -305,24 +305,24 @@ fn read_rest_into(
     }
 }
 
-/// Reads a name on from its first escape, behind its plain beginning, and gives the text that it stands for.
+/// Reads a name on from its first escape, behind its front beginning, and gives the text that it stands for.
 fn decode_name(
     alloc: Global,
     source: &mut Source<'_>,
     errors: &mut DiagnosticList,
     position: Position,
-    plain: &str,
+    front: &str,
 ) -> Result<String, AllocError>
     requires placed { IsPlaced source.old }
     requires begun { begins (λ c. c == backslash) (rest source.old) ≡ true }
     ensures ok { IfOk result (λ text. ReadsToEnd position source.old source.new errors.old errors.new
-        plain.now (string_bytes text) true) }
+        front.now (string_bytes text) true) }
     ensures err { OnErr result (BreaksOff (items_told position source.old)
         source.old source.new errors.old errors.new) }
     ensures placed { IsPlaced source.new }
 {
-    let mut decoded = String::with_capacity(alloc, plain.len() + MORE_BYTES)?;
-    decoded.push_str(plain)?;
+    let mut decoded = String::with_capacity(alloc, front.len() + MORE_BYTES)?;
+    decoded.push_str(front)?;
     read_escape_into(source, errors, position, &mut decoded)?;
     read_rest_into(source, errors, &mut decoded)?;
     Ok(decoded)
@@ -341,24 +341,24 @@ fn spell_decoded(alloc: Global, text: &str) -> Result<Spelt, AllocError>
     })
 }
 
-/// Reads a name on from its first escape, behind its plain beginning.
+/// Reads a name on from its first escape, behind its front beginning.
 #[inline(never)]
 fn read_escaped_name(
     alloc: Global,
     source: &mut Source<'_>,
     errors: &mut DiagnosticList,
     position: Position,
-    plain: &str,
+    front: &str,
 ) -> Result<Spelt, AllocError>
     requires placed { IsPlaced source.old }
     requires begun { begins (λ c. c == backslash) (rest source.old) ≡ true }
     ensures ok { IfOk result (λ spelt.
-        SpellsDecoded position source.old source.new errors.old errors.new plain.now spelt) }
+        SpellsDecoded position source.old source.new errors.old errors.new front.now spelt) }
     ensures err { OnErr result (BreaksOff (items_told position source.old)
         source.old source.new errors.old errors.new) }
     ensures placed { IsPlaced source.new }
 {
-    let text = decode_name(alloc, source, errors, position, plain)?;
+    let text = decode_name(alloc, source, errors, position, front)?;
     spell_decoded(alloc, text.as_str())
 }
 
@@ -384,17 +384,17 @@ pub fn read_name(
     ensures placed { IsPlaced source.new }
 {
     let start = source.position();
-    let position = pass_plain(source);
-    let plain = source.str_from_pos_to_current(start);
+    let position = pass_unescaped(source);
+    let front = source.str_from_pos_to_current(start);
     if !begins_ascii(source, b'\\') {
         token.set_escaped(false);
         token.set_has_separator(false);
         return Ok(Spelt {
-            kind: Kind::match_keyword(plain),
-            value: SpeltValue::Plain,
+            kind: Kind::match_keyword(front),
+            value: SpeltValue::Unescaped,
         });
     }
-    let spelt = read_escaped_name(alloc, source, errors, position, plain)?;
+    let spelt = read_escaped_name(alloc, source, errors, position, front)?;
     token.set_escaped(true);
     token.set_has_separator(false);
     Ok(spelt)
@@ -438,13 +438,13 @@ fn pass_to_end(source: &mut Source<'_>, parts: &[bool; 256]) -> Option<u8>
 /// Passes the characters of the name that begins with the ASCII character `b`, up to its first escape or its end, and
 /// gives the byte that is next.
 #[inline(always)]
-fn pass_plain_from(source: &mut Source<'_>, parts: &[bool; 256], b: u8) -> Option<u8>
+fn pass_unescaped_from(source: &mut Source<'_>, parts: &[bool; 256], b: u8) -> Option<u8>
     requires parts { TellsClass is_identifier_part parts.now }
     requires ascii { b < 128 }
     requires next { HasFirstByte b (rest source.old) }
     requires begun { begins_name (rest source.old) ≡ true }
-    requires plain { b ≡ backslash → ⊥ }
-    ensures passes { PassesPlain source.old Later source.new }
+    requires unescaped { b ≡ backslash → ⊥ }
+    ensures passes { PassesUnescaped source.old Later source.new }
     ensures rest { rest source.new ≡ from_first is_no_part (drop 1 (rest source.old)) }
     ensures none { IfNone result (rest source.new ≡ []) }
     ensures some { IfSome result (λ b. HasFirstByte b (rest source.new)) }
@@ -472,20 +472,20 @@ fn is_backslash(next: Option<u8>) -> bool
 /// `name_parts`, handed in from where the caller has it: a loop over a static takes its address anew at every few
 /// bytes.
 #[inline(always)]
-pub fn read_plain_name_by(source: &mut Source<'_>, parts: &[bool; 256], b: u8) -> Option<Kind>
+pub fn read_unescaped_name_by(source: &mut Source<'_>, parts: &[bool; 256], b: u8) -> Option<Kind>
     requires placed { IsPlaced source.old }
     requires parts { TellsClass is_identifier_part parts.now }
     requires ascii { b < 128 }
     requires next { HasFirstByte b (rest source.old) }
     requires begun { begins_name (rest source.old) ≡ true }
-    requires plain { b ≡ backslash → ⊥ }
-    ensures some { IfSome result (SpellsPlainName source.old source.new) }
+    requires unescaped { b ≡ backslash → ⊥ }
+    ensures some { IfSome result (SpellsUnescapedName source.old source.new) }
     ensures none { IfNone result (MeetsEscape (rest source.old)) }
     ensures text { source.new.text ≡ source.old.text }
     ensures placed { IsPlaced source.new }
 {
     let start = source.position();
-    let next = pass_plain_from(source, parts, b);
+    let next = pass_unescaped_from(source, parts, b);
     if is_backslash(next) {
         return None;
     }
@@ -497,12 +497,12 @@ pub fn read_plain_name_by(source: &mut Source<'_>, parts: &[bool; 256], b: u8) -
 /// Reads the name that is next and begins with the ASCII character `b`, where no escape stands in it (ECMA-262 12.7).
 /// None: one does, and the source stands somewhere in the same text.
 #[inline(always)]
-pub fn read_plain_name(source: &mut Source<'_>, b: u8) -> Option<Kind>
+pub fn read_unescaped_name(source: &mut Source<'_>, b: u8) -> Option<Kind>
     requires placed { IsPlaced source.old }
     requires ascii { b < 128 }
     requires next { HasFirstByte b (rest source.old) }
     requires begun { begins_name (rest source.old) ≡ true }
-    ensures some { IfSome result (SpellsPlainName source.old source.new) }
+    ensures some { IfSome result (SpellsUnescapedName source.old source.new) }
     ensures none { IfNone result (MeetsEscape (rest source.old)) }
     ensures text { source.new.text ≡ source.old.text }
     ensures placed { IsPlaced source.new }
@@ -510,7 +510,7 @@ pub fn read_plain_name(source: &mut Source<'_>, b: u8) -> Option<Kind>
     if b == b'\\' {
         return None;
     }
-    read_plain_name_by(source, name_parts(), b)
+    read_unescaped_name_by(source, name_parts(), b)
 }
 
 /// Whether a name is next, good or at fault.
@@ -525,7 +525,7 @@ pub fn begins_name(source: &Source<'_>) -> bool
 
 /// Whether the byte is an ASCII character that begins a name and no escape.
 #[inline(always)]
-fn is_plain_start(b: u8) -> bool
+fn is_unescaped_start(b: u8) -> bool
     ensures { MatchBool result ((b < 128) × (is_identifier_start b ≡ true))
         ((128 ≤ b) ⊎ (is_identifier_start b ≡ false)) }
 {
@@ -538,18 +538,18 @@ fn is_plain_start(b: u8) -> bool
 /// Reads the name behind a `#` that was just read, where it begins with an ASCII character and no escape stands in it
 /// (ECMA-262 12.7). None: something else stands there, and the source stands somewhere in the same text.
 #[inline(always)]
-pub fn read_plain_private_name(source: &mut Source<'_>) -> Option<Kind>
+pub fn read_unescaped_private_name(source: &mut Source<'_>) -> Option<Kind>
     requires { IsPlaced source.old }
-    ensures some { IfSome result (SpellsPlainPrivateName source.old source.new) }
-    ensures none { IfNone result (MeetsNoPlainName (rest source.old)) }
+    ensures some { IfSome result (SpellsUnescapedPrivateName source.old source.new) }
+    ensures none { IfNone result (MeetsNoUnescapedName (rest source.old)) }
     ensures text { source.new.text ≡ source.old.text }
     ensures placed { IsPlaced source.new }
 {
     let b = source.peek_byte()?;
-    if !is_plain_start(b) {
+    if !is_unescaped_start(b) {
         return None;
     }
-    read_plain_name(source, b)?;
+    read_unescaped_name(source, b)?;
     Some(Kind::PrivateIdentifier)
 }
 
@@ -609,6 +609,6 @@ pub fn read_private_name(
     token.set_has_separator(false);
     Ok(Spelt {
         kind,
-        value: SpeltValue::Plain,
+        value: SpeltValue::Unescaped,
     })
 }

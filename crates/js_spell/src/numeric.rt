@@ -3,7 +3,7 @@
 ghost use Rattle.std.specs.Prelude.{◌≡◌, ◌≤◌, ◌==◌, ◌++◌, ◌∷◌, [], false, IfOk, OnOk, OnErr, MatchBool};
 ghost use Rattle.js_text.specs.Ascii.{full_stop};
 ghost use Rattle.js_text.specs.Characters.{begins, before_first};
-ghost use Rattle.js_grammar.specs.Number.{is_exponent_mark, may_not_follow_number};
+ghost use Rattle.js_grammar.specs.Number.{is_exponent_indicator, may_not_follow_number};
 ghost use Rattle.js_kind.specs.Digits.{is_digit_of};
 ghost use Rattle.js_grammar.specs.NumberReads.{missing_digit, exponent_or, fraction_items, behind_digits};
 ghost use Rattle.js_grammar.specs.NumberReads.{decimal_items, legacy_items, number_items, is_no_start, missing_digits};
@@ -11,11 +11,11 @@ ghost use Rattle.js_grammar.specs.NumberReads.{number_reading};
 ghost use Rattle.js_grammar.specs.Reading.{reported_at};
 ghost use Rattle.js_spell.specs.Spells.{Spells};
 ghost use Rattle.js_source.specs.Source.{rest, IsPlaced};
-ghost use Rattle.js_spell.specs.Numeric.{radix_of_digits, PassesDigits, PassesPlainDigits, PassesGroups, end_of};
+ghost use Rattle.js_spell.specs.Numeric.{radix_of_digits, PassesDigits, PassesUnseparatedDigits, PassesGroups, end_of};
 ghost use Rattle.js_spell.specs.Breaks.{BreaksOff};
 ghost use Rattle.js_spell.specs.Numeric.{ReadsRun, ReadsPart, ReadsInteger, ReadsEnd, ReadsCut, ReadsBadEnd};
 ghost use Rattle.js_spell.specs.Numeric.{ReadsNumber, LeadsWith, Leads, base_of_prefix, behind_base};
-ghost use Rattle.js_spell.specs.Numeric.{TakesExponentMark};
+ghost use Rattle.js_spell.specs.Numeric.{TakesExponentIndicator};
 ghost use Rattle.js_spell.specs.Numeric.{TakesSign};
 
 use crate::digits::{Digits, table_of};
@@ -167,8 +167,8 @@ fn read_run(
 /// Takes the mark of an exponent, if one is next.
 #[inline(always)]
 pub(crate) fn take_exponent_mark(source: &mut Source<'_>) -> bool
-    ensures cases { MatchBool result (TakesExponentMark source.old source.new)
-        ((begins is_exponent_mark (rest source.old) ≡ false) × (source.new ≡ source.old)) }
+    ensures cases { MatchBool result (TakesExponentIndicator source.old source.new)
+        ((begins is_exponent_indicator (rest source.old) ≡ false) × (source.new ≡ source.old)) }
     ensures onward { source.old.place ≤ source.new.place }
     ensures placed { IsPlaced source.new }
 {
@@ -295,8 +295,8 @@ fn read_decimal(
 }
 
 /// Passes the digits that are next, and tells whether all are octal.
-fn pass_plain_digits(source: &mut Source<'_>) -> bool
-    ensures passes { PassesPlainDigits source.old result source.new }
+fn pass_unseparated_digits(source: &mut Source<'_>) -> bool
+    ensures passes { PassesUnseparatedDigits source.old result source.new }
     ensures placed { IsPlaced source.new }
 {
     source.pass_ascii(table_of(Digits::Octal));
@@ -320,7 +320,7 @@ fn read_legacy(
         source.old source.new errors.old errors.new) }
     ensures placed { IsPlaced source.new }
 {
-    if pass_plain_digits(source) {
+    if pass_unseparated_digits(source) {
         return Ok(Kind::Octal);
     }
     read_behind_digits(source, errors, has_separator)
@@ -519,6 +519,6 @@ pub fn read_number(
     token.set_has_separator(numeral.has_separator);
     Ok(Spelt {
         kind: numeral.kind,
-        value: SpeltValue::Plain,
+        value: SpeltValue::Unescaped,
     })
 }

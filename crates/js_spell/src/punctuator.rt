@@ -10,7 +10,7 @@ ghost use Rattle.js_grammar.specs.Punctuators.{LongestPunctuator, is_optional_do
 ghost use Rattle.js_source.specs.Source.{rest, BeginsWith};
 ghost use Rattle.js_spell.specs.Families.{is_family, ReadsPunctuator, TakesNext};
 
-use crate::mark::advance_if_mark;
+use crate::sequence::advance_if_sequence;
 use js_kind::Kind;
 use js_source::Source;
 
@@ -124,7 +124,7 @@ fn read_dot(source: &mut Source<'_>) -> Option<Kind>
 {
     let start = source.position();
     source.next_char();
-    if advance_if_mark(source, b"..") {
+    if advance_if_sequence(source, b"..") {
         Some(Kind::Dot3)
     } else if is_digit_next(source) {
         source.set_position(start);

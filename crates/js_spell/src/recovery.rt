@@ -13,7 +13,7 @@ ghost use Rattle.js_spell.specs.Comments.{StopsAtLineEnds};
 ghost use Rattle.js_spell.specs.Recovery.{Recovers};
 
 use crate::comment::skip_line;
-use crate::mark::advance_if_mark;
+use crate::sequence::advance_if_sequence;
 use js_kind::Kind;
 use js_source::{SafeByteMatchTable, Source};
 use js_text::{Diagnostic, Span, either};
@@ -85,7 +85,7 @@ pub fn recover(
     ensures { Recovers line_has_ended source.old result source.new }
 {
     let start = source.offset();
-    if advance_if_mark(source, b"/*") {
+    if advance_if_sequence(source, b"/*") {
         let has_line_end = skip_to_end(source, line);
         let span = Span::new(start, source.offset());
         return Recovered {

@@ -9,11 +9,11 @@ ghost use Rattle.js_source.specs.Source.{rest, IsPlaced, Reads, HasFirstByte};
 ghost use Rattle.js_spell.specs.Breaks.{BreaksOff};
 ghost use Rattle.js_spell.specs.Spells.{Spells};
 ghost use Rattle.js_spell.specs.Strings.{in_template, quote_of, TakesQuote, EndsString};
-ghost use Rattle.js_spell.specs.Strings.{SpellsPlainString, MeetsNoQuote};
+ghost use Rattle.js_spell.specs.Strings.{SpellsUnescapedString, MeetsNoQuote};
 
 use crate::escape::report_unterminated;
 use crate::items::read_value;
-use crate::plain::{Literal, pass_to_mark};
+use crate::ordinary::{Literal, pass_to_mark};
 use crate::spelt::{Spelt, SpeltValue, spell};
 use js_kind::{Kind, Token};
 use js_source::Source;
@@ -92,7 +92,7 @@ pub fn read_string(
     if is_closed {
         return Ok(spell(token, Kind::Str, value));
     }
-    Ok(spell(token, Kind::Undetermined, SpeltValue::Plain))
+    Ok(spell(token, Kind::Undetermined, SpeltValue::Unescaped))
 }
 
 /// The string that a quote begins.
@@ -112,12 +112,12 @@ fn literal_of(quote: u8) -> Literal
 /// Reads the string that is next and begins with the quote, where no escape stands in it and the quote ends it
 /// (ECMA-262 12.9.4). None: it is another, and the source stands somewhere in the same text.
 #[inline(always)]
-pub fn read_plain_string(source: &mut Source<'_>, quote: u8) -> Option<Kind>
+pub fn read_unescaped_string(source: &mut Source<'_>, quote: u8) -> Option<Kind>
     requires placed { IsPlaced source.old }
     requires ascii { quote < 128 }
     requires next { HasFirstByte quote (rest source.old) }
     requires quote { is_quote quote ≡ true }
-    ensures some { IfSome result (SpellsPlainString source.old source.new) }
+    ensures some { IfSome result (SpellsUnescapedString source.old source.new) }
     ensures none { IfNone result (MeetsNoQuote quote (rest source.old)) }
     ensures text { source.new.text ≡ source.old.text }
     ensures placed { IsPlaced source.new }

@@ -6,11 +6,11 @@ ghost use Rattle.js_grammar.specs.Reading.{reported_at};
 ghost use Rattle.js_grammar.specs.Template.{template_part_reading};
 ghost use Rattle.js_spell.specs.Breaks.{BreaksOff};
 ghost use Rattle.js_spell.specs.Spells.{Spells};
-ghost use Rattle.js_spell.specs.Strings.{EndsPart, SpellsPlainPart, MeetsNoPartEnd};
+ghost use Rattle.js_spell.specs.Strings.{EndsPart, SpellsUnescapedPart, MeetsNoPartEnd};
 
 use crate::escape::report_unterminated;
 use crate::items::read_value;
-use crate::plain::{Literal, begins_substitution, pass_to_mark};
+use crate::ordinary::{Literal, begins_substitution, pass_to_mark};
 use crate::spelt::{Spelt, SpeltValue, spell};
 use js_kind::{Kind, Token};
 use js_source::Source;
@@ -79,7 +79,7 @@ pub fn read_template_part(
     match end_part(source, errors, token.start())? {
         PartEnd::Tail => Ok(spell(token, tail, value)),
         PartEnd::Substitution => Ok(spell(token, substitute, value)),
-        PartEnd::Missing => Ok(spell(token, Kind::Undetermined, SpeltValue::Plain)),
+        PartEnd::Missing => Ok(spell(token, Kind::Undetermined, SpeltValue::Unescaped)),
     }
 }
 
@@ -87,9 +87,9 @@ pub fn read_template_part(
 /// and its mark ends it (ECMA-262 12.9.6). The kind is `substitute` where this is a `${`, and `tail` where it is a
 /// backquote. None: it is another part, and the source stands somewhere in the same text.
 #[inline(always)]
-pub fn read_plain_part(source: &mut Source<'_>, substitute: Kind, tail: Kind) -> Option<Kind>
+pub fn read_unescaped_part(source: &mut Source<'_>, substitute: Kind, tail: Kind) -> Option<Kind>
     requires { IsPlaced source.old }
-    ensures some { IfSome result (SpellsPlainPart substitute tail source.old source.new) }
+    ensures some { IfSome result (SpellsUnescapedPart substitute tail source.old source.new) }
     ensures none { IfNone result (MeetsNoPartEnd (rest source.old)) }
     ensures text { source.new.text ≡ source.old.text }
     ensures placed { IsPlaced source.new }

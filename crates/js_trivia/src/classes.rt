@@ -6,7 +6,7 @@ ghost use Rattle.js_trivia.specs.Words.{BeginsNoWord};
 ghost use Rattle.js_text.specs.Characters.{begins};
 ghost use Rattle.js_grammar.specs.CommentClasses.{stays_leading, begins_with, is_licensed, is_blank, without_blanks};
 ghost use Rattle.js_grammar.specs.CommentClasses.{is_capital, is_beyond_ascii, is_empty, begins_with_either, is_hint_for};
-ghost use Rattle.js_grammar.specs.CommentClasses.{is_key_mark, may_mark_key, ends_or_is_blank, is_word};
+ghost use Rattle.js_grammar.specs.CommentClasses.{is_key_sign, may_mark_key, ends_or_is_blank, is_word};
 ghost use Rattle.js_grammar.specs.CommentClasses.{is_for_coverage, is_for_whole_file, has_stars_alone, documentation_class};
 ghost use Rattle.js_grammar.specs.CommentClasses.{annotation_class, tool_class, worded_class, class_of};
 
@@ -163,8 +163,8 @@ fn is_hint_for(text: &[u8], tool: &[u8]) -> bool
 }
 
 /// Whether the text, without white space around it, is the mark of a key of a property.
-fn is_key_mark(content: &str) -> bool
-    ensures { result ≡ is_key_mark content.now }
+fn is_key_sign(content: &str) -> bool
+    ensures { result ≡ is_key_sign content.now }
 {
     let mark = content.trim();
     mark == "@__KEY__" || mark == "#__KEY__"
@@ -279,7 +279,7 @@ fn worded_class(content: &str, text: &[u8]) -> CommentContent
 {
     if is_empty(text) {
         CommentContent::None
-    } else if may_mark_key(text) && is_key_mark(content) {
+    } else if may_mark_key(text) && is_key_sign(content) {
         CommentContent::PropertyKey
     } else if text.len() == 1 && begins_with(text, b"@") {
         CommentContent::None

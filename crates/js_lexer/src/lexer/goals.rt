@@ -4,7 +4,7 @@ ghost use Rattle.std.specs.Prelude.{◌≡◌, length, IfOk, OnErr};
 ghost use Rattle.js_kind.specs.Kinds.{kind_text};
 ghost use Rattle.js_reader.specs.Decoded.{Keeps};
 ghost use Rattle.js_lexer.specs.Goals.{IsBehindName, ReadsName, ReadsRegex};
-ghost use Rattle.js_lexer.specs.Lexer.{IsBehindFor, IsRestored, ReadsAgain, ReadsToken, kind_of_last};
+ghost use Rattle.js_lexer.specs.Lexer.{IsBehindFor, IsRestored, LexesAgain, ReadsToken, kind_of_last};
 
 use super::{Lexer, start_behind_reports, take_again};
 use js_grammar::{Goal, spelled_length};
@@ -59,7 +59,7 @@ impl<C: LexerConfig + Drop> Lexer<'_, C> {
     /// Its token stands in the place of that one.
     pub fn re_lex_right_angle(&mut self) -> Token
         requires { IsBehindFor Goal.RightAngle self.old }
-        ensures { ReadsAgain Goal.RightAngle self.old result self.new }
+        ensures { LexesAgain Goal.RightAngle self.old result self.new }
     {
         let start = self.reader.source.offset() - 1;
         let token = self.reader.read_longest_right_angle(start);
@@ -73,7 +73,7 @@ impl<C: LexerConfig + Drop> Lexer<'_, C> {
     pub fn re_lex_as_typescript_l_angle(&mut self, offset: u32) -> Token
         requires behind { IsBehindFor Goal.TypeScriptLeftAngle self.old }
         requires bytes { offset ≡ length (kind_text (kind_of_last self.old)) }
-        ensures { ReadsAgain Goal.TypeScriptLeftAngle self.old result self.new }
+        ensures { LexesAgain Goal.TypeScriptLeftAngle self.old result self.new }
     {
         let start = self.reader.source.offset() - offset;
         let token = self.reader.read_left_angle(start);
@@ -87,7 +87,7 @@ impl<C: LexerConfig + Drop> Lexer<'_, C> {
     pub fn re_lex_as_typescript_r_angle(&mut self, offset: u32) -> Token
         requires behind { IsBehindFor Goal.TypeScriptRightAngle self.old }
         requires bytes { offset ≡ length (kind_text (kind_of_last self.old)) }
-        ensures { ReadsAgain Goal.TypeScriptRightAngle self.old result self.new }
+        ensures { LexesAgain Goal.TypeScriptRightAngle self.old result self.new }
     {
         let start = self.reader.source.offset() - offset;
         let token = self.reader.read_right_angle(start);

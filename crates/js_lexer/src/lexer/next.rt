@@ -1,11 +1,11 @@
-//! The reading of the next token: plain readings first, and behind them those of any form.
+//! The reading of the next token: simple readings first, and behind them those of any form.
 
 ghost use Rattle.std.specs.Prelude.{◌≡◌, ◌++◌, true, None, IfOk, OnOk, OnErr, is_none};
 ghost use Rattle.js_text.specs.Characters.{is_identifier_start};
 ghost use Rattle.js_grammar.specs.Gap.{whole_gap_piece};
 ghost use Rattle.js_source.specs.Source.{IsPlaced, rest};
 ghost use Rattle.js_reader.specs.Decoded.{Keeps, KeepsValues, HasValue};
-ghost use Rattle.js_reader.specs.Plain.{MeetsByte, PassesPlainGap, ReadsPlainToken, SpellsPlainly};
+ghost use Rattle.js_reader.specs.Simple.{MeetsByte, PassesSimpleGap, ReadsSimpleToken, SpellsSimply};
 ghost use Rattle.js_lexer.specs.Lexer.{here, ReadsNext, ReadsToken, IsRestored, collected};
 ghost use Rattle.js_reader.specs.Reader.{ReadsInPart, ReadsTokenHere};
 
@@ -13,7 +13,7 @@ use super::{Lexer, collect, start_behind_reports, take_token};
 use js_grammar::Goal;
 use js_kind::{Kind, LexerConfig, Token, TokenList};
 use js_reader::{
-    DecodedValues, GapEnd, Reader, pass_plain_gap, read_name_plainly, read_plain_mark,
+    DecodedValues, GapEnd, Reader, pass_simple_gap, read_simple_name, read_simple_symbol,
 };
 use js_source::Source;
 use js_text::{DiagnosticList, Span};
@@ -53,14 +53,14 @@ impl<'a, C: LexerConfig + Drop> Lexer<'a, C> {
     {
         let mut source = self.reader.source.here();
         let mut line_has_ended = !self.has_read;
-        match pass_plain_gap(&mut source, &self.reader.tables, &mut line_has_ended) {
+        match pass_simple_gap(&mut source, &self.reader.tables, &mut line_has_ended) {
             GapEnd::Name(b) => self.read_name_here(source, line_has_ended, b),
-            GapEnd::Mark(b) => self.read_mark_here(source, line_has_ended, b),
+            GapEnd::Symbol(b) => self.read_symbol_here(source, line_has_ended, b),
             GapEnd::Other => self.read_behind_any_gap(),
         }
     }
 
-    /// Reads the name that begins with `b` behind a plain gap.
+    /// Reads the name that begins with `b` behind a simple gap.
     #[inline(always)]
     fn read_name_here(
         &mut self,
@@ -75,15 +75,15 @@ impl<'a, C: LexerConfig + Drop> Lexer<'a, C> {
         ensures kept { Keeps self.old.decoded self.new.decoded }
     {
         let mut behind = source.here();
-        match read_name_plainly(&mut behind, &self.reader.tables.parts, b) {
+        match read_simple_name(&mut behind, &self.reader.tables.parts, b) {
             Some(kind) => self.take_spelled(source, behind, kind, line_has_ended),
             None => self.read_any_here(source, line_has_ended),
         }
     }
 
-    /// Reads the token that begins with `b` behind a plain gap, and is no name.
+    /// Reads the token that begins with `b` behind a simple gap, and is no name.
     #[inline(always)]
-    fn read_mark_here(
+    fn read_symbol_here(
         &mut self,
         source: Source<'a>,
         line_has_ended: bool,
@@ -95,13 +95,13 @@ impl<'a, C: LexerConfig + Drop> Lexer<'a, C> {
         ensures kept { Keeps self.old.decoded self.new.decoded }
     {
         let mut behind = source.here();
-        match read_plain_mark(&mut behind, b) {
+        match read_simple_symbol(&mut behind, b) {
             Some(kind) => self.take_spelled(source, behind, kind, line_has_ended),
             None => self.read_any_here(source, line_has_ended),
         }
     }
 
-    /// Takes the token of the kind that was read from behind a plain gap up to the place of `behind`.
+    /// Takes the token of the kind that was read from behind a simple gap up to the place of `behind`.
     #[inline(always)]
     fn take_spelled(
         &mut self,
@@ -110,8 +110,8 @@ impl<'a, C: LexerConfig + Drop> Lexer<'a, C> {
         kind: Kind,
         line_has_ended: bool,
     ) -> Result<Token, AllocError>
-        requires gap { PassesPlainGap (here self.old) (is_none self.old.last) source line_has_ended }
-        requires spells { SpellsPlainly line_has_ended source behind kind }
+        requires gap { PassesSimpleGap (here self.old) (is_none self.old.last) source line_has_ended }
+        requires spells { SpellsSimply line_has_ended source behind kind }
         ensures ok { IfOk result (λ token. ReadsToken Goal.Next self.old token self.new) }
         ensures err { OnErr result (IsRestored self.old self.new) }
         ensures kept { Keeps self.old.decoded self.new.decoded }
@@ -119,14 +119,14 @@ impl<'a, C: LexerConfig + Drop> Lexer<'a, C> {
         let start = self.reader.source.offset_of(source.position());
         let span = Span::new(start, behind.offset());
         let token = Token::new(kind, span, line_has_ended);
-        self.take_plain(behind, token)?;
+        self.take_simple(behind, token)?;
         Ok(token)
     }
 
-    /// Takes a token that was read behind a plain gap.
+    /// Takes a token that was read behind a simple gap.
     #[inline(always)]
-    fn take_plain(&mut self, source: Source<'a>, token: Token) -> Result<(), AllocError>
-        requires { ReadsPlainToken (here self.old) (is_none self.old.last) token source }
+    fn take_simple(&mut self, source: Source<'a>, token: Token) -> Result<(), AllocError>
+        requires { ReadsSimpleToken (here self.old) (is_none self.old.last) token source }
         ensures ok { OnOk result (ReadsToken Goal.Next self.old token self.new) }
         ensures err { OnErr result (IsRestored self.old self.new) }
         ensures kept { Keeps self.old.decoded self.new.decoded }
@@ -137,14 +137,14 @@ impl<'a, C: LexerConfig + Drop> Lexer<'a, C> {
         Ok(())
     }
 
-    /// Reads the next token, of any form, where a plain gap stands before it.
+    /// Reads the next token, of any form, where a simple gap stands before it.
     #[inline(always)]
     fn read_any_here(
         &mut self,
         source: Source<'a>,
         line_has_ended: bool,
     ) -> Result<Token, AllocError>
-        requires { PassesPlainGap (here self.old) (is_none self.old.last) source line_has_ended }
+        requires { PassesSimpleGap (here self.old) (is_none self.old.last) source line_has_ended }
         ensures ok { IfOk result (λ token. ReadsToken Goal.Next self.old token self.new) }
         ensures err { OnErr result (IsRestored self.old self.new) }
         ensures kept { Keeps self.old.decoded self.new.decoded }
@@ -175,11 +175,11 @@ impl<'a, C: LexerConfig + Drop> Lexer<'a, C> {
         Ok(())
     }
 
-    /// Reads the next token, of any form, where a plain gap stands before it. The builder of trivia has it then as the
+    /// Reads the next token, of any form, where a simple gap stands before it. The builder of trivia has it then as the
     /// last one.
     #[inline(never)]
     fn read_here(&mut self, source: Source<'a>, line_has_ended: bool) -> Result<(), AllocError>
-        requires { PassesPlainGap (here self.old) (is_none self.old.last) source line_has_ended }
+        requires { PassesSimpleGap (here self.old) (is_none self.old.last) source line_has_ended }
         ensures ok { OnOk result (ReadsNext self.old self.new) }
         ensures err { OnErr result (IsRestored self.old self.new) }
         ensures kept { Keeps self.old.decoded self.new.decoded }

@@ -1,7 +1,7 @@
 use Rattle.std.proofs.Common.{◌∙◌, ◌<◌, ◌||◌, sym, ap, subst, Bool, length}
 use Rattle.js_source.specs.Source.{At, rest}
 use Rattle.js_spell.proofs.CommentSteps.{Cuts, block_found, block_ends, block_passes, search_shorter}
-use Rattle.js_spell.proofs.MarkSteps.{behind}
+use Rattle.js_spell.proofs.SequenceSteps.{behind}
 use Rattle.js_spell.proofs.comment.skip_block.Goals as goal
 
 pub returns-then-advance_if_block_end-clause-cut : goal.returns-then-advance_if_block_end-clause-cut

@@ -1,7 +1,7 @@
 use Rattle.std.proofs.Common.{◌∙◌, sym, arith}
 use Rattle.js_text.specs.Characters.{is_line_terminator}
 use Rattle.js_spell.proofs.CommentSteps.{search_found, search_ended, search_passes, search_shorter}
-use Rattle.js_spell.proofs.MarkSteps.{behind}
+use Rattle.js_spell.proofs.SequenceSteps.{behind}
 use Rattle.js_spell.proofs.comment.skip_line.Goals as goal
 
 pub returns-then-is_line_terminator-clause-rest : goal.returns-then-is_line_terminator-clause-rest

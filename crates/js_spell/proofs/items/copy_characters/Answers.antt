@@ -18,12 +18,12 @@ returns-clause-ok c =
     let new = c.pass_characters.new.source in
     let plain = c.pass_characters.ensures.passes in
     let here = ap (λ t. from_place t c.position-from.result) plain.text
-    ∙ ap (from_place c.args.source.now.text) c.position-from.ensures.place ∙ plain.plain.here in
+    ∙ ap (from_place c.args.source.now.text) c.position-from.ensures.place ∙ plain.ordinary.here in
     on_ok_map c.push_str.result _ _
     (λ added start errors.
     copied c.args.literal start c.args.source.now new c.args.text.now c.push_str.new.self
     c.str_from_pos_to_current.result.now errors c.requires plain added
-    (c.str_from_pos_to_current.ensures.characters (string_text plain.plain.items) here))
+    (c.str_from_pos_to_current.ensures.characters (string_text plain.ordinary.items) here))
     c.push_str.ensures.ok
 
 pub returns-clause-onward : goal.returns-clause-onward

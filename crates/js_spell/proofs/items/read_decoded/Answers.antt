@@ -11,19 +11,19 @@ pub returns-clause-ok : goal.returns-clause-ok
 returns-clause-ok c =
     let from = place_of c.args.source.now.text c.args.from in
     let plain = c.requires.passed in
-    let cs = string_text plain.plain.items in
+    let cs = string_text plain.ordinary.items in
     let placed : IsPlaced from = record {
       utf8 = c.requires.placed.utf8;
       short = c.requires.placed.short;
       boundary = c.requires.boundary;
     } in
-    let spelled = c.str_from_pos_to_current-plain.ensures.characters cs plain.plain.here in
-    let chars_are = stretch_chars from cs (rest c.args.source.now) c.str_from_pos_to_current-plain.result.now placed
-    plain.plain.here spelled in
+    let spelled = c.str_from_pos_to_current-front.ensures.characters cs plain.ordinary.here in
+    let chars_are = stretch_chars from cs (rest c.args.source.now) c.str_from_pos_to_current-front.result.now placed
+    plain.ordinary.here spelled in
     rw c.decoded.ensures
     (decoded_value_read c.args.literal c.args.token.now.start from c.args.source.now c.read_items.new.source
     c.push_str.new.self c.read_items.new.text c.args.errors.now c.read_items.new.errors c.in_ok-has_bad.has_bad
     placed c.requires.placed plain (c.in_ok-push_str.ensures.ok
-    ∙ ap (λ us. us ++ units_of (chars c.str_from_pos_to_current-plain.result.now)) c.in_ok-text.ensures
+    ∙ ap (λ us. us ++ units_of (chars c.str_from_pos_to_current-front.result.now)) c.in_ok-text.ensures
     ∙ ap units_of chars_are) c.requires.escaped
     c.in_ok-has_bad.ensures.ok c.in_ok-has_bad.ensures.ended)

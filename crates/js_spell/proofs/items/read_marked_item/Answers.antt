@@ -1,8 +1,8 @@
 use Rattle.std.proofs.Common.{refl, subst, not, true}
 use Rattle.js_source.specs.Source.{rest}
-use Rattle.js_spell.specs.declared.plain.Literal.{Literal}
+use Rattle.js_spell.specs.declared.ordinary.Literal.{Literal}
 use Rattle.js_spell.specs.Strings.{ReadsOneItem}
-use Rattle.js_spell.proofs.PlainCharacters.{no_item_here}
+use Rattle.js_spell.proofs.OrdinaryCharacters.{no_item_here}
 use Rattle.js_spell.proofs.ItemSteps.{match_option, is_template}
 use Rattle.js_spell.proofs.items.read_marked_item.Goals as goal
 

@@ -8,12 +8,12 @@ use Rattle.js_spell.proofs.items.read_value.Goals as goal
 pub returns-then-is_end-clause-ok : goal.returns-then-is_end-clause-ok
 returns-then-is_end-clause-ok c =
     let new = c.pass_characters-next.new.source in
-    let mark = c.find_mark.ensures (rest new)
+    let mark = c.find_stop.ensures (rest new)
     (match_option c.pass_characters-next.result _ _ c.pass_characters-next.ensures.none
     c.pass_characters-next.ensures.some) in
     plain_value_read c.args.literal c.args.token.now.start c.args.source.now new c.args.errors.now
     c.pass_characters-next.ensures.passes c.pass_characters-next.ensures.all
-    (mark_end c.args.literal c.find_mark.result (rest new) mark (sym c.if-is_end.ensures))
+    (mark_end c.args.literal c.find_stop.result (rest new) mark (sym c.if-is_end.ensures))
 
 pub returns-then-is_end-clause-onward : goal.returns-then-is_end-clause-onward
 returns-then-is_end-clause-onward c =
@@ -32,10 +32,10 @@ read_decoded-requires-clause-ordered c =
 pub read_decoded-requires-clause-escaped : goal.read_decoded-requires-clause-escaped
 read_decoded-requires-clause-escaped c =
     let new = c.pass_characters-next.new.source in
-    let mark = c.find_mark.ensures (rest new)
+    let mark = c.find_stop.ensures (rest new)
     (match_option c.pass_characters-next.result _ _ c.pass_characters-next.ensures.none
     c.pass_characters-next.ensures.some) in
-    mark_not_end c.args.literal c.find_mark.result (rest new) mark (sym c.if-is_end.ensures)
+    mark_not_end c.args.literal c.find_stop.result (rest new) mark (sym c.if-is_end.ensures)
 
 pub returns-clause-onward : goal.returns-clause-onward
 returns-clause-onward c =

@@ -9,10 +9,10 @@ use Rattle.js_spell.proofs.name.decode_name.Goals as goal
 pub returns-clause-ok : goal.returns-clause-ok
 returns-clause-ok c =
     let start = c.in_ok-push_str.ensures.bytes
-    ∙ ap (λ bytes. bytes ++ c.args.plain.now) c.in_ok-decoded.ensures.bytes in
+    ∙ ap (λ bytes. bytes ++ c.args.front.now) c.in_ok-decoded.ensures.bytes in
     let more = c.in_ok-read_rest_into.ensures.ok in
     name_decoded c.args.position c.args.source.now c.read_escape_into.new.source c.read_rest_into.new.source
-    c.args.errors.now c.read_escape_into.new.errors c.read_rest_into.new.errors c.args.plain.now
+    c.args.errors.now c.read_escape_into.new.errors c.read_rest_into.new.errors c.args.front.now
     (string_bytes c.read_escape_into.new.decoded) (string_bytes c.read_rest_into.new.decoded) more.0
     c.requires.placed c.read_escape_into.ensures.placed
     (subst

@@ -2,14 +2,14 @@ use Rattle.std.proofs.Common.{Bool, true, false, ◌≡◌, sym, ap, ◌∙◌, 
 use Rattle.std.specs.Prelude.{MatchBool}
 use Rattle.js_text.specs.Characters.{begins}
 use Rattle.js_source.specs.Source.{At, rest, Reads}
-use Rattle.js_grammar.specs.Number.{is_exponent_mark}
-use Rattle.js_spell.specs.Numeric.{TakesExponentMark}
+use Rattle.js_grammar.specs.Number.{is_exponent_indicator}
+use Rattle.js_spell.specs.Numeric.{TakesExponentIndicator}
 use Rattle.js_spell.proofs.NumericSteps.{exponent_marks, no_mark}
 use Rattle.js_spell.proofs.numeric.take_exponent_mark.Goals as goal
 
 large : (b : Bool) (old mid new : At) → mid ≡ old → begins (λ c. c == 101) (rest old) ≡ false
     → MatchBool b (Reads mid new 69) ((begins (λ c. c == 69) (rest mid) ≡ false) × (new ≡ mid))
-    → MatchBool b (TakesExponentMark old new) ((begins is_exponent_mark (rest old) ≡ false) × (new ≡ old))
+    → MatchBool b (TakesExponentIndicator old new) ((begins is_exponent_indicator (rest old) ≡ false) × (new ≡ old))
 large true old mid new same none cases =
     record {
       mark = 69;

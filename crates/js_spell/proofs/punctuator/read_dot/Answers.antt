@@ -1,21 +1,21 @@
 use Rattle.std.proofs.Common.{◌∙◌, ap, sym, refl}
-use Rattle.js_grammar.specs.Punctuators.{plain}
+use Rattle.js_grammar.specs.Punctuators.{unrestricted}
 use Rattle.js_grammar.proofs.LongestPunctuators.{dot, listed, longest, none_dot}
 use Rattle.js_kind.specs.declared.kind.Kind.TheVariants.{Dot3}
 use Rattle.js_source.specs.Source.{rest}
-use Rattle.js_spell.proofs.MarkSteps.{behind}
+use Rattle.js_spell.proofs.SequenceSteps.{behind}
 use Rattle.js_spell.proofs.punctuator.read_dot.Goals as goal
 
-pub returns-then-advance_if_mark : goal.returns-then-advance_if_mark
-returns-then-advance_if_mark c = λ t line_has_ended.
+pub returns-then-advance_if_sequence : goal.returns-then-advance_if_sequence
+returns-then-advance_if_sequence c = λ t line_has_ended.
     let first = behind 46 c.args.source.now c.next_char.new.self c.requires c.next_char.ensures.past in
-    let dots = c.if-advance_if_mark.ensures in
-    (dots.0 ∙ first.0, rw (first.1, dots.1) (longest t line_has_ended (plain Dot3) _ (listed refl) refl refl))
+    let dots = c.if-advance_if_sequence.ensures in
+    (dots.0 ∙ first.0, rw (first.1, dots.1) (longest t line_has_ended (unrestricted Dot3) _ (listed refl) refl refl))
 
 pub returns-then-is_digit_next : goal.returns-then-is_digit_next
 returns-then-is_digit_next c = λ t line_has_ended.
     let first = behind 46 c.args.source.now c.next_char.new.self c.requires c.next_char.ensures.past in
-    let dots = c.if-advance_if_mark.ensures in
+    let dots = c.if-advance_if_sequence.ensures in
     let digit = sym c.is_digit_next.ensures ∙ c.if-is_digit_next.true in (
       c.set_position.ensures
           ∙ rw (dots.1, first.0, c.position-start.ensures.place) refl,
@@ -25,6 +25,6 @@ returns-then-is_digit_next c = λ t line_has_ended.
 pub returns-else-is_digit_next : goal.returns-else-is_digit_next
 returns-else-is_digit_next c = λ t line_has_ended.
     let first = behind 46 c.args.source.now c.next_char.new.self c.requires c.next_char.ensures.past in
-    let dots = c.if-advance_if_mark.ensures in
+    let dots = c.if-advance_if_sequence.ensures in
     let digit = sym c.is_digit_next.ensures ∙ c.if-is_digit_next.false in
     (ap (λ s. s.text) dots.1 ∙ first.0, rw (first.1, dots.1) (dot t line_has_ended _ dots.0 (rw dots.1 at digit)))

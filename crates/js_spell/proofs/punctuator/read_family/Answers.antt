@@ -1,5 +1,5 @@
 use Rattle.js_spell.proofs.FamilyFacts.{read_twice, read_equals, read_alone}
-use Rattle.js_spell.proofs.MarkSteps.{behind}
+use Rattle.js_spell.proofs.SequenceSteps.{behind}
 use Rattle.js_spell.proofs.punctuator.read_family.Goals as goal
 
 pub returns-in-Some-clause-longest : goal.returns-in-Some-clause-longest

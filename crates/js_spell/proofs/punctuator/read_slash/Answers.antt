@@ -1,9 +1,9 @@
 use Rattle.std.proofs.Common.{◌∙◌, ap, refl}
-use Rattle.js_grammar.specs.Punctuators.{plain, slash}
+use Rattle.js_grammar.specs.Punctuators.{unrestricted, slash}
 use Rattle.js_grammar.proofs.LongestPunctuators.{listed, longest, none_slash}
 use Rattle.js_kind.specs.declared.kind.Kind.TheVariants.{SlashEq}
 use Rattle.js_source.specs.Source.{rest}
-use Rattle.js_spell.proofs.MarkSteps.{behind}
+use Rattle.js_spell.proofs.SequenceSteps.{behind}
 use Rattle.js_spell.proofs.punctuator.read_slash.Goals as goal
 
 pub returns-then-advance_if_ascii_eq : goal.returns-then-advance_if_ascii_eq
@@ -11,7 +11,7 @@ returns-then-advance_if_ascii_eq c = λ t line_has_ended.
     let first = behind 47 c.args.source.now c.next_char.new.self c.requires c.next_char.ensures.past in
     let second = c.if-advance_if_ascii_eq.ensures.cases in (
       second.text ∙ first.0,
-      rw (first.1, second.here) (longest t line_has_ended (plain SlashEq) _ (listed refl) refl refl),
+      rw (first.1, second.here) (longest t line_has_ended (unrestricted SlashEq) _ (listed refl) refl refl),
     )
 
 pub returns-then-advance_if_ascii_eq-2 : goal.returns-then-advance_if_ascii_eq-2

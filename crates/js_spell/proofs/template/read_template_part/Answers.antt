@@ -2,7 +2,7 @@ use Rattle.std.proofs.Common.{subst}
 use Rattle.js_spell.specs.Strings.{EndsPart}
 use Rattle.js_spell.specs.declared.template.PartEnd.{PartEnd}
 use Rattle.js_spell.specs.declared.template.PartEnd.TheVariants.{Tail, Substitution, Missing}
-use Rattle.js_spell.specs.declared.plain.Literal.TheVariants.{Template}
+use Rattle.js_spell.specs.declared.ordinary.Literal.TheVariants.{Template}
 use Rattle.js_spell.proofs.BreakSteps.{on_err}
 use Rattle.js_spell.proofs.ItemSteps.{end_broken}
 use Rattle.js_spell.proofs.SpellSteps.{part_broken, part_closed, part_substituted, part_open}

@@ -4,12 +4,12 @@ use Rattle.js_grammar.specs.declared.goal.Goal.TheVariants.{Next}
 use Rattle.js_trivia.specs.Attachment.{Attachment}
 use Rattle.js_trivia.specs.Trivia.{without_ranges}
 use Rattle.js_reader.specs.Decoded.{KeepsValues, HasValue}
-use Rattle.js_reader.specs.Plain.{ends_told, moved}
+use Rattle.js_reader.specs.Simple.{ends_told, moved}
 use Rattle.js_lexer.specs.Lexer.{last_read}
 use Rattle.js_reader.specs.declared.findings_builder.FindingsBuilder.{FindingsBuilder}
 use Rattle.js_lexer.proofs.LexerSteps.{state_of, reader_is, between_is, first_token, sound_after, sound_back}
 use Rattle.js_lexer.proofs.LexerSteps.{reads_token}
-use Rattle.js_reader.proofs.PlainReadings.{behind_plain_gap, ends_forgotten}
+use Rattle.js_reader.proofs.SimpleReadings.{behind_simple_gap, ends_forgotten}
 use Rattle.js_lexer.proofs.Undone.{found_again, may_go_back, reported_since, stands_again, undone}
 use Rattle.js_lexer.proofs.lexer.Lexer.read_here.Goals as goal
 
@@ -37,7 +37,7 @@ invariant_of-self g c =
     before c.in-Ok.token c.read_here_and_collect-read.new.reader told c.take_token.new.trivia
     c.read_here_and_collect-read.new.decoded c.in-Ok.ensures.placed.utf8 (kept.are_values c.self.invariant.are_values)
     (reader_is Next r c.self.inside.found last c.self.inside.decoded (is_none last) cleared c.self.invariant refl)
-    (behind_plain_gap last r r.source (is_none last) c.args.source c.args.line_has_ended before c.in-Ok.token
+    (behind_simple_gap last r r.source (is_none last) c.args.source c.args.line_has_ended before c.in-Ok.token
     c.read_here_and_collect-read.new.reader c.read_here_and_collect-read.new.errors (first_token last) p
     c.in-Ok.ensures.ok)
     (c.take_token.ensures.last ∙ ends_forgotten p.ends cleared c.in-Ok.token none))
@@ -114,7 +114,7 @@ returns-in-Ok-clause-ok g c =
                 between_is Next r.source last c.self.inside.found.trivia cleared c.self.inside.decoded c.self.invariant
                 refl;
           }
-          (behind_plain_gap last r r.source (is_none last) c.args.source c.args.line_has_ended before c.in-Ok.token
+          (behind_simple_gap last r r.source (is_none last) c.args.source c.args.line_has_ended before c.in-Ok.token
           c.read_here_and_collect-read.new.reader c.read_here_and_collect-read.new.errors (first_token last) p
           c.in-Ok.ensures.ok)
           (c.take_token.ensures.last ∙ ends_forgotten p.ends cleared c.in-Ok.token none)

@@ -1,25 +1,25 @@
 use Rattle.std.proofs.Common.{◌∙◌, ap}
-use Rattle.js_reader.specs.Reader.{plain_lexeme}
+use Rattle.js_reader.specs.Reader.{simple_lexeme}
 use Rattle.js_reader.specs.Reader.{lexeme_token}
-use Rattle.js_reader.proofs.PlainReadings.{plain_token, plain_onward}
+use Rattle.js_reader.proofs.SimpleReadings.{simple_token, simple_onward}
 use Rattle.js_lexer.proofs.lexer.Lexer.take_spelled.Goals as goal
 
 pub new-span-requires : goal.new-span-requires
 new-span-requires g c =
     rw (c.offset_of-start.ensures, c.position.ensures.place, c.offset.ensures.place)
-    (plain_onward c.args.line_has_ended c.args.source c.args.behind c.args.kind c.self.inside.reader
+    (simple_onward c.args.line_has_ended c.args.source c.args.behind c.args.kind c.self.inside.reader
     c.position.ensures.placed c.offset.ensures.placed c.requires.spells)
 
 pub new-token-requires : goal.new-token-requires
 new-token-requires g c =
     rw (c.new-span.ensures, c.offset_of-start.ensures, c.position.ensures.place, c.offset.ensures.place)
-    (plain_onward c.args.line_has_ended c.args.source c.args.behind c.args.kind c.self.inside.reader
+    (simple_onward c.args.line_has_ended c.args.source c.args.behind c.args.kind c.self.inside.reader
     c.position.ensures.placed c.offset.ensures.placed c.requires.spells)
 
-pub take_plain-requires : goal.take_plain-requires
-take_plain-requires g c =
-    let lexeme = plain_lexeme c.args.kind c.args.line_has_ended in
-    plain_token _ c.args.source c.args.behind _ c.args.line_has_ended c.args.kind c.new-token.result
+pub take_simple-requires : goal.take_simple-requires
+take_simple-requires g c =
+    let lexeme = simple_lexeme c.args.kind c.args.line_has_ended in
+    simple_token _ c.args.source c.args.behind _ c.args.line_has_ended c.args.kind c.new-token.result
     c.requires.gap c.requires.spells c.offset.ensures.placed
     (c.new-token.ensures ∙ ap (λ s. lexeme_token s.start s.end lexeme) c.new-span.ensures
     ∙ ap (λ n. lexeme_token n c.offset.result lexeme) (c.offset_of-start.ensures ∙ c.position.ensures.place)

@@ -1,5 +1,5 @@
 use Rattle.std.proofs.lemmas.Result.{err_from_is_err_and}
-use Rattle.js_reader.proofs.PlainReadings.{token_moves_on}
+use Rattle.js_reader.proofs.SimpleReadings.{token_moves_on}
 use Rattle.js_lexer.proofs.lexer.next.read_here_and_collect.Goals as goal
 
 pub returns-in_err-collect-clause-err : goal.returns-in_err-collect-clause-err

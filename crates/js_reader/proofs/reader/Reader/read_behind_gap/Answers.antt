@@ -3,7 +3,7 @@ use Rattle.std.proofs.lemmas.Result.{IfOk-weaker, on_err_weaker}
 use Rattle.js_reader.specs.Reader.{MovesOn, ReadsTokenHere}
 use Rattle.js_reader.specs.declared.reader.Reader.{Reader}
 use Rattle.js_reader.proofs.WholeSteps.{pieces_move_on}
-use Rattle.js_reader.proofs.PlainReadings.{token_moves_on}
+use Rattle.js_reader.proofs.SimpleReadings.{token_moves_on}
 use Rattle.js_reader.proofs.ReadingSteps.{token_behind}
 use Rattle.js_reader.proofs.TriviaSteps.{either_way, extends_none, grows_on, grows_reports}
 use Rattle.js_reader.proofs.reader.Reader.read_behind_gap.Goals as goal
@@ -11,7 +11,7 @@ use Rattle.js_reader.proofs.reader.Reader.read_behind_gap.Goals as goal
 pub returns-in-Some-clause-ok : goal.returns-in-Some-clause-ok
 returns-in-Some-clause-ok c = λ previous first.
     token_behind previous c.args.self.now c.args.found.now c.skip_whole_gap.new.self c.skip_whole_gap.new.found
-    c.read_plainly.new.self c.skip_whole_gap.new.found.errors c.in-Some.token c.requires.placed
+    c.read_simple.new.self c.skip_whole_gap.new.found.errors c.in-Some.token c.requires.placed
     c.position-place.ensures.placed first c.in_ok-skip_whole_gap.ensures.ok
     (c.in-Some.ensures.some c.skip_whole_gap.new.found.errors)
 

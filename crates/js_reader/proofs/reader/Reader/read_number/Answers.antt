@@ -11,7 +11,7 @@ returns-clause-ok c =
     (record c.args.self.now { source = c.read_number.new.source })
     c.requires.begun refl c.in_ok-spelt.ensures.ok refl)
 
-pub returns-clause-plain : goal.returns-clause-plain
-returns-clause-plain c =
+pub returns-clause-unescaped : goal.returns-clause-unescaped
+returns-clause-unescaped c =
     c.escaped.ensures ∙ ap (λ t. t.escaped) c.in_ok-spelt.ensures.ok.flags
     ∙ (number_flags (rest c.args.self.now.source)).1

@@ -5,24 +5,24 @@ use Rattle.js_reader.proofs.CommentTexts.{placed_in}
 use Rattle.js_reader.proofs.TriviaSteps.{grows_by, grows_none}
 use Rattle.js_reader.proofs.reader.Reader.skip_block_comment.Goals as goal
 
-pub returns-then-not-advance_if_mark-clause-ok : goal.returns-then-not-advance_if_mark-clause-ok
-returns-then-not-advance_if_mark-clause-ok c =
-    let none = c.if-not-advance_if_mark.ensures in (
+pub returns-then-not-advance_if_sequence-clause-ok : goal.returns-then-not-advance_if_sequence-clause-ok
+returns-then-not-advance_if_sequence-clause-ok c =
+    let none = c.if-not-advance_if_sequence.ensures in (
       record { source = none.1; stays = record { source_type = refl; line_has_ended = refl } },
       refl,
       no_block c.args.self.now c.requires.next c.requires.no_line none.0,
     )
 
-pub returns-then-not-advance_if_mark-clause-grown : goal.returns-then-not-advance_if_mark-clause-grown
-returns-then-not-advance_if_mark-clause-grown c = grows_none c.args.found.now
+pub returns-then-not-advance_if_sequence-clause-grown : goal.returns-then-not-advance_if_sequence-clause-grown
+returns-then-not-advance_if_sequence-clause-grown c = grows_none c.args.found.now
 
 pub add_block_comment-requires-clause-placed : goal.add_block_comment-requires-clause-placed
 add_block_comment-requires-clause-placed c =
-    let takes = c.if-not-advance_if_mark.ensures in
+    let takes = c.if-not-advance_if_sequence.ensures in
     let same = c.whole.ensures.text ∙ c.skip_block.ensures.text ∙ takes.0 in
     rw (same, c.offset-start.ensures.place, c.offset-end.ensures.place, c.block_kind-kind.ensures)
     (placed_in _ _ _ _ _ _ _
-    (block_marked c.args.self.now.source c.advance_if_mark.new.source c.skip_block.new.source
+    (block_marked c.args.self.now.source c.advance_if_sequence.new.source c.skip_block.new.source
     c.in-Piece.line_has_ended c.requires.placed c.offset-end.ensures.placed takes c.skip_block.ensures.text
     c.in-Piece.ensures.cut))
 
@@ -32,9 +32,9 @@ returns-in_err-add_block_comment-in-Piece-clause-grown c =
 
 pub returns-in_ok-add_block_comment-in-Piece-clause-ok : goal.returns-in_ok-add_block_comment-in-Piece-clause-ok
 returns-in_ok-add_block_comment-in-Piece-clause-ok c =
-    let takes = c.if-not-advance_if_mark.ensures in
+    let takes = c.if-not-advance_if_sequence.ensures in
     let same = c.whole.ensures.text ∙ c.skip_block.ensures.text ∙ takes.0 in
-    block_skipped c.args.self.now c.args.found.now c.advance_if_mark.new.source _ _ c.in-Piece.line_has_ended
+    block_skipped c.args.self.now c.args.found.now c.advance_if_sequence.new.source _ _ c.in-Piece.line_has_ended
     c.requires.placed c.offset-end.ensures.placed takes c.skip_block.ensures.text c.in-Piece.ensures.cut refl
     c.either-self.ensures refl refl
     (rw (same, c.offset-start.ensures.place, c.offset-end.ensures.place, c.block_kind-kind.ensures)
@@ -46,7 +46,7 @@ returns-in_ok-add_block_comment-in-Piece-clause-grown c =
 
 pub returns-in-Nothing-clause-ok : goal.returns-in-Nothing-clause-ok
 returns-in-Nothing-clause-ok c =
-    let takes = c.if-not-advance_if_mark.ensures in (
+    let takes = c.if-not-advance_if_sequence.ensures in (
       record {
         source =
             c.set_position.ensures
@@ -54,7 +54,7 @@ returns-in-Nothing-clause-ok c =
         stays = record { source_type = refl; line_has_ended = refl };
       },
       refl,
-      no_block_end c.args.self.now c.advance_if_mark.new.source takes c.in-Nothing.ensures.cut,
+      no_block_end c.args.self.now c.advance_if_sequence.new.source takes c.in-Nothing.ensures.cut,
     )
 
 pub returns-in-Nothing-clause-grown : goal.returns-in-Nothing-clause-grown

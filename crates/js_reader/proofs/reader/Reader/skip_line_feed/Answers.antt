@@ -1,7 +1,7 @@
 use Rattle.std.proofs.Common.{refl, [], ◌∷◌}
 use Rattle.js_grammar.specs.GapItems.{line_end}
 use Rattle.js_reader.proofs.GapSteps.{line_feed_skipped}
-use Rattle.js_spell.proofs.MarkSteps.{behind}
+use Rattle.js_spell.proofs.SequenceSteps.{behind}
 use Rattle.js_reader.proofs.TriviaSteps.{grows_by}
 use Rattle.js_reader.proofs.reader.Reader.skip_line_feed.Goals as goal
 

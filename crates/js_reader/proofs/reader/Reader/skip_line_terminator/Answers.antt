@@ -3,7 +3,7 @@ use Rattle.js_grammar.specs.GapItems.{line_end}
 use Rattle.js_grammar.specs.PieceItems.{listed_if}
 use Rattle.js_trivia.specs.Trivia.{handle_newline}
 use Rattle.js_reader.proofs.GapSteps.{line_end_skipped, some_skipped, character_on, and_true}
-use Rattle.js_spell.proofs.MarkSteps.{behind}
+use Rattle.js_spell.proofs.SequenceSteps.{behind}
 use Rattle.js_reader.proofs.TriviaSteps.{grows_by, calls-append}
 use Rattle.js_reader.proofs.reader.Reader.skip_line_terminator.Goals as goal
 

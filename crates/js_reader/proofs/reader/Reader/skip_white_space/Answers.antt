@@ -1,7 +1,7 @@
 use Rattle.std.proofs.Common.{refl, []}
 use Rattle.js_grammar.specs.PieceItems.{listed_if}
 use Rattle.js_reader.proofs.GapSteps.{white_skipped, some_skipped, character_on}
-use Rattle.js_spell.proofs.MarkSteps.{behind}
+use Rattle.js_spell.proofs.SequenceSteps.{behind}
 use Rattle.js_reader.proofs.TriviaSteps.{grows_by}
 use Rattle.js_reader.proofs.reader.Reader.skip_white_space.Goals as goal
 

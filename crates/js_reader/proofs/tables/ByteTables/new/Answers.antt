@@ -18,5 +18,5 @@ invariant_of-result c =
       name_starts = c.starts.ensures;
       name_parts = c.name_parts.ensures;
       gap_blanks = c.blanks.ensures;
-      gap_ends = c.marks.ensures;
+      gap_ends = c.symbols.ensures;
     }

@@ -1,9 +1,0 @@
-use Rattle.std.proofs.lemmas.Option.{IfSome_then}
-use Rattle.js_reader.proofs.PlainReadings.{template_plainly}
-use Rattle.js_reader.proofs.plain.read_plain_template.Goals as goal
-
-pub returns-clause-spells : goal.returns-clause-spells
-returns-clause-spells c = λ ended.
-    IfSome_then c.read_plain_part.result c.read_plain_part.ensures.some
-    (λ kind spells. template_plainly ended c.args.source.now c.next_ascii.new.self c.read_plain_part.new.source kind
-    c.requires.placed c.next_ascii.ensures.placed c.next_ascii.ensures.reads spells)

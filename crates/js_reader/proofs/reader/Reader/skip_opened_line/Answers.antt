@@ -1,0 +1,36 @@
+use Rattle.std.proofs.Common.{refl, ◌∙◌, [], ◌∷◌}
+use Rattle.js_grammar.specs.GapItems.{comment}
+use Rattle.js_reader.proofs.CommentTexts.{placed_in}
+use Rattle.js_reader.proofs.LineSteps.{line_marked, behind_line}
+use Rattle.js_reader.proofs.TriviaSteps.{grows_by, grows_none}
+use Rattle.js_reader.proofs.reader.Reader.skip_opened_line.Goals as goal
+
+pub returns-then-not-advance_if_sequence-clause-grown : goal.returns-then-not-advance_if_sequence-clause-grown
+returns-then-not-advance_if_sequence-clause-grown c = grows_none c.args.found.now
+
+pub add_line_comment-requires-clause-placed : goal.add_line_comment-requires-clause-placed
+add_line_comment-requires-clause-placed c =
+    let takes = rw c.opening_sequence.ensures at c.if-not-advance_if_sequence.ensures in
+    let same = c.whole.ensures.text ∙ c.skip_line.ensures.text ∙ takes.0 in
+    rw (same, c.offset-start.ensures.place, c.offset-end.ensures.place)
+    (placed_in _ _ _ _ _ _ _
+    (line_marked c.args.kind c.requires.kind c.args.self.now.source c.advance_if_sequence.new.source
+    c.skip_line.new.source c.requires.placed c.offset-end.ensures.placed takes c.skip_line.ensures.text
+    c.skip_line.ensures.rest))
+
+pub returns-in_err-add_line_comment-clause-grown : goal.returns-in_err-add_line_comment-clause-grown
+returns-in_err-add_line_comment-clause-grown c =
+    grows_by c.args.found.now _ [] refl refl c.in_err-add_line_comment.ensures.err refl
+
+pub returns-clause-ok : goal.returns-clause-ok
+returns-clause-ok c =
+    let takes = rw c.opening_sequence.ensures at c.if-not-advance_if_sequence.ensures in
+    let same = c.whole.ensures.text ∙ c.skip_line.ensures.text ∙ takes.0 in
+    behind_line c.args.kind c.requires.kind c.args.self.now c.args.found.now c.advance_if_sequence.new.source _ _
+    c.requires.placed c.offset-end.ensures.placed takes c.skip_line.ensures.text c.skip_line.ensures.rest refl refl refl
+    refl (rw (same, c.offset-start.ensures.place, c.offset-end.ensures.place) at c.in_ok-add_line_comment.ensures.ok)
+    refl
+
+pub returns-clause-grown : goal.returns-clause-grown
+returns-clause-grown c =
+    grows_by c.args.found.now _ (comment _ ∷ []) refl refl c.in_ok-add_line_comment.ensures.ok refl

@@ -1,7 +1,0 @@
-use Rattle.std.proofs.Common.{refl}
-use Rattle.js_source.proofs.Classes.{tells_class}
-use Rattle.js_reader.specs.Tables.{is_mark}
-use Rattle.js_reader.proofs.tables.marks.Goals as goal
-
-pub returns : goal.returns
-returns c = tells_class is_mark _ refl refl

@@ -1,5 +1,0 @@
-use Rattle.js_spell.proofs.PlainNumbers.{no_point}
-use Rattle.js_spell.proofs.plain_number.read_items.Goals as goal
-
-pub find_lead-requires : goal.find_lead-requires
-find_lead-requires c = no_point c.args.b _ c.requires.ascii c.requires.next c.requires.digit
