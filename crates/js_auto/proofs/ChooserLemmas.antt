@@ -1,14 +1,14 @@
 -- What a chooser keeps of the tokens that it was told.
 use Rattle.std.proofs.Common.{◌≡◌, List, [], ◌∷◌, ◌++◌, refl, sym, ◌∙◌, ap, subst}
 use Rattle.std.proofs.Common.{Some, None, true, false, Bool, ◌&&◌, Option}
-use Rattle.std.specs.Prelude.{IsSome, is_some, option_map, if◌then◌else◌}
+use Rattle.std.specs.Prelude.{IsSome, is_some, option_map, unwrap_or, if◌then◌else◌}
 use Rattle.std.specs.List.{last_or}
 use Rattle.js_text.specs.Lists.{with_last}
 use Rattle.js_kind.specs.Kinds.{is_one_of}
 use Rattle.js_kind.specs.Predicates.{is_eof}
 use Rattle.js_kind.specs.TokenParts.{TokenParts}
 use Rattle.js_kind.specs.declared.kind.Kind.{Kind}
-use Rattle.js_kind.specs.declared.kind.Kind.TheVariants.{RCurly}
+use Rattle.js_kind.specs.declared.kind.Kind.TheVariants.{Eof, RCurly}
 use Rattle.js_grammar.specs.ReLexed.{again_kinds}
 use Rattle.js_grammar.specs.declared.goal.Goal.TheVariants.{RegularExpression, TemplateTail as TailGoal}
 use Rattle.js_grammar.proofs.AgainKinds.{only_one}
@@ -17,7 +17,7 @@ use Rattle.js_session.proofs.LiveLemmas.{last_or-push, last_or-with_last}
 use Rattle.js_auto.specs.declared.brace.Brace.{Brace}
 use Rattle.js_auto.specs.Braces.{effect_of, after_effect, braces, braces_from, open_behind}
 use Rattle.js_auto.specs.Choice.{Chooser, begins_expression, but_last, choice_behind, chooser_of}
-use Rattle.js_auto.specs.Choice.{ends_substitution, last_kind}
+use Rattle.js_auto.specs.Choice.{ends_substitution, kind_before, last_kind}
 
 braces-push : (stack : List Brace) (tokens : List TokenParts) (t : TokenParts)
     → braces_from stack (tokens ++ t ∷ []) ≡ after_effect (effect_of t.kind) (braces_from stack tokens)
@@ -58,7 +58,7 @@ pub chooser-push : (tokens : List TokenParts) (t : TokenParts)
     → chooser_of (tokens ++ t ∷ [])
     ≡ record {
       stack = open_behind (last_kind tokens) (braces (but_last tokens));
-      before = last_kind tokens;
+      before = unwrap_or (last_kind tokens) Eof;
       last = Some t.kind;
     }
 chooser-push tokens t = rw (but_last-push tokens t, last_kind-push tokens t, braces_behind_last tokens) refl
@@ -72,7 +72,7 @@ but_last-with_last (t ∷ u ∷ v ∷ vs) x = ap (λ l. t ∷ l) (but_last-with_
 -- what is kept where the last token is another, and where there is none
 pub chooser-with_last : (tokens : List TokenParts) (x : TokenParts) → IsSome (last_kind tokens)
     → chooser_of (with_last tokens x)
-    ≡ record { stack = braces (but_last tokens); before = last_kind (but_last tokens); last = Some x.kind }
+    ≡ record { stack = braces (but_last tokens); before = kind_before tokens; last = Some x.kind }
 chooser-with_last [] x some = absurd cc
 chooser-with_last (t ∷ ts) x some =
     rw (but_last-with_last (t ∷ ts) x, last_or-with_last None t ts x) refl
@@ -88,7 +88,8 @@ chooser-with_last_none (t ∷ ts) x none =
 -- what a chooser keeps that was told one token more
 pub told_on : (tokens : List TokenParts) (t : TokenParts) (old new : Chooser) (kind : Kind) → old ≡ chooser_of tokens
     → new ≡ record old { stack = open_behind old.last old.stack } → kind ≡ t.kind
-    → record { stack = new.stack; before = new.last; last = Some kind } ≡ chooser_of (tokens ++ t ∷ [])
+    → record { stack = new.stack; before = unwrap_or new.last Eof; last = Some kind }
+    ≡ chooser_of (tokens ++ t ∷ [])
 told_on tokens t old new kind told after is =
     rw (after, told, is, chooser-push tokens t) refl
 
@@ -103,7 +104,7 @@ told_again tokens t old kind told some is =
     ∙ sym (chooser-with_last tokens t (subst (λ c. IsSome c.last) told some))
 
 -- Behind which last token a part of a template is read, and behind which one a regular expression.
-pub part_behind : (stack : List Brace) (before : Option Kind) (kind : Kind)
+pub part_behind : (stack : List Brace) (before : Kind) (kind : Kind)
     → choice_behind stack before (Some kind) ≡ Some TemplateTail → kind ≡ RCurly
 part_behind stack before kind chosen =
     by_tests (is_eof kind) (is_one_of (again_kinds TailGoal) kind) _ (begins_expression before kind) refl chosen
@@ -116,7 +117,7 @@ part_behind stack before kind chosen =
     by_tests false false inside true is e = absurd (cc)
     by_tests false false inside false is e = absurd (cc)
 
-pub expression_behind : (stack : List Brace) (before : Option Kind) (kind : Kind)
+pub expression_behind : (stack : List Brace) (before : Kind) (kind : Kind)
     → choice_behind stack before (Some kind) ≡ Some Regex → is_one_of (again_kinds RegularExpression) kind ≡ true
 expression_behind stack before kind chosen =
     by_tests (is_eof kind) (ends_substitution stack kind) (is_one_of (again_kinds RegularExpression) kind) _ refl chosen

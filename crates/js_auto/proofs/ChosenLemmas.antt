@@ -22,6 +22,7 @@ use Rattle.js_session.proofs.RunLemmas.{state_step}
 use Rattle.js_session.proofs.Unique.{report_unique, row_unique}
 use Rattle.js_auto.specs.Auto.{AreChosen, ReportOfChosen}
 use Rattle.js_auto.specs.Choice.{begins_expression, but_last, choice, choice_behind, ends_substitution}
+use Rattle.js_auto.specs.Choice.{kind_before}
 use Rattle.js_auto.specs.Choice.{last_kind}
 use Rattle.js_auto.specs.Braces.{braces, is_in_substitution}
 
@@ -45,7 +46,7 @@ chosen_by tokens c e = by_last (last_or None tokens) refl e
   where
     by_tests : (end tail regex : Bool) (last : TokenParts) → last_or None tokens ≡ Some last
         → is_eof last.kind ≡ end → ends_substitution (braces (but_last tokens)) last.kind ≡ tail
-        → begins_expression (last_kind (but_last tokens)) last.kind ≡ regex
+        → begins_expression (kind_before tokens) last.kind ≡ regex
         → (if end then None else if tail then Some TemplateTail else if regex then Some Regex else Some Next) ≡ Some c
         → Chosen tokens c
     by_tests true tail regex last is e1 e2 e3 e = absurd cc
@@ -63,7 +64,7 @@ chosen_by tokens c e = by_last (last_or None tokens) refl e
         reads is_next no_end
 
     by_last : (o : Option TokenParts) → last_or None tokens ≡ o
-        → choice_behind (braces (but_last tokens)) (last_kind (but_last tokens)) (option_map (λ t. t.kind) o) ≡ Some c
+        → choice_behind (braces (but_last tokens)) (kind_before tokens) (option_map (λ t. t.kind) o) ≡ Some c
         → Chosen tokens c
     by_last None is e =
         let is_next : c ≡ Next = cc in

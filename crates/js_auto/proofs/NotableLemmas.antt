@@ -84,13 +84,13 @@ leaves_braces (Some kind) stack plain = ap (λ effect. after_effect effect stack
 pub leaves_chooser : (c : Chooser) → is_notable c.last ≡ false → c ≡ record c { stack = open_behind c.last c.stack }
 leaves_chooser c plain = ap (λ stack. record c { stack = stack }) (sym (leaves_braces c.last c.stack plain))
 
-reads_behind : (stack : List Brace) (before : Option Kind) (kind : Kind) → IsUnnotable kind
+reads_behind : (stack : List Brace) (before : Kind) (kind : Kind) → IsUnnotable kind
     → choice_behind stack before (Some kind) ≡ Some Next
 unfolding is_eof
 reads_behind stack before kind is = rw (is.eof, is.right_curly, is.again) refl
 
 -- Behind such a token the next one is read.
-pub reads_on : (stack : List Brace) (before last : Option Kind) → is_notable last ≡ false
+pub reads_on : (stack : List Brace) (before : Kind) (last : Option Kind) → is_notable last ≡ false
     → choice_behind stack before last ≡ Some Next
 reads_on stack before None plain = refl
 reads_on stack before (Some kind) plain = reads_behind stack before kind (is_unnotable kind plain)

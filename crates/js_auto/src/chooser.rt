@@ -30,8 +30,8 @@ use std::marker::Model;
 pub struct GoalChooser {
     /// The braces that are open before the last token, in the order in which they were opened.
     stack: ItemList<Brace>,
-    /// The kind of the token before the last one.
-    before: Option<Kind>,
+    /// The kind of the token before the last one, and `Eof`, with which no operand ends, where there is none.
+    before: Kind,
     last: Option<Kind>,
     /// Whether the last token may change the braces, be read again, or be the end of the source. A step behind any
     /// other token looks at nothing else.
@@ -58,18 +58,15 @@ fn ends_only_jsx(kind: Kind) -> bool
     matches!(kind, Kind::RAngle | Kind::JSXText)
 }
 
-/// Whether an operand may end with the token, if there is one.
-fn ends_operand(before: Option<Kind>) -> bool
-    ensures { result ≡ ends_operand before }
+/// Whether an operand may end with a token of the kind.
+fn ends_operand(kind: Kind) -> bool
+    ensures { result ≡ ends_operand kind }
 {
-    match before {
-        Some(kind) => can_end_expression(kind) && !ends_only_jsx(kind),
-        None => false,
-    }
+    can_end_expression(kind) && !ends_only_jsx(kind)
 }
 
-/// Whether a token of the kind begins a regular expression behind the token before, if there is one.
-fn begins_expression(before: Option<Kind>, kind: Kind) -> bool
+/// Whether a token of the kind begins a regular expression behind one of the kind before.
+fn begins_expression(before: Kind, kind: Kind) -> bool
     ensures { result ≡ begins_expression before kind }
 {
     Goal::RegularExpression.reads_again(kind) && !ends_operand(before)
@@ -82,7 +79,7 @@ impl GoalChooser {
     {
         GoalChooser {
             stack: ItemList::new_in(alloc),
-            before: None,
+            before: Kind::Eof,
             last: None,
             is_last_notable: false,
         }
@@ -160,7 +157,7 @@ impl GoalChooser {
             self.pass_last()?;
         }
         let kind = token.kind();
-        self.before = self.last;
+        self.before = self.last.unwrap_or(Kind::Eof);
         self.last = Some(kind);
         self.is_last_notable = is_notable(kind);
         Ok(())

@@ -18,6 +18,8 @@ returns-clause-ok c =
       | else-self w ↦ w.self-is ∙ leaves_chooser old
           (sym (ap (λ (s : Chooser). is_notable s.last) c.self.view_is) ∙ sym c.self.invariant ∙ w.if-self.false)
     ]
-    in λ tokens told. told_on tokens c.args.token.now old
+    in λ tokens told.
+    rw c.unwrap_or-self-inside.ensures
+    (told_on tokens c.args.token.now old
     (record { stack = reverse now.stack; before = now.before; last = now.last }) c.kind-kind.result told
-    (c.self-2.view_is ∙ passed) c.kind-kind.ensures
+    (c.self-2.view_is ∙ passed) c.kind-kind.ensures)
