@@ -1,6 +1,6 @@
 -- What a chooser keeps of the tokens that it was told.
 use Rattle.std.proofs.Common.{◌≡◌, List, [], ◌∷◌, ◌++◌, refl, sym, ◌∙◌, ap, subst}
-use Rattle.std.proofs.Common.{Some, None, true, false, Bool, ◌&&◌, Option}
+use Rattle.std.proofs.Common.{Some, None, true, false, Bool, ◌&&◌}
 use Rattle.std.specs.Prelude.{IsSome, is_some, option_map, unwrap_or, if◌then◌else◌}
 use Rattle.std.specs.List.{last_or}
 use Rattle.js_text.specs.Lists.{with_last}

@@ -23,7 +23,6 @@ use Rattle.js_session.proofs.Unique.{report_unique, row_unique}
 use Rattle.js_auto.specs.Auto.{AreChosen, ReportOfChosen}
 use Rattle.js_auto.specs.Choice.{begins_expression, but_last, choice, choice_behind, ends_substitution}
 use Rattle.js_auto.specs.Choice.{kind_before}
-use Rattle.js_auto.specs.Choice.{last_kind}
 use Rattle.js_auto.specs.Braces.{braces, is_in_substitution}
 
 -- the last token, if there is one, is not the end of the source

@@ -78,7 +78,8 @@ no_effect kind is = rw (is.left_curly, is.head, is.right_curly, is.tail) refl
 -- Behind a last token that is not notable the braces are those before it.
 leaves_braces : (last : Option Kind) (stack : List Brace) → is_notable last ≡ false → open_behind last stack ≡ stack
 leaves_braces None stack plain = refl
-leaves_braces (Some kind) stack plain = ap (λ effect. after_effect effect stack) (no_effect kind (is_unnotable kind plain))
+leaves_braces (Some kind) stack plain = ap (λ effect. after_effect effect stack) (no_effect kind
+    (is_unnotable kind plain))
 
 -- Such a token changes nothing of what a chooser keeps of those before it.
 pub leaves_chooser : (c : Chooser) → is_notable c.last ≡ false → c ≡ record c { stack = open_behind c.last c.stack }

@@ -5,7 +5,8 @@ use Rattle.std.proofs.Common.{Option, Some, None, append_assoc}
 use Rattle.std.proofs.lemmas.Bool.{eqb-true}
 use Rattle.std.proofs.lemmas.List.{append_cancel_right}
 use Rattle.js_text.specs.Ascii.{carriage_return, backslash}
-use Rattle.js_grammar.specs.StringItems.{StringItem, StringItems, ordinary_item, escape, ends_string, string_item, no_item}
+use Rattle.js_grammar.specs.StringItems.{StringItem, StringItems, ordinary_item, escape, ends_string, string_item}
+use Rattle.js_grammar.specs.StringItems.{no_item}
 use Rattle.js_grammar.specs.StringItems.{items_before, items_up_to, string_text}
 use Rattle.js_grammar.specs.Template.{ends_part, carriage_return_item, template_item}
 use Rattle.js_grammar.proofs.Ahead.{BeginAlike, alike_behind}

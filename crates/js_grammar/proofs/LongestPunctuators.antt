@@ -1,6 +1,6 @@
 -- Each punctuator is the longest where what follows goes on with no other.
 use Rattle.std.proofs.Common.{◌≡◌, ℕ, ◌≤◌, Bool, true, false, not, ◌&&◌, ◌||◌, ◌==◌, nat_le, nat_lt, List}
-use Rattle.std.proofs.Common.{[], ◌∷◌, ◌++◌, length, drop, take, refl, sym, ◌∙◌, ap, subst, inl, inr, Option}
+use Rattle.std.proofs.Common.{[], ◌∷◌, ◌++◌, length, drop, refl, sym, ◌∙◌, subst, inl, inr, Option}
 use Rattle.std.proofs.Common.{Some, None, arith}
 use Rattle.std.specs.Prelude.{if◌then◌else◌, ◌⊎◌}
 use Rattle.std.specs.Char.{is_ascii_digit}
@@ -12,13 +12,10 @@ use Rattle.js_text.specs.Characters.{begins}
 use Rattle.js_text.specs.declared.source_type.SourceType.{SourceType}
 use Rattle.js_grammar.specs.Gap.{is_prefix}
 use Rattle.js_grammar.specs.Punctuators.{Punctuator, punctuators, IsIn, is_spelled, LongestPunctuator, NoPunctuator}
-use Rattle.js_grammar.specs.Punctuators.{unrestricted, before_no_digit, slash as slash_alone, left_angle, is_optional_dot}
+use Rattle.js_grammar.specs.Punctuators.{unrestricted, before_no_digit, left_angle, is_optional_dot}
 use Rattle.js_grammar.specs.Punctuators.{is_excluded, next_in, going_on, is_not_next}
 use Rattle.js_grammar.proofs.Tests.{and_true}
-use Rattle.js_kind.specs.Kinds.{kind_text}
-use Rattle.js_kind.specs.declared.kind.Kind.{Kind}
-use Rattle.js_kind.specs.declared.kind.Kind.TheVariants.{Dot, Dot3, Question, Question2, Question2Eq, QuestionDot}
-use Rattle.js_kind.specs.declared.kind.Kind.TheVariants.{Slash, SlashEq}
+use Rattle.js_kind.specs.declared.kind.Kind.TheVariants.{Dot, Question}
 
 -- the punctuator of the table with this text
 abbrev entry : List ℕ → List Punctuator → Option Punctuator

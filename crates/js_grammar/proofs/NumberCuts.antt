@@ -19,7 +19,8 @@ use Rattle.js_grammar.specs.Number.IsLegacyDecimal.{legacy as legacy_decimal_dig
 use Rattle.js_grammar.specs.NumberReads.{items_text, Items, no_items, items-cons, last_item, sign_of, exponent_items}
 use Rattle.js_grammar.specs.NumberReads.{exponent_or}
 use Rattle.js_grammar.specs.NumberReads.{fraction_items, point_items, behind_digits, suffix_or, decimal_items}
-use Rattle.js_grammar.specs.NumberReads.{is_no_digit, unseparated_digits, legacy_items, zero_items, base_at, number_items}
+use Rattle.js_grammar.specs.NumberReads.{is_no_digit, unseparated_digits, legacy_items, zero_items, base_at}
+use Rattle.js_grammar.specs.NumberReads.{number_items}
 use Rattle.js_grammar.proofs.NumberClasses.{EndsNumber, ends_number, point_stops, suffix_stops, exponent_stops}
 use Rattle.js_grammar.proofs.NumberClasses.{exponent_is_no_mark, is_exponent, digit_more}
 use Rattle.js_grammar.proofs.NumberSteps.{exponent_missing, fraction_there, fraction_missing, behind_digits_other}
@@ -98,7 +99,8 @@ exponent_cut without kind xs ys (exponent mark sign digits is run_is here kind_i
     rw (here, kind_is, is, signed, left, run_append 10 digits ys run_is (end.run 10 (omega arith))) cut
 
 -- what an exponent begins with
-pub exponent_begins : (xs ys : List ℕ) (kind : Kind) → IsExponent xs kind → begins is_exponent_indicator (xs ++ ys) ≡ true
+pub exponent_begins : (xs ys : List ℕ) (kind : Kind) → IsExponent xs kind
+    → begins is_exponent_indicator (xs ++ ys) ≡ true
 exponent_begins xs ys kind (exponent mark sign digits is run_is here kind_is) = rw here is
 
 mark_begins : (p : ℕ → Bool) (ys : List ℕ) → begins is_exponent_indicator ys ≡ true

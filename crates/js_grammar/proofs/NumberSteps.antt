@@ -8,7 +8,8 @@ use Rattle.js_kind.specs.Digits.{is_digit_of}
 use Rattle.js_grammar.specs.Number.{is_exponent_indicator, may_not_follow_number, latin_small_letter_n, digit_zero}
 use Rattle.js_grammar.specs.NumberReads.{Items, no_items, items-cons, last_item, sign_of, exponent_items, exponent_or}
 use Rattle.js_grammar.specs.NumberReads.{fraction_items, point_items, behind_digits, suffix_or, decimal_items}
-use Rattle.js_grammar.specs.NumberReads.{unseparated_digits, legacy_items, behind_prefix, zero_items, base_at, number_items}
+use Rattle.js_grammar.specs.NumberReads.{unseparated_digits, legacy_items, behind_prefix, zero_items, base_at}
+use Rattle.js_grammar.specs.NumberReads.{number_items}
 use Rattle.js_grammar.specs.NumberReads.{items_reading, well_ended, badly_ended}
 use Rattle.js_kind.specs.declared.kind.Kind.{Kind}
 use Rattle.js_kind.specs.declared.kind.Kind.TheVariants.{Eof, Decimal, Float, Octal}

@@ -18,7 +18,8 @@ use Rattle.js_grammar.specs.Number.IsNumber.{point_first, legacy_octal, legacy_d
 use Rattle.js_grammar.specs.Number.Sign.{no_sign, plus, minus}
 use Rattle.js_grammar.specs.NumberReads.{items_text, no_items, items-cons, point_items, behind_digits, suffix_or}
 use Rattle.js_grammar.specs.NumberReads.{decimal_items}
-use Rattle.js_grammar.specs.NumberReads.{is_no_digit, unseparated_digits, legacy_items, behind_prefix, zero_items, base_at}
+use Rattle.js_grammar.specs.NumberReads.{is_no_digit, unseparated_digits, legacy_items, behind_prefix, zero_items}
+use Rattle.js_grammar.specs.NumberReads.{base_at}
 use Rattle.js_grammar.specs.NumberReads.{number_items}
 use Rattle.js_grammar.proofs.NumberCuts.{lacks_some}
 use Rattle.js_grammar.proofs.NumberItems.{true_or_false, run_text, run_is, integer_text, integer_is}
@@ -135,7 +136,8 @@ octal_first (d ∷ ds) e o = (and_true (is_digit_of 8 d) (are_digits 8 ds) o).0
 
 -- `0` and digits
 legacy_zero : (cs : List ℕ)
-    → unseparated_digits (digit_zero ∷ cs) ≡ whole (digit_zero ∷ before_first is_no_digit cs) (from_first is_no_digit cs)
+    → unseparated_digits (digit_zero ∷ cs) ≡ whole (digit_zero ∷ before_first is_no_digit cs)
+    (from_first is_no_digit cs)
 unfolding unseparated_digits
 legacy_zero cs = rw zero_is_octal.0 refl
 

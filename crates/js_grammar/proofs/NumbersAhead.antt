@@ -15,7 +15,8 @@ use Rattle.js_grammar.specs.Number.{sign_text, sign_kind, are_digits, is_exponen
 use Rattle.js_grammar.specs.Number.{latin_small_letter_n, begins_number, may_not_follow_number}
 use Rattle.js_grammar.specs.NumberReads.{Items, no_items, items-cons, last_item, sign_of, exponent_items, exponent_or}
 use Rattle.js_grammar.specs.NumberReads.{fraction_items, point_items, behind_digits, suffix_or, decimal_items}
-use Rattle.js_grammar.specs.NumberReads.{is_no_digit, unseparated_digits, legacy_items, behind_prefix, zero_items, base_at}
+use Rattle.js_grammar.specs.NumberReads.{is_no_digit, unseparated_digits, legacy_items, behind_prefix, zero_items}
+use Rattle.js_grammar.specs.NumberReads.{base_at}
 use Rattle.js_grammar.specs.NumberReads.{number_items, items_text, missing_digit, missing_digits}
 use Rattle.js_grammar.specs.NumberReads.{items_reading, number_reading}
 use Rattle.js_grammar.proofs.Ahead.{BeginAlike}

@@ -211,7 +211,8 @@ terminated_part_value kind items reading is kind_is escaped value = record {
   units = λ e no. absurd (let both : true ≡ false = sym is ∙ ap is_template_kind (sym kind_is) ∙ no in cc);
   unescaped = λ e.
       value ∙ ap (λ b. quoted_value b (template_value items) kind (size_of reading)) (sym escaped ∙ e)
-      ∙ sym (quoted_unescaped_value kind 0 (size_of reading) (or_right (is_string_kind kind) (is_template_kind kind) is))
+      ∙ sym (quoted_unescaped_value kind 0 (size_of reading) (or_right (is_string_kind kind)
+      (is_template_kind kind) is))
       ∙ ap (λ k. unescaped_value k 0 (size_of reading)) (sym kind_is);
 }
   where

@@ -59,7 +59,8 @@ number_begins_alike x xs ys zs alike =
 nothing_local : (x : ℕ) (xs ys zs : List ℕ) → BeginAlike ys zs
     → IsSame ys zs (nothing_reading (x ∷ (xs ++ ys))) (nothing_reading (x ∷ (xs ++ zs)))
 nothing_local x xs ys zs alike =
-    either_agrees ys zs (x == 0xFFFD) _ _ _ _ _ refl (λ _ left. nothing_left ys zs alike left) (λ _ left. character left)
+    either_agrees ys zs (x == 0xFFFD) _ _ _ _ _ refl (λ _ left. nothing_left ys zs alike left)
+    (λ _ left. character left)
   where
     character : xs ++ ys ≡ ys
         → invalid_character x (xs ++ zs) ≡ record (invalid_character x (xs ++ ys)) { rest = zs }
@@ -91,7 +92,8 @@ reading_local t line_has_ended x xs ys zs alike agree =
     (λ _. either_agrees ys zs (x == number_sign) _ _ _ _ _ refl (λ is. private_here x xs ys zs alike is)
     (λ _. either_agrees ys zs (begins_number (x ∷ (xs ++ ys))) _ _ _ _ _ (number_begins_alike x xs ys zs alike)
     (λ _. number_local (x ∷ xs) ys zs alike)
-    (λ _. either_agrees ys zs (begins begins_quoted (x ∷ (xs ++ ys))) _ _ _ _ _ refl (λ _. quoted_local x xs ys zs alike)
+    (λ _. either_agrees ys zs (begins begins_quoted (x ∷ (xs ++ ys))) _ _ _ _ _ refl
+    (λ _. quoted_local x xs ys zs alike)
     (λ _ left.
     ap (λ found. punctuator_or_nothing found (x ∷ (xs ++ zs)))
     (sym (punctuator_agrees t line_has_ended (x ∷ (xs ++ ys)) (x ∷ (xs ++ zs))

@@ -9,7 +9,8 @@ use Rattle.std.proofs.lemmas.Bool.{eqb-true}
 use Rattle.js_text.specs.Ascii.{line_feed, carriage_return, backslash, grave_accent}
 use Rattle.js_text.specs.Characters.{begins}
 use Rattle.js_grammar.specs.Reading.{Reading, place_behind}
-use Rattle.js_grammar.specs.StringItems.{Fault, StringItem, StringItems, ordinary_item, escape, ends_string, string_item}
+use Rattle.js_grammar.specs.StringItems.{Fault, StringItem, StringItems, ordinary_item, escape, ends_string}
+use Rattle.js_grammar.specs.StringItems.{string_item}
 use Rattle.js_grammar.specs.StringItems.{no_item, items_before, items_up_to, all_items, string_text, string_units}
 use Rattle.js_grammar.specs.StringItems.{are_good, contains_bad_escape, fault_reports, item_reports}
 use Rattle.js_grammar.specs.StringItems.{is_good, is_bad_escape, string_of_items, terminated_string}

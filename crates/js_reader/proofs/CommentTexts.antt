@@ -26,7 +26,8 @@ pub record IsLineMark (kind : CommentKind) : Type 0 where
   pub characters : length (opening_sequence kind) ≡ opening_length kind
   pub unclosed : closing_length kind ≡ 0
   pub before : (cs : List ℕ)
-      → before_first is_line_terminator (opening_sequence kind ++ cs) ≡ opening_sequence kind ++ before_first is_line_terminator cs
+      → before_first is_line_terminator (opening_sequence kind ++ cs)
+      ≡ opening_sequence kind ++ before_first is_line_terminator cs
   pub from : (cs : List ℕ)
       → from_first is_line_terminator (opening_sequence kind ++ cs) ≡ from_first is_line_terminator cs
 

@@ -47,7 +47,7 @@ use Rattle.js_grammar.proofs.Reported.{piece_texts, whole_gap_piece_text, place_
 use Rattle.js_trivia.specs.Pieces.{HaveBytes, end_of}
 use Rattle.js_spell.specs.Sequences.{TakesSequence}
 use Rattle.js_reader.specs.Reader.{lexeme_of, StaysWithin, SkipsWholeGap, ReadsLexeme, ReadsBehind, IsHashbangRead}
-use Rattle.js_reader.specs.Reader.{ReadsTokenHere, lexeme_token, ReadsWithGap, ReadsWithoutGap, AddsGap, NothingHere}
+use Rattle.js_reader.specs.Reader.{ReadsTokenHere, lexeme_token, ReadsWithGap, AddsGap, NothingHere}
 use Rattle.js_reader.specs.Reader.{MovesOn, IsUnmoved, ReadsInPart}
 use Rattle.js_reader.specs.Reader.{simple_lexeme}
 use Rattle.js_reader.specs.Spellings.{SpellsLongest}

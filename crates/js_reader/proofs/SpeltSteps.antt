@@ -203,7 +203,8 @@ unchanged false start old new e = e
 
 -- the value of a token as it stands in the source
 unescaped_is_unescaped : (kind : Kind) (size : ℕ) → spelt_value (unescaped_value kind 0 size) ≡ Unescaped
-unescaped_is_unescaped kind size = by_choice (λ v. spelt_value v ≡ Unescaped) (is_valued kind) _ _ (λ _. refl) (λ _. refl)
+unescaped_is_unescaped kind size = by_choice (λ v. spelt_value v ≡ Unescaped) (is_valued kind) _ _ (λ _. refl)
+    (λ _. refl)
 
 part_held : (start : ℕ) (o : Option (List ℕ)) (old new : Values)
     → KeepsPart start (spelt_value (template_row_value o)) old new → HoldsTemplate start o old new

@@ -25,13 +25,13 @@ ghost use Rattle.js_reader.specs.Tables.{is_name_start};
 use crate::decoded::DecodedValues;
 use crate::findings_builder::FindingsBuilder;
 use crate::lexeme::Lexeme;
-use crate::simple::read_simple_spelling;
 use crate::reader::Reader;
+use crate::simple::read_simple_spelling;
 use js_grammar::Goal;
 use js_kind::{Kind, Token};
 use js_spell::{
-    Spelt, SpeltValue, advance_if_sequence, read_name, read_number, read_private_name, read_punctuator,
-    read_string, read_template_part, recover, skip_line,
+    Spelt, SpeltValue, advance_if_sequence, read_name, read_number, read_private_name,
+    read_punctuator, read_string, read_template_part, recover, skip_line,
 };
 use js_text::{DiagnosticList, Span, is_identifier_start};
 use std::alloc::AllocError;

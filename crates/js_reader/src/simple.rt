@@ -20,8 +20,8 @@ use crate::tables::ByteTables;
 use js_kind::Kind;
 use js_source::Source;
 use js_spell::{
-    read_unescaped_name_by, read_unseparated_number, read_unescaped_part, read_unescaped_private_name,
-    read_unescaped_string, read_punctuator,
+    read_punctuator, read_unescaped_name_by, read_unescaped_part, read_unescaped_private_name,
+    read_unescaped_string, read_unseparated_number,
 };
 
 /// Whether the byte `b`, which is next, is a `<` or a `-` that begins no comment.

@@ -74,7 +74,8 @@ pub line_terminator_matches : (table : List Bool) → matches_at table 10 ≡ tr
 unfolding is_line_terminator encode_utf8
 line_terminator_matches table lf cr sep c e =
     either_way ((c == 10) || (c == 13)) ((c == 0x2028) || (c == 0x2029)) _ e
-    (λ ascii. either_way (c == 10) (c == 13) _ ascii (λ t. at 10 (eqb-true c 10 t) lf) (λ t. at 13 (eqb-true c 13 t) cr))
+    (λ ascii. either_way (c == 10) (c == 13) _ ascii (λ t. at 10 (eqb-true c 10 t) lf) (λ t. at 13
+    (eqb-true c 13 t) cr))
     (λ wide. either_way (c == 0x2028) (c == 0x2029) _ wide (λ t. at 0x2028 (eqb-true c 0x2028 t) sep)
     (λ t. at 0x2029 (eqb-true c 0x2029 t) sep))
   where

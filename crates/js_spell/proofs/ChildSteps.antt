@@ -1,20 +1,20 @@
 -- The text of a child, as it is passed.
-use Rattle.std.proofs.Common.{◌≡◌, ℕ, ◌+◌, ◌≤◌, Bool, true, false, ◌||◌, ◌==◌, List, [], ◌∷◌, ◌++◌, refl, sym, ◌∙◌, ap}
-use Rattle.std.proofs.Common.{subst, arith, Option, Some, None, inl, inr, append-nil, append_assoc, add-zero}
-use Rattle.std.specs.Prelude.{if◌then◌else◌, IfNone, IfSome}
+use Rattle.std.proofs.Common.{◌≡◌, ℕ, ◌+◌, Bool, true, false, ◌||◌, ◌==◌, List, [], ◌∷◌, ◌++◌, refl, sym, ◌∙◌, ap}
+use Rattle.std.proofs.Common.{Option, Some, None, inl, inr, append-nil, append_assoc, add-zero}
+use Rattle.std.specs.Prelude.{IfNone, IfSome}
 use Rattle.std.specs.Char.{encode_utf8}
 use Rattle.js_text.specs.Ascii.{greater_than_sign}
 use Rattle.js_text.specs.Characters.{begins, from_first}
 use Rattle.js_text.specs.declared.span.Span.{Span}
 use Rattle.js_text.proofs.TextLemmas.{from_first-cons, from_first-found}
 use Rattle.js_grammar.specs.Jsx.{angle_at, angles_among, begins_child, ends_jsx_text, jsx_text_before, jsx_text_reading}
-use Rattle.js_grammar.specs.Reading.{Reading, before_rest, place_behind, read_up_to}
+use Rattle.js_grammar.specs.Reading.{Reading, before_rest, place_behind}
 use Rattle.js_grammar.specs.StringItems.{stretch}
 use Rattle.js_grammar.proofs.GoalReadings.{leaves_from_first}
 use Rattle.js_grammar.proofs.NumberItems.{true_or_false}
 use Rattle.js_grammar.proofs.ReadingLemmas.{by_choice, taken_is}
 use Rattle.js_grammar.proofs.Reported.{place_behind-append}
-use Rattle.js_source.specs.Source.{At, rest, BeginsWith, IsPlaced, Reads}
+use Rattle.js_source.specs.Source.{At, rest, IsPlaced, Reads}
 use Rattle.js_source.proofs.Places.{begins_with}
 use Rattle.js_spell.specs.Goals.{IsAtChildEnd, PassesChild, StopsAt, WarnsInPart, ends_of, text_warnings}
 use Rattle.js_spell.specs.declared.jsx.Text.TheVariants.{Child}

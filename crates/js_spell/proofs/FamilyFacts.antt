@@ -1,5 +1,5 @@
 -- The longest punctuator of a family, by the table of all punctuators.
-use Rattle.std.proofs.Common.{◌≡◌, ◌⊎◌, ◌==◌, ◌&&◌, ◌||◌, not, ℕ, Bool, true, false, List, [], ◌∷◌, ◌++◌, refl, sym}
+use Rattle.std.proofs.Common.{◌≡◌, ◌==◌, ◌&&◌, ℕ, Bool, true, false, List, [], ◌∷◌, ◌++◌, refl, sym}
 use Rattle.std.proofs.Common.{◌∙◌, ap, subst, inl, inr, Option, Some, None, append_assoc}
 use Rattle.std.specs.List.{list_all, list_any}
 use Rattle.std.specs.Prelude.{codes, unwrap_or}
@@ -9,12 +9,11 @@ use Rattle.std.proofs.lemmas.List.Folds.{list_all-append}
 use Rattle.std.proofs.lemmas.Slice.Eq.{bytes_eq-Decides}
 use Rattle.js_text.specs.Ascii.{equals_sign, greater_than_sign}
 use Rattle.js_text.specs.Characters.{begins}
-use Rattle.js_text.specs.SourceType.{is_module}
 use Rattle.js_text.specs.declared.source_type.SourceType.{SourceType}
 use Rattle.js_kind.specs.Kinds.{number}
 use Rattle.js_kind.specs.declared.kind.Kind.{Kind}
 use Rattle.js_kind.proofs.KindNumbers.{number_injective}
-use Rattle.js_grammar.specs.Gap.{is_prefix, is_reported}
+use Rattle.js_grammar.specs.Gap.{is_reported}
 use Rattle.js_grammar.specs.Punctuators.{Punctuator, punctuators, IsIn, Exclusion, excludes, excludes_nothing}
 use Rattle.js_grammar.specs.Punctuators.{excludes_digits, excludes_asterisk, excludes_reported_comment, going_on}
 use Rattle.js_grammar.specs.Punctuators.{is_not_next, LongestPunctuator}

@@ -58,7 +58,8 @@ module _ (octal : List Bool) (old mid : At) (tells : TellsClass (is_digit_of 8) 
     here = first_here;
     item =
         ap unseparated_digits first_here
-        ∙ unseparated_digits_append run.run (rest mid) (octal_digits run.run (run_digits 8 octal run.run tells run.all)) none;
+        ∙ unseparated_digits_append run.run (rest mid) (octal_digits run.run
+        (run_digits 8 octal run.run tells run.all)) none;
     octal = run_digits 8 octal run.run tells run.all;
     separator = no_separator 8 octal run.run (omega arith) tells run.all;
   }

@@ -379,7 +379,8 @@ items_spelled old new before after was now spelt items text read reports kind va
     })
 
 -- a name without escapes
-pub unescaped_spelled : (old new : At) (errors : List Diagnostic) (was now : TokenParts) (to : Position) (plain : List ℕ)
+pub unescaped_spelled : (old new : At) (errors : List Diagnostic) (was now : TokenParts) (to : Position)
+    (plain : List ℕ)
     (spelt : Spelt)
     → PassesUnescaped old to new → begins (λ c. c == backslash) (rest new) ≡ false
     → ((xs : List ℕ) → from_place new.text old.place ≡ xs ++ rest new → plain ≡ encode_utf8_all xs)

@@ -210,7 +210,8 @@ stops_at literal table b text tells low first stop =
 pub nothing_ordinary : (literal : Literal) (text : List ℕ) → text ≡ [] → ordinary_here literal text ≡ false
 nothing_ordinary literal text e = ap (ordinary_here literal) e
 
-pub stop_not_ordinary : (literal : Literal) (b : ℕ) (text : List ℕ) → StopsAt literal b text → (b == dollar_sign) ≡ false
+pub stop_not_ordinary : (literal : Literal) (b : ℕ) (text : List ℕ) → StopsAt literal b text
+    → (b == dollar_sign) ≡ false
     → ordinary_here literal text ≡ false
 stop_not_ordinary literal b text stop other = rw (stop.here, stop.stops_there, other) refl
 

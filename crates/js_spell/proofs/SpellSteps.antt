@@ -501,7 +501,8 @@ unescaped_string quote b old mid here new errors token literal h g string is tak
     let none : escape_here literal (rest here) ≡ false =
     ap (escape_here literal) (end.here ∙ ap (λ q. q ∷ rest new) (sym is)) ∙ quote_is_no_escape literal (rest new) in
     string_closed old.place old mid here new errors errors errors token
-    (record token { escaped = false; has_separator = false }) (record { kind = Str; value = Unescaped }) literal Unescaped quote
+    (record token { escaped = false; has_separator = false })
+    (record { kind = Str; value = Unescaped }) literal Unescaped quote
     h g refl (record { string = string; read = subst (λ q. Reads old mid q) (sym is) taken })
     (plain_value_read literal old.place mid here errors passes all none) (sym is) (end, refl) refl refl
 
@@ -546,6 +547,7 @@ plain_substitution substitute tail opening start found old here new errors token
     let first = begins_mark (rest here) begun in
     let left = two_left found here new begun none some in
     part_substituted substitute tail opening start old here new errors errors errors token
-    (record token { escaped = false; has_separator = false }) (record { kind = substitute; value = Unescaped }) Unescaped at
+    (record token { escaped = false; has_separator = false })
+    (record { kind = substitute; value = Unescaped }) Unescaped at
     (plain_value_read Template start old here errors passes all first.1)
     (first.0, begun, left.0, left.1, refl) refl refl

@@ -1,5 +1,5 @@
 -- What the reader does that reads on where nothing is spelled.
-use Rattle.std.specs.Prelude.{◌≡◌, ℕ, ◌≤◌, ◌||◌, Bool, Some}
+use Rattle.std.specs.Prelude.{◌≡◌, ◌≤◌, ◌||◌, Bool, Some}
 use Rattle.js_text.specs.declared.diagnostic.Diagnostic.{Diagnostic}
 use Rattle.js_grammar.specs.Reading.{moved_diagnostic}
 use Rattle.js_grammar.specs.Recovery.{faulty, recovered}

@@ -1,6 +1,6 @@
 //! The insides of comments, searched byte by byte (ECMA-262 12.4).
 
-ghost use Rattle.std.specs.Prelude.{◌≡◌, ◌≤◌, ◌||◌, false, [], ◌∷◌, IfNone, IfSome, MatchBool, codes};
+ghost use Rattle.std.specs.Prelude.{◌≡◌, ◌≤◌, false, [], ◌∷◌, IfNone, IfSome, MatchBool, codes};
 ghost use Rattle.js_text.specs.Ascii.{asterisk, slash};
 ghost use Rattle.js_text.specs.Characters.{from_first, is_line_terminator};
 ghost use Rattle.js_grammar.specs.Gap.{is_prefix, cut_behind};

@@ -30,5 +30,6 @@ pub returns-in_err-spelt-clause-err : goal.returns-in_err-spelt-clause-err
 returns-in_err-spelt-clause-err c =
     on_err c.from_residual.result _
     (name_broken c.args.source.now c.pass_unescaped-position.new.source c.read_escaped_name.new.source c.args.errors.now
-    c.read_escaped_name.new.errors c.pass_unescaped-position.result c.requires.placed c.pass_unescaped-position.ensures.placed
+    c.read_escaped_name.new.errors c.pass_unescaped-position.result c.requires.placed
+    c.pass_unescaped-position.ensures.placed
     c.pass_unescaped-position.ensures.passes c.in_err-spelt.ensures.err)

@@ -10,7 +10,8 @@ returns-then-advance_if_ascii_eq-2-clause-longest c = λ t line_has_ended.
     let first = behind 63 c.args.source.now c.next_char.new.self c.requires c.next_char.ensures.past in
     let second = c.if-advance_if_ascii_eq.ensures.cases in
     let third = c.if-advance_if_ascii_eq-2.ensures.cases in
-    rw (first.1, second.here, third.here) (longest t line_has_ended (unrestricted Question2Eq) _ (listed refl) refl refl)
+    rw (first.1, second.here, third.here) (longest t line_has_ended (unrestricted Question2Eq) _
+    (listed refl) refl refl)
 
 pub returns-else-advance_if_ascii_eq-2-clause-longest : goal.returns-else-advance_if_ascii_eq-2-clause-longest
 returns-else-advance_if_ascii_eq-2-clause-longest c = λ t line_has_ended.

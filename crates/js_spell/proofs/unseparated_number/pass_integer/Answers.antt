@@ -1,6 +1,7 @@
 use Rattle.std.proofs.Common.{false}
 use Rattle.js_spell.proofs.NumericSteps.{zero_read}
-use Rattle.js_spell.proofs.UnseparatedNumbers.{zero_passed, zero_items_are, other_items_are, integer_passed, digit_passed}
+use Rattle.js_spell.proofs.UnseparatedNumbers.{zero_passed, zero_items_are, other_items_are, integer_passed}
+use Rattle.js_spell.proofs.UnseparatedNumbers.{digit_passed}
 use Rattle.js_spell.proofs.unseparated_number.pass_integer.Goals as goal
 
 pub returns-then-b-eq48-clause-reads : goal.returns-then-b-eq48-clause-reads

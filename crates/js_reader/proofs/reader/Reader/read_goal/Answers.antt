@@ -3,12 +3,12 @@ use Rattle.js_grammar.specs.Hashbang.{begins_hashbang}
 use Rattle.js_grammar.specs.Reads.{is_plain}
 use Rattle.js_grammar.specs.declared.goal.Goal.{Goal}
 use Rattle.js_grammar.specs.declared.goal.Goal.TheVariants.{JsxChild}
-use Rattle.std.proofs.lemmas.Result.{IfOk-weaker, on_err_weaker}
+use Rattle.std.proofs.lemmas.Result.{IfOk-weaker}
 use Rattle.js_reader.proofs.GoalSteps.{child_unescaped}
 use Rattle.js_reader.proofs.DecodedSteps.{keeps_same, no_value}
 use Rattle.js_reader.specs.Reader.{ReadsWithGap}
 use Rattle.js_reader.proofs.ReadingSteps.{goal_hashbang, goal_answers, some_token_before}
-use Rattle.js_reader.proofs.TriviaSteps.{either_way, extends_none, grows_none, grows_reports}
+use Rattle.js_reader.proofs.TriviaSteps.{grows_none}
 use Rattle.js_reader.proofs.reader.Reader.read_goal.Goals as goal
 use Rattle.js_grammar.specs.Goals.{line_has_ended_behind}
 use Rattle.js_kind.specs.TokenParts.{TokenParts}
