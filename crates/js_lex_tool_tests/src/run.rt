@@ -1,7 +1,9 @@
 //! Whole runs, over inputs and outputs in memory.
 
 use js_lex_tool::status::{DONE, NO_MARK, NOT_UTF8, READ_FAILED, USAGE, WRITE_FAILED};
-use js_lex_tool::{MemoryIn, MemoryOut, SureIn, SureOut, lex_tool_run, lex_tool_run_sure};
+use js_lex_tool::{
+    MemoryIn, MemoryOut, SureIn, SureOut, generated, lex_tool_run, lex_tool_run_sure,
+};
 use std::alloc::{AllocError, Global};
 use std::test::Fail;
 
@@ -38,8 +40,27 @@ const CHOICE: &str = concat!(
     "token Eof 6..6 -\n",
 );
 
-/// Words, a source, and the text that is written.
-static TEXTS: [(&str, &str, &str); 35] = [
+/// What is written of one generated line.
+const SUMMARY: &str = "gen 1 bytes 21 rows 8 tokens 8 comments 1 diagnostics 0\n";
+
+/// Words, a source, and the text that is written. Generated lines are lexed whatever the source is.
+static TEXTS: [(&str, &str, &str); 39] = [
+    ("gen 1", "", SUMMARY),
+    (
+        "gen 10",
+        "`a",
+        "gen 10 bytes 213 rows 71 tokens 71 comments 10 diagnostics 0\n",
+    ),
+    (
+        "gen 1000",
+        "",
+        "gen 1000 bytes 26679 rows 7001 tokens 7001 comments 1000 diagnostics 0\n",
+    ),
+    (
+        "gen 20000",
+        "",
+        "gen 20000 bytes 626682 rows 140001 tokens 140001 comments 20000 diagnostics 0\n",
+    ),
     ("module no-tokens next*5", "a?.1:b", CHOICE),
     (
         "module no-tokens",
@@ -522,7 +543,14 @@ fn a_whole_file(rt: HostRuntime) -> Result<(), Fail> {
 }
 
 /// Words, a source, and the status that comes of them.
-static REFUSALS: [(&str, &[u8], u8); 23] = [
+static REFUSALS: [(&str, &[u8], u8); 30] = [
+    ("gen", b"a", USAGE),
+    ("gen 0", b"a", USAGE),
+    ("gen 01", b"a", USAGE),
+    ("gen 20001", b"a", USAGE),
+    ("gen 1*2", b"a", USAGE),
+    ("gen 1 1", b"a", USAGE),
+    ("gen no-tokens all", b"a", USAGE),
     ("module", b"a", USAGE),
     ("tokens module", b"a", USAGE),
     ("module no-tokens nxt", b"a", USAGE),
@@ -567,7 +595,9 @@ fn commands_run(alloc: Global, words: &str, source: &[u8]) -> Result<Option<usiz
 }
 
 /// Words, a source, and how many commands these mean for it.
-static COUNTS: [(&str, &[u8], usize); 6] = [
+static COUNTS: [(&str, &[u8], usize); 8] = [
+    ("gen 1", b"", 7),
+    ("gen 10", b"\xff", 70),
     ("module no-tokens all", b"", 0),
     ("module no-tokens all", b"a b", 2),
     ("module no-tokens all", b"a?.1:b", 5),
@@ -595,11 +625,19 @@ struct Ends {
     faults: (u64, u64),
 }
 
+/// The words of a run that writes `CHOICE`.
+const CHOICE_WORDS: &str = "module no-tokens next*5";
+
 /// A run over six bytes, of which some reads, writes and flushes fail.
-fn run_failing(alloc: Global, reads: &[u64], writes: &[u64]) -> Result<Ends, AllocError> {
+fn run_failing(
+    alloc: Global,
+    words: &str,
+    reads: &[u64],
+    writes: &[u64],
+) -> Result<Ends, AllocError> {
     let mut input = MemoryIn::new(b"a?.1:b", 2, reads);
     let mut output = MemoryOut::new(alloc, 10, writes);
-    let words = strings_of(alloc, "module no-tokens next*5")?;
+    let words = strings_of(alloc, words)?;
     let outcome = lex_tool_run(alloc, &words, &mut input, &mut output);
     Ok(Ends {
         status: outcome.status,
@@ -609,12 +647,12 @@ fn run_failing(alloc: Global, reads: &[u64], writes: &[u64]) -> Result<Ends, All
     })
 }
 
-/// What a run comes to none of whose calls fails.
-fn whole() -> Ends {
+/// What a run comes to that writes a text, and none of whose calls fails.
+fn whole(text: &str) -> Ends {
     Ends {
         status: DONE,
-        written: CHOICE.len(),
-        flushed: CHOICE.len(),
+        written: text.len(),
+        flushed: text.len(),
         faults: (0, 0),
     }
 }
@@ -629,8 +667,8 @@ fn reads_that_fail(rt: HostRuntime) -> Result<(), Fail> {
         faults: (1, 0),
     };
     for call in 0..5 {
-        let ends = run_failing(rt.alloc(), &[call], &[])?;
-        let wanted = if call < 4 { failed } else { whole() };
+        let ends = run_failing(rt.alloc(), CHOICE_WORDS, &[call], &[])?;
+        let wanted = if call < 4 { failed } else { whole(CHOICE) };
         assert_eq!(rt; ends, wanted, "at call {call}");
     }
     Ok(())
@@ -641,15 +679,42 @@ fn reads_that_fail(rt: HostRuntime) -> Result<(), Fail> {
 fn writes_that_fail(rt: HostRuntime) -> Result<(), Fail> {
     let writes = CHOICE.len().div_ceil(10) as u64;
     for call in 0..writes + 2 {
-        let ends = run_failing(rt.alloc(), &[], &[call])?;
+        let ends = run_failing(rt.alloc(), CHOICE_WORDS, &[], &[call])?;
         let failed = Ends {
             status: WRITE_FAILED,
             written: CHOICE.len().min(10 * call as usize),
             flushed: 0,
             faults: (0, 1),
         };
-        let wanted = if call <= writes { failed } else { whole() };
+        let wanted = if call <= writes {
+            failed
+        } else {
+            whole(CHOICE)
+        };
         assert_eq!(rt; ends, wanted, "at call {call}");
     }
+    Ok(())
+}
+
+// With generated lines no read is made, so none can fail.
+#[test]
+fn generated_lines_read_nothing(rt: HostRuntime) -> Result<(), Fail> {
+    let ends = run_failing(rt.alloc(), "gen 1", &[0], &[])?;
+    assert_eq!(rt; ends, whole(SUMMARY));
+    let failed = Ends {
+        status: WRITE_FAILED,
+        written: 10,
+        flushed: 0,
+        faults: (0, 1),
+    };
+    let ends = run_failing(rt.alloc(), "gen 1", &[], &[1])?;
+    assert_eq!(rt; ends, failed);
+    Ok(())
+}
+
+#[test]
+fn lines_are_generated(rt: HostRuntime) -> Result<(), Fail> {
+    let wanted = "let a1 = 1 * 2; // 1\nlet a2 = 2 * 2; // 2\n";
+    assert_eq!(rt; generated(rt.alloc(), 2)?.as_str(), wanted);
     Ok(())
 }
