@@ -44,14 +44,16 @@ refusal line bytes text_of output n is utf8 marks = record {
 }
 
 -- A fault's status is the one that its bytes and commands call for.
-pub answers_at_fault : (line : CommandLine) (bytes : List ℕ) (text_of : Report → List ℕ) (output : OutputState) (fault : LexFault)
-    → length bytes ≤ most_bytes → Cause bytes (listed_commands line.commands) fault
+pub answers_at_fault : (line : CommandLine) (bytes : List ℕ) (text_of : Report → List ℕ) (output : OutputState)
+    (fault : LexFault) → length bytes ≤ most_bytes → Cause bytes (listed_commands line.commands) fault
     → Answers line bytes text_of output output (without_run (number (status_of fault)))
 answers_at_fault line bytes text_of output Overlong few cause = absurd (omega (arith, few, cause))
-answers_at_fault line bytes text_of output (NotUtf8Fault at) few cause = refusal line bytes text_of output 6 (inr (inl refl))
+answers_at_fault line bytes text_of output (NotUtf8Fault at) few cause =
+    refusal line bytes text_of output 6 (inr (inl refl))
     (record { fails = λ _. cause.1; passes = λ h. absurd (omega (arith, h)) })
     (record { fails = λ e. absurd (omega (arith, e)); passes = λ h. absurd (omega (arith, h)) })
-answers_at_fault line bytes text_of output (NoMarkFault index) few cause = refusal line bytes text_of output 7 (inr (inr (inl refl)))
+answers_at_fault line bytes text_of output (NoMarkFault index) few cause =
+    refusal line bytes text_of output 7 (inr (inr (inl refl)))
     (record { fails = λ e. absurd (omega (arith, e)); passes = λ _. cause.0.utf8 })
     (record { fails = λ _. without_mark line index cause.1; passes = λ h. absurd (omega (arith, h)) })
 answers_at_fault line bytes text_of output Memory few cause = absurd cause
@@ -64,11 +66,13 @@ answers_at_memory line bytes text_of output = refusal line bytes text_of output 
     (record { fails = λ e. absurd (omega (arith, e)); passes = λ h. absurd (omega (arith, h)) })
 
 -- What a session's fault comes to.
-pub answers_at_refusal : (line : CommandLine) (bytes : List ℕ) (text_of : Report → List ℕ) (output : OutputState) (fault : LexFault)
-    → length bytes ≤ most_bytes → (fault ≡ Memory) ⊎ Cause bytes (listed_commands line.commands) fault
+pub answers_at_refusal : (line : CommandLine) (bytes : List ℕ) (text_of : Report → List ℕ) (output : OutputState)
+    (fault : LexFault) → length bytes ≤ most_bytes
+    → (fault ≡ Memory) ⊎ Cause bytes (listed_commands line.commands) fault
     → Answers line bytes text_of output output (without_run (number (status_of fault)))
 answers_at_refusal line bytes text_of output fault few (inl e) = rw e (answers_at_memory line bytes text_of output)
-answers_at_refusal line bytes text_of output fault few (inr cause) = answers_at_fault line bytes text_of output fault few cause
+answers_at_refusal line bytes text_of output fault few (inr cause) =
+    answers_at_fault line bytes text_of output fault few cause
 
 -- the report of what ran is one over the bytes
 report_over : (line : CommandLine) (bytes : List ℕ) (ran : Ran) → IsRunOver line bytes ran
@@ -81,7 +85,8 @@ report_over line bytes ran over = (
 
 -- A run that has its report has passed both tests, or is out of memory.
 pub answers_at_report : (line : CommandLine) (bytes : List ℕ) (text_of : Report → List ℕ) (ran : Ran)
-    (old new : OutputState) (outcome : ToolOutcome) → IsReadable bytes → HasMarks (listed_commands line.commands) → IsRunOver line bytes ran
+    (old new : OutputState) (outcome : ToolOutcome) → IsReadable bytes → HasMarks (listed_commands line.commands)
+    → IsRunOver line bytes ran
     → (outcome ≡ without_run 1) ⊎ (HasPassed NoMark outcome.status × (outcome.ran ≡ Some ran))
     → Writes (text_of ran.report) old new outcome.status
     → CountsFault WriteFailed outcome.status old.faults new.faults → InTime old.course new.course

@@ -152,8 +152,8 @@ pub record CanRunLine (line : CommandLine) (left : Option (List ℕ)) : Type 0 w
   pub few : length bytes ≤ most_bytes
   pub utf8 : IsUtf8 bytes
 
--- A run can only be done, or out of memory, if neither the input nor the output fails: the words ask for lines, whatever
--- the input is, or for a command line that can be run.
+-- A run can only be done, or out of memory, if neither the input nor the output fails: the words ask for generated
+-- lines, whatever the input is, or for a command line that can be run.
 abbrev pub CanRun : Option Task → Option (List ℕ) → Type 0
 CanRun None left = ⊥
 CanRun (Some (Lex line)) left = CanRunLine line left

@@ -317,7 +317,8 @@ fn run_task<I: ByteIn, O: ByteOut>(
     output: &mut O,
 ) -> ToolOutcome
     requires { IsAllowed task }
-    ensures run { RunsTask task (I.state input.old) (I.state input.new) (O.state output.old) (O.state output.new) result }
+    ensures run { RunsTask task
+        (I.state input.old) (I.state input.new) (O.state output.old) (O.state output.new) result }
     ensures unread { (lines : ℕ) → task ≡ Task.Generate lines → input.new ≡ input.old }
 {
     match task {
@@ -326,8 +327,8 @@ fn run_task<I: ByteIn, O: ByteOut>(
     }
 }
 
-/// Runs the program: reads what the words ask for. With a command line it then reads the input to its end, and writes the
-/// report of a session over it; with generated lines it reads nothing, and writes the summary of one over these.
+/// Runs the program: finds what the words ask for. With a command line it then reads the input to its end, and writes
+/// the report of a session over it; with generated lines it reads nothing, and writes the summary of one over these.
 pub fn lex_tool_run<I: ByteIn, O: ByteOut>(
     alloc: Global,
     words: &Vec<String>,

@@ -4,4 +4,5 @@ use Rattle.js_lex_tool.proofs.tool.lex_tool_run_sure.Goals as goal
 
 pub returns-clause-never : goal.returns-clause-never
 returns-clause-never c =
-    never_fails _ _ _ _ _ c.lex_tool_run.result c.lex_tool_run.ensures.run (λ h. omega (arith, h)) (λ h. omega (arith, h))
+    let run = c.lex_tool_run in
+    never_fails _ _ _ _ _ run.result run.ensures.run (λ h. omega (arith, h)) (λ h. omega (arith, h))
