@@ -1,7 +1,8 @@
 //! Characters and UTF-16 units, as a report prints them.
 
 ghost use Rattle.std.specs.Prelude.{◌≡◌, ◌<◌, ◌++◌, true, false, OnOk, codes, string_bytes};
-ghost use Rattle.js_lex_tool.specs.Units.{is_printed_as_itself, four_digits, unit_text, units_text, text_in_units, number_text};
+ghost use Rattle.js_lex_tool.specs.Units.{is_printed_as_itself, four_digits, unit_text, units_text, text_in_units};
+ghost use Rattle.js_lex_tool.specs.Units.{number_text};
 ghost use Rattle.js_lex_tool.specs.Units.{all_units_text};
 
 use std::alloc::AllocError;
