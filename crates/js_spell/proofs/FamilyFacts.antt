@@ -18,10 +18,9 @@ use Rattle.js_grammar.specs.Punctuators.{Punctuator, punctuators, IsIn, Exclusio
 use Rattle.js_grammar.specs.Punctuators.{excludes_digits, excludes_asterisk, excludes_reported_comment, going_on}
 use Rattle.js_grammar.specs.Punctuators.{is_not_next, LongestPunctuator}
 use Rattle.js_grammar.proofs.LongestPunctuators.{longest}
-use Rattle.js_source.specs.Source.{At, rest}
+use Rattle.js_source.specs.Source.{At, Reads, rest}
 use Rattle.js_spell.specs.Families.{is_family, is_free, is_free_punctuator, is_member, is_member_if, next_if}
-use Rattle.js_spell.specs.Families.{TakesNext}
-use Rattle.js_spell.specs.declared.punctuator.Family.{Family}
+use Rattle.js_spell.specs.Families.{Family, only, TakesNext}
 
 -- a punctuator with this text and this kind, which anything may follow where no reported comment stands
 record FreePunctuator (text : List ℕ) (kind : Kind) : Type 0 where
@@ -210,3 +209,19 @@ read_alone a f t line_has_ended old first second third new twice equals found is
     (with_next t line_has_ended (a ∷ []) (next_if a f.twice ++ next_if equals_sign f.equals) f.alone greater_than_sign
     f.greater found third new all.alone all.greater none
     (subst (λ xs. is_reported t line_has_ended xs ≡ false) text reported) next)
+
+-- A family of one is read by its character.
+pub read_only_one : (a : ℕ) (kind : Kind) (t : SourceType) (line_has_ended : Bool) (old new : At)
+    → is_family a (only kind) ≡ true → rest old ≡ a ∷ rest new → is_reported t line_has_ended (rest old) ≡ false
+    → LongestPunctuator t line_has_ended (rest old) (rest new) kind
+read_only_one a kind t line_has_ended old new is here reported =
+    read_alone a (only kind) t line_has_ended old new new new new None None None is here (refl, refl) (λ k e. cc)
+    (refl, refl) (λ k e. cc) (refl, refl) reported
+
+-- The character of a member was taken, or it was not next.
+pub taken : (c : ℕ) (kind : Kind) (old new : At) → Reads old new c → TakesNext c (Some kind) old new (Some kind)
+taken c kind old new reads = (refl, reads.text, reads.here)
+
+pub not_taken : (c : ℕ) (kind : Kind) (old new : At) → begins (λ x. x == c) (rest old) ≡ false → new ≡ old
+    → TakesNext c (Some kind) old new None
+not_taken c kind old new none same = (same, rw none refl)

@@ -6,11 +6,26 @@ use Rattle.js_text.specs.Ascii.{equals_sign, greater_than_sign}
 use Rattle.js_text.specs.declared.source_type.SourceType.{SourceType}
 use Rattle.js_kind.specs.Kinds.{number}
 use Rattle.js_kind.specs.declared.kind.Kind.{Kind}
+use Rattle.js_kind.specs.declared.kind.Kind.TheVariants.{Arrow, Bang, Eq, Eq2, Eq3, Neq, Neq2, Pipe, Pipe2, Pipe2Eq}
+use Rattle.js_kind.specs.declared.kind.Kind.TheVariants.{PipeEq}
+use Rattle.js_kind.specs.declared.kind.Kind.TheVariants.{PipeGt}
 use Rattle.js_grammar.specs.Punctuators.{Punctuator, punctuators, Exclusion, excludes_nothing, excludes_digits}
 use Rattle.js_grammar.specs.Punctuators.{excludes_asterisk, excludes_reported_comment}
 use Rattle.js_grammar.specs.Punctuators.{LongestPunctuator, NoPunctuator, going_on, is_not_next}
 use Rattle.js_source.specs.Source.{At, rest}
-use Rattle.js_spell.specs.declared.punctuator.Family.{Family}
+use Rattle.js_spell.specs.declared.punctuator.Assigned.{Assigned}
+use Rattle.js_spell.specs.declared.punctuator.Doubled.{Doubled}
+use Rattle.js_spell.specs.declared.punctuator.Repeated.{Repeated}
+
+-- The kinds of the punctuators that begin with a character `a`: `a`, `aa`, `aa=`, `a=`, `a==` and `a>`, as far as there
+-- are such.
+pub record Family : Type 0 where
+  pub alone : Kind
+  pub twice : Option Kind
+  pub twice_equals : Option Kind
+  pub equals : Option Kind
+  pub equals_twice : Option Kind
+  pub greater : Option Kind
 
 -- Where no reported comment stands, anything may follow a punctuator with this text.
 abbrev pub is_free : List ℕ → Exclusion → Bool
@@ -51,6 +66,40 @@ is_family a family =
     && (is_member_if (a ∷ equals_sign ∷ []) (next_if equals_sign family.equals_twice) family.equals
     && (is_member_if (a ∷ equals_sign ∷ equals_sign ∷ []) [] family.equals_twice
     && is_member_if (a ∷ greater_than_sign ∷ []) [] family.greater))))
+
+-- a punctuator that is the only one of its family
+abbrev pub only : Kind → Family
+only kind = record {
+  alone = kind;
+  twice = None;
+  twice_equals = None;
+  equals = None;
+  equals_twice = None;
+  greater = None;
+}
+
+abbrev pub assigned : Assigned → Family
+assigned kinds = record (only kinds.alone) { equals = Some kinds.equals }
+
+abbrev pub repeated : Repeated → Family
+repeated kinds = record (only kinds.alone) { twice = Some kinds.twice; equals = Some kinds.equals }
+
+abbrev pub doubled : Doubled → Family
+doubled kinds = record (only kinds.alone) {
+  twice = Some kinds.twice;
+  twice_equals = Some kinds.twice_equals;
+  equals = Some kinds.equals;
+}
+
+abbrev pub exclamation_marks : Family
+exclamation_marks = record (only Bang) { equals = Some Neq; equals_twice = Some Neq2 }
+
+abbrev pub equals_signs : Family
+equals_signs = record (only Eq) { equals = Some Eq2; equals_twice = Some Eq3; greater = Some Arrow }
+
+abbrev pub vertical_lines : Family
+vertical_lines =
+    record (only Pipe) { twice = Some Pipe2; twice_equals = Some Pipe2Eq; equals = Some PipeEq; greater = Some PipeGt }
 
 -- The character was next and was taken, and the member goes on with it; or nothing was read, and no member does.
 abbrev pub TakesNext : ℕ → Option Kind → At → At → Option Kind → Type 0

@@ -1,0 +1,58 @@
+use Rattle.std.proofs.Common.{Some, None, refl}
+use Rattle.js_spell.proofs.FamilyFacts.{read_alone, read_equals, read_twice, taken, not_taken}
+use Rattle.js_spell.proofs.SequenceSteps.{behind}
+use Rattle.js_spell.specs.Families.{doubled}
+use Rattle.js_spell.proofs.punctuator.read_doubled.Goals as goal
+
+pub returns-then-advance_if_ascii_eq-2-clause-longest : goal.returns-then-advance_if_ascii_eq-2-clause-longest
+returns-then-advance_if_ascii_eq-2-clause-longest c = λ t line_has_ended reported.
+    let first = behind c.args.a c.args.source.now c.next_char.new.self c.requires.next c.next_char.ensures.past in
+    let second = c.if-advance_if_ascii_eq.ensures.cases in
+    let third = c.if-advance_if_ascii_eq-2.ensures.cases in
+    read_twice c.args.a
+    (doubled c.args.kinds) t line_has_ended c.args.source.now c.next_char.new.self c.advance_if_ascii_eq.new.self
+    c.advance_if_ascii_eq-then-advance_if_ascii_eq.new.self c.args.kinds.twice (Some c.args.kinds.twice_equals)
+    c.requires.family first.1
+    (taken c.args.a c.args.kinds.twice c.next_char.new.self c.advance_if_ascii_eq.new.self second)
+    (taken 61 c.args.kinds.twice_equals c.advance_if_ascii_eq.new.self
+    c.advance_if_ascii_eq-then-advance_if_ascii_eq.new.self third) reported
+
+pub returns-else-advance_if_ascii_eq-2-clause-longest : goal.returns-else-advance_if_ascii_eq-2-clause-longest
+returns-else-advance_if_ascii_eq-2-clause-longest c = λ t line_has_ended reported.
+    let first = behind c.args.a c.args.source.now c.next_char.new.self c.requires.next c.next_char.ensures.past in
+    let second = c.if-advance_if_ascii_eq.ensures.cases in
+    let third = c.if-advance_if_ascii_eq-2.ensures.cases in
+    read_twice c.args.a
+    (doubled c.args.kinds) t line_has_ended c.args.source.now c.next_char.new.self c.advance_if_ascii_eq.new.self
+    c.advance_if_ascii_eq-then-advance_if_ascii_eq.new.self c.args.kinds.twice None c.requires.family first.1
+    (taken c.args.a c.args.kinds.twice c.next_char.new.self c.advance_if_ascii_eq.new.self second)
+    (not_taken 61 c.args.kinds.twice_equals c.advance_if_ascii_eq.new.self
+    c.advance_if_ascii_eq-then-advance_if_ascii_eq.new.self third.0 third.1) reported
+
+pub returns-then-advance_if_ascii_eq-3-clause-longest : goal.returns-then-advance_if_ascii_eq-3-clause-longest
+returns-then-advance_if_ascii_eq-3-clause-longest c = λ t line_has_ended reported.
+    let first = behind c.args.a c.args.source.now c.next_char.new.self c.requires.next c.next_char.ensures.past in
+    let second = c.if-advance_if_ascii_eq.ensures.cases in
+    let third = c.if-advance_if_ascii_eq-3.ensures.cases in
+    read_equals c.args.a
+    (doubled c.args.kinds) t line_has_ended c.args.source.now c.next_char.new.self c.advance_if_ascii_eq.new.self
+    c.advance_if_ascii_eq-else-advance_if_ascii_eq.new.self c.advance_if_ascii_eq-else-advance_if_ascii_eq.new.self
+    c.args.kinds.equals None None c.requires.family first.1
+    (not_taken c.args.a c.args.kinds.twice c.next_char.new.self c.advance_if_ascii_eq.new.self second.0 second.1)
+    (λ k e. cc)
+    (taken 61 c.args.kinds.equals c.advance_if_ascii_eq.new.self
+    c.advance_if_ascii_eq-else-advance_if_ascii_eq.new.self third) (refl, refl) reported
+
+pub returns-else-advance_if_ascii_eq-3-clause-longest : goal.returns-else-advance_if_ascii_eq-3-clause-longest
+returns-else-advance_if_ascii_eq-3-clause-longest c = λ t line_has_ended reported.
+    let first = behind c.args.a c.args.source.now c.next_char.new.self c.requires.next c.next_char.ensures.past in
+    let second = c.if-advance_if_ascii_eq.ensures.cases in
+    let third = c.if-advance_if_ascii_eq-3.ensures.cases in
+    read_alone c.args.a
+    (doubled c.args.kinds) t line_has_ended c.args.source.now c.next_char.new.self c.advance_if_ascii_eq.new.self
+    c.advance_if_ascii_eq-else-advance_if_ascii_eq.new.self c.advance_if_ascii_eq-else-advance_if_ascii_eq.new.self
+    None None None c.requires.family first.1
+    (not_taken c.args.a c.args.kinds.twice c.next_char.new.self c.advance_if_ascii_eq.new.self second.0 second.1)
+    (λ k e. cc)
+    (not_taken 61 c.args.kinds.equals c.advance_if_ascii_eq.new.self
+    c.advance_if_ascii_eq-else-advance_if_ascii_eq.new.self third.0 third.1) (λ k e. cc) (refl, refl) reported
