@@ -51,6 +51,14 @@ impl<T> ItemList<T> {
         ItemList { items }
     }
 
+    /// The vector of the items.
+    pub fn into_vec(self) -> Vec<T>
+        ensures { result.items ≡ self }
+    {
+        let ItemList { items } = self;
+        items
+    }
+
     /// How many items there are.
     pub fn len(&self) -> usize
         ensures { result ≡ length self.now }
