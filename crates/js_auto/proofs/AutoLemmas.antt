@@ -33,7 +33,7 @@ use Rattle.js_session.specs.Effects.Effect.{re_lexes}
 use Rattle.js_session.specs.Live.{State, after_row, last_live, live, nothing_live, outcome_of, state_after_first}
 use Rattle.js_session.specs.Report.{AreRows, IsNotTaken, IsReLexed, IsRow, all_collected}
 use Rattle.js_session.specs.Session.{AddsRow, Begins, SessionState, report_of}
-use Rattle.js_session.proofs.AgainLemmas.{expression_again}
+use Rattle.js_lexer.proofs.ReadAgain.{expression_again}
 use Rattle.js_session.proofs.LiveLemmas.{last_or-push, last_or-with_last}
 use Rattle.js_session.proofs.RunLemmas.{Continues, continues_end, continues_start, continues_step}
 use Rattle.js_session.proofs.WholeLemmas.{row_onward}

@@ -26,7 +26,7 @@ use Rattle.js_session.specs.Session.{AddsRow, SessionState}
 use Rattle.js_session.specs.declared.command.Command.{Command}
 use Rattle.js_session.specs.declared.command.Command.TheVariants.{Next, Regex, TemplateTail}
 use Rattle.js_reader.specs.declared.regex.RegexToken.{RegexToken}
-use Rattle.js_session.proofs.AgainLemmas.{part_again}
+use Rattle.js_lexer.proofs.ReadAgain.{part_again}
 use Rattle.js_session.proofs.LiveLemmas.{same_live}
 use Rattle.js_session.proofs.StepLemmas.{in_order_lies, on_adds_row, order_added, order_re_lexed, re_lex_adds_row, seen}
 use Rattle.js_auto.specs.Choice.{Chooser, chooser_of}

@@ -67,6 +67,7 @@ pub mod TemplateLaws
 pub mod Tests
 pub mod Texts
 pub mod TextsAhead
+pub mod TokenStarts
 pub mod UnicodeEscapes
 pub mod Unique
 pub mod Values

@@ -4,7 +4,7 @@ use Rattle.std.proofs.Common.{refl, sym, ◌∙◌, ap}
 use Rattle.std.proofs.Common.{subst, arith, append-nil, Option, Some, None}
 use Rattle.std.specs.Prelude.{slice_get, ℕ, IfSome, is_none, if◌then◌else◌}
 use Rattle.std.specs.List.{last_or}
-use Rattle.std.specs.Str.{IsUtf8}
+use Rattle.std.specs.Str.{IsCharBoundary, IsUtf8}
 use Rattle.std.proofs.lemmas.Str.{IsCharBoundary-start}
 use Rattle.std.proofs.Math.Seq.{take-append_seam}
 use Rattle.js_text.specs.Characters.{from_place}
@@ -17,6 +17,8 @@ use Rattle.js_grammar.specs.declared.goal.Goal.{Goal}
 use Rattle.js_grammar.specs.declared.goal.Goal.TheVariants.{TemplateTail}
 use Rattle.js_grammar.proofs.AgainKinds.{again_is_re_lexed, only_one}
 use Rattle.js_grammar.proofs.Clean.{agrees_with_grammar}
+use Rattle.js_grammar.proofs.TokenStarts.{reads_onward}
+use Rattle.js_grammar.specs.Reads.{is_onward}
 use Rattle.js_grammar.specs.ReLexed.{again_kinds, HasSpelling}
 use Rattle.js_grammar.specs.UnicodeEscape.{right_curly_bracket}
 use Rattle.js_kind.specs.Kinds.{is_one_of, kind_text}
@@ -97,6 +99,7 @@ state_of r found last values = record {
   place = r.source.place;
   last = last;
   tokens = [];
+  free = 0;
   findings = findings_in found;
   pure_comments = found.trivia.pure_comments;
   no_side_effects_comments = found.trivia.no_side_effects_comments;
@@ -223,14 +226,15 @@ goal_of_lexer l r before new goal token is reads =
 
 -- what a reading gives
 pub reads_outcome : (l : LexerState) (r : Reader) (before : FindingsBuilder) (new : Reader) (goal : Goal)
-    (token : TokenParts) → IsUtf8 l.text → IsReaderOf goal l r before → (reads : ReadsGoal goal l.last r token new)
+    (token : TokenParts) → IsUtf8 l.text → IsCharBoundary l.text l.place → IsReaderOf goal l r before → (reads : ReadsGoal goal l.last r token new)
     → ReadsOutcome goal l reads.outcome
-reads_outcome l r before new goal token u is reads =
+reads_outcome l r before new goal token u b is reads =
     let here = goal_of_lexer l r before new goal token is reads in
     let places = goal_reads_places l.text l.source_type goal l.last l.place reads.outcome u here in
     let span = goal_reads_span l.text l.source_type goal l.last l.place reads.outcome u here in
     record {
       reads = here;
+      onward = λ onward. reads_onward l.text l.source_type goal l.last l.place reads.outcome onward u b here;
       places = record { start = places.0; end = places.1; ordered = span.ordered };
       some_text = span.some_text;
       text_lies = goal_reads_text l.text l.source_type goal l.last l.place reads.outcome u here;
@@ -241,7 +245,7 @@ reads_outcome l r before new goal token u is reads =
 pub reads_token : (old new : LexerState) (r : Reader) (before : FindingsBuilder) (reader : Reader)
     (after : FindingsBuilder)
     (trivia : Trivia) (goal : Goal) (token : TokenParts) (values : Values)
-    → IsUtf8 old.text → IsReaderOf goal old r before
+    → IsUtf8 old.text → IsCharBoundary old.text old.place → IsReaderOf goal old r before
     → ReadsWithGap goal old.last r before token reader after → trivia ≡ handle_token token after.trivia
     → Keeps old.decoded values → HasValue old.text values token
     → new ≡ record old {
@@ -250,13 +254,14 @@ pub reads_token : (old new : LexerState) (r : Reader) (before : FindingsBuilder)
       place = reader.source.place;
       last = Some trivia.attachment.previous;
       tokens = old.tokens ++ collected old.collects token;
+      free = old.free - length (collected old.collects token);
       findings = findings_in (record after { trivia = trivia });
       pure_comments = trivia.pure_comments;
       no_side_effects_comments = trivia.no_side_effects_comments;
       decoded = values;
     }
     → ReadsToken goal old token new
-reads_token old new r before reader after trivia goal token values u is with_gap told kept has e =
+reads_token old new r before reader after trivia goal token values u b is with_gap told kept has e =
     let reads = with_gap.read in
     let holds =
     behind_token old.findings.comments old.findings.irregular (range_before goal old.pure_comments)
@@ -271,7 +276,7 @@ reads_token old new r before reader after trivia goal token values u is with_gap
     record {
       outcome = reads.outcome;
       token_is = reads.token_is;
-      reads = reads_outcome old r before reader goal token u is reads;
+      reads = reads_outcome old r before reader goal token u b is reads;
       agrees = λ plain.
           agrees_with_grammar old.text old.source_type goal old.last old.place reads.outcome plain
           (goal_of_lexer old r before reader goal token is reads);
@@ -331,7 +336,7 @@ told_again previous token trivia now here values sound e = (
 abbrev pub reads_again : (old new : LexerState) (r : Reader) (goal : Goal) (token : TokenParts) (reader : Reader)
     (told later : List Diagnostic) (comments : List Comment) (last : TokenParts) (values : Values)
     → IsUtf8 old.text → r.source ≡ record { text = old.text; place = old.place } → r.source_type ≡ old.source_type
-    → told ≡ old.findings.diagnostics
+    → told ≡ old.findings.diagnostics → is_onward goal ≡ false
     → ReadsWithoutGap goal old.last r told token reader later → Keeps old.decoded values
     → HasValue old.text values token
     → comments ≡ old.findings.comments → last ≡ token
@@ -345,8 +350,8 @@ abbrev pub reads_again : (old new : LexerState) (r : Reader) (goal : Goal) (toke
       decoded = values;
     }
     → LexesAgain goal old token new
-reads_again old new r goal token reader told later comments last values u source source_type errors alone kept has same
-    last_is e =
+reads_again old new r goal token reader told later comments last values u source source_type errors again alone kept has
+    same last_is e =
     let reads = alone.read in
     let here : GoalReads old.text old.source_type goal old.last old.place reads.outcome =
     subst (λ (a : At). GoalReads a.text old.source_type goal old.last a.place reads.outcome) source
@@ -360,6 +365,7 @@ reads_again old new r goal token reader told later comments last values u source
       token_is = reads.token_is;
       reads = record {
         reads = here;
+        onward = λ onward. absurd (let no : true ≡ false = sym onward ∙ again in cc);
         places = record { start = places.0; end = places.1; ordered = span.ordered };
         some_text = span.some_text;
         text_lies = goal_reads_text old.text old.source_type goal old.last old.place reads.outcome u here;

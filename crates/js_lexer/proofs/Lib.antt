@@ -5,7 +5,10 @@ pub mod GoesOn
 pub mod LexerSteps
 pub mod ListSteps
 pub mod MarkLaws
+pub mod PlaceLaws
+pub mod ReadAgain
 pub mod ReadingLaws
+pub mod Sparse
 pub mod SpelledTokens
 pub mod TakenAgain
 pub mod TriviaLaws

@@ -1,13 +1,13 @@
 -- A token that is taken in the place of the last one.
 use Rattle.std.proofs.Common.{◌≡◌, ℕ, ◌-◌, ◌≤◌, Bool, true, false, List, length, refl, sym, ◌∙◌, ap, subst}
 use Rattle.std.proofs.Common.{Option, Some}
-use Rattle.std.specs.Prelude.{if◌then◌else◌}
 use Rattle.std.specs.List.{list_all}
 use Rattle.std.specs.Str.{IsUtf8}
-use Rattle.js_text.specs.Lists.{with_last}
+use Rattle.js_text.specs.Lists.{Reserved}
 use Rattle.js_text.specs.declared.diagnostic.Diagnostic.{Diagnostic}
 use Rattle.js_kind.specs.Kinds.{kind_text}
 use Rattle.js_kind.specs.TokenParts.{TokenParts}
+use Rattle.js_grammar.specs.Reads.{is_onward}
 use Rattle.js_grammar.specs.ReLexed.{again_kinds}
 use Rattle.js_grammar.specs.declared.goal.Goal.{Goal}
 use Rattle.js_grammar.specs.declared.goal.Goal.TheVariants.{JsxIdentifier, RegularExpression, RightAngle, TemplateTail}
@@ -15,7 +15,7 @@ use Rattle.js_grammar.specs.declared.goal.Goal.TheVariants.{TypeScriptLeftAngle,
 use Rattle.js_reader.specs.Decoded.{Values, KeepsValues, HasValue}
 use Rattle.js_lexer.specs.Goals.{ReadsRegex}
 use Rattle.js_reader.specs.Goals.{ReadsExpression, info_of}
-use Rattle.js_lexer.specs.Lexer.{IsBehindFor, IsSound, LexesAgain, kind_of_last, last_read, lexer_of}
+use Rattle.js_lexer.specs.Lexer.{IsBehindFor, IsSound, LexesAgain, kind_of_last, last_read, lexer_of, with_token_again}
 use Rattle.js_reader.specs.Reader.{ReadsGoal, ReadsSilently, ReadsWithoutGap}
 use Rattle.js_reader.specs.declared.findings_builder.FindingsBuilder.{FindingsBuilder}
 use Rattle.js_reader.specs.declared.reader.Reader.{Reader}
@@ -33,6 +33,7 @@ pub record IsReadAgain (goal : Goal) (last : Option TokenParts) (old : Reader) (
     (values : Values) (token : TokenParts) (new : Reader) (later : List Diagnostic) (more : Values) : Type 0 where
   pub before : TokenParts
   pub last_is : last ≡ Some before
+  pub again : is_onward goal ≡ false
   pub reads : ReadsWithoutGap goal last old told token new later
   pub starts : token.start ≡ before.start
   pub utf8 : IsUtf8 new.source.text
@@ -41,25 +42,26 @@ pub record IsReadAgain (goal : Goal) (last : Option TokenParts) (old : Reader) (
 
 -- What is read of the goal starts where the token before did, and has no escape.
 pub record IsPlain (goal : Goal) : Type 0 where
+  pub again : is_onward goal ≡ false
   pub starts : (before : TokenParts) (old new : Reader) (token : TokenParts)
       → ReadsGoal goal (Some before) old token new → token.start ≡ before.start
   pub unescaped : (before : TokenParts) (old new : Reader) (token : TokenParts)
       → ReadsGoal goal (Some before) old token new → token.escaped ≡ false
 
 pub longest_is_plain : IsPlain RightAngle
-longest_is_plain = record { starts = longest_starts; unescaped = longest_unescaped }
+longest_is_plain = record { again = refl; starts = longest_starts; unescaped = longest_unescaped }
 
 pub left_is_plain : IsPlain TypeScriptLeftAngle
-left_is_plain = record { starts = left_starts; unescaped = left_unescaped }
+left_is_plain = record { again = refl; starts = left_starts; unescaped = left_unescaped }
 
 pub right_is_plain : IsPlain TypeScriptRightAngle
-right_is_plain = record { starts = right_starts; unescaped = right_unescaped }
+right_is_plain = record { again = refl; starts = right_starts; unescaped = right_unescaped }
 
 pub expression_is_plain : IsPlain RegularExpression
-expression_is_plain = record { starts = expression_starts; unescaped = expression_unescaped }
+expression_is_plain = record { again = refl; starts = expression_starts; unescaped = expression_unescaped }
 
 pub name_is_plain : IsPlain JsxIdentifier
-name_is_plain = record { starts = name_starts; unescaped = name_unescaped }
+name_is_plain = record { again = refl; starts = name_starts; unescaped = name_unescaped }
 
 -- a token without an escape that was read again
 pub plainly : {goal : Goal} {token : TokenParts} {told later : List Diagnostic} {values : Values}
@@ -69,6 +71,7 @@ pub plainly : {goal : Goal} {token : TokenParts} {told later : List Diagnostic} 
 plainly {goal} {token} {told} {later} {values} last old new before plain is reads utf8 = record {
   before = before;
   last_is = is;
+  again = plain.again;
   reads = subst (λ o. ReadsWithoutGap goal o old told token new later) (sym is) reads;
   starts = plain.starts before old new token reads.read;
   utf8 = utf8;
@@ -85,6 +88,7 @@ pub part_again : {token : TokenParts} {told later : List Diagnostic} {values mor
 part_again {token} {told} {later} last old new before is reads utf8 keeps has_value = record {
   before = before;
   last_is = is;
+  again = refl;
   reads = subst (λ o. ReadsWithoutGap TemplateTail o old told token new later) (sym is) reads;
   starts = ap (λ t. t.start) reads.read.token_is ∙ ap (λ o. o.token.start) reads.read.reads.outcome_is;
   utf8 = utf8;
@@ -115,13 +119,13 @@ sound_taken {goal} {token} {values} {more} has_read old new found after r sound 
     read (subst (λ o. IsSound old.source o found.trivia values) r.last_is sound) r.starts e)
 
 -- and the token was read again, as contracts see it
-abbrev pub reads_taken : {goal : Goal} {token : TokenParts} {collects : Bool} {tokens now : List TokenParts}
+abbrev pub reads_taken : {goal : Goal} {token : TokenParts} {collects : Bool} {tokens now : Reserved TokenParts}
     {values more : Values} (has_read : Bool) (old new : Reader) (found after : FindingsBuilder)
     → IsReadAgain goal (last_read has_read found.trivia.attachment.previous) old found.errors values token new
     after.errors more
     → IsSound old.source (last_read has_read found.trivia.attachment.previous) found.trivia values
     → after.trivia ≡ handle_token token found.trivia → after.deferred ≡ found.deferred
-    → after.warnings ≡ found.warnings → now ≡ (if collects then with_last tokens token else tokens)
+    → after.warnings ≡ found.warnings → now ≡ with_token_again collects token tokens
     → LexesAgain goal (lexer_of collects old found has_read tokens values) token
     (lexer_of collects new after has_read now more)
 reads_taken {goal} {token} {collects} {tokens} {now} {values} {more} has_read old new found after r sound told deferred
@@ -131,7 +135,7 @@ reads_taken {goal} {token} {collects} {tokens} {now} {values} {more} has_read ol
     sound told in
     reads_again (lexer_of collects old found has_read tokens values) (lexer_of collects new after has_read now more)
     old goal token new found.errors after.errors after.trivia.attachment.attached after.trivia.attachment.previous more
-    (subst IsUtf8 r.reads.read.text r.utf8) refl refl refl r.reads (r.keeps.kept sound.are_values) r.has_value same.0
+    (subst IsUtf8 r.reads.read.text r.utf8) refl refl refl r.again r.reads (r.keeps.kept sound.are_values) r.has_value same.0
     (told_last token found.trivia after.trivia told)
     (rw (
       was_read has_read found.trivia.attachment.previous r.before r.last_is,
@@ -144,14 +148,14 @@ reads_taken {goal} {token} {collects} {tokens} {now} {values} {more} has_read ol
     ) refl)
 
 -- and so was a regular expression
-pub regex_taken : {collects : Bool} {tokens now : List TokenParts} {values : Values} (has_read : Bool)
+pub regex_taken : {collects : Bool} {tokens now : Reserved TokenParts} {values : Values} (has_read : Bool)
     (read : RegexToken) (old new : Reader) (found after : FindingsBuilder) (before : TokenParts)
     → last_read has_read found.trivia.attachment.previous ≡ Some before
     → ReadsExpression before old found.errors read new after.errors
     → IsUtf8 new.source.text
     → IsSound old.source (last_read has_read found.trivia.attachment.previous) found.trivia values
     → after.trivia ≡ handle_token read.token found.trivia → after.deferred ≡ found.deferred
-    → after.warnings ≡ found.warnings → now ≡ (if collects then with_last tokens read.token else tokens)
+    → after.warnings ≡ found.warnings → now ≡ with_token_again collects read.token tokens
     → ReadsRegex (lexer_of collects old found has_read tokens values) read
     (lexer_of collects new after has_read now values)
 regex_taken has_read read old new found after before is reads utf8 sound told deferred warnings collected =
@@ -171,7 +175,7 @@ regex_taken has_read read old new found after before is reads utf8 sound told de
     }
 
 -- where the last token begins, which the goal may read again
-pub behind_one : {goal : Goal} {bytes : ℕ} {collects : Bool} {tokens : List TokenParts} {values : Values}
+pub behind_one : {goal : Goal} {bytes : ℕ} {collects : Bool} {tokens : Reserved TokenParts} {values : Values}
     (mark offset : ℕ) (has_read : Bool) (r : Reader) (found : FindingsBuilder)
     → IsBehindFor goal (lexer_of collects r found has_read tokens values)
     → bytes ≡ length (kind_text (kind_of_last (lexer_of collects r found has_read tokens values)))

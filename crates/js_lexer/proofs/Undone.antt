@@ -1,5 +1,6 @@
 -- A reading that could not allocate, and what undoes it.
 use Rattle.std.proofs.Common.{◌≡◌, ◌≤◌, Bool, List, [], length, refl, sym, ◌∙◌, ap, subst, Option}
+use Rattle.js_text.specs.Lists.{Reserved}
 use Rattle.js_kind.specs.TokenParts.{TokenParts}
 use Rattle.js_source.specs.Source.{At}
 use Rattle.js_trivia.specs.Attachment.{Attachment}
@@ -67,7 +68,7 @@ pub stands_again : {start : ReadingStart} (before : FindingsBuilder) (old betwee
 stands_again before old between new start_is text e = e ∙ rw (text, start_is) refl
 
 -- a lexer of which all went back
-pub undone : (collects has_read : Bool) (old new : Reader) (found back : FindingsBuilder) (tokens now : List TokenParts)
+pub undone : (collects has_read : Bool) (old new : Reader) (found back : FindingsBuilder) (tokens now : Reserved TokenParts)
     (values more : Values) → new.source ≡ old.source → new.source_type ≡ old.source_type → back ≡ found
     → now ≡ tokens
     → IsRestored (lexer_of collects old found has_read tokens values)
@@ -78,7 +79,7 @@ undone collects has_read old new found back tokens now values more source source
   collects = refl;
   place = ap (λ (a : At). a.place) source;
   last = ap (λ (f : FindingsBuilder). last_read has_read f.trivia.attachment.previous) same;
-  tokens = tokens_are;
+  tokens = ap (λ (l : Reserved TokenParts). l.items) tokens_are;
   findings = rw same refl;
   pure_comments = ap (λ (f : FindingsBuilder). f.trivia.pure_comments) same;
   no_side_effects_comments = ap (λ (f : FindingsBuilder). f.trivia.no_side_effects_comments) same;

@@ -1,9 +1,9 @@
 -- How contracts see a lexer, its checkpoints and its readings.
-use Rattle.std.specs.Prelude.{◌≡◌, ◌≢◌, ℕ, ◌+◌, ◌<◌, ◌≤◌, Bool, true, List, [], ◌∷◌, ◌++◌, ◌&&◌, ◌==◌, not, length}
+use Rattle.std.specs.Prelude.{◌≡◌, ◌≢◌, ℕ, ◌+◌, ◌-◌, ◌<◌, ◌≤◌, Bool, true, List, [], ◌∷◌, ◌++◌, ◌&&◌, ◌==◌, not, length}
 use Rattle.std.specs.Prelude.{false, take, Option, Some, None, IfSome, is_none, is_some, unwrap_or, if◌then◌else◌}
 use Rattle.std.specs.List.{last_or}
 use Rattle.std.specs.Str.{IsCharBoundary}
-use Rattle.js_text.specs.Lists.{with_last}
+use Rattle.js_text.specs.Lists.{Reserved, with_last}
 use Rattle.js_text.specs.declared.comment.Comment.{Comment}
 use Rattle.js_text.specs.declared.comment.CommentContent.{CommentContent}
 use Rattle.js_text.specs.declared.comment.CommentRange.{CommentRange}
@@ -13,7 +13,7 @@ use Rattle.js_grammar.specs.GapItems.{token_before}
 use Rattle.js_grammar.specs.Goals.{GoalReads, AgreesWithGrammar}
 use Rattle.js_grammar.specs.Outcome.{Findings, FindingLengths, no_findings, joined, lengths_of, cut_to}
 use Rattle.js_grammar.specs.Outcome.{AreWithin, Outcome}
-use Rattle.js_grammar.specs.Reads.{is_plain}
+use Rattle.js_grammar.specs.Reads.{is_onward, is_plain}
 use Rattle.js_grammar.specs.ReLexed.{HasSpelling, again_kinds}
 use Rattle.js_grammar.specs.Values.{HasText}
 use Rattle.js_grammar.specs.declared.goal.Goal.{Goal}
@@ -33,8 +33,8 @@ use Rattle.js_kind.specs.declared.kind.Kind.{Kind}
 use Rattle.js_kind.specs.declared.kind.Kind.TheVariants.{Eof, HashbangComment}
 
 -- A lexer: its text and the type of that, whether it collects tokens, its place, the last token if one was read, the
--- collected tokens, what its readings have found, where the annotations before the last token are among the comments,
--- and the decoded values of tokens that were read.
+-- collected tokens and how many places for more are free, what its readings have found, where the annotations before
+-- the last token are among the comments, and the decoded values of tokens that were read.
 pub record LexerState : Type 0 where
   pub text : List ℕ
   pub source_type : SourceType
@@ -42,6 +42,7 @@ pub record LexerState : Type 0 where
   pub place : ℕ
   pub last : Option TokenParts
   pub tokens : List TokenParts
+  pub free : ℕ
   pub findings : Findings
   pub pure_comments : Option CommentRange
   pub no_side_effects_comments : Option CommentRange
@@ -53,19 +54,25 @@ last_read false previous = None
 last_read true previous = Some previous
 
 -- the lexer of these parts
-abbrev pub lexer_of : Bool → Reader → FindingsBuilder → Bool → List TokenParts → Values → LexerState
+abbrev pub lexer_of : Bool → Reader → FindingsBuilder → Bool → Reserved TokenParts → Values → LexerState
 lexer_of collects reader found has_read tokens decoded = record {
   text = reader.source.text;
   source_type = reader.source_type;
   collects = collects;
   place = reader.source.place;
   last = last_read has_read found.trivia.attachment.previous;
-  tokens = tokens;
+  tokens = tokens.items;
+  free = tokens.free;
   findings = findings_in found;
   pure_comments = found.trivia.pure_comments;
   no_side_effects_comments = found.trivia.no_side_effects_comments;
   decoded = decoded;
 }
+
+-- How many places are reserved for the tokens of a text: one for each byte and one for its end, where tokens are
+-- collected.
+abbrev pub reserved_places : Bool → ℕ → ℕ
+reserved_places collects bytes = if collects then bytes + 1 else 0
 
 -- a lexer that has read nothing
 abbrev pub fresh : List ℕ → SourceType → Bool → LexerState
@@ -76,6 +83,7 @@ fresh text t collects = record {
   place = 0;
   last = None;
   tokens = [];
+  free = reserved_places collects (length text);
   findings = no_findings;
   pure_comments = None;
   no_side_effects_comments = None;
@@ -128,6 +136,17 @@ is_hashbang kind = number kind == number HashbangComment
 abbrev pub collected : Bool → TokenParts → List TokenParts
 collected collects token = if collects && not (is_hashbang token.kind) then token ∷ [] else []
 
+-- the places, once the token is collected: one less is free, if one was
+abbrev pub with_token : Bool → TokenParts → Reserved TokenParts → Reserved TokenParts
+with_token collects token l = record {
+  items = l.items ++ collected collects token;
+  free = l.free - length (collected collects token);
+}
+
+-- the places, once the token stands in the place of the last collected one, where tokens are collected
+abbrev pub with_token_again : Bool → TokenParts → Reserved TokenParts → Reserved TokenParts
+with_token_again collects token l = record l { items = if collects then with_last l.items token else l.items }
+
 -- Where comments of the class are, from the first of them to the last; the first comment has this index.
 abbrev pub range_of : (CommentContent → Bool) → ℕ → Option CommentRange → List Comment → Option CommentRange
 range_of is_noted index range [] = range
@@ -171,9 +190,11 @@ after_re_lex l outcome = record l {
   findings = joined l.findings outcome.findings;
 }
 
--- A reading of a goal from a lexer's place: what it gives, and where its token and the text of that lie.
+-- A reading of a goal from a lexer's place: what it gives, and where its token and the text of that lie. The token of a
+-- goal that goes on starts at that place, or behind it.
 pub record ReadsOutcome (goal : Goal) (l : LexerState) (outcome : Outcome) : Type 0 where
   pub reads : GoalReads l.text l.source_type goal l.last l.place outcome
+  pub onward : is_onward goal ≡ true → l.place ≤ outcome.token.start
   pub places : IsOnPlaces l.text outcome.token
   pub some_text : outcome.token.kind ≢ Eof → outcome.token.start < outcome.token.end
   pub text_lies : HasText l.text outcome.token
@@ -281,12 +302,13 @@ put_back tokens (Some token) = with_last tokens token
 abbrev pub put_errors_back : Option (List Diagnostic) → Findings → Findings
 put_errors_back errors found = record found { diagnostics = unwrap_or errors found.diagnostics }
 
--- the lexer, back at the checkpoint
+-- The lexer, back at the checkpoint. The places of the tokens that were collected since are free again.
 abbrev pub rewound : LexerState → Checkpoint → LexerState
 rewound l c = record l {
   place = c.place;
   last = c.last;
   tokens = put_back (take c.tokens l.tokens) c.last_collected;
+  free = l.free + (length l.tokens - c.tokens);
   findings = put_errors_back c.errors (cut_to c.lengths l.findings);
   pure_comments = c.pure_comments;
   no_side_effects_comments = c.no_side_effects_comments;

@@ -9,10 +9,10 @@ ghost use Rattle.js_grammar.specs.ReLexed.{is_re_lexed, HasSpelling};
 ghost use Rattle.js_lexer.specs.Lexer.{IsOnPlaces, put_back, asked_lengths};
 
 use js_grammar::is_re_lexed;
-use js_kind::{Kind, Token, TokenList};
+use js_kind::{Kind, Token};
 use js_reader::ReadingStart;
 use js_source::Source;
-use js_text::DiagnosticList;
+use js_text::{DiagnosticList, ReservedList};
 use std::marker::Model;
 
 /// Where a lexer stood, its last token, and how long its lists were. One that is made for error recovery has a copy of
@@ -127,8 +127,8 @@ pub(crate) fn has_spelling_if_some(source: &Source<'_>, token: &Option<Token>) -
 }
 
 /// Puts the token in the place of the last one, where one is given.
-pub(crate) fn put_back(tokens: &mut TokenList, token: Option<Token>)
-    ensures { tokens.new ≡ put_back tokens.old token }
+pub(crate) fn put_back(tokens: &mut ReservedList<Token>, token: Option<Token>)
+    ensures { tokens.new ≡ record tokens.old { items = put_back tokens.old.items token } }
 {
     if let Some(token) = token {
         tokens.replace_last(token);

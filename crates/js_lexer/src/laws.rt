@@ -1,10 +1,11 @@
 //! Laws of readings and of going back: each function carries one for all arguments, and does nothing.
 
-ghost use Rattle.std.specs.Prelude.{◌≡◌, ◌≢◌, ◌<◌, true, List, [], length, take};
+ghost use Rattle.std.specs.Prelude.{◌≡◌, ◌≢◌, ◌<◌, ℕ, true, List, [], ◌∷◌, length, take};
 ghost use Rattle.std.specs.Str.{IsUtf8};
 ghost use Rattle.js_text.specs.declared.comment.Comment.{Comment};
 ghost use Rattle.js_text.specs.declared.comment.CommentContent.{CommentContent};
 ghost use Rattle.js_text.specs.declared.comment.CommentRange.{CommentRange};
+ghost use Rattle.js_text.specs.declared.source_type.SourceType.{SourceType};
 ghost use Rattle.js_grammar.specs.Reads.{is_plain};
 ghost use Rattle.js_grammar.specs.declared.goal.Goal.{Goal};
 ghost use Rattle.js_kind.specs.Kinds.{is_identifier_name};
@@ -13,6 +14,7 @@ ghost use Rattle.js_trivia.specs.Marks.{IsRangeOf, marked_within};
 ghost use Rattle.js_lexer.specs.Laws.{IsNameOfWord, IsStringOfItems};
 ghost use Rattle.js_lexer.specs.Lexer.{LexerState, ReadsToken, LexesAgain, Peeks, GoesOnFrom, Checkpoint, CanRewind};
 ghost use Rattle.js_lexer.specs.Lexer.{with_comments};
+ghost use Rattle.js_lexer.specs.Places.{AreCalls, IsBeforeEnd};
 
 use js_grammar::Goal;
 use js_kind::Kind;
@@ -69,4 +71,12 @@ pub fn a_mark_changes_classes_alone()
         (with_comments (take (length earlier.findings.comments) (marked_within range applied now.findings.comments))
         earlier)
         (with_comments (marked_within range applied now.findings.comments) now) }
+{}
+
+/// A lexer that collects tokens has a place for each: as long as it is not behind the end of the source, and its tokens
+/// were not handed out or set, a place is free, whatever was read, read again, peeked at or taken back before. So its
+/// next reading collects its token without growth.
+pub fn a_place_is_free_before_each_reading()
+    ensures { (text : List ℕ) (t : SourceType) (l : LexerState) (earlier : List LexerState) → AreCalls text t (l ∷ earlier)
+        → IsBeforeEnd l → 0 < l.free }
 {}

@@ -4,7 +4,6 @@ ghost use Rattle.std.specs.Prelude.{◌≡◌, ◌≤◌, ◌^◌, ◌↔◌, �
 ghost use Rattle.std.specs.Prelude.{OnOk, OnErr, if◌then◌else◌, ◌<◌};
 ghost use Rattle.std.specs.List.{last_or};
 ghost use Rattle.std.specs.Str.{IsCharBoundary, IsUtf8};
-ghost use Rattle.js_text.specs.Lists.{with_last};
 ghost use Rattle.js_text.specs.declared.comment.Comment.{Comment};
 ghost use Rattle.js_text.specs.declared.diagnostic.Diagnostic.{Diagnostic};
 ghost use Rattle.js_grammar.specs.Goals.{line_has_ended_behind};
@@ -18,9 +17,10 @@ ghost use Rattle.js_reader.specs.Decoded.{Keeps, KeepsValues, HasValue, value_of
 ghost use Rattle.js_reader.specs.Decoded.{GivesTemplate, GivesStretch};
 ghost use Rattle.js_reader.specs.Found.{Grows, found_lengths};
 ghost use Rattle.js_lexer.specs.Lexer.{LexerState, fresh, token_or_default, ReadsToken, IsRestored, IsOnPlaces, Peeks};
-ghost use Rattle.js_lexer.specs.Lexer.{checkpoint_of, CanRewind, rewound, GoesOnFrom, collected, is_hashbang};
+ghost use Rattle.js_lexer.specs.Lexer.{checkpoint_of, CanRewind, rewound, GoesOnFrom, is_hashbang, with_token, with_token_again};
 ghost use Rattle.js_lexer.specs.Lexer.{IsBehindFor, LexesAgain, checkpoint_with_errors_of, trivia_before};
-ghost use Rattle.js_lexer.specs.Lexer.{with_comments, with_diagnostics};
+ghost use Rattle.js_lexer.specs.Places.{IsSparse, IsSparseCheckpoint, ReadsInPlaces, StaysInPlaces};
+ghost use Rattle.js_lexer.specs.Lexer.{reserved_places, with_comments, with_diagnostics};
 ghost use Rattle.js_reader.specs.Reader.{ReadsWithGap, MovesOn};
 
 mod annotations;
@@ -38,8 +38,8 @@ use js_kind::{Kind, LexerConfig, Token, TokenList};
 use js_reader::{ByteTables, DecodedValues, Findings, FindingsBuilder, Reader, ReadingStart};
 use js_source::{Source, SourcePosition};
 use js_text::{
-    Comment, CommentList, Diagnostic, DiagnosticList, JsText, SourceType, Span, SpanList,
-    TemplateValue,
+    Comment, CommentList, Diagnostic, DiagnosticList, JsText, ReservedList, SourceType, Span,
+    SpanList, TemplateValue,
 };
 use js_trivia::TriviaBuilder;
 use std::alloc::{AllocError, Global};
@@ -52,23 +52,33 @@ fn is_hashbang(kind: Kind) -> bool
     kind.number() == Kind::HashbangComment.number()
 }
 
-/// A list for the tokens of a text of so many bytes, with room for all of them where tokens are collected: each but the
-/// one at the end has a byte.
-fn room_for_tokens(alloc: Global, collects: bool, bytes: usize) -> Result<TokenList, AllocError>
+/// A list for the tokens of a text of so many bytes, with a place for each of them where tokens are collected: each but
+/// the one at the end has a byte.
+fn places_for_tokens(
+    alloc: Global,
+    collects: bool,
+    bytes: usize,
+) -> Result<ReservedList<Token>, AllocError>
     requires { bytes < 2 ^ 32 }
-    ensures { IfOk result (λ tokens. tokens ≡ []) }
+    ensures items { IfOk result (λ tokens. tokens.items ≡ []) }
+    ensures free { IfOk result (λ tokens. tokens.free ≡ reserved_places collects bytes) }
 {
     if !collects {
-        return Ok(TokenList::new_in(alloc));
+        return Ok(ReservedList::new_in(alloc));
     }
-    let items = Vec::with_capacity(alloc, bytes + 1)?;
-    Ok(TokenList::from_vec(items))
+    ReservedList::with_free(alloc, bytes + 1, Token::default())
 }
 
-/// Collects the token, where tokens are collected and it is no hashbang comment.
-fn collect(tokens: &mut TokenList, collects: bool, token: &Token) -> Result<(), AllocError>
-    ensures ok { OnOk result (tokens.new ≡ tokens.old ++ collected collects token.now) }
+/// Collects the token, where tokens are collected and it is no hashbang comment. While a place is free it takes no
+/// memory.
+fn collect(
+    tokens: &mut ReservedList<Token>,
+    collects: bool,
+    token: &Token,
+) -> Result<(), AllocError>
+    ensures ok { OnOk result (tokens.new ≡ with_token collects token.now tokens.old) }
     ensures err { OnErr result (tokens.new ≡ tokens.old) }
+    ensures full { OnErr result (tokens.old.free ≡ 0) }
 {
     if !collects {
         return Ok(());
@@ -95,9 +105,14 @@ fn take_token(trivia: &mut TriviaBuilder, has_read: &mut bool, token: Token, alo
 
 /// Takes a token in the place of the last one, and of the last collected one, where tokens are collected.
 #[inline(always)]
-fn take_again(trivia: &mut TriviaBuilder, tokens: &mut TokenList, collects: bool, token: Token)
+fn take_again(
+    trivia: &mut TriviaBuilder,
+    tokens: &mut ReservedList<Token>,
+    collects: bool,
+    token: Token,
+)
     ensures last { trivia.new ≡ handle_token token trivia.old }
-    ensures collected { tokens.new ≡ (if collects then with_last tokens.old token else tokens.old) }
+    ensures collected { tokens.new ≡ with_token_again collects token tokens.old }
 {
     if collects {
         tokens.replace_last(token);
@@ -151,7 +166,7 @@ fn read_and_collect(
     goal: Goal,
     found: &mut FindingsBuilder,
     decoded: &mut DecodedValues,
-    tokens: &mut TokenList,
+    tokens: &mut ReservedList<Token>,
     collects: bool,
 ) -> Result<Token, AllocError>
     requires placed { IsPlaced reader.old.source }
@@ -159,7 +174,7 @@ fn read_and_collect(
     ensures ok { IfOk result (λ token. (previous : Option TokenParts)
         → line_has_ended_behind previous ≡ reader.old.line_has_ended
         → ReadsWithGap goal previous reader.old found.old token reader.new found.new) }
-    ensures tokens { IfOk result (λ token. tokens.new ≡ tokens.old ++ collected collects token) }
+    ensures tokens { IfOk result (λ token. tokens.new ≡ with_token collects token tokens.old) }
     ensures placed { OnOk result (IsPlaced reader.new.source) }
     ensures value { IfOk result (λ token. HasValue reader.old.source.text decoded.new token) }
     ensures kept { KeepsValues reader.old.source.text decoded.old decoded.new }
@@ -196,7 +211,7 @@ pub struct Lexer<'a, C: LexerConfig + Drop> {
     config: C,
     /// Whether a token was read. The builder of trivia has the last one.
     has_read: bool,
-    tokens: TokenList,
+    tokens: ReservedList<Token>,
     decoded: DecodedValues,
 }
 
@@ -213,7 +228,7 @@ impl<'a, C: LexerConfig + Drop> Model for Lexer<'a, C> {
 
 impl<'a, C: LexerConfig + Drop> Lexer<'a, C> {
     /// A lexer at the start of the text. Its first reading counts as standing on a new line. Where tokens are
-    /// collected, it takes room for all that there may be: one more than the text has bytes.
+    /// collected, it takes places for all that there may be: one more than the text has bytes.
     pub fn new(
         alloc: Global,
         source_text: &'a str,
@@ -221,12 +236,13 @@ impl<'a, C: LexerConfig + Drop> Lexer<'a, C> {
         config: C,
     ) -> Result<Lexer<'a, C>, NewFault>
         ensures ok { IfOk result (λ l. l ≡ fresh source_text.now source_type (C.collects config)) }
+        ensures sparse { IfOk result IsSparse }
         ensures overlong { (result ≡ Err NewFault.Overlong) ↔ (2 ^ 32 ≤ length source_text.now) }
     {
         if source_text.len() > u32::MAX as usize {
             return Err(NewFault::Overlong);
         }
-        let tokens = match room_for_tokens(alloc, config.tokens(), source_text.len()) {
+        let tokens = match places_for_tokens(alloc, config.tokens(), source_text.len()) {
             Ok(tokens) => tokens,
             Err(_) => return Err(NewFault::Memory),
         };
@@ -252,6 +268,7 @@ impl<'a, C: LexerConfig + Drop> Lexer<'a, C> {
         ensures ok { IfOk result (λ token. ReadsToken Goal.First self.old token self.new) }
         ensures err { OnErr result (IsRestored self.old self.new) }
         ensures kept { Keeps self.old.decoded self.new.decoded }
+        ensures places { ReadsInPlaces self.old self.new }
     {
         self.read(Goal::First)
     }
@@ -263,6 +280,7 @@ impl<'a, C: LexerConfig + Drop> Lexer<'a, C> {
         ensures ok { IfOk result (λ token. ReadsToken goal self.old token self.new) }
         ensures err { OnErr result (IsRestored self.old self.new) }
         ensures kept { Keeps self.old.decoded self.new.decoded }
+        ensures places { ReadsInPlaces self.old self.new }
     {
         let start = ReadingStart::of(&self.reader.source, &self.found);
         begin_reading(&mut self.found.trivia, goal);
@@ -294,6 +312,7 @@ impl<'a, C: LexerConfig + Drop> Lexer<'a, C> {
         ensures ok { IfOk result (λ token. LexesAgain Goal.TemplateTail self.old token self.new) }
         ensures err { OnErr result (IsRestored self.old self.new) }
         ensures kept { Keeps self.old.decoded self.new.decoded }
+        ensures places { StaysInPlaces self.old self.new }
     {
         let offset = self.last_token().start();
         let position = self.reader.source.position();
@@ -320,6 +339,7 @@ impl<'a, C: LexerConfig + Drop> Lexer<'a, C> {
         ensures ok { IfOk result (λ token. Peeks self.old token self.new) }
         ensures err { OnErr result (IsRestored self.old self.new) }
         ensures kept { Keeps self.old.decoded self.new.decoded }
+        ensures places { StaysInPlaces self.old self.new }
     {
         let checkpoint = self.checkpoint();
         let token = self.next_token()?;
@@ -564,18 +584,20 @@ impl<'a, C: LexerConfig + Drop> Lexer<'a, C> {
         self.tokens.as_slice()
     }
 
-    /// Hands out the collected tokens, and leaves none.
+    /// Hands out the collected tokens, and leaves none, and no place for more.
     pub fn take_tokens(&mut self) -> TokenList
         ensures tokens { result ≡ self.old.tokens }
-        ensures after { self.new ≡ record self.old { tokens = [] } }
+        ensures after { self.new ≡ record self.old { tokens = []; free = 0 } }
     {
-        std::mem::replace(&mut self.tokens, TokenList::new_in(self.reader.alloc))
+        let alloc = self.reader.alloc;
+        std::mem::replace(&mut self.tokens, ReservedList::new_in(alloc)).into_list()
     }
 
     /// What `rewind` goes back to: places and lengths alone, so it takes no memory.
     pub fn checkpoint(&self) -> LexerCheckpoint
         ensures state { result ≡ checkpoint_of self.now }
         ensures open { CanRewind self.now result }
+        ensures sparse { IsSparse self.now → IsSparseCheckpoint self.now.collects result }
     {
         LexerCheckpoint {
             start: ReadingStart::of(&self.reader.source, &self.found),
@@ -591,6 +613,7 @@ impl<'a, C: LexerConfig + Drop> Lexer<'a, C> {
     pub fn checkpoint_with_error_recovery(&self) -> Result<LexerCheckpoint, AllocError>
         ensures state { IfOk result (λ c. c ≡ checkpoint_with_errors_of self.now) }
         ensures open { IfOk result (CanRewind self.now) }
+        ensures sparse { IfOk result (λ c. IsSparse self.now → IsSparseCheckpoint self.now.collects c) }
     {
         let errors = self.found.errors.copy(self.reader.alloc)?;
         let mut checkpoint = self.checkpoint();
@@ -641,6 +664,7 @@ impl<'a, C: LexerConfig + Drop> Lexer<'a, C> {
     pub fn rewind(&mut self, checkpoint: LexerCheckpoint)
         requires { CanRewind self.old checkpoint }
         ensures state { self.new ≡ rewound self.old checkpoint }
+        ensures sparse { IsSparseCheckpoint self.old.collects checkpoint → IsSparse self.new }
         ensures restores { (earlier : LexerState) → checkpoint ≡ checkpoint_of earlier → GoesOnFrom earlier self.old
             → IsRestored earlier self.new }
         ensures recovers { (earlier : LexerState) (left : List Diagnostic)

@@ -42,47 +42,8 @@ use Rattle.js_grammar.proofs.QuotedValues.{part_flags, part_kind_is}
 use Rattle.js_grammar.proofs.Values.{here_no_regex}
 use Rattle.js_lexer.specs.Goals.{IsBehindName}
 use Rattle.js_lexer.specs.Lexer.{IsBehindFor, LexerState, is_hashbang, kind_of_last, token_or_default}
-
--- what was read is no hashbang comment, and no regular expression
-pub record IsPlainRead (r : Reading) : Type 0 where
-  pub no_regex : r.regex ≡ None
-  pub no_hashbang : is_hashbang r.kind ≡ false
-
-found_is : (P : Reading → Type 0) (read : Option Reading) (found : Reading) → read ≡ Some found → IfSome read P
-    → P found
-found_is P read found e is = subst (λ r. IfSome r P) e is
-
-abbrev pub no_hashbangs : Kind → Bool
-no_hashbangs kind = not (is_hashbang kind)
-
-by_reading : (P : Reading → Type 0) (b : Bool) (x y : Reading) → P x → P y → P (if b then x else y)
-by_reading P true x y h k = h
-by_reading P false x y h k = k
-
-by_found : (P : Reading → Type 0) (b : Bool) (x y : Option Reading) → IfSome x P → IfSome y P
-    → IfSome (if b then x else y) P
-by_found P true x y h k = h
-by_found P false x y h k = k
-
-none_of : (kind : Kind) → no_hashbangs kind ≡ true → is_hashbang kind ≡ false
-none_of kind e = by_flag (is_hashbang kind) e
-  where
-    by_flag : (b : Bool) → not b ≡ true → b ≡ false
-    by_flag true e = absurd (cc)
-    by_flag false e = refl
-
-angle_plain : (kinds : List Kind) (text : List ℕ) → list_all no_hashbangs kinds ≡ true
-    → IfSome (angle_reading kinds text) IsPlainRead
-angle_plain [] text all = tt
-angle_plain (k ∷ ks) text all =
-    let both = and_parts (no_hashbangs k) (list_all no_hashbangs ks) all in
-    by_found IsPlainRead (is_prefix (kind_text k) text) _ _
-    (record { no_regex = refl; no_hashbang = none_of k both.0 }) (angle_plain ks text both.1)
-
-name_plain : (part text : List ℕ) → IfSome (jsx_name_reading part text) IsPlainRead
-name_plain part text =
-    by_found IsPlainRead (begins (λ c. c == hyphen_minus) text) _ None
-    (record { no_regex = refl; no_hashbang = refl }) tt
+use Rattle.js_lexer.proofs.ReadAgain.{IsPlainRead, again_is_collected, angle_again, angles_are_none, by_found, by_reading}
+use Rattle.js_lexer.proofs.ReadAgain.{expression_again, from_plain, name_again, no_hashbangs, none_of, part_again}
 
 text_plain : (text left : List ℕ) → IsPlainRead (jsx_text_before text left)
 text_plain text [] = record { no_regex = refl; no_hashbang = refl }
@@ -105,81 +66,6 @@ string_plain (c ∷ cs) =
     closed : (left : List ℕ) → IsPlainRead (jsx_string_before (c ∷ cs) left)
     closed [] = record { no_regex = refl; no_hashbang = refl }
     closed (d ∷ ds) = record { no_regex = refl; no_hashbang = refl }
-
--- what was read is a regular expression
-abbrev IsExpression : Reading → Type 0
-IsExpression r = r.kind ≡ RegExp
-
-expression_of_kind : (text : List ℕ) → (regular_expression text).kind ≡ RegExp
-expression_of_kind text =
-    elim (true_or_false (begins (λ c. c == slash) (behind_body text))) [
-      | inl e ↦ ap (λ (r : Reading). r.kind) (expression_terminated (slash ∷ text) (behind_body text) e)
-      | inr e ↦ ap (λ (r : Reading). r.kind) (expression_unterminated (slash ∷ text) (behind_body text) e)
-    ]
-
-expression_kind : (text : List ℕ) → IfSome (regular_expression_reading text) IsExpression
-expression_kind [] = tt
-expression_kind (c ∷ cs) = by_found IsExpression (c == slash) _ None (expression_of_kind cs) tt
-
-from_plain : (text : List ℕ) (line_has_ended : Bool) (start : ℕ) (read : Option Reading) (o : Outcome)
-    → IfSome read IsPlainRead → ReadsFrom text line_has_ended start read o
-    → (o.regex ≡ None) × (is_hashbang o.token.kind ≡ false)
-from_plain text line_has_ended start read o is reads =
-    let found = found_is IsPlainRead read reads.found reads.read_is is in (
-      ap (λ x. x.regex) reads.outcome_is ∙ ap (option_map (moved_regex start)) found.no_regex,
-      ap (λ x. is_hashbang x.token.kind) reads.outcome_is ∙ found.no_hashbang,
-    )
-
--- the lists of angles
-pub record AnglesAreNone : Type 0 where
-  pub longest : list_all no_hashbangs right_angles ≡ true
-  pub left : list_all no_hashbangs first_left_angle ≡ true
-  pub right : list_all no_hashbangs first_right_angle ≡ true
-
-pub angles_are_none : AnglesAreNone
-angles_are_none = record { longest = refl; left = refl; right = refl }
-
-pub angle_again : (text : List ℕ) (kinds : List Kind) (before : Option TokenParts) (o : Outcome)
-    → list_all no_hashbangs kinds ≡ true → ReadsAgain (ReadsAngle text kinds) before o
-    → (o.regex ≡ None) × (is_hashbang o.token.kind ≡ false)
-angle_again text kinds None o all reads = absurd reads
-angle_again text kinds (Some token) o all reads =
-    from_plain text false token.start (angle_reading kinds (from_place text token.start)) o
-    (angle_plain kinds (from_place text token.start) all) reads
-
-pub name_again : (text : List ℕ) (t : SourceType) (before : Option TokenParts) (place : ℕ) (o : Outcome)
-    → GoalReads text t JsxIdentifier before place o → (o.regex ≡ None) × (is_hashbang o.token.kind ≡ false)
-name_again text t None place o reads = absurd reads
-name_again text t (Some token) place o reads =
-    from_plain text false token.start (jsx_name_reading reads.part (from_place text token.end)) o
-    (name_plain reads.part (from_place text token.end)) reads.reads
-
-part_plain : (here behind : List ℕ) → here ≡ right_curly_bracket ∷ behind → IsPlainRead (next_part here)
-part_plain here behind e =
-    subst (λ h. IsPlainRead (next_part h)) (sym e)
-    (record {
-      no_regex = (part_flags TemplateMiddle TemplateTail (right_curly_bracket ∷ behind) (template_items behind)).2;
-      no_hashbang =
-          part_kind_is (λ kind. is_hashbang kind ≡ false) TemplateMiddle TemplateTail refl refl refl
-          right_curly_bracket behind;
-    })
-
-pub part_again : (text : List ℕ) (t : SourceType) (before : Option TokenParts) (place : ℕ) (o : Outcome)
-    → GoalReads text t TailGoal before place o → (o.regex ≡ None) × (is_hashbang o.token.kind ≡ false)
-part_again text t None place o reads = absurd reads
-part_again text t (Some token) place o reads =
-    let part = part_plain (from_place text token.start) reads.behind reads.here in (
-      ap (λ x. x.regex) reads.outcome_is ∙ ap (option_map (moved_regex token.start)) part.no_regex,
-      ap (λ x. is_hashbang x.token.kind) reads.outcome_is ∙ part.no_hashbang,
-    )
-
-pub expression_again : (text : List ℕ) (t : SourceType) (before : Option TokenParts) (place : ℕ) (o : Outcome)
-    → GoalReads text t RegularExpression before place o → o.token.kind ≡ RegExp
-expression_again text t None place o reads = absurd reads
-expression_again text t (Some token) place o reads =
-    ap (λ x. x.token.kind) reads.outcome_is
-    ∙ found_is IsExpression (regular_expression_reading (from_place text token.start)) reads.found
-    reads.read_is (expression_kind (from_place text token.start))
 
 -- a goal that goes on finds no regular expression
 gap_regex : (text : List ℕ) (t : SourceType) (before : Option TokenParts) (place : ℕ) (o : Outcome)
@@ -267,24 +153,25 @@ fits_some text JsxIdentifier None e =
 fits_some text JsxIdentifier (Some t) e =
     (t, refl, name_is_none t.kind (and_parts (is_identifier_name t.kind) _ e).0)
 
+-- a goal that a token fits reads it again
+fits_again : (text : List ℕ) (goal : Goal) (token : TokenParts) → fits text goal token ≡ true → is_onward goal ≡ false
+fits_again text First token e = absurd (cc)
+fits_again text NextGoal token e = absurd (cc)
+fits_again text JsxChild token e = absurd (cc)
+fits_again text JsxAttributeValue token e = absurd (cc)
+fits_again text TailGoal token e = refl
+fits_again text RegularExpression token e = refl
+fits_again text RightAngle token e = refl
+fits_again text TypeScriptLeftAngle token e = refl
+fits_again text TypeScriptRightAngle token e = refl
+fits_again text JsxIdentifier token e = refl
+
 -- and what is read again of it is none either
 pub re_lexed_collected : (text : List ℕ) (t : SourceType) (goal : Goal) (before : Option TokenParts) (place : ℕ)
     (o : Outcome) → fits text goal (token_or_default before) ≡ true → GoalReads text t goal before place o
     → is_hashbang o.token.kind ≡ false
-re_lexed_collected text t First before place o e reads = absurd (cc)
-re_lexed_collected text t NextGoal before place o e reads = absurd (cc)
-re_lexed_collected text t JsxChild before place o e reads = absurd (cc)
-re_lexed_collected text t JsxAttributeValue before place o e reads = absurd (cc)
-re_lexed_collected text t RegularExpression before place o e reads =
-    ap is_hashbang (expression_again text t before place o reads)
-re_lexed_collected text t RightAngle before place o e reads =
-    (angle_again text right_angles before o angles_are_none.longest reads).1
-re_lexed_collected text t TypeScriptLeftAngle before place o e reads =
-    (angle_again text first_left_angle before o angles_are_none.left reads).1
-re_lexed_collected text t TypeScriptRightAngle before place o e reads =
-    (angle_again text first_right_angle before o angles_are_none.right reads).1
-re_lexed_collected text t JsxIdentifier before place o e reads = (name_again text t before place o reads).1
-re_lexed_collected text t TailGoal before place o e reads = (part_again text t before place o reads).1
+re_lexed_collected text t goal before place o e reads =
+    again_is_collected text t goal before place o (fits_again text goal (token_or_default before) e) reads
 
 -- What is read again does not depend on the place behind the token.
 pub from_any_place : (text : List ℕ) (t : SourceType) (goal : Goal) (before : Option TokenParts) (p q : ℕ) (o : Outcome)

@@ -92,8 +92,7 @@ impl<T: Drop> ReservedList<T> {
     /// Adds an item at the end. Only where no place is free it takes memory, and where there is none, the list stays as
     /// it was.
     pub fn push(&mut self, item: T) -> Result<(), AllocError>
-        ensures ok { OnOk result (self.new.items ≡ self.old.items ++ item ∷ []) }
-        ensures free { OnOk result (self.new.free ≡ self.old.free - 1) }
+        ensures ok { OnOk result (self.new ≡ record { items = self.old.items ++ item ∷ []; free = self.old.free - 1 }) }
         ensures err { OnErr result (self.new ≡ self.old) }
         ensures full { OnErr result (self.old.free ≡ 0) }
     {
@@ -108,8 +107,7 @@ impl<T: Drop> ReservedList<T> {
 
     /// Puts the item in the place of the last one; an empty list stays as it is.
     pub fn replace_last(&mut self, item: T)
-        ensures items { self.new.items ≡ with_last self.old.items item }
-        ensures free { self.new.free ≡ self.old.free }
+        ensures { self.new ≡ record self.old { items = with_last self.old.items item } }
     {
         if let Some(last) = self.used.checked_sub(1) {
             self.places[last] = item;
@@ -140,8 +138,10 @@ impl<T: Copy> ReservedList<T> {
 
     /// Keeps the first `len` items; a shorter list stays as it is. The places of the others are free then.
     pub fn truncate(&mut self, len: usize)
-        ensures items { self.new.items ≡ take len self.old.items }
-        ensures free { self.new.free ≡ self.old.free + (length self.old.items - len) }
+        ensures { self.new ≡ record {
+          items = take len self.old.items;
+          free = self.old.free + (length self.old.items - len);
+        } }
     {
         if len < self.used {
             self.used = len;

@@ -4,6 +4,7 @@ ghost use Rattle.std.specs.Prelude.{◌≡◌, length, IfOk, OnErr};
 ghost use Rattle.js_kind.specs.Kinds.{kind_text};
 ghost use Rattle.js_reader.specs.Decoded.{Keeps};
 ghost use Rattle.js_lexer.specs.Goals.{IsBehindName, ReadsName, ReadsRegex};
+ghost use Rattle.js_lexer.specs.Places.{ReadsInPlaces, StaysInPlaces};
 ghost use Rattle.js_lexer.specs.Lexer.{IsBehindFor, IsRestored, LexesAgain, ReadsToken, kind_of_last};
 
 use super::{Lexer, start_behind_reports, take_again};
@@ -20,6 +21,7 @@ impl<C: LexerConfig + Drop> Lexer<'_, C> {
         ensures ok { IfOk result (λ found. ReadsRegex self.old found self.new) }
         ensures err { OnErr result (IsRestored self.old self.new) }
         ensures kept { Keeps self.old.decoded self.new.decoded }
+        ensures places { StaysInPlaces self.old self.new }
     {
         let position = self.reader.source.position();
         let reported = self.found.errors.len();
@@ -51,6 +53,7 @@ impl<C: LexerConfig + Drop> Lexer<'_, C> {
         ensures ok { IfOk result (λ found. ReadsRegex self.old found self.new) }
         ensures err { OnErr result (IsRestored self.old self.new) }
         ensures kept { Keeps self.old.decoded self.new.decoded }
+        ensures places { StaysInPlaces self.old self.new }
     {
         self.read_regex(spelled_length(kind))
     }
@@ -59,7 +62,8 @@ impl<C: LexerConfig + Drop> Lexer<'_, C> {
     /// Its token stands in the place of that one.
     pub fn re_lex_right_angle(&mut self) -> Token
         requires { IsBehindFor Goal.RightAngle self.old }
-        ensures { LexesAgain Goal.RightAngle self.old result self.new }
+        ensures token { LexesAgain Goal.RightAngle self.old result self.new }
+        ensures places { StaysInPlaces self.old self.new }
     {
         let start = self.reader.source.offset() - 1;
         let token = self.reader.read_longest_right_angle(start);
@@ -73,7 +77,8 @@ impl<C: LexerConfig + Drop> Lexer<'_, C> {
     pub fn re_lex_as_typescript_l_angle(&mut self, offset: u32) -> Token
         requires behind { IsBehindFor Goal.TypeScriptLeftAngle self.old }
         requires bytes { offset ≡ length (kind_text (kind_of_last self.old)) }
-        ensures { LexesAgain Goal.TypeScriptLeftAngle self.old result self.new }
+        ensures token { LexesAgain Goal.TypeScriptLeftAngle self.old result self.new }
+        ensures places { StaysInPlaces self.old self.new }
     {
         let start = self.reader.source.offset() - offset;
         let token = self.reader.read_left_angle(start);
@@ -87,7 +92,8 @@ impl<C: LexerConfig + Drop> Lexer<'_, C> {
     pub fn re_lex_as_typescript_r_angle(&mut self, offset: u32) -> Token
         requires behind { IsBehindFor Goal.TypeScriptRightAngle self.old }
         requires bytes { offset ≡ length (kind_text (kind_of_last self.old)) }
-        ensures { LexesAgain Goal.TypeScriptRightAngle self.old result self.new }
+        ensures token { LexesAgain Goal.TypeScriptRightAngle self.old result self.new }
+        ensures places { StaysInPlaces self.old self.new }
     {
         let start = self.reader.source.offset() - offset;
         let token = self.reader.read_right_angle(start);
@@ -101,7 +107,8 @@ impl<C: LexerConfig + Drop> Lexer<'_, C> {
     /// whole stands in the place of that one. None: no `-` is next, and nothing has changed.
     pub fn continue_lex_jsx_identifier(&mut self, start: u32) -> Option<Token>
         requires { IsBehindName start self.old }
-        ensures { ReadsName self.old result self.new }
+        ensures token { ReadsName self.old result self.new }
+        ensures places { StaysInPlaces self.old self.new }
     {
         // The text is UTF-8, so the name lies on places.
         let _place = self.reader.source.position();
@@ -116,6 +123,7 @@ impl<C: LexerConfig + Drop> Lexer<'_, C> {
         ensures ok { IfOk result (λ token. ReadsToken Goal.JsxChild self.old token self.new) }
         ensures err { OnErr result (IsRestored self.old self.new) }
         ensures kept { Keeps self.old.decoded self.new.decoded }
+        ensures places { ReadsInPlaces self.old self.new }
     {
         self.read(Goal::JsxChild)
     }
@@ -126,6 +134,7 @@ impl<C: LexerConfig + Drop> Lexer<'_, C> {
         ensures ok { IfOk result (λ token. ReadsToken Goal.JsxAttributeValue self.old token self.new) }
         ensures err { OnErr result (IsRestored self.old self.new) }
         ensures kept { Keeps self.old.decoded self.new.decoded }
+        ensures places { ReadsInPlaces self.old self.new }
     {
         self.read(Goal::JsxAttributeValue)
     }

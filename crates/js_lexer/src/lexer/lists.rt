@@ -6,7 +6,7 @@ ghost use Rattle.js_lexer.specs.Lexer.{with_diagnostics};
 
 use super::Lexer;
 use js_kind::{LexerConfig, Token, TokenList};
-use js_text::Diagnostic;
+use js_text::{Diagnostic, ReservedList};
 
 impl<C: LexerConfig + Drop> Lexer<'_, C> {
     /// Takes back what was reported last, if anything is left.
@@ -25,19 +25,20 @@ impl<C: LexerConfig + Drop> Lexer<'_, C> {
         self.tokens.replace_last(token);
     }
 
-    /// Puts these tokens in the place of the collected ones. A lexer that collects none is given none.
+    /// Puts these tokens in the place of the collected ones, with no place for more. A lexer that collects none is given
+    /// none.
     pub fn set_tokens(&mut self, tokens: TokenList)
         requires { self.old.collects ≡ false → tokens ≡ [] }
-        ensures { self.new ≡ record self.old { tokens = tokens } }
+        ensures { self.new ≡ record self.old { tokens = tokens; free = 0 } }
     {
-        self.tokens = tokens;
+        self.tokens = ReservedList::from_list(tokens);
     }
 
     /// Hands out the collected tokens but for the last one, which is the end of the source once all is read, and leaves
-    /// none.
+    /// none, and no place for more.
     pub fn finalize_tokens(&mut self) -> TokenList
         ensures tokens { result ≡ take (length self.old.tokens - 1) self.old.tokens }
-        ensures after { self.new ≡ record self.old { tokens = [] } }
+        ensures after { self.new ≡ record self.old { tokens = []; free = 0 } }
     {
         let mut tokens = self.take_tokens();
         tokens.pop();

@@ -6,17 +6,18 @@ ghost use Rattle.js_grammar.specs.Gap.{whole_gap_piece};
 ghost use Rattle.js_source.specs.Source.{IsPlaced, rest};
 ghost use Rattle.js_reader.specs.Decoded.{Keeps, KeepsValues, HasValue};
 ghost use Rattle.js_reader.specs.Simple.{MeetsByte, PassesSimpleGap, ReadsSimpleToken, SpellsSimply};
-ghost use Rattle.js_lexer.specs.Lexer.{here, ReadsNext, ReadsToken, IsRestored, collected};
+ghost use Rattle.js_lexer.specs.Places.{ReadsInPlaces};
+ghost use Rattle.js_lexer.specs.Lexer.{here, ReadsNext, ReadsToken, IsRestored, with_token};
 ghost use Rattle.js_reader.specs.Reader.{ReadsInPart, ReadsTokenHere};
 
 use super::{Lexer, collect, start_behind_reports, take_token};
 use js_grammar::Goal;
-use js_kind::{Kind, LexerConfig, Token, TokenList};
+use js_kind::{Kind, LexerConfig, Token};
 use js_reader::{
     DecodedValues, GapEnd, Reader, pass_simple_gap, read_simple_name, read_simple_symbol,
 };
 use js_source::Source;
-use js_text::{DiagnosticList, Span};
+use js_text::{DiagnosticList, ReservedList, Span};
 use std::alloc::AllocError;
 
 /// Reads the token that stands here, where no gap does, and collects it. Where it cannot allocate, the reader may have
@@ -25,13 +26,13 @@ fn read_here_and_collect(
     reader: &mut Reader<'_>,
     errors: &mut DiagnosticList,
     decoded: &mut DecodedValues,
-    tokens: &mut TokenList,
+    tokens: &mut ReservedList<Token>,
     collects: bool,
 ) -> Result<Token, AllocError>
     requires gap { whole_gap_piece reader.old.source_type reader.old.line_has_ended (rest reader.old.source) ≡ None }
     requires placed { IsPlaced reader.old.source }
     ensures ok { IfOk result (λ token. ReadsTokenHere reader.old errors.old token reader.new errors.new) }
-    ensures tokens { IfOk result (λ token. tokens.new ≡ tokens.old ++ collected collects token) }
+    ensures tokens { IfOk result (λ token. tokens.new ≡ with_token collects token tokens.old) }
     ensures placed { OnOk result (IsPlaced reader.new.source) }
     ensures value { IfOk result (λ token. HasValue reader.old.source.text decoded.new token) }
     ensures kept { KeepsValues reader.old.source.text decoded.old decoded.new }
@@ -50,6 +51,7 @@ impl<'a, C: LexerConfig + Drop> Lexer<'a, C> {
         ensures ok { IfOk result (λ token. ReadsToken Goal.Next self.old token self.new) }
         ensures err { OnErr result (IsRestored self.old self.new) }
         ensures kept { Keeps self.old.decoded self.new.decoded }
+        ensures places { ReadsInPlaces self.old self.new }
     {
         let mut source = self.reader.source.here();
         let mut line_has_ended = !self.has_read;
@@ -73,6 +75,7 @@ impl<'a, C: LexerConfig + Drop> Lexer<'a, C> {
         ensures ok { IfOk result (λ token. ReadsToken Goal.Next self.old token self.new) }
         ensures err { OnErr result (IsRestored self.old self.new) }
         ensures kept { Keeps self.old.decoded self.new.decoded }
+        ensures places { ReadsInPlaces self.old self.new }
     {
         let mut behind = source.here();
         match read_simple_name(&mut behind, &self.reader.tables.parts, b) {
@@ -93,6 +96,7 @@ impl<'a, C: LexerConfig + Drop> Lexer<'a, C> {
         ensures ok { IfOk result (λ token. ReadsToken Goal.Next self.old token self.new) }
         ensures err { OnErr result (IsRestored self.old self.new) }
         ensures kept { Keeps self.old.decoded self.new.decoded }
+        ensures places { ReadsInPlaces self.old self.new }
     {
         let mut behind = source.here();
         match read_simple_symbol(&mut behind, b) {
@@ -115,6 +119,7 @@ impl<'a, C: LexerConfig + Drop> Lexer<'a, C> {
         ensures ok { IfOk result (λ token. ReadsToken Goal.Next self.old token self.new) }
         ensures err { OnErr result (IsRestored self.old self.new) }
         ensures kept { Keeps self.old.decoded self.new.decoded }
+        ensures places { ReadsInPlaces self.old self.new }
     {
         let start = self.reader.source.offset_of(source.position());
         let span = Span::new(start, behind.offset());
@@ -130,6 +135,7 @@ impl<'a, C: LexerConfig + Drop> Lexer<'a, C> {
         ensures ok { OnOk result (ReadsToken Goal.Next self.old token self.new) }
         ensures err { OnErr result (IsRestored self.old self.new) }
         ensures kept { Keeps self.old.decoded self.new.decoded }
+        ensures places { ReadsInPlaces self.old self.new }
     {
         collect(&mut self.tokens, self.config.tokens(), &token)?;
         self.reader.source.set_position(source.position());
@@ -148,6 +154,7 @@ impl<'a, C: LexerConfig + Drop> Lexer<'a, C> {
         ensures ok { IfOk result (λ token. ReadsToken Goal.Next self.old token self.new) }
         ensures err { OnErr result (IsRestored self.old self.new) }
         ensures kept { Keeps self.old.decoded self.new.decoded }
+        ensures places { ReadsInPlaces self.old self.new }
     {
         self.read_here(source, line_has_ended)?;
         Ok(self.found.trivia.previous_token())
@@ -159,6 +166,7 @@ impl<'a, C: LexerConfig + Drop> Lexer<'a, C> {
         ensures ok { IfOk result (λ token. ReadsToken Goal.Next self.old token self.new) }
         ensures err { OnErr result (IsRestored self.old self.new) }
         ensures kept { Keeps self.old.decoded self.new.decoded }
+        ensures places { ReadsInPlaces self.old self.new }
     {
         self.read_with_any_gap()?;
         Ok(self.found.trivia.previous_token())
@@ -170,6 +178,7 @@ impl<'a, C: LexerConfig + Drop> Lexer<'a, C> {
         ensures ok { OnOk result (ReadsNext self.old self.new) }
         ensures err { OnErr result (IsRestored self.old self.new) }
         ensures kept { Keeps self.old.decoded self.new.decoded }
+        ensures places { ReadsInPlaces self.old self.new }
     {
         self.read(Goal::Next)?;
         Ok(())
@@ -183,6 +192,7 @@ impl<'a, C: LexerConfig + Drop> Lexer<'a, C> {
         ensures ok { OnOk result (ReadsNext self.old self.new) }
         ensures err { OnErr result (IsRestored self.old self.new) }
         ensures kept { Keeps self.old.decoded self.new.decoded }
+        ensures places { ReadsInPlaces self.old self.new }
     {
         let position = self.reader.source.position();
         let reported = self.found.errors.len();

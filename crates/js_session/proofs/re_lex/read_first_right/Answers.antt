@@ -1,6 +1,6 @@
 use Rattle.std.proofs.Common.{sym, ◌∙◌}
 use Rattle.js_grammar.specs.Angle.{first_right_angle}
-use Rattle.js_session.proofs.AgainLemmas.{angle_again, angles_are_none}
+use Rattle.js_lexer.proofs.ReadAgain.{angle_again, angles_are_none}
 use Rattle.js_session.proofs.re_lex.read_first_right.Goals as goal
 
 pub returns : goal.returns

@@ -3,7 +3,8 @@ use Rattle.js_text.specs.Ascii.{hyphen_minus}
 use Rattle.js_text.specs.Characters.{begins, from_place}
 use Rattle.js_kind.specs.Kinds.{is_identifier_name}
 use Rattle.std.specs.Prelude.{◌==◌}
-use Rattle.js_session.proofs.AgainLemmas.{name_again, name_stands}
+use Rattle.js_session.proofs.AgainLemmas.{name_stands}
+use Rattle.js_lexer.proofs.ReadAgain.{name_again}
 use Rattle.js_session.proofs.re_lex.read_jsx_name.Goals as goal
 
 pub continue_lex_jsx_identifier-requires : goal.continue_lex_jsx_identifier-requires

@@ -1,5 +1,5 @@
 use Rattle.std.proofs.Common.{sym, ◌∙◌}
-use Rattle.js_session.proofs.AgainLemmas.{part_again}
+use Rattle.js_lexer.proofs.ReadAgain.{part_again}
 use Rattle.js_session.proofs.re_lex.read_tail.Goals as goal
 
 pub returns-clause-ok : goal.returns-clause-ok

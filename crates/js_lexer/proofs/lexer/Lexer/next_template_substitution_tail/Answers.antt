@@ -4,6 +4,8 @@ use Rattle.js_lexer.proofs.LexerSteps.{curly_here, sound_back}
 use Rattle.js_trivia.specs.Attachment.{Attachment}
 use Rattle.js_reader.specs.declared.findings_builder.FindingsBuilder.{FindingsBuilder}
 use Rattle.js_lexer.proofs.Undone.{found_again, may_go_back, reported_since, stands_again, undone}
+use Rattle.js_grammar.specs.declared.goal.Goal.TheVariants.{TemplateTail}
+use Rattle.js_lexer.proofs.Sparse.{stays_in_places}
 use Rattle.js_lexer.proofs.TakenAgain.{part_again, reads_taken, sound_taken}
 use Rattle.js_lexer.proofs.lexer.Lexer.next_template_substitution_tail.Goals as goal
 
@@ -41,6 +43,12 @@ returns-in-Ok-clause-ok g c =
     (part_again _ c.self.inside.reader c.read_next_part-read.new.self behind.token behind.last
     (c.in-Ok.ensures.ok behind.token (sym start)) c.in-Ok.ensures.placed.utf8 c.in-Ok.ensures.kept
     c.in-Ok.ensures.value) c.self.invariant c.take_again.ensures.last refl refl tokens)
+
+pub returns-in-Ok-clause-places : goal.returns-in-Ok-clause-places
+returns-in-Ok-clause-places g c =
+    let tokens = rw c.tokens-collects.ensures at c.take_again.ensures.collected in
+    stays_in_places TemplateTail _ _ _ c.self.inside.tokens c.take_again.new.tokens c.args.self.now _ refl
+    (returns-in-Ok-clause-ok g c) tokens (rw (← c.self.view_is) refl) refl
 
 pub go_back-requires-clause-boundary : goal.go_back-requires-clause-boundary
 go_back-requires-clause-boundary g c =

@@ -1,7 +1,9 @@
-use Rattle.std.proofs.Common.{refl}
+use Rattle.std.proofs.Common.{refl, ap, arith}
+use Rattle.js_lexer.specs.Places.{places}
 use Rattle.js_grammar.specs.declared.goal.Goal.TheVariants.{Next}
 use Rattle.js_lexer.proofs.GoesOn.{can_rewind-on}
 use Rattle.js_lexer.proofs.LexerSteps.{reading_goes_on}
+use Rattle.js_lexer.proofs.Sparse.{places_rewound, sparse_back}
 use Rattle.js_lexer.proofs.lexer.Lexer.peek_token.Goals as goal
 
 pub rewind-requires : goal.rewind-requires
@@ -23,4 +25,14 @@ returns-clause-ok g c =
       reads = read.reads;
       agrees = read.agrees refl;
       has_value = rw c.rewind.ensures.state read.has_value;
+    }
+
+pub returns-clause-places : goal.returns-clause-places
+returns-clause-places g c =
+    let between = c.next_token.new.self in
+    let back = places_rewound between c.checkpoint-checkpoint.result in
+    let same = ap places c.rewind.ensures.state in
+    record {
+      count = omega (arith, c.in_ok-token.ensures.places.count, back, same);
+      sparse = sparse_back c.args.self.now _ (returns-clause-ok g c).restored;
     }

@@ -1,5 +1,7 @@
 use Rattle.std.proofs.Common.{refl}
 use Rattle.js_text.specs.Ascii.{less_than_sign}
+use Rattle.js_grammar.specs.declared.goal.Goal.TheVariants.{TypeScriptLeftAngle}
+use Rattle.js_lexer.proofs.Sparse.{stays_in_places}
 use Rattle.js_lexer.proofs.TakenAgain.{behind_one, from_mark, left_is_plain, reads_taken, sound_taken}
 use Rattle.js_lexer.proofs.lexer.Lexer.re_lex_as_typescript_l_angle.Goals as goal
 
@@ -33,8 +35,8 @@ invariant_of-self g c =
     c.read_left_angle-token.ensures.reads c.read_left_angle-token.ensures.placed.utf8) c.self.invariant
     c.take_again.ensures.last
 
-pub returns : goal.returns
-returns g c =
+pub returns-clause-token : goal.returns-clause-token
+returns-clause-token g c =
     let starts =
     behind_one less_than_sign c.offset.result _ c.self.inside.reader c.self.inside.found
     (rw (← c.self.view_is) at c.requires.behind) (rw (← c.self.view_is) at c.requires.bytes) refl
@@ -46,3 +48,9 @@ returns g c =
     (from_mark _ c.self.inside.reader c.read_left_angle-token.new.self left_is_plain starts.1
     c.read_left_angle-token.ensures.reads c.read_left_angle-token.ensures.placed.utf8) c.self.invariant
     c.take_again.ensures.last refl refl tokens)
+
+pub returns-clause-places : goal.returns-clause-places
+returns-clause-places g c =
+    let tokens = rw c.tokens-collects.ensures at c.take_again.ensures.collected in
+    stays_in_places TypeScriptLeftAngle _ _ _ c.self.inside.tokens c.take_again.new.tokens c.args.self.now _ refl
+    (returns-clause-token g c) tokens (rw (← c.self.view_is) refl) refl

@@ -4,6 +4,7 @@ use Rattle.js_reader.specs.declared.findings_builder.FindingsBuilder.{FindingsBu
 use Rattle.js_lexer.proofs.LexerSteps.{state_of, reader_is, no_token_yet, between_is, sound_after, sound_back}
 use Rattle.js_lexer.proofs.LexerSteps.{reads_token}
 use Rattle.js_lexer.proofs.Undone.{found_again, may_go_back, read_since, stands_again, undone}
+use Rattle.js_lexer.proofs.Sparse.{count_collected, reads_in_places}
 use Rattle.js_lexer.proofs.lexer.Lexer.read.Goals as goal
 
 pub invariant_of-self : goal.invariant_of-self
@@ -55,7 +56,7 @@ returns-in-Ok-clause-ok g c =
     rw (← c.self.view_is, tokens, c.take_token.ensures.read)
     (reads_token _ _ _ _ c.read_and_collect-read.new.reader c.read_and_collect-read.new.found c.take_token.new.trivia
     c.args.goal c.in-Ok.token c.read_and_collect-read.new.decoded
-    (subst IsUtf8 read.read.text c.in-Ok.ensures.placed.utf8)
+    (subst IsUtf8 read.read.text c.in-Ok.ensures.placed.utf8) c.of-start.ensures.placed.boundary
     record {
       source = refl;
       source_type = refl;
@@ -66,6 +67,13 @@ returns-in-Ok-clause-ok g c =
           between_is c.args.goal c.self.inside.reader.source _ c.self.inside.found.trivia
           c.begin_reading.new.trivia c.self.inside.decoded c.self.invariant cleared;
     } read c.take_token.ensures.last (c.in-Ok.ensures.kept.kept c.self.invariant.are_values) c.in-Ok.ensures.value refl)
+
+pub returns-in-Ok-clause-places : goal.returns-in-Ok-clause-places
+returns-in-Ok-clause-places g c =
+    let tokens = rw c.tokens.ensures at c.in-Ok.ensures.tokens in
+    let count = count_collected _ c.in-Ok.token c.self.inside.tokens _ tokens in
+    reads_in_places c.args.goal c.in-Ok.token c.args.self.now _ c.requires (rw (← c.self.view_is) c.self.invariant.behind)
+    (returns-in-Ok-clause-ok g c) (rw (← c.self.view_is) count)
 
 pub returns-in-Err-clause-err : goal.returns-in-Err-clause-err
 returns-in-Err-clause-err g c =

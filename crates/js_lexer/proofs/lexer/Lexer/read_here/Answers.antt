@@ -11,6 +11,7 @@ use Rattle.js_lexer.proofs.LexerSteps.{state_of, reader_is, between_is, first_to
 use Rattle.js_lexer.proofs.LexerSteps.{reads_token}
 use Rattle.js_reader.proofs.SimpleReadings.{behind_simple_gap, ends_forgotten}
 use Rattle.js_lexer.proofs.Undone.{found_again, may_go_back, reported_since, stands_again, undone}
+use Rattle.js_lexer.proofs.Sparse.{count_collected, reads_in_places}
 use Rattle.js_lexer.proofs.lexer.Lexer.read_here.Goals as goal
 
 pub read_here_and_collect-read-requires-clause-gap : goal.read_here_and_collect-read-requires-clause-gap
@@ -103,7 +104,7 @@ returns-in-Ok-clause-ok g c =
       c.in-Ok.token,
       reads_token _ _ (moved r r.source (is_none last)) before c.read_here_and_collect-read.new.reader told
           c.take_token.new.trivia Next c.in-Ok.token c.read_here_and_collect-read.new.decoded
-          p.from.utf8
+          p.from.utf8 p.from.boundary
           record {
             source = refl;
             source_type = refl;
@@ -120,6 +121,13 @@ returns-in-Ok-clause-ok g c =
           (c.take_token.ensures.last ∙ ends_forgotten p.ends cleared c.in-Ok.token none)
           (kept.kept c.self.invariant.are_values) has refl,
     )
+
+pub returns-in-Ok-clause-places : goal.returns-in-Ok-clause-places
+returns-in-Ok-clause-places g c =
+    let tokens = rw c.tokens.ensures at c.in-Ok.ensures.tokens in
+    let count = count_collected _ c.in-Ok.token c.self.inside.tokens _ tokens in
+    reads_in_places Next _ c.args.self.now _ refl (rw (← c.self.view_is) c.self.invariant.behind)
+    (returns-in-Ok-clause-ok g c).1 (rw (← c.self.view_is) count)
 
 pub returns-in-Ok-clause-kept : goal.returns-in-Ok-clause-kept
 returns-in-Ok-clause-kept g c =

@@ -4,6 +4,8 @@ use Rattle.js_trivia.specs.Attachment.{Attachment}
 use Rattle.js_reader.specs.declared.findings_builder.FindingsBuilder.{FindingsBuilder}
 use Rattle.js_lexer.proofs.LexerSteps.{sound_back}
 use Rattle.js_lexer.proofs.Undone.{found_again, may_go_back, reported_since, stands_again, undone}
+use Rattle.js_grammar.specs.declared.goal.Goal.TheVariants.{RegularExpression}
+use Rattle.js_lexer.proofs.Sparse.{stays_in_places}
 use Rattle.js_lexer.proofs.TakenAgain.{behind_one, expression_is_plain, plainly, regex_taken, sound_taken}
 use Rattle.js_lexer.proofs.lexer.Lexer.read_regex.Goals as goal
 
@@ -50,6 +52,12 @@ returns-in-Ok-clause-ok g c =
     starts.1.token starts.1.last_is
     (c.in-Ok.ensures.ok starts.1.token starts.1.at) c.read_expression.ensures.placed.utf8 c.self.invariant
     c.take_again.ensures.last refl refl tokens)
+
+pub returns-in-Ok-clause-places : goal.returns-in-Ok-clause-places
+returns-in-Ok-clause-places g c =
+    let tokens = rw c.tokens-collects.ensures at c.take_again.ensures.collected in
+    stays_in_places RegularExpression _ _ _ c.self.inside.tokens c.take_again.new.tokens c.args.self.now _ refl
+    (returns-in-Ok-clause-ok g c).again tokens (rw (← c.self.view_is) refl) refl
 
 pub go_back-requires-clause-boundary : goal.go_back-requires-clause-boundary
 go_back-requires-clause-boundary g c =

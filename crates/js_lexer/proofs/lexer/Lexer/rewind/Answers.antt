@@ -1,9 +1,15 @@
-use Rattle.std.proofs.Common.{rules}
+use Rattle.std.proofs.Common.{rules, subst, sym}
+use Rattle.js_lexer.specs.Places.{IsSparse}
 use Rattle.js_lexer.proofs.LexerSteps.{rewound_is, recovered_is, marked_is}
+use Rattle.js_lexer.proofs.Sparse.{sparse_rewound}
 use Rattle.js_lexer.proofs.lexer.Lexer.rewind.Goals as goal
 
 pub returns-clause-state : goal.returns-clause-state
 returns-clause-state g c = search rules
+
+pub returns-clause-sparse : goal.returns-clause-sparse
+returns-clause-sparse g c =
+    λ sparse. subst IsSparse (sym (returns-clause-state g c)) (sparse_rewound c.args.self.now c.args.checkpoint sparse)
 
 pub returns-clause-restores : goal.returns-clause-restores
 returns-clause-restores g c =

@@ -10,6 +10,7 @@ use Rattle.js_reader.specs.Simple.{ends_told, moved}
 use Rattle.js_reader.proofs.DecodedSteps.{keeps_same, no_value}
 use Rattle.js_lexer.proofs.LexerSteps.{state_of, reader_is, between_is, first_token, sound_after, reads_token}
 use Rattle.js_reader.proofs.SimpleReadings.{behind_simple_gap, ends_forgotten, moved_on, plain_text}
+use Rattle.js_lexer.proofs.Sparse.{count_collected, reads_in_places}
 use Rattle.js_lexer.proofs.lexer.Lexer.take_simple.Goals as goal
 
 pub set_position-requires : goal.set_position-requires
@@ -64,7 +65,7 @@ returns-clause-ok g c =
     c.position.ensures.place (plain_text r before _ _ c.args.token c.args.source p) in
     rw (← c.self.view_is, tokens, at, c.take_token.ensures.read)
     (reads_token _ _ (moved r r.source (is_none last)) before new (ends_told p.gap.ends before) c.take_token.new.trivia
-    Next c.args.token c.self.inside.decoded p.gap.from.utf8
+    Next c.args.token c.self.inside.decoded p.gap.from.utf8 p.gap.from.boundary
     record {
       source = refl;
       source_type = refl;
@@ -79,3 +80,10 @@ returns-clause-ok g c =
     (c.take_token.ensures.last ∙ ends_forgotten p.gap.ends cleared c.args.token none)
     (same.kept c.self.invariant.are_values)
     (no_value r.source.text c.self.inside.decoded c.args.token p.escaped) refl)
+
+pub returns-clause-places : goal.returns-clause-places
+returns-clause-places g c =
+    let tokens = rw c.tokens.ensures at c.in_ok-collect.ensures.ok in
+    let count = count_collected _ c.args.token c.self.inside.tokens _ tokens in
+    reads_in_places Next c.args.token c.args.self.now _ refl (rw (← c.self.view_is) c.self.invariant.behind)
+    (returns-clause-ok g c) (rw (← c.self.view_is) count)
