@@ -35,7 +35,8 @@ fronts now (m ∷ ms) = front now m ∷ fronts (front now m) ms
 abbrev pub state_of : Live → List SessionMark → State
 state_of now marks = record { now = now; marks = fronts now (reverse marks) }
 
--- the lexer behind the last live token, without the decoded values, which no rewind takes back, and without annotations
+-- the lexer behind the last live token, without the decoded values, which no rewind takes back, without annotations and
+-- without free places
 abbrev pub lexer_behind : List ℕ → SourceType → Bool → Live → LexerState
 lexer_behind text t collects now = record {
   text = text;
@@ -44,6 +45,7 @@ lexer_behind text t collects now = record {
   place = place_behind_last now;
   last = last_live now;
   tokens = all_collected collects now.tokens;
+  free = 0;
   findings = now.findings;
   pure_comments = None;
   no_side_effects_comments = None;

@@ -5,7 +5,7 @@ use Rattle.js_session.proofs.re_lex.read_first_right.Goals as goal
 
 pub returns : goal.returns
 returns g c =
-    let read = c.re_lex_as_typescript_r_angle-token.ensures in (
+    let read = c.re_lex_as_typescript_r_angle-token.ensures.token in (
       sym c.may_read_again.ensures.answer ∙ c.if-not-may_read_again.false,
       record {
         reads = read;

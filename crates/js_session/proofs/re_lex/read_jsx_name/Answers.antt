@@ -21,8 +21,8 @@ returns g c =
     in
     let hyphen =
     ap (λ n. begins (λ d. d == hyphen_minus) (from_place c.args.lexer.now.text n)) (sym c.requires)
-    ∙ c.in_ok-token.ensures.0 in
-    let read = c.in_ok-token.ensures.1 in (
+    ∙ c.in_ok-token.ensures.token.0 in
+    let read = c.in_ok-token.ensures.token.1 in (
       rw (name, hyphen) refl,
       record {
         reads = read;
