@@ -1,4 +1,5 @@
 pub mod CursorSteps
 pub mod GoesOn
+pub mod PlaceSteps
 pub mod RestItems
 pub mod RoundSteps

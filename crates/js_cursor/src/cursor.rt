@@ -4,6 +4,7 @@ ghost use Rattle.std.specs.Prelude.{◌≡◌, ◌≤◌, ◌<◌, ◌↔◌, []
 ghost use Rattle.std.specs.Option.{is_some};
 ghost use Rattle.js_reader.specs.Decoded.{GivesTemplate, GivesText, IsStretch};
 ghost use Rattle.js_lexer.specs.Lexer.{IsOnPlaces, ReadsToken};
+ghost use Rattle.js_lexer.specs.Places.{ReadsInPlaces};
 ghost use Rattle.js_cursor.specs.Cursor.{IsFresh, allows_semicolon, is_at, is_at_token_end, span_of, with_error};
 ghost use Rattle.js_cursor.specs.Cursor.{with_fatal_error};
 
@@ -73,6 +74,7 @@ impl<'a, C: LexerConfig + Drop> Cursor<'a, C> {
     ) -> Result<Cursor<'a, C>, AllocError>
         requires { IsFresh lexer }
         ensures read { IfOk result (λ c. ReadsToken Goal.First lexer.entry c.token c.lexer) }
+        ensures places { IfOk result (λ c. ReadsInPlaces lexer.entry c.lexer) }
         ensures others { IfOk result (λ c. c ≡ record c {
           previous_end = 0;
           errors = [];

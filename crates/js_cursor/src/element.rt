@@ -1,6 +1,7 @@
 //! What a parser reads in a list.
 
 ghost use Rattle.std.specs.Prelude.{IfOk};
+ghost use Rattle.js_lexer.specs.Places.{KeepsPlaces};
 ghost use Rattle.js_cursor.specs.Cursor.{CursorState};
 
 use crate::cursor::Cursor;
@@ -12,7 +13,8 @@ pub trait Element<C: LexerConfig + Drop, T> {
     /// What a reading means: the element and the cursor before it, what was read, and both after it.
     ghost reads: { Self → CursorState → T → Self → CursorState → Type 0 };
 
-    /// Reads one.
+    /// Reads one. The cursor's lexer gives up no place for a token.
     fn read(&mut self, cursor: &mut Cursor<'_, C>) -> Result<T, AllocError>
-        ensures { IfOk result (λ x. reads self.old cursor.old x self.new cursor.new) };
+        ensures reads { IfOk result (λ x. reads self.old cursor.old x self.new cursor.new) }
+        ensures places { KeepsPlaces cursor.old.lexer cursor.new.lexer };
 }

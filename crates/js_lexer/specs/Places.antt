@@ -14,6 +14,10 @@ use Rattle.js_lexer.specs.Lexer.{rewound}
 abbrev pub places : LexerState → ℕ
 places l = length l.tokens + l.free
 
+-- No place was given up.
+abbrev pub KeepsPlaces : LexerState → LexerState → Type 0
+KeepsPlaces old new = places old ≤ places new
+
 -- how many of the collected tokens are the last token
 abbrev pub own_count : Bool → Option TokenParts → ℕ
 own_count collects None = 0
@@ -37,12 +41,12 @@ HasByte l = IfSome l.last (λ token. token.start < token.end)
 
 -- A reading gives up no place. A sparse lexer stays so, if nothing was read before or the last token has a byte.
 pub record ReadsInPlaces (old new : LexerState) : Type 0 where
-  pub count : places old ≤ places new
+  pub count : KeepsPlaces old new
   pub sparse : IsSparse old → HasByte old → IsSparse new
 
 -- No place was given up, and a sparse lexer stays so.
 pub record StaysInPlaces (old new : LexerState) : Type 0 where
-  pub count : places old ≤ places new
+  pub count : KeepsPlaces old new
   pub sparse : IsSparse old → IsSparse new
 
 -- The last token is no end of the source that was read.
@@ -72,7 +76,7 @@ pub data Call (earlier : List LexerState) (old new : LexerState) : Type 0 where
   reads_again : (goal : Goal) (token : TokenParts) → LexesAgain goal old token new → StaysInPlaces old new
       → Call earlier old new
   peeks : (token : TokenParts) → IsBeforeEnd old → Peeks old token new → StaysInPlaces old new → Call earlier old new
-  finds_no_memory : IsRestored old new → places old ≤ places new → Call earlier old new
+  finds_no_memory : IsRestored old new → KeepsPlaces old new → Call earlier old new
   goes_back : (to : LexerState) (c : Checkpoint) → Contains (old ∷ earlier) to → IsCheckpointOf to c
       → new ≡ rewound old c → Call earlier old new
   changes_lists : HoldsAsMany old new → Call earlier old new

@@ -1,6 +1,7 @@
 //! Going on to the next token.
 
 ghost use Rattle.std.specs.Prelude.{◌≡◌, MatchBool, IfOk, OnOk, OnErr};
+ghost use Rattle.js_lexer.specs.Places.{ReadsInPlaces};
 ghost use Rattle.js_cursor.specs.Cursor.{Advances, IsAsBefore, ReadsOn, is_at, noting_escape};
 
 use super::Cursor;
@@ -30,6 +31,7 @@ impl<C: LexerConfig + Drop> Cursor<'_, C> {
     fn read_next(&mut self) -> Result<(), AllocError>
         ensures ok { OnOk result (ReadsOn Goal.Next self.old self.new) }
         ensures err { OnErr result (IsAsBefore self.old self.new) }
+        ensures places { ReadsInPlaces self.old.lexer self.new.lexer }
     {
         let token = self.lexer.next_token()?;
         self.previous_end = self.token.end();
@@ -42,6 +44,7 @@ impl<C: LexerConfig + Drop> Cursor<'_, C> {
     pub fn advance(&mut self, kind: Kind) -> Result<(), AllocError>
         ensures ok { OnOk result (Advances kind self.old self.new) }
         ensures err { OnErr result (IsAsBefore self.old self.new) }
+        ensures places { ReadsInPlaces self.old.lexer self.new.lexer }
     {
         let reported = self.errors.len();
         self.note_escape(kind)?;
@@ -58,6 +61,7 @@ impl<C: LexerConfig + Drop> Cursor<'_, C> {
     pub fn bump_any(&mut self) -> Result<(), AllocError>
         ensures ok { OnOk result (Advances self.old.token.kind self.old self.new) }
         ensures err { OnErr result (IsAsBefore self.old self.new) }
+        ensures places { ReadsInPlaces self.old.lexer self.new.lexer }
     {
         self.advance(self.cur_kind())
     }
@@ -67,6 +71,7 @@ impl<C: LexerConfig + Drop> Cursor<'_, C> {
         ensures ok { OnOk result (MatchBool (is_at kind self.old) (Advances kind self.old self.new)
             (self.new ≡ self.old)) }
         ensures err { OnErr result (IsAsBefore self.old self.new) }
+        ensures places { ReadsInPlaces self.old.lexer self.new.lexer }
     {
         if !self.at(kind) {
             return Ok(());
@@ -79,6 +84,7 @@ impl<C: LexerConfig + Drop> Cursor<'_, C> {
         ensures ok { IfOk result (λ eaten. MatchBool eaten (Advances kind self.old self.new) (self.new ≡ self.old)) }
         ensures answer { IfOk result (λ eaten. eaten ≡ is_at kind self.old) }
         ensures err { OnErr result (IsAsBefore self.old self.new) }
+        ensures places { ReadsInPlaces self.old.lexer self.new.lexer }
     {
         if !self.at(kind) {
             return Ok(false);

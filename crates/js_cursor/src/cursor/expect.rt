@@ -1,6 +1,7 @@
 //! Tokens that are expected, the ends of statements, and the advances of JSX.
 
 ghost use Rattle.std.specs.Prelude.{◌≡◌, MatchBool, OnOk, OnErr};
+ghost use Rattle.js_lexer.specs.Places.{ReadsInPlaces};
 ghost use Rattle.js_cursor.specs.Cursor.{Advances, IsAsBefore, ReadsOn, is_at};
 ghost use Rattle.js_cursor.specs.Expect.{expecting, expecting_alternative, expecting_closing, expecting_semicolon};
 
@@ -31,6 +32,7 @@ impl<C: LexerConfig + Drop> Cursor<'_, C> {
     pub fn expect(&mut self, kind: Kind) -> Result<(), AllocError>
         ensures ok { OnOk result (Advances kind (expecting kind self.old) self.new) }
         ensures err { OnErr result (IsAsBefore (expecting kind self.old) self.new) }
+        ensures places { ReadsInPlaces self.old.lexer self.new.lexer }
     {
         self.expect_without_advance(kind);
         self.advance(kind)
@@ -57,6 +59,7 @@ impl<C: LexerConfig + Drop> Cursor<'_, C> {
     pub fn expect_closing(&mut self, kind: Kind, opening_span: Span) -> Result<(), AllocError>
         ensures ok { OnOk result (Advances kind (expecting_closing kind opening_span self.old) self.new) }
         ensures err { OnErr result (IsAsBefore (expecting_closing kind opening_span self.old) self.new) }
+        ensures places { ReadsInPlaces self.old.lexer self.new.lexer }
     {
         self.expect_closing_without_advance(kind, opening_span);
         self.advance(kind)
@@ -83,6 +86,7 @@ impl<C: LexerConfig + Drop> Cursor<'_, C> {
         ensures ok { OnOk result
             (Advances self.old.token.kind (expecting_alternative question_span self.old) self.new) }
         ensures err { OnErr result (IsAsBefore (expecting_alternative question_span self.old) self.new) }
+        ensures places { ReadsInPlaces self.old.lexer self.new.lexer }
     {
         let kind = self.cur_kind();
         self.expect_colon_without_advance(question_span);
@@ -106,6 +110,7 @@ impl<C: LexerConfig + Drop> Cursor<'_, C> {
         ensures ok { OnOk result (MatchBool (is_at Kind.Semicolon self.old) (Advances Kind.Semicolon self.old self.new)
             (self.new ≡ expecting_semicolon self.old)) }
         ensures err { OnErr result (IsAsBefore self.old self.new) }
+        ensures places { ReadsInPlaces self.old.lexer self.new.lexer }
     {
         if self.at(Kind::Semicolon) {
             return self.advance(Kind::Semicolon);
@@ -118,6 +123,7 @@ impl<C: LexerConfig + Drop> Cursor<'_, C> {
     pub fn advance_for_jsx_child(&mut self) -> Result<(), AllocError>
         ensures ok { OnOk result (ReadsOn Goal.JsxChild self.old self.new) }
         ensures err { OnErr result (IsAsBefore self.old self.new) }
+        ensures places { ReadsInPlaces self.old.lexer self.new.lexer }
     {
         let token = self.lexer.next_jsx_child()?;
         self.previous_end = self.token.end();
@@ -129,6 +135,7 @@ impl<C: LexerConfig + Drop> Cursor<'_, C> {
     pub fn advance_for_jsx_attribute_value(&mut self) -> Result<(), AllocError>
         ensures ok { OnOk result (ReadsOn Goal.JsxAttributeValue self.old self.new) }
         ensures err { OnErr result (IsAsBefore self.old self.new) }
+        ensures places { ReadsInPlaces self.old.lexer self.new.lexer }
     {
         let token = self.lexer.next_jsx_attribute_value()?;
         self.previous_end = self.token.end();
@@ -141,6 +148,7 @@ impl<C: LexerConfig + Drop> Cursor<'_, C> {
     pub fn expect_jsx_child(&mut self, kind: Kind) -> Result<(), AllocError>
         ensures ok { OnOk result (ReadsOn Goal.JsxChild (expecting kind self.old) self.new) }
         ensures err { OnErr result (IsAsBefore (expecting kind self.old) self.new) }
+        ensures places { ReadsInPlaces self.old.lexer self.new.lexer }
     {
         self.expect_without_advance(kind);
         self.advance_for_jsx_child()

@@ -3,6 +3,7 @@
 ghost use Rattle.std.specs.Prelude.{◌≡◌, ◌≢◌, ◌≤◌, [], ◌∷◌, ◌++◌, true, false, IfOk, IfErr, OnOk};
 ghost use Rattle.js_text.specs.declared.span.Span.{Span};
 ghost use Rattle.js_kind.specs.Kinds.{is_one_of};
+ghost use Rattle.js_lexer.specs.Places.{KeepsPlaces};
 ghost use Rattle.js_cursor.specs.Cursor.{Advances, is_at};
 ghost use Rattle.js_cursor.specs.Lists.{GetsStuck, IsRound, IsSeparatedRound, LeadingOn, OnStuck, Present, Rounds};
 ghost use Rattle.js_cursor.specs.Lists.{ReadsBreakableList, ReadsDelimitedList, ReadsNormalList, ReadsWhileSome};
@@ -74,6 +75,7 @@ impl<C: LexerConfig + Drop> Cursor<'_, C> {
         ensures ends { OnOk result (ends_at close self.new ≡ true) }
         ensures stuck { IfErr result (λ fault. OnStuck fault
             (λ at. GetsStuck (IsRound F.reads close) f.old self.old at self.new)) }
+        ensures places { KeepsPlaces self.old.lexer self.new.lexer }
     {
         let mut elements = Vec::new(alloc);
         while !self.is_at_end_of_list(close) {
@@ -100,6 +102,7 @@ impl<C: LexerConfig + Drop> Cursor<'_, C> {
         ensures ok { IfOk result (λ xs. ReadsNormalList F.reads opening close f self.old xs.items self.new) }
         ensures stuck { IfErr result (λ fault. OnStuck fault
             (λ at. StopsNormalList F.reads opening close f self.old at self.new)) }
+        ensures places { KeepsPlaces self.old.lexer self.new.lexer }
     {
         let mut f = f;
         let opening_span = self.cur_span();
@@ -122,6 +125,7 @@ impl<C: LexerConfig + Drop> Cursor<'_, C> {
         ensures ok { IfOk result (λ xs. ReadsWhileSome F.reads close f.old self.old xs.items f.new self.new) }
         ensures stuck { IfErr result (λ fault. OnStuck fault
             (λ at. GetsStuck (IsRound (Present F.reads) close) f.old self.old at self.new)) }
+        ensures places { KeepsPlaces self.old.lexer self.new.lexer }
     {
         let mut elements = Vec::new(alloc);
         while !self.is_at_end_of_list(close) {
@@ -152,6 +156,7 @@ impl<C: LexerConfig + Drop> Cursor<'_, C> {
         ensures ok { IfOk result (λ xs. ReadsBreakableList F.reads opening close f self.old xs.items self.new) }
         ensures stuck { IfErr result (λ fault. OnStuck fault
             (λ at. StopsNormalList (Present F.reads) opening close f self.old at self.new)) }
+        ensures places { KeepsPlaces self.old.lexer self.new.lexer }
     {
         let mut f = f;
         let opening_span = self.cur_span();
@@ -170,6 +175,7 @@ impl<C: LexerConfig + Drop> Cursor<'_, C> {
         requires at { is_at separator self.old ≡ true }
         ensures ok { OnOk result (Advances separator self.old self.new) }
         ensures some_text { OnOk result (1 ≤ self.new.previous_end) }
+        ensures places { KeepsPlaces self.old.lexer self.new.lexer }
     {
         let _token = &self.token;
         self.advance(separator)?;
@@ -195,8 +201,9 @@ impl<C: LexerConfig + Drop> Cursor<'_, C> {
         requires some { separator ≢ Kind.Eof }
         requires open { ends_at close self.old ≡ false }
         requires at { is_at separator self.old ≡ true }
-        ensures { IfOk result (λ behind. (opening : Span)
+        ensures behind { IfOk result (λ behind. (opening : Span)
             → GoesBehind close separator opening self.old behind self.new) }
+        ensures places { KeepsPlaces self.old.lexer self.new.lexer }
     {
         self.go_past(separator)?;
         if self.at(close) {
@@ -216,7 +223,8 @@ impl<C: LexerConfig + Drop> Cursor<'_, C> {
         opening_span: Span,
     ) -> Result<Behind, AllocError>
         requires { separator ≢ Kind.Eof }
-        ensures { IfOk result (λ behind. GoesBehind close separator opening_span self.old behind self.new) }
+        ensures behind { IfOk result (λ behind. GoesBehind close separator opening_span self.old behind self.new) }
+        ensures places { KeepsPlaces self.old.lexer self.new.lexer }
     {
         if self.is_at_end_of_list(close) {
             return Ok(Behind::End(None));
@@ -242,6 +250,7 @@ impl<C: LexerConfig + Drop> Cursor<'_, C> {
             elements.old.items elements.new.items trailing f.new self.new) }
         ensures stuck { IfErr result (λ fault. OnStuck fault
             (λ at. GetsStuck (IsSeparatedRound F.reads close separator) f.old self.old at self.new)) }
+        ensures places { KeepsPlaces self.old.lexer self.new.lexer }
     {
         'elements: loop {
             let start = self.cur_start();
@@ -275,6 +284,7 @@ impl<C: LexerConfig + Drop> Cursor<'_, C> {
             read.0.items read.1 self.new) }
         ensures stuck { IfErr result (λ fault. OnStuck fault
             (λ at. StopsDelimitedList F.reads close separator f self.old at self.new)) }
+        ensures places { KeepsPlaces self.old.lexer self.new.lexer }
     {
         let mut f = f;
         let mut elements = Vec::new(alloc);

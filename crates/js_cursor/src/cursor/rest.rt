@@ -3,6 +3,7 @@
 ghost use Rattle.std.specs.Prelude.{◌≡◌, true, false, None, IfOk, IfErr, OnOk};
 ghost use Rattle.std.specs.Fn.{FnReturnsAt};
 ghost use Rattle.js_text.specs.declared.span.Span.{Span};
+ghost use Rattle.js_lexer.specs.Places.{KeepsPlaces};
 ghost use Rattle.js_cursor.specs.Cursor.{is_at};
 ghost use Rattle.js_cursor.specs.Lists.{GetsStuck, IsSeparatedRound, OnStuck, StopsDelimitedList, ends_at};
 ghost use Rattle.js_cursor.specs.Rests.{ReadsItem, ReadsListWithRest, noting_trailing_comma};
@@ -39,7 +40,8 @@ where
     P: Element<C, R>,
     requires first { items.old.found ≡ None }
     requires at { is_at Kind.Dot3 cursor.old ≡ true }
-    ensures { OnOk result (ReadsOneItem E.reads P.reads items.old cursor.old items.new cursor.new) }
+    ensures item { OnOk result (ReadsOneItem E.reads P.reads items.old cursor.old items.new cursor.new) }
+    ensures places { KeepsPlaces cursor.old.lexer cursor.new.lexer }
 {
     let rest = items.rest.read(cursor)?;
     items.found = Some(rest);
@@ -59,7 +61,8 @@ where
     P: Element<C, R>,
     requires first { items.old.found ≡ None }
     requires at { is_at Kind.Dot3 cursor.old ≡ false }
-    ensures { OnOk result (ReadsOneItem E.reads P.reads items.old cursor.old items.new cursor.new) }
+    ensures item { OnOk result (ReadsOneItem E.reads P.reads items.old cursor.old items.new cursor.new) }
+    ensures places { KeepsPlaces cursor.old.lexer cursor.new.lexer }
 {
     let element = items.element.read(cursor)?;
     push_last(&mut items.elements, element)?;
@@ -78,7 +81,8 @@ where
     E: Element<C, A>,
     P: Element<C, R>,
     requires { items.old.found ≡ None }
-    ensures { OnOk result (ReadsOneItem E.reads P.reads items.old cursor.old items.new cursor.new) }
+    ensures item { OnOk result (ReadsOneItem E.reads P.reads items.old cursor.old items.new cursor.new) }
+    ensures places { KeepsPlaces cursor.old.lexer cursor.new.lexer }
 {
     if cursor.at(Kind::Dot3) {
         return read_rest(cursor, items);
@@ -89,7 +93,8 @@ where
 impl<C: LexerConfig + Drop> Cursor<'_, C> {
     /// Reports a comma at the span that stands between a rest and the end of its list.
     fn note_trailing_comma(&mut self, has_rest: bool, span: Span) -> Result<(), AllocError>
-        ensures { OnOk result (self.new ≡ noting_trailing_comma has_rest span self.old) }
+        ensures noted { OnOk result (self.new ≡ noting_trailing_comma has_rest span self.old) }
+        ensures places { KeepsPlaces self.old.lexer self.new.lexer }
     {
         if !has_rest {
             return Ok(());
@@ -104,8 +109,9 @@ impl<C: LexerConfig + Drop> Cursor<'_, C> {
     fn go_past_comma(&mut self, close: Kind, has_rest: bool) -> Result<bool, AllocError>
         requires open { ends_at close self.old ≡ false }
         requires at { is_at Kind.Comma self.old ≡ true }
-        ensures { IfOk result (λ goes_on. (opening : Span)
+        ensures behind { IfOk result (λ goes_on. (opening : Span)
             → GoesBehindItem close opening has_rest self.old goes_on self.new) }
+        ensures places { KeepsPlaces self.old.lexer self.new.lexer }
     {
         let span = self.cur_span();
         self.go_past(Kind::Comma)?;
@@ -126,7 +132,8 @@ impl<C: LexerConfig + Drop> Cursor<'_, C> {
         opening_span: Span,
         has_rest: bool,
     ) -> Result<bool, AllocError>
-        ensures { IfOk result (λ goes_on. GoesBehindItem close opening_span has_rest self.old goes_on self.new) }
+        ensures behind { IfOk result (λ goes_on. GoesBehindItem close opening_span has_rest self.old goes_on self.new) }
+        ensures places { KeepsPlaces self.old.lexer self.new.lexer }
     {
         if self.is_at_end_of_list(close) {
             return Ok(false);
@@ -162,6 +169,7 @@ impl<C: LexerConfig + Drop> Cursor<'_, C> {
         ensures stuck { IfErr result (λ fault. OnStuck fault (λ at.
             GetsStuck (IsSeparatedRound (ReadsItem E.reads P.reads) close Kind.Comma) (readers_of items.old) self.old at
             self.new)) }
+        ensures places { KeepsPlaces self.old.lexer self.new.lexer }
     {
         'items: loop {
             let start = self.cur_start();
@@ -212,6 +220,7 @@ impl<C: LexerConfig + Drop> Cursor<'_, C> {
         ensures stuck { IfErr result (λ fault. OnStuck fault (λ at.
             StopsDelimitedList (ReadsItem E.reads P.reads) close Kind.Comma
             (record { element = parse_element; rest = parse_rest; found = None }) self.old at self.new)) }
+        ensures places { KeepsPlaces self.old.lexer self.new.lexer }
     {
         if self.is_at_end_of_list(close) {
             return Ok((Vec::new(alloc), None));

@@ -2,6 +2,7 @@
 
 ghost use Rattle.std.specs.Prelude.{◌≡◌, ◌↔◌, List, IsTrue, IfOk, OnOk, OnErr};
 ghost use Rattle.js_text.specs.declared.diagnostic.Diagnostic.{Diagnostic};
+ghost use Rattle.js_lexer.specs.Places.{IsSparse, IsSparseCheckpoint, StaysInPlaces};
 ghost use Rattle.js_cursor.specs.Checkpoint.{CanRewind, GoesOnFrom, checkpoint_of, checkpoint_with_errors_of};
 ghost use Rattle.js_cursor.specs.Checkpoint.{rewound, with_diagnostics, without_fatal_error};
 ghost use Rattle.js_cursor.specs.Cursor.{CursorState, IsAsBefore};
@@ -18,6 +19,7 @@ impl<C: LexerConfig + Drop> Cursor<'_, C> {
         ensures state { result ≡ checkpoint_of self.old }
         ensures taken { self.new ≡ without_fatal_error self.old }
         ensures open { CanRewind self.new result }
+        ensures sparse { IsSparse self.old.lexer → IsSparseCheckpoint self.old.lexer.collects result.lexer }
     {
         ParserCheckpoint {
             lexer: self.lexer.checkpoint(),
@@ -34,6 +36,8 @@ impl<C: LexerConfig + Drop> Cursor<'_, C> {
         ensures state { IfOk result (λ c. c ≡ checkpoint_with_errors_of self.old) }
         ensures taken { OnOk result (self.new ≡ without_fatal_error self.old) }
         ensures open { IfOk result (CanRewind self.new) }
+        ensures sparse { IfOk result (λ c. IsSparse self.old.lexer
+            → IsSparseCheckpoint self.old.lexer.collects c.lexer) }
         ensures err { OnErr result (self.new ≡ self.old) }
     {
         let lexer = self.lexer.checkpoint_with_error_recovery()?;
@@ -58,6 +62,7 @@ impl<C: LexerConfig + Drop> Cursor<'_, C> {
     pub fn rewind(&mut self, checkpoint: ParserCheckpoint)
         requires { CanRewind self.old checkpoint }
         ensures state { self.new ≡ rewound self.old checkpoint }
+        ensures sparse { IsSparseCheckpoint self.old.lexer.collects checkpoint.lexer → IsSparse self.new.lexer }
         ensures restores { (earlier : CursorState) → checkpoint ≡ checkpoint_of earlier → GoesOnFrom earlier self.old
             → IsAsBefore earlier self.new }
         ensures recovers { (earlier : CursorState) (left : List Diagnostic)
@@ -83,6 +88,7 @@ impl<C: LexerConfig + Drop> Cursor<'_, C> {
     pub fn lookahead<U, P: Predicate<C, U> + Drop>(&mut self, predicate: P) -> U
         ensures gives { (after : CursorState) × P.gives predicate (without_fatal_error self.old) result after }
         ensures no_trace { IsAsBefore self.old self.new }
+        ensures places { StaysInPlaces self.old.lexer self.new.lexer }
     {
         let checkpoint = self.checkpoint();
         let answer = predicate.test(self);

@@ -12,7 +12,7 @@ returns-clause-ok g c =
       x = c.in_ok-first.first;
       then_f = c.read.new.self;
       behind = c.read.new.cursor;
-      first = c.in_ok-first.ensures;
+      first = c.in_ok-first.ensures.reads;
       more = read.more;
       rounds = read.rounds;
       xs_are =
@@ -31,7 +31,7 @@ returns-in-Err-clause-stuck g c =
       x = c.in_ok-first.first;
       then_f = c.read.new.self;
       behind = c.read.new.cursor;
-      first = c.in_ok-first.ensures;
+      first = c.in_ok-first.ensures.reads;
       stuck = stuck;
     })
     c.in-Err.ensures.stuck

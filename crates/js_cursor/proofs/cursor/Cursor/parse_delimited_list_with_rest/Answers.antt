@@ -9,7 +9,7 @@ use Rattle.js_cursor.proofs.cursor.Cursor.parse_delimited_list_with_rest.Goals a
 pub returns-clause-ok : goal.returns-clause-ok
 returns-clause-ok g c =
     let read = c.in-Ok.ensures.ok in
-    let first = c.in_ok-read_item.ensures in
+    let first = c.in_ok-read_item.ensures.item in
     items (first.item ∷ read.more) (readers_of c.read_items-read.new.items) read.end
     (record {
       is_open = sym c.is_at_end_of_list.ensures ∙ c.if-is_at_end_of_list.false;
@@ -33,10 +33,10 @@ returns-in-Err-clause-stuck g c =
     (λ at stuck.
     record {
       is_open = sym c.is_at_end_of_list.ensures ∙ c.if-is_at_end_of_list.false;
-      x = c.in_ok-read_item.ensures.item;
+      x = c.in_ok-read_item.ensures.item.item;
       then_f = readers_of c.read_item.new.items;
       behind = c.read_item.new.cursor;
-      first = c.in_ok-read_item.ensures.reads;
+      first = c.in_ok-read_item.ensures.item.reads;
       stuck = stuck;
     })
     c.in-Err.ensures.stuck

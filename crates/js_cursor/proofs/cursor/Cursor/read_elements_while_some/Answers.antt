@@ -12,12 +12,14 @@ loop-close-smaller g c =
     c.cur_start-start.ensures c.is_stuck_at.ensures c.if-is_stuck_at.false)
 
 pub loop-close-preserved : goal.loop-close-preserved
-loop-close-preserved g c =
-    round-push (Present g.F.Element.reads) c.args.close c.args.f.now c.args.self.now c.loop-close.elements.items _
-    c.loop-close.f c.loop-close.self c.in-Some.element c.read.new.self c.read.new.cursor c.loop-close.invariant
-    (sym c.is_at_end_of_list.ensures ∙ c.loop-close-test.true)
-    (subst (λ o. g.F.Element.reads c.loop-close.f c.loop-close.self o c.read.new.self c.read.new.cursor) c.in-Some.is
-    c.in_ok-element.ensures)
-    (stuck_as_told c.loop-close.self c.read.new.cursor c.cur_start-start.result c.is_stuck_at.result _
-    c.cur_start-start.ensures c.is_stuck_at.ensures c.if-is_stuck_at.false)
-    c.in_ok-push_last-in-Some.ensures
+loop-close-preserved g c = (
+  round-push (Present g.F.Element.reads) c.args.close c.args.f.now c.args.self.now c.loop-close.elements.items _
+      c.loop-close.f c.loop-close.self c.in-Some.element c.read.new.self c.read.new.cursor c.loop-close.invariant.0
+      (sym c.is_at_end_of_list.ensures ∙ c.loop-close-test.true)
+      (subst (λ o. g.F.Element.reads c.loop-close.f c.loop-close.self o c.read.new.self c.read.new.cursor) c.in-Some.is
+      c.in_ok-element.ensures.reads)
+      (stuck_as_told c.loop-close.self c.read.new.cursor c.cur_start-start.result c.is_stuck_at.result _
+      c.cur_start-start.ensures c.is_stuck_at.ensures c.if-is_stuck_at.false)
+      c.in_ok-push_last-in-Some.ensures,
+  omega (arith, c.loop-close.invariant.1, c.in_ok-element.ensures.places),
+)

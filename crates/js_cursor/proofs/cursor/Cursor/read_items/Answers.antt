@@ -11,7 +11,7 @@ use Rattle.js_cursor.proofs.RoundSteps.{leaves_less, rounds-push, stuck_as_told}
 use Rattle.js_cursor.proofs.cursor.Cursor.read_items.Goals as goal
 
 pub items-init : goal.items-init
-items-init g c = ([], refl, sym (append-nil c.args.items.now.elements.items))
+items-init g c = ([], refl, sym (append-nil c.args.items.now.elements.items), omega arith)
 
 pub items-smaller : goal.items-smaller
 items-smaller g c =
@@ -20,7 +20,7 @@ items-smaller g c =
     let short : c.items.self.token.start < 2 ^ 32 = omega arith in
     let separated : IsSeparated c.args.close Comma c.items.self c.behind_item.new.self =
     separated_behind c.args.close c.args.opening_span c.is_some-has_rest.result c.items.self c.in_ok-goes_on.goes_on
-    c.behind_item.new.self c.if-not-goes_on.false c.in_ok-goes_on.ensures in
+    c.behind_item.new.self c.if-not-goes_on.false c.in_ok-goes_on.ensures.behind in
     leaves_less c.args.close before after short separated.is_open
     (stuck_as_told before after c.cur_start-start.result c.is_stuck_at.result _ c.cur_start-start.ensures
     c.is_stuck_at.ensures c.if-is_stuck_at.false)
@@ -32,9 +32,9 @@ items-preserved g c =
     let Q = LeadingOn (IsSeparatedRound (ReadsItem g.E.Element.reads g.P.Element.reads) c.args.close Comma) in
     let separated : IsSeparated c.args.close Comma c.items.self c.behind_item.new.self =
     separated_behind c.args.close c.args.opening_span c.is_some-has_rest.result c.items.self c.in_ok-goes_on.goes_on
-    c.behind_item.new.self c.if-not-goes_on.false c.in_ok-goes_on.ensures in
+    c.behind_item.new.self c.if-not-goes_on.false c.in_ok-goes_on.ensures.behind in
     let more = c.items.invariant.0 in
-    let round = c.in_ok-read_item.ensures in (
+    let round = c.in_ok-read_item.ensures.item in (
       more ++ round.item ∷ [],
       rounds-push Q (readers_of c.args.items.now) c.args.self.now more (readers_of c.items.items) before round.item
           (readers_of c.read_item.new.items) after c.items.invariant.1 (
@@ -45,6 +45,12 @@ items-preserved g c =
       round.kept ∙ ap (λ ys. ys ++ elements (round.item ∷ [])) c.items.invariant.2
           ∙ append_assoc c.args.items.now.elements.items (elements more) (elements (round.item ∷ []))
           ∙ ap (λ ys. c.args.items.now.elements.items ++ ys) (sym (elements-append more (round.item ∷ []))),
+      omega (
+        arith,
+        c.items.invariant.3,
+        c.in_ok-goes_on.ensures.places,
+        c.in_ok-read_item.ensures.places,
+      ),
     )
 
 pub returns-then-not-goes_on-clause-ok : goal.returns-then-not-goes_on-clause-ok
@@ -59,7 +65,7 @@ returns-then-not-goes_on-clause-ok g c =
           ends
           (ends_behind c.args.close c.args.opening_span c.is_some-has_rest.result _ c.items.self
           c.in_ok-goes_on.goes_on c.behind_item.new.self c.if-not-goes_on.true c.is_some-has_rest.ensures
-          c.in_ok-goes_on.ensures);
+          c.in_ok-goes_on.ensures.behind);
     }
 
 pub returns-in-Some-clause-ok : goal.returns-in-Some-clause-ok
@@ -74,7 +80,7 @@ returns-in-Some-clause-ok g c =
       ends =
           rest_is_not_last c.in-Some.rest c.in-Some.is c.behind_item.new.self
           (separated_behind c.args.close c.args.opening_span c.is_some-has_rest.result c.items.self
-          c.in_ok-goes_on.goes_on c.behind_item.new.self c.if-not-goes_on.false c.in_ok-goes_on.ensures)
+          c.in_ok-goes_on.goes_on c.behind_item.new.self c.if-not-goes_on.false c.in_ok-goes_on.ensures.behind)
           c.rest_last_diagnostic.result
           (c.rest_span.result, told, c.rest_last_diagnostic.ensures) c.set_fatal_error.ensures;
     }
@@ -82,7 +88,7 @@ returns-in-Some-clause-ok g c =
 pub returns-then-is_stuck_at-clause-stuck : goal.returns-then-is_stuck_at-clause-stuck
 returns-then-is_stuck_at-clause-stuck g c =
     let read = c.items.invariant in
-    let round = c.in_ok-read_item.ensures in
+    let round = c.in_ok-read_item.ensures.item in
     let after = c.read_item.new.cursor in
     record {
       xs = read.0;
@@ -95,7 +101,7 @@ returns-then-is_stuck_at-clause-stuck g c =
         between = c.behind_item.new.self;
         separated =
             separated_behind c.args.close c.args.opening_span c.is_some-has_rest.result c.items.self
-            c.in_ok-goes_on.goes_on c.behind_item.new.self c.if-not-goes_on.false c.in_ok-goes_on.ensures;
+            c.in_ok-goes_on.goes_on c.behind_item.new.self c.if-not-goes_on.false c.in_ok-goes_on.ensures.behind;
         read = round.reads;
       };
       stuck =

@@ -12,7 +12,7 @@ elements-smaller g c =
     let separated : IsSeparated c.args.close c.args.separator c.elements.self c.behind_element.new.self =
     subst
     (λ b. GoesBehind c.args.close c.args.separator c.args.opening_span c.elements.self b c.behind_element.new.self)
-    c.in-Element.is c.in_ok-behind_element.ensures in
+    c.in-Element.is c.in_ok-behind_element.ensures.behind in
     leaves_less c.args.close before after short separated.is_open
     (stuck_as_told before after c.cur_start-start.result c.is_stuck_at.result _ c.cur_start-start.ensures
     c.is_stuck_at.ensures c.if-is_stuck_at.false)
@@ -25,15 +25,21 @@ elements-preserved g c =
     let separated : IsSeparated c.args.close c.args.separator c.elements.self c.behind_element.new.self =
     subst
     (λ b. GoesBehind c.args.close c.args.separator c.args.opening_span c.elements.self b c.behind_element.new.self)
-    c.in-Element.is c.in_ok-behind_element.ensures in
+    c.in-Element.is c.in_ok-behind_element.ensures.behind in
     let more = c.elements.invariant.0 in (
       more ++ c.in_ok-element.element ∷ [],
       rounds-push Q c.args.f.now c.args.self.now more c.elements.f before c.in_ok-element.element c.read.new.self after
           c.elements.invariant.1 (
-            record { between = c.behind_element.new.self; separated = separated; read = c.in_ok-element.ensures },
+            record { between = c.behind_element.new.self; separated = separated; read = c.in_ok-element.ensures.reads },
             stuck_as_told before after c.cur_start-start.result c.is_stuck_at.result _ c.cur_start-start.ensures
                 c.is_stuck_at.ensures c.if-is_stuck_at.false,
           ),
       c.in_ok-push_last.ensures ∙ ap (λ ys. ys ++ c.in_ok-element.element ∷ []) c.elements.invariant.2
           ∙ append_assoc c.args.elements.now.items more (c.in_ok-element.element ∷ []),
+      omega (
+        arith,
+        c.elements.invariant.3,
+        c.in_ok-behind_element.ensures.places,
+        c.in_ok-element.ensures.places,
+      ),
     )
