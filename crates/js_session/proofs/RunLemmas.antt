@@ -112,6 +112,23 @@ progress_start text t collects commands s b =
       marks = refl;
     })
 
+-- the same, whatever number of places for marks is free
+pub progress_reserved : (text : List ℕ) (t : SourceType) (collects : Bool) (commands : List Command) (index : ℕ)
+    (old new : SessionState) → new ≡ record old { spare = new.spare } → Progress text t collects commands index old
+    → Progress text t collects commands index new
+progress_reserved text t collects commands index old new rest p =
+    rw rest (record {
+      text_is = p.text_is;
+      type_is = p.type_is;
+      collects_is = p.collects_is;
+      row = p.row;
+      is_row = p.is_row;
+      rows = p.rows;
+      rows_are = p.rows_are;
+      continues = p.continues;
+      marks = p.marks;
+    })
+
 -- a command that closes a mark finds one
 pub has_mark : (text : List ℕ) (t : SourceType) (collects : Bool) (commands : List Command) (index : ℕ)
     (s : SessionState) (c : Command) → Progress text t collects commands index s
@@ -127,7 +144,7 @@ marks_less : (f : Live → List Live → State) (now : Live) (ms : List Live) �
 marks_less f now [] some e = absurd (some refl)
 marks_less f now (m ∷ ms) some e = omega (arith, ap length (e now m ms))
 
-marks_more : (effect : Effect) (s : State) → gives_row effect ≡ false → (closes_mark effect ≡ true → s.marks ≢ [])
+pub marks_more : (effect : Effect) (s : State) → gives_row effect ≡ false → (closes_mark effect ≡ true → s.marks ≢ [])
     → length (after_mark effect s).marks + cond (closes_mark effect) 1 0 ≡ length s.marks + cond (opens_mark effect) 1 0
 marks_more (reads goal) s e has = absurd (cc)
 marks_more (peeks goal) s e has = absurd (cc)
@@ -141,7 +158,7 @@ re_lex_marks : (taken : Bool) (now : Live) (s : State)
 re_lex_marks true now s = refl
 re_lex_marks false now s = refl
 
-same_marks : (effect : Effect) (row : Row) (s : State) → gives_row effect ≡ true
+pub same_marks : (effect : Effect) (row : Row) (s : State) → gives_row effect ≡ true
     → length (after_row effect row s).marks + cond (closes_mark effect) 1 0
     ≡ length s.marks + cond (opens_mark effect) 1 0
 same_marks (reads goal) row s e = refl
@@ -152,8 +169,8 @@ same_marks rewinds row s e = absurd (cc)
 same_marks commits row s e = absurd (cc)
 
 -- the command at the index is the first of what is left
-drop_at : (commands : List Command) (index : ℕ) (c : Command) → index < length commands → get_or commands index c ≡ c
-    → drop index commands ≡ c ∷ drop (index + 1) commands
+pub drop_at : (commands : List Command) (index : ℕ) (c : Command) → index < length commands
+    → get_or commands index c ≡ c → drop index commands ≡ c ∷ drop (index + 1) commands
 drop_at commands index c within at =
     rw add-one (drop-cons commands index c within ∙ ap (λ x. x ∷ drop (suc index) commands) at)
 

@@ -90,6 +90,20 @@ run_begins text t collects s b = record {
   state = ap (λ (x : SessionState). x.state) b.after;
 }
 
+-- the same, whatever number of places for marks is free
+pub run_reserved : (text : List ℕ) (t : SourceType) (collects : Bool) (commands : List Command) (s : SessionState)
+    (spare : ℕ) → HasRun text t collects commands s → HasRun text t collects commands (record s { spare = spare })
+run_reserved text t collects commands s spare h = record {
+  text_is = h.text_is;
+  type_is = h.type_is;
+  collects_is = h.collects_is;
+  first = h.first;
+  rows = h.rows;
+  rows_are = h.rows_are;
+  answers = h.answers;
+  state = h.state;
+}
+
 -- one step more
 run_adds : (text : List ℕ) (t : SourceType) (collects : Bool) (commands : List Command) (c : Command)
     (old new : SessionState) → HasRun text t collects commands old → is_step c ≡ true → AddsRow c old new

@@ -1,6 +1,6 @@
 -- What the calls of a session make of its state.
-use Rattle.std.proofs.Common.{◌≡◌, ℕ, ◌<◌, Bool, true, false, List, [], ◌∷◌, ◌++◌, length, take, refl, sym, ◌∙◌, ap}
-use Rattle.std.proofs.Common.{subst, arith, Option, Some, None, Result, Ok, Err}
+use Rattle.std.proofs.Common.{◌≡◌, ℕ, ◌+◌, ◌-◌, ◌<◌, Bool, true, false, List, [], ◌∷◌, ◌++◌, length, take, refl, sym}
+use Rattle.std.proofs.Common.{◌∙◌, ap, subst, arith, Option, Some, None, Result, Ok, Err}
 use Rattle.std.proofs.lemmas.List.{reverse-append, length-reverse}
 use Rattle.std.specs.List.{AllByRecursion}
 use Rattle.std.specs.Prelude.{reverse, OnOk, OnErr, IsSome, ◌↔◌, option_to_list, MatchBool}
@@ -35,13 +35,14 @@ use Rattle.js_session.proofs.MarkLemmas.{all-put_back, all-with_last, marks-re_l
 use Rattle.js_session.proofs.ReadLemmas.{read_is_row}
 
 -- how contracts see a session of these parts
-abbrev pub seen : RowReaderState → List SessionMark → SessionState
-seen r marks = record {
+abbrev pub seen : RowReaderState → List SessionMark → ℕ → SessionState
+seen r marks spare = record {
   text = r.lexer.text;
   source_type = r.lexer.source_type;
   collects = r.lexer.collects;
   rows = r.rows;
   state = state_of (live_now r) marks;
+  spare = spare;
 }
 
 at_lexer : (P : List ℕ → SourceType → Bool → Type 0) (text : List ℕ) (t : SourceType) (c : Bool) (r : RowReaderState)
@@ -66,9 +67,9 @@ order text t c r marks texts types collects behind are rows tokens = record {
 }
 
 -- rows and live tokens of a session that is in order lie on places
-pub in_order_lies : (r : RowReaderState) (marks : List SessionMark) (order : List SessionMark) → IsInOrder r order
-    → LieOnPlaces (seen r marks)
-in_order_lies r marks order h = record { rows = h.rows_lie; tokens = h.tokens_lie }
+pub in_order_lies : (r : RowReaderState) (marks order : List SessionMark) (spare : ℕ) → IsInOrder r order
+    → LieOnPlaces (seen r marks spare)
+in_order_lies r marks order spare h = record { rows = h.rows_lie; tokens = h.tokens_lie }
 
 -- what is live once a row was added
 added_restored : (goal : Goal) (command : Option Command) (old new : RowReaderState)
@@ -101,10 +102,10 @@ order_added goal command old new marks h a =
     (subst (AllByRecursion (IsOnPlaces text)) (sym a.tokens)
     (all-push (IsOnPlaces text) old.tokens a.row.token h.tokens_lie a.reads.places.token))
 
-pub on_adds_row : (goal : Goal) (command : Command) (old new : RowReaderState) (ms : List SessionMark)
+pub on_adds_row : (goal : Goal) (command : Command) (old new : RowReaderState) (ms : List SessionMark) (spare : ℕ)
     → effect_of command ≡ reads goal → IsInOrder old (reverse ms) → AddsLive goal (Some command) old new
-    → AddsRow command (seen old ms) (seen new ms)
-on_adds_row goal command old new ms effect h a =
+    → AddsRow command (seen old ms spare) (seen new ms spare)
+on_adds_row goal command old new ms spare effect h a =
     let after = added_restored goal (Some command) old new a in
     let live = live_added goal (Some command) old new a in
     let marks =
@@ -198,11 +199,11 @@ again_is_row goal command old new row now behind fit effect r =
       places = r.places;
     }
 
-again_adds_row : (goal : Goal) (command : Command) (old new : RowReaderState) (ms : List SessionMark)
+again_adds_row : (goal : Goal) (command : Command) (old new : RowReaderState) (ms : List SessionMark) (spare : ℕ)
     → effect_of command ≡ re_lexes goal → fits old.lexer.text goal (token_or_default old.lexer.last) ≡ true
     → IsInOrder old (reverse ms) → AddsAgain goal (Some command) old new
-    → AddsRow command (seen old ms) (seen new ms)
-again_adds_row goal command old new ms effect fit h a =
+    → AddsRow command (seen old ms spare) (seen new ms spare)
+again_adds_row goal command old new ms spare effect fit h a =
     let o = outcome_of a.row in
     let after = again_restored goal (Some command) old new a in
     let live = live_again goal (Some command) old new a in
@@ -245,9 +246,9 @@ order_undone old new marks h u =
     order_restored old new marks h u.lexer u.tokens
     (subst (AllByRecursion (LiesOnPlaces old.lexer.text)) (sym u.rows) h.rows_lie)
 
-pub peek_adds_row : (old new : RowReaderState) (ms : List SessionMark) → IsInOrder old (reverse ms)
-    → AddsPeek NextGoal (Some Peek) old new → AddsRow Peek (seen old ms) (seen new ms)
-peek_adds_row old new ms h a =
+pub peek_adds_row : (old new : RowReaderState) (ms : List SessionMark) (spare : ℕ) → IsInOrder old (reverse ms)
+    → AddsPeek NextGoal (Some Peek) old new → AddsRow Peek (seen old ms spare) (seen new ms spare)
+peek_adds_row old new ms spare h a =
     let back = a.lexer in
     let live : live_now new ≡ live_now old = same_live (live_now new) (live_now old) a.tokens back.findings in
     record {
@@ -290,11 +291,11 @@ not_taken_is_row goal command old now behind fit effect lies =
       places = record { token = lies; value = tt };
     }
 
-not_taken_adds_row : (goal : Goal) (command : Command) (old new : RowReaderState) (ms : List SessionMark)
+not_taken_adds_row : (goal : Goal) (command : Command) (old new : RowReaderState) (ms : List SessionMark) (spare : ℕ)
     → effect_of command ≡ re_lexes goal → fits old.lexer.text goal (token_or_default old.lexer.last) ≡ false
     → IsInOrder old (reverse ms) → AddsNotTaken (Some command) old new
-    → AddsRow command (seen old ms) (seen new ms)
-not_taken_adds_row goal command old new ms effect fit h a = record {
+    → AddsRow command (seen old ms spare) (seen new ms spare)
+not_taken_adds_row goal command old new ms spare effect fit h a = record {
   row = not_taken (Some command) old.lexer;
   is_row = not_taken_is_row goal command old (live_now old) h.behind fit effect a.places;
   after = rw (a.after, effect) refl;
@@ -314,19 +315,19 @@ order_re_lexed goal command old new marks h adds =
     by_fit true fit adds = order_again goal command old new marks fit h adds
     by_fit false fit adds = order_not_taken command old new marks h adds
 
-pub re_lex_adds_row : (goal : Goal) (command : Command) (old new : RowReaderState) (ms : List SessionMark)
+pub re_lex_adds_row : (goal : Goal) (command : Command) (old new : RowReaderState) (ms : List SessionMark) (spare : ℕ)
     → effect_of command ≡ re_lexes goal → IsInOrder old (reverse ms)
     → MatchBool (fits old.lexer.text goal (token_or_default old.lexer.last)) (AddsAgain goal (Some command) old new)
     (AddsNotTaken (Some command) old new)
-    → AddsRow command (seen old ms) (seen new ms)
-re_lex_adds_row goal command old new ms effect h adds =
+    → AddsRow command (seen old ms spare) (seen new ms spare)
+re_lex_adds_row goal command old new ms spare effect h adds =
     by_fit (fits old.lexer.text goal (token_or_default old.lexer.last)) refl adds
   where
     by_fit : (b : Bool) → fits old.lexer.text goal (token_or_default old.lexer.last) ≡ b
         → MatchBool b (AddsAgain goal (Some command) old new) (AddsNotTaken (Some command) old new)
-        → AddsRow command (seen old ms) (seen new ms)
-    by_fit true fit adds = again_adds_row goal command old new ms effect fit h adds
-    by_fit false fit adds = not_taken_adds_row goal command old new ms effect fit h adds
+        → AddsRow command (seen old ms spare) (seen new ms spare)
+    by_fit true fit adds = again_adds_row goal command old new ms spare effect fit h adds
+    by_fit false fit adds = not_taken_adds_row goal command old new ms spare effect fit h adds
 
 -- the marks without the last one
 commit_popped : (r : RowReaderState) (ms ms' : List SessionMark) (popped : Option SessionMark)
@@ -353,12 +354,20 @@ pub order_commit : (r : RowReaderState) (ms ms' : List SessionMark) (popped : Op
     → 0 < length (fronts (live_now r) (reverse ms)) → IsInOrder r (reverse ms) → IsInOrder r (reverse ms')
 order_commit r ms ms' popped e found some h = (commit_popped r ms ms' popped e found (some_marks r ms some) h).0
 
-pub commit_is : (r : RowReaderState) (ms ms' : List SessionMark) (popped : Option SessionMark)
-    → ms ≡ ms' ++ option_to_list popped → (IsSome popped ↔ (0 < length ms))
+-- a place is freed by the mark that was in it
+freed : (ms : List SessionMark) (spare spare' : ℕ) (popped : Option SessionMark) → (IsSome popped ↔ (0 < length ms))
+    → 0 < length ms → spare' ≡ spare + length (option_to_list popped) → spare' ≡ spare + 1
+freed ms spare spare' None found some e = absurd (let no : false ≡ true = found.1 some in cc)
+freed ms spare spare' (Some m) found some e = e
+
+pub commit_is : (r : RowReaderState) (ms ms' : List SessionMark) (spare spare' : ℕ) (popped : Option SessionMark)
+    → ms ≡ ms' ++ option_to_list popped → spare' ≡ spare + length (option_to_list popped)
+    → (IsSome popped ↔ (0 < length ms))
     → 0 < length (fronts (live_now r) (reverse ms)) → IsInOrder r (reverse ms)
-    → seen r ms' ≡ after_command Commit (seen r ms)
-commit_is r ms ms' popped e found some h = let state =
-    (commit_popped r ms ms' popped e found (some_marks r ms some) h).1 in rw state refl
+    → seen r ms' spare' ≡ after_command Commit (seen r ms spare)
+commit_is r ms ms' spare spare' popped e free found some h =
+    let state = (commit_popped r ms ms' popped e found (some_marks r ms some) h).1 in
+    rw (state, freed ms spare spare' popped found (some_marks r ms some) free) refl
 
 pub length_marks : (r : RowReaderState) (ms : List SessionMark) → length ms ≡ length (fronts (live_now r) (reverse ms))
 length_marks r ms = sym (length-fronts (live_now r) (reverse ms) ∙ length-reverse ms)
@@ -412,13 +421,14 @@ order_mark r ms ms' m e is h =
       tokens_lie = h.tokens_lie;
     })
 
-pub mark_is : (r : RowReaderState) (ms ms' : List SessionMark) (m : SessionMark) → ms' ≡ ms ++ m ∷ [] → IsMarkOf r m
-    → IsInOrder r (reverse ms)
-    → seen r ms' ≡ after_command Mark (seen r ms)
-mark_is r ms ms' m e is h =
+pub mark_is : (r : RowReaderState) (ms ms' : List SessionMark) (spare spare' : ℕ) (m : SessionMark)
+    → ms' ≡ ms ++ m ∷ [] → spare' + 1 ≡ spare → IsMarkOf r m → IsInOrder r (reverse ms)
+    → seen r ms' spare' ≡ after_command Mark (seen r ms spare)
+mark_is r ms ms' spare spare' m e free is h =
+    let taken : spare' ≡ spare - 1 = omega (arith, free) in
     let turned : reverse ms' ≡ m ∷ reverse ms = ap reverse e ∙ reverse-append ms (m ∷ []) in
     let whole : front (live_now r) m ≡ live_now r = mark_front r ms m is h in
-    rw (turned, whole) refl
+    rw (turned, whole, taken) refl
 
 -- the lexer may go back to the last mark
 last_mark : (r : RowReaderState) (ms ms' : List SessionMark) (m : SessionMark) → ms ≡ ms' ++ m ∷ []
@@ -504,12 +514,12 @@ order_rewind r new ms ms' m h =
     (subst (AllByRecursion (IsOnPlaces text)) (sym (ap (λ x. x.tokens) l.live))
     (all-put_back (IsOnPlaces text) m.tokens r.tokens m.checkpoint.last h.in_order.tokens_lie marks.0.can_rewind.last))
 
-pub rewind_is : (r new : RowReaderState) (ms ms' : List SessionMark) (m : SessionMark) → IsBack r new ms ms' m
-    → seen new ms' ≡ after_command Rewind (seen r ms)
-rewind_is r new ms ms' m h =
+pub rewind_is : (r new : RowReaderState) (ms ms' : List SessionMark) (spare spare' : ℕ) (m : SessionMark)
+    → spare' ≡ spare + 1 → IsBack r new ms ms' m → seen new ms' spare' ≡ after_command Rewind (seen r ms spare)
+rewind_is r new ms ms' spare spare' m free h =
     let l = lives_again r new ms ms' m h in
     let turned : reverse ms ≡ m ∷ reverse ms' = ap reverse h.ends ∙ reverse-append ms' (m ∷ []) in
-    rw (l.lexer.text, l.lexer.source_type, l.lexer.collects, l.rows, l.live, turned) refl
+    rw (l.lexer.text, l.lexer.source_type, l.lexer.collects, l.rows, l.live, turned, free) refl
 
 -- either way, whether a call could allocate
 pub either_way : {T E A B C : Type 0} → (r : Result T E) → OnOk r A → OnErr r B → (A → C) → (B → C) → C

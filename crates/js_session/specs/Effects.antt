@@ -1,5 +1,5 @@
 -- What each command does: one function of the command, on which everything else about commands rests.
-use Rattle.std.specs.Prelude.{Bool, true, false, Option, Some, None}
+use Rattle.std.specs.Prelude.{ℕ, ◌+◌, ◌-◌, Bool, true, false, List, [], ◌∷◌, Option, Some, None}
 use Rattle.js_grammar.specs.declared.goal.Goal.{Goal}
 use Rattle.js_grammar.specs.declared.goal.Goal.TheVariants.{First, Next as NextGoal, TemplateTail as TailGoal}
 use Rattle.js_grammar.specs.declared.goal.Goal.TheVariants.{RegularExpression, RightAngle, TypeScriptLeftAngle}
@@ -79,3 +79,27 @@ closes command = closes_mark (effect_of command)
 -- the commands that open one
 abbrev pub opens_one : Command → Bool
 opens_one command = opens_mark (effect_of command)
+
+-- How many places for marks are free after an effect, where so many were before it: opening a mark takes one, and
+-- closing it frees that again.
+abbrev pub free_after : Effect → ℕ → ℕ
+free_after (reads goal) free = free
+free_after (peeks goal) free = free
+free_after (re_lexes goal) free = free
+free_after opens free = free - 1
+free_after rewinds free = free + 1
+free_after commits free = free + 1
+
+-- how many have to be free before an effect, where so many have to be after it
+abbrev pub needed_before : Effect → ℕ → ℕ
+needed_before (reads goal) needed = needed
+needed_before (peeks goal) needed = needed
+needed_before (re_lexes goal) needed = needed
+needed_before opens needed = needed + 1
+needed_before rewinds needed = needed - 1
+needed_before commits needed = needed - 1
+
+-- how many have to be free before these commands, so that each that opens a mark finds one
+abbrev pub marks_needed : List Command → ℕ
+marks_needed [] = 0
+marks_needed (c ∷ cs) = needed_before (effect_of c) (marks_needed cs)

@@ -1,6 +1,6 @@
 -- Marks kept as lengths: what was live at a mark is a front of what is live now, with the token of its checkpoint last.
-use Rattle.std.specs.Prelude.{◌≡◌, ℕ, ◌≤◌, Bool, List, [], ◌∷◌, length, take, reverse, None}
-use Rattle.std.specs.List.{AllByRecursion}
+use Rattle.std.specs.Prelude.{◌≡◌, ℕ, ◌≤◌, Bool, List, [], ◌∷◌, length, take, reverse, Option, None, option_to_list}
+use Rattle.std.specs.List.{AllByRecursion, flat_map}
 use Rattle.js_text.specs.declared.source_type.SourceType.{SourceType}
 use Rattle.js_grammar.specs.Outcome.{Findings, cut_to}
 use Rattle.js_kind.specs.TokenParts.{TokenParts}
@@ -10,6 +10,10 @@ use Rattle.js_session.specs.Live.{Live, State, last_live, place_behind_last}
 use Rattle.js_session.specs.Report.{all_collected, LiesOnPlaces}
 use Rattle.js_session.specs.RowReader.{RowReaderState}
 use Rattle.js_session.specs.declared.mark.SessionMark.{SessionMark}
+
+-- the marks that these places hold
+abbrev pub marks_in : List (Option SessionMark) → List SessionMark
+marks_in places = flat_map option_to_list places
 
 -- what is live, by a session's tokens and what its lexer has found
 abbrev pub live_of : List TokenParts → Findings → Live

@@ -3,7 +3,7 @@ use Rattle.std.specs.Prelude.{◌≡◌, ℕ, Bool, List, [], ◌∷◌, ◌++�
 use Rattle.std.specs.List.{AllByRecursion}
 use Rattle.js_text.specs.declared.source_type.SourceType.{SourceType}
 use Rattle.js_lexer.specs.Lexer.{IsOnPlaces}
-use Rattle.js_session.specs.Effects.{effect_of, is_step}
+use Rattle.js_session.specs.Effects.{effect_of, is_step, free_after}
 use Rattle.js_session.specs.Live.{State, nothing_live, report_with, state_after_first, state_after, after_row}
 use Rattle.js_session.specs.Live.{after_mark}
 use Rattle.js_session.specs.Report.{IsRow, AreRows, LiesOnPlaces, all_collected}
@@ -11,13 +11,15 @@ use Rattle.js_session.specs.declared.command.Command.{Command}
 use Rattle.js_session.specs.declared.report.Report.{Report}
 use Rattle.js_session.specs.declared.row.Row.{Row}
 
--- A session: its source, its rows, what is live, and what was live at each open mark.
+-- A session: its source, its rows, what is live, what was live at each open mark, and how many places for marks are
+-- free.
 pub record SessionState : Type 0 where
   pub text : List ℕ
   pub source_type : SourceType
   pub collects : Bool
   pub rows : List Row
   pub state : State
+  pub spare : ℕ
 
 -- a session after its first step
 pub record Begins (text : List ℕ) (t : SourceType) (collects : Bool) (new : SessionState) : Type 0 where
@@ -29,6 +31,7 @@ pub record Begins (text : List ℕ) (t : SourceType) (collects : Bool) (new : Se
     collects = collects;
     rows = row ∷ [];
     state = state_after_first row;
+    spare = 0;
   }
 
 -- One step: a row of the command was added, and the state is the one after it.
@@ -39,7 +42,10 @@ pub record AddsRow (command : Command) (old new : SessionState) : Type 0 where
 
 -- a session after a command that gives no row
 abbrev pub after_command : Command → SessionState → SessionState
-after_command command s = record s { state = after_mark (effect_of command) s.state }
+after_command command s = record s {
+  state = after_mark (effect_of command) s.state;
+  spare = free_after (effect_of command) s.spare;
+}
 
 -- the report of a session
 abbrev pub report_of : SessionState → Report

@@ -1,12 +1,13 @@
 //! Laws of the definitions alone: each function carries one for all arguments, and does nothing.
 
-ghost use Rattle.std.specs.Prelude.{◌≡◌, ◌<◌, ◌^◌, ◌++◌, ◌∷◌, [], ℕ, length, Bool, List, Option, Some};
+ghost use Rattle.std.specs.Prelude.{◌≡◌, ◌<◌, ◌+◌, ◌^◌, ◌++◌, ◌∷◌, [], ℕ, length, Bool, true, List, Option, Some};
 ghost use Rattle.std.specs.List.{AllByRecursion};
 ghost use Rattle.std.specs.Str.{IsUtf8};
 ghost use Rattle.js_text.specs.declared.source_type.SourceType.{SourceType};
 ghost use Rattle.js_session.specs.declared.command.Command.{Command};
 ghost use Rattle.js_session.specs.declared.report.Report.{Report};
 ghost use Rattle.js_session.specs.declared.row.Row.{Row};
+ghost use Rattle.js_session.specs.Effects.{opens_one};
 ghost use Rattle.js_session.specs.Live.{Live, outcome_of};
 ghost use Rattle.js_session.specs.Report.{IsRow, HasMark, ReportOf};
 ghost use Rattle.js_session.specs.Session.{SessionState, Begins, Follows, HasRun, report_of};
@@ -47,11 +48,26 @@ pub fn a_session_begins_with_no_command()
         → HasRun text t collects [] s }
 {}
 
+/// A session that has run commands has run the same ones whatever number of places for marks is free, as after more
+/// were reserved.
+pub fn reserving_marks_is_no_command()
+    ensures { (text : List ℕ) (t : SourceType) (collects : Bool) (commands : List Command) (s : SessionState)
+        (spare : ℕ) → HasRun text t collects commands s
+        → HasRun text t collects commands (record s { spare = spare }) }
+{}
+
 /// A session that follows a command has run one more.
 pub fn each_call_is_one_command_more()
     ensures { (text : List ℕ) (t : SourceType) (collects : Bool) (commands : List Command) (command : Command)
         (old new : SessionState) → HasRun text t collects commands old → HasMark command old.state
         → Follows command old new → HasRun text t collects (commands ++ command ∷ []) new }
+{}
+
+/// A session that follows a command has as many open marks and free places together as it had before.
+pub fn no_command_loses_a_place()
+    ensures { (command : Command) (old new : SessionState) → HasMark command old.state
+        → (opens_one command ≡ true → 0 < old.spare) → Follows command old new
+        → length new.state.marks + new.spare ≡ length old.state.marks + old.spare }
 {}
 
 /// After any list of calls, the report of a session is that of its commands.

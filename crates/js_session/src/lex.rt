@@ -1,7 +1,8 @@
 //! Whole sessions.
 
-ghost use Rattle.std.specs.Prelude.{◌≡◌, ◌<◌, ◌^◌, ◌⊎◌, length, IfOk, OnOk, IfErr, IsOk};
+ghost use Rattle.std.specs.Prelude.{◌≡◌, ◌<◌, ◌^◌, ◌⊎◌, true, length, IfOk, OnOk, IfErr, IsOk};
 ghost use Rattle.std.specs.List.{AllByRecursion};
+ghost use Rattle.js_session.specs.Effects.{effect_of, opens_one, needed_before, marks_needed};
 ghost use Rattle.js_session.specs.Faults.{IsReadable, HasMarks, Cause};
 ghost use Rattle.js_session.specs.Report.{ReportOf, HasMark, IsSliceOnPlaces};
 ghost use Rattle.js_session.specs.Session.{Follows};
@@ -18,17 +19,44 @@ use std::alloc::{AllocError, Global};
 use std::marker::Brand;
 use std::sync::ledger::{Blank, Ledger};
 
+/// How many places for marks have to be free before a command, where so many have to be after it.
+fn needed_before(command: Command, needed: usize) -> usize
+    requires { needed < usize.MAX }
+    ensures { result ≡ needed_before (effect_of command) needed }
+{
+    match command {
+        Command::Mark => needed + 1,
+        Command::Rewind | Command::Commit => needed.saturating_sub(1),
+        _ => needed,
+    }
+}
+
+/// How many places for marks have to be free before the commands.
+fn marks_needed(commands: &[Command]) -> usize
+    ensures { result ≡ marks_needed commands.now }
+{
+    let mut needed = 0;
+    for index in (0..commands.len()).rev() {
+        needed = needed_before(commands[index], needed);
+    }
+    needed
+}
+
 /// One command of any kind.
 fn follow<C: LexerConfig + Drop, L: Ledger>(
     session: &mut Session<'_, C>,
     command: Command,
     steps: &mut Steps<L>,
 ) -> Result<(), AllocError>
-    requires { HasMark command session.old.state }
+    requires mark { HasMark command session.old.state }
+    requires place { opens_one command ≡ true → 0 < session.old.spare }
     ensures { OnOk result (Follows command session.old session.new) }
 {
     match command {
-        Command::Mark => session.mark(),
+        Command::Mark => {
+            session.mark();
+            Ok(())
+        }
         Command::Rewind => {
             session.rewind();
             Ok(())
@@ -59,6 +87,7 @@ fn lex_text<L: Ledger>(
         Ok(session) => session,
         Err(_) => return Err(AllocError),
     };
+    session.reserve_marks(marks_needed(commands))?;
     for command in commands {
         follow(&mut session, *command, steps)?;
     }

@@ -6,6 +6,7 @@ mod fault;
 pub mod laws;
 mod lex;
 mod mark;
+mod mark_list;
 mod re_lex;
 mod read;
 mod report;

@@ -10,7 +10,7 @@ ghost use Rattle.js_session.specs.Report.{LiesOnPlaces, IsSliceOnPlaces};
 ghost use Rattle.js_session.specs.Session.{Begins, AddsRow, LieOnPlaces, after_command, report_of};
 
 use crate::command::Command;
-use crate::mark::SessionMark;
+use crate::mark_list::MarkList;
 use crate::read::RowReader;
 use crate::report::Report;
 use crate::row::Row;
@@ -18,16 +18,17 @@ use crate::steps::Steps;
 use js_grammar::Goal;
 use js_kind::LexerConfig;
 use js_lexer::{Lexer, NewFault};
-use js_text::{ItemList, SourceType};
+use js_text::SourceType;
 use std::alloc::{AllocError, Global};
 use std::marker::Model;
 use std::sync::ledger::Ledger;
 
-/// A session over a source text: its lexer, its rows, the live tokens, and the open marks.
+/// A session over a source text: its lexer, its rows, the live tokens, and the open marks, with places that are free
+/// for more.
 #[derive(Drop)]
 pub struct Session<'a, C: LexerConfig + Drop> {
     reader: RowReader<'a, C>,
-    marks: ItemList<SessionMark>,
+    marks: MarkList,
 }
 
 impl<'a, C: LexerConfig + Drop> Model for Session<'a, C> {
@@ -42,10 +43,11 @@ impl<'a, C: LexerConfig + Drop> Model for Session<'a, C> {
       source_type = s.reader.lexer.source_type;
       collects = s.reader.lexer.collects;
       rows = s.reader.rows;
-      state = state_of (live_now s.reader) s.marks;
+      state = state_of (live_now s.reader) s.marks.items;
+      spare = s.marks.free;
     } };
 
-    ghost invariant = { λ s. IsInOrder s.reader (reverse s.marks) };
+    ghost invariant = { λ s. IsInOrder s.reader (reverse s.marks.items) };
 }
 
 impl<'a, C: LexerConfig + Drop> Session<'a, C> {
@@ -73,7 +75,7 @@ impl<'a, C: LexerConfig + Drop> Session<'a, C> {
         match reader.add_row(None, Goal::First, false) {
             Ok(()) => Ok(Session {
                 reader,
-                marks: ItemList::new_in(alloc),
+                marks: MarkList::new_in(alloc),
             }),
             Err(_) => Err(NewFault::Memory),
         }
@@ -140,15 +142,26 @@ impl<'a, C: LexerConfig + Drop> Session<'a, C> {
         }
     }
 
-    /// Marks what is live.
-    pub fn mark(&mut self) -> Result<(), AllocError>
-        ensures ok { OnOk result (self.new ≡ after_command Command.Mark self.old) }
+    /// Makes at least `more` places for marks free, and changes nothing else. Where there is no memory for them, all is
+    /// as before, the free places too.
+    pub fn reserve_marks(&mut self, more: usize) -> Result<(), AllocError>
+        ensures ok { OnOk result (more ≤ self.new.spare) }
+        ensures keeps { self.old.spare ≤ self.new.spare }
+        ensures rest { self.new ≡ record self.old { spare = self.new.spare } }
         ensures err { OnErr result (self.new ≡ self.old) }
     {
-        self.marks.push(self.reader.mark())
+        self.marks.reserve(more)
     }
 
-    /// Goes back to the last open mark, and closes it.
+    /// Marks what is live, in a place that is free. It takes no memory.
+    pub fn mark(&mut self)
+        requires { 0 < self.old.spare }
+        ensures { self.new ≡ after_command Command.Mark self.old }
+    {
+        self.marks.push_reserved(self.reader.mark());
+    }
+
+    /// Goes back to the last open mark, and closes it. Its place is free then.
     pub fn rewind(&mut self)
         requires { 0 < length self.old.state.marks }
         ensures state { self.new ≡ after_command Command.Rewind self.old }
@@ -159,7 +172,7 @@ impl<'a, C: LexerConfig + Drop> Session<'a, C> {
         }
     }
 
-    /// Closes the last open mark.
+    /// Closes the last open mark. Its place is free then.
     pub fn commit(&mut self)
         requires { 0 < length self.old.state.marks }
         ensures { self.new ≡ after_command Command.Commit self.old }
@@ -180,6 +193,14 @@ impl<'a, C: LexerConfig + Drop> Session<'a, C> {
         ensures { result ≡ length self.now.state.marks }
     {
         self.marks.len()
+    }
+
+    /// How many places for marks are free: so many marks may be opened before more are reserved. A mark that is closed
+    /// frees its place, and no call gives up any.
+    pub fn spare_marks(&self) -> usize
+        ensures { result ≡ self.now.spare }
+    {
+        self.marks.free()
     }
 
     /// The report of the calls so far. A mark may still be open.

@@ -5,5 +5,5 @@ use Rattle.js_session.proofs.session.Session.marks.Goals as goal
 
 pub returns : goal.returns
 returns g c =
-    c.len.ensures ∙ length_marks c.self.inside.reader c.self.inside.marks
+    c.len.ensures ∙ length_marks c.self.inside.reader c.self.inside.marks.items
     ∙ ap (λ s. length s.state.marks) c.self.view_is

@@ -10,17 +10,19 @@ pub invariant_of-self : goal.invariant_of-self
 invariant_of-self g c =
     either_way c.add_row.result c.add_row.ensures.ok c.add_row.ensures.err
     (λ adds. order_peeked _ _ c.self.inside.reader c.add_row.new.self
-    (reverse c.self.inside.marks) c.self.invariant adds)
+    (reverse c.self.inside.marks.items) c.self.invariant adds)
     (λ undone. order_undone c.self.inside.reader c.add_row.new.self
-    (reverse c.self.inside.marks) c.self.invariant undone)
+    (reverse c.self.inside.marks.items) c.self.invariant undone)
 
 pub returns-clause-ok : goal.returns-clause-ok
 returns-clause-ok g c =
     on_ok_weaker c.add_row.result
-    (λ adds. subst (λ s. AddsRow Peek s (seen c.add_row.new.self c.self.inside.marks)) c.self.view_is
-    (peek_adds_row c.self.inside.reader c.add_row.new.self c.self.inside.marks c.self.invariant adds))
+    (λ adds. let marks = c.self.inside.marks in
+    subst (λ s. AddsRow Peek s (seen c.add_row.new.self marks.items marks.free)) c.self.view_is
+    (peek_adds_row c.self.inside.reader c.add_row.new.self marks.items marks.free c.self.invariant adds))
     c.add_row.ensures.ok
 
 pub returns-clause-places : goal.returns-clause-places
 returns-clause-places g c =
-    in_order_lies c.add_row.new.self c.self.inside.marks (reverse c.self.inside.marks) (invariant_of-self g c)
+    in_order_lies c.add_row.new.self c.self.inside.marks.items (reverse c.self.inside.marks.items)
+    c.self.inside.marks.free (invariant_of-self g c)
