@@ -5,7 +5,8 @@ ghost use Rattle.js_session.specs.Report.{ReportOf};
 
 use js_kind::NoTokensLexerConfig;
 use js_session::laws::{
-    a_session_begins_with_no_command, a_session_reports_its_commands, each_call_is_one_command_more,
+    a_session_begins_with_no_command, a_session_reports_its_commands,
+    each_call_is_one_command_more, reserving_marks_is_no_command,
 };
 use js_session::{Command, Report, Session, Steps};
 use js_text::SourceType;
@@ -21,6 +22,7 @@ fn driven<L: Ledger>(alloc: Global, text: &str, steps: &mut Steps<L>) -> Result<
         (Command.Mark ∷ Command.Next ∷ Command.Rewind ∷ Command.Peek ∷ [])) }
 {
     a_session_begins_with_no_command();
+    reserving_marks_is_no_command();
     each_call_is_one_command_more();
     a_session_reports_its_commands();
     let config = NoTokensLexerConfig;
@@ -28,7 +30,8 @@ fn driven<L: Ledger>(alloc: Global, text: &str, steps: &mut Steps<L>) -> Result<
         Ok(session) => session,
         Err(_) => return Err(AllocError),
     };
-    session.mark()?;
+    session.reserve_marks(1)?;
+    session.mark();
     session.step(Command::Next, steps)?;
     session.rewind();
     session.step(Command::Peek, steps)?;

@@ -289,7 +289,8 @@ fn step_and_go_back<L: Ledger, C: LexerConfig + Drop>(
     session: &mut Session<'_, C>,
     steps: &mut Steps<L>,
 ) -> Result<(), AllocError> {
-    session.mark()?;
+    session.reserve_marks(1)?;
+    session.mark();
     session.step(Command::Next, steps)?;
     if session.marks() > 0 {
         session.rewind();
@@ -302,7 +303,8 @@ fn step_and_stay<L: Ledger, C: LexerConfig + Drop>(
     session: &mut Session<'_, C>,
     steps: &mut Steps<L>,
 ) -> Result<(), AllocError> {
-    session.mark()?;
+    session.reserve_marks(1)?;
+    session.mark();
     if session.marks() > 0 {
         session.commit();
     }
@@ -343,6 +345,47 @@ fn each_configuration(rt: HostRuntime) -> Result<(), Fail> {
     let config = RuntimeLexerConfig::new(true);
     let report = run::<Brand, RuntimeLexerConfig>(alloc, config, Blank::new(1));
     assert!(rt; is_right(&report.ok_or("at run time")?, &all));
+    Ok(())
+}
+
+/// A mark is opened in a place that is free, and closed; the places that are free before, between and after.
+fn places_for_a_mark<C: LexerConfig + Drop>(
+    session: &mut Session<'_, C>,
+    close: Command,
+) -> Result<(usize, usize, usize), AllocError> {
+    session.reserve_marks(1)?;
+    let before = session.spare_marks();
+    session.mark();
+    let between = session.spare_marks();
+    if session.marks() == 1 {
+        match close {
+            Command::Rewind => session.rewind(),
+            _ => session.commit(),
+        }
+    }
+    Ok((before, between, session.spare_marks()))
+}
+
+/// The same over `a`. None where there was not enough memory.
+fn places<L: Ledger>(alloc: Global, close: Command, blank: Blank) -> Option<(usize, usize, usize)>
+    requires name { blank.name ≡ L.name }
+    requires parts { blank.parts ≡ L.parts }
+    requires some_part { 0 < L.parts }
+{
+    let mut steps = Steps::<L>::new(blank);
+    let config = NoTokensLexerConfig;
+    let mut session = Session::begin(alloc, "a", SourceType::Script, config, &mut steps).ok()?;
+    places_for_a_mark(&mut session, close).ok()
+}
+
+#[test]
+fn places_for_marks(rt: HostRuntime) -> Result<(), Fail> {
+    for close in &[Command::Rewind, Command::Commit] {
+        let found = places::<Brand>(rt.alloc(), *close, Blank::new(1));
+        let (before, between, after) = found.ok_or("no places")?;
+        assert_eq!(rt; before.checked_sub(1), Some(between));
+        assert_eq!(rt; after, before);
+    }
     Ok(())
 }
 
