@@ -1,5 +1,5 @@
 -- A lexer that is driven makes the steps of a session.
-use Rattle.std.proofs.Common.{◌≡◌, suc, add-zero, true, List, [], ◌∷◌, ◌++◌, length, refl, sym, ◌∙◌, ap, subst}
+use Rattle.std.proofs.Common.{◌≡◌, ℕ, suc, add-zero, true, List, [], ◌∷◌, ◌++◌, length, refl, sym, ◌∙◌, ap, subst}
 use Rattle.std.proofs.Common.{Option, Some, None, Result, Ok, Err}
 use Rattle.std.proofs.lemmas.List.{length-append}
 use Rattle.std.specs.List.{AllByRecursion, last_or}
@@ -39,20 +39,20 @@ pub same_state : (a b : State) → a.now ≡ b.now → a.marks ≡ b.marks → a
 same_state a b e1 e2 = rw (e1, e2) refl
 
 pub same_session : (a b : SessionState) → a.text ≡ b.text → a.source_type ≡ b.source_type → a.collects ≡ b.collects
-    → a.rows ≡ b.rows → a.state ≡ b.state → a ≡ b
-same_session a b e1 e2 e3 e4 e5 = rw (e1, e2, e3, e4, e5) refl
+    → a.rows ≡ b.rows → a.state ≡ b.state → a.spare ≡ b.spare → a ≡ b
+same_session a b e1 e2 e3 e4 e5 e6 = rw (e1, e2, e3, e4, e5, e6) refl
 
 -- what reads the rows of a session with this lexer
 abbrev pub reader_of : SessionState → LexerState → RowReaderState
 reader_of s l = record { lexer = l; rows = s.rows; tokens = s.state.now.tokens }
 
 -- a session without a mark is that of its reader
-seen_is : (s : SessionState) (l : LexerState) (c : Chooser) → Drives s l c → seen (reader_of s l) [] ≡ s
+seen_is : (s : SessionState) (l : LexerState) (c : Chooser) → Drives s l c → seen (reader_of s l) [] s.spare ≡ s
 seen_is s l c h =
     let reader = reader_of s l in
     let now : live_now reader ≡ s.state.now = same_live (live_now reader) s.state.now refl h.findings in
-    same_session (seen reader []) s h.text h.source_type h.collects refl
-    (same_state (state_of (live_now reader) []) s.state now (sym h.unmarked))
+    same_session (seen reader [] s.spare) s h.text h.source_type h.collects refl
+    (same_state (state_of (live_now reader) []) s.state now (sym h.unmarked)) refl
 
 reader_in_order : (s : SessionState) (l : LexerState) (c : Chooser) → Drives s l c → IsInOrder (reader_of s l) []
 reader_in_order s l c h = record {
@@ -71,9 +71,9 @@ reader_in_order s l c h = record {
 }
 
 -- a reader that is in order stands for its session
-pub drives_seen : (r : RowReaderState) (c : Chooser) → IsUtf8 r.lexer.text → IsInOrder r [] → c ≡ chooser_of r.tokens
-    → Drives (seen r []) r.lexer c
-drives_seen r c u in_order told = record {
+pub drives_seen : (r : RowReaderState) (spare : ℕ) (c : Chooser) → IsUtf8 r.lexer.text → IsInOrder r []
+    → c ≡ chooser_of r.tokens → Drives (seen r [] spare) r.lexer c
+drives_seen r spare c u in_order told = record {
   text = refl;
   source_type = refl;
   collects = refl;
@@ -84,7 +84,7 @@ drives_seen r c u in_order told = record {
   told = told;
   unmarked = refl;
   utf8 = u;
-  places = in_order_lies r [] [] in_order;
+  places = in_order_lies r [] [] spare in_order;
 }
 
 -- A token that was read on.
@@ -101,12 +101,12 @@ step_next old new c d token r told s h =
     record { row = row; reads = row_read NextGoal (Some Next) old new token refl u r; rows = refl; tokens = refl } in
     let in_order = reader_in_order s old c h in
     record {
-      session = seen after [];
+      session = seen after [] s.spare;
       adds =
-          subst (λ x. AddsRow Next x (seen after [])) (seen_is s old c h)
-          (on_adds_row NextGoal Next before after [] refl in_order adds);
+          subst (λ x. AddsRow Next x (seen after [] s.spare)) (seen_is s old c h)
+          (on_adds_row NextGoal Next before after [] s.spare refl in_order adds);
       drives =
-          drives_seen after d (subst IsUtf8 (sym r.after.text) u)
+          drives_seen after s.spare d (subst IsUtf8 (sym r.after.text) u)
           (order_added NextGoal (Some Next) before after [] in_order adds) (told s.state.now.tokens h.told);
       more_are = length-append s.state.now.tokens (token ∷ []);
     }
@@ -142,12 +142,12 @@ step_again goal command old new c d token regex effect fit r known told s h =
     (sym fit) again in
     let in_order = reader_in_order s old c h in
     record {
-      session = seen after [];
+      session = seen after [] s.spare;
       adds =
-          subst (λ x. AddsRow command x (seen after [])) (seen_is s old c h)
-          (re_lex_adds_row goal command before after [] effect in_order adds);
+          subst (λ x. AddsRow command x (seen after [] s.spare)) (seen_is s old c h)
+          (re_lex_adds_row goal command before after [] s.spare effect in_order adds);
       drives =
-          drives_seen after d (subst IsUtf8 (sym r.after.text) u)
+          drives_seen after s.spare d (subst IsUtf8 (sym r.after.text) u)
           (order_re_lexed goal (Some command) before after [] in_order adds) (told s.state.now.tokens h.told);
       more_are = length-with_last s.state.now.tokens token ∙ sym (add-zero (length s.state.now.tokens));
     }

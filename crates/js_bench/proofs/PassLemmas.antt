@@ -67,7 +67,14 @@ fresh_behind text t collects = record {
 -- a session behind its first row
 abbrev first_session : List ℕ → SourceType → Bool → Row → SessionState
 first_session text t collects row =
-    record { text = text; source_type = t; collects = collects; rows = row ∷ []; state = state_after_first row }
+    record {
+      text = text;
+      source_type = t;
+      collects = collects;
+      rows = row ∷ [];
+      state = state_after_first row;
+      spare = 0;
+    }
 
 -- Behind the first token.
 pub passes_start : (text : List ℕ) (t : SourceType) (collects : Bool) (new : LexerState) (c : Chooser)
@@ -83,7 +90,7 @@ passes_start text t collects new c token u short r told =
     record { row = row; reads = reads; rows = refl; tokens = refl } in
     let nothing : IsInOrder before [] =
     record { behind = fresh_behind text t collects; are_marks = tt; rows_lie = tt; tokens_lie = tt } in
-    let session = seen after [] in
+    let session = seen after [] 0 in
     let found : new.findings ≡ joined no_findings (row_findings row) =
     reads.reads.after.findings ∙ ap (λ o. joined no_findings o.findings) (sym reads.outcome_is) in
     let now : live_now after ≡ with_outcome nothing_live (outcome_of row) =
@@ -95,12 +102,12 @@ passes_start text t collects new c token u short r told =
       row = row;
       is_row = read_is_row First None old new nothing_live row (fresh_behind text t collects) reads (λ is. is);
       after = same_session session (first_session text t collects row) r.after.text r.after.source_type
-          r.after.collects refl state;
+          r.after.collects refl state refl;
     } in
     record {
       session = session;
       drives =
-          drives_seen after c (subst IsUtf8 (sym r.after.text) u)
+          drives_seen after 0 c (subst IsUtf8 (sym r.after.text) u)
           (order_added First None before after [] nothing adds) told;
       commands = [];
       goes = goes_start text t collects session u begins;
