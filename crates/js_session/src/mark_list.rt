@@ -79,6 +79,7 @@ impl MarkList {
         ensures items { self.old.items ≡ self.new.items ++ option_to_list result }
         ensures free { self.new.free ≡ self.old.free + length (option_to_list result) }
     {
-        self.places.pop().flatten()
+        let place = self.places.pop();
+        place.flatten()
     }
 }

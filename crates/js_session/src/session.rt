@@ -158,7 +158,8 @@ impl<'a, C: LexerConfig + Drop> Session<'a, C> {
         requires { 0 < self.old.spare }
         ensures { self.new ≡ after_command Command.Mark self.old }
     {
-        self.marks.push_reserved(self.reader.mark());
+        let mark = self.reader.mark();
+        self.marks.push_reserved(mark);
     }
 
     /// Goes back to the last open mark, and closes it. Its place is free then.
