@@ -27,6 +27,7 @@ use Rattle.js_grammar.proofs.QuotedValues.{part_kind_is}
 use Rattle.js_lexer.specs.Lexer.{IsOnPlaces, token_or_default}
 use Rattle.js_session.specs.declared.command.Command.{Command}
 use Rattle.js_session.specs.declared.command.Command.TheVariants.{Next}
+use Rattle.js_session.specs.declared.report.Report.{Report}
 use Rattle.js_session.specs.declared.row.Row.{Row}
 use Rattle.js_session.specs.Effects.{effect_of}
 use Rattle.js_session.specs.Effects.Effect.{re_lexes}
@@ -291,6 +292,17 @@ goes_start text t collects s u b =
       chosen = λ left more h. h;
       last = record { last = b.row.token; is_last = refl; lies = on.lies; some_text = on.some_text };
     })
+
+-- What a session is told of itself that is told of the text that it began with, and the other way round.
+pub begun_itself : (text : List ℕ) (t : SourceType) (collects : Bool) (s : SessionState) → Begins text t collects s
+    → Begins s.text s.source_type s.collects s
+begun_itself text t collects s b = rw b.after (record { row = b.row; is_row = b.is_row; after = refl })
+
+pub report_begun : (text : List ℕ) (t : SourceType) (collects : Bool) (s : SessionState) (commands : List Command)
+    (report : Report) → Begins text t collects s
+    → ReportOfChosen s.text s.source_type s.collects commands report → ReportOfChosen text t collects commands report
+report_begun text t collects s commands report b is =
+    subst (λ (x : SessionState). ReportOfChosen x.text x.source_type x.collects commands report) b.after is
 
 -- the tokens of a session behind its first row
 pub tokens_begun : (text : List ℕ) (t : SourceType) (collects : Bool) (s : SessionState) (b : Begins text t collects s)

@@ -2,9 +2,10 @@
 
 ghost use Rattle.std.specs.Prelude.{◌≡◌, ◌<◌, ◌^◌, ◌⊎◌, List, [], ◌∷◌, ◌++◌, length, Some, IfOk, OnOk, IfErr, IsOk};
 ghost use Rattle.std.specs.List.{AllByRecursion};
+ghost use Rattle.std.specs.Str.{IsUtf8};
 ghost use Rattle.js_session.specs.Faults.{IsReadable};
 ghost use Rattle.js_session.specs.Report.{IsSliceOnPlaces};
-ghost use Rattle.js_session.specs.Session.{AddsRow};
+ghost use Rattle.js_session.specs.Session.{AddsRow, Begins, report_of};
 ghost use Rattle.js_session.specs.declared.row.Row.{Row};
 ghost use Rattle.js_auto.specs.Auto.{AutoCause, ReportOfChosen};
 ghost use Rattle.js_auto.specs.Choice.{choice, chooser_of};
@@ -61,6 +62,28 @@ fn make_step<C: LexerConfig + Drop, L: Ledger>(
     }
 }
 
+/// Makes the steps that are chosen behind the first one, up to the end of the text, and gives their commands.
+fn choose_all<C: LexerConfig + Drop, L: Ledger>(
+    alloc: Global,
+    session: &mut Session<'_, C>,
+    steps: &mut Steps<L>,
+) -> Result<CommandList, AllocError>
+    requires utf8 { IsUtf8 session.old.text }
+    requires short { length session.old.text < 2 ^ 32 }
+    requires begun { Begins session.old.text session.old.source_type session.old.collects session.old }
+    ensures { IfOk result (λ commands. ReportOfChosen session.old.text session.old.source_type session.old.collects
+        commands (report_of session.new)) }
+{
+    let mut chooser = GoalChooser::new(alloc);
+    chooser.read(&last_token(session.rows()))?;
+    let mut commands = CommandList::new_in(alloc);
+    while let Some(command) = chooser.command() {
+        make_step(session, &mut chooser, command, steps)?;
+        commands.push(command)?;
+    }
+    Ok(commands)
+}
+
 /// The commands that are chosen for a text, and the report of a session with them.
 fn auto_text<L: Ledger>(
     alloc: Global,
@@ -77,13 +100,7 @@ fn auto_text<L: Ledger>(
         Ok(session) => session,
         Err(_) => return Err(AllocError),
     };
-    let mut chooser = GoalChooser::new(alloc);
-    chooser.read(&last_token(session.rows()))?;
-    let mut commands = CommandList::new_in(alloc);
-    while let Some(command) = chooser.command() {
-        make_step(&mut session, &mut chooser, command, steps)?;
-        commands.push(command)?;
-    }
+    let commands = choose_all(alloc, &mut session, steps)?;
     Ok(Auto {
         commands,
         report: session.finish(),

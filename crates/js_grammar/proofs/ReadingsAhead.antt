@@ -9,13 +9,14 @@ use Rattle.js_text.specs.declared.source_type.SourceType.{SourceType}
 use Rattle.js_kind.specs.Digits.{is_digit_of}
 use Rattle.js_kind.specs.declared.kind.Kind.TheVariants.{NoSubstitutionTemplate, TemplateHead, Undetermined}
 use Rattle.js_grammar.specs.Gap.{is_prefix}
-use Rattle.js_grammar.specs.Name.{begins_name, private_reading}
+use Rattle.js_grammar.specs.Name.{begins_name, name_reading, private_reading}
 use Rattle.js_grammar.specs.Number.{begins_number}
+use Rattle.js_grammar.specs.NumberReads.{number_reading}
 use Rattle.js_grammar.specs.Punctuators.{Punctuator, punctuators}
 use Rattle.js_grammar.specs.Quoted.{begins_quoted, quoted_reading}
 use Rattle.js_grammar.specs.Reading.{Reading}
 use Rattle.js_grammar.specs.Readings.{longest_of, nothing_reading, punctuator_or_nothing, reading}
-use Rattle.js_grammar.specs.Recovery.{invalid_character}
+use Rattle.js_grammar.specs.Recovery.{invalid_character, unterminated_comment}
 use Rattle.js_grammar.specs.StringItems.{is_quote}
 use Rattle.js_grammar.proofs.Ahead.{AgreeFor, BeginAlike, agree_behind, alike_behind, begins_alike, nothing_before}
 use Rattle.js_grammar.proofs.GapsAhead.{mark_agrees}
@@ -81,23 +82,83 @@ punctuator_local t line_has_ended x xs ys zs alike (Some p) is left =
     ap (is_prefix p.text) here ∙ prefix_of p.text (drop (length p.text) (x ∷ (xs ++ ys))) in
     punctuator_same p.text p.kind (x ∷ xs) ys zs begun left
 
--- What the function gives of a text that begins with a character.
-pub reading_local : (t : SourceType) (line_has_ended : Bool) (x : ℕ) (xs ys zs : List ℕ) → BeginAlike ys zs
+-- What the function gives of a text that begins with a character, a row of its choices at a time, the last first: each
+-- row is stated of its own choice alone.
+abbrev from_punctuators : SourceType → Bool → List ℕ → Reading
+from_punctuators t line_has_ended here =
+    punctuator_or_nothing (longest_of t line_has_ended here punctuators) here
+
+abbrev from_quoted : SourceType → Bool → List ℕ → Reading
+from_quoted t line_has_ended here =
+    if begins begins_quoted here then quoted_reading here else from_punctuators t line_has_ended here
+
+abbrev from_numbers : SourceType → Bool → List ℕ → Reading
+from_numbers t line_has_ended here =
+    if begins_number here then number_reading here else from_quoted t line_has_ended here
+
+abbrev from_private : SourceType → Bool → List ℕ → Reading
+from_private t line_has_ended here =
+    if begins (λ c. c == number_sign) here then private_reading here else from_numbers t line_has_ended here
+
+abbrev from_names : SourceType → Bool → List ℕ → Reading
+from_names t line_has_ended here =
+    if begins_name here then name_reading here else from_private t line_has_ended here
+
+punctuators_on : (t : SourceType) (line_has_ended : Bool) (x : ℕ) (xs ys zs : List ℕ) → BeginAlike ys zs
     → AgreeFor 4 ys zs
-    → IsSame ys zs (reading t line_has_ended (x ∷ (xs ++ ys))) (reading t line_has_ended (x ∷ (xs ++ zs)))
-reading_local t line_has_ended x xs ys zs alike agree =
-    either_agrees ys zs (is_prefix (codes "/*") (x ∷ (xs ++ ys))) _ _ _ _ _
-    (mark_agrees (codes "/*") (x ∷ xs) ys zs refl (omega arith) agree) (λ _ left. nothing_left ys zs alike left)
-    (λ _. either_agrees ys zs (begins_name (x ∷ (xs ++ ys))) _ _ _ _ _ refl (λ _. name_local (x ∷ xs) ys zs alike)
-    (λ _. either_agrees ys zs (x == number_sign) _ _ _ _ _ refl (λ is. private_here x xs ys zs alike is)
-    (λ _. either_agrees ys zs (begins_number (x ∷ (xs ++ ys))) _ _ _ _ _ (number_begins_alike x xs ys zs alike)
-    (λ _. number_local (x ∷ xs) ys zs alike)
-    (λ _. either_agrees ys zs (begins begins_quoted (x ∷ (xs ++ ys))) _ _ _ _ _ refl
-    (λ _. quoted_local x xs ys zs alike)
-    (λ _ left.
+    → IsSame ys zs (from_punctuators t line_has_ended (x ∷ (xs ++ ys)))
+    (from_punctuators t line_has_ended (x ∷ (xs ++ zs)))
+punctuators_on t line_has_ended x xs ys zs alike agree left =
     ap (λ found. punctuator_or_nothing found (x ∷ (xs ++ zs)))
     (sym (punctuator_agrees t line_has_ended (x ∷ (xs ++ ys)) (x ∷ (xs ++ zs))
     (agree_behind 4 (x ∷ xs) ys zs agree)))
     ∙ punctuator_local t line_has_ended x xs ys zs alike
     (longest_of t line_has_ended (x ∷ (xs ++ ys)) punctuators)
-    (longest_is t line_has_ended (x ∷ (xs ++ ys)) punctuators) left)))))
+    (longest_is t line_has_ended (x ∷ (xs ++ ys)) punctuators) left
+
+quoted_on : (t : SourceType) (line_has_ended : Bool) (x : ℕ) (xs ys zs : List ℕ) → BeginAlike ys zs
+    → AgreeFor 4 ys zs
+    → IsSame ys zs (from_quoted t line_has_ended (x ∷ (xs ++ ys))) (from_quoted t line_has_ended (x ∷ (xs ++ zs)))
+quoted_on t line_has_ended x xs ys zs alike agree =
+    either_agrees ys zs (begins_quoted x) (begins_quoted x) (quoted_reading (x ∷ (xs ++ ys)))
+    (from_punctuators t line_has_ended (x ∷ (xs ++ ys))) (quoted_reading (x ∷ (xs ++ zs)))
+    (from_punctuators t line_has_ended (x ∷ (xs ++ zs))) refl
+    (λ _. quoted_local x xs ys zs alike) (λ _. punctuators_on t line_has_ended x xs ys zs alike agree)
+
+numbers_on : (t : SourceType) (line_has_ended : Bool) (x : ℕ) (xs ys zs : List ℕ) → BeginAlike ys zs
+    → AgreeFor 4 ys zs
+    → IsSame ys zs (from_numbers t line_has_ended (x ∷ (xs ++ ys))) (from_numbers t line_has_ended (x ∷ (xs ++ zs)))
+numbers_on t line_has_ended x xs ys zs alike agree =
+    either_agrees ys zs (begins_number (x ∷ (xs ++ ys))) (begins_number (x ∷ (xs ++ zs)))
+    (number_reading (x ∷ (xs ++ ys))) (from_quoted t line_has_ended (x ∷ (xs ++ ys)))
+    (number_reading (x ∷ (xs ++ zs))) (from_quoted t line_has_ended (x ∷ (xs ++ zs)))
+    (number_begins_alike x xs ys zs alike)
+    (λ _. number_local (x ∷ xs) ys zs alike) (λ _. quoted_on t line_has_ended x xs ys zs alike agree)
+
+private_on : (t : SourceType) (line_has_ended : Bool) (x : ℕ) (xs ys zs : List ℕ) → BeginAlike ys zs
+    → AgreeFor 4 ys zs
+    → IsSame ys zs (from_private t line_has_ended (x ∷ (xs ++ ys))) (from_private t line_has_ended (x ∷ (xs ++ zs)))
+private_on t line_has_ended x xs ys zs alike agree =
+    either_agrees ys zs (x == number_sign) (x == number_sign)
+    (private_reading (x ∷ (xs ++ ys))) (from_numbers t line_has_ended (x ∷ (xs ++ ys)))
+    (private_reading (x ∷ (xs ++ zs))) (from_numbers t line_has_ended (x ∷ (xs ++ zs))) refl
+    (λ is. private_here x xs ys zs alike is) (λ _. numbers_on t line_has_ended x xs ys zs alike agree)
+
+names_on : (t : SourceType) (line_has_ended : Bool) (x : ℕ) (xs ys zs : List ℕ) → BeginAlike ys zs
+    → AgreeFor 4 ys zs
+    → IsSame ys zs (from_names t line_has_ended (x ∷ (xs ++ ys))) (from_names t line_has_ended (x ∷ (xs ++ zs)))
+names_on t line_has_ended x xs ys zs alike agree =
+    either_agrees ys zs (begins_name (x ∷ (xs ++ ys))) (begins_name (x ∷ (xs ++ zs)))
+    (name_reading (x ∷ (xs ++ ys))) (from_private t line_has_ended (x ∷ (xs ++ ys)))
+    (name_reading (x ∷ (xs ++ zs))) (from_private t line_has_ended (x ∷ (xs ++ zs))) refl
+    (λ _. name_local (x ∷ xs) ys zs alike) (λ _. private_on t line_has_ended x xs ys zs alike agree)
+
+pub reading_local : (t : SourceType) (line_has_ended : Bool) (x : ℕ) (xs ys zs : List ℕ) → BeginAlike ys zs
+    → AgreeFor 4 ys zs
+    → IsSame ys zs (reading t line_has_ended (x ∷ (xs ++ ys))) (reading t line_has_ended (x ∷ (xs ++ zs)))
+reading_local t line_has_ended x xs ys zs alike agree =
+    either_agrees ys zs (is_prefix (codes "/*") (x ∷ (xs ++ ys))) (is_prefix (codes "/*") (x ∷ (xs ++ zs)))
+    (unterminated_comment (x ∷ (xs ++ ys))) (from_names t line_has_ended (x ∷ (xs ++ ys)))
+    (unterminated_comment (x ∷ (xs ++ zs))) (from_names t line_has_ended (x ∷ (xs ++ zs)))
+    (mark_agrees (codes "/*") (x ∷ xs) ys zs refl (omega arith) agree) (λ _ left. nothing_left ys zs alike left)
+    (λ _. names_on t line_has_ended x xs ys zs alike agree)

@@ -1,7 +1,7 @@
 use Rattle.std.proofs.Common.{Some, None, refl}
 use Rattle.js_spell.proofs.FamilyFacts.{read_alone, read_equals, taken, not_taken}
 use Rattle.js_spell.proofs.SequenceSteps.{behind}
-use Rattle.js_kind.specs.declared.kind.Kind.TheVariants.{Bang, Neq, Neq2}
+use Rattle.js_kind.specs.declared.kind.Kind.TheVariants.{Neq, Neq2}
 use Rattle.js_spell.specs.Families.{exclamation_marks}
 use Rattle.js_spell.proofs.punctuator.read_bang.Goals as goal
 

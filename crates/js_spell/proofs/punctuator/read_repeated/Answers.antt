@@ -1,4 +1,4 @@
-use Rattle.std.proofs.Common.{Some, None, refl}
+use Rattle.std.proofs.Common.{None, refl}
 use Rattle.js_spell.proofs.FamilyFacts.{read_alone, read_equals, read_twice, taken, not_taken}
 use Rattle.js_spell.proofs.SequenceSteps.{behind}
 use Rattle.js_spell.specs.Families.{repeated}

@@ -2,7 +2,6 @@ use Rattle.std.proofs.Common.{◌≡◌, false, refl, sym, ◌∙◌, ap, subst}
 use Rattle.js_grammar.specs.Hashbang.{begins_hashbang}
 use Rattle.js_grammar.specs.Reads.{is_plain}
 use Rattle.js_grammar.specs.declared.goal.Goal.{Goal}
-use Rattle.js_grammar.specs.declared.goal.Goal.TheVariants.{JsxChild}
 use Rattle.std.proofs.lemmas.Result.{IfOk-weaker}
 use Rattle.js_reader.proofs.GoalSteps.{child_unescaped}
 use Rattle.js_reader.proofs.DecodedSteps.{keeps_same, no_value}
