@@ -98,18 +98,47 @@ fn summary_of(alloc: Global, lines: u32, ran: &Ran) -> Result<String, AllocError
     gen_summary(alloc, lines, ran.source.len() as u32, &ran.report)
 }
 
-/// Writes the text for what ran.
-fn write_text<O: ByteOut>(text: &str, ran: Ran, output: &mut O) -> ToolOutcome
-    ensures outcome { (result ≡ record { status = number OutOfMemory; ran = None })
-        ⊎ (HasPassed NoMark result.status × (result.ran ≡ Some ran)) }
-    ensures text { Writes text.now (O.state output.old) (O.state output.new) result.status }
-    ensures faults { CountsFault WriteFailed result.status (O.state output.old).faults (O.state output.new).faults }
+/// Writes a text, and gives the status that this leads to.
+fn write_status<O: ByteOut>(text: &str, output: &mut O) -> u8
+    ensures status { (result ≡ number OutOfMemory) ⊎ HasPassed NoMark result }
+    ensures text { Writes text.now (O.state output.old) (O.state output.new) result }
+    ensures faults { CountsFault WriteFailed result (O.state output.old).faults (O.state output.new).faults }
     ensures in_time { InTime (O.state output.old).course (O.state output.new).course }
 {
     match write_all(output, text.as_bytes()) {
-        Ok(()) => outcome_of(DONE, ran),
-        Err(WriteFault::Memory) => outcome_without_run(MEMORY),
-        Err(WriteFault::Failed) => outcome_of(WRITE_FAILED, ran),
+        Ok(()) => DONE,
+        Err(WriteFault::Memory) => MEMORY,
+        Err(WriteFault::Failed) => WRITE_FAILED,
+    }
+}
+
+/// The outcome of a run behind the writing of its text.
+fn outcome_behind(status: u8, ran: Ran) -> ToolOutcome
+    requires { (status ≡ number OutOfMemory) ⊎ HasPassed NoMark status }
+    ensures outcome { (result ≡ record { status = number OutOfMemory; ran = None })
+        ⊎ (HasPassed NoMark result.status × (result.ran ≡ Some ran)) }
+    ensures status { result.status ≡ status }
+{
+    if status == MEMORY {
+        outcome_without_run(MEMORY)
+    } else {
+        outcome_of(status, ran)
+    }
+}
+
+/// Writes the text of what ran, and gives the status that this leads to.
+fn report_status<O: ByteOut>(alloc: Global, ran: &Ran, output: &mut O) -> u8
+    requires utf8 { IsUtf8 ran.now.source }
+    requires slices { AllByRecursion (λ row. IsSliceOnPlaces ran.now.source row.value) ran.now.report.rows }
+    ensures status { (result ≡ number OutOfMemory) ⊎ HasPassed NoMark result }
+    ensures text { Writes (report_text_of ran.now.source ran.now.report)
+        (O.state output.old) (O.state output.new) result }
+    ensures faults { CountsFault WriteFailed result (O.state output.old).faults (O.state output.new).faults }
+    ensures in_time { InTime (O.state output.old).course (O.state output.new).course }
+{
+    match output_text(alloc, ran) {
+        Ok(text) => write_status(text.as_str(), output),
+        Err(_) => MEMORY,
     }
 }
 
@@ -124,9 +153,22 @@ fn write_report<O: ByteOut>(alloc: Global, ran: Ran, output: &mut O) -> ToolOutc
     ensures faults { CountsFault WriteFailed result.status (O.state output.old).faults (O.state output.new).faults }
     ensures in_time { InTime (O.state output.old).course (O.state output.new).course }
 {
-    match output_text(alloc, &ran) {
-        Ok(text) => write_text(text.as_str(), ran, output),
-        Err(_) => outcome_without_run(MEMORY),
+    let status = report_status(alloc, &ran, output);
+    outcome_behind(status, ran)
+}
+
+/// Writes the summary of what ran over so many generated lines, and gives the status that this leads to.
+fn summary_status<O: ByteOut>(alloc: Global, lines: u32, ran: &Ran, output: &mut O) -> u8
+    requires { length ran.now.source < 2 ^ 32 }
+    ensures status { (result ≡ number OutOfMemory) ⊎ HasPassed NoMark result }
+    ensures text { Writes (gen_summary lines (length ran.now.source) ran.now.report)
+        (O.state output.old) (O.state output.new) result }
+    ensures faults { CountsFault WriteFailed result (O.state output.old).faults (O.state output.new).faults }
+    ensures in_time { InTime (O.state output.old).course (O.state output.new).course }
+{
+    match summary_of(alloc, lines, ran) {
+        Ok(text) => write_status(text.as_str(), output),
+        Err(_) => MEMORY,
     }
 }
 
@@ -140,10 +182,8 @@ fn write_summary<O: ByteOut>(alloc: Global, lines: u32, ran: Ran, output: &mut O
     ensures faults { CountsFault WriteFailed result.status (O.state output.old).faults (O.state output.new).faults }
     ensures in_time { InTime (O.state output.old).course (O.state output.new).course }
 {
-    match summary_of(alloc, lines, &ran) {
-        Ok(text) => write_text(text.as_str(), ran, output),
-        Err(_) => outcome_without_run(MEMORY),
-    }
+    let status = summary_status(alloc, lines, &ran, output);
+    outcome_behind(status, ran)
 }
 
 /// A session over the source with the listed commands: these, and its report.
