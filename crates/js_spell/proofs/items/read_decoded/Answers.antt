@@ -4,6 +4,8 @@ use Rattle.js_text.specs.JsStr.{units_of}
 use Rattle.js_grammar.specs.StringItems.{string_text}
 use Rattle.js_source.specs.Runs.{place_of}
 use Rattle.js_source.specs.Source.{rest, IsPlaced}
+use Rattle.std.proofs.Common.{arith, refl}
+use Rattle.js_spell.proofs.BreakSteps.{on_err, unreported}
 use Rattle.js_spell.proofs.ItemSteps.{decoded_value_read, stretch_chars}
 use Rattle.js_spell.proofs.items.read_decoded.Goals as goal
 
@@ -27,3 +29,16 @@ returns-clause-ok c =
     ∙ ap (λ us. us ++ units_of (chars c.str_from_pos_to_current-front.result.now)) c.in_ok-text.ensures
     ∙ ap units_of chars_are) c.requires.escaped
     c.in_ok-has_bad.ensures.ok c.in_ok-has_bad.ensures.ended)
+
+pub returns-in_err-text-clause-err : goal.returns-in_err-text-clause-err
+returns-in_err-text-clause-err c =
+    on_err c.from_residual.result _
+    (unreported _ c.args.source.now c.args.source.now c.args.errors.now c.args.errors.now refl (omega arith) refl)
+
+pub returns-in_err-push_str-clause-err : goal.returns-in_err-push_str-clause-err
+returns-in_err-push_str-clause-err c =
+    on_err c.from_residual-in_err-push_str.result _
+    (unreported _ c.args.source.now c.args.source.now c.args.errors.now c.args.errors.now refl (omega arith) refl)
+
+pub returns-in_err-has_bad-clause-err : goal.returns-in_err-has_bad-clause-err
+returns-in_err-has_bad-clause-err c = on_err c.from_residual-in_err-has_bad.result _ c.in_err-has_bad.ensures.err

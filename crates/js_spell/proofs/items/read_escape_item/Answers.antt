@@ -1,4 +1,6 @@
 use Rattle.std.proofs.Common.{sym, ◌∙◌}
+use Rattle.std.proofs.Common.{[], arith, rules}
+use Rattle.js_spell.proofs.BreakSteps.{on_err, unreported}
 use Rattle.js_spell.proofs.ItemSteps.{good_escape_read, bad_escape_read, reported_in_string, silent_in_template}
 use Rattle.js_spell.proofs.items.read_escape_item.Goals as goal
 
@@ -31,3 +33,12 @@ returns-else-not-is_template-clause-ok c =
     c.read_escape.new.errors
     c.is_template.result c.in_ok-is_good.is_good c.requires.placed c.read_escape.ensures.placed c.requires.escape
     c.next_char.ensures.past c.is_template.ensures c.if-is_good.false c.in_ok-is_good.ensures.ok reported
+
+pub returns-in_err-is_good-clause-err : goal.returns-in_err-is_good-clause-err
+returns-in_err-is_good-clause-err c =
+    on_err c.from_residual.result _
+    (unreported [] c.args.source.now c.read_escape.new.source c.args.errors.now c.read_escape.new.errors (search rules)
+    (omega arith) (search rules))
+
+pub returns-in_err-report_bad_escape-clause-err : goal.returns-in_err-report_bad_escape-clause-err
+returns-in_err-report_bad_escape-clause-err c = search rules

@@ -1,6 +1,7 @@
 use Rattle.std.proofs.Common.{◌≡◌, ◌<◌, [], ◌∷◌, ◌++◌, get_or, sym, ◌∙◌, ap, arith, inl, inr, append_assoc}
-use Rattle.std.proofs.Common.{string_bytes}
-use Rattle.js_spell.proofs.IntegerSteps.{NoSeparator, next_digit, next_is_ascii}
+use Rattle.std.proofs.Common.{append-nil, string_bytes}
+use Rattle.js_spell.specs.Integer.{without_separators}
+use Rattle.js_spell.proofs.IntegerSteps.{NoSeparator, next_digit, next_is_ascii, next_separator, nothing_left}
 use Rattle.js_spell.proofs.number.parse_big_int.Goals as goal
 use Rattle.js_spell.proofs.number.parse_big_int.Goals.{else-has_sep-via-then-has_sep+else-digit-eq-SEPARATOR as no_underscore}
 use Rattle.js_spell.proofs.number.parse_big_int.Goals.{else-has_sep-via-else-has_sep as no_separators}
@@ -29,3 +30,21 @@ loop-digit-preserved c =
           (ap (λ left. string_bytes c.loop-digit.digits ++ left) (sym next.0) ∙ c.loop-digit.invariant.digits_are);
       digits = next.1;
     }
+
+pub loop-digit-preserved-then-digit-eq-SEPARATOR : goal.loop-digit-preserved-then-digit-eq-SEPARATOR
+loop-digit-preserved-then-digit-eq-SEPARATOR c =
+    let next = next_separator c.radix_of-radix.result c.args.has_sep c.behind_prefix-digit-items.result.now
+    c.loop-digit.digit-index c.loop-digit-test.true c.loop-digit.invariant.digits c.if-digit-eq-SEPARATOR.true in
+    record {
+      digits_are =
+          ap (λ left. string_bytes c.loop-digit.digits ++ left) (sym next.0) ∙ c.loop-digit.invariant.digits_are;
+      digits = next.1;
+    }
+
+pub returns-clause-digits : goal.returns-clause-digits
+returns-clause-digits c =
+    let items = c.behind_prefix-digit-items.result.now in
+    let end = nothing_left items c.loop-digit.digit-index c.loop-digit-test.false in
+    sym (append-nil (string_bytes c.loop-digit.digits))
+    ∙ ap (λ left. string_bytes c.loop-digit.digits ++ left) (sym end)
+    ∙ c.loop-digit.invariant.digits_are ∙ ap without_separators c.behind_prefix-digit-items.ensures

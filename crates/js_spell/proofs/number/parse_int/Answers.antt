@@ -2,7 +2,7 @@ use Rattle.std.proofs.Common.{◌+◌, ◌*◌, get_or, drop, sym, ◌∙◌, ap
 use Rattle.std.specs.Char.{digit_value}
 use Rattle.std.specs.Str.Parse.{digits_value_after}
 use Rattle.js_spell.specs.Integer.{without_separators}
-use Rattle.js_spell.proofs.IntegerSteps.{NoSeparator, digits_value_after_grows, next_digit, digit_added, nothing_left}
+use Rattle.js_spell.proofs.IntegerSteps.{NoSeparator, digits_value_after_grows, next_digit, next_separator, digit_added, nothing_left}
 use Rattle.js_spell.proofs.number.parse_int.Goals as goal
 use Rattle.js_spell.proofs.number.parse_int.Goals.{else-has_sep-via-then-has_sep+else-b-eq-SEPARATOR as no_underscore}
 use Rattle.js_spell.proofs.number.parse_int.Goals.{else-has_sep-via-else-has_sep as no_separators}
@@ -55,3 +55,14 @@ returns c =
     let invariant = c.loop-b.invariant in
     let value = ap (digits_value_after c.radix_of-radix.result c.loop-b.value) (sym end) ∙ invariant.value in
     rw (← c.behind_prefix-b-items.ensures, ← c.radix_of-radix.ensures.radix) (omega arith, value)
+
+pub loop-b-preserved-then-b-eq-SEPARATOR : goal.loop-b-preserved-then-b-eq-SEPARATOR
+loop-b-preserved-then-b-eq-SEPARATOR c =
+    let next = next_separator c.radix_of-radix.result c.args.has_sep c.behind_prefix-b-items.result.now
+    c.loop-b.b-index c.loop-b-test.true c.loop-b.invariant.digits c.if-b-eq-SEPARATOR.true in
+    record {
+      value =
+          ap (digits_value_after c.radix_of-radix.result c.loop-b.value) (sym next.0) ∙ c.loop-b.invariant.value;
+      digits = next.1;
+      fits = c.loop-b.invariant.fits;
+    }

@@ -1,6 +1,8 @@
 use Rattle.std.proofs.Common.{sym, ap, ◌∙◌}
 use Rattle.js_text.specs.declared.span.Span.{Span}
 use Rattle.js_source.specs.Source.{At}
+use Rattle.std.proofs.Common.{[], arith, rules}
+use Rattle.js_spell.proofs.BreakSteps.{on_err, unreported}
 use Rattle.js_spell.proofs.EndSteps.{bad_end_read}
 use Rattle.js_spell.proofs.numeric.read_bad_end.Goals as goal
 
@@ -15,3 +17,9 @@ returns-clause-ok c =
     (ap (λ (s : Span). s.start) c.new-span.ensures ∙ c.offset-start.ensures.place)
     (ap (λ (s : Span). s.end) c.new-span.ensures ∙ c.offset.ensures.place)
     c.in_ok-push.ensures.ok
+
+pub returns-in_err-push-clause-err : goal.returns-in_err-push-clause-err
+returns-in_err-push-clause-err c =
+    on_err c.from_residual.result _
+    (unreported [] c.args.source.now c.skip_starts.new.source c.args.errors.now c.push.new.self (search rules)
+    (omega arith) (search rules))
