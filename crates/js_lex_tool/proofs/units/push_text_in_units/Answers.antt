@@ -1,4 +1,5 @@
 use Rattle.std.proofs.Common.{◌∙◌, ◌++◌, ap, sym, map-id, string_bytes}
+use Rattle.std.proofs.lemmas.List.{flat_map_more}
 use Rattle.std.proofs.lemmas.Iterator.{YieldsList-from_chars}
 use Rattle.std.proofs.lemmas.Iterator.Consumers.{YieldsList-end}
 use Rattle.std.specs.List.{flat_map}
@@ -11,3 +12,9 @@ returns c =
     let done = YieldsList-end characters c.loop-c.yielded _ c.loop-c.yielded_by _ _ c.in-None.is c.next.ensures.steps in
     c.loop-c.invariant
     ∙ ap (λ cs. string_bytes c.args.text.now ++ flat_map units_text cs) (sym (map-id c.loop-c.yielded) ∙ done.0)
+
+pub loop-c-preserved : goal.loop-c-preserved
+loop-c-preserved c =
+    c.in_ok-push_character.ensures
+    ∙ ap (λ bytes. bytes ++ units_text c.in-Some.c) c.loop-c.invariant
+    ∙ flat_map_more units_text (string_bytes c.args.text.now) c.loop-c.yielded c.in-Some.c

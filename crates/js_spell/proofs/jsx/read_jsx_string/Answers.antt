@@ -1,4 +1,5 @@
-use Rattle.std.proofs.Common.{arith}
+use Rattle.std.proofs.Common.{arith, rules}
+use Rattle.js_spell.proofs.BreakSteps.{on_err, unreported}
 use Rattle.js_spell.proofs.JsxSteps.{string_closed, string_open}
 use Rattle.js_spell.proofs.jsx.read_jsx_string.Goals as goal
 
@@ -19,3 +20,9 @@ returns-in_ok-report_unterminated-in-None-clause-ok c =
     c.pass_text.ensures.placed c.requires.quote c.take_quote-within.ensures.quote c.pass_text.ensures.text
     c.pass_text.ensures.rest c.in-None.ensures.none c.offset-start.ensures.place
     c.in_ok-report_unterminated-in-None.ensures.ok
+
+pub returns-in_err-report_unterminated-in-None-clause-err : goal.returns-in_err-report_unterminated-in-None-clause-err
+returns-in_err-report_unterminated-in-None-clause-err c =
+    on_err c.from_residual.result _
+    (unreported _ c.args.source.now c.pass_text.new.source c.args.errors.now c.report_unterminated.new.errors
+    (search rules) (omega arith) (search rules))

@@ -1,8 +1,8 @@
-use Rattle.std.proofs.Common.{ap, ◌∙◌, ◌++◌, subst, true}
+use Rattle.std.proofs.Common.{ap, ◌∙◌, ◌++◌, arith, refl, subst, true}
 use Rattle.std.specs.Prelude.{string_bytes}
 use Rattle.js_spell.specs.Name.{ReadsItems}
 use Rattle.js_spell.specs.declared.name.Position.TheVariants.{Later}
-use Rattle.js_spell.proofs.BreakSteps.{on_err}
+use Rattle.js_spell.proofs.BreakSteps.{on_err, unreported}
 use Rattle.js_spell.proofs.NameReadings.{items_broken, name_decoded}
 use Rattle.js_spell.proofs.name.decode_name.Goals as goal
 
@@ -28,3 +28,13 @@ returns-in_err-read_rest_into-clause-err c =
     c.args.errors.now c.read_escape_into.new.errors c.read_rest_into.new.errors (string_bytes c.push_str.new.self)
     (string_bytes c.read_escape_into.new.decoded) true c.requires.placed c.read_escape_into.ensures.placed
     c.in_ok-read_escape_into.ensures.ok c.in_err-read_rest_into.ensures.err)
+
+pub returns-in_err-decoded-clause-err : goal.returns-in_err-decoded-clause-err
+returns-in_err-decoded-clause-err c =
+    on_err c.from_residual.result _
+    (unreported _ c.args.source.now c.args.source.now c.args.errors.now c.args.errors.now refl (omega arith) refl)
+
+pub returns-in_err-push_str-clause-err : goal.returns-in_err-push_str-clause-err
+returns-in_err-push_str-clause-err c =
+    on_err c.from_residual-in_err-push_str.result _
+    (unreported _ c.args.source.now c.args.source.now c.args.errors.now c.args.errors.now refl (omega arith) refl)

@@ -67,3 +67,7 @@ returns-in-JsxAttributeValue-clause-ok c =
     (λ token read previous first. subst (λ (g : Goal). ReadsWithGap g previous c.args.self.now c.args.found.now token
     c.read_attribute_value.new.self c.read_attribute_value.new.found) (sym c.in-JsxAttributeValue.is)
     (read previous first)) c.read_attribute_value.ensures.ok
+
+pub returns-in-Some-clause-kept : goal.returns-in-Some-clause-kept
+returns-in-Some-clause-kept c =
+    keeps_same c.args.self.now.source.text c.args.decoded.now c.args.decoded.now refl

@@ -1,4 +1,4 @@
-use Rattle.std.proofs.Common.{Bool, refl, subst, ◌∙◌, ap, sym, [], ◌∷◌, ◌++◌}
+use Rattle.std.proofs.Common.{Bool, refl, rules, subst, ◌∙◌, ap, sym, [], ◌∷◌, ◌++◌}
 use Rattle.std.proofs.lemmas.Result.{err_from_is_err_and}
 use Rattle.js_text.specs.declared.comment.CommentKind.TheVariants.{HtmlOpen}
 use Rattle.js_text.specs.declared.diagnostic.Diagnostic.TheVariants.{HtmlCommentInModule}
@@ -6,7 +6,7 @@ use Rattle.js_reader.specs.Found.{Extends}
 use Rattle.js_reader.specs.Reader.{SkipsOpenedLine}
 use Rattle.js_reader.specs.declared.findings_builder.FindingsBuilder.{FindingsBuilder}
 use Rattle.js_reader.proofs.LineSteps.{at_line_end}
-use Rattle.js_reader.proofs.TriviaSteps.{extends_none, grows_none, grows_on, grows_reports}
+use Rattle.js_reader.proofs.TriviaSteps.{extends_none, extends_same, grows_none, grows_on, grows_reports}
 use Rattle.js_reader.proofs.WholeSteps.{reported_skips, stays}
 use Rattle.js_reader.proofs.reader.Reader.skip_reported.Goals as goal
 
@@ -67,3 +67,11 @@ returns-clause-grown c =
     (grows_reports line noted reports (extends_none line.deferred) refl refl))
     (grows_on noted c.skip_end_of_line.new.found c.skip_gap.new.found c.skip_end_of_line.ensures.grown
     c.skip_gap.ensures.grown)
+
+pub returns-in_err-push-clause-grown : goal.returns-in_err-push-clause-grown
+returns-in_err-push-clause-grown c =
+    let line = c.skip_opened_line.new.found in
+    let noted : FindingsBuilder = record line { errors = c.push.new.self } in
+    grows_on c.args.found.now line noted c.skip_opened_line.ensures.grown
+    (grows_reports line noted (extends_same line.errors noted.errors (search rules)) (extends_none line.deferred) refl
+    refl)
