@@ -8,6 +8,9 @@ use crate::list::ItemList;
 use std::alloc::{AllocError, Global};
 use std::marker::Model;
 
+/// How many places are filled at once: so short a stretch of tokens, of less than 2 KiB, is filled by vector stores.
+const FILLED_AT_ONCE: usize = 126;
+
 /// A growing list with places behind it that are reserved: adding an item takes no memory while one is free. A place
 /// is free where it holds what is no item of the list, as the default or an item that was taken back.
 #[derive(Drop)]
@@ -131,8 +134,11 @@ impl<T: Copy> ReservedList<T> {
         ensures items { IfOk result (λ l. l.items ≡ []) }
         ensures free { IfOk result (λ l. l.free ≡ free) }
     {
-        let mut places = Vec::new(alloc);
-        places.resize(free, filler)?;
+        let mut places = Vec::with_capacity(alloc, free)?;
+        while places.len() < free {
+            let stretch = (free - places.len()).min(FILLED_AT_ONCE);
+            places.resize(places.len() + stretch, filler)?;
+        }
         Ok(ReservedList { places, used: 0 })
     }
 
