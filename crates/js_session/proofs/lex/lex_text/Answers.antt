@@ -1,6 +1,5 @@
-use Rattle.std.proofs.Common.{sym, subst, get_or, drop, ◌+◌, ◌≤◌, arith}
+use Rattle.std.proofs.Common.{sym, subst, get_or, drop, ◌+◌, ◌≤◌}
 use Rattle.js_session.specs.declared.command.Command.TheVariants.{Next}
-use Rattle.js_session.specs.Effects.{marks_needed}
 use Rattle.js_session.specs.Report.{ReportOf}
 use Rattle.js_session.specs.Session.{Begins}
 use Rattle.js_session.proofs.PlaceLemmas.{place_for, enough_on}
