@@ -5,8 +5,8 @@ use Rattle.std.specs.Prelude.{IfSome, if◌then◌else◌}
 use Rattle.std.specs.List.{list_all}
 use Rattle.std.specs.Option.{option_map}
 use Rattle.std.proofs.lemmas.Bool.{and_parts}
-use Rattle.js_text.specs.Ascii.{hyphen_minus, less_than_sign, slash}
-use Rattle.js_text.specs.Characters.{begins, from_first, from_place}
+use Rattle.js_text.specs.Ascii.{hyphen_minus, slash}
+use Rattle.js_text.specs.Characters.{begins, from_place}
 use Rattle.js_text.specs.declared.source_type.SourceType.{SourceType}
 use Rattle.js_kind.specs.Kinds.{kind_text}
 use Rattle.js_kind.specs.TokenParts.{TokenParts}
@@ -16,14 +16,12 @@ use Rattle.js_grammar.specs.Angle.{angle_reading, right_angles, first_left_angle
 use Rattle.js_grammar.specs.Gap.{is_prefix}
 use Rattle.js_grammar.specs.Reading.{Reading, moved_regex}
 use Rattle.js_grammar.specs.Goals.{GoalReads, ReadsAgain, ReadsAngle, ReadsFrom, next_part}
-use Rattle.js_grammar.specs.Jsx.{begins_child, jsx_child_reading, jsx_name_reading, jsx_string_before}
-use Rattle.js_grammar.specs.Jsx.{jsx_string_reading, jsx_text_before, ends_jsx_text}
+use Rattle.js_grammar.specs.Jsx.{jsx_name_reading}
 use Rattle.js_grammar.specs.Outcome.{Outcome}
 use Rattle.js_grammar.specs.Reads.{is_onward}
 use Rattle.js_grammar.specs.RegularExpression.{behind_body, regular_expression, regular_expression_reading}
-use Rattle.js_grammar.specs.StringItems.{is_quote}
 use Rattle.js_grammar.specs.Template.{template_items}
-use Rattle.js_grammar.specs.UnicodeEscape.{left_curly_bracket, right_curly_bracket}
+use Rattle.js_grammar.specs.UnicodeEscape.{right_curly_bracket}
 use Rattle.js_grammar.specs.declared.goal.Goal.{Goal}
 use Rattle.js_grammar.specs.declared.goal.Goal.TheVariants.{First, Next as NextGoal, TemplateTail as TailGoal}
 use Rattle.js_grammar.specs.declared.goal.Goal.TheVariants.{RegularExpression, RightAngle, TypeScriptLeftAngle}

@@ -69,6 +69,14 @@ lexer_of collects reader found has_read tokens decoded = record {
   decoded = decoded;
 }
 
+-- hashbang comments alone
+abbrev pub is_hashbang : Kind → Bool
+is_hashbang kind = number kind == number HashbangComment
+
+-- What a token adds to the collected ones: itself, where tokens are collected and it is no hashbang comment.
+abbrev pub collected : Bool → TokenParts → List TokenParts
+collected collects token = if collects && not (is_hashbang token.kind) then token ∷ [] else []
+
 -- How many places are reserved for the tokens of a text: one for each byte and one for its end, where tokens are
 -- collected.
 abbrev pub reserved_places : Bool → ℕ → ℕ
@@ -88,6 +96,15 @@ fresh text t collects = record {
   pure_comments = None;
   no_side_effects_comments = None;
   decoded = no_values;
+}
+
+-- a lexer behind a token, with this as the one that it has read last, and with nothing else
+abbrev pub resumed : List ℕ → SourceType → Bool → TokenParts → LexerState
+resumed text t collects token = record (fresh text t collects) {
+  place = token.end;
+  last = Some token;
+  tokens = collected collects token;
+  free = reserved_places collects (length text) - length (collected collects token);
 }
 
 -- the place of a lexer in its text
@@ -127,14 +144,6 @@ pub record IsRestored (old new : LexerState) : Type 0 where
   pub findings : new.findings ≡ old.findings
   pub pure_comments : new.pure_comments ≡ old.pure_comments
   pub no_side_effects_comments : new.no_side_effects_comments ≡ old.no_side_effects_comments
-
--- hashbang comments alone
-abbrev pub is_hashbang : Kind → Bool
-is_hashbang kind = number kind == number HashbangComment
-
--- What a token adds to the collected ones: itself, where tokens are collected and it is no hashbang comment.
-abbrev pub collected : Bool → TokenParts → List TokenParts
-collected collects token = if collects && not (is_hashbang token.kind) then token ∷ [] else []
 
 -- the places, once the token is collected: one less is free, if one was
 abbrev pub with_token : Bool → TokenParts → Reserved TokenParts → Reserved TokenParts

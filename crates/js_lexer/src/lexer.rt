@@ -20,7 +20,8 @@ ghost use Rattle.js_lexer.specs.Lexer.{LexerState, fresh, token_or_default, Read
 ghost use Rattle.js_lexer.specs.Lexer.{checkpoint_of, CanRewind, rewound, GoesOnFrom, is_hashbang, with_token, with_token_again};
 ghost use Rattle.js_lexer.specs.Lexer.{IsBehindFor, LexesAgain, checkpoint_with_errors_of, trivia_before};
 ghost use Rattle.js_lexer.specs.Places.{IsSparse, IsSparseCheckpoint, ReadsInPlaces, StaysInPlaces};
-ghost use Rattle.js_lexer.specs.Lexer.{reserved_places, with_comments, with_diagnostics};
+ghost use Rattle.js_grammar.specs.ReLexed.{HasSpelling};
+ghost use Rattle.js_lexer.specs.Lexer.{reserved_places, resumed, with_comments, with_diagnostics};
 ghost use Rattle.js_reader.specs.Reader.{ReadsWithGap, MovesOn};
 
 mod annotations;
@@ -260,6 +261,47 @@ impl<'a, C: LexerConfig + Drop> Lexer<'a, C> {
             tokens,
             decoded: DecodedValues::new_in(alloc),
         })
+    }
+
+    /// A lexer behind a token of the text, which it has read last: its place is the token's end, the token is collected
+    /// where tokens are and it is no hashbang comment, and nothing was found. As many places are reserved as for a lexer
+    /// at the start.
+    pub fn resume(
+        alloc: Global,
+        source_text: &'a str,
+        source_type: SourceType,
+        config: C,
+        token: Token,
+    ) -> Result<Lexer<'a, C>, NewFault>
+        requires places { IsOnPlaces source_text.now token }
+        requires spelling { HasSpelling source_text.now token }
+        ensures ok { IfOk result (λ l. l ≡ resumed source_text.now source_type (C.collects config) token) }
+        ensures overlong { (result ≡ Err NewFault.Overlong) ↔ (2 ^ 32 ≤ length source_text.now) }
+    {
+        let mut lexer = match Lexer::new(alloc, source_text, source_type, config) {
+            Ok(lexer) => lexer,
+            Err(fault) => return Err(fault),
+        };
+        match lexer.take_behind(token) {
+            Ok(()) => Ok(lexer),
+            Err(_) => Err(NewFault::Memory),
+        }
+    }
+
+    /// Goes behind a token of the text, as the last one, where nothing was read yet.
+    fn take_behind(&mut self, token: Token) -> Result<(), AllocError>
+        requires fresh { self.old ≡ fresh self.old.text self.old.source_type self.old.collects }
+        requires places { IsOnPlaces self.old.text token }
+        requires spelling { HasSpelling self.old.text token }
+        ensures { OnOk result (self.new ≡ resumed self.old.text self.old.source_type self.old.collects token) }
+    {
+        collect(&mut self.tokens, self.config.tokens(), &token)?;
+        if let Some(end) = self.reader.source.position_at(token.end()) {
+            self.reader.source.set_position(end);
+        }
+        self.found.trivia.handle_token(token);
+        self.has_read = true;
+        Ok(())
     }
 
     /// Reads the first token, a hashbang comment among them (ECMA-262 12.5), which is not collected.

@@ -1,49 +1,41 @@
 -- What is read of goals beside the plain one: which tokens they read again, of which kinds, and what is known of them as
 -- regular expressions.
-use Rattle.std.proofs.Common.{◌≡◌, ℕ, Bool, true, false, not, ◌==◌, List, [], ◌∷◌, refl, sym, ◌∙◌, ap, subst, inl, inr}
+use Rattle.std.proofs.Common.{◌≡◌, ℕ, true, false, ◌==◌, List, [], ◌∷◌, refl, sym, ◌∙◌, ap}
 use Rattle.std.proofs.Common.{Option, None, Some}
-use Rattle.std.specs.Prelude.{IfSome, if◌then◌else◌}
+use Rattle.std.specs.Prelude.{IfSome}
 use Rattle.std.specs.List.{list_all}
 use Rattle.std.specs.Option.{option_map}
 use Rattle.std.proofs.lemmas.Bool.{and_parts}
-use Rattle.js_text.specs.Ascii.{hyphen_minus, less_than_sign, slash}
+use Rattle.js_text.specs.Ascii.{less_than_sign}
 use Rattle.js_text.specs.Characters.{begins, from_first, from_place}
 use Rattle.js_text.specs.declared.source_type.SourceType.{SourceType}
-use Rattle.js_kind.specs.Kinds.{is_identifier_name, is_one_of, keywords, kind_text}
+use Rattle.js_kind.specs.Kinds.{is_identifier_name, is_one_of, keywords}
 use Rattle.js_kind.specs.TokenParts.{TokenParts}
 use Rattle.js_kind.specs.declared.kind.Kind.{Kind}
-use Rattle.js_kind.specs.declared.kind.Kind.TheVariants.{Eof, Ident, RegExp}
-use Rattle.js_kind.specs.declared.kind.Kind.TheVariants.{TemplateMiddle, TemplateTail}
+use Rattle.js_kind.specs.declared.kind.Kind.TheVariants.{Eof, Ident}
 use Rattle.js_kind.proofs.Members.{name_passes, one_passes}
-use Rattle.js_grammar.specs.Angle.{angle_reading, right_angles, first_left_angle, first_right_angle}
-use Rattle.js_grammar.specs.Gap.{is_prefix}
-use Rattle.js_grammar.specs.Reading.{Reading, moved_regex}
-use Rattle.js_grammar.specs.Goals.{GoalReads, ReadsAgain, ReadsAngle, ReadsAttributeValue, ReadsBehindGap, ReadsFrom}
-use Rattle.js_grammar.specs.Goals.{ReadsPlainly, next_part}
+use Rattle.js_grammar.specs.Reading.{moved_regex}
+use Rattle.js_grammar.specs.Goals.{GoalReads, ReadsAttributeValue, ReadsBehindGap}
+use Rattle.js_grammar.specs.Goals.{ReadsPlainly}
 use Rattle.js_grammar.specs.Goals.ReadsAttributeValue.{string as attribute_string, plain as attribute_plain}
 use Rattle.js_grammar.specs.Goals.ReadsPlainly.{hashbang, behind_gap}
-use Rattle.js_grammar.specs.Jsx.{begins_child, jsx_child_reading, jsx_name_reading, jsx_string_before}
+use Rattle.js_grammar.specs.Jsx.{begins_child, jsx_child_reading, jsx_string_before}
 use Rattle.js_grammar.specs.Jsx.{jsx_string_reading, jsx_text_before, ends_jsx_text}
 use Rattle.js_grammar.specs.Outcome.{Outcome}
 use Rattle.js_grammar.specs.ReLexed.{again_kinds, fits}
 use Rattle.js_grammar.specs.Reads.{is_onward}
-use Rattle.js_grammar.specs.RegularExpression.{behind_body, regular_expression, regular_expression_reading}
 use Rattle.js_grammar.specs.StringItems.{is_quote}
-use Rattle.js_grammar.specs.Template.{template_items}
-use Rattle.js_grammar.specs.UnicodeEscape.{left_curly_bracket, right_curly_bracket}
+use Rattle.js_grammar.specs.UnicodeEscape.{left_curly_bracket}
 use Rattle.js_grammar.specs.declared.goal.Goal.{Goal}
 use Rattle.js_grammar.specs.declared.goal.Goal.TheVariants.{First, Next as NextGoal, TemplateTail as TailGoal}
 use Rattle.js_grammar.specs.declared.goal.Goal.TheVariants.{RegularExpression, RightAngle, TypeScriptLeftAngle}
 use Rattle.js_grammar.specs.declared.goal.Goal.TheVariants.{TypeScriptRightAngle, JsxIdentifier, JsxChild}
 use Rattle.js_grammar.specs.declared.goal.Goal.TheVariants.{JsxAttributeValue}
-use Rattle.js_grammar.proofs.GoalReadings.{expression_terminated, expression_unterminated}
-use Rattle.js_grammar.proofs.NumberItems.{true_or_false}
-use Rattle.js_grammar.proofs.QuotedValues.{part_flags, part_kind_is}
 use Rattle.js_grammar.proofs.Values.{here_no_regex}
 use Rattle.js_lexer.specs.Goals.{IsBehindName}
 use Rattle.js_lexer.specs.Lexer.{IsBehindFor, LexerState, is_hashbang, kind_of_last, token_or_default}
-use Rattle.js_lexer.proofs.ReadAgain.{IsPlainRead, again_is_collected, angle_again, angles_are_none, by_found, by_reading}
-use Rattle.js_lexer.proofs.ReadAgain.{expression_again, from_plain, name_again, no_hashbangs, none_of, part_again}
+use Rattle.js_lexer.proofs.ReadAgain.{IsPlainRead, again_is_collected, by_found, by_reading}
+use Rattle.js_lexer.proofs.ReadAgain.{from_plain, no_hashbangs, none_of}
 
 text_plain : (text left : List ℕ) → IsPlainRead (jsx_text_before text left)
 text_plain text [] = record { no_regex = refl; no_hashbang = refl }

@@ -1,6 +1,6 @@
 -- Sessions that have run commands, one call after the other.
 use Rattle.std.proofs.Common.{◌≡◌, ◌<◌, ◌^◌, ℕ, Bool, true, false, List, [], ◌∷◌, ◌++◌, length, refl, sym, ◌∙◌, ap, subst}
-use Rattle.std.proofs.Common.{Some, append-nil}
+use Rattle.std.proofs.Common.{Some, append-nil, append_assoc}
 use Rattle.std.specs.List.{AllByRecursion}
 use Rattle.std.specs.Prelude.{MatchBool}
 use Rattle.std.specs.Str.{IsUtf8}
@@ -10,7 +10,9 @@ use Rattle.js_session.specs.declared.row.Row.{Row}
 use Rattle.js_session.specs.Effects.{effect_of, is_step}
 use Rattle.js_session.specs.Live.{State, after_row, after_mark, state_after, state_after_first, live}
 use Rattle.js_session.specs.Report.{IsRow, Run, AreRows, HasMark, LiesOnPlaces, IsSliceOnPlaces, ReportOf, all_collected}
-use Rattle.js_session.specs.Session.{SessionState, Begins, AddsRow, Follows, HasRun, after_command, report_of}
+use Rattle.js_kind.specs.TokenParts.{TokenParts}
+use Rattle.js_session.specs.Session.{SessionState, Begins, AddsRow, Follows, HasRun, HasRunFrom, RunsFrom}
+use Rattle.js_session.specs.Session.{after_command, report_of, resumed}
 use Rattle.js_session.proofs.RunLemmas.{run_step, run_mark, state_step, state_mark}
 
 -- What answers more commands from the state behind some, answers all from the state before them.
@@ -80,50 +82,66 @@ runs_on text t s (c ∷ cs) more (row ∷ rows) later h =
 pub run_begins : (text : List ℕ) (t : SourceType) (collects : Bool) (s : SessionState) → Begins text t collects s
     → HasRun text t collects [] s
 run_begins text t collects s b = record {
-  text_is = ap (λ (x : SessionState). x.text) b.after;
-  type_is = ap (λ (x : SessionState). x.source_type) b.after;
-  collects_is = ap (λ (x : SessionState). x.collects) b.after;
   first = b.row;
+  is_first = b.is_row;
+  runs = record {
+    text_is = ap (λ (x : SessionState). x.text) b.after;
+    type_is = ap (λ (x : SessionState). x.source_type) b.after;
+    collects_is = ap (λ (x : SessionState). x.collects) b.after;
+    rows = [];
+    rows_are = ap (λ (x : SessionState). x.rows) b.after;
+    answers = refl;
+    state = ap (λ (x : SessionState). x.state) b.after;
+  };
+}
+
+pub run_resumed : (text : List ℕ) (t : SourceType) (collects : Bool) (token : TokenParts)
+    → HasRunFrom text t collects token [] (resumed text t collects token)
+run_resumed text t collects token = record {
+  text_is = refl;
+  type_is = refl;
+  collects_is = refl;
   rows = [];
-  rows_are = ap (λ (x : SessionState). x.rows) b.after;
-  answers = (b.is_row, refl);
-  state = ap (λ (x : SessionState). x.state) b.after;
+  rows_are = refl;
+  answers = refl;
+  state = refl;
 }
 
 -- the same, whatever number of places for marks is free
 pub run_reserved : (text : List ℕ) (t : SourceType) (collects : Bool) (commands : List Command) (s : SessionState)
     (spare : ℕ) → HasRun text t collects commands s → HasRun text t collects commands (record s { spare = spare })
 run_reserved text t collects commands s spare h = record {
-  text_is = h.text_is;
-  type_is = h.type_is;
-  collects_is = h.collects_is;
   first = h.first;
-  rows = h.rows;
-  rows_are = h.rows_are;
-  answers = h.answers;
-  state = h.state;
+  is_first = h.is_first;
+  runs = record {
+    text_is = h.runs.text_is;
+    type_is = h.runs.type_is;
+    collects_is = h.runs.collects_is;
+    rows = h.runs.rows;
+    rows_are = h.runs.rows_are;
+    answers = h.runs.answers;
+    state = h.runs.state;
+  };
 }
 
 -- one step more
-run_adds : (text : List ℕ) (t : SourceType) (collects : Bool) (commands : List Command) (c : Command)
-    (old new : SessionState) → HasRun text t collects commands old → is_step c ≡ true → AddsRow c old new
-    → HasRun text t collects (commands ++ c ∷ []) new
-run_adds text t collects commands c old new h e a =
-    let start = state_after_first h.first in
-    let on = runs_on text t start commands (c ∷ []) h.rows (a.row ∷ []) h.answers.1 in
+run_adds : (text : List ℕ) (t : SourceType) (collects : Bool) (start : State) (before : List Row)
+    (commands : List Command) (c : Command) (old new : SessionState)
+    → RunsFrom text t collects start before commands old → is_step c ≡ true → AddsRow c old new
+    → RunsFrom text t collects start before (commands ++ c ∷ []) new
+run_adds text t collects start before commands c old new h e a =
+    let on = runs_on text t start commands (c ∷ []) h.rows (a.row ∷ []) h.answers in
     let is : IsRow text t (state_after start commands h.rows).now (Some c) a.row =
     subst (λ (s : State). IsRow text t s.now (Some c) a.row) h.state (rw (h.text_is, h.type_is) at a.is_row) in
     record {
       text_is = ap (λ (x : SessionState). x.text) a.after ∙ h.text_is;
       type_is = ap (λ (x : SessionState). x.source_type) a.after ∙ h.type_is;
       collects_is = ap (λ (x : SessionState). x.collects) a.after ∙ h.collects_is;
-      first = h.first;
       rows = h.rows ++ a.row ∷ [];
-      rows_are = ap (λ (x : SessionState). x.rows) a.after ∙ ap (λ rs. rs ++ a.row ∷ []) h.rows_are;
-      answers = (
-        h.answers.0,
-        on.run (run_step text t (state_after start commands h.rows) c [] a.row [] e is refl),
-      );
+      rows_are =
+          ap (λ (x : SessionState). x.rows) a.after ∙ ap (λ rs. rs ++ a.row ∷ []) h.rows_are
+          ∙ append_assoc before h.rows (a.row ∷ []);
+      answers = on.run (run_step text t (state_after start commands h.rows) c [] a.row [] e is refl);
       state =
           ap (λ (x : SessionState). x.state) a.after
           ∙ ap (after_row (effect_of c) a.row) h.state
@@ -131,26 +149,23 @@ run_adds text t collects commands c old new h e a =
     }
 
 -- one command more that gives no row
-run_marks : (text : List ℕ) (t : SourceType) (collects : Bool) (commands : List Command) (c : Command)
-    (old new : SessionState) → HasRun text t collects commands old → is_step c ≡ false → HasMark c old.state
-    → new ≡ after_command c old → HasRun text t collects (commands ++ c ∷ []) new
-run_marks text t collects commands c old new h e has after =
-    let start = state_after_first h.first in
-    let on = runs_on text t start commands (c ∷ []) h.rows [] h.answers.1 in
+run_marks : (text : List ℕ) (t : SourceType) (collects : Bool) (start : State) (before : List Row)
+    (commands : List Command) (c : Command) (old new : SessionState)
+    → RunsFrom text t collects start before commands old → is_step c ≡ false → HasMark c old.state
+    → new ≡ after_command c old → RunsFrom text t collects start before (commands ++ c ∷ []) new
+run_marks text t collects start before commands c old new h e has after =
+    let on = runs_on text t start commands (c ∷ []) h.rows [] h.answers in
     let marked : HasMark c (state_after start commands h.rows) = subst (HasMark c) h.state has in
     let all = append-nil h.rows in
     record {
       text_is = ap (λ (x : SessionState). x.text) after ∙ h.text_is;
       type_is = ap (λ (x : SessionState). x.source_type) after ∙ h.type_is;
       collects_is = ap (λ (x : SessionState). x.collects) after ∙ h.collects_is;
-      first = h.first;
       rows = h.rows;
       rows_are = ap (λ (x : SessionState). x.rows) after ∙ h.rows_are;
-      answers = (
-        h.answers.0,
-        subst (Run text t start (commands ++ c ∷ [])) all
-            (on.run (run_mark text t (state_after start commands h.rows) c [] [] e marked refl)),
-      );
+      answers =
+          subst (Run text t start (commands ++ c ∷ [])) all
+          (on.run (run_mark text t (state_after start commands h.rows) c [] [] e marked refl));
       state =
           ap (λ (x : SessionState). x.state) after
           ∙ ap (after_mark (effect_of c)) h.state
@@ -158,18 +173,32 @@ run_marks text t collects commands c old new h e has after =
           ∙ ap (state_after start (commands ++ c ∷ [])) all;
     }
 
-run_by : (b : Bool) (text : List ℕ) (t : SourceType) (collects : Bool) (commands : List Command) (c : Command)
-    (old new : SessionState) → is_step c ≡ b → HasRun text t collects commands old → HasMark c old.state
+run_by : (b : Bool) (text : List ℕ) (t : SourceType) (collects : Bool) (start : State) (before : List Row)
+    (commands : List Command) (c : Command) (old new : SessionState) → is_step c ≡ b
+    → RunsFrom text t collects start before commands old → HasMark c old.state
     → MatchBool b (AddsRow c old new) (new ≡ after_command c old)
-    → HasRun text t collects (commands ++ c ∷ []) new
-run_by true text t collects commands c old new e h has f = run_adds text t collects commands c old new h e f
-run_by false text t collects commands c old new e h has f = run_marks text t collects commands c old new h e has f
+    → RunsFrom text t collects start before (commands ++ c ∷ []) new
+run_by true text t collects start before commands c old new e h has f =
+    run_adds text t collects start before commands c old new h e f
+run_by false text t collects start before commands c old new e h has f =
+    run_marks text t collects start before commands c old new h e has f
+
+-- one command more, of any kind
+pub run_on : (text : List ℕ) (t : SourceType) (collects : Bool) (start : State) (before : List Row)
+    (commands : List Command) (c : Command) (old new : SessionState)
+    → RunsFrom text t collects start before commands old → HasMark c old.state → Follows c old new
+    → RunsFrom text t collects start before (commands ++ c ∷ []) new
+run_on text t collects start before commands c old new h has f =
+    run_by (is_step c) text t collects start before commands c old new refl h has f
 
 pub run_follows : (text : List ℕ) (t : SourceType) (collects : Bool) (commands : List Command) (c : Command)
     (old new : SessionState) → HasRun text t collects commands old → HasMark c old.state → Follows c old new
     → HasRun text t collects (commands ++ c ∷ []) new
-run_follows text t collects commands c old new h has f =
-    run_by (is_step c) text t collects commands c old new refl h has f
+run_follows text t collects commands c old new h has f = record {
+  first = h.first;
+  is_first = h.is_first;
+  runs = run_on text t collects (state_after_first h.first) (h.first ∷ []) commands c old new h.runs has f;
+}
 
 pub run_reports : (text : List ℕ) (t : SourceType) (collects : Bool) (commands : List Command) (s : SessionState)
     → IsUtf8 text → length text < 2 ^ 32 → HasRun text t collects commands s
@@ -177,9 +206,9 @@ pub run_reports : (text : List ℕ) (t : SourceType) (collects : Bool) (commands
 run_reports text t collects commands s utf8 short h = record {
   utf8 = utf8;
   short = short;
-  rows = subst (AreRows text t commands) (sym h.rows_are) h.answers;
-  lists = ap (λ (x : State). x.now) h.state ∙ ap (live commands) (sym h.rows_are);
-  collected_are = ap (λ b. all_collected b s.state.now.tokens) h.collects_is;
+  rows = subst (AreRows text t commands) (sym h.runs.rows_are) (h.is_first, h.runs.answers);
+  lists = ap (λ (x : State). x.now) h.runs.state ∙ ap (live commands) (sym h.runs.rows_are);
+  collected_are = ap (λ b. all_collected b s.state.now.tokens) h.runs.collects_is;
 }
 
 -- the values of rows that lie on places

@@ -2,11 +2,13 @@
 use Rattle.std.specs.Prelude.{◌≡◌, ℕ, Bool, List, [], ◌∷◌, ◌++◌, Some, None, MatchBool}
 use Rattle.std.specs.List.{AllByRecursion}
 use Rattle.js_text.specs.declared.source_type.SourceType.{SourceType}
+use Rattle.js_grammar.specs.Outcome.{no_findings}
+use Rattle.js_kind.specs.TokenParts.{TokenParts}
 use Rattle.js_lexer.specs.Lexer.{IsOnPlaces}
 use Rattle.js_session.specs.Effects.{effect_of, is_step, free_after}
 use Rattle.js_session.specs.Live.{State, nothing_live, report_with, state_after_first, state_after, after_row}
 use Rattle.js_session.specs.Live.{after_mark}
-use Rattle.js_session.specs.Report.{IsRow, AreRows, LiesOnPlaces, all_collected}
+use Rattle.js_session.specs.Report.{IsRow, LiesOnPlaces, Run, all_collected}
 use Rattle.js_session.specs.declared.command.Command.{Command}
 use Rattle.js_session.specs.declared.report.Report.{Report}
 use Rattle.js_session.specs.declared.row.Row.{Row}
@@ -34,6 +36,21 @@ pub record Begins (text : List ℕ) (t : SourceType) (collects : Bool) (new : Se
     spare = 0;
   }
 
+-- what is live behind a token, where nothing else is
+abbrev pub state_behind : TokenParts → State
+state_behind token = record { now = record { tokens = token ∷ []; findings = no_findings }; marks = [] }
+
+-- a session that goes on behind a token: it has no row yet
+abbrev pub resumed : List ℕ → SourceType → Bool → TokenParts → SessionState
+resumed text t collects token = record {
+  text = text;
+  source_type = t;
+  collects = collects;
+  rows = [];
+  state = state_behind token;
+  spare = 0;
+}
+
 -- One step: a row of the command was added, and the state is the one after it.
 pub record AddsRow (command : Command) (old new : SessionState) : Type 0 where
   pub row : Row
@@ -60,15 +77,25 @@ pub record LieOnPlaces (s : SessionState) : Type 0 where
 abbrev pub Follows : Command → SessionState → SessionState → Type 0
 Follows command old new = MatchBool (is_step command) (AddsRow command old new) (new ≡ after_command command old)
 
--- A session that has answered its first step and these commands: its rows are those of them, and its state is the one
--- behind them, with what was live at each open mark.
-pub record HasRun (text : List ℕ) (t : SourceType) (collects : Bool) (commands : List Command) (s : SessionState)
-    : Type 0 where
+-- From a state on, behind these rows, a session has answered the commands: its rows are those of them, and its state is
+-- the one behind them, with what was live at each open mark.
+pub record RunsFrom (text : List ℕ) (t : SourceType) (collects : Bool) (start : State) (before : List Row)
+    (commands : List Command) (s : SessionState) : Type 0 where
   pub text_is : s.text ≡ text
   pub type_is : s.source_type ≡ t
   pub collects_is : s.collects ≡ collects
-  pub first : Row
   pub rows : List Row
-  pub rows_are : s.rows ≡ first ∷ rows
-  pub answers : AreRows text t commands (first ∷ rows)
-  pub state : s.state ≡ state_after (state_after_first first) commands rows
+  pub rows_are : s.rows ≡ before ++ rows
+  pub answers : Run text t start commands rows
+  pub state : s.state ≡ state_after start commands rows
+
+-- A session has answered its first step and these commands.
+pub record HasRun (text : List ℕ) (t : SourceType) (collects : Bool) (commands : List Command) (s : SessionState)
+    : Type 0 where
+  pub first : Row
+  pub is_first : IsRow text t nothing_live None first
+  pub runs : RunsFrom text t collects (state_after_first first) (first ∷ []) commands s
+
+-- A session that went on behind a token has answered these commands.
+abbrev pub HasRunFrom : List ℕ → SourceType → Bool → TokenParts → List Command → SessionState → Type 0
+HasRunFrom text t collects token commands s = RunsFrom text t collects (state_behind token) [] commands s

@@ -10,7 +10,8 @@ ghost use Rattle.js_session.specs.declared.row.Row.{Row};
 ghost use Rattle.js_session.specs.Effects.{opens_one};
 ghost use Rattle.js_session.specs.Live.{Live, outcome_of};
 ghost use Rattle.js_session.specs.Report.{IsRow, HasMark, ReportOf};
-ghost use Rattle.js_session.specs.Session.{SessionState, Begins, Follows, HasRun, report_of};
+ghost use Rattle.js_session.specs.Session.{SessionState, Begins, Follows, HasRun, HasRunFrom, report_of, resumed};
+ghost use Rattle.js_kind.specs.TokenParts.{TokenParts};
 ghost use Rattle.js_session.specs.WholeSource.{nexts, IsEof, ReportOfWhole};
 
 use crate::command::Command;
@@ -61,6 +62,20 @@ pub fn each_call_is_one_command_more()
     ensures { (text : List ℕ) (t : SourceType) (collects : Bool) (commands : List Command) (command : Command)
         (old new : SessionState) → HasRun text t collects commands old → HasMark command old.state
         → Follows command old new → HasRun text t collects (commands ++ command ∷ []) new }
+{}
+
+/// A session that goes on behind a token has run no command from there.
+pub fn a_resumed_session_has_run_no_command()
+    ensures { (text : List ℕ) (t : SourceType) (collects : Bool) (token : TokenParts)
+        → HasRunFrom text t collects token [] (resumed text t collects token) }
+{}
+
+/// A session that went on behind a token and follows a command has run one more.
+pub fn each_call_from_there_is_one_command_more()
+    ensures { (text : List ℕ) (t : SourceType) (collects : Bool) (token : TokenParts) (commands : List Command)
+        (command : Command) (old new : SessionState) → HasRunFrom text t collects token commands old
+        → HasMark command old.state → Follows command old new
+        → HasRunFrom text t collects token (commands ++ command ∷ []) new }
 {}
 
 /// A session that follows a command has as many open marks and free places together as it had before.

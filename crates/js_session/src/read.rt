@@ -1,6 +1,6 @@
 //! Rows that are read from a lexer.
 
-ghost use Rattle.std.specs.Prelude.{◌≡◌, ◌≤◌, true, [], is_some, None, IfOk, OnOk, OnErr, MatchBool};
+ghost use Rattle.std.specs.Prelude.{◌≡◌, ◌≤◌, true, [], ◌∷◌, is_some, None, IfOk, OnOk, OnErr, MatchBool};
 ghost use Rattle.js_grammar.specs.Outcome.{AreWithin};
 ghost use Rattle.js_grammar.specs.ReLexed.{fits};
 ghost use Rattle.js_grammar.specs.Reads.{is_onward};
@@ -242,6 +242,19 @@ impl<'a, C: LexerConfig + Drop> RowReader<'a, C> {
             rows: RowList::new_in(alloc),
             tokens: TokenList::new_in(alloc),
         }
+    }
+
+    /// Nothing is read from the lexer yet, and its last token is live.
+    pub fn behind(
+        alloc: Global,
+        lexer: Lexer<'a, C>,
+        token: Token,
+    ) -> Result<RowReader<'a, C>, AllocError>
+        ensures { IfOk result (λ r. r ≡ record { lexer = lexer.entry; rows = []; tokens = token ∷ [] }) }
+    {
+        let mut reader = RowReader::new(alloc, lexer);
+        reader.tokens.push(token)?;
+        Ok(reader)
     }
 
     /// Reads a row and adds it, with its token live. Where it cannot allocate, lexer and live tokens may have gone on.

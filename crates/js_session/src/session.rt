@@ -4,10 +4,11 @@ ghost use Rattle.std.specs.Prelude.{◌≡◌, ◌≤◌, ◌<◌, ◌+◌, ◌^
 ghost use Rattle.std.specs.List.{AllByRecursion};
 ghost use Rattle.js_lexer.specs.Lexer.{IsOnPlaces};
 ghost use Rattle.js_session.specs.Effects.{effect_of, is_step};
+ghost use Rattle.js_grammar.specs.ReLexed.{HasSpelling};
 ghost use Rattle.js_grammar.specs.Reads.{is_onward};
 ghost use Rattle.js_session.specs.Effects.Effect.{reads, re_lexes};
 ghost use Rattle.js_session.specs.Report.{LiesOnPlaces, IsSliceOnPlaces};
-ghost use Rattle.js_session.specs.Session.{Begins, AddsRow, LieOnPlaces, after_command, report_of};
+ghost use Rattle.js_session.specs.Session.{Begins, AddsRow, LieOnPlaces, after_command, report_of, resumed};
 
 use crate::command::Command;
 use crate::mark_list::MarkList;
@@ -16,7 +17,7 @@ use crate::report::Report;
 use crate::row::Row;
 use crate::steps::Steps;
 use js_grammar::Goal;
-use js_kind::LexerConfig;
+use js_kind::{LexerConfig, Token};
 use js_lexer::{Lexer, NewFault};
 use js_text::SourceType;
 use std::alloc::{AllocError, Global};
@@ -74,6 +75,36 @@ impl<'a, C: LexerConfig + Drop> Session<'a, C> {
         let mut reader = RowReader::new(alloc, lexer);
         match reader.add_row(None, Goal::First, false) {
             Ok(()) => Ok(Session {
+                reader,
+                marks: MarkList::new_in(alloc),
+            }),
+            Err(_) => Err(NewFault::Memory),
+        }
+    }
+
+    /// A session that goes on behind a token of the text: it has no row, the token is the one that is live, and no mark
+    /// is open. The counter stays.
+    pub fn resume<L: Ledger>(
+        alloc: Global,
+        text: &'a str,
+        source_type: SourceType,
+        config: C,
+        token: Token,
+        steps: &mut Steps<L>,
+    ) -> Result<Session<'a, C>, NewFault>
+        requires places { IsOnPlaces text.now token }
+        requires spelling { HasSpelling text.now token }
+        ensures ok { IfOk result (λ s. s ≡ resumed text.now source_type (C.collects config) token) }
+        ensures places { IfOk result LieOnPlaces }
+        ensures overlong { (result ≡ Err NewFault.Overlong) ↔ (2 ^ 32 ≤ length text.now) }
+        ensures ticks { steps.new ≡ steps.old }
+    {
+        let lexer = match Lexer::resume(alloc, text, source_type, config, token) {
+            Ok(lexer) => lexer,
+            Err(fault) => return Err(fault),
+        };
+        match RowReader::behind(alloc, lexer, token) {
+            Ok(reader) => Ok(Session {
                 reader,
                 marks: MarkList::new_in(alloc),
             }),
