@@ -199,7 +199,9 @@ part_read_again old row last u is fit r =
       taken = r.taken;
       start = ap (λ x. x.token.start) read.outcome_is;
       was = again_is_re_lexed TailGoal last.kind fit;
-      is = part_not_again old.text old.source_type last (token_or_default (last_live old.state.now)).start (outcome_of row) read;
+      is =
+          part_not_again old.text old.source_type last (token_or_default (last_live old.state.now)).start
+          (outcome_of row) read;
       some_text = span.some_text;
     }
 
