@@ -8,6 +8,7 @@ pub mod PlaceLemmas
 pub mod ReadLemmas
 pub mod RunLemmas
 pub mod RunsOn
+pub mod SelfLemmas
 pub mod StepLemmas
 pub mod Unique
 pub mod WholeLemmas

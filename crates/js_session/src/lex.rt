@@ -2,10 +2,11 @@
 
 ghost use Rattle.std.specs.Prelude.{◌≡◌, ◌<◌, ◌^◌, ◌⊎◌, true, length, IfOk, OnOk, IfErr, IsOk};
 ghost use Rattle.std.specs.List.{AllByRecursion};
+ghost use Rattle.std.specs.Str.{IsUtf8};
 ghost use Rattle.js_session.specs.Effects.{effect_of, opens_one, needed_before, marks_needed};
 ghost use Rattle.js_session.specs.Faults.{IsReadable, HasMarks, Cause};
 ghost use Rattle.js_session.specs.Report.{ReportOf, HasMark, IsSliceOnPlaces};
-ghost use Rattle.js_session.specs.Session.{Follows};
+ghost use Rattle.js_session.specs.Session.{Begins, Follows, report_of};
 ghost use Rattle.js_session.specs.declared.fault.LexFault.{LexFault};
 
 use crate::command::Command;
@@ -69,6 +70,26 @@ fn follow<C: LexerConfig + Drop, L: Ledger>(
     }
 }
 
+/// The commands of a list, one by one, behind the first step. Places for their marks are reserved before.
+fn follow_each<C: LexerConfig + Drop, L: Ledger>(
+    session: &mut Session<'_, C>,
+    commands: &[Command],
+    steps: &mut Steps<L>,
+) -> Result<(), AllocError>
+    requires utf8 { IsUtf8 session.old.text }
+    requires short { length session.old.text < 2 ^ 32 }
+    requires marks { HasMarks commands.now }
+    requires begun { Begins session.old.text session.old.source_type session.old.collects session.old }
+    ensures { OnOk result (ReportOf session.old.text session.old.source_type session.old.collects commands.now
+        (report_of session.new)) }
+{
+    session.reserve_marks(marks_needed(commands))?;
+    for command in commands {
+        follow(session, *command, steps)?;
+    }
+    Ok(())
+}
+
 /// The report of a list of commands that close no mark too many.
 fn lex_text<L: Ledger>(
     alloc: Global,
@@ -87,10 +108,7 @@ fn lex_text<L: Ledger>(
         Ok(session) => session,
         Err(_) => return Err(AllocError),
     };
-    session.reserve_marks(marks_needed(commands))?;
-    for command in commands {
-        follow(&mut session, *command, steps)?;
-    }
+    follow_each(&mut session, commands, steps)?;
     Ok(session.finish())
 }
 

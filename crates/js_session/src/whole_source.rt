@@ -3,8 +3,10 @@
 ghost use Rattle.std.specs.Prelude.{◌≡◌, ◌≢◌, ◌<◌, ◌≤◌, ◌^◌, ◌⊎◌, ◌↔◌, ℕ, List, [], ◌∷◌, ◌++◌, length};
 ghost use Rattle.std.specs.Prelude.{IfOk, OnOk, IfErr, IsOk, IsTrue};
 ghost use Rattle.std.specs.List.{AllByRecursion};
+ghost use Rattle.std.specs.Str.{IsUtf8};
 ghost use Rattle.js_session.specs.Faults.{IsReadable, SourceCause};
 ghost use Rattle.js_session.specs.Report.{IsSliceOnPlaces};
+ghost use Rattle.js_session.specs.Session.{Begins, report_of};
 ghost use Rattle.js_session.specs.WholeSource.{IsEof, ReportOfWhole};
 ghost use Rattle.js_session.specs.declared.fault.LexFault.{LexFault};
 ghost use Rattle.js_session.specs.declared.row.Row.{Row};
@@ -15,7 +17,7 @@ use crate::report::Report;
 use crate::row::Row;
 use crate::session::Session;
 use crate::steps::Steps;
-use js_kind::{Kind, RuntimeLexerConfig};
+use js_kind::{Kind, LexerConfig, RuntimeLexerConfig};
 use js_text::SourceType;
 use std::alloc::{AllocError, Global};
 use std::marker::Brand;
@@ -29,6 +31,26 @@ fn ends_with_eof(rows: &[Row]) -> bool
         Some(row) => row.token.kind().is_same(Kind::Eof),
         None => false,
     }
+}
+
+/// The steps to the end of the text behind the first one, and how many they are.
+fn step_to_end<C: LexerConfig + Drop, L: Ledger>(
+    session: &mut Session<'_, C>,
+    steps: &mut Steps<L>,
+) -> Result<u64, AllocError>
+    requires utf8 { IsUtf8 session.old.text }
+    requires short { length session.old.text < 2 ^ 32 }
+    requires begun { Begins session.old.text session.old.source_type session.old.collects session.old }
+    ensures report { IfOk result (λ count. ReportOfWhole session.old.text session.old.source_type session.old.collects
+        count (report_of session.new)) }
+    ensures few { IfOk result (λ count. count ≤ length session.old.text) }
+{
+    let mut count: u64 = 0;
+    while !ends_with_eof(session.rows()) {
+        session.step(Command::Next, steps)?;
+        count += 1;
+    }
+    Ok(count)
 }
 
 /// How many steps lead to the end of a text, and the report of so many.
@@ -48,11 +70,7 @@ fn lex_whole_text<L: Ledger>(
         Ok(session) => session,
         Err(_) => return Err(AllocError),
     };
-    let mut count: u64 = 0;
-    while !ends_with_eof(session.rows()) {
-        session.step(Command::Next, steps)?;
-        count += 1;
-    }
+    let count = step_to_end(&mut session, steps)?;
     Ok((count, session.finish()))
 }
 

@@ -1,51 +1,29 @@
-use Rattle.std.proofs.Common.{◌∙◌, sym, subst, arith}
-use Rattle.js_session.specs.Session.{Begins}
-use Rattle.js_session.specs.WholeSource.{IsEof, ReportOfWhole}
-use Rattle.js_session.proofs.WholeLemmas.{reaches_start, reaches_step, reaches_few, reaches_fewer, reaches_end}
-use Rattle.js_session.proofs.whole_source.lex_whole_text.Given as given
+use Rattle.std.proofs.Common.{◌≤◌, length, sym, subst}
+use Rattle.js_session.specs.Session.{Begins, report_of}
+use Rattle.js_session.specs.WholeSource.{ReportOfWhole}
+use Rattle.js_session.proofs.SelfLemmas.{begun_itself, begun_short, begun_utf8, of_begun}
 use Rattle.js_session.proofs.whole_source.lex_whole_text.Goals as goal
 
-pub loop-session-init : goal.loop-session-init
-loop-session-init g c =
-    reaches_start c.args.text.now c.args.source_type c.args.tokens c.in-Ok.session c.utf8.text
-    (subst (λ b. Begins c.args.text.now c.args.source_type b c.in-Ok.session) c.new-config.ensures c.in-Ok.ensures.ok)
+pub step_to_end-requires-clause-utf8 : goal.step_to_end-requires-clause-utf8
+step_to_end-requires-clause-utf8 g c = begun_utf8 _ _ _ _ c.in-Ok.ensures.ok c.utf8.text
 
-pub overflow_add-count : goal.overflow_add-count
-overflow_add-count g c =
-    let few = reaches_few c.args.text.now c.args.source_type c.args.tokens c.loop-session.count c.loop-session.session
-    c.loop-session.invariant in omega (arith, few, c.requires.short)
+pub step_to_end-requires-clause-short : goal.step_to_end-requires-clause-short
+step_to_end-requires-clause-short g c = begun_short _ _ _ _ c.in-Ok.ensures.ok c.requires.short
 
--- where the loop goes on, the last row is not the end of the source
-goes_on : (g : given.Over) (c : goal.In_ok-step g) → ¬ (IsEof c.loop-session.invariant.last)
-goes_on g c =
-    let r = c.loop-session.invariant in
-    λ eof. let yes = (c.ends_with_eof.ensures r.before r.last (c.rows.ensures.rows ∙ r.last_is)).1 eof in
-    let no = c.loop-session-test.true in absurd cc
-
-pub loop-session-smaller : goal.loop-session-smaller
-loop-session-smaller g c =
-    let r = c.loop-session.invariant in
-    let fewer = reaches_fewer c.args.text.now c.args.source_type c.args.tokens c.loop-session.count
-    c.loop-session.session r (goes_on g c) in omega (arith, fewer)
-
-pub loop-session-preserved : goal.loop-session-preserved
-loop-session-preserved g c =
-    let r = c.loop-session.invariant in
-    reaches_step c.args.text.now c.args.source_type c.args.tokens c.loop-session.count c.loop-session.session
-    c.step.new.self c.utf8.text r (goes_on g c) c.in_ok-step.ensures.ok
+pub step_to_end-requires-clause-begun : goal.step_to_end-requires-clause-begun
+step_to_end-requires-clause-begun g c = begun_itself _ _ _ _ c.in-Ok.ensures.ok
 
 pub returns-clause-report : goal.returns-clause-report
 returns-clause-report g c =
-    let r = c.loop-session.invariant in
-    let eof : IsEof r.last =
-    (c.ends_with_eof.ensures r.before r.last (c.rows.ensures.rows ∙ r.last_is)).0
-    (let no = c.loop-session-test.false in cc) in
-    subst (ReportOfWhole c.args.text.now c.args.source_type c.args.tokens c.loop-session.count)
-    (sym c.finish.ensures.report)
-    (reaches_end c.args.text.now c.args.source_type c.args.tokens c.loop-session.count c.loop-session.session
-    c.utf8.text c.requires.short r eof)
+    let text = c.args.text.now in
+    let count = c.in_ok-count.count in
+    let begins =
+    subst (λ b. Begins text c.args.source_type b c.in-Ok.session) c.new-config.ensures c.in-Ok.ensures.ok in
+    subst (ReportOfWhole text c.args.source_type c.args.tokens count) (sym c.finish.ensures.report)
+    (of_begun (λ x t b. ReportOfWhole x t b count (report_of c.step_to_end.new.session)) text c.args.source_type
+    c.args.tokens c.in-Ok.session begins c.in_ok-count.ensures.report)
 
 pub returns-clause-few : goal.returns-clause-few
 returns-clause-few g c =
-    reaches_few c.args.text.now c.args.source_type c.args.tokens c.loop-session.count c.loop-session.session
-    c.loop-session.invariant
+    of_begun (λ x t b. c.in_ok-count.count ≤ length x) _ _ _ c.in-Ok.session c.in-Ok.ensures.ok
+    c.in_ok-count.ensures.few
