@@ -3,6 +3,7 @@ pub mod Causes
 pub mod FaultLemmas
 pub mod LexerLemmas
 pub mod LiveLemmas
+pub mod LocalRows
 pub mod MarkLemmas
 pub mod PlaceLemmas
 pub mod ReadLemmas

@@ -1,6 +1,7 @@
 //! Laws of the definitions alone: each function carries one for all arguments, and does nothing.
 
-ghost use Rattle.std.specs.Prelude.{◌≡◌, ◌<◌, ◌+◌, ◌^◌, ◌++◌, ◌∷◌, [], ℕ, length, Bool, true, List, Option, Some};
+ghost use Rattle.std.specs.Prelude.{◌≡◌, ◌<◌, ◌≤◌, ◌+◌, ◌^◌, ◌++◌, ◌∷◌, [], ℕ, length, Bool, true, List, Option, Some};
+ghost use Rattle.std.specs.Prelude.{IfSome};
 ghost use Rattle.std.specs.List.{AllByRecursion};
 ghost use Rattle.std.specs.Str.{IsUtf8};
 ghost use Rattle.js_text.specs.declared.source_type.SourceType.{SourceType};
@@ -8,7 +9,8 @@ ghost use Rattle.js_session.specs.declared.command.Command.{Command};
 ghost use Rattle.js_session.specs.declared.report.Report.{Report};
 ghost use Rattle.js_session.specs.declared.row.Row.{Row};
 ghost use Rattle.js_session.specs.Effects.{opens_one};
-ghost use Rattle.js_session.specs.Live.{Live, outcome_of};
+ghost use Rattle.js_lexer.specs.Lexer.{IsOnPlaces};
+ghost use Rattle.js_session.specs.Live.{Live, last_live, outcome_of};
 ghost use Rattle.js_session.specs.Report.{IsRow, HasMark, ReportOf};
 ghost use Rattle.js_session.specs.Session.{SessionState, Begins, Follows, HasRun, HasRunFrom, report_of, resumed};
 ghost use Rattle.js_kind.specs.TokenParts.{TokenParts};
@@ -90,6 +92,15 @@ pub fn a_session_reports_its_commands()
     ensures { (text : List ℕ) (t : SourceType) (collects : Bool) (commands : List Command) (s : SessionState)
         → IsUtf8 text → length text < 2 ^ 32 → HasRun text t collects commands s
         → ReportOf text t collects commands (report_of s) }
+{}
+
+/// A row depends on no more of a text than four bytes behind its token: where the last live token lies on the text, it
+/// answers its command with any other rest of the text.
+pub fn a_row_is_local()
+    ensures { (front rest other : List ℕ) (t : SourceType) (now : Live) (command : Option Command) (row : Row)
+        → IsUtf8 (front ++ rest) → IsUtf8 (front ++ other) → IfSome (last_live now) (IsOnPlaces (front ++ rest))
+        → row.token.end + 4 ≤ length front
+        → IsRow (front ++ rest) t now command row → IsRow (front ++ other) t now command row }
 {}
 
 /// A peek gives the token that the next step gives, with its value, and finds what that finds.
