@@ -6,13 +6,12 @@ use Rattle.std.specs.Prelude.{slice_get, ℕ, IfSome, is_none, if◌then◌else�
 use Rattle.std.specs.List.{last_or}
 use Rattle.std.specs.Str.{IsCharBoundary, IsUtf8}
 use Rattle.std.proofs.lemmas.Str.{IsCharBoundary-start}
-use Rattle.std.proofs.Math.Seq.{take-append_seam}
 use Rattle.js_text.specs.Characters.{from_place}
 use Rattle.js_text.specs.Lists.{with_last}
 use Rattle.js_kind.specs.TokenParts.{TokenParts}
 use Rattle.js_grammar.specs.GapItems.{token_before}
 use Rattle.js_grammar.specs.Goals.{GoalReads, line_has_ended_behind}
-use Rattle.js_grammar.specs.Outcome.{Outcome, lengths_of, cut_to}
+use Rattle.js_grammar.specs.Outcome.{Findings, Outcome, lengths_of, cut_to, joined}
 use Rattle.js_grammar.specs.declared.goal.Goal.{Goal}
 use Rattle.js_grammar.specs.declared.goal.Goal.TheVariants.{TemplateTail}
 use Rattle.js_grammar.proofs.AgainKinds.{again_is_re_lexed, only_one}
@@ -29,7 +28,7 @@ use Rattle.js_grammar.proofs.KindTexts.{goal_reads_spelling}
 use Rattle.js_grammar.proofs.Texts.{goal_reads_text}
 use Rattle.js_reader.specs.Decoded.{Values, AreValues, Keeps, HasValue}
 use Rattle.js_grammar.proofs.GoalWays.{goal_reads_span, goal_reads_places}
-use Rattle.js_reader.specs.Found.{findings_in}
+use Rattle.js_reader.specs.Found.{findings_in, lists_added}
 use Rattle.js_lexer.specs.Lexer.{LexerState, IsOnPlaces, IsSound, IsRestored, collected, ReadsOutcome, ReadsToken}
 use Rattle.js_lexer.specs.Lexer.{Checkpoint, checkpoint_of, checkpoint_with_errors_of, put_back, put_errors_back}
 use Rattle.js_lexer.specs.Lexer.{rewound, BeginsAlike, GoesOnFrom, with_diagnostics, with_comments}
@@ -37,7 +36,7 @@ use Rattle.js_lexer.specs.Lexer.{LexesAgain, after_re_lex, last_read, token_or_d
 use Rattle.js_reader.specs.Reader.{ReadsGoal, ReadsWithGap, ReadsWithoutGap, AddsGap, MovesOn}
 use Rattle.js_reader.specs.declared.findings_builder.FindingsBuilder.{FindingsBuilder}
 use Rattle.js_reader.specs.declared.reader.Reader.{Reader}
-use Rattle.js_lexer.proofs.FindingLaws.{cut_to-joined, cut_to-recovered}
+use Rattle.js_lexer.proofs.FindingLaws.{cut_to-joined, cut_to-recovered, joined-none}
 use Rattle.js_lexer.proofs.TriviaLaws.{IsBetweenGaps, behind_token, told, held_before_token, held_later}
 use Rattle.js_trivia.specs.Attachment.{Attachment, between_gaps, after_token}
 use Rattle.js_trivia.specs.Trivia.{Trivia, HeldBefore, handle_token, held, is_past, comment_starts}
@@ -47,9 +46,9 @@ use Rattle.js_source.specs.Source.{At}
 pub record IsReaderOf (goal : Goal) (l : LexerState) (r : Reader) (found : FindingsBuilder) : Type 0 where
   pub source : r.source ≡ record { text = l.text; place = l.place }
   pub source_type : r.source_type ≡ l.source_type
-  pub errors : found.errors ≡ l.findings.diagnostics
-  pub deferred : found.deferred ≡ l.findings.deferred
-  pub warnings : found.warnings ≡ l.findings.warnings
+  -- comments and irregular white space aside, which are the builder's of trivia
+  pub listed : l.findings
+      ≡ record (findings_in found) { comments = l.findings.comments; irregular = l.findings.irregular }
   pub between : IsBetweenGaps l.last l.place l.findings.comments l.findings.irregular
       (range_before goal l.pure_comments) (range_before goal l.no_side_effects_comments) found.trivia
 
@@ -114,9 +113,7 @@ pub reader_is : (goal : Goal) (r : Reader) (found : FindingsBuilder) (last : Opt
 reader_is goal r found last values line_has_ended cleared sound e = record {
   source = refl;
   source_type = refl;
-  errors = refl;
-  deferred = refl;
-  warnings = refl;
+  listed = refl;
   between = between_is goal r.source last found.trivia cleared values sound e;
 }
 
@@ -267,12 +264,15 @@ reads_token old new r before reader after trivia goal token values u b is with_g
     behind_token old.findings.comments old.findings.irregular (range_before goal old.pure_comments)
     (range_before goal old.no_side_effects_comments) reads.outcome in
     let now : trivia ≡ holds = told ∙ held_now goal old r before token reader after is with_gap in
-    let errors : after.errors ≡ old.findings.diagnostics ++ reads.outcome.findings.diagnostics =
-    with_gap.gap.errors ∙ ap (λ es. es ++ reads.outcome.findings.diagnostics) is.errors in
-    let deferred : after.deferred ≡ old.findings.deferred ++ reads.outcome.findings.deferred =
-    with_gap.gap.deferred ∙ ap (λ es. es ++ reads.outcome.findings.deferred) is.deferred in
-    let warnings : after.warnings ≡ old.findings.warnings ++ reads.outcome.findings.warnings =
-    with_gap.gap.warnings ∙ ap (λ ws. ws ++ reads.outcome.findings.warnings) is.warnings in
+    let more = reads.outcome.findings in
+    let found : findings_in (record after { trivia = trivia }) ≡ joined old.findings more =
+    ap (λ (f : FindingsBuilder). findings_in (record f { trivia = trivia })) with_gap.gap.added
+    ∙ ap (λ (s : Trivia). findings_in (record (lists_added more before) { trivia = s })) now
+    ∙ ap (λ (f : Findings).
+    record (joined f more) {
+      comments = old.findings.comments ++ more.comments;
+      irregular = old.findings.irregular ++ more.irregular;
+    }) (sym is.listed) in
     record {
       outcome = reads.outcome;
       token_is = reads.token_is;
@@ -288,7 +288,7 @@ reads_token old new r before reader after trivia goal token values u b is with_g
         last =
             ap (λ x. x.last) e ∙ ap Some (told_last token after.trivia trivia told ∙ reads.token_is);
         tokens = ap (λ x. x.tokens) e ∙ ap (λ x. old.tokens ++ collected old.collects x) reads.token_is;
-        findings = ap (λ x. x.findings) e ∙ rw (errors, deferred, warnings, now) refl;
+        findings = ap (λ x. x.findings) e ∙ found;
         pure_comments = ap (λ x. x.pure_comments) e ∙ ap (λ (s : Trivia). s.pure_comments) now;
         no_side_effects_comments =
             ap (λ x. x.no_side_effects_comments) e ∙ ap (λ (s : Trivia). s.no_side_effects_comments) now;
@@ -382,15 +382,11 @@ reads_again old new r goal token reader told later comments last values u source
             ∙ ap (λ x. if old.collects then with_last old.tokens x else old.tokens) reads.token_is;
         findings =
             ap (λ x. x.findings) e
-            ∙ rw (
-              alone.findings,
-              reported,
-              same,
-              append-nil old.findings.deferred,
-              append-nil old.findings.comments,
-              append-nil old.findings.irregular,
-              append-nil old.findings.warnings,
-            ) refl;
+            ∙ ap (λ cs. record old.findings { diagnostics = later; comments = cs }) same
+            ∙ ap (λ es. record old.findings { diagnostics = es }) reported
+            ∙ ap (λ (f : Findings).
+            record f { diagnostics = old.findings.diagnostics ++ reads.outcome.findings.diagnostics })
+            (sym (joined-none old.findings)) ∙ ap (joined old.findings) (sym alone.findings);
         pure_comments = ap (λ x. x.pure_comments) e;
         no_side_effects_comments = ap (λ x. x.no_side_effects_comments) e;
       };
@@ -414,10 +410,6 @@ reads_moves_on goal previous old token new r = record {
   text = r.text;
   source_type = r.source_type;
 }
-
--- a list that has only grown, cut back
-pub cut_back : {A : Type 0} (xs more ys : List A) → ys ≡ xs ++ more → take (length xs) ys ≡ xs
-cut_back xs more ys e = ap (take (length xs)) e ∙ take-append_seam xs more
 
 -- the front of a list that begins alike, with the last token in its place
 pub put_back_last : (old now : List TokenParts) → BeginsAlike old now

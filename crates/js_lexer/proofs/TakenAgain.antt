@@ -26,7 +26,7 @@ use Rattle.js_lexer.proofs.AgainSteps.{longest_starts, longest_unescaped, name_s
 use Rattle.js_lexer.proofs.AgainSteps.{right_starts, right_unescaped}
 use Rattle.js_reader.proofs.DecodedSteps.{keeps_same, no_value}
 use Rattle.js_lexer.proofs.LexerSteps.{reads_again, sound_again, told_again, told_last}
-use Rattle.js_trivia.specs.Trivia.{handle_token}
+use Rattle.js_trivia.specs.Trivia.{Trivia, handle_token}
 
 -- A reader has read the last token again, from its start, with the values of tokens before and after.
 pub record IsReadAgain (goal : Goal) (last : Option TokenParts) (old : Reader) (told : List Diagnostic)
@@ -120,28 +120,27 @@ sound_taken {goal} {token} {values} {more} has_read old new found after r sound 
 
 -- and the token was read again, as contracts see it
 abbrev pub reads_taken : {goal : Goal} {token : TokenParts} {collects : Bool} {tokens now : Reserved TokenParts}
-    {values more : Values} (has_read : Bool) (old new : Reader) (found after : FindingsBuilder)
-    → IsReadAgain goal (last_read has_read found.trivia.attachment.previous) old found.errors values token new
-    after.errors more
+    {values more : Values} (has_read : Bool) (old new : Reader) (found : FindingsBuilder) (errors : List Diagnostic)
+    (trivia : Trivia)
+    → IsReadAgain goal (last_read has_read found.trivia.attachment.previous) old found.errors values token new errors
+    more
     → IsSound old.source (last_read has_read found.trivia.attachment.previous) found.trivia values
-    → after.trivia ≡ handle_token token found.trivia → after.deferred ≡ found.deferred
-    → after.warnings ≡ found.warnings → now ≡ with_token_again collects token tokens
+    → trivia ≡ handle_token token found.trivia → now ≡ with_token_again collects token tokens
     → LexesAgain goal (lexer_of collects old found has_read tokens values) token
-    (lexer_of collects new after has_read now more)
-reads_taken {goal} {token} {collects} {tokens} {now} {values} {more} has_read old new found after r sound told deferred
-    warnings collected =
+    (lexer_of collects new (record found { errors = errors; trivia = trivia }) has_read now more)
+reads_taken {goal} {token} {collects} {tokens} {now} {values} {more} has_read old new found errors trivia r sound told
+    collected =
+    let after : FindingsBuilder = record found { errors = errors; trivia = trivia } in
     let same =
-    told_again (last_read has_read found.trivia.attachment.previous) token found.trivia after.trivia old.source values
-    sound told in
+    told_again (last_read has_read found.trivia.attachment.previous) token found.trivia trivia old.source values sound
+    told in
     reads_again (lexer_of collects old found has_read tokens values) (lexer_of collects new after has_read now more)
-    old goal token new found.errors after.errors after.trivia.attachment.attached after.trivia.attachment.previous more
+    old goal token new found.errors errors trivia.attachment.attached trivia.attachment.previous more
     (subst IsUtf8 r.reads.read.text r.utf8) refl refl refl r.again r.reads (r.keeps.kept sound.are_values) r.has_value same.0
-    (told_last token found.trivia after.trivia told)
+    (told_last token found.trivia trivia told)
     (rw (
       was_read has_read found.trivia.attachment.previous r.before r.last_is,
       collected,
-      deferred,
-      warnings,
       same.1,
       same.2,
       same.3,
@@ -149,28 +148,27 @@ reads_taken {goal} {token} {collects} {tokens} {now} {values} {more} has_read ol
 
 -- and so was a regular expression
 pub regex_taken : {collects : Bool} {tokens now : Reserved TokenParts} {values : Values} (has_read : Bool)
-    (read : RegexToken) (old new : Reader) (found after : FindingsBuilder) (before : TokenParts)
-    → last_read has_read found.trivia.attachment.previous ≡ Some before
-    → ReadsExpression before old found.errors read new after.errors
+    (read : RegexToken) (old new : Reader) (found : FindingsBuilder) (errors : List Diagnostic) (trivia : Trivia)
+    (before : TokenParts) → last_read has_read found.trivia.attachment.previous ≡ Some before
+    → ReadsExpression before old found.errors read new errors
     → IsUtf8 new.source.text
     → IsSound old.source (last_read has_read found.trivia.attachment.previous) found.trivia values
-    → after.trivia ≡ handle_token read.token found.trivia → after.deferred ≡ found.deferred
-    → after.warnings ≡ found.warnings → now ≡ with_token_again collects read.token tokens
+    → trivia ≡ handle_token read.token found.trivia → now ≡ with_token_again collects read.token tokens
     → ReadsRegex (lexer_of collects old found has_read tokens values) read
-    (lexer_of collects new after has_read now values)
-regex_taken has_read read old new found after before is reads utf8 sound told deferred warnings collected =
+    (lexer_of collects new (record found { errors = errors; trivia = trivia }) has_read now values)
+regex_taken has_read read old new found errors trivia before is reads utf8 sound told collected =
     let last = last_read has_read found.trivia.attachment.previous in
-    let both : (again : ReadsWithoutGap RegularExpression last old found.errors read.token new after.errors)
+    let both : (again : ReadsWithoutGap RegularExpression last old found.errors read.token new errors)
     × (again.read.outcome.regex ≡ Some (info_of read)) =
     subst
-    (λ o. (again : ReadsWithoutGap RegularExpression o old found.errors read.token new after.errors)
+    (λ o. (again : ReadsWithoutGap RegularExpression o old found.errors read.token new errors)
     × (again.read.outcome.regex ≡ Some (info_of read)))
     (sym is) (reads.reads, reads.info) in
     record {
       again =
-          reads_taken has_read old new found after
+          reads_taken has_read old new found errors trivia
           (record (plainly last old new before expression_is_plain is reads.reads utf8) { reads = both.0 })
-          sound told deferred warnings collected;
+          sound told collected;
       info = both.1;
     }
 

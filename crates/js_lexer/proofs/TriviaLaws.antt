@@ -106,7 +106,7 @@ module _ (previous : Option TokenParts) (t : SourceType) (place : ℕ) (comments
 
   pub told : handle_token outcome.token after.trivia ≡ behind_token comments spans pure no_side_effects outcome
   told =
-      ap (handle_token outcome.token) adds.trivia
+      ap (λ (f : FindingsBuilder). handle_token outcome.token f.trivia) adds.added
       ∙ calls_for_pieces (is_none previous) (token_before previous) outcome.token place adds.pieces before.trivia may
       ∙ same
 

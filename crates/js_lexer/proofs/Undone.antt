@@ -1,10 +1,11 @@
 -- A reading that could not allocate, and what undoes it.
 use Rattle.std.proofs.Common.{◌≡◌, ◌≤◌, Bool, [], length, refl, sym, ◌∙◌, ap, subst, Option}
 use Rattle.js_text.specs.Lists.{Reserved}
+use Rattle.js_text.specs.declared.diagnostic.Diagnostic.{Diagnostic}
 use Rattle.js_kind.specs.TokenParts.{TokenParts}
 use Rattle.js_source.specs.Source.{At}
 use Rattle.js_trivia.specs.Attachment.{Attachment}
-use Rattle.js_trivia.specs.Trivia.{Trivia, AreRangesUpTo, GrewFrom, held}
+use Rattle.js_trivia.specs.Trivia.{Trivia, AreRangesUpTo, GrewFrom, cut_to, held, lengths_of}
 use Rattle.js_trivia.specs.declared.lengths.TriviaLengths.{TriviaLengths}
 use Rattle.js_grammar.specs.declared.goal.Goal.{Goal}
 use Rattle.js_reader.specs.Decoded.{Values}
@@ -13,9 +14,8 @@ use Rattle.js_lexer.specs.Lexer.{IsRestored, IsSound, last_read, lexer_of, trivi
 use Rattle.js_reader.specs.declared.findings_builder.FindingsBuilder.{FindingsBuilder}
 use Rattle.js_reader.specs.declared.reader.Reader.{Reader}
 use Rattle.js_reader.specs.declared.reading_start.ReadingStart.{ReadingStart}
-use Rattle.js_lexer.proofs.LexerSteps.{cut_back}
 use Rattle.js_lexer.proofs.TriviaLaws.{back_after_calls, grew_by_calls, long_enough}
-use Rattle.js_reader.proofs.TriviaSteps.{extends_same, grows_reports}
+use Rattle.js_reader.proofs.TriviaSteps.{extends_none, grows_back, grows_reports}
 
 -- What has been found since a reading began: between two gaps, where the builder of trivia had forgotten no more than
 -- ranges of annotations, more may have been found.
@@ -47,19 +47,14 @@ may_go_back before now h =
       ranges = h.ranges;
     }
 
-same_found : (a b : FindingsBuilder) → a.errors ≡ b.errors → a.deferred ≡ b.deferred → a.trivia ≡ b.trivia
-    → a.warnings ≡ b.warnings → a ≡ b
-same_found a b errors deferred trivia warnings = rw (errors, deferred, trivia, warnings) refl
-
 -- Then all is found that was found before.
 pub found_again : {start : ReadingStart} {source : At} (before now back : FindingsBuilder)
     → HasGrown start source before now → back ≡ found_up_to start.found now → back ≡ before
 found_again before now back h e =
     e ∙ ap (λ (s : ReadingStart). found_up_to s.found now) h.start_is
-    ∙ same_found _ before (cut_back before.errors h.grows.errors.more now.errors h.grows.errors.is_more)
-    (cut_back before.deferred h.grows.deferred.more now.deferred h.grows.deferred.is_more)
+    ∙ grows_back (record before { trivia = h.cleared }) now (cut_to (lengths_of before.trivia) now.trivia) h.grows
+    ∙ ap (λ (s : Trivia). record before { trivia = s })
     (back_after_calls before.trivia now.trivia h.between (grew before now h))
-    (cut_back before.warnings h.grows.warnings.more now.warnings h.grows.warnings.is_more)
 
 -- And the source stands where it stood.
 pub stands_again : {start : ReadingStart} (before : FindingsBuilder) (old between new : At)
@@ -86,19 +81,19 @@ undone collects has_read old new found back tokens now values more source source
 }
 
 -- what was found where diagnostics alone were reported
-pub reported_since : (start : ReadingStart) (source : At) (before now : FindingsBuilder)
+pub reported_since : (start : ReadingStart) (source : At) (before : FindingsBuilder) (errors : List Diagnostic)
     → start ≡ start_of source before
     → AreRangesUpTo start.found.trivia.comments start.found.trivia.pure_range start.found.trivia.no_side_effects
-    → before.trivia.attachment.pending ≡ [] → Extends before.errors now.errors → now.deferred ≡ before.deferred
-    → now.trivia ≡ before.trivia → now.warnings ≡ before.warnings → HasGrown start source before now
-reported_since start source before now start_is ranges between errors deferred trivia warnings = record {
+    → before.trivia.attachment.pending ≡ [] → Extends before.errors errors
+    → HasGrown start source before (record before { errors = errors })
+reported_since start source before errors start_is ranges between reports = record {
   start_is = start_is;
   ranges = ranges;
   between = between;
   cleared = before.trivia;
   attachment = refl;
   irregular = refl;
-  grows = grows_reports before now errors (extends_same before.deferred now.deferred deferred) trivia warnings;
+  grows = grows_reports before errors before.deferred reports (extends_none before.deferred);
 }
 
 -- and what was found behind the start of a reading of the goal

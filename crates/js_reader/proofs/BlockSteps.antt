@@ -18,7 +18,7 @@ use Rattle.js_grammar.proofs.GapLemmas.{cuts}
 use Rattle.js_grammar.proofs.PieceLemmas.{piece-block_comment, piece-slash}
 use Rattle.js_source.specs.Source.{At, rest, IsPlaced, BeginsWith}
 use Rattle.js_source.proofs.Places.{begins_with}
-use Rattle.js_trivia.specs.Trivia.{add_comment, found_in}
+use Rattle.js_trivia.specs.Trivia.{Trivia, add_comment, found_in}
 use Rattle.js_spell.specs.Comments.{ReadsCut}
 use Rattle.js_spell.specs.Sequences.{TakesSequence}
 use Rattle.js_reader.specs.Reader.{SkipsSome}
@@ -114,21 +114,19 @@ unfolding is_line_terminator
 mark_has_no_line_end cs = refl
 
 -- a block comment that ends
-pub block_skipped : (old : Reader) (before : FindingsBuilder) (mid : At) (new : Reader) (after : FindingsBuilder)
+pub block_skipped : (old : Reader) (before : FindingsBuilder) (mid : At) (new : Reader) (trivia : Trivia)
     (inside : Bool)
     → IsPlaced old.source → IsPlaced new.source → TakesSequence (codes "/*") old.source true mid
     → new.source.text ≡ mid.text → ReadsCut false (cut_behind (codes "*/") (rest mid)) new.source (Skips inside)
     → new.source_type ≡ old.source_type
-    → new.line_has_ended ≡ (old.line_has_ended || inside) → after.errors ≡ before.errors
-    → after.deferred ≡ before.deferred
-    → after.trivia
+    → new.line_has_ended ≡ (old.line_has_ended || inside)
+    → trivia
     ≡ add_comment
     (found_in old.source.text (kind_by inside) (record { start = old.source.place; end = new.source.place }))
     before.trivia
-    → after.warnings ≡ before.warnings
-    → SkipsSome old before new after
-block_skipped old before mid new after inside h g takes text cuts source_type line_has_ended errors deferred trivia
-    warnings =
+    → SkipsSome old before new (record before { trivia = trivia })
+block_skipped old before mid new trivia inside h g takes text cuts source_type line_has_ended told =
+    let after : FindingsBuilder = record before { trivia = trivia } in
     let cut = cuts.0 in
     let marked = block_marked old.source mid new.source inside h g takes text cuts in
     let front = block_front old.source mid new.source inside h g takes text cuts in
@@ -157,14 +155,13 @@ block_skipped old before mid new after inside h g takes text cuts source_type li
           (parts_of (rest mid) cut cuts.1 ∙ ap (λ cs. cut.front ++ cs) cuts.3)
           ∙ sym (append_assoc (codes "/*") cut.front (rest new.source)));
       adds =
-          adds_items false old.source_type old.source.place x before after
-          (comment (found_comment old.source.place (block_kind x.text) x) ∷ []) refl refl refl errors
-          deferred
-          (trivia
+          adds_items false old.source_type old.source.place x before trivia
+          (comment (found_comment old.source.place (block_kind x.text) x) ∷ []) refl refl refl
+          (told
           ∙ ap (λ f. add_comment f before.trivia)
           (found_is old.source.text (kind_by inside) old.source.place new.source.place (codes "/*") front.0 (codes "*/")
           marked x (ap (λ cs. codes "/*" ++ cs) front.1)
-          ∙ ap (λ k. found_comment old.source.place k x) (sym kind))) warnings;
+          ∙ ap (λ k. found_comment old.source.place k x) (sym kind)));
       ends_line = refl;
     } in
     some_skipped old before new after p g

@@ -17,7 +17,7 @@ use Rattle.js_grammar.proofs.GapLemmas.{piece_takes, all_pieces-cons, all_pieces
 use Rattle.js_grammar.proofs.PieceLemmas.{piece-white, piece-line_terminator}
 use Rattle.js_source.specs.Source.{At, rest, IsPlaced, Reads}
 use Rattle.js_source.specs.Runs.{IsRun, PassesRun, TellsClass}
-use Rattle.js_trivia.specs.Trivia.{calls, handle_newline}
+use Rattle.js_trivia.specs.Trivia.{Trivia, calls, handle_newline}
 use Rattle.js_reader.specs.Gaps.{AddsPieces, IsAtLineEnd}
 use Rattle.js_reader.specs.Reader.{SkipsGap, Leads, SkipsSome, SkipsPiece}
 use Rattle.js_reader.specs.Reader.{SkipsEndOfLine, IsUnmoved}
@@ -193,13 +193,12 @@ piece_from old mid new before told after false same e s = (
 module _ (old : Reader) (before : FindingsBuilder) (source : At) (c : ℕ) (h : IsPlaced old.source) (g : IsPlaced source)
     (text : source.text ≡ old.source.text) (here : rest old.source ≡ c ∷ rest source) where
   -- a character of white space
-  pub white_skipped : (after : FindingsBuilder) → is_white_space c ≡ true → after.errors ≡ before.errors
-      → after.deferred ≡ before.deferred
-      → after.trivia
+  pub white_skipped : (trivia : Trivia) → is_white_space c ≡ true
+      → trivia
       ≡ calls (listed_if (is_irregular_whitespace c) (record { start = old.source.place; end = source.place }))
-      before.trivia → after.warnings ≡ before.warnings
-      → IsBehindPiece false old before false (record old { source = source }) after
-  white_skipped after white errors deferred trivia warnings =
+      before.trivia
+      → IsBehindPiece false old before false (record old { source = source }) (record before { trivia = trivia })
+  white_skipped trivia white told =
       let x = one_character white_space old.line_has_ended c (rest source) in
       let place : source.place ≡ old.source.place + piece_length x = on_to old.source source (c ∷ []) h g text here in
       record {
@@ -213,24 +212,24 @@ module _ (old : Reader) (before : FindingsBuilder) (source : At) (c : ℕ) (h : 
         left = refl;
         place = place;
         adds =
-            adds_items false old.source_type old.source.place x before after
-            (listed_if (is_irregular_whitespace c) (piece_span old.source.place x)) refl refl refl errors deferred
-            (trivia
+            adds_items false old.source_type old.source.place x before trivia
+            (listed_if (is_irregular_whitespace c) (piece_span old.source.place x)) refl refl refl
+            (told
             ∙ ap (λ n. calls (listed_if (is_irregular_whitespace c) (record { start = old.source.place; end = n }))
-            before.trivia) place) warnings;
+            before.trivia) place);
         ends_line = refl;
       }
 
   -- a line terminator, which is listed where it is one of two and stands behind no line comment
-  pub line_end_skipped : (behind : Bool) (after : FindingsBuilder) → is_white_space c ≡ false
+  pub line_end_skipped : (behind : Bool) (trivia : Trivia) → is_white_space c ≡ false
       → is_line_terminator c ≡ true
-      → after.errors ≡ before.errors → after.deferred ≡ before.deferred
-      → after.trivia
+      → trivia
       ≡ handle_newline
       (calls (listed_if (is_separator c && not behind) (record { start = old.source.place; end = source.place }))
-      before.trivia) → after.warnings ≡ before.warnings
-      → IsBehindPiece behind old before false (record old { source = source; line_has_ended = true }) after
-  line_end_skipped behind after dark ends errors deferred trivia warnings =
+      before.trivia)
+      → IsBehindPiece behind old before false (record old { source = source; line_has_ended = true })
+      (record before { trivia = trivia })
+  line_end_skipped behind trivia dark ends told =
       let x = one_character line_terminator true c (rest source) in
       let place : source.place ≡ old.source.place + piece_length x = on_to old.source source (c ∷ []) h g text here in
       let listed = listed_if (is_separator c && not behind) (piece_span old.source.place x) in
@@ -245,12 +244,12 @@ module _ (old : Reader) (before : FindingsBuilder) (source : At) (c : ℕ) (h : 
         left = refl;
         place = place;
         adds =
-            adds_items behind old.source_type old.source.place x before after (listed ++ line_end ∷ []) refl refl refl
-            errors deferred
-            (trivia
+            adds_items behind old.source_type old.source.place x before trivia (listed ++ line_end ∷ []) refl refl
+            refl
+            (told
             ∙ ap (λ n. handle_newline (calls (listed_if (is_separator c && not behind)
             (record { start = old.source.place; end = n })) before.trivia)) place
-            ∙ sym (calls-append listed (line_end ∷ []) before.trivia)) warnings;
+            ∙ sym (calls-append listed (line_end ∷ []) before.trivia));
         ends_line = refl;
       }
 
@@ -292,21 +291,22 @@ not_false true e = refl
 not_false false e = absurd (cc)
 
 -- the line end behind a line comment
-pub end_of_line : (old : Reader) (before : FindingsBuilder) (source : At) (c : ℕ) (after : FindingsBuilder)
+pub end_of_line : (old : Reader) (before : FindingsBuilder) (source : At) (c : ℕ) (trivia : Trivia)
     → IsPlaced old.source
     → IsPlaced source → Reads old.source source c → IsAtLineEnd (rest old.source)
-    → after.errors ≡ before.errors → after.deferred ≡ before.deferred → after.trivia ≡ handle_newline before.trivia
-    → after.warnings ≡ before.warnings
-    → SkipsEndOfLine old before (record old { source = source; line_has_ended = true }) after
-end_of_line old before source c after h g reads end errors deferred trivia warnings =
+    → trivia ≡ handle_newline before.trivia
+    → SkipsEndOfLine old before (record old { source = source; line_has_ended = true })
+    (record before { trivia = trivia })
+end_of_line old before source c trivia h g reads end told =
+    let after : FindingsBuilder = record before { trivia = trivia } in
     let ends : is_line_terminator c ≡ true =
     not_false (is_line_terminator c) (sym (ap (begins (λ d. not (is_line_terminator d))) reads.here) ∙ end) in
     let span : Span = record { start = old.source.place; end = source.place } in
     let p : IsBehindPiece true old before false (record old { source = source; line_has_ended = true }) after =
-    line_end_skipped old before source c h g reads.text reads.here true after
-    (line_end_is_dark c ends) ends errors deferred
-    (trivia
-    ∙ ap (λ b. handle_newline (calls (listed_if b span) before.trivia)) (sym (and_false (is_separator c)))) warnings in
+    line_end_skipped old before source c h g reads.text reads.here true trivia
+    (line_end_is_dark c ends) ends
+    (told
+    ∙ ap (λ b. handle_newline (calls (listed_if b span) before.trivia)) (sym (and_false (is_separator c)))) in
     record {
       text = p.text;
       source_type = p.source_type;
@@ -340,28 +340,21 @@ end_of_text old before source same none =
             text = s.text;
             source_type = s.source_type;
             gap = record { pieces = []; all = all };
-            adds = record {
-              errors = adds.errors;
-              deferred = adds.deferred;
-              trivia = adds.trivia;
-              warnings = adds.warnings;
-            };
+            adds = adds;
           };
       fewer = omega arith;
     }
 
 -- LF
-pub line_feed_skipped : (old : Reader) (before : FindingsBuilder) (source : At) (after : FindingsBuilder)
+pub line_feed_skipped : (old : Reader) (before : FindingsBuilder) (source : At) (trivia : Trivia)
     → IsPlaced old.source
     → IsPlaced source → source.text ≡ old.source.text → rest old.source ≡ 10 ∷ rest source
-    → after.errors ≡ before.errors → after.deferred ≡ before.deferred → after.trivia ≡ handle_newline before.trivia
-    → after.warnings ≡ before.warnings
-    → SkipsSome old before (record old { source = source; line_has_ended = true }) after
+    → trivia ≡ handle_newline before.trivia
+    → SkipsSome old before (record old { source = source; line_has_ended = true }) (record before { trivia = trivia })
 unfolding is_white_space is_irregular_whitespace is_line_terminator is_separator
-line_feed_skipped old before source after h g text here errors deferred trivia warnings =
-    some_skipped old before (record old { source = source; line_has_ended = true }) after
-    (line_end_skipped old before source 10 h g text here false after refl refl errors deferred trivia warnings)
-    g
+line_feed_skipped old before source trivia h g text here told =
+    some_skipped old before (record old { source = source; line_has_ended = true }) (record before { trivia = trivia })
+    (line_end_skipped old before source 10 h g text here false trivia refl refl told) g
 
 -- TABs and SPs
 blank_run : (table : List Bool) → TellsClass is_blank table → (run : List ℕ) (old : Reader) (source : At)
@@ -381,8 +374,8 @@ blank_run table tells (b ∷ bs) old source found all h g text here later after 
     let placed : IsPlaced mid = record { utf8 = h.utf8; short = h.short; boundary = past.0 } in
     let blank : is_blank b ≡ true = sym (tells.tells b all.0) ∙ all.1 in
     let p : IsBehindPiece false old found false (record old { source = mid }) found =
-    white_skipped old found mid b h placed refl (here ∙ ap (λ cs. b ∷ cs) (sym past.1)) found
-    (blank_is_white b blank) refl refl (rw (blank_is_plain b blank) refl) refl in
+    white_skipped old found mid b h placed refl (here ∙ ap (λ cs. b ∷ cs) (sym past.1)) found.trivia
+    (blank_is_white b blank) (rw (blank_is_plain b blank) refl) in
     piece_leads false old found false (record old { source = mid }) found p later after
     (blank_run table tells bs (record old { source = mid }) source found all.2 placed g text past.1 later after s)
 

@@ -41,6 +41,7 @@ use Rattle.js_reader.specs.Reader.{ReadsGoal, ReadsSilently, ReadsWithoutGap, re
 use Rattle.js_reader.specs.declared.reader.Reader.{Reader}
 use Rattle.js_text.specs.declared.span.Span.{Span}
 use Rattle.js_reader.specs.declared.findings_builder.FindingsBuilder.{FindingsBuilder}
+use Rattle.js_reader.proofs.TriviaSteps.{lists_none}
 
 -- This was read of a token from the start on, without a flag, and the source stands behind it.
 pub record ReadTo (text : List ℕ) (start : ℕ) (read : Option Reading) (found : Reading) (new : At) : Type 0 where
@@ -409,10 +410,13 @@ child_goal old new found later warned kind token h g spells warns source_type is
         up_to = omega arith;
         comments = refl;
         irregular = refl;
-        errors = spells.reports;
-        deferred = sym (append-nil found.deferred);
-        trivia = refl;
-        warnings = warns;
+        added =
+            rw (spells.reports, warns)
+            (ap (λ (f : FindingsBuilder).
+            record f {
+              errors = found.errors ++ reported_at old.source.place read;
+              warnings = found.warnings ++ jsx_child_warnings old.source.place (rest old.source);
+            }) (lists_none found));
       };
     }
 

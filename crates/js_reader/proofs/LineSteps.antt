@@ -12,14 +12,14 @@ use Rattle.js_text.specs.declared.comment.CommentKind.TheVariants.{HtmlClose}
 use Rattle.js_text.proofs.TextLemmas.{before_from}
 use Rattle.js_grammar.specs.Gap.{Piece, PieceKind, piece, is_prefix, line_comment}
 use Rattle.js_grammar.specs.Gap.PieceKind.{single_line_comment, html_open_comment, html_close_comment}
-use Rattle.js_grammar.specs.GapItems.{comment}
+use Rattle.js_grammar.specs.GapItems.{Item, comment}
 use Rattle.js_grammar.specs.Outcome.{piece_deferred, piece_diagnostics, html_deferred}
 use Rattle.js_grammar.specs.PieceItems.{is_line_comment, items_of_kind, found_comment}
 use Rattle.js_grammar.proofs.PieceLemmas.{piece-angle, piece-minus, piece-line_comment}
 use Rattle.js_grammar.proofs.Tests.{prefix_of}
 use Rattle.js_source.specs.Source.{At, rest, IsPlaced, BeginsWith}
 use Rattle.js_source.proofs.Places.{begins_with}
-use Rattle.js_trivia.specs.Trivia.{calls, add_comment, found_in}
+use Rattle.js_trivia.specs.Trivia.{Trivia, add_comment, found_in}
 use Rattle.js_reader.specs.Gaps.{opening_sequence, piece_kind, is_html, IsAtLineEnd}
 use Rattle.js_spell.specs.Sequences.{TakesSequence}
 use Rattle.js_reader.specs.Reader.{IsBehindLine, IsOnlyPiece, SkipsSome, SkipsEndOfLine}
@@ -27,6 +27,7 @@ use Rattle.js_reader.specs.declared.findings_builder.FindingsBuilder.{FindingsBu
 use Rattle.js_reader.specs.declared.reader.Reader.{Reader}
 use Rattle.js_reader.proofs.CommentTexts.{IsMarked, line_mark, placed_in, found_is}
 use Rattle.js_reader.proofs.GapSteps.{IsBehindPiece, piece_leads, piece_shorter, on_to}
+use Rattle.js_reader.proofs.TriviaSteps.{adds_piece, silently_added}
 
 module _ (kind : CommentKind) (line : is_line_kind kind ≡ true) (old mid new : At) (h : IsPlaced old) (g : IsPlaced new)
     (takes : TakesSequence (opening_sequence kind) old true mid) (text : new.text ≡ mid.text)
@@ -69,18 +70,15 @@ module _ (kind : CommentKind) (line : is_line_kind kind ≡ true) (old mid new :
 
 -- what is told of a line comment
 pub behind_line : (kind : CommentKind) → is_line_kind kind ≡ true → (old : Reader) (before : FindingsBuilder)
-    (mid : At) (new : Reader) (after : FindingsBuilder) → IsPlaced old.source → IsPlaced new.source
+    (mid : At) (new : Reader) (trivia : Trivia) → IsPlaced old.source → IsPlaced new.source
     → TakesSequence (opening_sequence kind) old.source true mid → new.source.text ≡ mid.text
     → rest new.source ≡ from_first is_line_terminator (rest mid)
-    → new.source_type ≡ old.source_type → new.line_has_ended ≡ old.line_has_ended → after.errors ≡ before.errors
-    → after.deferred ≡ before.deferred
-    → after.trivia
+    → new.source_type ≡ old.source_type → new.line_has_ended ≡ old.line_has_ended
+    → trivia
     ≡ add_comment
     (found_in old.source.text kind (record { start = old.source.place; end = new.source.place })) before.trivia
-    → after.warnings ≡ before.warnings
-    → IsBehindLine kind old before new after
-behind_line kind line old before mid new after h g takes text left source_type line_has_ended errors deferred trivia
-    warnings =
+    → IsBehindLine kind old before new (record before { trivia = trivia })
+behind_line kind line old before mid new trivia h g takes text left source_type line_has_ended told =
     let marked = line_marked kind line old.source mid new.source h g takes text left in
     let placed =
     placed_in old.source.text kind old.source.place new.source.place (opening_sequence kind)
@@ -92,16 +90,14 @@ behind_line kind line old before mid new after h g takes text left source_type l
       here = takes.1;
       left = line_left kind line old.source mid new.source h g takes text left;
       onward = omega (arith, placed.marks);
-      errors = errors;
-      deferred = deferred;
-      warnings = warnings;
-      trivia =
-          trivia
+      told =
+          ap (λ (s : Trivia). record before { trivia = s })
+          (told
           ∙ ap (λ f. add_comment f before.trivia)
           (found_is old.source.text kind old.source.place new.source.place (opening_sequence kind)
           (before_first is_line_terminator (rest mid)) [] marked
           (line_comment single_line_comment old.line_has_ended (rest old.source))
-          (line_text kind line old.source mid new.source h g takes text left));
+          (line_text kind line old.source mid new.source h g takes text left)));
     }
 
 -- a line comment as a piece of this kind
@@ -112,13 +108,12 @@ pub line_piece : (kind : CommentKind) (piece_is : PieceKind) (behind : Bool) (ol
     ≡ Some (line_comment piece_is old.line_has_ended (rest old.source))
     → ((place : ℕ) (x : Piece) → items_of_kind piece_is place behind x ≡ comment (found_comment place kind x) ∷ [])
     → is_line_comment piece_is ≡ true → ((place : ℕ) → piece_diagnostics place piece_is ≡ [])
-    → more.errors ≡ after.errors
-    → more.deferred ≡ after.deferred ++ piece_deferred old.source_type old.source.place piece_is
-    → more.trivia ≡ after.trivia → more.warnings ≡ after.warnings
+    → more ≡ record after { deferred = after.deferred ++ piece_deferred old.source_type old.source.place piece_is }
     → IsBehindPiece behind old before true new more
-line_piece kind piece_is behind old before new after more h g line is items ends silent errors deferred trivia
-    warnings =
+line_piece kind piece_is behind old before new after more h g line is items ends silent more_is =
     let x = line_comment piece_is old.line_has_ended (rest old.source) in
+    let defers = piece_deferred old.source_type old.source.place piece_is in
+    let tells : List Item = comment (found_comment old.source.place kind x) ∷ [] in
     record {
       text = line.text;
       source_type = line.stays.source_type;
@@ -129,22 +124,11 @@ line_piece kind piece_is behind old before new after more h g line is items ends
       place =
           on_to old.source new.source x.text h g line.text
           (sym (before_from is_line_terminator (rest old.source)) ∙ ap (λ cs. x.text ++ cs) (sym line.left));
-      adds = record {
-        errors =
-            errors ∙ line.errors ∙ sym (append-nil before.errors)
-            ∙ ap (λ ds. before.errors ++ ds)
-            (sym (append-nil (piece_diagnostics old.source.place piece_is) ∙ silent old.source.place));
-        deferred =
-            deferred
-            ∙ ap (λ ds. ds ++ piece_deferred old.source_type old.source.place piece_is) line.deferred
-            ∙ ap (λ ds. before.deferred ++ ds)
-            (sym (append-nil (piece_deferred old.source_type old.source.place piece_is)));
-        trivia =
-            trivia ∙ line.trivia
-            ∙ ap (λ is. calls is before.trivia)
-            (sym (append-nil (items_of_kind piece_is old.source.place behind x) ∙ items old.source.place x));
-        warnings = warnings ∙ line.warnings;
-      };
+      adds =
+          adds_piece behind old.source_type old.source.place x before more [] defers tells (silent old.source.place)
+          refl (items old.source.place x)
+          (more_is ∙ ap (λ (f : FindingsBuilder). record f { deferred = f.deferred ++ defers }) line.told
+          ∙ silently_added defers tells before);
       ends_line = ends;
     }
 
@@ -185,7 +169,7 @@ slashes old before new after h g line =
     (ap (piece old.source_type old.line_has_ended) line.here
     ∙ piece-line_comment old.source_type old.line_has_ended line.behind
     ∙ ap (λ cs. Some (line_comment single_line_comment old.line_has_ended cs)) (sym line.here)) (λ place x. refl) refl
-    (λ place. refl) refl (sym (append-nil after.deferred)) refl refl
+    (λ place. refl) (ap (λ ds. record after { deferred = ds }) (sym (append-nil after.deferred)))
 
 -- an HTML-like comment, where it is the only piece that may stand here
 html_items : (kind : CommentKind) → is_html kind ≡ true → (place : ℕ) (x : Piece)
@@ -229,21 +213,23 @@ html_is_line HtmlClose e = refl
 
 pub html_piece : (kind : CommentKind) → is_html kind ≡ true → (old : Reader) (before : FindingsBuilder) (new : Reader)
     (after more : FindingsBuilder) → IsPlaced old.source → IsPlaced new.source → IsBehindLine kind old before new after
-    → IsOnlyPiece kind old → more.errors ≡ after.errors
-    → more.deferred
-    ≡ after.deferred
-    ++ html_deferred old.source_type
-    (record { start = old.source.place; end = old.source.place + opening_length kind })
-    → more.trivia ≡ after.trivia → more.warnings ≡ after.warnings
+    → IsOnlyPiece kind old
+    → more
+    ≡ record after {
+      deferred =
+          after.deferred
+          ++ html_deferred old.source_type
+          (record { start = old.source.place; end = old.source.place + opening_length kind });
+    }
     → IsBehindPiece false old before true new more
-html_piece kind html old before new after more h g line only errors deferred trivia warnings =
+html_piece kind html old before new after more h g line only more_is =
     let begins : is_prefix (opening_sequence kind) (rest old.source) ≡ true =
     ap (is_prefix (opening_sequence kind)) line.here ∙ prefix_of (opening_sequence kind) line.behind in
     line_piece kind (piece_kind kind) false old before new after more h g line
     (only
     ∙ ap (λ b. if b then Some (line_comment (piece_kind kind) old.line_has_ended (rest old.source)) else None) begins)
-    (html_items kind html) (html_ends kind html) (html_silent kind html) errors
-    (deferred ∙ ap (λ ds. after.deferred ++ ds) (html_reports kind html old)) trivia warnings
+    (html_items kind html) (html_ends kind html) (html_silent kind html)
+    (more_is ∙ ap (λ ds. record after { deferred = after.deferred ++ ds }) (html_reports kind html old))
 
 pub no_html : (kind : CommentKind) (old : Reader) → IsOnlyPiece kind old
     → is_prefix (opening_sequence kind) (rest old.source) ≡ false

@@ -18,7 +18,7 @@ use Rattle.js_source.specs.Source.{At, rest, IsPlaced}
 use Rattle.js_text.specs.declared.diagnostic.Diagnostic.{Diagnostic}
 use Rattle.js_grammar.specs.Gap.{Piece, WholeGap, is_prefix, is_reported, line_comment, whole_gap_piece, Pieces}
 use Rattle.js_grammar.specs.Gap.PieceKind.{reported_comment}
-use Rattle.js_grammar.specs.PieceItems.{piece_length}
+use Rattle.js_grammar.specs.PieceItems.{items_of, piece_length}
 use Rattle.js_grammar.specs.Goals.{ReadsHere, spelled_reading, token_alone, with_gap}
 use Rattle.js_grammar.specs.Goals.{line_has_ended_behind, ReadsBehindGap, ReadsPlainly, GoalReads}
 use Rattle.js_grammar.specs.Goals.ReadsHere.{spelled, recovers}
@@ -52,7 +52,10 @@ use Rattle.js_reader.specs.Reader.{MovesOn, IsUnmoved, ReadsInPart}
 use Rattle.js_reader.specs.Reader.{simple_lexeme}
 use Rattle.js_reader.specs.Spellings.{SpellsLongest}
 use Rattle.js_spell.specs.Recovery.{Recovers}
+use Rattle.js_trivia.specs.Trivia.{calls}
+use Rattle.js_reader.specs.Found.{lists_added}
 use Rattle.js_reader.specs.declared.findings_builder.FindingsBuilder.{FindingsBuilder}
+use Rattle.js_reader.proofs.TriviaSteps.{lists_gap, lists_none}
 use Rattle.js_reader.specs.declared.lexeme.Lexeme.{Lexeme}
 use Rattle.js_reader.specs.declared.reader.Reader.{Reader}
 use Rattle.js_spell.specs.declared.recovery.Recovered.{Recovered}
@@ -191,6 +194,9 @@ gap_told previous old before mid told outcome ds later f h gap start found repor
     let t = old.source_type in
     let pieces = gap.skips.pieces in
     let findings = gap_findings t previous old.source.place pieces outcome.token in
+    let errors = gap_diagnostics old.source.place pieces in
+    let deferred = gap_deferred t old.source.place pieces in
+    let trivia = calls (items_of old.source.place pieces) before.trivia in
     record {
       pieces = pieces;
       have_bytes =
@@ -201,17 +207,18 @@ gap_told previous old before mid told outcome ds later f h gap start found repor
           (arith, start, ends_behind old.source.place pieces, pieces_lead false old before mid told f h gap.skips);
       comments = ap (λ (x : Findings). x.comments) found ∙ append-nil findings.comments;
       irregular = ap (λ (x : Findings). x.irregular) found ∙ append-nil findings.irregular;
-      errors =
-          reports ∙ ap (λ es. es ++ ds) gap.skips.adds.errors
-          ∙ append_assoc before.errors (gap_diagnostics old.source.place pieces) ds
-          ∙ ap (λ es. before.errors ++ es) (sym (ap (λ (x : Findings). x.diagnostics) found));
-      deferred =
-          gap.skips.adds.deferred ∙ ap (λ es. before.deferred ++ es)
-          (sym (ap (λ (x : Findings). x.deferred) found ∙ append-nil (gap_deferred t old.source.place pieces)));
-      trivia = gap.skips.adds.trivia;
-      warnings =
-          gap.skips.adds.warnings ∙ sym (append-nil before.warnings)
-          ∙ ap (λ ws. before.warnings ++ ws) (sym (ap (λ (x : Findings). x.warnings) found));
+      added =
+          ap (λ es. record told { errors = es }) reports
+          ∙ ap (λ (f : FindingsBuilder). record f { errors = f.errors ++ ds }) gap.skips.adds
+          ∙ ap (λ es. record before { errors = es; deferred = before.deferred ++ deferred; trivia = trivia })
+          (append_assoc before.errors errors ds)
+          ∙ ap (λ es. record before {
+            errors = before.errors ++ (errors ++ ds);
+            deferred = before.deferred ++ es;
+            trivia = trivia;
+          }) (sym (append-nil deferred))
+          ∙ lists_gap (errors ++ ds) (deferred ++ []) trivia before
+          ∙ ap (λ (more : Findings). record (lists_added more before) { trivia = trivia }) (sym found);
     }
 
 -- the place behind the token that was read here
@@ -348,10 +355,7 @@ goal_hashbang previous old new found token line_has_ended h = record {
     up_to = omega (arith, h.at_start);
     comments = refl;
     irregular = refl;
-    errors = sym (append-nil found.errors);
-    deferred = sym (append-nil found.deferred);
-    trivia = refl;
-    warnings = sym (append-nil found.warnings);
+    added = lists_none found;
   };
 }
 

@@ -110,8 +110,8 @@ line_feed_passed start now next had has s here text g = record {
   ends = suc s.ends;
   leads = λ r before later found skips.
       s.leads r before later found
-      ((line_feed_skipped (moved r now has) (ends_told s.ends before) next (ends_told (suc s.ends) before) s.placed g
-      text here refl refl refl refl).leads later found skips);
+      ((line_feed_skipped (moved r now has) (ends_told s.ends before) next (ends_told (suc s.ends) before).trivia
+      s.placed g text here refl).leads later found skips);
 }
 
 -- the gap has ended

@@ -1,17 +1,20 @@
 -- What pieces of gaps add to what was found.
 use Rattle.std.proofs.Common.{◌≡◌, ℕ, ◌+◌, Bool, List, [], ◌∷◌, ◌++◌, refl, sym, ◌∙◌, ap}
-use Rattle.std.proofs.Common.{append_assoc, append-nil, add-zero}
+use Rattle.std.proofs.Common.{append_assoc, append-nil, add-zero, length, take}
+use Rattle.std.proofs.Math.Seq.{take-append_seam}
 use Rattle.std.specs.Prelude.{Result, Ok, Err, IfOk, OnErr}
 use Rattle.std.specs.declared.alloc.AllocError.{AllocError}
+use Rattle.js_text.specs.declared.diagnostic.Diagnostic.{Diagnostic}
 use Rattle.js_text.specs.declared.source_type.SourceType.{SourceType}
 use Rattle.js_grammar.specs.Gap.{Piece}
 use Rattle.js_grammar.specs.GapItems.{Item}
 use Rattle.js_grammar.specs.Outcome.{Findings, piece_deferred, gap_deferred, piece_diagnostics, gap_diagnostics}
+use Rattle.js_grammar.specs.Outcome.{no_findings}
 use Rattle.js_grammar.specs.Reading.{place_behind}
 use Rattle.js_grammar.specs.PieceItems.{piece_length, is_line_comment, items_of_kind, items_from}
 use Rattle.js_grammar.proofs.Reported.{piece_texts, place_behind-append, gap_diagnostics-append}
 use Rattle.js_trivia.specs.Trivia.{Trivia, call, calls}
-use Rattle.js_reader.specs.Found.{Extends, Grows}
+use Rattle.js_reader.specs.Found.{Extends, Grows, found_lengths, found_up_to, gap_added, lists_added}
 use Rattle.js_reader.specs.Gaps.{AddsPieces}
 use Rattle.js_reader.specs.declared.findings_builder.FindingsBuilder.{FindingsBuilder}
 
@@ -37,15 +40,6 @@ extends_on a b c f g = record {
   is_more = g.is_more ∙ ap (λ ds. ds ++ g.more) f.is_more ∙ append_assoc a f.more g.more;
 }
 
-pub grows_none : (found : FindingsBuilder) → Grows found found
-grows_none found = record {
-  errors = extends_none found.errors;
-  deferred = extends_none found.deferred;
-  items = [];
-  trivia = refl;
-  warnings = extends_none found.warnings;
-}
-
 pub grows_on : (a b c : FindingsBuilder) → Grows a b → Grows b c → Grows a c
 grows_on a b c f g = record {
   errors = extends_on a.errors b.errors c.errors f.errors g.errors;
@@ -55,52 +49,113 @@ grows_on a b c f g = record {
   warnings = extends_on a.warnings b.warnings c.warnings f.warnings g.warnings;
 }
 
--- items alone
-pub grows_by : (a b : FindingsBuilder) (items : List Item) → b.errors ≡ a.errors → b.deferred ≡ a.deferred
-    → b.trivia ≡ calls items a.trivia → b.warnings ≡ a.warnings → Grows a b
-grows_by a b items errors deferred trivia warnings = record {
-  errors = extends_same a.errors b.errors errors;
-  deferred = extends_same a.deferred b.deferred deferred;
+-- what a gap may add
+grows_gap : (a : FindingsBuilder) (errors deferred : List Diagnostic) (trivia : Trivia) (items : List Item)
+    → Extends a.errors errors → Extends a.deferred deferred → trivia ≡ calls items a.trivia
+    → Grows a (record a { errors = errors; deferred = deferred; trivia = trivia })
+grows_gap a errors deferred trivia items reports defers told = record {
+  errors = reports;
+  deferred = defers;
   items = items;
-  trivia = trivia;
-  warnings = extends_same a.warnings b.warnings warnings;
+  trivia = told;
+  warnings = extends_none a.warnings;
 }
 
+-- nothing
+pub grows_none : (found : FindingsBuilder) → Grows found found
+grows_none found =
+    grows_gap found found.errors found.deferred found.trivia [] (extends_none found.errors)
+    (extends_none found.deferred) refl
+
+-- items alone
+pub grows_by : (found : FindingsBuilder) (trivia : Trivia) (items : List Item) → trivia ≡ calls items found.trivia
+    → Grows found (record found { trivia = trivia })
+grows_by found trivia items told =
+    grows_gap found found.errors found.deferred trivia items (extends_none found.errors) (extends_none found.deferred)
+    told
+
 -- what is reported alone
-pub grows_reports : (a b : FindingsBuilder) → Extends a.errors b.errors → Extends a.deferred b.deferred
-    → b.trivia ≡ a.trivia → b.warnings ≡ a.warnings → Grows a b
-grows_reports a b errors deferred trivia warnings = record {
-  errors = errors;
-  deferred = deferred;
-  items = [];
-  trivia = trivia;
-  warnings = extends_same a.warnings b.warnings warnings;
-}
+pub grows_reports : (found : FindingsBuilder) (errors deferred : List Diagnostic) → Extends found.errors errors
+    → Extends found.deferred deferred → Grows found (record found { errors = errors; deferred = deferred })
+grows_reports found errors deferred reports defers =
+    grows_gap found errors deferred found.trivia [] reports defers refl
+
+-- a list that has only grown, cut back
+cut_back : {A : Type 0} (xs ys : List A) → Extends xs ys → take (length xs) ys ≡ xs
+cut_back xs ys h = ap (take (length xs)) h.is_more ∙ take-append_seam xs h.more
+
+-- what has only grown, cut back, but for the builder of trivia
+pub grows_back : (a b : FindingsBuilder) (trivia : Trivia) → Grows a b
+    → record (found_up_to (found_lengths a) b) { trivia = trivia } ≡ record a { trivia = trivia }
+grows_back a b trivia h =
+    rw (
+      cut_back a.errors b.errors h.errors,
+      cut_back a.deferred b.deferred h.deferred,
+      cut_back a.warnings b.warnings h.warnings,
+    ) refl
+
+-- a gap that adds nothing
+pub nothing_added : (found : FindingsBuilder) → found ≡ gap_added [] [] [] found
+nothing_added found = rw (append-nil found.errors, append-nil found.deferred) refl
+
+-- and one that reports nothing which is not for the case that the source is a module
+pub silently_added : (deferred : List Diagnostic) (items : List Item) (found : FindingsBuilder)
+    → record found { deferred = found.deferred ++ deferred; trivia = calls items found.trivia }
+    ≡ gap_added [] deferred items found
+silently_added deferred items found =
+    ap (λ (f : FindingsBuilder).
+    record f { deferred = found.deferred ++ deferred; trivia = calls items found.trivia }) (nothing_added found)
+
+-- a gap, and then one more
+added_again : (errors deferred : List Diagnostic) (items : List Item) (errors_then deferred_then : List Diagnostic)
+    (items_then : List Item) (found : FindingsBuilder)
+    → gap_added errors_then deferred_then items_then (gap_added errors deferred items found)
+    ≡ gap_added (errors ++ errors_then) (deferred ++ deferred_then) (items ++ items_then) found
+added_again errors deferred items errors_then deferred_then items_then found =
+    rw (
+      append_assoc found.errors errors errors_then,
+      append_assoc found.deferred deferred deferred_then,
+      calls-append items items_then found.trivia,
+    ) refl
+
+-- a reading that finds nothing
+pub lists_none : (found : FindingsBuilder) → found ≡ lists_added no_findings found
+lists_none found = rw (append-nil found.errors, append-nil found.deferred, append-nil found.warnings) refl
+
+-- and one that finds what a gap may add
+pub lists_gap : (errors deferred : List Diagnostic) (trivia : Trivia) (found : FindingsBuilder)
+    → record found { errors = found.errors ++ errors; deferred = found.deferred ++ deferred; trivia = trivia }
+    ≡ record (lists_added (record no_findings { diagnostics = errors; deferred = deferred }) found) { trivia = trivia }
+lists_gap errors deferred trivia found =
+    ap (λ (f : FindingsBuilder).
+    record f { errors = found.errors ++ errors; deferred = found.deferred ++ deferred; trivia = trivia })
+    (lists_none found)
 
 pub adds_none : (behind : Bool) (t : SourceType) (place : ℕ) (found : FindingsBuilder)
     → AddsPieces behind t place [] found found
-adds_none behind t place found = record {
-  errors = sym (append-nil found.errors);
-  deferred = sym (append-nil found.deferred);
-  trivia = refl;
-  warnings = refl;
-}
+adds_none behind t place found = nothing_added found
+
+-- a piece that adds this
+pub adds_piece : (behind : Bool) (t : SourceType) (place : ℕ) (x : Piece) (a b : FindingsBuilder)
+    (errors deferred : List Diagnostic) (items : List Item) → piece_diagnostics place x.kind ≡ errors
+    → piece_deferred t place x.kind ≡ deferred → items_of_kind x.kind place behind x ≡ items
+    → b ≡ gap_added errors deferred items a → AddsPieces behind t place (x ∷ []) a b
+adds_piece behind t place x a b errors deferred items reports defers tells is =
+    is ∙ ap (λ ds. gap_added ds deferred items a) (sym (append-nil (piece_diagnostics place x.kind) ∙ reports))
+    ∙ ap (λ ds. gap_added (gap_diagnostics place (x ∷ [])) ds items a)
+    (sym (append-nil (piece_deferred t place x.kind) ∙ defers))
+    ∙ ap (λ is. gap_added (gap_diagnostics place (x ∷ [])) (gap_deferred t place (x ∷ [])) is a)
+    (sym (append-nil (items_of_kind x.kind place behind x) ∙ tells))
 
 -- a piece that adds these items, and reports nothing
-pub adds_items : (behind : Bool) (t : SourceType) (place : ℕ) (x : Piece) (a b : FindingsBuilder) (items : List Item)
-    → items_of_kind x.kind place behind x ≡ items → piece_diagnostics place x.kind ≡ []
-    → piece_deferred t place x.kind ≡ [] → b.errors ≡ a.errors → b.deferred ≡ a.deferred
-    → b.trivia ≡ calls items a.trivia → b.warnings ≡ a.warnings → AddsPieces behind t place (x ∷ []) a b
-adds_items behind t place x a b items same silent none errors deferred trivia warnings = record {
-  errors =
-      errors ∙ sym (append-nil a.errors)
-      ∙ ap (λ ds. a.errors ++ ds) (sym (append-nil (piece_diagnostics place x.kind) ∙ silent));
-  deferred =
-      deferred ∙ sym (append-nil a.deferred)
-      ∙ ap (λ ds. a.deferred ++ ds) (sym (append-nil (piece_deferred t place x.kind) ∙ none));
-  trivia = trivia ∙ ap (λ is. calls is a.trivia) (sym (append-nil (items_of_kind x.kind place behind x) ∙ same));
-  warnings = warnings;
-}
+pub adds_items : (behind : Bool) (t : SourceType) (place : ℕ) (x : Piece) (found : FindingsBuilder) (trivia : Trivia)
+    (items : List Item) → items_of_kind x.kind place behind x ≡ items → piece_diagnostics place x.kind ≡ []
+    → piece_deferred t place x.kind ≡ [] → trivia ≡ calls items found.trivia
+    → AddsPieces behind t place (x ∷ []) found (record found { trivia = trivia })
+adds_items behind t place x found trivia items same silent none told =
+    adds_piece behind t place x found (record found { trivia = trivia }) [] [] items silent none same
+    (ap (λ (s : Trivia). record found { trivia = s }) told
+    ∙ ap (λ (f : FindingsBuilder). record f { trivia = calls items found.trivia }) (nothing_added found))
 
 -- a piece, and then more pieces
 pub adds_behind : (behind : Bool) (t : SourceType) (place : ℕ) (x : Piece) (xs : List Piece) (a b c : FindingsBuilder)
@@ -114,18 +169,9 @@ adds_behind behind t place x xs a b c f g =
     let later_reported = gap_deferred t (place_behind place x.text) xs in
     let told = piece_diagnostics place x.kind in
     let later_told = gap_diagnostics (place_behind place x.text) xs in
-    record {
-      errors =
-          g.errors ∙ ap (λ ds. ds ++ later_told) (f.errors ∙ ap (λ ds. a.errors ++ ds) (append-nil told))
-          ∙ append_assoc a.errors told later_told;
-      deferred =
-          g.deferred ∙ ap (λ ds. ds ++ later_reported) (f.deferred ∙ ap (λ ds. a.deferred ++ ds) (append-nil reported))
-          ∙ append_assoc a.deferred reported later_reported;
-      trivia =
-          g.trivia ∙ ap (calls later) (f.trivia ∙ ap (λ is. calls is a.trivia) (append-nil items))
-          ∙ sym (calls-append items later a.trivia);
-      warnings = g.warnings ∙ f.warnings;
-    }
+    g ∙ ap (gap_added later_told later_reported later) f
+    ∙ added_again (told ++ []) (reported ++ []) (items ++ []) later_told later_reported later a
+    ∙ rw (append-nil told, append-nil reported, append-nil items) refl
 
 -- whether the last of the pieces is a line comment
 abbrev pub ends_line : Bool → List Piece → Bool
@@ -168,21 +214,15 @@ pub adds_further : (behind : Bool) (t : SourceType) (place : ℕ) (xs ys : List 
 adds_further behind t place xs ys a b c f g =
     let behind_there = ends_line behind xs in
     let there = place_behind place (piece_texts xs) in
-    record {
-      errors =
-          g.errors ∙ ap (λ ds. ds ++ gap_diagnostics there ys) f.errors
-          ∙ append_assoc a.errors (gap_diagnostics place xs) (gap_diagnostics there ys)
-          ∙ ap (λ ds. a.errors ++ ds) (sym (gap_diagnostics-append place xs ys));
-      deferred =
-          g.deferred ∙ ap (λ ds. ds ++ gap_deferred t there ys) f.deferred
-          ∙ append_assoc a.deferred (gap_deferred t place xs) (gap_deferred t there ys)
-          ∙ ap (λ ds. a.deferred ++ ds) (sym (gap_deferred-append t place xs ys));
-      trivia =
-          g.trivia ∙ ap (calls (items_from there behind_there ys)) f.trivia
-          ∙ sym (calls-append (items_from place behind xs) (items_from there behind_there ys) a.trivia)
-          ∙ ap (λ is. calls is a.trivia) (sym (items_from-append place behind xs ys));
-      warnings = g.warnings ∙ f.warnings;
-    }
+    g
+    ∙ ap (gap_added (gap_diagnostics there ys) (gap_deferred t there ys) (items_from there behind_there ys)) f
+    ∙ added_again (gap_diagnostics place xs) (gap_deferred t place xs) (items_from place behind xs)
+    (gap_diagnostics there ys) (gap_deferred t there ys) (items_from there behind_there ys) a
+    ∙ rw (
+      gap_diagnostics-append place xs ys,
+      gap_deferred-append t place xs ys,
+      items_from-append place behind xs ys,
+    ) refl
 
 -- Findings are the same, list by list.
 pub same_findings : (a b : Findings) → a.diagnostics ≡ b.diagnostics → a.deferred ≡ b.deferred

@@ -1,6 +1,6 @@
 -- The steps of a whole gap.
 use Rattle.std.proofs.Common.{◌≡◌, ℕ, ◌+◌, ◌<◌, Bool, true, false, List, [], ◌∷◌, ◌++◌, length, refl, sym, ◌∙◌, ap}
-use Rattle.std.proofs.Common.{subst, arith, Some, None, append-nil}
+use Rattle.std.proofs.Common.{subst, arith, Some, None}
 use Rattle.std.specs.Prelude.{codes}
 use Rattle.std.specs.Str.{IsCharBoundary}
 use Rattle.js_text.specs.Characters.{from_place, from_first, is_line_terminator}
@@ -13,11 +13,12 @@ use Rattle.js_source.specs.Source.{At, rest, IsPlaced}
 use Rattle.js_grammar.specs.Gap.{Piece, piece, is_prefix, line_comment, is_reported, whole_gap_piece, Pieces}
 use Rattle.js_grammar.specs.Gap.PieceKind.{reported_comment}
 use Rattle.js_grammar.specs.Reading.{place_behind}
-use Rattle.js_grammar.specs.PieceItems.{piece_length}
+use Rattle.js_grammar.specs.PieceItems.{items_from, piece_length}
 use Rattle.js_grammar.proofs.GapLemmas.{reported, unreported}
 use Rattle.js_grammar.proofs.PieceLemmas.{from_first-html_open, longest_gap_leaves}
 use Rattle.js_grammar.proofs.Reported.{piece_texts, pieces_text, pieces-append, whole_pieces_of}
 use Rattle.js_grammar.proofs.Tests.{prefix_of}
+use Rattle.js_trivia.specs.Trivia.{calls}
 use Rattle.js_reader.specs.Found.{Grows, reported as noting}
 use Rattle.js_reader.specs.Gaps.{AddsPieces}
 use Rattle.js_reader.specs.Reader.{SkipsGap, SkipsPieces, IsBehindLine, SkipsReported, SkipsWholeGap, MovesOn}
@@ -25,6 +26,7 @@ use Rattle.js_reader.specs.declared.findings_builder.FindingsBuilder.{FindingsBu
 use Rattle.js_reader.specs.declared.reader.Reader.{Reader}
 use Rattle.js_reader.proofs.GapSteps.{on_to}
 use Rattle.js_reader.proofs.TriviaSteps.{ends_line, adds_none, adds_behind, adds_further, grows_none, grows_on}
+use Rattle.js_reader.proofs.TriviaSteps.{nothing_added}
 
 -- the place behind the pieces that were skipped
 pub pieces_lead : (behind : Bool) (old : Reader) (before : FindingsBuilder) (new : Reader) (after : FindingsBuilder)
@@ -142,13 +144,12 @@ reported_skips old before line told found noted new after h g module_is line_end
         pieces_are = (reported t old.line_has_ended (rest old.source) stands, moved);
         adds =
             adds_behind behind t old.source.place comment pieces before noted after
-            (record {
-              errors = ap (λ (f : FindingsBuilder). f.errors) noted_is ∙ ap (λ es. es ++ note ∷ []) is.errors;
-              deferred =
-                  ap (λ (f : FindingsBuilder). f.deferred) noted_is ∙ is.deferred ∙ sym (append-nil before.deferred);
-              trivia = ap (λ (f : FindingsBuilder). f.trivia) noted_is ∙ is.trivia;
-              warnings = ap (λ (f : FindingsBuilder). f.warnings) noted_is ∙ is.warnings;
-            }) later;
+            (noted_is ∙ ap (noting (note ∷ [])) is.told
+            ∙ ap (λ (f : FindingsBuilder).
+            record f {
+              errors = before.errors ++ note ∷ [];
+              trivia = calls (items_from old.source.place behind (comment ∷ [])) before.trivia;
+            }) (nothing_added before)) later;
       },
       ends_in_gap true told new noted after gap,
       omega (
@@ -257,8 +258,7 @@ any_flag : (ends : Bool) (t : SourceType) (line_had_ended : Bool) (cs : List ℕ
     (line_has_ended : Bool) (left : List ℕ) (before after : FindingsBuilder)
     → Pieces (whole_gap_piece t) line_had_ended cs pieces line_has_ended left → piece t line_had_ended cs ≡ None
     → AddsPieces false t place pieces before after → AddsPieces ends t place pieces before after
-any_flag ends t line_had_ended cs place [] line_has_ended left before after h none a =
-    record { errors = a.errors; deferred = a.deferred; trivia = a.trivia; warnings = a.warnings }
+any_flag ends t line_had_ended cs place [] line_has_ended left before after h none a = a
 any_flag ends t line_had_ended cs place (x ∷ xs) line_has_ended left before after h none a =
     by_test (is_reported t line_had_ended cs) refl
   where
@@ -270,12 +270,7 @@ any_flag ends t line_had_ended cs place (x ∷ xs) line_has_ended left before af
         let there : AddsPieces false t place (line_comment reported_comment line_had_ended cs ∷ xs) before after =
         subst (λ z. AddsPieces false t place (z ∷ xs) before after) (sym same) a in
         subst (λ z. AddsPieces ends t place (z ∷ xs) before after) same
-        (record {
-          errors = there.errors;
-          deferred = there.deferred;
-          trivia = there.trivia;
-          warnings = there.warnings;
-        })
+        there
     by_test false e = absurd (let both : None ≡ Some x = sym none ∙ sym (unreported t line_had_ended cs e) ∙ h.0 in cc)
 
 -- a longest gap, and then the rest of the whole gap

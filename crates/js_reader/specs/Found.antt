@@ -61,6 +61,23 @@ start_of source found = record { position = source.place; found = found_lengths 
 abbrev pub reported : List Diagnostic → FindingsBuilder → FindingsBuilder
 reported more found = record found { errors = found.errors ++ more }
 
+-- these diagnostics were reported, and these for the case that the source is a module, and the builder of trivia was
+-- told of these items; nothing else has changed
+abbrev pub gap_added : List Diagnostic → List Diagnostic → List Item → FindingsBuilder → FindingsBuilder
+gap_added errors deferred items found = record found {
+  errors = found.errors ++ errors;
+  deferred = found.deferred ++ deferred;
+  trivia = calls items found.trivia;
+}
+
+-- these findings stand behind those of each list that the builder of trivia does not keep
+abbrev pub lists_added : Findings → FindingsBuilder → FindingsBuilder
+lists_added more found = record found {
+  errors = found.errors ++ more.diagnostics;
+  deferred = found.deferred ++ more.deferred;
+  warnings = found.warnings ++ more.warnings;
+}
+
 -- Some items may have been added.
 pub record Extends {A : Type 0} (old new : List A) : Type 0 where
   pub more : List A

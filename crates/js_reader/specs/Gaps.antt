@@ -1,5 +1,5 @@
 -- What the steps of a gap do to the source, and to what is found in it.
-use Rattle.std.specs.Prelude.{◌≡◌, ℕ, ◌<◌, Bool, true, false, not, List, [], ◌++◌, codes, Option, IfNone}
+use Rattle.std.specs.Prelude.{◌≡◌, ℕ, ◌<◌, Bool, true, false, not, List, [], codes, Option, IfNone}
 use Rattle.std.specs.Prelude.{IfSome}
 use Rattle.js_text.specs.Ascii.{slash, less_than_sign, hyphen_minus}
 use Rattle.js_text.specs.Characters.{begins, is_white_space, is_line_terminator}
@@ -11,7 +11,7 @@ use Rattle.js_grammar.specs.Gap.{Piece, PieceKind, single_line_comment, multi_li
 use Rattle.js_grammar.specs.Gap.{html_open_comment, html_close_comment}
 use Rattle.js_grammar.specs.Outcome.{gap_deferred, gap_diagnostics}
 use Rattle.js_grammar.specs.PieceItems.{items_from}
-use Rattle.js_trivia.specs.Trivia.{calls}
+use Rattle.js_reader.specs.Found.{gap_added}
 use Rattle.js_reader.specs.declared.findings_builder.FindingsBuilder.{FindingsBuilder}
 use Rattle.js_source.specs.Source.{HasFirstByte}
 
@@ -58,9 +58,6 @@ abbrev pub IsAtLineEnd : List ℕ → Type 0
 IsAtLineEnd here = begins (λ c. not (is_line_terminator c)) here ≡ false
 
 -- what pieces at the place, of which the first stands right behind a line comment or not, add to what was found
-pub record AddsPieces (behind : Bool) (t : SourceType) (place : ℕ) (pieces : List Piece) (old new : FindingsBuilder)
-    : Type 0 where
-  pub errors : new.errors ≡ old.errors ++ gap_diagnostics place pieces
-  pub deferred : new.deferred ≡ old.deferred ++ gap_deferred t place pieces
-  pub trivia : new.trivia ≡ calls (items_from place behind pieces) old.trivia
-  pub warnings : new.warnings ≡ old.warnings
+abbrev pub AddsPieces : Bool → SourceType → ℕ → List Piece → FindingsBuilder → FindingsBuilder → Type 0
+AddsPieces behind t place pieces old new =
+    new ≡ gap_added (gap_diagnostics place pieces) (gap_deferred t place pieces) (items_from place behind pieces) old

@@ -26,7 +26,7 @@ use Rattle.js_kind.specs.TokenParts.{TokenParts}
 use Rattle.js_kind.specs.declared.kind.Kind.{Kind}
 use Rattle.js_trivia.specs.Pieces.{HaveBytes, end_of}
 use Rattle.js_trivia.specs.Trivia.{add_comment, calls}
-use Rattle.js_reader.specs.Found.{Extends}
+use Rattle.js_reader.specs.Found.{Extends, lists_added}
 use Rattle.js_reader.specs.Gaps.{AddsPieces, opening_sequence, piece_kind}
 use Rattle.js_reader.specs.declared.findings_builder.FindingsBuilder.{FindingsBuilder}
 use Rattle.js_reader.specs.declared.lexeme.Lexeme.{Lexeme}
@@ -82,13 +82,13 @@ pub record IsBehindLine (kind : CommentKind) (old : Reader) (before : FindingsBu
   pub here : rest old.source ≡ opening_sequence kind ++ behind
   pub left : rest new.source ≡ from_first is_line_terminator (rest old.source)
   pub onward : old.source.place + opening_length kind ≤ new.source.place
-  pub errors : after.errors ≡ before.errors
-  pub deferred : after.deferred ≡ before.deferred
-  pub warnings : after.warnings ≡ before.warnings
-  pub trivia : after.trivia
-      ≡ add_comment
-      (found_comment old.source.place kind (line_comment single_line_comment old.line_has_ended (rest old.source)))
-      before.trivia
+  pub told : after
+      ≡ record before {
+        trivia =
+            add_comment
+            (found_comment old.source.place kind
+            (line_comment single_line_comment old.line_has_ended (rest old.source))) before.trivia;
+      }
 
 -- Such a comment was skipped; or none stands here, and nothing has changed.
 abbrev pub SkipsOpenedLine : CommentKind → Reader → FindingsBuilder → Bool → Reader → FindingsBuilder → Type 0
@@ -208,10 +208,8 @@ pub record AddsGap (previous : Option TokenParts) (t : SourceType) (place : ℕ)
   pub comments : outcome.findings.comments
       ≡ attach (gap_of (is_none previous) (token_before previous) place pieces outcome.token)
   pub irregular : outcome.findings.irregular ≡ irregular_of (items_of place pieces)
-  pub errors : after.errors ≡ before.errors ++ outcome.findings.diagnostics
-  pub deferred : after.deferred ≡ before.deferred ++ outcome.findings.deferred
-  pub trivia : after.trivia ≡ calls (items_of place pieces) before.trivia
-  pub warnings : after.warnings ≡ before.warnings ++ outcome.findings.warnings
+  pub added : after
+      ≡ record (lists_added outcome.findings before) { trivia = calls (items_of place pieces) before.trivia }
 
 -- A reading of a goal, behind the token `previous`: the token is that of the outcome, and the reader stands at its end.
 pub record ReadsGoal (goal : Goal) (previous : Option TokenParts) (old : Reader) (token : TokenParts) (new : Reader)

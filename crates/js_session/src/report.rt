@@ -32,22 +32,15 @@ impl Report {
     ) -> Report
         ensures { result ≡ report_with rows collected (record { tokens = tokens; findings = found }) }
     {
-        let Findings {
-            diagnostics,
-            deferred,
-            comments,
-            irregular,
-            warnings,
-        } = found;
         Report {
             rows,
             tokens,
             collected,
-            diagnostics,
-            deferred,
-            comments,
-            irregular,
-            warnings,
+            diagnostics: found.diagnostics,
+            deferred: found.deferred,
+            comments: found.comments,
+            irregular: found.irregular,
+            warnings: found.warnings,
         }
     }
 }

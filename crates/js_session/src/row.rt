@@ -50,13 +50,6 @@ impl Row {
         ensures { result ≡ row_of command place taken
             (record { token = token; value = value; regex = regex; findings = found }) }
     {
-        let Findings {
-            diagnostics,
-            deferred,
-            comments,
-            irregular,
-            warnings,
-        } = found;
         Row {
             command,
             place,
@@ -64,11 +57,11 @@ impl Row {
             token,
             value,
             regex,
-            diagnostics,
-            deferred,
-            comments,
-            irregular,
-            warnings,
+            diagnostics: found.diagnostics,
+            deferred: found.deferred,
+            comments: found.comments,
+            irregular: found.irregular,
+            warnings: found.warnings,
         }
     }
 

@@ -20,10 +20,10 @@ returns-clause-token g c =
     rw (← c.self.view_is) (
       c.in_ok-token.ensures.reads.0,
       reads_taken _ c.self.inside.reader c.read_jsx_name.new.self c.self.inside.found
-          (record c.self.inside.found { trivia = c.take_again.new.trivia })
+          c.self.inside.found.errors c.take_again.new.trivia
           (plainly _ c.self.inside.reader c.read_jsx_name.new.self behind.token name_is_plain behind.last
           (c.in_ok-token.ensures.reads.1 behind.token behind.start_is (sym behind.place) _)
-          c.read_jsx_name.ensures.placed.utf8) c.self.invariant c.take_again.ensures.last refl refl tokens,
+          c.read_jsx_name.ensures.placed.utf8) c.self.invariant c.take_again.ensures.last tokens,
     )
 
 pub returns-clause-places : goal.returns-clause-places

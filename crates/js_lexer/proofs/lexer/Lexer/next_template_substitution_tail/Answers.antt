@@ -39,10 +39,10 @@ returns-in-Ok-clause-ok g c =
     let tokens = rw c.tokens-collects.ensures at c.take_again.ensures.collected in
     rw (← c.self.view_is)
     (reads_taken _ c.self.inside.reader c.read_next_part-read.new.self c.self.inside.found
-    (record c.self.inside.found { errors = c.read_next_part-read.new.errors; trivia = c.take_again.new.trivia })
+    c.read_next_part-read.new.errors c.take_again.new.trivia
     (part_again _ c.self.inside.reader c.read_next_part-read.new.self behind.token behind.last
     (c.in-Ok.ensures.ok behind.token (sym start)) c.in-Ok.ensures.placed.utf8 c.in-Ok.ensures.kept
-    c.in-Ok.ensures.value) c.self.invariant c.take_again.ensures.last refl refl tokens)
+    c.in-Ok.ensures.value) c.self.invariant c.take_again.ensures.last tokens)
 
 pub returns-in-Ok-clause-places : goal.returns-in-Ok-clause-places
 returns-in-Ok-clause-places g c =
@@ -59,10 +59,10 @@ pub go_back-requires-clause-found : goal.go_back-requires-clause-found
 go_back-requires-clause-found g c =
     let now = record c.self.inside.found { errors = c.read_next_part-read.new.errors } in
     may_go_back c.self.inside.found now
-    (reported_since c.start_behind_reports-start.result c.self.inside.reader.source c.self.inside.found now
+    (reported_since c.start_behind_reports-start.result c.self.inside.reader.source c.self.inside.found now.errors
     (c.start_behind_reports-start.ensures.start ∙ rw (c.position-position.ensures.place, c.len-reported.ensures) refl)
     c.start_behind_reports-start.ensures.ranges (ap (λ (a : Attachment). a.pending) c.self.invariant.attachment)
-    c.in-Err.ensures.err.errors refl refl refl)
+    c.in-Err.ensures.err.errors)
 
 pub invariant_of-self-in-Err : goal.invariant_of-self-in-Err
 invariant_of-self-in-Err g c =
@@ -74,10 +74,10 @@ invariant_of-self-in-Err g c =
     c.in-Err.ensures.err.moves.text c.go_back.ensures.source in
     let found : c.go_back.new.found ≡ c.self.inside.found =
     found_again c.self.inside.found now c.go_back.new.found
-    (reported_since c.start_behind_reports-start.result c.self.inside.reader.source c.self.inside.found now
+    (reported_since c.start_behind_reports-start.result c.self.inside.reader.source c.self.inside.found now.errors
     (c.start_behind_reports-start.ensures.start ∙ rw (c.position-position.ensures.place, c.len-reported.ensures) refl)
     c.start_behind_reports-start.ensures.ranges (ap (λ (a : Attachment). a.pending) c.self.invariant.attachment)
-    c.in-Err.ensures.err.errors refl refl refl) c.go_back.ensures.found in
+    c.in-Err.ensures.err.errors) c.go_back.ensures.found in
     sound_back c.self.inside.reader.source c.go_back.new.source c.self.inside.has_read
     c.self.inside.found.trivia c.go_back.new.found.trivia c.self.inside.decoded c.read_next_part-read.new.decoded
     source (ap (λ (f : FindingsBuilder). f.trivia) found) c.self.invariant
@@ -93,10 +93,10 @@ returns-in-Err-clause-err g c =
     c.in-Err.ensures.err.moves.text c.go_back.ensures.source in
     let found : c.go_back.new.found ≡ c.self.inside.found =
     found_again c.self.inside.found now c.go_back.new.found
-    (reported_since c.start_behind_reports-start.result c.self.inside.reader.source c.self.inside.found now
+    (reported_since c.start_behind_reports-start.result c.self.inside.reader.source c.self.inside.found now.errors
     (c.start_behind_reports-start.ensures.start ∙ rw (c.position-position.ensures.place, c.len-reported.ensures) refl)
     c.start_behind_reports-start.ensures.ranges (ap (λ (a : Attachment). a.pending) c.self.invariant.attachment)
-    c.in-Err.ensures.err.errors refl refl refl) c.go_back.ensures.found in
+    c.in-Err.ensures.err.errors) c.go_back.ensures.found in
     rw (← c.self.view_is)
     (undone _ _ c.self.inside.reader (record c.read_next_part-read.new.self { source = c.go_back.new.source })
     c.self.inside.found c.go_back.new.found _ _ c.self.inside.decoded c.read_next_part-read.new.decoded source

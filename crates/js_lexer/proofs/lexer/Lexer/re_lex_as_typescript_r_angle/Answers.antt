@@ -44,10 +44,10 @@ returns-clause-token g c =
     let tokens = rw c.tokens-collects.ensures at c.take_again.ensures.collected in
     rw (← c.self.view_is)
     (reads_taken _ c.self.inside.reader c.read_right_angle-token.new.self c.self.inside.found
-    (record c.self.inside.found { trivia = c.take_again.new.trivia })
+    c.self.inside.found.errors c.take_again.new.trivia
     (from_mark _ c.self.inside.reader c.read_right_angle-token.new.self right_is_plain starts.1
     c.read_right_angle-token.ensures.reads c.read_right_angle-token.ensures.placed.utf8) c.self.invariant
-    c.take_again.ensures.last refl refl tokens)
+    c.take_again.ensures.last tokens)
 
 pub returns-clause-places : goal.returns-clause-places
 returns-clause-places g c =

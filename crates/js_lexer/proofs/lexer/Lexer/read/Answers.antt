@@ -60,9 +60,7 @@ returns-in-Ok-clause-ok g c =
     record {
       source = refl;
       source_type = refl;
-      errors = refl;
-      deferred = refl;
-      warnings = refl;
+      listed = refl;
       between =
           between_is c.args.goal c.self.inside.reader.source _ c.self.inside.found.trivia
           c.begin_reading.new.trivia c.self.inside.decoded c.self.invariant cleared;

@@ -54,10 +54,10 @@ pub go_back-requires-clause-found : goal.go_back-requires-clause-found
 go_back-requires-clause-found g c =
     let now = record c.self.inside.found { errors = c.read_here_and_collect-read.new.errors } in
     may_go_back c.self.inside.found now
-    (reported_since c.start_behind_reports-start.result c.self.inside.reader.source c.self.inside.found now
+    (reported_since c.start_behind_reports-start.result c.self.inside.reader.source c.self.inside.found now.errors
     (c.start_behind_reports-start.ensures.start ∙ rw (c.position-position.ensures.place, c.len-reported.ensures) refl)
     c.start_behind_reports-start.ensures.ranges (ap (λ (a : Attachment). a.pending) c.self.invariant.attachment)
-    c.in-Err.ensures.err.errors refl refl refl)
+    c.in-Err.ensures.err.errors)
 
 pub invariant_of-self-in-Err : goal.invariant_of-self-in-Err
 invariant_of-self-in-Err g c =
@@ -74,10 +74,10 @@ invariant_of-self-in-Err g c =
     (c.in-Err.ensures.err.moves.text ∙ text) c.go_back.ensures.source in
     let found : c.go_back.new.found ≡ c.self.inside.found =
     found_again c.self.inside.found now c.go_back.new.found
-    (reported_since c.start_behind_reports-start.result r.source c.self.inside.found now
+    (reported_since c.start_behind_reports-start.result r.source c.self.inside.found now.errors
     (c.start_behind_reports-start.ensures.start ∙ rw (c.position-position.ensures.place, c.len-reported.ensures) refl)
     c.start_behind_reports-start.ensures.ranges (ap (λ (a : Attachment). a.pending) c.self.invariant.attachment)
-    c.in-Err.ensures.err.errors refl refl refl) c.go_back.ensures.found in
+    c.in-Err.ensures.err.errors) c.go_back.ensures.found in
     sound_back r.source c.go_back.new.source c.self.inside.has_read c.self.inside.found.trivia
     c.go_back.new.found.trivia c.self.inside.decoded c.read_here_and_collect-read.new.decoded source
     (ap (λ (f : FindingsBuilder). f.trivia) found) c.self.invariant (kept.are_values c.self.invariant.are_values)
@@ -108,9 +108,7 @@ returns-in-Ok-clause-ok g c =
           record {
             source = refl;
             source_type = refl;
-            errors = refl;
-            deferred = refl;
-            warnings = refl;
+            listed = refl;
             between =
                 between_is Next r.source last c.self.inside.found.trivia cleared c.self.inside.decoded c.self.invariant
                 refl;
@@ -151,10 +149,10 @@ returns-in-Err-clause-err g c =
     (c.in-Err.ensures.err.moves.text ∙ text) c.go_back.ensures.source in
     let found : c.go_back.new.found ≡ c.self.inside.found =
     found_again c.self.inside.found now c.go_back.new.found
-    (reported_since c.start_behind_reports-start.result r.source c.self.inside.found now
+    (reported_since c.start_behind_reports-start.result r.source c.self.inside.found now.errors
     (c.start_behind_reports-start.ensures.start ∙ rw (c.position-position.ensures.place, c.len-reported.ensures) refl)
     c.start_behind_reports-start.ensures.ranges (ap (λ (a : Attachment). a.pending) c.self.invariant.attachment)
-    c.in-Err.ensures.err.errors refl refl refl) c.go_back.ensures.found in
+    c.in-Err.ensures.err.errors) c.go_back.ensures.found in
     rw (← c.self.view_is)
     (undone _ _ r (record c.read_here_and_collect-read.new.reader { source = c.go_back.new.source })
     c.self.inside.found c.go_back.new.found _ _ c.self.inside.decoded c.read_here_and_collect-read.new.decoded source

@@ -69,9 +69,7 @@ returns-clause-ok g c =
     record {
       source = refl;
       source_type = refl;
-      errors = refl;
-      deferred = refl;
-      warnings = refl;
+      listed = refl;
       between =
           between_is Next r.source last c.self.inside.found.trivia cleared c.self.inside.decoded c.self.invariant refl;
     }

@@ -1,4 +1,4 @@
-use Rattle.std.proofs.Common.{false, refl}
+use Rattle.std.proofs.Common.{false}
 use Rattle.std.proofs.lemmas.Result.{IfOk-weaker, on_err_weaker}
 use Rattle.js_reader.proofs.AttributeSteps.{attribute_goal, attribute_reports}
 use Rattle.js_reader.proofs.TriviaSteps.{either_way, extends_none, grows_on, grows_reports}
@@ -26,5 +26,4 @@ returns-clause-grown c =
     (IfOk-weaker c.read_attribute.result _ _ (λ token read. attribute_reports _ _ read) c.read_attribute.ensures.ok)
     (on_err_weaker c.read_attribute.result (λ part. part.errors) c.read_attribute.ensures.err) in
     grows_on c.args.found.now found _ c.skip_whole_gap.ensures.grown
-    (grows_reports found (record found { errors = c.read_attribute.new.errors }) reports (extends_none found.deferred)
-    refl refl)
+    (grows_reports found c.read_attribute.new.errors found.deferred reports (extends_none found.deferred))

@@ -1,4 +1,4 @@
-use Rattle.std.proofs.Common.{false, refl, subst}
+use Rattle.std.proofs.Common.{false, subst}
 use Rattle.std.proofs.lemmas.Result.{IfOk-weaker, on_err_weaker}
 use Rattle.js_reader.specs.Reader.{MovesOn, ReadsTokenHere}
 use Rattle.js_reader.specs.declared.reader.Reader.{Reader}
@@ -42,8 +42,7 @@ returns-in-None-clause-grown c =
     (IfOk-weaker c.read_here.result _ _ (λ token read. (token_moves_on _ _ read).errors) c.read_here.ensures.ok)
     (on_err_weaker c.read_here.result (λ part. part.errors) c.read_here.ensures.err) in
     grows_on c.args.found.now found _ c.skip_whole_gap.ensures.grown
-    (grows_reports found (record found { errors = c.read_here.new.errors }) reports (extends_none found.deferred) refl
-    refl)
+    (grows_reports found c.read_here.new.errors found.deferred reports (extends_none found.deferred))
 
 pub returns-in-Some-clause-placed : goal.returns-in-Some-clause-placed
 returns-in-Some-clause-placed c = (c.in-Some.ensures.some c.skip_whole_gap.new.found.errors).placed

@@ -28,7 +28,7 @@ add_block_comment-requires-clause-placed c =
 
 pub returns-in_err-add_block_comment-in-Piece-clause-grown : goal.returns-in_err-add_block_comment-in-Piece-clause-grown
 returns-in_err-add_block_comment-in-Piece-clause-grown c =
-    grows_by c.args.found.now _ [] refl refl c.in_err-add_block_comment-in-Piece.ensures.err refl
+    grows_by c.args.found.now _ [] c.in_err-add_block_comment-in-Piece.ensures.err
 
 pub returns-in_ok-add_block_comment-in-Piece-clause-ok : goal.returns-in_ok-add_block_comment-in-Piece-clause-ok
 returns-in_ok-add_block_comment-in-Piece-clause-ok c =
@@ -36,13 +36,13 @@ returns-in_ok-add_block_comment-in-Piece-clause-ok c =
     let same = c.whole.ensures.text ∙ c.skip_block.ensures.text ∙ takes.0 in
     block_skipped c.args.self.now c.args.found.now c.advance_if_sequence.new.source _ _ c.in-Piece.line_has_ended
     c.requires.placed c.offset-end.ensures.placed takes c.skip_block.ensures.text c.in-Piece.ensures.cut refl
-    c.either-self.ensures refl refl
+    c.either-self.ensures
     (rw (same, c.offset-start.ensures.place, c.offset-end.ensures.place, c.block_kind-kind.ensures)
-    at c.in_ok-add_block_comment-in-Piece.ensures.ok) refl
+    at c.in_ok-add_block_comment-in-Piece.ensures.ok)
 
 pub returns-in_ok-add_block_comment-in-Piece-clause-grown : goal.returns-in_ok-add_block_comment-in-Piece-clause-grown
 returns-in_ok-add_block_comment-in-Piece-clause-grown c =
-    grows_by c.args.found.now _ (comment _ ∷ []) refl refl c.in_ok-add_block_comment-in-Piece.ensures.ok refl
+    grows_by c.args.found.now _ (comment _ ∷ []) c.in_ok-add_block_comment-in-Piece.ensures.ok
 
 pub returns-in-Nothing-clause-ok : goal.returns-in-Nothing-clause-ok
 returns-in-Nothing-clause-ok c =

@@ -1,4 +1,4 @@
-use Rattle.std.proofs.Common.{refl, [], ◌∷◌}
+use Rattle.std.proofs.Common.{[], ◌∷◌}
 use Rattle.js_grammar.specs.GapItems.{line_end}
 use Rattle.js_reader.proofs.GapSteps.{end_of_line, end_of_text}
 use Rattle.js_reader.proofs.TriviaSteps.{grows_by, grows_none}
@@ -7,10 +7,10 @@ use Rattle.js_reader.proofs.reader.Reader.skip_end_of_line.Goals as goal
 pub returns-in-Some-clause-ends : goal.returns-in-Some-clause-ends
 returns-in-Some-clause-ends c =
     end_of_line c.args.self.now c.args.found.now c.next_char.new.self _ _ c.requires.placed c.next_char.ensures.placed
-    c.in-Some.ensures.some c.requires.end refl refl c.handle_newline.ensures refl
+    c.in-Some.ensures.some c.requires.end c.handle_newline.ensures
 
 pub returns-in-Some-clause-grown : goal.returns-in-Some-clause-grown
-returns-in-Some-clause-grown c = grows_by c.args.found.now _ (line_end ∷ []) refl refl c.handle_newline.ensures refl
+returns-in-Some-clause-grown c = grows_by c.args.found.now _ (line_end ∷ []) c.handle_newline.ensures
 
 pub returns-in-None-clause-ends : goal.returns-in-None-clause-ends
 returns-in-None-clause-ends c =

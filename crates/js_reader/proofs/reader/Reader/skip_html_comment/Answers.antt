@@ -1,4 +1,4 @@
-use Rattle.std.proofs.Common.{Bool, subst, refl}
+use Rattle.std.proofs.Common.{Bool, subst, ap}
 use Rattle.js_reader.specs.Reader.{SkipsOpenedLine}
 use Rattle.js_reader.specs.declared.findings_builder.FindingsBuilder.{FindingsBuilder}
 use Rattle.js_reader.proofs.LineSteps.{at_line_end, html_piece, line_skipped}
@@ -21,9 +21,10 @@ returns-clause-ok c =
     line_skipped c.args.self.now c.args.found.now c.skip_opened_line.new.self told c.skip_end_of_line.new.self
     c.skip_end_of_line.new.found
     (html_piece c.args.kind c.requires.kind c.args.self.now c.args.found.now c.skip_opened_line.new.self
-    c.skip_opened_line.new.found told c.requires.placed c.in_ok-skip_opened_line.ensures.placed line c.requires.is refl
+    c.skip_opened_line.new.found told c.requires.placed c.in_ok-skip_opened_line.ensures.placed line c.requires.is
+    (ap (λ ds. record c.skip_opened_line.new.found { deferred = ds })
     (rw (← line.stays.source_type, ← c.offset-start.ensures.place, ← c.opening_length.ensures, ← c.sized-span.ensures)
-    c.in_ok-defer_html.ensures.ok) refl refl) c.skip_end_of_line.ensures.ends c.skip_end_of_line.ensures.placed
+    c.in_ok-defer_html.ensures.ok))) c.skip_end_of_line.ensures.ends c.skip_end_of_line.ensures.placed
 
 pub returns-clause-grown : goal.returns-clause-grown
 returns-clause-grown c =
@@ -31,6 +32,6 @@ returns-clause-grown c =
     record c.skip_opened_line.new.found { deferred = c.defer_html.new.deferred } in
     grows_on c.args.found.now told c.skip_end_of_line.new.found
     (grows_on c.args.found.now c.skip_opened_line.new.found told c.skip_opened_line.ensures.grown
-    (grows_reports c.skip_opened_line.new.found told (extends_none c.skip_opened_line.new.found.errors)
-    (record { more = _; is_more = c.in_ok-defer_html.ensures.ok }) refl refl))
+    (grows_reports c.skip_opened_line.new.found c.skip_opened_line.new.found.errors c.defer_html.new.deferred
+    (extends_none c.skip_opened_line.new.found.errors) (record { more = _; is_more = c.in_ok-defer_html.ensures.ok })))
     c.skip_end_of_line.ensures.grown

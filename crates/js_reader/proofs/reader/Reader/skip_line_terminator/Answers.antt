@@ -1,4 +1,4 @@
-use Rattle.std.proofs.Common.{refl, sym, ◌∙◌, ap, [], ◌∷◌, ◌++◌}
+use Rattle.std.proofs.Common.{sym, ◌∙◌, ap, [], ◌∷◌, ◌++◌}
 use Rattle.js_grammar.specs.GapItems.{line_end}
 use Rattle.js_grammar.specs.PieceItems.{listed_if}
 use Rattle.js_trivia.specs.Trivia.{handle_newline}
@@ -15,7 +15,7 @@ list_if-requires c =
     after.0 after.1)
 
 pub returns-in_err-list_if-clause-grown : goal.returns-in_err-list_if-clause-grown
-returns-in_err-list_if-clause-grown c = grows_by c.args.found.now _ [] refl refl c.in_err-list_if.ensures.err refl
+returns-in_err-list_if-clause-grown c = grows_by c.args.found.now _ [] c.in_err-list_if.ensures.err
 
 pub returns-clause-ok : goal.returns-clause-ok
 returns-clause-ok c =
@@ -29,12 +29,12 @@ returns-clause-ok c =
     ) at c.in_ok-list_if.ensures.ok in
     some_skipped c.args.self.now c.args.found.now _ _
     (line_end_skipped c.args.self.now c.args.found.now c.next_char.new.self c.args.c c.requires.placed
-    c.next_char.ensures.placed after.0 after.1 _ _ c.requires.dark c.requires.ends refl refl
-    (c.handle_newline.ensures ∙ ap handle_newline listed) refl) c.next_char.ensures.placed
+    c.next_char.ensures.placed after.0 after.1 _ _ c.requires.dark c.requires.ends
+    (c.handle_newline.ensures ∙ ap handle_newline listed)) c.next_char.ensures.placed
 
 pub returns-clause-grown : goal.returns-clause-grown
 returns-clause-grown c =
     let listed = listed_if c.is_separator.result c.new-span.result in
-    grows_by c.args.found.now _ (listed ++ line_end ∷ []) refl refl
+    grows_by c.args.found.now _ (listed ++ line_end ∷ [])
     (c.handle_newline.ensures ∙ ap handle_newline c.in_ok-list_if.ensures.ok
-    ∙ sym (calls-append listed (line_end ∷ []) c.args.found.now.trivia)) refl
+    ∙ sym (calls-append listed (line_end ∷ []) c.args.found.now.trivia))

@@ -20,17 +20,16 @@ add_line_comment-requires-clause-placed c =
 
 pub returns-in_err-add_line_comment-clause-grown : goal.returns-in_err-add_line_comment-clause-grown
 returns-in_err-add_line_comment-clause-grown c =
-    grows_by c.args.found.now _ [] refl refl c.in_err-add_line_comment.ensures.err refl
+    grows_by c.args.found.now _ [] c.in_err-add_line_comment.ensures.err
 
 pub returns-clause-ok : goal.returns-clause-ok
 returns-clause-ok c =
     let takes = rw c.opening_sequence.ensures at c.if-not-advance_if_sequence.ensures in
     let same = c.whole.ensures.text ∙ c.skip_line.ensures.text ∙ takes.0 in
     behind_line c.args.kind c.requires.kind c.args.self.now c.args.found.now c.advance_if_sequence.new.source _ _
-    c.requires.placed c.offset-end.ensures.placed takes c.skip_line.ensures.text c.skip_line.ensures.rest refl refl refl
-    refl (rw (same, c.offset-start.ensures.place, c.offset-end.ensures.place) at c.in_ok-add_line_comment.ensures.ok)
-    refl
+    c.requires.placed c.offset-end.ensures.placed takes c.skip_line.ensures.text c.skip_line.ensures.rest refl refl
+    (rw (same, c.offset-start.ensures.place, c.offset-end.ensures.place) at c.in_ok-add_line_comment.ensures.ok)
 
 pub returns-clause-grown : goal.returns-clause-grown
 returns-clause-grown c =
-    grows_by c.args.found.now _ (comment _ ∷ []) refl refl c.in_ok-add_line_comment.ensures.ok refl
+    grows_by c.args.found.now _ (comment _ ∷ []) c.in_ok-add_line_comment.ensures.ok

@@ -38,7 +38,7 @@ returns-in_err-skip_gap-clause-grown c =
     let reports : Extends line.errors noted.errors = record { more = _; is_more = c.in_ok-push.ensures.ok } in
     grows_on c.args.found.now noted c.skip_gap.new.found
     (grows_on c.args.found.now line noted c.skip_opened_line.ensures.grown
-    (grows_reports line noted reports (extends_none line.deferred) refl refl))
+    (grows_reports line noted.errors line.deferred reports (extends_none line.deferred)))
     (grows_on noted c.skip_end_of_line.new.found c.skip_gap.new.found c.skip_end_of_line.ensures.grown
     c.skip_gap.ensures.grown)
 
@@ -64,7 +64,7 @@ returns-clause-grown c =
     let reports : Extends line.errors noted.errors = record { more = _; is_more = c.in_ok-push.ensures.ok } in
     grows_on c.args.found.now noted c.skip_gap.new.found
     (grows_on c.args.found.now line noted c.skip_opened_line.ensures.grown
-    (grows_reports line noted reports (extends_none line.deferred) refl refl))
+    (grows_reports line noted.errors line.deferred reports (extends_none line.deferred)))
     (grows_on noted c.skip_end_of_line.new.found c.skip_gap.new.found c.skip_end_of_line.ensures.grown
     c.skip_gap.ensures.grown)
 
@@ -73,5 +73,5 @@ returns-in_err-push-clause-grown c =
     let line = c.skip_opened_line.new.found in
     let noted : FindingsBuilder = record line { errors = c.push.new.self } in
     grows_on c.args.found.now line noted c.skip_opened_line.ensures.grown
-    (grows_reports line noted (extends_same line.errors noted.errors (search rules)) (extends_none line.deferred) refl
-    refl)
+    (grows_reports line noted.errors line.deferred (extends_same line.errors noted.errors (search rules))
+    (extends_none line.deferred))
