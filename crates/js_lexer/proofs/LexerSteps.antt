@@ -46,7 +46,7 @@ use Rattle.js_source.specs.Source.{At}
 pub record IsReaderOf (goal : Goal) (l : LexerState) (r : Reader) (found : FindingsBuilder) : Type 0 where
   pub source : r.source ≡ record { text = l.text; place = l.place }
   pub source_type : r.source_type ≡ l.source_type
-  -- comments and irregular white space aside, which are the builder's of trivia
+  -- but for comments and irregular white space, which the builder of trivia keeps
   pub listed : l.findings
       ≡ record (findings_in found) { comments = l.findings.comments; irregular = l.findings.irregular }
   pub between : IsBetweenGaps l.last l.place l.findings.comments l.findings.irregular

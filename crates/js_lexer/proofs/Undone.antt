@@ -32,7 +32,8 @@ pub record HasGrown (start : ReadingStart) (source : At) (before now : FindingsB
 grew : {start : ReadingStart} {source : At} (before now : FindingsBuilder) → HasGrown start source before now
     → GrewFrom before.trivia now.trivia
 grew before now h =
-    grew_by_calls before.trivia h.cleared now.trivia h.grows.items h.between h.attachment h.irregular h.grows.trivia
+    grew_by_calls before.trivia h.cleared now.trivia h.grows.items h.between h.attachment h.irregular
+    (ap (λ (f : FindingsBuilder). f.trivia) h.grows.added)
 
 -- It may be dropped.
 pub may_go_back : {start : ReadingStart} {source : At} (before now : FindingsBuilder)

@@ -16,7 +16,7 @@ use Rattle.js_grammar.specs.Angle.{angle_reading, first_left_angle, first_right_
 use Rattle.js_grammar.specs.Goals.{GoalReads, ReadsAngle, ReadsFrom, line_has_ended_behind, with_warnings}
 use Rattle.js_grammar.specs.Goals.{ReadsExpression as ExpressionReads}
 use Rattle.js_grammar.specs.Jsx.{jsx_child_reading, jsx_name_reading, jsx_name_up_to, jsx_child_warnings}
-use Rattle.js_grammar.specs.Outcome.{Outcome, outcome_at}
+use Rattle.js_grammar.specs.Outcome.{Outcome, no_findings, outcome_at}
 use Rattle.js_grammar.specs.Reading.{Reading, read_up_to, reported_at, size_of}
 use Rattle.js_grammar.specs.RegularExpression.{behind_body, regular_expression, regular_expression_reading}
 use Rattle.js_grammar.specs.declared.goal.Goal.{Goal}
@@ -40,6 +40,7 @@ use Rattle.js_reader.specs.Goals.{ReadsExpression, ReadsNameOn}
 use Rattle.js_reader.specs.Reader.{ReadsGoal, ReadsSilently, ReadsWithoutGap, read_token, ReadsWithGap}
 use Rattle.js_reader.specs.declared.reader.Reader.{Reader}
 use Rattle.js_text.specs.declared.span.Span.{Span}
+use Rattle.js_reader.specs.Found.{Grows, lists_added}
 use Rattle.js_reader.specs.declared.findings_builder.FindingsBuilder.{FindingsBuilder}
 use Rattle.js_reader.proofs.TriviaSteps.{lists_none}
 
@@ -377,6 +378,25 @@ pub child_ordered : {told later : List Diagnostic} (old new : Reader) (kind : Ki
     → old.source.place ≤ new.source.place
 child_ordered old new kind h g spells = goes_on (child_to old new kind h g spells)
 
+-- what is found there
+child_added : (found : FindingsBuilder) (later : List Diagnostic) (warned : List Span) (errors : List Diagnostic)
+    (warnings : List Span) → later ≡ found.errors ++ errors → warned ≡ found.warnings ++ warnings
+    → record found { errors = later; warnings = warned }
+    ≡ lists_added (record no_findings { diagnostics = errors; warnings = warnings }) found
+child_added found later warned errors warnings reports warns =
+    rw (reports, warns)
+    (ap (λ (f : FindingsBuilder).
+    record f { errors = found.errors ++ errors; warnings = found.warnings ++ warnings }) (lists_none found))
+
+pub child_grows : (found : FindingsBuilder) (later : List Diagnostic) (warned : List Span) (errors : List Diagnostic)
+    (warnings : List Span) → later ≡ found.errors ++ errors → warned ≡ found.warnings ++ warnings
+    → Grows found (record found { errors = later; warnings = warned })
+child_grows found later warned errors warnings reports warns = record {
+  more = record no_findings { diagnostics = errors; warnings = warnings };
+  items = [];
+  added = child_added found later warned errors warnings reports warns;
+}
+
 pub child_goal : (old new : Reader) (found : FindingsBuilder) (later : List Diagnostic) (warned : List Span)
     (kind : Kind) (token : TokenParts) → IsPlaced old.source → IsPlaced new.source
     → ReadsAs (jsx_child_reading (rest old.source)) old.source.place old.source new.source found.errors later kind
@@ -411,12 +431,8 @@ child_goal old new found later warned kind token h g spells warns source_type is
         comments = refl;
         irregular = refl;
         added =
-            rw (spells.reports, warns)
-            (ap (λ (f : FindingsBuilder).
-            record f {
-              errors = found.errors ++ reported_at old.source.place read;
-              warnings = found.warnings ++ jsx_child_warnings old.source.place (rest old.source);
-            }) (lists_none found));
+            child_added found later warned (reported_at old.source.place read)
+            (jsx_child_warnings old.source.place (rest old.source)) spells.reports warns;
       };
     }
 

@@ -1,6 +1,6 @@
 -- What pieces of gaps add to what was found.
 use Rattle.std.proofs.Common.{◌≡◌, ℕ, ◌+◌, Bool, List, [], ◌∷◌, ◌++◌, refl, sym, ◌∙◌, ap}
-use Rattle.std.proofs.Common.{append_assoc, append-nil, add-zero, length, take}
+use Rattle.std.proofs.Common.{append_assoc, append-nil, add-zero}
 use Rattle.std.proofs.Math.Seq.{take-append_seam}
 use Rattle.std.specs.Prelude.{Result, Ok, Err, IfOk, OnErr}
 use Rattle.std.specs.declared.alloc.AllocError.{AllocError}
@@ -9,7 +9,7 @@ use Rattle.js_text.specs.declared.source_type.SourceType.{SourceType}
 use Rattle.js_grammar.specs.Gap.{Piece}
 use Rattle.js_grammar.specs.GapItems.{Item}
 use Rattle.js_grammar.specs.Outcome.{Findings, piece_deferred, gap_deferred, piece_diagnostics, gap_diagnostics}
-use Rattle.js_grammar.specs.Outcome.{no_findings}
+use Rattle.js_grammar.specs.Outcome.{joined, no_findings}
 use Rattle.js_grammar.specs.Reading.{place_behind}
 use Rattle.js_grammar.specs.PieceItems.{piece_length, is_line_comment, items_of_kind, items_from}
 use Rattle.js_grammar.proofs.Reported.{piece_texts, place_behind-append, gap_diagnostics-append}
@@ -34,19 +34,51 @@ pub either_way : {A B : Type 0} {a b : List B} (r : Result A AllocError) → IfO
 either_way (Ok x) h e = h
 either_way (Err x) h e = e
 
-pub extends_on : {A : Type 0} (a b c : List A) → Extends a b → Extends b c → Extends a c
-extends_on a b c f g = record {
-  more = f.more ++ g.more;
-  is_more = g.is_more ∙ ap (λ ds. ds ++ g.more) f.is_more ∙ append_assoc a f.more g.more;
-}
+-- with nothing at the end of each list
+pub lists_none : (found : FindingsBuilder) → found ≡ lists_added no_findings found
+lists_none found = rw (append-nil found.errors, append-nil found.deferred, append-nil found.warnings) refl
+
+-- with what a gap may report
+pub lists_gap : (errors deferred : List Diagnostic) (trivia : Trivia) (found : FindingsBuilder)
+    → record found { errors = found.errors ++ errors; deferred = found.deferred ++ deferred; trivia = trivia }
+    ≡ record (lists_added (record no_findings { diagnostics = errors; deferred = deferred }) found) { trivia = trivia }
+lists_gap errors deferred trivia found =
+    ap (λ (f : FindingsBuilder).
+    record f { errors = found.errors ++ errors; deferred = found.deferred ++ deferred; trivia = trivia })
+    (lists_none found)
+
+-- with some findings at the ends, and then with more
+lists_again : (more later : Findings) (found : FindingsBuilder)
+    → lists_added later (lists_added more found) ≡ lists_added (joined more later) found
+lists_again more later found =
+    rw (
+      append_assoc found.errors more.diagnostics later.diagnostics,
+      append_assoc found.deferred more.deferred later.deferred,
+      append_assoc found.warnings more.warnings later.warnings,
+    ) refl
+
+-- with some at the ends, and then cut back
+lists_back : (more : Findings) (trivia now : Trivia) (found : FindingsBuilder)
+    → record (found_up_to (found_lengths found) (record (lists_added more found) { trivia = trivia })) { trivia = now }
+    ≡ record found { trivia = now }
+lists_back more trivia now found =
+    rw (
+      take-append_seam found.errors more.diagnostics,
+      take-append_seam found.deferred more.deferred,
+      take-append_seam found.warnings more.warnings,
+    ) refl
 
 pub grows_on : (a b c : FindingsBuilder) → Grows a b → Grows b c → Grows a c
 grows_on a b c f g = record {
-  errors = extends_on a.errors b.errors c.errors f.errors g.errors;
-  deferred = extends_on a.deferred b.deferred c.deferred f.deferred g.deferred;
+  more = joined f.more g.more;
   items = f.items ++ g.items;
-  trivia = g.trivia ∙ ap (calls g.items) f.trivia ∙ sym (calls-append f.items g.items a.trivia);
-  warnings = extends_on a.warnings b.warnings c.warnings f.warnings g.warnings;
+  added =
+      g.added
+      ∙ ap (λ (s : FindingsBuilder). record (lists_added g.more s) { trivia = calls g.items s.trivia }) f.added
+      ∙ ap (λ (s : FindingsBuilder). record s { trivia = calls g.items (calls f.items a.trivia) })
+      (lists_again f.more g.more a)
+      ∙ ap (λ (s : Trivia). record (lists_added (joined f.more g.more) a) { trivia = s })
+      (sym (calls-append f.items g.items a.trivia));
 }
 
 -- what a gap may add
@@ -54,11 +86,10 @@ grows_gap : (a : FindingsBuilder) (errors deferred : List Diagnostic) (trivia : 
     → Extends a.errors errors → Extends a.deferred deferred → trivia ≡ calls items a.trivia
     → Grows a (record a { errors = errors; deferred = deferred; trivia = trivia })
 grows_gap a errors deferred trivia items reports defers told = record {
-  errors = reports;
-  deferred = defers;
+  more = record no_findings { diagnostics = reports.more; deferred = defers.more };
   items = items;
-  trivia = told;
-  warnings = extends_none a.warnings;
+  added =
+      rw (reports.is_more, defers.is_more, told) (lists_gap reports.more defers.more (calls items a.trivia) a);
 }
 
 -- nothing
@@ -80,25 +111,18 @@ pub grows_reports : (found : FindingsBuilder) (errors deferred : List Diagnostic
 grows_reports found errors deferred reports defers =
     grows_gap found errors deferred found.trivia [] reports defers refl
 
--- a list that has only grown, cut back
-cut_back : {A : Type 0} (xs ys : List A) → Extends xs ys → take (length xs) ys ≡ xs
-cut_back xs ys h = ap (take (length xs)) h.is_more ∙ take-append_seam xs h.more
-
 -- what has only grown, cut back, but for the builder of trivia
 pub grows_back : (a b : FindingsBuilder) (trivia : Trivia) → Grows a b
     → record (found_up_to (found_lengths a) b) { trivia = trivia } ≡ record a { trivia = trivia }
 grows_back a b trivia h =
-    rw (
-      cut_back a.errors b.errors h.errors,
-      cut_back a.deferred b.deferred h.deferred,
-      cut_back a.warnings b.warnings h.warnings,
-    ) refl
+    ap (λ (s : FindingsBuilder). record (found_up_to (found_lengths a) s) { trivia = trivia }) h.added
+    ∙ lists_back h.more (calls h.items a.trivia) trivia a
 
 -- a gap that adds nothing
 pub nothing_added : (found : FindingsBuilder) → found ≡ gap_added [] [] [] found
 nothing_added found = rw (append-nil found.errors, append-nil found.deferred) refl
 
--- and one that reports nothing which is not for the case that the source is a module
+-- and one that reports for the case that the source is a module alone
 pub silently_added : (deferred : List Diagnostic) (items : List Item) (found : FindingsBuilder)
     → record found { deferred = found.deferred ++ deferred; trivia = calls items found.trivia }
     ≡ gap_added [] deferred items found
@@ -118,24 +142,11 @@ added_again errors deferred items errors_then deferred_then items_then found =
       calls-append items items_then found.trivia,
     ) refl
 
--- a reading that finds nothing
-pub lists_none : (found : FindingsBuilder) → found ≡ lists_added no_findings found
-lists_none found = rw (append-nil found.errors, append-nil found.deferred, append-nil found.warnings) refl
-
--- and one that finds what a gap may add
-pub lists_gap : (errors deferred : List Diagnostic) (trivia : Trivia) (found : FindingsBuilder)
-    → record found { errors = found.errors ++ errors; deferred = found.deferred ++ deferred; trivia = trivia }
-    ≡ record (lists_added (record no_findings { diagnostics = errors; deferred = deferred }) found) { trivia = trivia }
-lists_gap errors deferred trivia found =
-    ap (λ (f : FindingsBuilder).
-    record f { errors = found.errors ++ errors; deferred = found.deferred ++ deferred; trivia = trivia })
-    (lists_none found)
-
 pub adds_none : (behind : Bool) (t : SourceType) (place : ℕ) (found : FindingsBuilder)
     → AddsPieces behind t place [] found found
 adds_none behind t place found = nothing_added found
 
--- a piece that adds this
+-- a piece that adds these
 pub adds_piece : (behind : Bool) (t : SourceType) (place : ℕ) (x : Piece) (a b : FindingsBuilder)
     (errors deferred : List Diagnostic) (items : List Item) → piece_diagnostics place x.kind ≡ errors
     → piece_deferred t place x.kind ≡ deferred → items_of_kind x.kind place behind x ≡ items
@@ -144,7 +155,7 @@ adds_piece behind t place x a b errors deferred items reports defers tells is =
     is ∙ ap (λ ds. gap_added ds deferred items a) (sym (append-nil (piece_diagnostics place x.kind) ∙ reports))
     ∙ ap (λ ds. gap_added (gap_diagnostics place (x ∷ [])) ds items a)
     (sym (append-nil (piece_deferred t place x.kind) ∙ defers))
-    ∙ ap (λ is. gap_added (gap_diagnostics place (x ∷ [])) (gap_deferred t place (x ∷ [])) is a)
+    ∙ ap (λ xs. gap_added (gap_diagnostics place (x ∷ [])) (gap_deferred t place (x ∷ [])) xs a)
     (sym (append-nil (items_of_kind x.kind place behind x) ∙ tells))
 
 -- a piece that adds these items, and reports nothing

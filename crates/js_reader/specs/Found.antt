@@ -70,7 +70,7 @@ gap_added errors deferred items found = record found {
   trivia = calls items found.trivia;
 }
 
--- these findings stand behind those of each list that the builder of trivia does not keep
+-- each list beside those of the builder of trivia has these findings at its end
 abbrev pub lists_added : Findings → FindingsBuilder → FindingsBuilder
 lists_added more found = record found {
   errors = found.errors ++ more.diagnostics;
@@ -85,8 +85,6 @@ pub record Extends {A : Type 0} (old new : List A) : Type 0 where
 
 -- Something may have been reported or warned of, and the builder of trivia may have been told of some items.
 pub record Grows (old new : FindingsBuilder) : Type 0 where
-  pub errors : Extends old.errors new.errors
-  pub deferred : Extends old.deferred new.deferred
+  pub more : Findings
   pub items : List Item
-  pub trivia : new.trivia ≡ calls items old.trivia
-  pub warnings : Extends old.warnings new.warnings
+  pub added : new ≡ record (lists_added more old) { trivia = calls items old.trivia }

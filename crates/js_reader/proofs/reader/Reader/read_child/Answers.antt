@@ -1,7 +1,6 @@
-use Rattle.std.proofs.Common.{◌≤◌, ◌∙◌, [], refl, subst, sym, ap}
+use Rattle.std.proofs.Common.{◌≤◌, ◌∙◌, refl, subst, sym, ap}
 use Rattle.js_reader.specs.Reader.{read_token}
-use Rattle.js_reader.proofs.GoalSteps.{child_goal, child_ordered}
-use Rattle.js_reader.proofs.TriviaSteps.{extends_none}
+use Rattle.js_reader.proofs.GoalSteps.{child_goal, child_grows, child_ordered}
 use Rattle.js_reader.proofs.reader.Reader.read_child.Goals as goal
 
 pub token_from-requires : goal.token_from-requires
@@ -22,10 +21,11 @@ returns-clause-ok c =
     c.offset-start.ensures.place)
 
 pub returns-clause-grown : goal.returns-clause-grown
-returns-clause-grown c = record {
-  errors = record { more = _; is_more = c.in_ok-kind.ensures.ok.reports };
-  deferred = extends_none c.args.found.now.deferred;
-  items = [];
-  trivia = refl;
-  warnings = record { more = _; is_more = c.in_ok-kind.ensures.warned };
-}
+returns-clause-grown c =
+    child_grows c.args.found.now c.read_jsx_child.new.errors c.read_jsx_child.new.warnings _ _
+    c.in_ok-kind.ensures.ok.reports c.in_ok-kind.ensures.warned
+
+pub returns-in_err-kind-clause-grown : goal.returns-in_err-kind-clause-grown
+returns-in_err-kind-clause-grown c =
+    child_grows c.args.found.now c.read_jsx_child.new.errors c.read_jsx_child.new.warnings _ _
+    c.in_err-kind.ensures.err.reports c.in_err-kind.ensures.in_part.warnings
