@@ -1,4 +1,4 @@
--- What pieces of gaps add to what was found.
+-- What gaps and readings add to what was found.
 use Rattle.std.proofs.Common.{◌≡◌, ℕ, ◌+◌, Bool, List, [], ◌∷◌, ◌++◌, refl, sym, ◌∙◌, ap}
 use Rattle.std.proofs.Common.{append_assoc, append-nil, add-zero}
 use Rattle.std.proofs.Math.Seq.{take-append_seam}
@@ -234,9 +234,3 @@ adds_further behind t place xs ys a b c f g =
       gap_deferred-append t place xs ys,
       items_from-append place behind xs ys,
     ) refl
-
--- Findings are the same, list by list.
-pub same_findings : (a b : Findings) → a.diagnostics ≡ b.diagnostics → a.deferred ≡ b.deferred
-    → a.comments ≡ b.comments → a.irregular ≡ b.irregular → a.warnings ≡ b.warnings → a ≡ b
-same_findings a b diagnostics deferred comments irregular warnings =
-    rw (diagnostics, deferred, comments, irregular, warnings) refl
