@@ -1,5 +1,5 @@
-//! The program `js_bench`: lexes what standard input gives so many times, and prints what each pass found. It is there to
-//! be measured.
+//! The program `js_bench`: lexes what standard input gives so many times, and prints what each pass found. It is there
+//! to be measured.
 #![tactic(auto)]
 
 mod bench;

@@ -19,8 +19,8 @@ pub struct BenchLine {
     pub passes: usize,
 }
 
-/// What the words after the program's name mean: a source type, whether tokens are collected, and a number of passes from
-/// 1 to 1,000. None: they are not valid.
+/// What the words after the program's name mean: a source type, whether tokens are collected, and a number of passes
+/// from 1 to 1,000. None: they are not valid.
 pub fn read_bench_words(words: &Vec<String>) -> Option<BenchLine>
     ensures { result ≡ bench_line_of words.now.items }
 {

@@ -1,6 +1,8 @@
--- What is read of regular expressions, angles and parts of JSX: characters that the text begins with, and of which kinds.
+-- What is read of regular expressions, angles and parts of JSX: characters that the text begins with, and of which
+-- kinds.
 use Rattle.std.proofs.Common.{◌≡◌, ◌≢◌, ℕ, zero, suc, ◌<◌, ◌≤◌, Bool, true, false, not, ◌&&◌, ◌||◌, ◌==◌, List, []}
-use Rattle.std.proofs.Common.{◌∷◌, ◌++◌, length, drop, refl, sym, ◌∙◌, ap, subst, arith, append_assoc, length-append, ◌⊎◌}
+use Rattle.std.proofs.Common.{◌∷◌, ◌++◌, length, drop, refl, sym, ◌∙◌, ap, subst, arith, append_assoc, length-append}
+use Rattle.std.proofs.Common.{◌⊎◌}
 use Rattle.std.proofs.Common.{inl, inr, Option, None, Some, append-nil}
 use Rattle.std.specs.Prelude.{IfSome, if◌then◌else◌, take}
 use Rattle.std.specs.List.{list_all}
@@ -21,7 +23,8 @@ use Rattle.js_grammar.specs.Jsx.{begins_child, ends_jsx_name, ends_jsx_text, jsx
 use Rattle.js_grammar.specs.Jsx.{jsx_name_up_to, jsx_string_before, jsx_string_reading, jsx_text_before}
 use Rattle.js_grammar.specs.ReLexed.{is_re_lexed}
 use Rattle.js_grammar.specs.RegularExpression.{behind_all, behind_body, behind_body_character}
-use Rattle.js_grammar.specs.RegularExpression.{behind_class, behind_class_character, behind_non_terminator, behind_up_to}
+use Rattle.js_grammar.specs.RegularExpression.{behind_class, behind_class_character, behind_non_terminator}
+use Rattle.js_grammar.specs.RegularExpression.{behind_up_to}
 use Rattle.js_grammar.specs.RegularExpression.{ends_flags, expression_of_body, left_square_bracket, regular_expression}
 use Rattle.js_grammar.specs.RegularExpression.{regular_expression_reading, right_square_bracket}
 use Rattle.js_grammar.specs.RegularExpression.{unterminated_expression}

@@ -1,4 +1,5 @@
--- Regular expressions, angles and parts of JSX as they are read, one by one: the definitions compute to what stands here.
+-- Regular expressions, angles and parts of JSX as they are read, one by one: the definitions compute to what stands
+-- here.
 use Rattle.std.proofs.Common.{◌≡◌, ℕ, Bool, true, false, List, [], ◌∷◌, ◌++◌, refl, Option, Some, None}
 use Rattle.std.specs.Prelude.{codes}
 use Rattle.std.specs.Char.{encode_utf8}

@@ -13,7 +13,8 @@ use Rattle.js_kind.specs.TokenParts.{TokenParts}
 use Rattle.js_kind.specs.declared.kind.Kind.{Kind}
 use Rattle.js_grammar.specs.Angle.{angle_reading, right_angles, first_left_angle, first_right_angle}
 use Rattle.js_grammar.specs.Reading.{Reading, size_of, moved_value}
-use Rattle.js_grammar.specs.Goals.{GoalReads, ReadsAgain, ReadsAngle, ReadsAttributeString, ReadsAttributeValue, ReadsExpression}
+use Rattle.js_grammar.specs.Goals.{GoalReads, ReadsAgain, ReadsAngle, ReadsAttributeString, ReadsAttributeValue}
+use Rattle.js_grammar.specs.Goals.{ReadsExpression}
 use Rattle.js_grammar.specs.Goals.{ReadsFrom, ReadsJsxName, ReadsOn, ReadsPart, ReadsPlainly, line_has_ended_behind}
 use Rattle.js_grammar.specs.Goals.{ReadsJsxChild, with_warnings}
 use Rattle.js_grammar.specs.Goals.ReadsAttributeValue.{string, plain}

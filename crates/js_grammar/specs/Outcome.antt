@@ -148,8 +148,8 @@ abbrev pub gap_deferred : SourceType → ℕ → List Piece → List Diagnostic
 gap_deferred t place [] = []
 gap_deferred t place (x ∷ xs) = piece_deferred t place x.kind ++ gap_deferred t (place_behind place x.text) xs
 
--- What is found in a whole gap of these pieces that begins at the place, before this token; `before` is the token before
--- the gap, if there is one.
+-- What is found in a whole gap of these pieces that begins at the place, before this token; `before` is the token
+-- before the gap, if there is one.
 abbrev pub gap_findings : SourceType → Option TokenParts → ℕ → List Piece → TokenParts → Findings
 gap_findings t before place pieces token = record {
   diagnostics = gap_diagnostics place pieces;

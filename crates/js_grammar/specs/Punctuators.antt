@@ -12,7 +12,8 @@ use Rattle.js_kind.specs.Kinds.{kind_text}
 use Rattle.js_kind.specs.declared.kind.Kind.{Kind}
 use Rattle.js_kind.specs.declared.kind.Kind.TheVariants.{Amp, Amp2, Amp2Eq, AmpEq, Bang, Caret, CaretEq, Colon, Comma}
 use Rattle.js_kind.specs.declared.kind.Kind.TheVariants.{Dot, Dot3, Eq, Eq2, Eq3, LAngle, LBrack, LCurly, LParen, LtEq}
-use Rattle.js_kind.specs.declared.kind.Kind.TheVariants.{Minus, Minus2, MinusEq, Neq, Neq2, Percent, PercentEq, Pipe, PipeGt}
+use Rattle.js_kind.specs.declared.kind.Kind.TheVariants.{Minus, Minus2, MinusEq, Neq, Neq2, Percent, PercentEq, Pipe}
+use Rattle.js_kind.specs.declared.kind.Kind.TheVariants.{PipeGt}
 use Rattle.js_kind.specs.declared.kind.Kind.TheVariants.{Pipe2, Pipe2Eq, PipeEq, Plus, Plus2, PlusEq, Question}
 use Rattle.js_kind.specs.declared.kind.Kind.TheVariants.{Question2, Question2Eq, QuestionDot, RAngle, RBrack, RCurly}
 use Rattle.js_kind.specs.declared.kind.Kind.TheVariants.{RParen, Semicolon, ShiftLeft, ShiftLeftEq, Slash, SlashEq}

@@ -32,8 +32,8 @@ is_strict_mode_contextual_keyword kind = is_one_of (variant.Let ∷ future_reser
 unfoldable pub is_binding_identifier : Kind → Bool
 is_binding_identifier kind = is_identifier kind || is_kind variant.Yield kind || is_kind variant.Await kind
 
--- tokens of the kind are names where these of the grammar's parameters are set: `yield` is one where [Yield] is not, and
--- `await` where [Await] is not (ECMA-262 13.1, IdentifierReference and LabelIdentifier)
+-- tokens of the kind are names where these of the grammar's parameters are set: `yield` is one where [Yield] is not,
+-- and `await` where [Await] is not (ECMA-262 13.1, IdentifierReference and LabelIdentifier)
 unfoldable pub is_identifier_reference : Bool → Bool → Kind → Bool
 is_identifier_reference has_yield has_await kind =
     is_identifier kind
@@ -47,8 +47,8 @@ is_ts_identifier has_yield has_await kind =
     && not (is_strict_mode_contextual_keyword kind)
     && not (is_contextual_keyword kind)
 
--- after `let`, tokens of the kind begin a binding, so that the `let` is no name (ECMA-262 14.3.1): `{`, `[` and names, but
--- for the operators that are words
+-- after `let`, tokens of the kind begin a binding, so that the `let` is no name (ECMA-262 14.3.1): `{`, `[` and names,
+-- but for the operators that are words
 unfoldable pub is_after_let : Kind → Bool
 is_after_let kind =
     (is_kind variant.LCurly kind || is_kind variant.LBrack kind || is_identifier_name kind)

@@ -3,7 +3,8 @@
 ghost use Rattle.std.specs.Prelude.{◌≡◌, ◌↔◌, IsTrue};
 ghost use Rattle.std.specs.Int.{is_in_range};
 ghost use Rattle.js_kind.specs.Kinds.{number, is_kind, is_name_kind, is_identifier_name, is_number_kind};
-ghost use Rattle.js_kind.specs.Kinds.{is_reserved_keyword, is_identifier, is_literal, is_assignment_operator, is_binary_operator};
+ghost use Rattle.js_kind.specs.Kinds.{is_reserved_keyword, is_identifier, is_literal, is_assignment_operator};
+ghost use Rattle.js_kind.specs.Kinds.{is_binary_operator};
 ghost use Rattle.js_kind.specs.Kinds.{is_logical_operator};
 ghost use Rattle.js_kind.specs.Digits.{is_integer_kind, is_digit_of, radix_of};
 

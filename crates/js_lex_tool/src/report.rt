@@ -302,8 +302,8 @@ fn push_spans(text: &mut String, label: &str, spans: &[Span]) -> Result<(), Allo
 }
 
 /// The text of a report: a line for each row, with what the row found, then one for each live token, each collected
-/// one, each live diagnostic, each deferred one, each live comment, each live stretch of irregular white space, and each
-/// live warning.
+/// one, each live diagnostic, each deferred one, each live comment, each live stretch of irregular white space, and
+/// each live warning.
 pub fn report_text(alloc: Global, source: &str, report: &Report) -> Result<String, AllocError>
     requires { AllByRecursion (λ row. IsSliceOnPlaces source.now row.value) report.now.rows }
     ensures { IfOk result (λ text. string_bytes text ≡ report_text_of source.now report.now) }

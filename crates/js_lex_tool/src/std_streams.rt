@@ -70,8 +70,8 @@ fn faults_after_flush(faults: u64, answer: FlushAnswer) -> u64
     }
 }
 
-/// A reader as an input. It counts the reads that fail, up to the end of a `u64`. It does not tell how far its calls have
-/// come.
+/// A reader as an input. It counts the reads that fail, up to the end of a `u64`. It does not tell how far its calls
+/// have come.
 #[derive(Drop)]
 pub struct StdIn<R: SystemIn + Drop> {
     reader: R,
@@ -105,8 +105,8 @@ impl<R: SystemIn + Drop> ByteIn for StdIn<R> {
     }
 }
 
-/// A writer as an output. It counts the writes and flushes that fail, up to the end of a `u64`. It does not tell what was
-/// flushed, since a `Write` does not, nor how far its calls have come.
+/// A writer as an output. It counts the writes and flushes that fail, up to the end of a `u64`. It does not tell what
+/// was flushed, since a `Write` does not, nor how far its calls have come.
 #[derive(Drop)]
 pub struct StdOut<W: SystemOut + Drop> {
     writer: W,

@@ -1,5 +1,5 @@
 -- A reading that could not allocate, and what undoes it.
-use Rattle.std.proofs.Common.{◌≡◌, ◌≤◌, Bool, [], length, refl, sym, ◌∙◌, ap, subst, Option}
+use Rattle.std.proofs.Common.{◌≡◌, ◌≤◌, Bool, List, [], length, refl, sym, ◌∙◌, ap, subst, Option}
 use Rattle.js_text.specs.Lists.{Reserved}
 use Rattle.js_text.specs.declared.diagnostic.Diagnostic.{Diagnostic}
 use Rattle.js_kind.specs.TokenParts.{TokenParts}

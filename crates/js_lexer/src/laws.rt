@@ -77,6 +77,6 @@ pub fn a_mark_changes_classes_alone()
 /// were not handed out or set, a place is free, whatever was read, read again, peeked at or taken back before. So its
 /// next reading collects its token without growth.
 pub fn a_place_is_free_before_each_reading()
-    ensures { (text : List ℕ) (t : SourceType) (l : LexerState) (earlier : List LexerState) → AreCalls text t (l ∷ earlier)
-        → IsBeforeEnd l → 0 < l.free }
+    ensures { (text : List ℕ) (t : SourceType) (l : LexerState) (earlier : List LexerState)
+        → AreCalls text t (l ∷ earlier) → IsBeforeEnd l → 0 < l.free }
 {}

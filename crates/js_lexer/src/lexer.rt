@@ -1,6 +1,6 @@
 //! The lexer: a source, the last token, and the lists that its readings fill.
 
-ghost use Rattle.std.specs.Prelude.{◌≡◌, ◌≤◌, ◌^◌, ◌↔◌, ◌++◌, true, List, [], length, drop, Option, None, IsTrue, IfOk};
+ghost use Rattle.std.specs.Prelude.{◌≡◌, ◌≤◌, ◌^◌, ◌↔◌, true, List, [], length, drop, Option, None, IsTrue, IfOk};
 ghost use Rattle.std.specs.Prelude.{OnOk, OnErr, if◌then◌else◌, ◌<◌};
 ghost use Rattle.std.specs.List.{last_or};
 ghost use Rattle.std.specs.Str.{IsCharBoundary, IsUtf8};
@@ -17,7 +17,8 @@ ghost use Rattle.js_reader.specs.Decoded.{Keeps, KeepsValues, HasValue, value_of
 ghost use Rattle.js_reader.specs.Decoded.{GivesTemplate, GivesStretch};
 ghost use Rattle.js_reader.specs.Found.{Grows, found_lengths};
 ghost use Rattle.js_lexer.specs.Lexer.{LexerState, fresh, token_or_default, ReadsToken, IsRestored, IsOnPlaces, Peeks};
-ghost use Rattle.js_lexer.specs.Lexer.{checkpoint_of, CanRewind, rewound, GoesOnFrom, is_hashbang, with_token, with_token_again};
+ghost use Rattle.js_lexer.specs.Lexer.{checkpoint_of, CanRewind, rewound, GoesOnFrom, is_hashbang, with_token};
+ghost use Rattle.js_lexer.specs.Lexer.{with_token_again};
 ghost use Rattle.js_lexer.specs.Lexer.{IsBehindFor, LexesAgain, checkpoint_with_errors_of, trivia_before};
 ghost use Rattle.js_lexer.specs.Places.{IsSparse, IsSparseCheckpoint, ReadsInPlaces, StaysInPlaces};
 ghost use Rattle.js_grammar.specs.ReLexed.{HasSpelling};
@@ -264,8 +265,8 @@ impl<'a, C: LexerConfig + Drop> Lexer<'a, C> {
     }
 
     /// A lexer behind a token of the text, which it has read last: its place is the token's end, the token is collected
-    /// where tokens are and it is no hashbang comment, and nothing was found. As many places are reserved as for a lexer
-    /// at the start.
+    /// where tokens are and it is no hashbang comment, and nothing was found. As many places are reserved as for a
+    /// lexer at the start.
     pub fn resume(
         alloc: Global,
         source_text: &'a str,

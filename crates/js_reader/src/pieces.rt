@@ -1,6 +1,6 @@
 //! The pieces of gaps, and what is told of each.
 
-ghost use Rattle.std.specs.Prelude.{◌≡◌, [], ◌<◌, ◌++◌, true, false, Some, None, IfOk, OnOk, OnErr};
+ghost use Rattle.std.specs.Prelude.{◌≡◌, ◌<◌, ◌++◌, true, false, Some, None, IfOk, OnOk, OnErr};
 ghost use Rattle.std.specs.Prelude.{if◌then◌else◌};
 ghost use Rattle.js_text.specs.Ascii.{slash, less_than_sign, hyphen_minus, line_feed};
 ghost use Rattle.js_text.specs.Characters.{begins, is_white_space, is_line_terminator, is_irregular_whitespace};

@@ -1,5 +1,5 @@
--- What is read of goals beside the plain one: which tokens they read again, of which kinds, and what is known of them as
--- regular expressions.
+-- What is read of goals beside the plain one: which tokens they read again, of which kinds, and what is known of them
+-- as regular expressions.
 use Rattle.std.proofs.Common.{◌≡◌, ℕ, true, false, ◌==◌, List, [], ◌∷◌, refl, sym, ◌∙◌, ap}
 use Rattle.std.proofs.Common.{Option, None, Some}
 use Rattle.std.specs.Prelude.{IfSome}

@@ -1,5 +1,5 @@
 -- A row depends on no more of a text than four bytes behind its token.
-use Rattle.std.proofs.Common.{◌≡◌, ℕ, ◌+◌, ◌<◌, ◌≤◌, Bool, true, false, List, ◌++◌, ◌==◌, ◌&&◌, length, refl, sym, ◌∙◌}
+use Rattle.std.proofs.Common.{◌≡◌, ℕ, ◌+◌, ◌≤◌, Bool, true, false, List, ◌++◌, ◌==◌, ◌&&◌, length, refl, sym, ◌∙◌}
 use Rattle.std.proofs.Common.{ap, subst, arith, Option, None, Some}
 use Rattle.std.specs.Prelude.{IfSome, MatchBool, if◌then◌else◌}
 use Rattle.std.specs.Str.{IsCharBoundary, IsUtf8}
@@ -8,7 +8,6 @@ use Rattle.std.proofs.lemmas.Str.{IsCharBoundary-start}
 use Rattle.js_text.specs.Ascii.{hyphen_minus}
 use Rattle.js_text.specs.Characters.{begins, from_place}
 use Rattle.js_text.specs.declared.source_type.SourceType.{SourceType}
-use Rattle.js_text.specs.declared.value.RowValue.TheVariants.{Nothing}
 use Rattle.js_kind.specs.TokenParts.{TokenParts}
 use Rattle.js_kind.specs.Kinds.{is_identifier_name}
 use Rattle.js_grammar.specs.Goals.{GoalReads}

@@ -1,7 +1,8 @@
 -- Rows that end well before a place are rows of any text with this front; and a run from behind a token is one from
 -- wherever this token is the last live one.
-use Rattle.std.proofs.Common.{◌≡◌, ℕ, ◌+◌, ◌≤◌, Bool, true, false, List, [], ◌∷◌, ◌++◌, length, refl, sym, ◌∙◌, ap, subst}
-use Rattle.std.proofs.Common.{arith, append_assoc, Option, None, Some}
+use Rattle.std.proofs.Common.{◌≡◌, ℕ, ◌+◌, ◌≤◌, Bool, true, false, List, [], ◌∷◌, ◌++◌, length, refl, sym, ◌∙◌, ap}
+use Rattle.std.proofs.Common.{subst}
+use Rattle.std.proofs.Common.{append_assoc, Option, None, Some}
 use Rattle.std.specs.Prelude.{IfSome, MatchBool, if◌then◌else◌}
 use Rattle.std.specs.List.{AllByRecursion, last_or, list_all}
 use Rattle.std.specs.Str.{IsUtf8}
@@ -19,7 +20,8 @@ use Rattle.js_session.specs.declared.command.Command.{Command}
 use Rattle.js_session.specs.declared.row.Row.{Row}
 use Rattle.js_session.specs.Effects.{Effect, effect_of, is_step, row_effect}
 use Rattle.js_session.specs.Effects.Effect.{reads, peeks, re_lexes, opens, rewinds, commits}
-use Rattle.js_session.specs.Live.{Live, State, after_row, last_live, outcome_of, state_after, with_outcome, with_re_lexed}
+use Rattle.js_session.specs.Live.{Live, State, after_row, last_live, outcome_of, state_after, with_outcome}
+use Rattle.js_session.specs.Live.{with_re_lexed}
 use Rattle.js_session.specs.Report.{IsNotTaken, IsOfEffect, IsRead, IsReLexed, IsRow, Run}
 use Rattle.js_session.proofs.LiveLemmas.{last_or-push}
 use Rattle.js_session.proofs.LocalRows.{row_local}
@@ -42,6 +44,7 @@ lies_behind text (re_lexes goal) row s token last = by_flag row.taken
     replaced : (tokens : List TokenParts) → IfSome (last_or None (with_last tokens row.token)) (IsOnPlaces text)
     replaced [] = tt
     replaced (t ∷ ts) = subst (λ o. IfSome o (IsOnPlaces text)) (sym (last_replaced None t ts row.token)) token
+
     by_flag : (b : Bool)
         → IfSome
         (last_live (if b then record s { now = with_re_lexed s.now (outcome_of row) } else s).now) (IsOnPlaces text)
@@ -84,12 +87,14 @@ row_of_last text t a b command row same is = record {
           λ plain. subst (λ l. AgreesWithGrammar text t goal l row.place (outcome_of row)) (sym same) (is.agrees plain);
       some_text = is.some_text;
     }
+
     re_lexed : (goal : Goal) → IsReLexed text t a goal row → IsReLexed text t b goal row
     re_lexed goal is = record {
       taken = is.taken;
       reads =
           subst (λ l. GoalReads text t goal l (token_or_default l).start (outcome_of row)) (sym same) is.reads;
     }
+
     not_taken : IsNotTaken a row → IsNotTaken b row
     not_taken is = record {
       taken = is.taken;
@@ -98,10 +103,12 @@ row_of_last text t a b command row same is = record {
       regex = is.regex;
       findings = is.findings;
     }
+
     by_flag : (goal : Goal) (x : Bool) → MatchBool x (IsReLexed text t a goal row) (IsNotTaken a row)
         → MatchBool x (IsReLexed text t b goal row) (IsNotTaken b row)
     by_flag goal true is = re_lexed goal is
     by_flag goal false is = not_taken is
+
     by_effect : (effect : Effect) → IsOfEffect text t a effect row → IsOfEffect text t b effect row
     by_effect (reads goal) is = read goal is
     by_effect (peeks goal) is = read goal is
@@ -156,8 +163,10 @@ joins_again front before s all o h = by_more h.more h.some
         ap (λ ts. with_last ts o.token) (h.tokens ∙ ap (λ ts. front ++ ts) h.some)
         ∙ replaced_behind front h.first h.more o.token
         ∙ ap (λ ts. front ++ with_last ts o.token) (sym h.some)
+
     findings : joined all.findings o.findings ≡ joined before (joined s.findings o.findings)
     findings = ap (λ f. joined f o.findings) h.findings ∙ joined-assoc before s.findings o.findings
+
     by_more : (more : List TokenParts) → s.tokens ≡ h.first ∷ more
         → Joins front before (with_re_lexed s o) (with_re_lexed all o)
     by_more [] e = record {

@@ -1,5 +1,6 @@
 -- Sessions that have run commands, one call after the other.
-use Rattle.std.proofs.Common.{◌≡◌, ◌<◌, ◌^◌, ℕ, Bool, true, false, List, [], ◌∷◌, ◌++◌, length, refl, sym, ◌∙◌, ap, subst}
+use Rattle.std.proofs.Common.{◌≡◌, ◌<◌, ◌^◌, ℕ, Bool, true, false, List, [], ◌∷◌, ◌++◌, length, refl, sym, ◌∙◌, ap}
+use Rattle.std.proofs.Common.{subst}
 use Rattle.std.proofs.Common.{Some, append-nil, append_assoc}
 use Rattle.std.specs.List.{AllByRecursion}
 use Rattle.std.specs.Prelude.{MatchBool}
@@ -9,7 +10,8 @@ use Rattle.js_session.specs.declared.command.Command.{Command}
 use Rattle.js_session.specs.declared.row.Row.{Row}
 use Rattle.js_session.specs.Effects.{effect_of, is_step}
 use Rattle.js_session.specs.Live.{State, after_row, after_mark, state_after, state_after_first, live}
-use Rattle.js_session.specs.Report.{IsRow, Run, AreRows, HasMark, LiesOnPlaces, IsSliceOnPlaces, ReportOf, all_collected}
+use Rattle.js_session.specs.Report.{IsRow, Run, AreRows, HasMark, LiesOnPlaces, IsSliceOnPlaces, ReportOf}
+use Rattle.js_session.specs.Report.{all_collected}
 use Rattle.js_kind.specs.TokenParts.{TokenParts}
 use Rattle.js_session.specs.Session.{SessionState, Begins, AddsRow, Follows, HasRun, HasRunFrom, RunsFrom}
 use Rattle.js_session.specs.Session.{after_command, report_of, resumed}

@@ -1,5 +1,5 @@
 -- A session that has begun: what is said of it by its own parts, and by those that it began with.
-use Rattle.std.proofs.Common.{◌≡◌, ℕ, ◌<◌, Bool, List, length, refl, sym, ap, subst}
+use Rattle.std.proofs.Common.{ℕ, ◌<◌, Bool, List, length, refl, sym, ap, subst}
 use Rattle.std.specs.Prelude.{◌^◌}
 use Rattle.std.specs.Str.{IsUtf8}
 use Rattle.js_text.specs.declared.source_type.SourceType.{SourceType}

@@ -314,8 +314,8 @@ impl<'a, C: LexerConfig + Drop> RowReader<'a, C> {
         }
     }
 
-    /// Adds the row of a re-lex, which is taken where the last token fits the goal. Where it cannot allocate, the lexer may
-    /// have gone on.
+    /// Adds the row of a re-lex, which is taken where the last token fits the goal. Where it cannot allocate, the lexer
+    /// may have gone on.
     fn re_lex_on(
         &mut self,
         command: Option<Command>,
@@ -342,8 +342,8 @@ impl<'a, C: LexerConfig + Drop> RowReader<'a, C> {
         }
     }
 
-    /// Adds the row of a re-lex, which is taken where the last token fits the goal: its token is then live in the place of
-    /// that one. Where it cannot allocate, all is as before.
+    /// Adds the row of a re-lex, which is taken where the last token fits the goal: its token is then live in the place
+    /// of that one. Where it cannot allocate, all is as before.
     pub fn re_lex(&mut self, command: Option<Command>, goal: Goal) -> Result<(), AllocError>
         requires { self.old.lexer.place ≡ (token_or_default self.old.lexer.last).end }
         ensures ok { OnOk result (MatchBool (fits self.old.lexer.text goal (token_or_default self.old.lexer.last))

@@ -1,5 +1,6 @@
 -- Laws of the units of characters.
-use Rattle.std.proofs.Common.{rules, arith, suc, ◌≡◌, ◌<◌, ◌≤◌, ℕ, List, [], ◌∷◌, refl, true, nat_lt, ◌++◌, length, take, drop, sym, ◌∙◌, ap, Result, Ok, Err}
+use Rattle.std.proofs.Common.{rules, arith, suc, ◌≡◌, ◌<◌, ◌≤◌, ℕ, List, [], ◌∷◌, refl, true, nat_lt, ◌++◌, length}
+use Rattle.std.proofs.Common.{take, drop, sym, ◌∙◌, ap, Result, Ok, Err}
 use Rattle.std.proofs.lemmas.Bool.{lt-ltb}
 use Rattle.std.proofs.lemmas.List.{take-append-drop, get_or_past}
 use Rattle.std.proofs.lemmas.List.Concat.{flat_map-append}

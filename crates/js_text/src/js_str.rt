@@ -1,6 +1,7 @@
 //! Texts as lists of UTF-16 units (ECMA-262 6.1.4).
 
-ghost use Rattle.std.specs.Prelude.{◌≡◌, [], ◌∷◌, ◌++◌, IfOk, IfSome, MatchBool, OnOk, OnErr, is_none, nat_eq, string_bytes};
+ghost use Rattle.std.specs.Prelude.{◌≡◌, [], ◌∷◌, ◌++◌, IfOk, IfSome, MatchBool, OnOk, OnErr, is_none, nat_eq};
+ghost use Rattle.std.specs.Prelude.{string_bytes};
 ghost use Rattle.std.specs.Char.Escape.{encode_utf16};
 ghost use Rattle.std.specs.Char.Utf16.{has_unpaired_surrogate};
 ghost use Rattle.std.specs.Cmp.{partial_equiv_from_equiv};

@@ -5,9 +5,11 @@ ghost use Rattle.std.specs.Prelude.{if◌then◌else◌};
 ghost use Rattle.js_trivia.specs.Words.{BeginsNoWord};
 ghost use Rattle.js_text.specs.Characters.{begins};
 ghost use Rattle.js_grammar.specs.CommentClasses.{stays_leading, begins_with, is_licensed, is_blank, without_blanks};
-ghost use Rattle.js_grammar.specs.CommentClasses.{is_capital, is_beyond_ascii, is_empty, begins_with_either, is_hint_for};
+ghost use Rattle.js_grammar.specs.CommentClasses.{is_capital, is_beyond_ascii, is_empty, begins_with_either};
+ghost use Rattle.js_grammar.specs.CommentClasses.{is_hint_for};
 ghost use Rattle.js_grammar.specs.CommentClasses.{is_key_sign, may_mark_key, ends_or_is_blank, is_word};
-ghost use Rattle.js_grammar.specs.CommentClasses.{is_for_coverage, is_for_whole_file, has_stars_alone, documentation_class};
+ghost use Rattle.js_grammar.specs.CommentClasses.{is_for_coverage, is_for_whole_file, has_stars_alone};
+ghost use Rattle.js_grammar.specs.CommentClasses.{documentation_class};
 ghost use Rattle.js_grammar.specs.CommentClasses.{annotation_class, tool_class, worded_class, class_of};
 
 use js_text::CommentContent;

@@ -447,8 +447,8 @@ impl TriviaBuilder {
         }
     }
 
-    /// Whether it may go back there: no list is shorter than it was, the ranges are of comments that stay, and what stays
-    /// starts before the place.
+    /// Whether it may go back there: no list is shorter than it was, the ranges are of comments that stay, and what
+    /// stays starts before the place.
     pub fn can_cut_back(&self, to: &TriviaLengths, place: u32) -> bool
         ensures { IsTrue result ↔ CanCutBack to.now place self.now }
     {

@@ -25,8 +25,8 @@ impl<C: LexerConfig + Drop> Lexer<'_, C> {
         self.tokens.replace_last(token);
     }
 
-    /// Puts these tokens in the place of the collected ones, with no place for more. A lexer that collects none is given
-    /// none.
+    /// Puts these tokens in the place of the collected ones, with no place for more. A lexer that collects none is
+    /// given none.
     pub fn set_tokens(&mut self, tokens: TokenList)
         requires { self.old.collects ≡ false → tokens ≡ [] }
         ensures { self.new ≡ record self.old { tokens = tokens; free = 0 } }

@@ -1,6 +1,6 @@
 //! The reading of the next token: simple readings first, and behind them those of any form.
 
-ghost use Rattle.std.specs.Prelude.{◌≡◌, ◌++◌, true, None, IfOk, OnOk, OnErr, is_none};
+ghost use Rattle.std.specs.Prelude.{◌≡◌, true, None, IfOk, OnOk, OnErr, is_none};
 ghost use Rattle.js_text.specs.Characters.{is_identifier_start};
 ghost use Rattle.js_grammar.specs.Gap.{whole_gap_piece};
 ghost use Rattle.js_source.specs.Source.{IsPlaced, rest};

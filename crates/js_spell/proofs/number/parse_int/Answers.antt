@@ -2,7 +2,8 @@ use Rattle.std.proofs.Common.{◌+◌, ◌*◌, get_or, drop, sym, ◌∙◌, ap
 use Rattle.std.specs.Char.{digit_value}
 use Rattle.std.specs.Str.Parse.{digits_value_after}
 use Rattle.js_spell.specs.Integer.{without_separators}
-use Rattle.js_spell.proofs.IntegerSteps.{NoSeparator, digits_value_after_grows, next_digit, next_separator, digit_added, nothing_left}
+use Rattle.js_spell.proofs.IntegerSteps.{NoSeparator, digits_value_after_grows, next_digit, next_separator}
+use Rattle.js_spell.proofs.IntegerSteps.{digit_added, nothing_left}
 use Rattle.js_spell.proofs.number.parse_int.Goals as goal
 use Rattle.js_spell.proofs.number.parse_int.Goals.{else-has_sep-via-then-has_sep+else-b-eq-SEPARATOR as no_underscore}
 use Rattle.js_spell.proofs.number.parse_int.Goals.{else-has_sep-via-else-has_sep as no_separators}
