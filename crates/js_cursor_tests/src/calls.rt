@@ -294,6 +294,7 @@ struct StepsBack {
 impl<C: LexerConfig + Drop> Element<C, ()> for StepsBack {
     ghost reads = { λ f c x g d. Unit {0} };
 
+    #[tactic(auto, using(js_lexer::proofs::Sparse::places_rewound))]
     fn read(&mut self, cursor: &mut Cursor<'_, C>) -> Result<(), AllocError> {
         match self.checkpoint.take() {
             None => {

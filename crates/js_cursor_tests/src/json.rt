@@ -2,6 +2,8 @@
 //! numbers, words) that a value holds. How deep values may nest is in its type: `Value<Value<Plain>>` holds plain
 //! values in lists in lists.
 
+ghost use Rattle.js_lexer.specs.Places.{KeepsPlaces};
+
 use crate::calls::{TestCursor, cursor_over};
 use js_cursor::{Cursor, Element, Predicate};
 use js_kind::{Kind, LexerConfig, RuntimeLexerConfig};
@@ -39,7 +41,9 @@ impl<C: LexerConfig + Drop> Predicate<C, bool> for IsMember {
 }
 
 /// Goes past the name of a member and its `:`.
-fn go_past_name(cursor: &mut TestCursor<'_>) -> Result<(), AllocError> {
+fn go_past_name(cursor: &mut TestCursor<'_>) -> Result<(), AllocError>
+    ensures { KeepsPlaces cursor.old.lexer cursor.new.lexer }
+{
     if !cursor.lookahead(IsMember) {
         return cursor.expect(Kind::Str);
     }
@@ -77,7 +81,9 @@ fn read_list<E: Element<RuntimeLexerConfig, usize> + Drop>(
     alloc: Global,
     close: Kind,
     element: E,
-) -> Result<usize, AllocError> {
+) -> Result<usize, AllocError>
+    ensures { KeepsPlaces cursor.old.lexer cursor.new.lexer }
+{
     let opening = cursor.cur_token().span();
     cursor.bump_any()?;
     let read = cursor.parse_delimited_list(alloc, close, Kind::Comma, opening, element);

@@ -1,0 +1,6 @@
+use Rattle.js_lexer.specs.Places.{KeepsPlaces}
+use Rattle.js_cursor_tests.proofs.calls.TokensElementUnit.read.Given as goal
+
+-- No place was given up.
+abbrev pub invariant-loop : goal.invariant-loop
+invariant-loop g l = KeepsPlaces l.initial.cursor.lexer l.cursor.lexer
