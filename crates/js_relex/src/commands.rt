@@ -1,0 +1,32 @@
+//! Which commands a document may be given.
+
+ghost use Rattle.std.specs.Prelude.{◌≡◌, true, IfNone, IfSome};
+ghost use Rattle.std.specs.List.{list_all};
+ghost use Rattle.js_relex.specs.Documents.{IsFirstBad, is_lasting};
+
+use js_session::Command;
+
+/// Whether a document may be given the command: one that adds a row which stays, or reads a token again.
+fn is_lasting(command: Command) -> bool
+    ensures { result ≡ is_lasting command }
+{
+    match command {
+        Command::Peek | Command::Mark | Command::Rewind | Command::Commit => false,
+        _ => true,
+    }
+}
+
+/// The index of the first command that a document may not be given.
+pub(crate) fn first_bad(commands: &[Command]) -> Option<usize>
+    ensures none { IfNone result (list_all is_lasting commands.now ≡ true) }
+    ensures some { IfSome result (IsFirstBad commands.now) }
+{
+    let mut index = 0;
+    while index < commands.len() {
+        if !is_lasting(commands[index]) {
+            return Some(index);
+        }
+        index += 1;
+    }
+    None
+}

@@ -1,0 +1,14 @@
+//! Documents that are edited: a text with the report of a list of commands over it, which is kept up to date.
+#![tactic(auto)]
+
+mod commands;
+mod document;
+mod drive;
+mod edit;
+mod fault;
+mod gather;
+mod kept;
+
+pub use document::{LexDoc, relex};
+pub use edit::Edit;
+pub use fault::RelexFault;

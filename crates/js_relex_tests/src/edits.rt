@@ -1,0 +1,202 @@
+//! Documents that are edited: which rows are kept, and what is read.
+
+ghost use Rattle.std.specs.Prelude.{◌≡◌, ◌<◌};
+
+use js_relex::{Edit, LexDoc, RelexFault, relex};
+use js_session::{Command, CommandList, Steps};
+use js_text::SourceType;
+use std::alloc::{AllocError, Global};
+use std::fmt::Write;
+use std::marker::Brand;
+use std::sync::ledger::{Blank, Ledger};
+use std::test::Fail;
+
+/// A text with so many `next`, an edit, so many `next` for the new text, and what is told of it.
+struct Case {
+    text: &'static str,
+    old_steps: usize,
+    start: u32,
+    end: u32,
+    new: &'static str,
+    new_steps: usize,
+    told: &'static str,
+}
+
+static CASES: [Case; 7] = [
+    // The last of four rows ends behind the edit, and the first alone ends four bytes before it.
+    Case {
+        text: "ab cd ef",
+        old_steps: 3,
+        start: 6,
+        end: 7,
+        new: "x",
+        new_steps: 3,
+        told: "kept 1;Ident 0..2 n;Ident 3..5;Ident 6..8;Eof 8..8;",
+    },
+    Case {
+        text: "foo(a, b);\nbar(c);",
+        old_steps: 12,
+        start: 7,
+        end: 8,
+        new: "bb",
+        new_steps: 12,
+        told: "kept 1;Ident 0..3 n;LParen 3..4;Ident 4..5;Comma 5..6;Ident 7..9;RParen 9..10;\
+            Semicolon 10..11;Ident 12..15 n;LParen 15..16;Ident 16..17;RParen 17..18;Semicolon 18..19;Eof 19..19;",
+    },
+    // Nothing is kept where the edit is at the start.
+    Case {
+        text: "a b",
+        old_steps: 2,
+        start: 0,
+        end: 0,
+        new: "c ",
+        new_steps: 3,
+        told: "kept 0;Ident 0..1 n;Ident 2..3;Ident 4..5;Eof 5..5;",
+    },
+    // A comment that is opened takes in what stands behind it.
+    Case {
+        text: "a b c d e",
+        old_steps: 5,
+        start: 6,
+        end: 6,
+        new: "/*",
+        new_steps: 5,
+        told: "kept 1;Ident 0..1 n;Ident 2..3;Ident 4..5;Eof 6..11;Eof 11..11;Eof 11..11;",
+    },
+    // Fewer commands than rows that might stay.
+    Case {
+        text: "a b c d e f g",
+        old_steps: 7,
+        start: 13,
+        end: 13,
+        new: "h",
+        new_steps: 2,
+        told: "kept 3;Ident 0..1 n;Ident 2..3;Ident 4..5;",
+    },
+    // An edit of everything, and one of nothing.
+    Case {
+        text: "a b",
+        old_steps: 2,
+        start: 0,
+        end: 3,
+        new: "",
+        new_steps: 0,
+        told: "kept 0;Eof 0..0 n;",
+    },
+    Case {
+        text: "a b c d",
+        old_steps: 4,
+        start: 7,
+        end: 7,
+        new: "",
+        new_steps: 4,
+        told: "kept 2;Ident 0..1 n;Ident 2..3;Ident 4..5;Ident 6..7;Eof 7..7;",
+    },
+];
+
+/// So many `next`.
+fn nexts(alloc: Global, count: usize) -> Result<CommandList, AllocError> {
+    let mut commands = CommandList::new_in(alloc);
+    for _ in 0..count {
+        commands.push(Command::Next)?;
+    }
+    Ok(commands)
+}
+
+/// How many rows were kept, and the tokens of all.
+fn tell(alloc: Global, document: &LexDoc) -> Result<String, AllocError> {
+    let mut text = String::new(alloc);
+    let kept = document.kept_rows();
+    write!(text, "kept {kept};")?;
+    for row in document.report().rows.as_slice() {
+        let token = &row.token;
+        let name = token.kind().name();
+        let start = token.start();
+        let end = token.end();
+        write!(text, "{name} {start}..{end}")?;
+        if token.is_on_new_line() {
+            write!(text, " n")?;
+        }
+        write!(text, ";")?;
+    }
+    Ok(text)
+}
+
+/// The document of the case's text with its edit made, in words. None where there is none.
+fn told<L: Ledger>(alloc: Global, case: &Case, blank: Blank) -> Result<Option<String>, AllocError>
+    requires name { blank.name ≡ L.name }
+    requires parts { blank.parts ≡ L.parts }
+    requires some_part { 0 < L.parts }
+{
+    let mut steps = Steps::<L>::new(blank);
+    let commands = nexts(alloc, case.old_steps)?;
+    let type_ = SourceType::Module;
+    let old = match LexDoc::new(alloc, case.text, type_, commands.as_slice(), &mut steps) {
+        Ok(old) => old,
+        Err(_) => return Ok(None),
+    };
+    let edit = Edit {
+        start: case.start,
+        end: case.end,
+        text: case.new,
+    };
+    let commands = nexts(alloc, case.new_steps)?;
+    match relex(alloc, &old, &edit, commands.as_slice(), &mut steps) {
+        Ok(new) => Ok(Some(tell(alloc, &new)?)),
+        Err(_) => Ok(None),
+    }
+}
+
+#[test]
+fn rows_behind_edits(rt: HostRuntime) -> Result<(), Fail> {
+    for case in &CASES {
+        let told = told::<Brand>(rt.alloc(), case, Blank::new(1))?.ok_or("no document")?;
+        assert_eq!(rt; told.as_str(), case.told);
+    }
+    Ok(())
+}
+
+/// Where an edit of `aé b` starts and ends, the commands, and the fault.
+static FAULTS: [(u32, u32, &[Command], Option<RelexFault>); 5] = [
+    (3, 1, &[], Some(RelexFault::BadEdit)),
+    (2, 3, &[Command::Peek], Some(RelexFault::BadEdit)),
+    (3, 6, &[], Some(RelexFault::BadEdit)),
+    (
+        0,
+        1,
+        &[Command::Next, Command::Peek],
+        Some(RelexFault::BadCommand(1)),
+    ),
+    (0, 1, &[Command::Next], None),
+];
+
+/// The fault of an edit of `aé b` with these commands.
+fn fault<L: Ledger>(
+    alloc: Global,
+    start: u32,
+    end: u32,
+    commands: &[Command],
+    blank: Blank,
+) -> Option<RelexFault>
+    requires name { blank.name ≡ L.name }
+    requires parts { blank.parts ≡ L.parts }
+    requires some_part { 0 < L.parts }
+{
+    let mut steps = Steps::<L>::new(blank);
+    let old = LexDoc::new(alloc, "aé b", SourceType::Module, &[], &mut steps).ok()?;
+    let edit = Edit {
+        start,
+        end,
+        text: "x",
+    };
+    relex(alloc, &old, &edit, commands, &mut steps).err()
+}
+
+#[test]
+fn faults_of_edits(rt: HostRuntime) -> Result<(), Fail> {
+    for (start, end, commands, fault_of_edit) in &FAULTS {
+        let found = fault::<Brand>(rt.alloc(), *start, *end, commands, Blank::new(1));
+        assert_eq!(rt; found, *fault_of_edit);
+    }
+    Ok(())
+}
