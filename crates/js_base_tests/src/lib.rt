@@ -1,9 +1,11 @@
-//! Tests of js_text, js_kind, js_source and js_trivia, by their public calls. They stand in a crate of their own, since
-//! a crate's functions are proved again with its tests.
+//! Tests of js_text, js_places, js_kind, js_source and js_trivia, by their public calls. They stand in a crate of their
+//! own, since a crate's functions are proved again with its tests.
 #![tactic(auto)]
 
 #[cfg(test)]
 mod kinds;
+#[cfg(test)]
+mod places;
 #[cfg(test)]
 mod sources;
 #[cfg(test)]

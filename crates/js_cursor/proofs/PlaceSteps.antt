@@ -1,5 +1,5 @@
 -- The places of a cursor's lexer.
-use Rattle.std.proofs.Common.{◌≡◌, Bool, true, false, refl, sym, ap, subst, arith, ◌&&◌}
+use Rattle.std.proofs.Common.{◌≡◌, Bool, true, false, refl, sym, subst, arith, ◌&&◌}
 use Rattle.std.specs.Prelude.{if◌then◌else◌}
 use Rattle.std.specs.Option.{is_some}
 use Rattle.js_kind.specs.Kinds.{is_name_kind}
@@ -7,7 +7,7 @@ use Rattle.js_kind.specs.declared.kind.Kind.{Kind}
 use Rattle.js_kind.specs.declared.kind.Kind.TheVariants.{Colon}
 use Rattle.js_text.specs.declared.span.Span.{Span}
 use Rattle.js_lexer.specs.Lexer.{LexerState}
-use Rattle.js_lexer.specs.Places.{HasByte, HoldsAsMany, IsSparse, ReadsInPlaces}
+use Rattle.js_lexer.specs.Places.{HoldsAsMany, IsSparse, ReadsInPlaces}
 use Rattle.js_cursor.specs.Cursor.{CursorState, allows_semicolon, is_at, noting_escape, with_fatal_error}
 use Rattle.js_cursor.specs.Expect.{expecting, expecting_alternative, expecting_closing, expecting_semicolon}
 use Rattle.js_cursor.specs.declared.diagnostic.CursorDiagnostic.{CursorDiagnostic}

@@ -67,6 +67,7 @@ use Rattle.js_grammar.proofs.ReadingsAhead.{reading_local}
 use Rattle.js_grammar.proofs.Spans.{here_is_taken, leads, part_is_taken, taken_span}
 use Rattle.js_grammar.proofs.StringSpans.{quoted_characters}
 use Rattle.js_grammar.proofs.StringsAhead.{part_local}
+use Rattle.js_grammar.proofs.TokenStarts.{hashbang_place}
 
 -- What is read of a text that begins with a character takes something.
 shorter_by : (xs here rest : List ℕ) → xs ≢ [] → here ≡ xs ++ rest → length rest < length here
@@ -593,22 +594,10 @@ plainly_goal : (front rest other : List ℕ) (t : SourceType) (goal : Goal) (bef
     → ReadsPlainly (front ++ rest) t goal before place o → ReadsPlainly (front ++ other) t goal before place o
 plainly_goal front rest other t goal before place o both b room (hashbang begun reads) =
     hashbang
-    (sym (hashbang_same front rest other goal place o.token.end both b (starts goal place begun) room
-    reads.is_hashbang.end) ∙ begun)
+    (sym (hashbang_same front rest other goal place o.token.end both b
+    (let none = hashbang_place goal (front ++ rest) place begun in omega (arith, none)) room reads.is_hashbang.end)
+    ∙ begun)
     (hashbang_goal front rest other (line_has_ended_behind before) o both room reads)
-  where
-    starts : (goal : Goal) (place : ℕ) → begins_hashbang goal (front ++ rest) place ≡ true → place ≤ o.token.end
-    starts First zero e = omega arith
-    starts First (suc place) e = absurd (cc)
-    starts Next place e = absurd (cc)
-    starts TailGoal place e = absurd (cc)
-    starts RegularExpression place e = absurd (cc)
-    starts RightAngle place e = absurd (cc)
-    starts TypeScriptLeftAngle place e = absurd (cc)
-    starts TypeScriptRightAngle place e = absurd (cc)
-    starts JsxIdentifier place e = absurd (cc)
-    starts JsxChild place e = absurd (cc)
-    starts JsxAttributeValue place e = absurd (cc)
 plainly_goal front rest other t goal before place o both b room (behind_gap none reads) =
     let start = o.token.start in
     let span =

@@ -1,7 +1,6 @@
 -- Where the token of a reading starts: that of a goal that goes on no earlier than the place from which it is read, and
 -- one that is read again where it started before.
-use Rattle.std.proofs.Common.{◌≡◌, ℕ, ◌≤◌, Bool, true, false, List, refl, sym, ◌∙◌, ap, arith, zero, suc}
-use Rattle.std.proofs.Common.{Option, None, Some}
+use Rattle.std.proofs.Common.{◌≡◌, ℕ, ◌≤◌, Bool, true, false, List, refl, ◌∙◌, ap, arith, zero, suc, Option, Some}
 use Rattle.std.specs.Str.{IsUtf8, IsCharBoundary}
 use Rattle.js_text.specs.declared.source_type.SourceType.{SourceType}
 use Rattle.js_kind.specs.TokenParts.{TokenParts}
@@ -26,22 +25,24 @@ behind_its_gap text t before place o u b reads =
     gap_end text t (line_has_ended_behind before) reads.line_has_ended place o.token.start reads.pieces u b reads.start
     reads.gap in omega (arith, end)
 
+-- a hashbang begins where its text does
+pub hashbang_place : (goal : Goal) (text : List ℕ) (place : ℕ) → begins_hashbang goal text place ≡ true → place ≡ 0
+hashbang_place First text zero e = refl
+hashbang_place First text (suc place) e = absurd (cc)
+hashbang_place Next text place e = absurd (cc)
+hashbang_place TemplateTail text place e = absurd (cc)
+hashbang_place RegularExpression text place e = absurd (cc)
+hashbang_place RightAngle text place e = absurd (cc)
+hashbang_place TypeScriptLeftAngle text place e = absurd (cc)
+hashbang_place TypeScriptRightAngle text place e = absurd (cc)
+hashbang_place JsxIdentifier text place e = absurd (cc)
+hashbang_place JsxChild text place e = absurd (cc)
+hashbang_place JsxAttributeValue text place e = absurd (cc)
+
 plainly_onward : (text : List ℕ) (t : SourceType) (goal : Goal) (before : Option TokenParts) (place : ℕ) (o : Outcome)
     → IsUtf8 text → IsCharBoundary text place → ReadsPlainly text t goal before place o → place ≤ o.token.start
-plainly_onward text t goal before place o u b (hashbang begins read) = at_start goal place begins
-  where
-    at_start : (goal : Goal) (place : ℕ) → begins_hashbang goal text place ≡ true → place ≤ o.token.start
-    at_start First zero e = omega arith
-    at_start First (suc place) e = absurd (cc)
-    at_start Next place e = absurd (cc)
-    at_start TemplateTail place e = absurd (cc)
-    at_start RegularExpression place e = absurd (cc)
-    at_start RightAngle place e = absurd (cc)
-    at_start TypeScriptLeftAngle place e = absurd (cc)
-    at_start TypeScriptRightAngle place e = absurd (cc)
-    at_start JsxIdentifier place e = absurd (cc)
-    at_start JsxChild place e = absurd (cc)
-    at_start JsxAttributeValue place e = absurd (cc)
+plainly_onward text t goal before place o u b (hashbang begins read) =
+    let none : place ≡ 0 = hashbang_place goal text place begins in omega (arith, none)
 plainly_onward text t goal before place o u b (behind_gap begins read) = behind_its_gap text t before place o u b read
 
 attribute_onward : (text : List ℕ) (t : SourceType) (before : Option TokenParts) (place : ℕ) (o : Outcome)

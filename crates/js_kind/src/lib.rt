@@ -10,6 +10,7 @@ mod kind_text;
 mod packed;
 mod predicates;
 mod token;
+mod token_list;
 mod words;
 
 pub use config::{
@@ -22,4 +23,5 @@ pub use keyword::{
 };
 pub use kind::Kind;
 pub use kind_rows::variants_by_number;
-pub use token::{Token, TokenList, equal_tokens_have_equal_parts};
+pub use token::{Token, equal_tokens_have_equal_parts};
+pub use token_list::TokenList;

@@ -5,7 +5,7 @@ ghost use Rattle.js_kind.specs.TokenParts.{default_parts};
 
 use crate::kind::Kind;
 use crate::packed::{byte_of, last_4_bytes, last_byte, pack, put_4_bytes, put_byte};
-use js_text::{ItemList, Span};
+use js_text::Span;
 use std::marker::Model;
 
 /// Where the parts of a token stand in its number, in bits.
@@ -51,9 +51,6 @@ impl Default for Token {
         Token::new(Kind::Eof, Span::empty(0), false)
     }
 }
-
-/// A growing list of tokens.
-pub type TokenList = ItemList<Token>;
 
 impl Token {
     /// A token with no escape and no separator in it.

@@ -3,7 +3,7 @@ use Rattle.std.proofs.Common.{◌≡◌, ℕ, ◌-◌, ◌≤◌, Bool, true, fa
 use Rattle.std.proofs.Common.{Option, Some}
 use Rattle.std.specs.List.{list_all}
 use Rattle.std.specs.Str.{IsUtf8}
-use Rattle.js_text.specs.Lists.{Reserved}
+use Rattle.js_places.specs.Reserved.{Reserved}
 use Rattle.js_text.specs.declared.diagnostic.Diagnostic.{Diagnostic}
 use Rattle.js_kind.specs.Kinds.{kind_text}
 use Rattle.js_kind.specs.TokenParts.{TokenParts}

@@ -1,6 +1,6 @@
 -- A reading that could not allocate, and what undoes it.
 use Rattle.std.proofs.Common.{◌≡◌, ◌≤◌, Bool, List, [], length, refl, sym, ◌∙◌, ap, subst, Option}
-use Rattle.js_text.specs.Lists.{Reserved}
+use Rattle.js_places.specs.Reserved.{Reserved}
 use Rattle.js_text.specs.declared.diagnostic.Diagnostic.{Diagnostic}
 use Rattle.js_kind.specs.TokenParts.{TokenParts}
 use Rattle.js_source.specs.Source.{At}

@@ -3,7 +3,8 @@ use Rattle.std.specs.Prelude.{◌≡◌, ◌≢◌, ℕ, ◌+◌, ◌-◌, ◌<�
 use Rattle.std.specs.Prelude.{false, take, Option, Some, None, IfSome, is_none, is_some, unwrap_or, if◌then◌else◌}
 use Rattle.std.specs.List.{last_or}
 use Rattle.std.specs.Str.{IsCharBoundary}
-use Rattle.js_text.specs.Lists.{Reserved, with_last}
+use Rattle.js_places.specs.Reserved.{Reserved}
+use Rattle.js_text.specs.Lists.{with_last}
 use Rattle.js_text.specs.declared.comment.Comment.{Comment}
 use Rattle.js_text.specs.declared.comment.CommentContent.{CommentContent}
 use Rattle.js_text.specs.declared.comment.CommentRange.{CommentRange}

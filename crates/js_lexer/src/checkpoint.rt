@@ -10,9 +10,10 @@ ghost use Rattle.js_lexer.specs.Lexer.{IsOnPlaces, put_back, asked_lengths};
 
 use js_grammar::is_re_lexed;
 use js_kind::{Kind, Token};
+use js_places::ReservedList;
 use js_reader::ReadingStart;
 use js_source::Source;
-use js_text::{DiagnosticList, ReservedList};
+use js_text::DiagnosticList;
 use std::marker::Model;
 
 /// Where a lexer stood, its last token, and how long its lists were. One that is made for error recovery has a copy of

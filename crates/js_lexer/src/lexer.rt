@@ -37,11 +37,12 @@ use crate::checkpoint::{
 use crate::token_text::{is_template, text_span};
 use js_grammar::Goal;
 use js_kind::{Kind, LexerConfig, Token, TokenList};
+use js_places::ReservedList;
 use js_reader::{ByteTables, DecodedValues, Findings, FindingsBuilder, Reader, ReadingStart};
 use js_source::{Source, SourcePosition};
 use js_text::{
-    Comment, CommentList, Diagnostic, DiagnosticList, JsText, ReservedList, SourceType, Span,
-    SpanList, TemplateValue,
+    Comment, CommentList, Diagnostic, DiagnosticList, JsText, SourceType, Span, SpanList,
+    TemplateValue,
 };
 use js_trivia::TriviaBuilder;
 use std::alloc::{AllocError, Global};
@@ -68,7 +69,7 @@ fn places_for_tokens(
     if !collects {
         return Ok(ReservedList::new_in(alloc));
     }
-    ReservedList::with_free(alloc, bytes + 1, Token::default())
+    ReservedList::with_free(alloc, bytes + 1)
 }
 
 /// Collects the token, where tokens are collected and it is no hashbang comment. While a place is free it takes no
@@ -633,7 +634,7 @@ impl<'a, C: LexerConfig + Drop> Lexer<'a, C> {
         ensures after { self.new ≡ record self.old { tokens = []; free = 0 } }
     {
         let alloc = self.reader.alloc;
-        std::mem::replace(&mut self.tokens, ReservedList::new_in(alloc)).into_list()
+        TokenList::from_places(std::mem::replace(&mut self.tokens, ReservedList::new_in(alloc)))
     }
 
     /// What `rewind` goes back to: places and lengths alone, so it takes no memory.

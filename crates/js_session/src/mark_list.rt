@@ -4,7 +4,7 @@ ghost use Rattle.std.specs.Prelude.{◌≡◌, ◌<◌, ◌≤◌, ◌+◌, ◌�
 ghost use Rattle.std.specs.Prelude.{option_to_list};
 
 use crate::mark::SessionMark;
-use js_text::ReservedList;
+use js_places::ReservedList;
 use std::alloc::{AllocError, Global};
 use std::marker::Model;
 
@@ -18,7 +18,7 @@ pub(crate) struct MarkList {
 impl Model for MarkList {
     ghost use Rattle.std.specs.List.{AllByRecursion};
     ghost use Rattle.std.specs.Prelude.{IsSome};
-    ghost use Rattle.js_text.specs.Lists.{Reserved};
+    ghost use Rattle.js_places.specs.Reserved.{Reserved};
     ghost use Rattle.js_session.specs.Marks.{marks_in};
     ghost use Rattle.js_session.specs.declared.mark.SessionMark.{SessionMark};
 

@@ -6,7 +6,7 @@ ghost use Rattle.js_lexer.specs.Lexer.{with_diagnostics};
 
 use super::Lexer;
 use js_kind::{LexerConfig, Token, TokenList};
-use js_text::{Diagnostic, ReservedList};
+use js_text::Diagnostic;
 
 impl<C: LexerConfig + Drop> Lexer<'_, C> {
     /// Takes back what was reported last, if anything is left.
@@ -31,7 +31,7 @@ impl<C: LexerConfig + Drop> Lexer<'_, C> {
         requires { self.old.collects ≡ false → tokens ≡ [] }
         ensures { self.new ≡ record self.old { tokens = tokens; free = 0 } }
     {
-        self.tokens = ReservedList::from_list(tokens);
+        self.tokens = tokens.into_places();
     }
 
     /// Hands out the collected tokens but for the last one, which is the end of the source once all is read, and leaves

@@ -13,11 +13,12 @@ ghost use Rattle.js_reader.specs.Reader.{ReadsInPart, ReadsTokenHere};
 use super::{Lexer, collect, start_behind_reports, take_token};
 use js_grammar::Goal;
 use js_kind::{Kind, LexerConfig, Token};
+use js_places::ReservedList;
 use js_reader::{
     DecodedValues, GapEnd, Reader, pass_simple_gap, read_simple_name, read_simple_symbol,
 };
 use js_source::Source;
-use js_text::{DiagnosticList, ReservedList, Span};
+use js_text::{DiagnosticList, Span};
 use std::alloc::AllocError;
 
 /// Reads the token that stands here, where no gap does, and collects it. Where it cannot allocate, the reader may have

@@ -1,0 +1,4 @@
+pub mod Items
+pub mod Names
+pub mod Rows
+pub mod Values
