@@ -5,7 +5,8 @@ use Rattle.std.specs.Prelude.{◌⊎◌, ◌^◌, IfErr, IsOk, OnOk}
 use Rattle.std.specs.List.{list_all}
 use Rattle.std.proofs.lemmas.Bool.{and_parts}
 use Rattle.js_session.specs.declared.command.Command.{Command}
-use Rattle.js_relex.specs.Documents.{Cause, EditCause, IsEdit, IsFirstBad, edited, is_lasting}
+use Rattle.js_session.specs.Effects.{is_lasting}
+use Rattle.js_relex.specs.Documents.{Cause, EditCause, IsEdit, IsFirstBad, edited}
 use Rattle.js_relex.specs.declared.fault.RelexFault.{RelexFault}
 use Rattle.js_relex.specs.declared.fault.RelexFault.TheVariants.{BadEdit, Overlong, BadCommand, Memory}
 

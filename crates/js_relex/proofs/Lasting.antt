@@ -1,57 +1,18 @@
 -- Commands that a document may be given, and sessions that follow them.
-use Rattle.std.proofs.Common.{◌≡◌, ℕ, ◌+◌, ◌<◌, Bool, true, false, List, [], ◌∷◌, length, take, suc, refl, sym, ◌∙◌, ap}
+use Rattle.std.proofs.Common.{◌≡◌, ℕ, ◌+◌, ◌<◌, Bool, true, false, List, [], ◌∷◌, length, take, suc, sym, ◌∙◌, ap}
 use Rattle.std.proofs.Common.{subst, arith, get_or, zero}
 use Rattle.std.specs.List.{list_all}
 use Rattle.std.proofs.Math.Seq.{take-suc}
 use Rattle.std.proofs.lemmas.Bool.{and_parts}
 use Rattle.js_text.specs.declared.source_type.SourceType.{SourceType}
 use Rattle.js_session.specs.declared.command.Command.{Command}
-use Rattle.js_session.specs.declared.command.Command.TheVariants.{Next, JsxChild, JsxAttr, Regex, TemplateTail, JsxName}
-use Rattle.js_session.specs.declared.command.Command.TheVariants.{RAngle, TsLAngle, TsRAngle}
-use Rattle.js_session.specs.declared.command.Command.TheVariants.{Peek, Mark, Rewind, Commit}
 use Rattle.js_session.specs.declared.row.Row.{Row}
-use Rattle.js_session.specs.Effects.{closes, effect_of, is_step}
+use Rattle.js_session.specs.Effects.{effect_of, is_lasting, is_step}
 use Rattle.js_session.specs.Live.{State, after_row}
 use Rattle.js_session.specs.Report.{HasMark, Run}
 use Rattle.js_session.specs.Session.{AddsRow, Follows, RunsFrom, SessionState}
+use Rattle.js_session.proofs.LastingRuns.{lasting_closes, lasting_steps}
 use Rattle.js_session.proofs.RunsOn.{run_on}
-use Rattle.js_relex.specs.Documents.{is_lasting}
-
-pub lasting_steps : (c : Command) → is_lasting c ≡ true → is_step c ≡ true
-lasting_steps Next e = refl
-lasting_steps JsxChild e = refl
-lasting_steps JsxAttr e = refl
-lasting_steps Regex e = refl
-lasting_steps TemplateTail e = refl
-lasting_steps JsxName e = refl
-lasting_steps RAngle e = refl
-lasting_steps TsLAngle e = refl
-lasting_steps TsRAngle e = refl
-lasting_steps Peek e = absurd (cc)
-lasting_steps Mark e = absurd (cc)
-lasting_steps Rewind e = absurd (cc)
-lasting_steps Commit e = absurd (cc)
-
-lasting_closes : (c : Command) → is_lasting c ≡ true → closes c ≡ false
-lasting_closes Next e = refl
-lasting_closes JsxChild e = refl
-lasting_closes JsxAttr e = refl
-lasting_closes Regex e = refl
-lasting_closes TemplateTail e = refl
-lasting_closes JsxName e = refl
-lasting_closes RAngle e = refl
-lasting_closes TsLAngle e = refl
-lasting_closes TsRAngle e = refl
-lasting_closes Peek e = absurd (cc)
-lasting_closes Mark e = absurd (cc)
-lasting_closes Rewind e = absurd (cc)
-lasting_closes Commit e = absurd (cc)
-
-pub all_steps : (cs : List Command) → list_all is_lasting cs ≡ true → list_all is_step cs ≡ true
-all_steps [] e = refl
-all_steps (c ∷ cs) e =
-    let both = and_parts (is_lasting c) (list_all is_lasting cs) e in
-    rw (lasting_steps c both.0, all_steps cs both.1) refl
 
 pub lasting_at : (cs : List Command) (index : ℕ) (d : Command) → list_all is_lasting cs ≡ true → index < length cs
     → is_lasting (get_or cs index d) ≡ true

@@ -1,21 +1,14 @@
 -- Documents, and what an edit makes of one.
-use Rattle.std.specs.Prelude.{◌≡◌, ℕ, ◌<◌, ◌≤◌, ◌+◌, ◌^◌, Bool, true, false, List, [], ◌∷◌, ◌++◌, length, take, drop}
-use Rattle.std.specs.Prelude.{slice_get, Some, if◌then◌else◌}
+use Rattle.std.specs.Prelude.{◌≡◌, ℕ, ◌<◌, ◌≤◌, ◌+◌, ◌^◌, true, false, List, [], ◌∷◌, ◌++◌, length, take, drop}
+use Rattle.std.specs.Prelude.{slice_get, Some}
 use Rattle.std.specs.List.{list_all}
 use Rattle.std.specs.Str.{IsCharBoundary}
-use Rattle.js_text.specs.Lists.{with_last}
 use Rattle.js_text.specs.declared.source_type.SourceType.{SourceType}
-use Rattle.js_kind.specs.TokenParts.{TokenParts}
-use Rattle.js_grammar.specs.Outcome.{joined}
 use Rattle.js_session.specs.declared.command.Command.{Command}
-use Rattle.js_session.specs.declared.command.Command.TheVariants.{Next, JsxChild, JsxAttr, Regex, TemplateTail, JsxName}
-use Rattle.js_session.specs.declared.command.Command.TheVariants.{RAngle, TsLAngle, TsRAngle}
-use Rattle.js_session.specs.declared.command.Command.TheVariants.{Peek, Mark, Rewind, Commit}
 use Rattle.js_session.specs.declared.report.Report.{Report}
 use Rattle.js_session.specs.declared.row.Row.{Row}
-use Rattle.js_session.specs.Effects.{Effect, row_effect}
-use Rattle.js_session.specs.Effects.Effect.{reads, peeks, re_lexes, opens, rewinds, commits}
-use Rattle.js_session.specs.Live.{Live, nothing_live, report_live, row_findings}
+use Rattle.js_session.specs.Effects.{is_lasting, row_effect}
+use Rattle.js_session.specs.Live.{Live, after_row, nothing_live, report_live}
 use Rattle.js_session.specs.Report.{ReportOf}
 use Rattle.js_relex.specs.Kept.{IsKept}
 use Rattle.js_relex.specs.declared.fault.RelexFault.{RelexFault}
@@ -30,22 +23,6 @@ pub record IsEdit (text : List ℕ) (start end : ℕ) : Type 0 where
 -- the text in which the bytes from the start up to the end become new ones
 abbrev pub edited : List ℕ → ℕ → ℕ → List ℕ → List ℕ
 edited text start end new = take start text ++ new ++ drop end text
-
--- A document may be given commands that add a row which stays, or read a token again.
-abbrev pub is_lasting : Command → Bool
-is_lasting Next = true
-is_lasting JsxChild = true
-is_lasting JsxAttr = true
-is_lasting Regex = true
-is_lasting TemplateTail = true
-is_lasting JsxName = true
-is_lasting RAngle = true
-is_lasting TsLAngle = true
-is_lasting TsRAngle = true
-is_lasting Peek = false
-is_lasting Mark = false
-is_lasting Rewind = false
-is_lasting Commit = false
 
 -- The first command that a document may not be given is at the index.
 pub record IsFirstBad (commands : List Command) (index : ℕ) : Type 0 where
@@ -74,44 +51,29 @@ pub record IsDocument (text : List ℕ) (t : SourceType) (commands : List Comman
   pub lasting : list_all is_lasting commands ≡ true
   pub report_is : ReportOf text t false commands report
 
--- the live tokens behind a row
-abbrev pub tokens_behind : Effect → Row → List TokenParts → List TokenParts
-tokens_behind (reads goal) row tokens = tokens ++ row.token ∷ []
-tokens_behind (peeks goal) row tokens = tokens
-tokens_behind (re_lexes goal) row tokens = if row.taken then with_last tokens row.token else tokens
-tokens_behind opens row tokens = tokens
-tokens_behind rewinds row tokens = tokens
-tokens_behind commits row tokens = tokens
+-- what is live behind rows, each by the effect of its command
+abbrev pub live_behind : Live → List Row → Live
+live_behind live [] = live
+live_behind live (row ∷ rows) =
+    live_behind (after_row (row_effect row.command) row (record { now = live; marks = [] })).now rows
 
--- what is live behind a row
-abbrev pub live_behind : Live → Row → Live
-live_behind live row = record {
-  tokens = tokens_behind (row_effect row.command) row live.tokens;
-  findings = joined live.findings (row_findings row);
-}
-
--- and behind rows
-abbrev pub live_behind_all : Live → List Row → Live
-live_behind_all live [] = live
-live_behind_all live (row ∷ rows) = live_behind_all (live_behind live row) rows
+-- A report has what is live, and the same rows.
+pub record GoesLive (old : Report) (live : Live) (new : Report) : Type 0 where
+  pub live_is : report_live new ≡ live
+  pub rows_are : new.rows ≡ old.rows
+  pub collected : new.collected ≡ old.collected
 
 -- A report has these rows more, with what is live behind them.
 pub record AddsRows (old : Report) (rows : List Row) (new : Report) : Type 0 where
   pub rows_are : new.rows ≡ old.rows ++ rows
-  pub live : report_live new ≡ live_behind_all (report_live old) rows
+  pub live : report_live new ≡ live_behind (report_live old) rows
   pub collected : new.collected ≡ old.collected
 
 -- A report of these rows, with what is live behind them, and no collected tokens.
 pub record IsGathered (rows : List Row) (report : Report) : Type 0 where
   pub rows_are : report.rows ≡ rows
-  pub live : report_live report ≡ live_behind_all nothing_live rows
+  pub live : report_live report ≡ live_behind nothing_live rows
   pub collected : report.collected ≡ []
-
--- The counter rose by no more than the rows of the commands, without those that are kept.
-pub record TicksAtMost (start : ℕ) (rows : List Row) (commands : List Command) (old new : ℕ) : Type 0 where
-  pub kept : ℕ
-  pub is_kept : IsKept start rows commands kept
-  pub at_most : new + kept ≤ old + (length commands + 1)
 
 -- A document of the text and the commands, of which so many rows were kept.
 pub record IsDocumentOf (text : List ℕ) (t : SourceType) (commands : List Command) (d : DocState) : Type 0 where
@@ -119,6 +81,19 @@ pub record IsDocumentOf (text : List ℕ) (t : SourceType) (commands : List Comm
   pub type_is : d.source_type ≡ t
   pub commands_are : d.commands ≡ commands
   pub report_is : ReportOf text t false commands d.report
+
+-- A document of an edited text: so many of the old rows were kept, and the counter rose by the number of the others.
+pub record Relexes (old : DocState) (start : ℕ) (text : List ℕ) (commands : List Command) (before now : ℕ)
+    (d : DocState) : Type 0 where
+  pub document : IsDocumentOf text old.source_type commands d
+  pub kept_is : IsKept start old.report.rows commands d.kept
+  pub ticks : now + d.kept ≡ before + length d.report.rows
+
+-- The counter rose by no more than the rows of the commands, without those that are kept.
+pub record TicksAtMost (start : ℕ) (rows : List Row) (commands : List Command) (old new : ℕ) : Type 0 where
+  pub kept : ℕ
+  pub is_kept : IsKept start rows commands kept
+  pub at_most : new + kept ≤ old + (length commands + 1)
 
 -- why there is no document of an edit
 abbrev pub EditCause : List ℕ → ℕ → ℕ → List ℕ → List Command → RelexFault → Type 0

@@ -2,11 +2,12 @@
 
 ghost use Rattle.std.specs.Prelude.{◌≡◌, true, IfNone, IfSome};
 ghost use Rattle.std.specs.List.{list_all};
-ghost use Rattle.js_relex.specs.Documents.{IsFirstBad, is_lasting};
+ghost use Rattle.js_session.specs.Effects.{is_lasting};
+ghost use Rattle.js_relex.specs.Documents.{IsFirstBad};
 
 use js_session::Command;
 
-/// Whether a document may be given the command: one that adds a row which stays, or reads a token again.
+/// Whether a document may be given the command: one that gives a row which stays.
 fn is_lasting(command: Command) -> bool
     ensures { result ≡ is_lasting command }
 {

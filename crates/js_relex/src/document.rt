@@ -1,20 +1,21 @@
 //! Documents.
 
-ghost use Rattle.std.specs.Prelude.{◌≡◌, ◌≤◌, ◌<◌, ◌+◌, ◌++◌, ◌^◌, ◌⊎◌, true, false, length, take};
+ghost use Rattle.std.specs.Prelude.{◌≡◌, ◌≤◌, ◌<◌, ◌+◌, ◌^◌, ◌⊎◌, true, false, length, Err};
 ghost use Rattle.std.specs.Prelude.{IfOk, IfErr, OnOk, IsOk};
-ghost use Rattle.std.specs.List.{list_all};
-ghost use Rattle.js_session.specs.Report.{AreRows, ReportOf};
-ghost use Rattle.js_relex.specs.Documents.{Cause, EditCause, IsDocumentOf, IsEdit, TicksAtMost, edited, is_lasting};
+ghost use Rattle.std.specs.List.{AllByRecursion, list_all};
+ghost use Rattle.js_session.specs.Effects.{is_lasting};
+ghost use Rattle.js_session.specs.Report.{IsSliceOnPlaces, ReportOf};
+ghost use Rattle.js_relex.specs.Documents.{Cause, EditCause, IsDocumentOf, IsEdit, Relexes, TicksAtMost, edited};
 ghost use Rattle.js_relex.specs.Kept.{IsKept};
 ghost use Rattle.js_relex.specs.declared.fault.RelexFault.{RelexFault};
 
 use crate::commands::first_bad;
-use crate::drive::{rows_behind, rows_from_start};
+use crate::drive::{report_from_start, rows_behind};
 use crate::edit::Edit;
 use crate::fault::RelexFault;
-use crate::gather::{empty_report, keep_rows};
+use crate::gather::{add_rows, empty_report, keep_rows};
 use crate::kept::count_kept;
-use js_session::{Command, CommandList, Report, RowList, Steps};
+use js_session::{Command, CommandList, Report, Steps};
 use js_text::{SourceText, SourceType};
 use std::alloc::{AllocError, Global};
 use std::marker::Model;
@@ -105,6 +106,7 @@ impl LexDoc {
     pub fn report(&self) -> &Report
         ensures report { result.now ≡ self.now.report }
         ensures of_commands { ReportOf self.now.text self.now.source_type false self.now.commands result.now }
+        ensures slices { AllByRecursion (λ row. IsSliceOnPlaces self.now.text row.value) result.now.rows }
     {
         &self.report
     }
@@ -133,43 +135,41 @@ fn check(text: &str, commands: &[Command]) -> Result<(), RelexFault>
     }
 }
 
-/// The rows of the edited text behind those of the old one that are kept.
-fn rows_behind_kept<L: Ledger>(
+/// The report of the edited text, in which the rows of the old one up to the last that is kept stay.
+fn report_behind_kept<L: Ledger>(
     alloc: Global,
     old: &LexDoc,
     edit: &Edit<'_>,
-    kept: usize,
+    last: usize,
     text: &str,
     commands: &[Command],
     steps: &mut Steps<L>,
-) -> Result<RowList, AllocError>
+) -> Result<Report, AllocError>
     requires edit { IsEdit old.now.text edit.now.start edit.now.end }
     requires text { text.now ≡ edited old.now.text edit.now.start edit.now.end edit.now.text.now }
     requires short { length text.now < 2 ^ 32 }
     requires lasting { list_all is_lasting commands.now ≡ true }
-    requires kept { IsKept edit.now.start old.now.report.rows commands.now kept }
-    requires few { kept ≤ length old.now.report.rows }
-    requires fits { kept ≤ length commands.now + 1 }
-    ensures rows { IfOk result (λ behind. AreRows text.now old.now.source_type commands.now
-        (take kept old.now.report.rows ++ behind)) }
-    ensures ticks { IfOk result (λ behind. steps.new ≡ steps.old + length behind) }
+    requires kept { IsKept edit.now.start old.now.report.rows commands.now (last + 1) }
+    requires few { last < length old.now.report.rows }
+    requires fits { last ≤ length commands.now }
+    ensures report { IfOk result (ReportOf text.now old.now.source_type false commands.now) }
+    ensures ticks { IfOk result (λ report. steps.new + (last + 1) ≡ steps.old + length report.rows) }
     ensures at_least { steps.old ≤ steps.new }
-    ensures at_most { steps.new + kept ≤ steps.old + (length commands.now + 1) }
+    ensures at_most { steps.new + (last + 1) ≤ steps.old + (length commands.now + 1) }
 {
-    match kept.checked_sub(1) {
-        None => rows_from_start(alloc, text, old.source_type, commands, steps),
-        Some(last) => {
-            let token = old.report.rows.as_slice()[last].token;
-            rows_behind(
-                alloc,
-                text,
-                old.source_type,
-                token,
-                &commands[last..],
-                steps,
-            )
-        }
-    }
+    let rows = old.report.rows.as_slice();
+    let behind = rows_behind(
+        alloc,
+        text,
+        old.source_type,
+        rows[last].token,
+        &commands[last..],
+        steps,
+    )?;
+    let mut report = empty_report(alloc);
+    keep_rows(alloc, &mut report, rows, last + 1)?;
+    add_rows(&mut report, behind)?;
+    Ok(report)
 }
 
 /// The report of the edited text, and how many rows of it are kept.
@@ -191,12 +191,11 @@ fn relexed<L: Ledger>(
     ensures at_least { steps.old ≤ steps.new }
     ensures at_most { TicksAtMost edit.now.start old.now.report.rows commands.now steps.old steps.new }
 {
-    let mut report = empty_report(alloc);
-    let rows = old.report.rows.as_slice();
-    let kept = count_kept(rows, commands, edit.start);
-    keep_rows(alloc, &mut report, rows, kept)?;
-    let behind = rows_behind_kept(alloc, old, edit, kept, text, commands, steps)?;
-    keep_rows(alloc, &mut report, behind.as_slice(), behind.len())?;
+    let kept = count_kept(old.report.rows.as_slice(), commands, edit.start);
+    let report = match kept.checked_sub(1) {
+        None => report_from_start(alloc, text, old.source_type, commands, steps)?,
+        Some(last) => report_behind_kept(alloc, old, edit, last, text, commands, steps)?,
+    };
     Ok((report, kept))
 }
 
@@ -213,9 +212,7 @@ fn document_of_edit<L: Ledger>(
     requires text { text ≡ edited old.now.text edit.now.start edit.now.end edit.now.text.now }
     requires short { length text < 2 ^ 32 }
     requires lasting { list_all is_lasting commands.now ≡ true }
-    ensures document { IfOk result (IsDocumentOf text old.now.source_type commands.now) }
-    ensures kept { IfOk result (λ d. IsKept edit.now.start old.now.report.rows commands.now d.kept) }
-    ensures ticks { IfOk result (λ d. steps.new + d.kept ≡ steps.old + length d.report.rows) }
+    ensures relexes { IfOk result (Relexes old.now edit.now.start text commands.now steps.old steps.new) }
     ensures at_least { steps.old ≤ steps.new }
     ensures at_most { TicksAtMost edit.now.start old.now.report.rows commands.now steps.old steps.new }
 {
@@ -247,9 +244,7 @@ fn document_of_text<L: Ledger>(
     ensures at_least { steps.old ≤ steps.new }
     ensures at_most { steps.new ≤ steps.old + (length commands.now + 1) }
 {
-    let rows = rows_from_start(alloc, text, source_type, commands, steps)?;
-    let mut report = empty_report(alloc);
-    keep_rows(alloc, &mut report, rows.as_slice(), rows.len())?;
+    let report = report_from_start(alloc, text, source_type, commands, steps)?;
     let mut held = CommandList::new_in(alloc);
     held.extend_from_slice(commands)?;
     let mut copied = SourceText::new_in(alloc);
@@ -274,11 +269,9 @@ fn relex_to<L: Ledger>(
 ) -> Result<LexDoc, RelexFault>
     requires edit { IsEdit old.now.text edit.now.start edit.now.end }
     requires text { text ≡ edited old.now.text edit.now.start edit.now.end edit.now.text.now }
-    ensures document { IfOk result (IsDocumentOf text old.now.source_type commands.now) }
-    ensures kept { IfOk result (λ d. IsKept edit.now.start old.now.report.rows commands.now d.kept) }
+    ensures relexes { IfOk result (Relexes old.now edit.now.start text commands.now steps.old steps.new) }
     ensures ok { OnOk result ((length text < 2 ^ 32) × (list_all is_lasting commands.now ≡ true)) }
     ensures cause { IfErr result (λ fault. (fault ≡ RelexFault.Memory) ⊎ Cause text commands.now fault) }
-    ensures ticks { IfOk result (λ d. steps.new + d.kept ≡ steps.old + length d.report.rows) }
     ensures refused { IfErr result (λ fault. (fault ≡ RelexFault.Memory) ⊎ (steps.new ≡ steps.old)) }
     ensures at_least { steps.old ≤ steps.new }
     ensures at_most { (steps.new ≡ steps.old)
@@ -304,9 +297,8 @@ pub fn relex<L: Ledger>(
     commands: &[Command],
     steps: &mut Steps<L>,
 ) -> Result<LexDoc, RelexFault>
-    ensures document { IfOk result (IsDocumentOf
-        (edited old.now.text edit.now.start edit.now.end edit.now.text.now) old.now.source_type commands.now) }
-    ensures kept { IfOk result (λ d. IsKept edit.now.start old.now.report.rows commands.now d.kept) }
+    ensures relexes { IfOk result (Relexes old.now edit.now.start
+        (edited old.now.text edit.now.start edit.now.end edit.now.text.now) commands.now steps.old steps.new) }
     // Each fault comes for its cause alone, and where its cause is there, nothing but a lack of memory comes in its
     // place.
     ensures cause { IfErr result (λ fault. (fault ≡ RelexFault.Memory)
@@ -317,7 +309,6 @@ pub fn relex<L: Ledger>(
     ensures complete { IsEdit old.now.text edit.now.start edit.now.end
         → length (edited old.now.text edit.now.start edit.now.end edit.now.text.now) < 2 ^ 32
         → list_all is_lasting commands.now ≡ true → IsOk result ⊎ (result ≡ Err RelexFault.Memory) }
-    ensures ticks { IfOk result (λ d. steps.new + d.kept ≡ steps.old + length d.report.rows) }
     ensures refused { IfErr result (λ fault. (fault ≡ RelexFault.Memory) ⊎ (steps.new ≡ steps.old)) }
     ensures at_least { steps.old ≤ steps.new }
     ensures at_most { (steps.new ≡ steps.old)

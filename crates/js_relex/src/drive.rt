@@ -1,15 +1,13 @@
 //! Rows of a text, as a session gives them.
 
-ghost use Rattle.std.specs.Prelude.{◌≡◌, ◌<◌, ◌≤◌, ◌+◌, ◌^◌, ℕ, Bool, [], List, true, length, IfOk, OnOk};
+ghost use Rattle.std.specs.Prelude.{◌≡◌, ◌<◌, ◌≤◌, ◌+◌, ◌^◌, ℕ, Bool, [], List, true, false, length, IfOk, OnOk};
 ghost use Rattle.std.specs.List.{list_all};
 ghost use Rattle.js_text.specs.declared.source_type.SourceType.{SourceType};
+ghost use Rattle.js_session.specs.Effects.{is_lasting};
 ghost use Rattle.js_session.specs.Live.{State};
-ghost use Rattle.js_session.specs.Report.{AreRows, Run};
-ghost use Rattle.js_session.specs.Session.{RunsFrom, state_behind};
+ghost use Rattle.js_session.specs.Report.{ReportOf, Run};
+ghost use Rattle.js_session.specs.Session.{MayResume, RunsFrom, state_behind};
 ghost use Rattle.js_session.specs.declared.row.Row.{Row};
-ghost use Rattle.js_lexer.specs.Lexer.{IsOnPlaces};
-ghost use Rattle.js_grammar.specs.ReLexed.{HasSpelling};
-ghost use Rattle.js_relex.specs.Documents.{is_lasting};
 
 use js_kind::{NoTokensLexerConfig, Token};
 use js_session::{Command, Report, RowList, Session, Steps};
@@ -37,18 +35,18 @@ fn step_each<L: Ledger>(
     Ok(())
 }
 
-/// The rows of the text from its start: the first one, and one for each command.
-pub(crate) fn rows_from_start<L: Ledger>(
+/// The report of the text from its start: a first row, and one for each command.
+pub(crate) fn report_from_start<L: Ledger>(
     alloc: Global,
     text: &str,
     source_type: SourceType,
     commands: &[Command],
     steps: &mut Steps<L>,
-) -> Result<RowList, AllocError>
+) -> Result<Report, AllocError>
     requires short { length text.now < 2 ^ 32 }
     requires lasting { list_all is_lasting commands.now ≡ true }
-    ensures rows { IfOk result (AreRows text.now source_type commands.now) }
-    ensures ticks { IfOk result (λ rows. steps.new ≡ steps.old + length rows) }
+    ensures report { IfOk result (ReportOf text.now source_type false commands.now) }
+    ensures ticks { IfOk result (λ report. steps.new ≡ steps.old + length report.rows) }
     ensures at_least { steps.old ≤ steps.new }
     ensures at_most { steps.new ≤ steps.old + (length commands.now + 1) }
 {
@@ -57,8 +55,7 @@ pub(crate) fn rows_from_start<L: Ledger>(
         Err(_) => return Err(AllocError),
     };
     step_each(&mut session, commands, steps)?;
-    let report = session.finish();
-    Ok(report.rows)
+    Ok(session.finish())
 }
 
 /// The rows of the text from behind the token: one for each command.
@@ -71,8 +68,7 @@ pub(crate) fn rows_behind<L: Ledger>(
     steps: &mut Steps<L>,
 ) -> Result<RowList, AllocError>
     requires short { length text.now < 2 ^ 32 }
-    requires places { IsOnPlaces text.now token }
-    requires spelling { HasSpelling text.now token }
+    requires resumes { MayResume text.now token }
     requires lasting { list_all is_lasting commands.now ≡ true }
     ensures rows { IfOk result (Run text.now source_type (state_behind token) commands.now) }
     ensures ticks { IfOk result (λ rows. steps.new ≡ steps.old + length rows) }

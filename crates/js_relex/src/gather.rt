@@ -1,10 +1,9 @@
 //! Rows gathered into a report, with what is live behind them.
 
 ghost use Rattle.std.specs.Prelude.{◌≡◌, ◌≤◌, [], ◌∷◌, length, take, OnOk};
-ghost use Rattle.js_grammar.specs.Outcome.{joined};
-ghost use Rattle.js_session.specs.Effects.{row_effect};
-ghost use Rattle.js_session.specs.Live.{report_live, row_findings};
-ghost use Rattle.js_relex.specs.Documents.{AddsRows, tokens_behind};
+ghost use Rattle.js_session.specs.Live.{nothing_live, outcome_of, report_live, report_with, with_outcome};
+ghost use Rattle.js_session.specs.Live.{with_re_lexed};
+ghost use Rattle.js_relex.specs.Documents.{AddsRows, GoesLive, live_behind};
 
 use js_kind::TokenList;
 use js_session::{Command, Report, Row, RowList};
@@ -13,16 +12,7 @@ use std::alloc::{AllocError, Global};
 
 /// A report of no rows.
 pub(crate) fn empty_report(alloc: Global) -> Report
-    ensures { result ≡ record {
-      rows = [];
-      tokens = [];
-      collected = [];
-      diagnostics = [];
-      deferred = [];
-      comments = [];
-      irregular = [];
-      warnings = [];
-    } }
+    ensures { result ≡ report_with [] [] nothing_live }
 {
     Report {
         rows: RowList::new_in(alloc),
@@ -36,29 +26,10 @@ pub(crate) fn empty_report(alloc: Global) -> Report
     }
 }
 
-/// Makes the row's token live: behind the others, or, where a token was read again, in the place of the last one.
-fn add_token(tokens: &mut TokenList, row: &Row) -> Result<(), AllocError>
-    ensures { OnOk result (tokens.new ≡ tokens_behind (row_effect row.now.command) row.now tokens.old) }
-{
-    match row.command {
-        None | Some(Command::Next | Command::JsxChild | Command::JsxAttr) => tokens.push(row.token),
-        Some(Command::Peek | Command::Mark | Command::Rewind | Command::Commit) => Ok(()),
-        Some(_) => {
-            if row.taken {
-                tokens.replace_last(row.token);
-            }
-            Ok(())
-        }
-    }
-}
-
 /// Adds what the row found.
 fn add_findings(report: &mut Report, row: &Row) -> Result<(), AllocError>
-    ensures findings { OnOk result ((report_live report.new).findings
-        ≡ joined (report_live report.old).findings (row_findings row.now)) }
-    ensures rows { OnOk result (report.new.rows ≡ report.old.rows) }
-    ensures tokens { OnOk result (report.new.tokens ≡ report.old.tokens) }
-    ensures collected { OnOk result (report.new.collected ≡ report.old.collected) }
+    ensures { OnOk result (GoesLive report.old (record (with_outcome (report_live report.old) (outcome_of row.now))
+        { tokens = report.old.tokens }) report.new) }
 {
     report
         .diagnostics
@@ -71,12 +42,41 @@ fn add_findings(report: &mut Report, row: &Row) -> Result<(), AllocError>
     report.warnings.extend_from_slice(row.warnings.as_slice())
 }
 
+/// Makes the row's token live behind the others, with what the row found.
+fn add_read(report: &mut Report, row: &Row) -> Result<(), AllocError>
+    ensures { OnOk result
+        (GoesLive report.old (with_outcome (report_live report.old) (outcome_of row.now)) report.new) }
+{
+    report.tokens.push(row.token)?;
+    add_findings(report, row)
+}
+
+/// Makes the row's token live in the place of the last one, with what the row found.
+fn add_again(report: &mut Report, row: &Row) -> Result<(), AllocError>
+    ensures { OnOk result
+        (GoesLive report.old (with_re_lexed (report_live report.old) (outcome_of row.now)) report.new) }
+{
+    report.tokens.replace_last(row.token);
+    add_findings(report, row)
+}
+
+/// Makes live what the row's command makes live.
+fn add_live(report: &mut Report, row: &Row) -> Result<(), AllocError>
+    ensures { OnOk result (GoesLive report.old (live_behind (report_live report.old) (row.now ∷ [])) report.new) }
+{
+    match row.command {
+        None | Some(Command::Next | Command::JsxChild | Command::JsxAttr) => add_read(report, row),
+        Some(Command::Peek | Command::Mark | Command::Rewind | Command::Commit) => Ok(()),
+        Some(_) if row.taken => add_again(report, row),
+        Some(_) => Ok(()),
+    }
+}
+
 /// Adds a row.
 fn add_row(report: &mut Report, row: Row) -> Result<(), AllocError>
     ensures { OnOk result (AddsRows report.old (row ∷ []) report.new) }
 {
-    add_token(&mut report.tokens, &row)?;
-    add_findings(report, &row)?;
+    add_live(report, &row)?;
     report.rows.push(row)
 }
 
@@ -92,6 +92,16 @@ pub(crate) fn keep_rows(
 {
     for index in 0..count {
         let row = rows[index].copy(alloc)?;
+        add_row(report, row)?;
+    }
+    Ok(())
+}
+
+/// Adds the rows.
+pub(crate) fn add_rows(report: &mut Report, rows: RowList) -> Result<(), AllocError>
+    ensures { OnOk result (AddsRows report.old rows report.new) }
+{
+    for row in rows.into_vec() {
         add_row(report, row)?;
     }
     Ok(())

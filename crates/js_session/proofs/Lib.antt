@@ -4,6 +4,7 @@ pub mod FaultLemmas
 pub mod LexerLemmas
 pub mod LiveLemmas
 pub mod LocalRows
+pub mod LastingRuns
 pub mod LocalRuns
 pub mod MarkLemmas
 pub mod PlaceLemmas

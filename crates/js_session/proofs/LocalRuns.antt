@@ -1,8 +1,8 @@
--- Rows that end well before a place are rows of any text with this front; and a run from behind a token is one from
--- wherever this token is the last live one.
+-- Rows that end well before a place are rows of any text with this front; and a run of steps depends on no more of what
+-- is live than the last token.
 use Rattle.std.proofs.Common.{◌≡◌, ℕ, ◌+◌, ◌≤◌, Bool, true, false, List, [], ◌∷◌, ◌++◌, length, refl, sym, ◌∙◌, ap}
 use Rattle.std.proofs.Common.{subst}
-use Rattle.std.proofs.Common.{append_assoc, Option, None, Some}
+use Rattle.std.proofs.Common.{Option, None, Some}
 use Rattle.std.specs.Prelude.{IfSome, MatchBool, if◌then◌else◌}
 use Rattle.std.specs.List.{AllByRecursion, last_or, list_all}
 use Rattle.std.specs.Str.{IsUtf8}
@@ -11,16 +11,14 @@ use Rattle.js_text.specs.Lists.{with_last}
 use Rattle.js_text.specs.declared.source_type.SourceType.{SourceType}
 use Rattle.js_kind.specs.TokenParts.{TokenParts}
 use Rattle.js_grammar.specs.Goals.{AgreesWithGrammar, GoalReads}
-use Rattle.js_grammar.specs.Outcome.{Findings, Outcome, joined}
 use Rattle.js_grammar.specs.ReLexed.{fits}
 use Rattle.js_grammar.specs.declared.goal.Goal.{Goal}
 use Rattle.js_lexer.specs.Lexer.{IsOnPlaces, token_or_default}
-use Rattle.js_lexer.proofs.FindingLaws.{joined-assoc}
 use Rattle.js_session.specs.declared.command.Command.{Command}
 use Rattle.js_session.specs.declared.row.Row.{Row}
 use Rattle.js_session.specs.Effects.{Effect, effect_of, is_step, row_effect}
 use Rattle.js_session.specs.Effects.Effect.{reads, peeks, re_lexes, opens, rewinds, commits}
-use Rattle.js_session.specs.Live.{Live, State, after_row, last_live, outcome_of, state_after, with_outcome}
+use Rattle.js_session.specs.Live.{Live, State, after_row, last_live, outcome_of}
 use Rattle.js_session.specs.Live.{with_re_lexed}
 use Rattle.js_session.specs.Report.{IsNotTaken, IsOfEffect, IsRead, IsReLexed, IsRow, Run}
 use Rattle.js_session.proofs.LiveLemmas.{last_or-push}
@@ -119,107 +117,46 @@ row_of_last text t a b command row same is = record {
     by_effect rewinds is = is
     by_effect commits is = is
 
--- What is live is what was live before, but for its last token, and behind it what is live of another session.
-pub record Joins (front : List TokenParts) (before : Findings) (s all : Live) : Type 0 where
-  pub first : TokenParts
-  pub more : List TokenParts
-  pub some : s.tokens ≡ first ∷ more
-  pub tokens : all.tokens ≡ front ++ s.tokens
-  pub findings : all.findings ≡ joined before s.findings
+-- the last live token behind a row of an effect, where there was one before it
+abbrev last_of : Effect → Row → TokenParts → TokenParts
+last_of (reads goal) row token = row.token
+last_of (peeks goal) row token = token
+last_of (re_lexes goal) row token = if row.taken then row.token else token
+last_of opens row token = token
+last_of rewinds row token = token
+last_of commits row token = token
 
-last_behind : (o : Option TokenParts) (front : List TokenParts) (t : TokenParts) (ts : List TokenParts)
-    → last_or o (front ++ t ∷ ts) ≡ last_or None (t ∷ ts)
-last_behind o [] t ts = refl
-last_behind o (f ∷ fs) t ts = last_behind (Some f) fs t ts
+-- a token that was read again is the last one
+pub replaced_last : (tokens : List TokenParts) (last token : TokenParts) → last_or None tokens ≡ Some last
+    → last_or None (with_last tokens token) ≡ Some token
+replaced_last [] last token e = absurd (let no = e in cc)
+replaced_last (t ∷ ts) last token e = last_replaced None t ts token
 
-joins_last : (front : List TokenParts) (before : Findings) (s all : Live) → Joins front before s all
-    → last_live all ≡ last_live s
-joins_last front before s all h =
-    ap (last_or None) (h.tokens ∙ ap (λ ts. front ++ ts) h.some) ∙ last_behind None front h.first h.more
-    ∙ ap (last_or None) (sym h.some)
-
-replaced_behind : (front : List TokenParts) (t : TokenParts) (ts : List TokenParts) (token : TokenParts)
-    → with_last (front ++ t ∷ ts) token ≡ front ++ with_last (t ∷ ts) token
-replaced_behind [] t ts token = refl
-replaced_behind (f ∷ []) t ts token = refl
-replaced_behind (f ∷ g ∷ gs) t ts token = ap (λ us. f ∷ us) (replaced_behind (g ∷ gs) t ts token)
-
-joins_more : (front : List TokenParts) (before : Findings) (s all : Live) (o : Outcome) → Joins front before s all
-    → Joins front before (with_outcome s o) (with_outcome all o)
-joins_more front before s all o h = record {
-  first = h.first;
-  more = h.more ++ o.token ∷ [];
-  some = ap (λ ts. ts ++ o.token ∷ []) h.some;
-  tokens = ap (λ ts. ts ++ o.token ∷ []) h.tokens ∙ append_assoc front s.tokens (o.token ∷ []);
-  findings = ap (λ f. joined f o.findings) h.findings ∙ joined-assoc before s.findings o.findings;
-}
-
-joins_again : (front : List TokenParts) (before : Findings) (s all : Live) (o : Outcome) → Joins front before s all
-    → Joins front before (with_re_lexed s o) (with_re_lexed all o)
-joins_again front before s all o h = by_more h.more h.some
-  where
-    tokens : with_last all.tokens o.token ≡ front ++ with_last s.tokens o.token
-    tokens =
-        ap (λ ts. with_last ts o.token) (h.tokens ∙ ap (λ ts. front ++ ts) h.some)
-        ∙ replaced_behind front h.first h.more o.token
-        ∙ ap (λ ts. front ++ with_last ts o.token) (sym h.some)
-
-    findings : joined all.findings o.findings ≡ joined before (joined s.findings o.findings)
-    findings = ap (λ f. joined f o.findings) h.findings ∙ joined-assoc before s.findings o.findings
-
-    by_more : (more : List TokenParts) → s.tokens ≡ h.first ∷ more
-        → Joins front before (with_re_lexed s o) (with_re_lexed all o)
-    by_more [] e = record {
-      first = o.token;
-      more = [];
-      some = ap (λ ts. with_last ts o.token) e;
-      tokens = tokens;
-      findings = findings;
-    }
-    by_more (u ∷ us) e = record {
-      first = h.first;
-      more = with_last (u ∷ us) o.token;
-      some = ap (λ ts. with_last ts o.token) e;
-      tokens = tokens;
-      findings = findings;
-    }
-
-joins_row : (front : List TokenParts) (before : Findings) (effect : Effect) (row : Row) (s all : State)
-    → Joins front before s.now all.now → Joins front before (after_row effect row s).now (after_row effect row all).now
-joins_row front before (reads goal) row s all h = joins_more front before s.now all.now (outcome_of row) h
-joins_row front before (peeks goal) row s all h = h
-joins_row front before (re_lexes goal) row s all h = by_flag row.taken
+last_behind : (effect : Effect) (row : Row) (s : State) (token : TokenParts) → last_live s.now ≡ Some token
+    → last_live (after_row effect row s).now ≡ Some (last_of effect row token)
+last_behind (reads goal) row s token e = last_or-push None s.now.tokens row.token
+last_behind (peeks goal) row s token e = e
+last_behind (re_lexes goal) row s token e = by_flag row.taken
   where
     by_flag : (b : Bool)
-        → Joins front before (if b then record s { now = with_re_lexed s.now (outcome_of row) } else s).now
-        (if b then record all { now = with_re_lexed all.now (outcome_of row) } else all).now
-    by_flag true = joins_again front before s.now all.now (outcome_of row) h
-    by_flag false = h
-joins_row front before opens row s all h = h
-joins_row front before rewinds row s all h = h
-joins_row front before commits row s all h = h
+        → last_live (if b then record s { now = with_re_lexed s.now (outcome_of row) } else s).now
+        ≡ Some (if b then row.token else token)
+    by_flag true = replaced_last s.now.tokens token row.token e
+    by_flag false = e
+last_behind opens row s token e = e
+last_behind rewinds row s token e = e
+last_behind commits row s token e = e
 
--- A run of steps from where a token is the last live one.
-pub record RunsBehind (text : List ℕ) (t : SourceType) (front : List TokenParts) (before : Findings) (s all : State)
-    (commands : List Command) (rows : List Row) : Type 0 where
-  pub run : Run text t all commands rows
-  pub joins : Joins front before (state_after s commands rows).now (state_after all commands rows).now
-
-pub run_behind : (text : List ℕ) (t : SourceType) (front : List TokenParts) (before : Findings) (s all : State)
-    (commands : List Command) (rows : List Row) → list_all is_step commands ≡ true
-    → Joins front before s.now all.now → Run text t s commands rows
-    → RunsBehind text t front before s all commands rows
-run_behind text t front before s all [] rows steps h run = record { run = run; joins = h }
-run_behind text t front before s all (c ∷ cs) [] steps h run =
+-- A run of steps is one from wherever the same token is the last live one.
+pub run_of_last : (text : List ℕ) (t : SourceType) (a b : State) (token : TokenParts) (commands : List Command)
+    (rows : List Row) → list_all is_step commands ≡ true → last_live a.now ≡ Some token → last_live b.now ≡ Some token
+    → Run text t a commands rows → Run text t b commands rows
+run_of_last text t a b token [] rows steps here there run = run
+run_of_last text t a b token (c ∷ cs) [] steps here there run =
     absurd (let step = (and_parts (is_step c) (list_all is_step cs) steps).0 in rw step at run)
-run_behind text t front before s all (c ∷ cs) (row ∷ rows) steps h run =
+run_of_last text t a b token (c ∷ cs) (row ∷ rows) steps here there run =
     let step = and_parts (is_step c) (list_all is_step cs) steps in
     let both = rw step.0 at run in
-    let on =
-    run_behind text t front before (after_row (effect_of c) row s) (after_row (effect_of c) row all) cs rows step.1
-    (joins_row front before (effect_of c) row s all h) both.1 in
-    let is = row_of_last text t s.now all.now (Some c) row (joins_last front before s.now all.now h) both.0 in
-    record {
-      run = run_step text t all c cs row rows step.0 is on.run;
-      joins = rw (step.0) on.joins;
-    }
+    run_step text t b c cs row rows step.0 (row_of_last text t a.now b.now (Some c) row (there ∙ sym here) both.0)
+    (run_of_last text t (after_row (effect_of c) row a) (after_row (effect_of c) row b)
+    (last_of (effect_of c) row token) cs rows step.1 (last_behind (effect_of c) row a token here) (last_behind (effect_of c) row b token there) both.1)

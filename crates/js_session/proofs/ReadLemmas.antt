@@ -149,7 +149,8 @@ decoded_lies true text us (Some units) = tt
 decoded_lies false text us part = tt
 
 -- the value of a token lies on places
-pub value_lies : (text : List ℕ) (token : TokenParts) (value : RowValue) → HasText text token → IsValueOf text token value
+pub value_lies : (text : List ℕ) (token : TokenParts) (value : RowValue) → HasText text token
+    → IsValueOf text token value
     → IsSliceOnPlaces text value
 value_lies text token value lies is = by_flag token.escaped refl
   where

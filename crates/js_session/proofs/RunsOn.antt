@@ -18,12 +18,12 @@ use Rattle.js_session.specs.Session.{after_command, report_of, resumed}
 use Rattle.js_session.proofs.RunLemmas.{run_step, run_mark, state_step, state_mark}
 
 -- What answers more commands from the state behind some, answers all from the state before them.
-record RunsOn (text : List ℕ) (t : SourceType) (s : State) (commands more : List Command) (rows : List Row)
+pub record RunsOn (text : List ℕ) (t : SourceType) (s : State) (commands more : List Command) (rows : List Row)
     (later : List Row) : Type 0 where
-  run : Run text t (state_after s commands rows) more later → Run text t s (commands ++ more) (rows ++ later)
-  state : state_after s (commands ++ more) (rows ++ later) ≡ state_after (state_after s commands rows) more later
+  pub run : Run text t (state_after s commands rows) more later → Run text t s (commands ++ more) (rows ++ later)
+  pub state : state_after s (commands ++ more) (rows ++ later) ≡ state_after (state_after s commands rows) more later
 
-runs_on : (text : List ℕ) (t : SourceType) (s : State) (commands more : List Command) (rows later : List Row)
+pub runs_on : (text : List ℕ) (t : SourceType) (s : State) (commands more : List Command) (rows later : List Row)
     → Run text t s commands rows → RunsOn text t s commands more rows later
 runs_on text t s [] more rows later none =
     subst (λ rs. RunsOn text t s [] more rs later) (sym none) (record { run = λ h. h; state = refl })

@@ -155,7 +155,8 @@ live_again goal command old new a =
 
 -- a row was read again, and its token is live in the place of the last one
 order_again : (goal : Goal) (command : Option Command) (old new : RowReaderState) (marks : List SessionMark)
-    → fits old.lexer.text goal (token_or_default old.lexer.last) ≡ true → IsInOrder old marks → AddsAgain goal command old new
+    → fits old.lexer.text goal (token_or_default old.lexer.last) ≡ true → IsInOrder old marks
+    → AddsAgain goal command old new
     → IsInOrder new marks
 order_again goal command old new marks fit h a =
     let text = old.lexer.text in

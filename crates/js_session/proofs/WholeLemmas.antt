@@ -1,25 +1,16 @@
 -- Steps to the end of a source: each reads on, and the first row that is `Eof` is the last one.
-use Rattle.std.proofs.Common.{◌≡◌, ℕ, zero, suc, ◌+◌, ◌<◌, ◌≤◌, Bool, true, List, [], ◌∷◌, ◌++◌, length, refl, sym}
-use Rattle.std.proofs.Common.{◌∙◌, ap, subst, arith, append-nil, append_assoc, Option, Some, None}
+use Rattle.std.proofs.Common.{◌≡◌, ℕ, ◌+◌, ◌<◌, ◌≤◌, Bool, true, List, [], ◌∷◌, ◌++◌, length, refl, sym}
+use Rattle.std.proofs.Common.{◌∙◌, ap, subst, arith, append-nil, append_assoc, Some, None}
 use Rattle.std.proofs.lemmas.List.{replicate-append-replicate}
 use Rattle.std.proofs.lemmas.Str.{IsCharBoundary-start}
 use Rattle.std.specs.List.{AllByRecursion}
 use Rattle.std.specs.Prelude.{◌^◌}
 use Rattle.std.specs.Str.{IsUtf8, IsCharBoundary}
-use Rattle.js_text.proofs.TextLemmas.{place_past}
 use Rattle.js_text.specs.declared.source_type.SourceType.{SourceType}
-use Rattle.js_grammar.specs.Goals.{GoalReads, ReadsPlainly}
-use Rattle.js_grammar.specs.Goals.ReadsPlainly.{hashbang, behind_gap}
-use Rattle.js_grammar.specs.Hashbang.{begins_hashbang}
-use Rattle.js_grammar.specs.Outcome.{Outcome}
 use Rattle.js_grammar.specs.declared.goal.Goal.{Goal}
-use Rattle.js_grammar.specs.Reads.{is_plain}
-use Rattle.js_grammar.specs.declared.goal.Goal.TheVariants.{First, Next as NextGoal, TemplateTail as TailGoal}
-use Rattle.js_grammar.specs.declared.goal.Goal.TheVariants.{RegularExpression, RightAngle, TypeScriptLeftAngle}
-use Rattle.js_grammar.specs.declared.goal.Goal.TheVariants.{TypeScriptRightAngle, JsxIdentifier, JsxChild}
-use Rattle.js_grammar.specs.declared.goal.Goal.TheVariants.{JsxAttributeValue}
-use Rattle.js_grammar.proofs.Reported.{piece_texts, pieces_text}
-use Rattle.js_kind.specs.TokenParts.{TokenParts}
+use Rattle.js_grammar.specs.Reads.{is_onward}
+use Rattle.js_grammar.specs.declared.goal.Goal.TheVariants.{First, Next as NextGoal}
+use Rattle.js_grammar.proofs.TokenStarts.{reads_onward}
 use Rattle.js_lexer.specs.Lexer.{IsOnPlaces, token_or_default}
 use Rattle.js_session.specs.declared.command.Command.{Command}
 use Rattle.js_session.specs.declared.command.Command.TheVariants.{Next}
@@ -31,43 +22,6 @@ use Rattle.js_session.specs.WholeSource.{nexts, IsEof, ReportOfWhole}
 use Rattle.js_session.proofs.LiveLemmas.{last_or-push, all-push}
 use Rattle.js_session.proofs.RunLemmas.{Continues, continues_start, continues_step, continues_end}
 
-hashbang_place : (goal : Goal) (text : List ℕ) (place : ℕ) → begins_hashbang goal text place ≡ true → place ≡ 0
-hashbang_place First text zero e = refl
-hashbang_place First text (suc place) e = absurd (cc)
-hashbang_place NextGoal text place e = absurd (cc)
-hashbang_place TailGoal text place e = absurd (cc)
-hashbang_place RegularExpression text place e = absurd (cc)
-hashbang_place RightAngle text place e = absurd (cc)
-hashbang_place TypeScriptLeftAngle text place e = absurd (cc)
-hashbang_place TypeScriptRightAngle text place e = absurd (cc)
-hashbang_place JsxIdentifier text place e = absurd (cc)
-hashbang_place JsxChild text place e = absurd (cc)
-hashbang_place JsxAttributeValue text place e = absurd (cc)
-
-plainly_onward : (text : List ℕ) (t : SourceType) (goal : Goal) (before : Option TokenParts) (place : ℕ) (o : Outcome)
-    → IsUtf8 text → IsCharBoundary text place → ReadsPlainly text t goal before place o → place ≤ o.token.start
-plainly_onward text t goal before place o u b (hashbang begins read) =
-    let none : place ≡ 0 = hashbang_place goal text place begins in omega (arith, none)
-plainly_onward text t goal before place o u b (behind_gap begins read) =
-    let past =
-    place_past text place o.token.start (piece_texts read.pieces) u b read.start
-    (pieces_text t _ _ read.pieces _ _ read.gap.pieces_are) in omega (arith, past)
-
--- a token of a plain goal starts at the place from which it was read, or behind that
-pub reads_onward : (text : List ℕ) (t : SourceType) (goal : Goal) (before : Option TokenParts) (place : ℕ) (o : Outcome)
-    → is_plain goal ≡ true → IsUtf8 text → IsCharBoundary text place → GoalReads text t goal before place o
-    → place ≤ o.token.start
-reads_onward text t First before place o plain u b reads = plainly_onward text t First before place o u b reads
-reads_onward text t NextGoal before place o plain u b reads = plainly_onward text t NextGoal before place o u b reads
-reads_onward text t TailGoal before place o plain u b reads = absurd (cc)
-reads_onward text t RegularExpression before place o plain u b reads = absurd (cc)
-reads_onward text t RightAngle before place o plain u b reads = absurd (cc)
-reads_onward text t TypeScriptLeftAngle before place o plain u b reads = absurd (cc)
-reads_onward text t TypeScriptRightAngle before place o plain u b reads = absurd (cc)
-reads_onward text t JsxIdentifier before place o plain u b reads = absurd (cc)
-reads_onward text t JsxChild before place o plain u b reads = absurd (cc)
-reads_onward text t JsxAttributeValue before place o plain u b reads = absurd (cc)
-
 -- A row of a reading: its token starts at its place or behind that, and has a byte but for the end of the source.
 pub record IsOnward (text : List ℕ) (row : Row) : Type 0 where
   pub onward : row.place ≤ row.token.start
@@ -75,10 +29,10 @@ pub record IsOnward (text : List ℕ) (row : Row) : Type 0 where
   pub lies : IsOnPlaces text row.token
 
 pub row_onward : (text : List ℕ) (t : SourceType) (now : Live) (goal : Goal) (row : Row)
-    → is_plain goal ≡ true → IsUtf8 text
+    → is_onward goal ≡ true → IsUtf8 text
     → IsCharBoundary text row.place → IsRead text t now goal row → LiesOnPlaces text row → IsOnward text row
-row_onward text t now goal row plain u b is places = record {
-  onward = reads_onward text t goal _ row.place (outcome_of row) plain u b is.reads;
+row_onward text t now goal row onward u b is places = record {
+  onward = reads_onward text t goal _ row.place (outcome_of row) onward u b is.reads;
   some_text = is.some_text;
   lies = places.token;
 }

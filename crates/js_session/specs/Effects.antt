@@ -68,9 +68,22 @@ opens_mark opens = true
 opens_mark rewinds = false
 opens_mark commits = false
 
+-- the effects that give a row which stays: its token is live from then on, or is the last live one
+abbrev pub lasts : Effect → Bool
+lasts (reads goal) = true
+lasts (peeks goal) = false
+lasts (re_lexes goal) = true
+lasts opens = false
+lasts rewinds = false
+lasts commits = false
+
 -- the commands that give a row
 abbrev pub is_step : Command → Bool
 is_step command = gives_row (effect_of command)
+
+-- the commands that give a row which stays
+abbrev pub is_lasting : Command → Bool
+is_lasting command = lasts (effect_of command)
 
 -- the commands that close a mark
 abbrev pub closes : Command → Bool

@@ -3,6 +3,7 @@ use Rattle.std.specs.Prelude.{◌≡◌, ℕ, Bool, List, [], ◌∷◌, ◌++�
 use Rattle.std.specs.List.{AllByRecursion}
 use Rattle.js_text.specs.declared.source_type.SourceType.{SourceType}
 use Rattle.js_grammar.specs.Outcome.{no_findings}
+use Rattle.js_grammar.specs.ReLexed.{HasSpelling}
 use Rattle.js_kind.specs.TokenParts.{TokenParts}
 use Rattle.js_lexer.specs.Lexer.{IsOnPlaces}
 use Rattle.js_session.specs.Effects.{effect_of, is_step, free_after}
@@ -35,6 +36,17 @@ pub record Begins (text : List ℕ) (t : SourceType) (collects : Bool) (new : Se
     state = state_after_first row;
     spare = 0;
   }
+
+-- A session may go on behind a token of a text: the token lies on places of the text, and where it may be read again,
+-- it has the spelling of its kind there.
+pub record MayResume (text : List ℕ) (token : TokenParts) : Type 0 where
+  pub lies : IsOnPlaces text token
+  pub spelled : HasSpelling text token
+
+-- the token of the last row, or the one before the rows
+abbrev pub last_token : TokenParts → List Row → TokenParts
+last_token token [] = token
+last_token token (row ∷ rows) = last_token row.token rows
 
 -- what is live behind a token, where nothing else is
 abbrev pub state_behind : TokenParts → State

@@ -2,17 +2,18 @@
 
 ghost use Rattle.std.specs.Prelude.{◌≡◌, ◌<◌, ◌≤◌, ◌+◌, ◌^◌, ◌++◌, ◌∷◌, [], ℕ, length, Bool, true, List, Option, Some};
 ghost use Rattle.std.specs.Prelude.{IfSome};
-ghost use Rattle.std.specs.List.{AllByRecursion};
+ghost use Rattle.std.specs.List.{AllByRecursion, list_all};
 ghost use Rattle.std.specs.Str.{IsUtf8};
 ghost use Rattle.js_text.specs.declared.source_type.SourceType.{SourceType};
 ghost use Rattle.js_session.specs.declared.command.Command.{Command};
 ghost use Rattle.js_session.specs.declared.report.Report.{Report};
 ghost use Rattle.js_session.specs.declared.row.Row.{Row};
-ghost use Rattle.js_session.specs.Effects.{opens_one};
+ghost use Rattle.js_session.specs.Effects.{is_lasting, is_step, opens_one};
 ghost use Rattle.js_lexer.specs.Lexer.{IsOnPlaces};
-ghost use Rattle.js_session.specs.Live.{Live, last_live, outcome_of};
-ghost use Rattle.js_session.specs.Report.{IsRow, HasMark, ReportOf};
-ghost use Rattle.js_session.specs.Session.{SessionState, Begins, Follows, HasRun, HasRunFrom, report_of, resumed};
+ghost use Rattle.js_session.specs.Live.{Live, State, last_live, outcome_of};
+ghost use Rattle.js_session.specs.Report.{AreRows, IsRow, HasMark, ReportOf, Run};
+ghost use Rattle.js_session.specs.Session.{SessionState, Begins, Follows, HasRun, HasRunFrom, MayResume, last_token};
+ghost use Rattle.js_session.specs.Session.{report_of, resumed};
 ghost use Rattle.js_kind.specs.TokenParts.{TokenParts};
 ghost use Rattle.js_session.specs.WholeSource.{nexts, IsEof, ReportOfWhole};
 
@@ -101,6 +102,29 @@ pub fn a_row_is_local()
         → IsUtf8 (front ++ rest) → IsUtf8 (front ++ other) → IfSome (last_live now) (IsOnPlaces (front ++ rest))
         → row.token.end + 4 ≤ length front
         → IsRow (front ++ rest) t now command row → IsRow (front ++ other) t now command row }
+{}
+
+/// A run of rows that end four bytes or more before a place, from where the last live token lies on the text, is one
+/// with any other rest of the text behind the place.
+pub fn a_run_is_local()
+    ensures { (front rest other : List ℕ) (t : SourceType) (s : State) (commands : List Command) (rows : List Row)
+        → IsUtf8 (front ++ rest) → IsUtf8 (front ++ other) → IfSome (last_live s.now) (IsOnPlaces (front ++ rest))
+        → list_all is_step commands ≡ true → AllByRecursion (λ row. row.token.end + 4 ≤ length front) rows
+        → Run (front ++ rest) t s commands rows → Run (front ++ other) t s commands rows }
+{}
+
+/// A run of steps depends on no more of what is live than the last token.
+pub fn a_run_depends_on_the_last_token()
+    ensures { (text : List ℕ) (t : SourceType) (a b : State) (token : TokenParts) (commands : List Command)
+        (rows : List Row) → list_all is_step commands ≡ true → last_live a.now ≡ Some token
+        → last_live b.now ≡ Some token → Run text t a commands rows → Run text t b commands rows }
+{}
+
+/// A session may go on behind rows that stay.
+pub fn a_session_may_go_on_behind_rows_that_stay()
+    ensures { (text : List ℕ) (t : SourceType) (commands : List Command) (first : Row) (rows : List Row)
+        → list_all is_lasting commands ≡ true → AreRows text t commands (first ∷ rows)
+        → MayResume text (last_token first.token rows) }
 {}
 
 /// A peek gives the token that the next step gives, with its value, and finds what that finds.

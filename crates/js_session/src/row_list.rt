@@ -32,6 +32,14 @@ impl RowList {
         }
     }
 
+    /// The rows as a vector.
+    pub fn into_vec(self) -> Vec<Row>
+        ensures { result.items ≡ self }
+    {
+        let RowList { items } = self;
+        items
+    }
+
     /// How many rows there are.
     pub fn len(&self) -> usize
         ensures { result ≡ length self.now }

@@ -4,11 +4,10 @@ ghost use Rattle.std.specs.Prelude.{◌≡◌, ◌≤◌, ◌<◌, ◌+◌, ◌^
 ghost use Rattle.std.specs.List.{AllByRecursion};
 ghost use Rattle.js_lexer.specs.Lexer.{IsOnPlaces};
 ghost use Rattle.js_session.specs.Effects.{effect_of, is_step};
-ghost use Rattle.js_grammar.specs.ReLexed.{HasSpelling};
 ghost use Rattle.js_grammar.specs.Reads.{is_onward};
 ghost use Rattle.js_session.specs.Effects.Effect.{reads, re_lexes};
 ghost use Rattle.js_session.specs.Report.{LiesOnPlaces, IsSliceOnPlaces};
-ghost use Rattle.js_session.specs.Session.{Begins, AddsRow, LieOnPlaces, after_command, report_of, resumed};
+ghost use Rattle.js_session.specs.Session.{Begins, AddsRow, LieOnPlaces, MayResume, after_command, report_of, resumed};
 
 use crate::command::Command;
 use crate::mark_list::MarkList;
@@ -92,8 +91,7 @@ impl<'a, C: LexerConfig + Drop> Session<'a, C> {
         token: Token,
         steps: &mut Steps<L>,
     ) -> Result<Session<'a, C>, NewFault>
-        requires places { IsOnPlaces text.now token }
-        requires spelling { HasSpelling text.now token }
+        requires { MayResume text.now token }
         ensures ok { IfOk result (λ s. s ≡ resumed text.now source_type (C.collects config) token) }
         ensures places { IfOk result LieOnPlaces }
         ensures overlong { (result ≡ Err NewFault.Overlong) ↔ (2 ^ 32 ≤ length text.now) }

@@ -1,6 +1,6 @@
 use Rattle.std.proofs.Common.{◌≡◌, ◌≤◌, ◌-◌, true, length, take}
 use Rattle.std.specs.List.{list_all}
-use Rattle.js_relex.specs.Documents.{is_lasting}
+use Rattle.js_session.specs.Effects.{is_lasting}
 use Rattle.js_relex.proofs.commands.first_bad.Given as goal
 
 -- A document may be given so many commands.

@@ -12,7 +12,7 @@ returns-clause-rows g c =
     c.step_each.new.session c.requires.lasting c.in-Ok.ensures.ok c.in_ok-step_each.ensures.runs in
     subst
     (λ (r : Report). Run c.args.text.now c.args.source_type (state_behind c.args.token) c.args.commands.now r.rows)
-    (sym c.finish-report.ensures.report) driven.are
+    (sym c.finish-report.ensures.report) driven.run
 
 pub returns-clause-ticks : goal.returns-clause-ticks
 returns-clause-ticks g c =
