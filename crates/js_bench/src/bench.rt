@@ -1,15 +1,12 @@
 //! A run of the program: from words and bytes to a status and a text.
 
-ghost use Rattle.std.specs.Prelude.{◌≡◌, ◌≤◌, ◌<◌, ◌^◌, ◌++◌, length, string_bytes, IfOk, OnOk};
-ghost use Rattle.js_lex_tool.specs.Run.{most_bytes};
-ghost use Rattle.js_bench.specs.Run.{AnswersBench, HasLines, RunsBench, pass_line};
+ghost use Rattle.std.specs.Prelude.{◌≡◌, ◌<◌, ◌^◌, ◌++◌, length, string_bytes, IfOk, OnOk};
+ghost use Rattle.js_bench.specs.Run.{HasLines, RunsBench, pass_line};
 ghost use Rattle.js_bench.specs.Words.{bench_line_of};
 
 use crate::pass::{PassCounts, count_pass};
 use crate::words::{BenchLine, read_bench_words};
-use js_lex_tool::status::{DONE, MEMORY, NOT_UTF8, READ_FAILED, TOO_LONG, USAGE, WRITE_FAILED};
-use js_lex_tool::write_all::{WriteFault, write_all};
-use js_lex_tool::{ByteIn, ByteOut, MOST_BYTES, ReadFault, read_to_end};
+use js_lex_tool::{ByteIn, ByteOut, TextMaker, text_run};
 use std::alloc::{AllocError, Global};
 use std::fmt::Write;
 
@@ -40,22 +37,11 @@ fn bench_text(alloc: Global, source: &str, line: &BenchLine) -> Result<String, A
     Ok(text)
 }
 
-/// Lexes the bytes of an input, and writes what each pass found.
-fn answer<O: ByteOut>(alloc: Global, line: &BenchLine, source: &[u8], output: &mut O) -> u8
-    requires { length source.now ≤ most_bytes }
-    ensures { AnswersBench line.now source.now (O.state output.old) (O.state output.new) result }
-{
-    let Ok(source) = str::from_utf8(source) else {
-        return NOT_UTF8;
-    };
-    let text = match bench_text(alloc, source, line) {
-        Ok(text) => text,
-        Err(_) => return MEMORY,
-    };
-    match write_all(output, text.as_bytes()) {
-        Ok(()) => DONE,
-        Err(WriteFault::Memory) => MEMORY,
-        Err(WriteFault::Failed) => WRITE_FAILED,
+impl TextMaker for BenchLine {
+    ghost may_make = { HasLines };
+
+    fn text(&self, alloc: Global, source: &str) -> Result<String, AllocError> {
+        bench_text(alloc, source, self)
     }
 }
 
@@ -70,13 +56,5 @@ pub fn bench_run<I: ByteIn, O: ByteOut>(
     ensures { RunsBench (bench_line_of words.now.items)
         (I.state input.old) (I.state input.new) (O.state output.old) (O.state output.new) result }
 {
-    let Some(line) = read_bench_words(words) else {
-        return USAGE;
-    };
-    match read_to_end(alloc, input, MOST_BYTES) {
-        Ok(source) => answer(alloc, &line, source.as_slice(), output),
-        Err(ReadFault::Failed) => READ_FAILED,
-        Err(ReadFault::TooLong) => TOO_LONG,
-        Err(ReadFault::Memory) => MEMORY,
-    }
+    text_run(alloc, Ok(read_bench_words(words)), input, output)
 }

@@ -91,6 +91,8 @@ fn read_chosen<C: LexerConfig + Drop>(
 }
 
 /// A pass with a lexer that has read nothing: it counts what is live in the report of a session whose goals are chosen.
+// Each configuration is compiled apart, as it is in a parser, which has one.
+#[inline(never)]
 fn pass_with<C: LexerConfig + Drop>(
     alloc: Global,
     mut lexer: Lexer<'_, C>,

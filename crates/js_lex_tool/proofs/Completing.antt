@@ -43,15 +43,15 @@ pub completes : (task : Task) (input input_new : InputState) (output output_new 
     → ¬ (Rises input.faults input_new.faults) → ¬ (Rises output.faults output_new.faults)
     → IsOneOf (Done ∷ OutOfMemory ∷ []) outcome.status
 completes (Lex line) input input_new output output_new outcome runs can no_read_fault no_write_fault =
-    let took : Consumes (Some can.bytes) input_new.left runs.bytes = rw can.left_is at runs.read in
-    let few = taken_few can.bytes runs.bytes input_new.left took in
+    let took : Consumes (Some can.input.bytes) input_new.left runs.bytes = rw can.input.left_is at runs.read in
+    let few = taken_few can.input.bytes runs.bytes input_new.left took in
     elim runs.ends [
       | inl gave ↦ one_left outcome.status gave.known (λ e. no_read_fault (runs.faults.rises e))
-          (λ e. omega (arith, few, can.few, (runs.long (λ other. omega (arith, e, other))).0 e))
+          (λ e. omega (arith, few, can.input.few, (runs.long (λ other. omega (arith, e, other))).0 e))
       | inr answers ↦
-          let all = all_taken can.bytes runs.bytes input_new.left took answers.0 in
+          let all = all_taken can.input.bytes runs.bytes input_new.left took answers.0 in
           let a = rw all at answers.1 in
-          two_left outcome.status a.known (λ e. no_write_fault (a.faults.rises e)) (λ e. a.utf8.fails e can.utf8)
+          two_left outcome.status a.known (λ e. no_write_fault (a.faults.rises e)) (λ e. a.utf8.fails e can.input.utf8)
           (λ e. a.marks.fails e can.marks)
     ]
 completes (Generate lines) input input_new output output_new outcome runs can no_read_fault no_write_fault =

@@ -1,5 +1,6 @@
 -- What a text has to be for a count to be read from it.
-use Rattle.std.proofs.Common.{◌≡◌, ℕ, ◌<◌, ◌≤◌, ◌^◌, ◌&&◌, Bool, true, false, List, length, get_or, zero, suc, arith}
+use Rattle.std.proofs.Common.{◌≡◌, ℕ, ◌<◌, ◌≤◌, ◌^◌, ◌&&◌, Bool, true, false, List, [], ◌∷◌, length}
+use Rattle.std.proofs.Common.{get_or, zero, suc, arith}
 use Rattle.std.proofs.Common.{refl, sym, ap, ◌∙◌, None, Some, Ok, Err, Result, nat_lt, nat_le, if◌then◌else◌}
 use Rattle.std.specs.Fmt.{decimal}
 use Rattle.std.specs.Str.{bytes_eq}
@@ -10,7 +11,7 @@ use Rattle.std.proofs.lemmas.Fmt.{digits_value-decimal, decimal-digits_value, de
 use Rattle.std.proofs.lemmas.Fmt.{parse-decimal}
 use Rattle.std.proofs.lemmas.Slice.Eq.{bytes_eq-Decides}
 use Rattle.std.proofs.lemmas.Bool.Decides.{nat_tests}
-use Rattle.js_lex_tool.specs.Words.{count_in}
+use Rattle.js_lex_tool.specs.Words.{count_in, number_in}
 
 -- std's own digits and their value
 pub numerals : IsNumeralModel (AllDigits 10) (digits_value 10)
@@ -80,3 +81,31 @@ count_in-parsed most text r zero bounded is parses first few =
     absurd (omega (arith, ap (λ ds. get_or ds 0 0) zero_text))
 count_in-parsed most text r (suc n) bounded is parses first few =
     count_in-decimal most text (suc n) bounded (decimal_from_parse text r (suc n) is parses first) (omega arith) few
+
+zero_text : decimal 0 ≡ 48 ∷ []
+zero_text = decimal_digit 0 (omega arith)
+
+with_zero : (most : ℕ) (text : List ℕ) (n : ℕ) → n ≡ 0 → text ≡ decimal 0
+    → (if bytes_eq text (decimal n) && nat_le n most then Some n else None) ≡ Some 0
+with_zero most text n value is = rw (value, (bytes_eq-Decides text (decimal 0)).1 is) (grind (arith, nat_tests))
+
+-- `0` is a number.
+pub number_in-zero : (most : ℕ) → number_in most (48 ∷ []) ≡ Some 0
+number_in-zero most = with_zero most (48 ∷ []) (digits_value 10 (48 ∷ [])) refl (sym zero_text)
+
+none_but : (most n : ℕ) (same : Bool) → (same ≡ true → ⊥) → (if same && nat_le n most then Some n else None) ≡ None
+none_but most n false h = refl
+none_but most n true h = absurd (h refl)
+
+-- Any other number is a count.
+pub number_in-count : (most : ℕ) (text : List ℕ) → (text ≡ 48 ∷ [] → ⊥) → count_in most text ≡ number_in most text
+number_in-count most text other = by_value (digits_value 10 text)
+  where
+    by_value : (n : ℕ) → (if bytes_eq text (decimal n) && (nat_lt 0 n && nat_le n most) then Some n else None)
+        ≡ (if bytes_eq text (decimal n) && nat_le n most then Some n else None)
+    by_value zero =
+        none_unless most (bytes_eq text (decimal 0)) 0 (λ same low high. omega (arith, low))
+        ∙ sym
+        (none_but most 0 (bytes_eq text (decimal 0))
+        (λ same. other ((bytes_eq-Decides text (decimal 0)).0 same ∙ zero_text)))
+    by_value (suc n) = let some : nat_lt 0 (suc n) ≡ true = grind (arith, nat_tests) in rw some refl

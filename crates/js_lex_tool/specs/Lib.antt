@@ -7,5 +7,6 @@ pub mod Program
 pub mod ReportText
 pub mod Run
 pub mod Status
+pub mod TextRun
 pub mod Units
 pub mod Words

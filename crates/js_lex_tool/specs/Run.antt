@@ -144,13 +144,17 @@ RunsTask (Lex line) input input_new output output_new outcome =
 RunsTask (Generate lines) input input_new output output_new outcome =
     RunsGenerated lines input input_new output output_new outcome
 
--- A command line can be run: its commands close no mark too many, and the bytes of the input are few enough and UTF-8.
-pub record CanRunLine (line : CommandLine) (left : Option (List ℕ)) : Type 0 where
-  pub marks : HasMarks (listed_commands line.commands)
+-- An input can be read: the bytes that are left of it are known, few enough, and UTF-8.
+pub record CanBeRead (left : Option (List ℕ)) : Type 0 where
   pub bytes : List ℕ
   pub left_is : left ≡ Some bytes
   pub few : length bytes ≤ most_bytes
   pub utf8 : IsUtf8 bytes
+
+-- A command line can be run: its commands close no mark too many, and the input can be read.
+pub record CanRunLine (line : CommandLine) (left : Option (List ℕ)) : Type 0 where
+  pub marks : HasMarks (listed_commands line.commands)
+  pub input : CanBeRead left
 
 -- A run can only be done, or out of memory, if neither the input nor the output fails: the words ask for generated
 -- lines, whatever the input is, or for a command line that can be run.

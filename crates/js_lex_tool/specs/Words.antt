@@ -46,6 +46,11 @@ count_in most text =
     let n = digits_value 10 text in
     if bytes_eq text (decimal n) && (nat_lt 0 n && nat_le n most) then Some n else None
 
+-- the number from 0 to the most that the text is in decimal, with no sign and no leading zero
+abbrev pub number_in : ℕ → List ℕ → Option ℕ
+number_in most text =
+    let n = digits_value 10 text in if bytes_eq text (decimal n) && nat_le n most then Some n else None
+
 abbrev pub is_star : ℕ → Bool
 is_star c = c == 42
 

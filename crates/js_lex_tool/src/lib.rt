@@ -15,6 +15,7 @@ mod report;
 pub mod status;
 mod std_streams;
 pub mod system;
+mod text_maker;
 mod tool;
 mod units;
 mod words;
@@ -31,7 +32,9 @@ pub use read_all::{MOST_BYTES, ReadFault, read_to_end};
 pub use report::report_text;
 pub use status::{StatusLine, line_for, status_line};
 pub use std_streams::{StdIn, StdOut};
+pub use text_maker::{TextMaker, text_run};
 pub use tool::{Ran, ToolOutcome, lex_tool_run, lex_tool_run_sure};
 pub use words::{
-    CommandLine, Commands, Task, parse_count, parse_source_type, parse_tokens, read_words,
+    CommandLine, Commands, Task, parse_count, parse_number, parse_source_type, parse_tokens,
+    read_listed, read_words,
 };

@@ -177,7 +177,8 @@ fn push_token_line(text: &mut String, label: &str, token: &Token) -> Result<(), 
 }
 
 fn push_tokens(text: &mut String, label: &str, tokens: &[Token]) -> Result<(), AllocError>
-    ensures { OnOk result (string_bytes text.new ≡ string_bytes text.old ++ flat_map (token_line label.now) tokens.now) }
+    ensures { OnOk result (string_bytes text.new
+        ≡ string_bytes text.old ++ flat_map (token_line label.now) tokens.now) }
 {
     for token in tokens {
         push_token_line(text, label, token)?;

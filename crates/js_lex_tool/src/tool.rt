@@ -22,9 +22,9 @@ use crate::memory_out::SureOut;
 use crate::outside::{ByteIn, ByteOut};
 use crate::read_all::{MOST_BYTES, ReadFault, read_to_end};
 use crate::report::report_text;
-use crate::status::{DONE, MEMORY, NO_MARK, NOT_UTF8, READ_FAILED, TOO_LONG, USAGE, WRITE_FAILED};
+use crate::status::{MEMORY, NO_MARK, NOT_UTF8, READ_FAILED, TOO_LONG, USAGE};
 use crate::words::{CommandLine, Commands, Task, push_repeated, read_words};
-use crate::write_all::{WriteFault, write_all};
+use crate::write_all::write_status;
 use js_auto::{Auto, auto_session};
 use js_session::{Command, CommandList, LexFault, Report, lex_all, lex_session};
 use js_text::{ByteList, SourceType};
@@ -96,20 +96,6 @@ fn summary_of(alloc: Global, lines: u32, ran: &Ran) -> Result<String, AllocError
     ensures { IfOk result (λ text. string_bytes text ≡ gen_summary lines (length ran.now.source) ran.now.report) }
 {
     gen_summary(alloc, lines, ran.source.len() as u32, &ran.report)
-}
-
-/// Writes a text, and gives the status that this leads to.
-fn write_status<O: ByteOut>(text: &str, output: &mut O) -> u8
-    ensures status { (result ≡ number OutOfMemory) ⊎ HasPassed NoMark result }
-    ensures text { Writes text.now (O.state output.old) (O.state output.new) result }
-    ensures faults { CountsFault WriteFailed result (O.state output.old).faults (O.state output.new).faults }
-    ensures in_time { InTime (O.state output.old).course (O.state output.new).course }
-{
-    match write_all(output, text.as_bytes()) {
-        Ok(()) => DONE,
-        Err(WriteFault::Memory) => MEMORY,
-        Err(WriteFault::Failed) => WRITE_FAILED,
-    }
 }
 
 /// The outcome of a run behind the writing of its text.

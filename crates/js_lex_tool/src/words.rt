@@ -2,7 +2,7 @@
 
 ghost use Rattle.std.specs.Prelude.{◌≡◌, ◌≤◌, ◌++◌, IfOk, IfSome, OnOk, map, replicate, string_bytes};
 ghost use Rattle.js_lex_tool.specs.Generated.{most_lines};
-ghost use Rattle.js_lex_tool.specs.Words.{entry_for, source_type_words, tokens_words, command_of, count_in};
+ghost use Rattle.js_lex_tool.specs.Words.{entry_for, source_type_words, tokens_words, command_of, count_in, number_in};
 ghost use Rattle.js_lex_tool.specs.Words.{repeated_command, allowed_commands_in, is_alone, commands_meant};
 ghost use Rattle.js_lex_tool.specs.Words.{command_line_in, lines_in, task_of, IsAllowed};
 
@@ -89,6 +89,16 @@ pub fn parse_count(digits: &str, most: usize) -> Option<usize>
     if count <= most { Some(count) } else { None }
 }
 
+/// A number from 0 to `most`, in decimal, without sign or leading zero.
+pub fn parse_number(digits: &str, most: usize) -> Option<usize>
+    ensures { result ≡ number_in most digits.now }
+{
+    match digits {
+        "0" => Some(0),
+        _ => parse_count(digits, most),
+    }
+}
+
 /// A command word: its command, and how often it is meant.
 fn parse_repeated(word: &str) -> Option<(Command, usize)>
     ensures { result ≡ repeated_command word.now }
@@ -114,7 +124,7 @@ pub(crate) fn push_repeated(
 }
 
 /// The commands that command words mean. None: they are not valid.
-fn read_listed(alloc: Global, words: &[String]) -> Result<Option<CommandList>, AllocError>
+pub fn read_listed(alloc: Global, words: &[String]) -> Result<Option<CommandList>, AllocError>
     ensures { IfOk result (λ commands. commands ≡ allowed_commands_in (map string_bytes words.now)) }
 {
     let mut commands = CommandList::new_in(alloc);

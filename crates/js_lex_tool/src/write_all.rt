@@ -1,9 +1,13 @@
 //! Writing a text to an output.
 
-ghost use Rattle.std.specs.Prelude.{◌≡◌, OnOk, OnErr, IsErrOf};
-ghost use Rattle.js_lex_tool.specs.Outside.{Rises, WritesAll, WritesPrefix, StaysOpen, Closes};
+ghost use Rattle.std.specs.Prelude.{◌≡◌, ◌⊎◌, OnOk, OnErr, IsErrOf};
+ghost use Rattle.js_lex_tool.specs.Outside.{Rises, WritesAll, WritesPrefix, StaysOpen, Closes, InTime};
+ghost use Rattle.js_lex_tool.specs.Run.{CountsFault, Writes};
+ghost use Rattle.js_lex_tool.specs.Status.{number, HasPassed};
+ghost use Rattle.js_lex_tool.specs.Status.Status.{OutOfMemory, WriteFailed, NoMark};
 
 use crate::outside::{ByteOut, FlushAnswer, OutAnswer};
+use crate::status::{DONE, MEMORY, WRITE_FAILED};
 
 /// Why a text was not written.
 #[derive(Clone, Copy, PartialEq, Eq, Debug)]
@@ -34,5 +38,19 @@ pub fn write_all<O: ByteOut>(output: &mut O, text: &[u8]) -> Result<(), WriteFau
     match output.flush() {
         FlushAnswer::Done => Ok(()),
         FlushAnswer::Failed => Err(WriteFault::Failed),
+    }
+}
+
+/// Writes a text, and gives the status that this leads to.
+pub(crate) fn write_status<O: ByteOut>(text: &str, output: &mut O) -> u8
+    ensures status { (result ≡ number OutOfMemory) ⊎ HasPassed NoMark result }
+    ensures text { Writes text.now (O.state output.old) (O.state output.new) result }
+    ensures faults { CountsFault WriteFailed result (O.state output.old).faults (O.state output.new).faults }
+    ensures in_time { InTime (O.state output.old).course (O.state output.new).course }
+{
+    match write_all(output, text.as_bytes()) {
+        Ok(()) => DONE,
+        Err(WriteFault::Memory) => MEMORY,
+        Err(WriteFault::Failed) => WRITE_FAILED,
     }
 }

@@ -20,5 +20,6 @@ returns-then-count-most c =
     let some : result_ok c.parse.result ≡ Some c.in_ok-count.count = sym c.ok.ensures.value ∙ c.in_ok-count.was in
     let first = c.in_ok-first.ensures.item.3.1 0 in
     let at : c.in_ok-first.first.now ≡ get_or c.args.digits.now 0 0 = rw c.as_bytes.ensures.value at first in
-    sym (count_in-parsed c.args.most c.args.digits.now c.parse.result c.in_ok-count.count (omega arith) some c.parse.ensures.value.0
-    (omega arith) c.if-count-most.true)
+    sym
+    (count_in-parsed c.args.most c.args.digits.now c.parse.result c.in_ok-count.count (omega arith) some
+    c.parse.ensures.value.0 (omega arith) c.if-count-most.true)

@@ -1,0 +1,51 @@
+//! The program, from its words on.
+
+ghost use Rattle.std.specs.Process.{exit_status};
+ghost use Rattle.js_lex_tool.specs.Exit.{Tells};
+ghost use Rattle.js_lex_tool.specs.Status.{line_for};
+ghost use Rattle.js_edit.specs.Run.{RunsWords};
+
+use crate::edit::edit_run;
+use js_lex_tool::{ByteIn, ByteOut, end_program, status_without_words};
+use std::alloc::Global;
+use std::io;
+use std::process::ExitCode;
+
+/// The name of the program.
+const PROGRAM: &str = "js_edit";
+
+/// What it prints where its arguments are not valid.
+const USAGE_LINE: &str =
+    "usage: js_edit module|script|unambiguous START END TEXT COMMAND[*N].. [-- COMMAND[*N]..]";
+
+/// The status of a run of these words, or of none for want of them.
+fn program_status<I: ByteIn, O: ByteOut>(
+    alloc: Global,
+    words: io::Result<Vec<String>>,
+    input: &mut I,
+    output: &mut O,
+) -> u8
+    ensures { RunsWords words (I.state input.old) (I.state input.new) (O.state output.old) (O.state output.new) result }
+{
+    match words {
+        Ok(words) => edit_run(alloc, &words, input, output),
+        Err(error) => status_without_words(&error),
+    }
+}
+
+/// The program, from its words on: runs them, and ends with the status of the run. Its line is written to `errors`.
+pub fn edit_program<I: ByteIn, O: ByteOut, E: ByteOut>(
+    alloc: Global,
+    words: io::Result<Vec<String>>,
+    input: &mut I,
+    output: &mut O,
+    errors: &mut E,
+) -> ExitCode
+    ensures run { RunsWords words (I.state input.old) (I.state input.new) (O.state output.old) (O.state output.new)
+        (exit_status result) }
+    ensures line { Tells (line_for PROGRAM.now USAGE_LINE.now (exit_status result))
+        (E.state errors.old) (E.state errors.new) }
+{
+    let status = program_status(alloc, words, input, output);
+    end_program(PROGRAM, USAGE_LINE, status, errors)
+}
