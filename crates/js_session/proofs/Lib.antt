@@ -7,11 +7,13 @@ pub mod LocalRows
 pub mod LastingRuns
 pub mod LocalRuns
 pub mod MarkLemmas
+pub mod MovedRuns
 pub mod PlaceLemmas
 pub mod ReadLemmas
 pub mod RunLemmas
 pub mod RunsOn
 pub mod SelfLemmas
+pub mod ShiftedRows
 pub mod StepLemmas
 pub mod Unique
 pub mod WholeLemmas

@@ -35,7 +35,7 @@ use Rattle.js_session.specs.Report.{IsNotTaken, IsOfEffect, IsRead, IsReLexed, I
 use Rattle.js_session.proofs.ReadLemmas.{value_lies}
 
 -- the place from which a reading behind the last token begins
-begins_at : (text : List ℕ) (goal : Goal) (last : Option TokenParts) → IsUtf8 text → IfSome last (IsOnPlaces text)
+pub begins_at : (text : List ℕ) (goal : Goal) (last : Option TokenParts) → IsUtf8 text → IfSome last (IsOnPlaces text)
     → IsCharBoundary text (reads_from goal last (token_or_default last).end)
 begins_at text goal None u lies = IsCharBoundary-start text u
 begins_at text goal (Some token) u lies = by_flag (is_onward goal)
@@ -45,7 +45,7 @@ begins_at text goal (Some token) u lies = by_flag (is_onward goal)
     by_flag false = lies.start
 
 -- and one of a token that is read again
-again_at : (text : List ℕ) (goal : Goal) (last : Option TokenParts) → IsUtf8 text → IfSome last (IsOnPlaces text)
+pub again_at : (text : List ℕ) (goal : Goal) (last : Option TokenParts) → IsUtf8 text → IfSome last (IsOnPlaces text)
     → IsCharBoundary text (reads_from goal last (token_or_default last).start)
 again_at text goal None u lies = IsCharBoundary-start text u
 again_at text goal (Some token) u lies = by_flag (is_onward goal)
@@ -55,7 +55,7 @@ again_at text goal (Some token) u lies = by_flag (is_onward goal)
     by_flag false = lies.start
 
 -- the row of a reading lies on places of its text
-read_lies : (text : List ℕ) (t : SourceType) (goal : Goal) (last : Option TokenParts) (place : ℕ) (row : Row)
+pub read_lies : (text : List ℕ) (t : SourceType) (goal : Goal) (last : Option TokenParts) (place : ℕ) (row : Row)
     → IsUtf8 text → GoalReads text t goal last place (outcome_of row) → LiesOnPlaces text row
 read_lies text t goal last place row u read =
     let o = outcome_of row in
@@ -147,9 +147,9 @@ again_local front rest other t now goal row both lies room is = record {
 }
 
 -- What a row gives, with where it lies.
-record GivesAndLies (text : List ℕ) (t : SourceType) (now : Live) (effect : Effect) (row : Row) : Type 0 where
-  gives : IsOfEffect text t now effect row
-  lies : LiesOnPlaces text row
+pub record GivesAndLies (text : List ℕ) (t : SourceType) (now : Live) (effect : Effect) (row : Row) : Type 0 where
+  pub gives : IsOfEffect text t now effect row
+  pub lies : LiesOnPlaces text row
 
 re_lex_local : (front rest other : List ℕ) (t : SourceType) (now : Live) (goal : Goal) (row : Row)
     → SameFront front rest other → IfSome (last_live now) (IsOnPlaces (front ++ rest))

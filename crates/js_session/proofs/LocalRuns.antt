@@ -159,4 +159,5 @@ run_of_last text t a b token (c ∷ cs) (row ∷ rows) steps here there run =
     let both = rw step.0 at run in
     run_step text t b c cs row rows step.0 (row_of_last text t a.now b.now (Some c) row (there ∙ sym here) both.0)
     (run_of_last text t (after_row (effect_of c) row a) (after_row (effect_of c) row b)
-    (last_of (effect_of c) row token) cs rows step.1 (last_behind (effect_of c) row a token here) (last_behind (effect_of c) row b token there) both.1)
+    (last_of (effect_of c) row token) cs rows step.1 (last_behind (effect_of c) row a token here)
+    (last_behind (effect_of c) row b token there) both.1)

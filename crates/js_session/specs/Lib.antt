@@ -2,7 +2,9 @@ pub mod Effects
 pub mod Faults
 pub mod Live
 pub mod Marks
+pub mod Moved
 pub mod Report
 pub mod RowReader
 pub mod Session
+pub mod Shifted
 pub mod WholeSource

@@ -1,7 +1,7 @@
 //! Laws of the definitions alone: each function carries one for all arguments, and does nothing.
 
 ghost use Rattle.std.specs.Prelude.{◌≡◌, ◌<◌, ◌≤◌, ◌+◌, ◌^◌, ◌++◌, ◌∷◌, [], ℕ, length, Bool, true, List, Option, Some};
-ghost use Rattle.std.specs.Prelude.{IfSome};
+ghost use Rattle.std.specs.Prelude.{IfSome, map};
 ghost use Rattle.std.specs.List.{AllByRecursion, list_all};
 ghost use Rattle.std.specs.Str.{IsUtf8};
 ghost use Rattle.js_text.specs.declared.source_type.SourceType.{SourceType};
@@ -11,10 +11,12 @@ ghost use Rattle.js_session.specs.declared.row.Row.{Row};
 ghost use Rattle.js_session.specs.Effects.{is_lasting, is_step, opens_one};
 ghost use Rattle.js_lexer.specs.Lexer.{IsOnPlaces};
 ghost use Rattle.js_session.specs.Live.{Live, State, last_live, outcome_of};
+ghost use Rattle.js_session.specs.Moved.{StandBehind, moved_row};
 ghost use Rattle.js_session.specs.Report.{AreRows, IsRow, HasMark, ReportOf, Run};
 ghost use Rattle.js_session.specs.Session.{SessionState, Begins, Follows, HasRun, HasRunFrom, MayResume, last_token};
 ghost use Rattle.js_session.specs.Session.{report_of, resumed};
 ghost use Rattle.js_kind.specs.TokenParts.{TokenParts};
+ghost use Rattle.js_session.specs.Shifted.{shifted_row, shifted_token};
 ghost use Rattle.js_session.specs.WholeSource.{nexts, IsEof, ReportOfWhole};
 
 use crate::command::Command;
@@ -118,6 +120,30 @@ pub fn a_run_depends_on_the_last_token()
     ensures { (text : List ℕ) (t : SourceType) (a b : State) (token : TokenParts) (commands : List Command)
         (rows : List Row) → list_all is_step commands ≡ true → last_live a.now ≡ Some token
         → last_live b.now ≡ Some token → Run text t a commands rows → Run text t b commands rows }
+{}
+
+/// A run from where a token is the last live one is, moved, a run from where the token stands behind something more;
+/// and each run from there is one of the text alone, moved.
+pub fn a_run_moves_with_its_text()
+    ensures forward { (front text : List ℕ) (t : SourceType) (token : TokenParts) (a b : State)
+        (commands : List Command) (rows : List Row) → list_all is_lasting commands ≡ true
+        → StandBehind front text token a.now b.now → Run text t a commands rows
+        → Run (front ++ text) t b commands (map (moved_row (length front)) rows) }
+    ensures back { (front text : List ℕ) (t : SourceType) (token : TokenParts) (a b : State)
+        (commands : List Command) (rows : List Row) → list_all is_lasting commands ≡ true
+        → StandBehind front text token a.now b.now → Run (front ++ text) t b commands rows
+        → (own : List Row) × (rows ≡ map (moved_row (length front)) own) × Run text t a commands own }
+{}
+
+/// A run from behind a token that starts behind a front of its text is one from behind the same token where another
+/// front stands in the place of that one, with each place shifted.
+pub fn a_run_is_taken_over()
+    ensures { (before after rest : List ℕ) (t : SourceType) (token : TokenParts) (a b : State)
+        (commands : List Command) (rows : List Row) → IsUtf8 rest → IsUtf8 (before ++ rest) → IsUtf8 (after ++ rest)
+        → length before ≤ token.start → IsOnPlaces (before ++ rest) token → last_live a.now ≡ Some token
+        → last_live b.now ≡ Some (shifted_token (length before) (length after) token)
+        → list_all is_lasting commands ≡ true → Run (before ++ rest) t a commands rows
+        → Run (after ++ rest) t b commands (map (shifted_row (length before) (length after)) rows) }
 {}
 
 /// A session may go on behind rows that stay.

@@ -13,6 +13,7 @@ mod report;
 mod row;
 mod row_list;
 mod session;
+mod shift;
 mod steps;
 mod whole_source;
 
@@ -25,5 +26,6 @@ pub use report::Report;
 pub use row::Row;
 pub use row_list::RowList;
 pub use session::Session;
+pub use shift::Shift;
 pub use steps::Steps;
 pub use whole_source::lex_all;

@@ -8,3 +8,5 @@ mod chosen;
 mod driven;
 #[cfg(test)]
 mod rows;
+#[cfg(test)]
+mod shifted;

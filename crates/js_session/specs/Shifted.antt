@@ -1,0 +1,84 @@
+-- Rows whose places are shifted: what stood from one place on stands from another one on.
+use Rattle.std.specs.Prelude.{ℕ, ◌+◌, ◌-◌, map, Option, Some, None}
+use Rattle.std.specs.Option.{option_map}
+use Rattle.js_text.specs.Diagnostic.{diagnostic_span}
+use Rattle.js_text.specs.declared.comment.Comment.{Comment}
+use Rattle.js_text.specs.declared.diagnostic.Diagnostic.{Diagnostic}
+use Rattle.js_text.specs.declared.diagnostic.Diagnostic.TheVariants.{InvalidCharacter, UnexpectedEnd}
+use Rattle.js_text.specs.declared.diagnostic.Diagnostic.TheVariants.{FileAppearsToBeBinary, InvalidNumberEnd}
+use Rattle.js_text.specs.declared.diagnostic.Diagnostic.TheVariants.{UnterminatedString, UnterminatedMultiLineComment}
+use Rattle.js_text.specs.declared.diagnostic.Diagnostic.TheVariants.{UnterminatedRegExp, UnicodeEscapeSequence}
+use Rattle.js_text.specs.declared.diagnostic.Diagnostic.TheVariants.{InvalidEscapeSequence, RegExpFlag, RegExpFlagTwice}
+use Rattle.js_text.specs.declared.diagnostic.Diagnostic.TheVariants.{UnexpectedJsxEnd, HtmlCommentInModule}
+use Rattle.js_text.specs.declared.reg_exp_flags.RegexInfo.{RegexInfo}
+use Rattle.js_text.specs.declared.span.Span.{Span}
+use Rattle.js_text.specs.declared.value.RowValue.{RowValue}
+use Rattle.js_text.specs.declared.value.RowValue.TheVariants.{Nothing, Slice, Units, Bad}
+use Rattle.js_kind.specs.TokenParts.{TokenParts}
+use Rattle.js_session.specs.declared.row.Row.{Row}
+
+-- a place, where what stood from one place on stands from another one on
+abbrev pub shifted : ℕ → ℕ → ℕ → ℕ
+shifted from to place = place - from + to
+
+abbrev pub shifted_span : ℕ → ℕ → Span → Span
+shifted_span from to span = record { start = shifted from to span.start; end = shifted from to span.end }
+
+-- the same diagnostic, about another stretch
+abbrev pub with_span : Diagnostic → Span → Diagnostic
+with_span (InvalidCharacter c s) span = InvalidCharacter c span
+with_span (UnexpectedEnd s) span = UnexpectedEnd span
+with_span FileAppearsToBeBinary span = FileAppearsToBeBinary
+with_span (InvalidNumberEnd s) span = InvalidNumberEnd span
+with_span (UnterminatedString s) span = UnterminatedString span
+with_span (UnterminatedMultiLineComment s) span = UnterminatedMultiLineComment span
+with_span (UnterminatedRegExp s) span = UnterminatedRegExp span
+with_span (UnicodeEscapeSequence s) span = UnicodeEscapeSequence span
+with_span (InvalidEscapeSequence s) span = InvalidEscapeSequence span
+with_span (RegExpFlag c s) span = RegExpFlag c span
+with_span (RegExpFlagTwice c s) span = RegExpFlagTwice c span
+with_span (UnexpectedJsxEnd c s) span = UnexpectedJsxEnd c span
+with_span (HtmlCommentInModule s) span = HtmlCommentInModule span
+
+-- the diagnostic with its stretch shifted, if it has one
+abbrev pub with_shifted : ℕ → ℕ → Diagnostic → Option Span → Diagnostic
+with_shifted from to diagnostic None = diagnostic
+with_shifted from to diagnostic (Some span) = with_span diagnostic (shifted_span from to span)
+
+abbrev pub shifted_diagnostic : ℕ → ℕ → Diagnostic → Diagnostic
+shifted_diagnostic from to diagnostic = with_shifted from to diagnostic (diagnostic_span diagnostic)
+
+abbrev pub shifted_comment : ℕ → ℕ → Comment → Comment
+shifted_comment from to comment = record comment {
+  span = shifted_span from to comment.span;
+  attached_to = shifted from to comment.attached_to;
+}
+
+abbrev pub shifted_value : ℕ → ℕ → RowValue → RowValue
+shifted_value from to Nothing = Nothing
+shifted_value from to (Slice span) = Slice (shifted_span from to span)
+shifted_value from to (Units units) = Units units
+shifted_value from to Bad = Bad
+
+abbrev pub shifted_regex : ℕ → ℕ → RegexInfo → RegexInfo
+shifted_regex from to info = record info { pattern_end = shifted from to info.pattern_end }
+
+abbrev pub shifted_token : ℕ → ℕ → TokenParts → TokenParts
+shifted_token from to token =
+    record token { start = shifted from to token.start; end = shifted from to token.end }
+
+-- the row with each of its places shifted
+abbrev pub shifted_row : ℕ → ℕ → Row → Row
+shifted_row from to row = record {
+  command = row.command;
+  place = shifted from to row.place;
+  taken = row.taken;
+  token = shifted_token from to row.token;
+  value = shifted_value from to row.value;
+  regex = option_map (shifted_regex from to) row.regex;
+  diagnostics = map (shifted_diagnostic from to) row.diagnostics;
+  deferred = map (shifted_diagnostic from to) row.deferred;
+  comments = map (shifted_comment from to) row.comments;
+  irregular = map (shifted_span from to) row.irregular;
+  warnings = map (shifted_span from to) row.warnings;
+}
