@@ -1,8 +1,10 @@
 -- A run behind a change of its text is taken over, with its places shifted.
 use Rattle.std.proofs.Common.{◌≡◌, ℕ, ◌+◌, ◌-◌, ◌≤◌, true, List, [], ◌∷◌, ◌++◌, length, map, refl, sym, ◌∙◌, ap, subst}
 use Rattle.std.proofs.Common.{arith, length-append, Option, None, Some}
-use Rattle.std.specs.List.{list_all}
+use Rattle.std.proofs.lemmas.List.Elements.{All-map}
+use Rattle.std.specs.List.{All, AllByRecursion, list_all}
 use Rattle.std.specs.Option.{option_map}
+use Rattle.std.specs.Prelude.{slice_index_or}
 use Rattle.std.specs.Str.{IsCharBoundary, IsUtf8}
 use Rattle.js_text.specs.declared.comment.Comment.{Comment}
 use Rattle.js_text.specs.declared.diagnostic.Diagnostic.{Diagnostic}
@@ -18,18 +20,20 @@ use Rattle.js_text.specs.declared.span.Span.{Span}
 use Rattle.js_text.specs.declared.value.RowValue.{RowValue}
 use Rattle.js_text.specs.declared.value.RowValue.TheVariants.{Nothing, Slice, Units, Bad}
 use Rattle.js_kind.specs.TokenParts.{TokenParts}
-use Rattle.js_grammar.specs.Moved.{moved_comment, moved_token}
+use Rattle.js_grammar.specs.Moved.{moved_comment, moved_findings, moved_token}
+use Rattle.js_grammar.specs.Outcome.{Findings}
 use Rattle.js_grammar.specs.Reading.{moved_diagnostic, moved_regex, moved_span, moved_value}
 use Rattle.js_lexer.specs.Lexer.{IsOnPlaces}
 use Rattle.js_session.specs.declared.command.Command.{Command}
 use Rattle.js_session.specs.declared.row.Row.{Row}
 use Rattle.js_session.specs.Effects.{is_lasting}
-use Rattle.js_session.specs.Live.{State, last_live}
+use Rattle.js_session.specs.Live.{State, last_live, row_findings}
 use Rattle.js_session.specs.Moved.{moved_row}
 use Rattle.js_session.specs.Report.{Run}
 use Rattle.js_session.specs.Session.{state_behind}
 use Rattle.js_session.specs.Shifted.{shifted, shifted_comment, shifted_diagnostic, shifted_regex, shifted_row}
 use Rattle.js_session.specs.Shifted.{shifted_span, shifted_token, shifted_value}
+use Rattle.js_session.specs.Shifted.{OfComment, OfDiagnostic, OfEachPlace, OfFindings, OfRegex, OfSpan, OfValue}
 use Rattle.js_session.proofs.MovedRuns.{behind_byte, run_back, run_forward}
 
 module _ (from to : ℕ) where
@@ -96,6 +100,77 @@ module _ (from to : ℕ) where
     warnings = each_on (shifted_span from to) (moved_span from) (moved_span to) span_on row.warnings j;
   }
 
+  rows_on : (rows : List Row) → map (shifted_row from to) (map (moved_row from) rows) ≡ map (moved_row to) rows
+  rows_on rows = each_on (shifted_row from to) (moved_row from) (moved_row to) row_on rows
+
+-- what is moved by so many bytes has each of its places there or behind it
+module _ (by : ℕ) where
+  abbrev Behind : ℕ → Type 0
+  Behind place = by ≤ place
+
+  place_behind : (place : ℕ) → Behind (by + place)
+  place_behind place = omega arith
+
+  span_behind : (span : Span) → OfSpan Behind (moved_span by span)
+  span_behind span = record { start = place_behind span.start; end = place_behind span.end }
+
+  diagnostic_behind : (d : Diagnostic) → OfDiagnostic Behind (moved_diagnostic by d)
+  diagnostic_behind (InvalidCharacter c s) = span_behind s
+  diagnostic_behind (UnexpectedEnd s) = span_behind s
+  diagnostic_behind FileAppearsToBeBinary = tt
+  diagnostic_behind (InvalidNumberEnd s) = span_behind s
+  diagnostic_behind (UnterminatedString s) = span_behind s
+  diagnostic_behind (UnterminatedMultiLineComment s) = span_behind s
+  diagnostic_behind (UnterminatedRegExp s) = span_behind s
+  diagnostic_behind (UnicodeEscapeSequence s) = span_behind s
+  diagnostic_behind (InvalidEscapeSequence s) = span_behind s
+  diagnostic_behind (RegExpFlag c s) = span_behind s
+  diagnostic_behind (RegExpFlagTwice c s) = span_behind s
+  diagnostic_behind (UnexpectedJsxEnd c s) = span_behind s
+  diagnostic_behind (HtmlCommentInModule s) = span_behind s
+
+  comment_behind : (c : Comment) → OfComment Behind (moved_comment by c)
+  comment_behind c = record { span = span_behind c.span; attached_to = place_behind c.attached_to }
+
+  value_behind : (v : RowValue) → OfValue Behind (moved_value by v)
+  value_behind Nothing = tt
+  value_behind (Slice span) = span_behind span
+  value_behind (Units units) = tt
+  value_behind Bad = tt
+
+  regex_behind : (r : Option RegexInfo) → OfRegex Behind (option_map (moved_regex by) r)
+  regex_behind None = tt
+  regex_behind (Some info) = place_behind info.pattern_end
+
+  each_behind : {A : Type 0} (P : A → Type 0) (f : A → A) → ((x : A) → P (f x)) → (xs : List A) → All P (map f xs)
+  each_behind P f holds xs = All-map P f xs (λ k d less. holds (slice_index_or xs k d))
+
+  diagnostics_behind : (ds : List Diagnostic) → All (OfDiagnostic Behind) (map (moved_diagnostic by) ds)
+  diagnostics_behind ds = each_behind (OfDiagnostic Behind) (moved_diagnostic by) diagnostic_behind ds
+
+  found_behind : (found : Findings) → OfFindings Behind (moved_findings by found)
+  found_behind found = record {
+    diagnostics = diagnostics_behind found.diagnostics;
+    deferred = diagnostics_behind found.deferred;
+    comments = each_behind (OfComment Behind) (moved_comment by) comment_behind found.comments;
+    irregular = each_behind (OfSpan Behind) (moved_span by) span_behind found.irregular;
+    warnings = each_behind (OfSpan Behind) (moved_span by) span_behind found.warnings;
+  }
+
+  rows_behind : (rows : List Row) → AllByRecursion (OfEachPlace Behind) (map (moved_row by) rows)
+  rows_behind [] = tt
+  rows_behind (row ∷ rows) = (
+    record {
+      place = place_behind row.place;
+      start = place_behind row.token.start;
+      end = place_behind row.token.end;
+      value = value_behind row.value;
+      regex = regex_behind row.regex;
+      found = found_behind (row_findings row);
+    },
+    rows_behind rows,
+  )
+
 -- a place behind a front is one of the rest
 boundary_rest : (front rest : List ℕ) (place : ℕ) → IsCharBoundary (front ++ rest) (length front + place)
     → IsCharBoundary rest place
@@ -107,17 +182,23 @@ boundary_rest front rest place b = (
       (b.1 (omega (arith, less, length-append front rest)) (subst (λ (b : ℕ). 128 ≤ b) (sym same) far)),
 )
 
--- A run from behind a token that starts behind a front is one from behind the same token where another front stands in
--- its place, with each place shifted.
-pub run_taken_over : (before after rest : List ℕ) (t : SourceType) (token : TokenParts) (a b : State)
-    (commands : List Command) (rows : List Row) → IsUtf8 rest → IsUtf8 (before ++ rest) → IsUtf8 (after ++ rest)
-    → length before ≤ token.start → IsOnPlaces (before ++ rest) token → last_live a.now ≡ Some token
-    → last_live b.now ≡ Some (shifted_token (length before) (length after) token)
-    → list_all is_lasting commands ≡ true → Run (before ++ rest) t a commands rows
-    → Run (after ++ rest) t b commands (map (shifted_row (length before) (length after)) rows)
-run_taken_over before after rest t token a b commands rows u v w behind lies here there lasting run =
+-- A run from behind a token that starts behind a front is one of the rest alone, moved: the same token starts so many
+-- bytes before.
+record RunsAlone (before rest : List ℕ) (t : SourceType) (token : TokenParts) (commands : List Command)
+    (rows : List Row) : Type 0 where
+  own : TokenParts
+  same : moved_token (length before) own ≡ token
+  lies : IsOnPlaces rest own
+  own_rows : List Row
+  rows_are : rows ≡ map (moved_row (length before)) own_rows
+  runs : Run rest t (state_behind own) commands own_rows
+
+runs_alone : (before rest : List ℕ) (t : SourceType) (token : TokenParts) (a : State) (commands : List Command)
+    (rows : List Row) → IsUtf8 rest → IsUtf8 (before ++ rest) → length before ≤ token.start
+    → IsOnPlaces (before ++ rest) token → last_live a.now ≡ Some token → list_all is_lasting commands ≡ true
+    → Run (before ++ rest) t a commands rows → RunsAlone before rest t token commands rows
+runs_alone before rest t token a commands rows u v behind lies here lasting run =
     let from = length before in
-    let to = length after in
     let own : TokenParts = record token { start = token.start - from; end = token.end - from } in
     let start : from + (token.start - from) ≡ token.start = omega (arith, behind) in
     let end : from + (token.end - from) ≡ token.end = let ordered = lies.ordered in omega (arith, behind, ordered) in
@@ -133,13 +214,45 @@ run_taken_over before after rest t token a b commands rows u v w behind lies her
     let back =
     run_back before rest t own (state_behind own) a commands rows lasting
     (record { utf8 = u; whole_utf8 = v; lies = alone; last_is = refl; moved_last = here ∙ ap Some (sym same) }) run in
-    let on : shifted_token from to token ≡ moved_token to own =
-    ap (shifted_token from to) (sym same) ∙ token_on from to own in
+    record { own = own; same = same; lies = alone; own_rows = back.0; rows_are = back.1; runs = back.2 }
+
+-- A run from behind a token that starts behind a front is one from behind the same token where another front stands in
+-- its place, with each place shifted.
+pub run_taken_over : (before after rest : List ℕ) (t : SourceType) (token : TokenParts) (a b : State)
+    (commands : List Command) (rows : List Row) → IsUtf8 rest → IsUtf8 (before ++ rest) → IsUtf8 (after ++ rest)
+    → length before ≤ token.start → IsOnPlaces (before ++ rest) token → last_live a.now ≡ Some token
+    → last_live b.now ≡ Some (shifted_token (length before) (length after) token)
+    → list_all is_lasting commands ≡ true → Run (before ++ rest) t a commands rows
+    → Run (after ++ rest) t b commands (map (shifted_row (length before) (length after)) rows)
+run_taken_over before after rest t token a b commands rows u v w behind lies here there lasting run =
+    let from = length before in
+    let to = length after in
+    let alone = runs_alone before rest t token a commands rows u v behind lies here lasting run in
+    let on : shifted_token from to token ≡ moved_token to alone.own =
+    ap (shifted_token from to) (sym alone.same) ∙ token_on from to alone.own in
     let forward =
-    run_forward after rest t own (state_behind own) b commands back.0 lasting
-    (record { utf8 = u; whole_utf8 = w; lies = alone; last_is = refl; moved_last = there ∙ ap Some on }) back.2 in
+    run_forward after rest t alone.own (state_behind alone.own) b commands alone.own_rows lasting
+    (record { utf8 = u; whole_utf8 = w; lies = alone.lies; last_is = refl; moved_last = there ∙ ap Some on })
+    alone.runs in
     subst (Run (after ++ rest) t b commands)
-    (sym
-    (ap (map (shifted_row from to)) back.1
-    ∙ each_on from to (shifted_row from to) (moved_row from) (moved_row to) (row_on from to) back.0))
-    forward
+    (sym (ap (map (shifted_row from to)) alone.rows_are ∙ rows_on from to alone.own_rows)) forward
+
+-- Where the same front stands, nothing is shifted.
+pub run_stays : (before rest : List ℕ) (t : SourceType) (token : TokenParts) (a : State) (commands : List Command)
+    (rows : List Row) → IsUtf8 rest → IsUtf8 (before ++ rest) → length before ≤ token.start
+    → IsOnPlaces (before ++ rest) token → last_live a.now ≡ Some token → list_all is_lasting commands ≡ true
+    → Run (before ++ rest) t a commands rows → map (shifted_row (length before) (length before)) rows ≡ rows
+run_stays before rest t token a commands rows u v behind lies here lasting run =
+    let from = length before in
+    let alone = runs_alone before rest t token a commands rows u v behind lies here lasting run in
+    ap (map (shifted_row from from)) alone.rows_are ∙ rows_on from from alone.own_rows ∙ sym alone.rows_are
+
+-- Each place of its rows is at the front's end or behind it.
+pub run_lies_behind : (before rest : List ℕ) (t : SourceType) (token : TokenParts) (a : State)
+    (commands : List Command) (rows : List Row) → IsUtf8 rest → IsUtf8 (before ++ rest) → length before ≤ token.start
+    → IsOnPlaces (before ++ rest) token → last_live a.now ≡ Some token → list_all is_lasting commands ≡ true
+    → Run (before ++ rest) t a commands rows → AllByRecursion (OfEachPlace (λ place. length before ≤ place)) rows
+run_lies_behind before rest t token a commands rows u v behind lies here lasting run =
+    let from = length before in
+    let alone = runs_alone before rest t token a commands rows u v behind lies here lasting run in
+    subst (AllByRecursion (OfEachPlace (λ place. from ≤ place))) (sym alone.rows_are) (rows_behind from alone.own_rows)

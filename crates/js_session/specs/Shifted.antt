@@ -1,5 +1,6 @@
 -- Rows whose places are shifted: what stood from one place on stands from another one on.
-use Rattle.std.specs.Prelude.{ℕ, ◌+◌, ◌-◌, map, Option, Some, None}
+use Rattle.std.specs.Prelude.{ℕ, ◌+◌, ◌-◌, map, Option, Some, None, IfSome}
+use Rattle.std.specs.List.{All}
 use Rattle.std.specs.Option.{option_map}
 use Rattle.js_text.specs.Diagnostic.{diagnostic_span}
 use Rattle.js_text.specs.declared.comment.Comment.{Comment}
@@ -15,6 +16,8 @@ use Rattle.js_text.specs.declared.span.Span.{Span}
 use Rattle.js_text.specs.declared.value.RowValue.{RowValue}
 use Rattle.js_text.specs.declared.value.RowValue.TheVariants.{Nothing, Slice, Units, Bad}
 use Rattle.js_kind.specs.TokenParts.{TokenParts}
+use Rattle.js_grammar.specs.Outcome.{Findings}
+use Rattle.js_session.specs.Live.{row_findings}
 use Rattle.js_session.specs.declared.row.Row.{Row}
 
 -- a place, where what stood from one place on stands from another one on
@@ -82,3 +85,45 @@ shifted_row from to row = record {
   irregular = map (shifted_span from to) row.irregular;
   warnings = map (shifted_span from to) row.warnings;
 }
+
+-- P holds of both ends of a span.
+pub record OfSpan (P : ℕ → Type 0) (span : Span) : Type 0 where
+  pub start : P span.start
+  pub end : P span.end
+
+-- P holds of both ends of a diagnostic's span, if it has one.
+abbrev pub OfDiagnostic : (ℕ → Type 0) → Diagnostic → Type 0
+OfDiagnostic P diagnostic = IfSome (diagnostic_span diagnostic) (OfSpan P)
+
+-- P holds of both ends of a comment's span, and of the token that it belongs to.
+pub record OfComment (P : ℕ → Type 0) (comment : Comment) : Type 0 where
+  pub span : OfSpan P comment.span
+  pub attached_to : P comment.attached_to
+
+-- P holds of both ends of a value that is a stretch of the source.
+abbrev pub OfValue : (ℕ → Type 0) → RowValue → Type 0
+OfValue P Nothing = Unit {0}
+OfValue P (Slice span) = OfSpan P span
+OfValue P (Units units) = Unit {0}
+OfValue P Bad = Unit {0}
+
+-- P holds of the place where a pattern ends, if there is one.
+abbrev pub OfRegex : (ℕ → Type 0) → Option RegexInfo → Type 0
+OfRegex P regex = IfSome regex (λ info. P info.pattern_end)
+
+-- P holds of each place of what was found.
+pub record OfFindings (P : ℕ → Type 0) (found : Findings) : Type 0 where
+  pub diagnostics : All (OfDiagnostic P) found.diagnostics
+  pub deferred : All (OfDiagnostic P) found.deferred
+  pub comments : All (OfComment P) found.comments
+  pub irregular : All (OfSpan P) found.irregular
+  pub warnings : All (OfSpan P) found.warnings
+
+-- P holds of each place of a row.
+pub record OfEachPlace (P : ℕ → Type 0) (row : Row) : Type 0 where
+  pub place : P row.place
+  pub start : P row.token.start
+  pub end : P row.token.end
+  pub value : OfValue P row.value
+  pub regex : OfRegex P row.regex
+  pub found : OfFindings P (row_findings row)

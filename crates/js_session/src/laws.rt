@@ -16,7 +16,7 @@ ghost use Rattle.js_session.specs.Report.{AreRows, IsRow, HasMark, ReportOf, Run
 ghost use Rattle.js_session.specs.Session.{SessionState, Begins, Follows, HasRun, HasRunFrom, MayResume, last_token};
 ghost use Rattle.js_session.specs.Session.{report_of, resumed};
 ghost use Rattle.js_kind.specs.TokenParts.{TokenParts};
-ghost use Rattle.js_session.specs.Shifted.{shifted_row, shifted_token};
+ghost use Rattle.js_session.specs.Shifted.{shifted_row, shifted_token, OfEachPlace};
 ghost use Rattle.js_session.specs.WholeSource.{nexts, IsEof, ReportOfWhole};
 
 use crate::command::Command;
@@ -144,6 +144,25 @@ pub fn a_run_is_taken_over()
         → last_live b.now ≡ Some (shifted_token (length before) (length after) token)
         → list_all is_lasting commands ≡ true → Run (before ++ rest) t a commands rows
         → Run (after ++ rest) t b commands (map (shifted_row (length before) (length after)) rows) }
+{}
+
+/// Where the same front stands, nothing is shifted: a run from behind a token that starts behind a front of its text is
+/// its own shift.
+pub fn a_run_stays_where_nothing_moves()
+    ensures { (before rest : List ℕ) (t : SourceType) (token : TokenParts) (a : State) (commands : List Command)
+        (rows : List Row) → IsUtf8 rest → IsUtf8 (before ++ rest) → length before ≤ token.start
+        → IsOnPlaces (before ++ rest) token → last_live a.now ≡ Some token → list_all is_lasting commands ≡ true
+        → Run (before ++ rest) t a commands rows
+        → map (shifted_row (length before) (length before)) rows ≡ rows }
+{}
+
+/// A run from behind a token that starts behind a front of its text has each of its places behind the front.
+pub fn a_run_lies_behind_its_front()
+    ensures { (before rest : List ℕ) (t : SourceType) (token : TokenParts) (a : State) (commands : List Command)
+        (rows : List Row) → IsUtf8 rest → IsUtf8 (before ++ rest) → length before ≤ token.start
+        → IsOnPlaces (before ++ rest) token → last_live a.now ≡ Some token → list_all is_lasting commands ≡ true
+        → Run (before ++ rest) t a commands rows
+        → AllByRecursion (OfEachPlace (λ place. length before ≤ place)) rows }
 {}
 
 /// A session may go on behind rows that stay.
