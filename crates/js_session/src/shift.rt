@@ -54,7 +54,8 @@ impl Shift {
             .ok_or(AllocError)
     }
 
-    fn span(&self, span: Span) -> Result<Span, AllocError>
+    /// The span, moved.
+    pub fn span(&self, span: Span) -> Result<Span, AllocError>
         ensures { IfOk result (λ new. new ≡ shifted_span self.now.from self.now.to span) }
     {
         let start = self.place(span.start)?;
@@ -74,7 +75,8 @@ impl Shift {
         Ok(moved)
     }
 
-    fn diagnostic(&self, diagnostic: Diagnostic) -> Result<Diagnostic, AllocError>
+    /// The diagnostic, with its span moved, if it has one.
+    pub fn diagnostic(&self, diagnostic: Diagnostic) -> Result<Diagnostic, AllocError>
         ensures { IfOk result (λ new. new ≡ shifted_diagnostic self.now.from self.now.to diagnostic) }
     {
         match diagnostic.span() {
@@ -86,7 +88,8 @@ impl Shift {
         }
     }
 
-    fn comment(&self, comment: Comment) -> Result<Comment, AllocError>
+    /// The comment, with its span moved, and the place of the token that it belongs to.
+    pub fn comment(&self, comment: Comment) -> Result<Comment, AllocError>
         ensures { IfOk result (λ new. new ≡ shifted_comment self.now.from self.now.to comment) }
     {
         let span = self.span(comment.span)?;
