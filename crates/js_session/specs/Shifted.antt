@@ -1,5 +1,5 @@
 -- Rows whose places are shifted: what stood from one place on stands from another one on.
-use Rattle.std.specs.Prelude.{ℕ, ◌+◌, ◌-◌, map, Option, Some, None, IfSome}
+use Rattle.std.specs.Prelude.{ℕ, ◌+◌, ◌-◌, ◌<◌, ◌^◌, map, Option, Some, None, IfSome}
 use Rattle.std.specs.List.{All}
 use Rattle.std.specs.Option.{option_map}
 use Rattle.js_text.specs.Diagnostic.{diagnostic_span}
@@ -127,3 +127,11 @@ pub record OfEachPlace (P : ℕ → Type 0) (row : Row) : Type 0 where
   pub value : OfValue P row.value
   pub regex : OfRegex P row.regex
   pub found : OfFindings P (row_findings row)
+
+-- The place is a `u32` once it is shifted.
+abbrev pub FitsShifted : ℕ → ℕ → ℕ → Type 0
+FitsShifted from to place = shifted from to place < 2 ^ 32
+
+-- Each place of the row is a `u32` once it is shifted.
+abbrev pub ShiftFits : ℕ → ℕ → Row → Type 0
+ShiftFits from to row = OfEachPlace (FitsShifted from to) row

@@ -14,6 +14,7 @@ mod row;
 mod row_list;
 mod session;
 mod shift;
+mod shift_fits;
 mod steps;
 mod whole_source;
 
