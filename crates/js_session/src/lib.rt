@@ -15,6 +15,7 @@ mod row_list;
 mod session;
 mod shift;
 mod shift_fits;
+mod shift_in_place;
 mod steps;
 mod whole_source;
 

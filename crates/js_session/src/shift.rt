@@ -13,7 +13,7 @@ use js_text::{
 use std::alloc::{AllocError, Global};
 
 /// The same diagnostic, about another stretch.
-fn with_span(diagnostic: Diagnostic, span: Span) -> Diagnostic
+pub(crate) fn with_span(diagnostic: Diagnostic, span: Span) -> Diagnostic
     ensures { result ≡ with_span diagnostic span }
 {
     match diagnostic {

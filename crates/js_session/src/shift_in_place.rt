@@ -1,0 +1,163 @@
+//! Rows that are moved in their place.
+
+ghost use Rattle.std.specs.Prelude.{◌≡◌, ◌≤◌, map};
+ghost use Rattle.std.specs.List.{All, AllByRecursion};
+ghost use Rattle.std.specs.Option.{option_map};
+ghost use Rattle.js_session.specs.Shifted.{shifted, shifted_comment, shifted_diagnostic, shifted_regex, shifted_row};
+ghost use Rattle.js_session.specs.Shifted.{shifted_span, shifted_token, shifted_value};
+ghost use Rattle.js_session.specs.Shifted.{FitsShifted, OfComment, OfDiagnostic, OfRegex, OfSpan, OfValue, ShiftFits};
+
+use crate::row::Row;
+use crate::shift::{Shift, with_span};
+use js_kind::Token;
+use js_text::{
+    Comment, CommentList, Diagnostic, DiagnosticList, RegexInfo, RowValue, Span, SpanList,
+};
+use std::alloc::Global;
+use std::mem;
+
+impl Shift {
+    fn move_place(&self, place: &mut u32)
+        requires { FitsShifted self.now.from self.now.to place.old }
+        ensures { place.new ≡ shifted self.now.from self.now.to place.old }
+    {
+        *place = place.saturating_sub(self.from) + self.to;
+    }
+
+    fn move_span(&self, span: &mut Span)
+        requires { OfSpan (FitsShifted self.now.from self.now.to) span.old }
+        ensures { span.new ≡ shifted_span self.now.from self.now.to span.old }
+    {
+        self.move_place(&mut span.start);
+        self.move_place(&mut span.end);
+    }
+
+    fn move_token(&self, token: &mut Token)
+        requires start { FitsShifted self.now.from self.now.to token.old.start }
+        requires end { FitsShifted self.now.from self.now.to token.old.end }
+        requires ordered { token.old.start ≤ token.old.end }
+        ensures { token.new ≡ shifted_token self.now.from self.now.to token.old }
+    {
+        let mut span = token.span();
+        self.move_span(&mut span);
+        token.set_span(span);
+    }
+
+    fn move_value(&self, value: &mut RowValue)
+        requires { OfValue (FitsShifted self.now.from self.now.to) value.old }
+        ensures { value.new ≡ shifted_value self.now.from self.now.to value.old }
+    {
+        if let RowValue::Slice(span) = value {
+            self.move_span(span);
+        }
+    }
+
+    fn move_regex(&self, regex: &mut Option<RegexInfo>)
+        requires { OfRegex (FitsShifted self.now.from self.now.to) regex.old }
+        ensures { regex.new ≡ option_map (shifted_regex self.now.from self.now.to) regex.old }
+    {
+        if let Some(info) = regex {
+            self.move_place(&mut info.pattern_end);
+        }
+    }
+
+    fn move_diagnostic(&self, diagnostic: &mut Diagnostic)
+        requires { OfDiagnostic (FitsShifted self.now.from self.now.to) diagnostic.old }
+        ensures { diagnostic.new ≡ shifted_diagnostic self.now.from self.now.to diagnostic.old }
+    {
+        if let Some(mut span) = diagnostic.span() {
+            self.move_span(&mut span);
+            *diagnostic = with_span(*diagnostic, span);
+        }
+    }
+
+    fn move_comment(&self, comment: &mut Comment)
+        requires { OfComment (FitsShifted self.now.from self.now.to) comment.old }
+        ensures { comment.new ≡ shifted_comment self.now.from self.now.to comment.old }
+    {
+        self.move_span(&mut comment.span);
+        self.move_place(&mut comment.attached_to);
+    }
+
+    fn move_each_diagnostic(&self, diagnostics: &mut [Diagnostic])
+        requires { All (OfDiagnostic (FitsShifted self.now.from self.now.to)) diagnostics.old }
+        ensures { diagnostics.new ≡ map (shifted_diagnostic self.now.from self.now.to) diagnostics.old }
+    {
+        for diagnostic in diagnostics.iter_mut() {
+            self.move_diagnostic(diagnostic);
+        }
+    }
+
+    fn move_each_comment(&self, comments: &mut [Comment])
+        requires { All (OfComment (FitsShifted self.now.from self.now.to)) comments.old }
+        ensures { comments.new ≡ map (shifted_comment self.now.from self.now.to) comments.old }
+    {
+        for comment in comments.iter_mut() {
+            self.move_comment(comment);
+        }
+    }
+
+    fn move_each_span(&self, spans: &mut [Span])
+        requires { All (OfSpan (FitsShifted self.now.from self.now.to)) spans.old }
+        ensures { spans.new ≡ map (shifted_span self.now.from self.now.to) spans.old }
+    {
+        for span in spans.iter_mut() {
+            self.move_span(span);
+        }
+    }
+
+    fn move_diagnostics(&self, alloc: Global, diagnostics: &mut DiagnosticList)
+        requires { All (OfDiagnostic (FitsShifted self.now.from self.now.to)) diagnostics.old }
+        ensures { diagnostics.new ≡ map (shifted_diagnostic self.now.from self.now.to) diagnostics.old }
+    {
+        let mut items = mem::replace(diagnostics, DiagnosticList::new_in(alloc)).into_vec();
+        self.move_each_diagnostic(&mut items);
+        *diagnostics = DiagnosticList::from_vec(items);
+    }
+
+    fn move_comments(&self, alloc: Global, comments: &mut CommentList)
+        requires { All (OfComment (FitsShifted self.now.from self.now.to)) comments.old }
+        ensures { comments.new ≡ map (shifted_comment self.now.from self.now.to) comments.old }
+    {
+        let mut items = mem::replace(comments, CommentList::new_in(alloc)).into_vec();
+        self.move_each_comment(&mut items);
+        *comments = CommentList::from_vec(items);
+    }
+
+    fn move_spans(&self, alloc: Global, spans: &mut SpanList)
+        requires { All (OfSpan (FitsShifted self.now.from self.now.to)) spans.old }
+        ensures { spans.new ≡ map (shifted_span self.now.from self.now.to) spans.old }
+    {
+        let mut items = mem::replace(spans, SpanList::new_in(alloc)).into_vec();
+        self.move_each_span(&mut items);
+        *spans = SpanList::from_vec(items);
+    }
+
+    /// Moves the row in its place. It takes no memory: the allocator is for the empty lists that stand there meanwhile.
+    pub fn move_row(&self, alloc: Global, row: &mut Row)
+        requires fits { ShiftFits self.now.from self.now.to row.old }
+        requires ordered { row.old.token.start ≤ row.old.token.end }
+        ensures { row.new ≡ shifted_row self.now.from self.now.to row.old }
+    {
+        self.move_place(&mut row.place);
+        self.move_token(&mut row.token);
+        self.move_value(&mut row.value);
+        self.move_regex(&mut row.regex);
+        self.move_diagnostics(alloc, &mut row.diagnostics);
+        self.move_diagnostics(alloc, &mut row.deferred);
+        self.move_comments(alloc, &mut row.comments);
+        self.move_spans(alloc, &mut row.irregular);
+        self.move_spans(alloc, &mut row.warnings);
+    }
+
+    /// Moves each row in its place.
+    pub(crate) fn move_each_row(&self, alloc: Global, rows: &mut [Row])
+        requires fits { AllByRecursion (ShiftFits self.now.from self.now.to) rows.old }
+        requires ordered { AllByRecursion (λ row. row.token.start ≤ row.token.end) rows.old }
+        ensures { rows.new ≡ map (shifted_row self.now.from self.now.to) rows.old }
+    {
+        for row in rows.iter_mut() {
+            self.move_row(alloc, row);
+        }
+    }
+}
