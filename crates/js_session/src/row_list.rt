@@ -1,7 +1,7 @@
 //! A list of rows.
 
-ghost use Rattle.std.specs.Prelude.{◌≡◌, ◌<◌, ◌↔◌, ◌==◌, List, [], ◌∷◌, ◌++◌, length, take, IsSome, IfOk, OnOk, OnErr};
-ghost use Rattle.std.specs.Prelude.{option_to_list};
+ghost use Rattle.std.specs.Prelude.{◌≡◌, ◌<◌, ◌≤◌, ◌↔◌, ◌==◌, List, [], ◌∷◌, ◌++◌, length, take, drop};
+ghost use Rattle.std.specs.Prelude.{option_to_list, IsSome, IfOk, OnOk, OnErr};
 
 use crate::row::Row;
 use std::alloc::{AllocError, Global};
@@ -83,6 +83,18 @@ impl RowList {
         ensures { self.new ≡ take len self.old }
     {
         self.items.truncate(len);
+    }
+
+    /// Puts the rows in the place of those from `start` up to `end`. Where there is no memory for it, the list stays as
+    /// it was.
+    pub fn replace(&mut self, start: usize, end: usize, rows: RowList) -> Result<(), AllocError>
+        requires ordered { start ≤ end }
+        requires inside { end ≤ length self.old }
+        ensures ok { OnOk result (self.new ≡ take start self.old ++ rows ++ drop end self.old) }
+        ensures err { OnErr result (self.new ≡ self.old) }
+    {
+        self.items.splice(start..end, rows.into_vec())?;
+        Ok(())
     }
 
     /// An equal list.
