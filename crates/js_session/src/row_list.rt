@@ -1,9 +1,12 @@
 //! A list of rows.
 
-ghost use Rattle.std.specs.Prelude.{◌≡◌, ◌<◌, ◌≤◌, ◌↔◌, ◌==◌, List, [], ◌∷◌, ◌++◌, length, take, drop};
+ghost use Rattle.std.specs.Prelude.{◌≡◌, ◌<◌, ◌≤◌, ◌↔◌, ◌==◌, List, [], ◌∷◌, ◌++◌, length, map, take, drop};
 ghost use Rattle.std.specs.Prelude.{option_to_list, IsSome, IfOk, OnOk, OnErr};
+ghost use Rattle.std.specs.List.{AllByRecursion};
+ghost use Rattle.js_session.specs.Shifted.{shifted_row, ShiftFits};
 
 use crate::row::Row;
+use crate::shift::Shift;
 use std::alloc::{AllocError, Global};
 use std::marker::Model;
 
@@ -95,6 +98,18 @@ impl RowList {
     {
         self.items.splice(start..end, rows.into_vec())?;
         Ok(())
+    }
+
+    /// Moves each row from `index` on in its place; behind the last row there is none. It takes no memory.
+    pub fn shift_behind(&mut self, alloc: Global, index: usize, shift: &Shift)
+        requires fits { AllByRecursion (ShiftFits shift.now.from shift.now.to) (drop index self.old) }
+        requires ordered { AllByRecursion (λ row. row.token.start ≤ row.token.end) (drop index self.old) }
+        ensures { self.new ≡ take index self.old
+            ++ map (shifted_row shift.now.from shift.now.to) (drop index self.old) }
+    {
+        if index < self.items.len() {
+            shift.move_each_row(alloc, &mut self.items[index..]);
+        }
     }
 
     /// An equal list.
