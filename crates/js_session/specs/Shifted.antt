@@ -95,7 +95,7 @@ pub record OfSpan (P : ℕ → Type 0) (span : Span) : Type 0 where
 abbrev pub OfDiagnostic : (ℕ → Type 0) → Diagnostic → Type 0
 OfDiagnostic P diagnostic = IfSome (diagnostic_span diagnostic) (OfSpan P)
 
--- P holds of both ends of a comment's span, and of the token that it belongs to.
+-- P holds of both ends of a comment's span, and of the place that it is attached to.
 pub record OfComment (P : ℕ → Type 0) (comment : Comment) : Type 0 where
   pub span : OfSpan P comment.span
   pub attached_to : P comment.attached_to

@@ -88,7 +88,7 @@ impl Shift {
         }
     }
 
-    /// The comment, with its span moved, and the place of the token that it belongs to.
+    /// The comment, with its span moved, and the place that it is attached to.
     pub fn comment(&self, comment: Comment) -> Result<Comment, AllocError>
         ensures { IfOk result (λ new. new ≡ shifted_comment self.now.from self.now.to comment) }
     {
