@@ -2,7 +2,7 @@
 use Rattle.std.proofs.Common.{◌≡◌, ℕ, List, Result, Ok, Err, inl, inr, subst, String, string_bytes}
 use Rattle.std.specs.declared.alloc.Global.{Global}
 use Rattle.std.specs.Prelude.{◌⊎◌, IfOk}
-use Rattle.js_relex.specs.Documents.{Cause, DocState, EditCause, IsDocumentOf, Relexes, edited}
+use Rattle.js_relex.specs.Documents.{Cause, DocState, EditCause, IsDocumentOf, Relexes}
 use Rattle.js_relex.specs.declared.fault.RelexFault.{RelexFault}
 use Rattle.js_relex.specs.declared.fault.RelexFault.TheVariants.{Memory}
 use Rattle.js_edit.specs.Run.{IsEdited, IsEditText, IsRefused, fault_line}
@@ -19,8 +19,7 @@ none_for d exact fault h = elim (exact fault h) [
 pub edited_by : (words : EditWords) (source : List ℕ) (old : DocState) (before now : ℕ)
     (r : Result DocState RelexFault) → IsDocumentOf source words.source_type words.commands old
     → ((fault : RelexFault) → ¬ (Cause source words.commands fault))
-    → IfOk r
-    (Relexes old words.start (edited old.text words.start words.end words.text) words.new_commands before now)
+    → IfOk r (Relexes old words.start words.end words.text words.new_commands before now)
     → ((fault : RelexFault) → EditCause old.text words.start words.end words.text words.new_commands fault
     → (r ≡ Err fault) ⊎ (r ≡ Err Memory))
     → IfOk r (IsEdited words source)
@@ -29,7 +28,7 @@ edited_by words source old before now (Ok d) is none relexes exact = record {
   old = old;
   old_is = is;
   new_is = rw (is.type_is, is.text_is) at relexes.document;
-  kept = relexes.kept_is;
+  spares = relexes.spares;
   no_cause = none;
   no_edit_cause =
       subst

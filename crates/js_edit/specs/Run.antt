@@ -1,5 +1,5 @@
 -- What a run of the program comes to.
-use Rattle.std.specs.Prelude.{◌≡◌, ℕ, ◌⊎◌, List, [], ◌++◌, codes, Result, Ok, Err, Vec, String}
+use Rattle.std.specs.Prelude.{◌≡◌, ℕ, ◌⊎◌, List, [], ◌++◌, codes, Option, Some, None, Result, Ok, Err, Vec, String}
 use Rattle.std.specs.declared.alloc.Global.{Global}
 use Rattle.std.specs.declared.io.Error.{Error}
 use Rattle.std.specs.IoError.{error_kind}
@@ -8,8 +8,7 @@ use Rattle.js_lex_tool.specs.Outside.{InputState, OutputState}
 use Rattle.js_lex_tool.specs.ReportText.{report_text_of}
 use Rattle.js_lex_tool.specs.Status.{number, status_without_words}
 use Rattle.js_lex_tool.specs.TextRun.{RunsMaker}
-use Rattle.js_relex.specs.Documents.{Cause, DocState, EditCause, IsDocumentOf, edited}
-use Rattle.js_relex.specs.Kept.{IsKept}
+use Rattle.js_relex.specs.Documents.{Cause, DocState, EditCause, IsDocumentOf, Spares, edited}
 use Rattle.js_relex.specs.declared.fault.RelexFault.{RelexFault}
 use Rattle.js_relex.specs.declared.fault.RelexFault.TheVariants.{BadEdit, Overlong, BadCommand, Memory}
 use Rattle.js_edit.specs.Words.{EditWords, edit_words_of}
@@ -21,16 +20,22 @@ fault_line Overlong = codes "Overlong\n"
 fault_line (BadCommand index) = codes "BadCommand(" ++ decimal index ++ codes ")\n"
 fault_line Memory = []
 
--- the text of a document: how many rows of the old one it has kept, and its report
+-- the line that tells at which row a document joined the old one
+unfoldable pub joined_line : Option ℕ → List ℕ
+joined_line None = codes "joined none\n"
+joined_line (Some row) = codes "joined " ++ decimal row ++ codes "\n"
+
+-- the text of a document: how many rows of the old one it has kept, at which row it joined that, and its report
 unfoldable pub document_text : DocState → List ℕ
-document_text d = codes "kept " ++ decimal d.kept ++ codes "\njoined none\n" ++ report_text_of d.text d.report
+document_text d =
+    codes "kept " ++ decimal d.kept ++ codes "\n" ++ joined_line d.joined ++ report_text_of d.text d.report
 
 -- The document is that of the edited source, made of the document of the source; and nothing is against either.
 pub record IsEdited (words : EditWords) (source : List ℕ) (new : DocState) : Type 0 where
   pub old : DocState
   pub old_is : IsDocumentOf source words.source_type words.commands old
   pub new_is : IsDocumentOf (edited source words.start words.end words.text) words.source_type words.new_commands new
-  pub kept : IsKept words.start old.report.rows words.new_commands new.kept
+  pub spares : Spares old words.start words.end words.text words.new_commands new.report.rows new.kept new.joined
   pub no_cause : (fault : RelexFault) → ¬ (Cause source words.commands fault)
   pub no_edit_cause : (fault : RelexFault)
       → ¬ (EditCause source words.start words.end words.text words.new_commands fault)

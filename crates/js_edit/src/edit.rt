@@ -1,9 +1,9 @@
 //! A run of the program: from words and bytes to a status and a text.
 
-ghost use Rattle.std.specs.Prelude.{◌≡◌, ◌<◌, ◌⊎◌, string_bytes, IfOk, IfErr};
+ghost use Rattle.std.specs.Prelude.{◌≡◌, ◌<◌, ◌⊎◌, ◌++◌, string_bytes, IfOk, IfErr, OnOk};
 ghost use Rattle.js_lex_tool.specs.TextRun.{RunsMaker};
 ghost use Rattle.js_relex.specs.declared.fault.RelexFault.{RelexFault};
-ghost use Rattle.js_edit.specs.Run.{IsEditText, IsEdited, IsRefused, document_text, fault_line};
+ghost use Rattle.js_edit.specs.Run.{IsEditText, IsEdited, IsRefused, document_text, fault_line, joined_line};
 ghost use Rattle.js_edit.specs.Words.{edit_words_of};
 
 use crate::words::{EditLine, read_edit_words};
@@ -15,14 +15,27 @@ use std::fmt::Write;
 use std::marker::Brand;
 use std::sync::ledger::{Blank, Ledger};
 
-/// The text of a document: how many rows it kept, and its report.
+/// Adds the line that tells at which row a document joined the old one.
+#[tactic(auto, unfolding(crate::specs::Run::joined_line))]
+fn push_joined(text: &mut String, joined: Option<usize>) -> Result<(), AllocError>
+    ensures { OnOk result (string_bytes text.new ≡ string_bytes text.old ++ joined_line joined) }
+{
+    match joined {
+        Some(row) => writeln!(text, "joined {row}")?,
+        None => text.push_str("joined none\n")?,
+    }
+    Ok(())
+}
+
+/// The text of a document: how many rows it kept, at which row it joined the old one, and its report.
 #[tactic(auto, unfolding(crate::specs::Run::document_text))]
 fn document_text(alloc: Global, document: &LexDoc) -> Result<String, AllocError>
     ensures { IfOk result (λ text. string_bytes text ≡ document_text document.now) }
 {
     let kept = document.kept_rows();
     let mut text = String::new(alloc);
-    write!(text, "kept {kept}\njoined none\n")?;
+    writeln!(text, "kept {kept}")?;
+    push_joined(&mut text, document.joined_row())?;
     let report = report_text(alloc, document.text(), document.report())?;
     text.push_str(report.as_str())?;
     Ok(text)
