@@ -82,11 +82,52 @@ complete_of (Err f) text commands caused short lasting =
       | inr k ↦ absurd (no_cause text commands f short lasting k)
     ]
 
--- a cause of an edit that is one of the text is one of the new text
-pub cause_of_edit : (old : List ℕ) (start end : ℕ) (new : List ℕ) (commands : List Command) (fault : RelexFault)
-    → IsEdit old start end → EditCause old start end new commands fault
-    → Cause (edited old start end new) commands fault
-cause_of_edit old start end new commands BadEdit edit h = absurd (h edit)
-cause_of_edit old start end new commands Overlong edit h = h.1
-cause_of_edit old start end new commands (BadCommand i) edit h = h.1
-cause_of_edit old start end new commands Memory edit h = absurd h
+-- An edit that is made has no cause against it.
+pub no_edit_cause : (old : List ℕ) (start end : ℕ) (new : List ℕ) (commands : List Command) (fault : RelexFault)
+    → IsEdit old start end → length (edited old start end new) < 2 ^ 32 → list_all is_lasting commands ≡ true
+    → EditCause old start end new commands fault → ⊥
+no_edit_cause old start end new commands BadEdit edit short lasting h = h edit
+no_edit_cause old start end new commands Overlong edit short lasting h =
+    no_cause (edited old start end new) commands Overlong short lasting h.1
+no_edit_cause old start end new commands (BadCommand i) edit short lasting h =
+    no_cause (edited old start end new) commands (BadCommand i) short lasting h.1
+no_edit_cause old start end new commands Memory edit short lasting h = h
+
+-- There is one cause at most against an edit.
+one_edit_cause : (old : List ℕ) (start end : ℕ) (new : List ℕ) (commands : List Command) (a b : RelexFault)
+    → EditCause old start end new commands a → EditCause old start end new commands b → a ≡ b
+one_edit_cause old start end new commands BadEdit BadEdit h k = refl
+one_edit_cause old start end new commands BadEdit Overlong h k = absurd (h k.0)
+one_edit_cause old start end new commands BadEdit (BadCommand j) h k = absurd (h k.0)
+one_edit_cause old start end new commands BadEdit Memory h k = absurd k
+one_edit_cause old start end new commands Overlong BadEdit h k = absurd (k h.0)
+one_edit_cause old start end new commands Overlong Overlong h k = refl
+one_edit_cause old start end new commands Overlong (BadCommand j) h k =
+    one_cause (edited old start end new) commands Overlong (BadCommand j) h.1 k.1
+one_edit_cause old start end new commands Overlong Memory h k = absurd k
+one_edit_cause old start end new commands (BadCommand i) BadEdit h k = absurd (k h.0)
+one_edit_cause old start end new commands (BadCommand i) Overlong h k =
+    one_cause (edited old start end new) commands (BadCommand i) Overlong h.1 k.1
+one_edit_cause old start end new commands (BadCommand i) (BadCommand j) h k =
+    one_cause (edited old start end new) commands (BadCommand i) (BadCommand j) h.1 k.1
+one_edit_cause old start end new commands (BadCommand i) Memory h k = absurd k
+one_edit_cause old start end new commands Memory b h k = absurd h
+
+-- What was answered is the cause, or want of memory.
+pub exact_edit : (old : List ℕ) (start end : ℕ) (new : List ℕ) (commands : List Command) (answer fault : RelexFault)
+    → (answer ≡ Memory) ⊎ EditCause old start end new commands answer → EditCause old start end new commands fault
+    → (answer ≡ fault) ⊎ (answer ≡ Memory)
+exact_edit old start end new commands answer fault caused h =
+    elim caused [
+      | inl e ↦ inr e
+      | inr k ↦ inl (one_edit_cause old start end new commands answer fault k h)
+    ]
+
+pub complete_edit : (old : List ℕ) (start end : ℕ) (new : List ℕ) (commands : List Command) (answer : RelexFault)
+    → (answer ≡ Memory) ⊎ EditCause old start end new commands answer → IsEdit old start end
+    → length (edited old start end new) < 2 ^ 32 → list_all is_lasting commands ≡ true → answer ≡ Memory
+complete_edit old start end new commands answer caused edit short lasting =
+    elim caused [
+      | inl e ↦ e
+      | inr k ↦ absurd (no_edit_cause old start end new commands answer edit short lasting k)
+    ]

@@ -1,6 +1,6 @@
 -- The rows of an edited text: those that are kept, and behind them those of a session that goes on there.
 use Rattle.std.proofs.Common.{◌≡◌, ℕ, suc, ◌-◌, true, List, ◌++◌, length, take, drop, refl, sym, ◌∙◌, ap, subst}
-use Rattle.std.proofs.Common.{◌+◌, arith, get_or}
+use Rattle.std.proofs.Common.{◌+◌, arith, get_or, Option}
 use Rattle.std.specs.List.{list_all}
 use Rattle.std.specs.Str.{IsUtf8}
 use Rattle.std.proofs.lemmas.List.{length-drop, take-append-drop}
@@ -31,26 +31,22 @@ goes_on text t new all kept last lasting k =
     (behind_rows text t (state_after_first k.first) (take kept new) (take kept k.rows) k.first.token
     (take_lasting kept new lasting) (behind_first text t k.first k.is_first) k.run)
 
--- What it reads there makes them whole.
-whole_rows : (text : List ℕ) (t : SourceType) (new : List Command) (all behind : List Row) (kept : ℕ)
-    (last : TokenParts) → list_all is_lasting new ≡ true → KeptAll text t new all kept last
-    → Run text t (state_behind last) (drop kept new) behind → AreRows text t new (take (suc kept) all ++ behind)
-whole_rows text t new all behind kept last lasting k run =
+-- What it reads there for more commands makes them whole.
+pub whole_rows : (text : List ℕ) (t : SourceType) (new more : List Command) (all behind : List Row) (kept : ℕ)
+    (last : TokenParts) → list_all is_lasting new ≡ true → list_all is_lasting more ≡ true
+    → KeptAll text t new all kept last → Run text t (state_behind last) more behind
+    → AreRows text t (take kept new ++ more) (take (suc kept) all ++ behind)
+whole_rows text t new more all behind kept last lasting lasting_more k run =
     let s = state_after (state_after_first k.first) (take kept new) (take kept k.rows) in
     let on = goes_on text t new all kept last lasting k in
     let here =
-    run_of_last text t (state_behind last) s last (drop kept new) behind
-    (all_steps (drop kept new) (drop_lasting kept new lasting)) refl on.last_is run in
+    run_of_last text t (state_behind last) s last more behind (all_steps more lasting_more) refl on.last_is run in
     let both =
-    (runs_on text t (state_after_first k.first) (take kept new) (drop kept new) (take kept k.rows) behind k.run).run
-    here in
-    subst (λ rs. AreRows text t new (take (suc kept) rs ++ behind)) (sym k.all_are) (
-      k.is_first,
-      subst (λ cs. Run text t (state_after_first k.first) cs (take kept k.rows ++ behind))
-          (take-append-drop kept new) both,
-    )
+    (runs_on text t (state_after_first k.first) (take kept new) more (take kept k.rows) behind k.run).run here in
+    subst (λ rs. AreRows text t (take kept new ++ more) (take (suc kept) rs ++ behind)) (sym k.all_are)
+    (k.is_first, both)
 
-rest_of : {A : Type 0} (xs : List A) (n : ℕ) → take (length xs - n) (drop n xs) ≡ drop n xs
+pub rest_of : {A : Type 0} (xs : List A) (n : ℕ) → take (length xs - n) (drop n xs) ≡ drop n xs
 rest_of xs n =
     ap (λ k. take k (drop n xs)) (sym (length-drop n xs)) ∙ take-length (drop n xs)
 
@@ -59,23 +55,12 @@ pub rest_lasts : (cs : List Command) (n : ℕ) → list_all is_lasting cs ≡ tr
     → list_all is_lasting (take (length cs - n) (drop n cs)) ≡ true
 rest_lasts cs n e = ap (list_all is_lasting) (rest_of cs n) ∙ drop_lasting n cs e
 
--- the rows that a session gives behind the kept ones make all of them
-pub all_rows : (text : List ℕ) (t : SourceType) (new : List Command) (all behind : List Row) (last : ℕ)
-    (token : TokenParts) → list_all is_lasting new ≡ true → KeptAll text t new all last token
-    → Run text t (state_behind token) (take (length new - last) (drop last new)) behind
-    → AreRows text t new (take (last + 1) all ++ behind)
-all_rows text t new all behind last token lasting k run =
-    let one : suc last ≡ last + 1 = omega arith in
-    subst (λ n. AreRows text t new (take n all ++ behind)) one
-    (whole_rows text t new all behind last token lasting k
-    (subst (λ cs. Run text t (state_behind token) cs behind) (rest_of new last) run))
-
 -- a document is one by its parts
 pub document_of : (old : DocState) (text : List ℕ) (t : SourceType) (commands : List Command) (report : Report)
-    (kept : ℕ) → IsDocument text t commands report
-    → record { text = text; source_type = t; commands = commands; report = report; kept = kept } ≡ old
+    (kept : ℕ) (joined : Option ℕ) → IsDocument text t commands report
+    → record { text = text; source_type = t; commands = commands; report = report; kept = kept; joined = joined } ≡ old
     → IsDocument old.text old.source_type old.commands old.report
-document_of old text t commands report kept doc is =
+document_of old text t commands report kept joined doc is =
     subst (λ (d : DocState). IsDocument d.text d.source_type d.commands d.report) is doc
 
 -- what an edit keeps of a document, by the document itself

@@ -1,6 +1,6 @@
 -- Documents, and what an edit makes of one.
 use Rattle.std.specs.Prelude.{◌≡◌, ℕ, ◌<◌, ◌≤◌, ◌+◌, ◌^◌, true, false, List, [], ◌∷◌, ◌++◌, length, take, drop}
-use Rattle.std.specs.Prelude.{slice_get, Some}
+use Rattle.std.specs.Prelude.{◌-◌, suc, map, slice_get, Option, Some, None}
 use Rattle.std.specs.List.{list_all}
 use Rattle.std.specs.Str.{IsCharBoundary}
 use Rattle.js_text.specs.declared.source_type.SourceType.{SourceType}
@@ -9,7 +9,9 @@ use Rattle.js_session.specs.declared.report.Report.{Report}
 use Rattle.js_session.specs.declared.row.Row.{Row}
 use Rattle.js_session.specs.Effects.{is_lasting, row_effect}
 use Rattle.js_session.specs.Live.{Live, after_row, nothing_live, report_live}
-use Rattle.js_session.specs.Report.{ReportOf}
+use Rattle.js_session.specs.Report.{AreRows, ReportOf}
+use Rattle.js_session.specs.Shifted.{shifted_row}
+use Rattle.js_relex.specs.Joined.{FirstFrom, JoiningState, Joins}
 use Rattle.js_relex.specs.Kept.{IsKept}
 use Rattle.js_relex.specs.declared.fault.RelexFault.{RelexFault}
 use Rattle.js_relex.specs.declared.fault.RelexFault.TheVariants.{BadEdit, Overlong, BadCommand, Memory}
@@ -38,13 +40,15 @@ Cause text commands Overlong = 2 ^ 32 ≤ length text
 Cause text commands (BadCommand index) = (length text < 2 ^ 32) × IsFirstBad commands index
 Cause text commands Memory = ⊥
 
--- A document: its text and the type of that, the commands, their report, and how many rows at its front were kept.
+-- A document: its text and the type of that, the commands, their report, how many rows at its front were kept, and at
+-- which row it joined the old one.
 pub record DocState : Type 0 where
   pub text : List ℕ
   pub source_type : SourceType
   pub commands : List Command
   pub report : Report
   pub kept : ℕ
+  pub joined : Option ℕ
 
 -- The report of a document is that of its text and commands, with no tokens collected.
 pub record IsDocument (text : List ℕ) (t : SourceType) (commands : List Command) (report : Report) : Type 0 where
@@ -62,6 +66,10 @@ pub record GoesLive (old : Report) (live : Live) (new : Report) : Type 0 where
   pub live_is : report_live new ≡ live
   pub rows_are : new.rows ≡ old.rows
   pub collected : new.collected ≡ old.collected
+
+-- the token of the row starts at its end or before it
+abbrev pub IsInOrder : Row → Type 0
+IsInOrder row = row.token.start ≤ row.token.end
 
 -- A report has these rows more, with what is live behind them.
 pub record AddsRows (old : Report) (rows : List Row) (new : Report) : Type 0 where
@@ -82,18 +90,46 @@ pub record IsDocumentOf (text : List ℕ) (t : SourceType) (commands : List Comm
   pub commands_are : d.commands ≡ commands
   pub report_is : ReportOf text t false commands d.report
 
--- A document of an edited text: so many of the old rows were kept, and the counter rose by the number of the others.
-pub record Relexes (old : DocState) (start : ℕ) (text : List ℕ) (commands : List Command) (before now : ℕ)
-    (d : DocState) : Type 0 where
-  pub document : IsDocumentOf text old.source_type commands d
-  pub kept_is : IsKept start old.report.rows commands d.kept
-  pub ticks : now + d.kept ≡ before + length d.report.rows
+-- what the rows of a document whose text is edited may be joined by
+abbrev pub joining : DocState → ℕ → ℕ → List ℕ → List Command → JoiningState
+joining old start end new commands = record {
+  from = end;
+  to = start + length new;
+  rows = old.report.rows;
+  old_commands = old.commands;
+  commands = commands;
+}
 
--- The counter rose by no more than the rows of the commands, without those that are kept.
-pub record TicksAtMost (start : ℕ) (rows : List Row) (commands : List Command) (old new : ℕ) : Type 0 where
+-- how many rows stand behind the one at which the old rows are joined
+abbrev pub rows_taken_over : Option ℕ → List Row → ℕ
+rows_taken_over None rows = 0
+rows_taken_over (Some index) rows = length rows - suc index
+
+-- Of the rows of an edited text so many are kept, and at this one they join the old ones.
+pub record Spares (old : DocState) (start end : ℕ) (new : List ℕ) (commands : List Command) (rows : List Row)
+    (kept : ℕ) (joined : Option ℕ) : Type 0 where
+  pub kept_is : IsKept start old.report.rows commands kept
+  pub joined_is : FirstFrom (Joins (joining old start end new commands)) kept (drop kept rows) joined
+
+-- A document of an edited text: so many of the old rows were kept, at this row it joined the old one, and the counter
+-- rose by the number of the rows that are neither kept nor behind that row.
+pub record Relexes (old : DocState) (start end : ℕ) (new : List ℕ) (commands : List Command) (before now : ℕ)
+    (d : DocState) : Type 0 where
+  pub document : IsDocumentOf (edited old.text start end new) old.source_type commands d
+  pub spares : Spares old start end new commands d.report.rows d.kept d.joined
+  pub ticks : now + d.kept + rows_taken_over d.joined d.report.rows ≡ before + length d.report.rows
+
+-- The counter rose by no more than the rows of the commands, without those that are kept, and without those behind the
+-- one at which the old rows are joined.
+pub record TicksAtMost (old : DocState) (start end : ℕ) (new : List ℕ) (commands : List Command) (before now : ℕ)
+    : Type 0 where
   pub kept : ℕ
-  pub is_kept : IsKept start rows commands kept
-  pub at_most : new + kept ≤ old + (length commands + 1)
+  pub is_kept : IsKept start old.report.rows commands kept
+  pub at_most : now + kept ≤ before + (length commands + 1)
+  pub joined_at_most : (rows : List Row) (joined : Option ℕ)
+      → AreRows (edited old.text start end new) old.source_type commands rows
+      → Spares old start end new commands rows kept joined
+      → now + kept + rows_taken_over joined rows ≤ before + length rows
 
 -- why there is no document of an edit
 abbrev pub EditCause : List ℕ → ℕ → ℕ → List ℕ → List Command → RelexFault → Type 0

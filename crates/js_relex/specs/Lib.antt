@@ -1,2 +1,4 @@
 pub mod Documents
+pub mod Joined
+pub mod Joining
 pub mod Kept

@@ -1,12 +1,14 @@
 //! Rows gathered into a report, with what is live behind them.
 
-ghost use Rattle.std.specs.Prelude.{◌≡◌, ◌≤◌, [], ◌∷◌, length, take, OnOk};
+ghost use Rattle.std.specs.Prelude.{◌≡◌, [], ◌∷◌, map, OnOk};
+ghost use Rattle.std.specs.List.{AllByRecursion};
 ghost use Rattle.js_session.specs.Live.{nothing_live, outcome_of, report_live, report_with, with_outcome};
 ghost use Rattle.js_session.specs.Live.{with_re_lexed};
-ghost use Rattle.js_relex.specs.Documents.{AddsRows, GoesLive, live_behind};
+ghost use Rattle.js_session.specs.Shifted.{shifted_row};
+ghost use Rattle.js_relex.specs.Documents.{AddsRows, GoesLive, IsInOrder, live_behind};
 
 use js_kind::TokenList;
-use js_session::{Command, Report, Row, RowList};
+use js_session::{Command, Report, Row, RowList, Shift};
 use js_text::{CommentList, DiagnosticList, SpanList};
 use std::alloc::{AllocError, Global};
 
@@ -80,18 +82,12 @@ fn add_row(report: &mut Report, row: Row) -> Result<(), AllocError>
     report.rows.push(row)
 }
 
-/// Adds copies of the first `count` rows.
-pub(crate) fn keep_rows(
-    alloc: Global,
-    report: &mut Report,
-    rows: &[Row],
-    count: usize,
-) -> Result<(), AllocError>
-    requires { count ≤ length rows.now }
-    ensures { OnOk result (AddsRows report.old (take count rows.now) report.new) }
+/// Adds copies of the rows.
+pub(crate) fn add_copies(alloc: Global, report: &mut Report, rows: &[Row]) -> Result<(), AllocError>
+    ensures { OnOk result (AddsRows report.old rows.now report.new) }
 {
-    for index in 0..count {
-        let row = rows[index].copy(alloc)?;
+    for row in rows {
+        let row = row.copy(alloc)?;
         add_row(report, row)?;
     }
     Ok(())
@@ -102,6 +98,24 @@ pub(crate) fn add_rows(report: &mut Report, rows: RowList) -> Result<(), AllocEr
     ensures { OnOk result (AddsRows report.old rows report.new) }
 {
     for row in rows.into_vec() {
+        add_row(report, row)?;
+    }
+    Ok(())
+}
+
+/// Adds copies of the rows, moved.
+pub(crate) fn add_moved_copies(
+    alloc: Global,
+    report: &mut Report,
+    rows: &[Row],
+    shift: &Shift,
+) -> Result<(), AllocError>
+    requires { AllByRecursion IsInOrder rows.now }
+    ensures { OnOk result
+        (AddsRows report.old (map (shifted_row shift.now.from shift.now.to) rows.now) report.new) }
+{
+    for row in rows {
+        let row = shift.row(alloc, row)?;
         add_row(report, row)?;
     }
     Ok(())

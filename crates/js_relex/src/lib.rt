@@ -7,6 +7,7 @@ mod drive;
 mod edit;
 mod fault;
 mod gather;
+mod join;
 mod kept;
 
 pub use document::{LexDoc, relex};

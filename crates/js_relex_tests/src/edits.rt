@@ -22,7 +22,7 @@ struct Case {
     told: &'static str,
 }
 
-static CASES: [Case; 7] = [
+static CASES: [Case; 8] = [
     // The last of four rows ends behind the edit, and the first alone ends four bytes before it.
     Case {
         text: "ab cd ef",
@@ -31,7 +31,7 @@ static CASES: [Case; 7] = [
         end: 7,
         new: "x",
         new_steps: 3,
-        told: "kept 1;Ident 0..2 n;Ident 3..5;Ident 6..8;Eof 8..8;",
+        told: "kept 1;joined 3;Ident 0..2 n;Ident 3..5;Ident 6..8;Eof 8..8;",
     },
     Case {
         text: "foo(a, b);\nbar(c);",
@@ -40,8 +40,18 @@ static CASES: [Case; 7] = [
         end: 8,
         new: "bb",
         new_steps: 12,
-        told: "kept 1;Ident 0..3 n;LParen 3..4;Ident 4..5;Comma 5..6;Ident 7..9;RParen 9..10;\
+        told: "kept 1;joined 5;Ident 0..3 n;LParen 3..4;Ident 4..5;Comma 5..6;Ident 7..9;RParen 9..10;\
             Semicolon 10..11;Ident 12..15 n;LParen 15..16;Ident 16..17;RParen 17..18;Semicolon 18..19;Eof 19..19;",
+    },
+    // The token behind a new line end has another flag, and joins nothing.
+    Case {
+        text: "a b c",
+        old_steps: 3,
+        start: 1,
+        end: 2,
+        new: "\n",
+        new_steps: 3,
+        told: "kept 0;joined 2;Ident 0..1 n;Ident 2..3 n;Ident 4..5;Eof 5..5;",
     },
     // Nothing is kept where the edit is at the start.
     Case {
@@ -51,7 +61,7 @@ static CASES: [Case; 7] = [
         end: 0,
         new: "c ",
         new_steps: 3,
-        told: "kept 0;Ident 0..1 n;Ident 2..3;Ident 4..5;Eof 5..5;",
+        told: "kept 0;joined 2;Ident 0..1 n;Ident 2..3;Ident 4..5;Eof 5..5;",
     },
     // A comment that is opened takes in what stands behind it.
     Case {
@@ -61,7 +71,7 @@ static CASES: [Case; 7] = [
         end: 6,
         new: "/*",
         new_steps: 5,
-        told: "kept 1;Ident 0..1 n;Ident 2..3;Ident 4..5;Eof 6..11;Eof 11..11;Eof 11..11;",
+        told: "kept 1;joined 5;Ident 0..1 n;Ident 2..3;Ident 4..5;Eof 6..11;Eof 11..11;Eof 11..11;",
     },
     // Fewer commands than rows that might stay.
     Case {
@@ -71,7 +81,7 @@ static CASES: [Case; 7] = [
         end: 13,
         new: "h",
         new_steps: 2,
-        told: "kept 3;Ident 0..1 n;Ident 2..3;Ident 4..5;",
+        told: "kept 3;joined none;Ident 0..1 n;Ident 2..3;Ident 4..5;",
     },
     // An edit of everything, and one of nothing.
     Case {
@@ -81,7 +91,7 @@ static CASES: [Case; 7] = [
         end: 3,
         new: "",
         new_steps: 0,
-        told: "kept 0;Eof 0..0 n;",
+        told: "kept 0;joined none;Eof 0..0 n;",
     },
     Case {
         text: "a b c d",
@@ -90,7 +100,7 @@ static CASES: [Case; 7] = [
         end: 7,
         new: "",
         new_steps: 4,
-        told: "kept 2;Ident 0..1 n;Ident 2..3;Ident 4..5;Ident 6..7;Eof 7..7;",
+        told: "kept 2;joined 4;Ident 0..1 n;Ident 2..3;Ident 4..5;Ident 6..7;Eof 7..7;",
     },
 ];
 
@@ -103,11 +113,15 @@ fn nexts(alloc: Global, count: usize) -> Result<CommandList, AllocError> {
     Ok(commands)
 }
 
-/// How many rows were kept, and the tokens of all.
+/// How many rows were kept, which row joined the old ones, and the tokens of all.
 fn tell(alloc: Global, document: &LexDoc) -> Result<String, AllocError> {
     let mut text = String::new(alloc);
     let kept = document.kept_rows();
     write!(text, "kept {kept};")?;
+    match document.joined_row() {
+        Some(row) => write!(text, "joined {row};")?,
+        None => write!(text, "joined none;")?,
+    }
     for row in document.report().rows.as_slice() {
         let token = &row.token;
         let name = token.kind().name();

@@ -1,23 +1,29 @@
-use Rattle.std.proofs.Common.{sym, subst, ap, arith, length}
-use Rattle.js_session.specs.Report.{Run}
+use Rattle.std.proofs.Common.{◌+◌, sym, subst, arith, inr}
 use Rattle.js_session.specs.Session.{state_behind}
 use Rattle.js_session.specs.declared.report.Report.{Report}
-use Rattle.js_relex.proofs.DrivenRows.{driven_behind}
+use Rattle.js_relex.specs.Joining.{BreaksBehind, ReadsUntil}
+use Rattle.js_relex.proofs.Outcomes.{on_err}
+use Rattle.js_relex.proofs.ReadRows.{breaks_behind, reads_behind, ticks_behind}
 use Rattle.js_relex.proofs.drive.rows_behind.Goals as goal
+
+pub returns-in_err-joined-clause-broken : goal.returns-in_err-joined-clause-broken
+returns-in_err-joined-clause-broken g c =
+    on_err c.from_residual.result
+    (inr
+    (subst
+    (λ n. BreaksBehind c.args.text.now c.args.source_type (state_behind c.args.token) c.args.joining.now
+    c.args.commands.now n c.step_until_joined.new.steps)
+    c.in-Ok.ensures.ticks
+    (breaks_behind c.args.text.now c.args.source_type _ c.args.token c.args.joining.now c.args.commands.now
+    c.in-Ok.session c.step_until_joined.new.session _ _ c.utf8.text c.requires.lasting c.in-Ok.ensures.ok
+    c.in_err-joined.ensures.err)))
 
 pub returns-clause-rows : goal.returns-clause-rows
 returns-clause-rows g c =
-    let driven =
-    driven_behind c.args.text.now c.args.source_type _ c.args.token c.args.commands.now c.in-Ok.session
-    c.step_each.new.session c.requires.lasting c.in-Ok.ensures.ok c.in_ok-step_each.ensures.runs in
     subst
-    (λ (r : Report). Run c.args.text.now c.args.source_type (state_behind c.args.token) c.args.commands.now r.rows)
-    (sym c.finish-report.ensures.report) driven.run
-
-pub returns-clause-ticks : goal.returns-clause-ticks
-returns-clause-ticks g c =
-    let driven =
-    driven_behind c.args.text.now c.args.source_type _ c.args.token c.args.commands.now c.in-Ok.session
-    c.step_each.new.session c.requires.lasting c.in-Ok.ensures.ok c.in_ok-step_each.ensures.runs in
-    let rows = ap (λ (r : Report). length r.rows) c.finish-report.ensures.report in
-    omega (arith, rows, driven.count_is, c.in_ok-step_each.ensures.ticks, c.in-Ok.ensures.ticks)
+    (λ (r : Report). ReadsUntil c.args.text.now c.args.source_type (state_behind c.args.token) c.args.joining.now
+    c.args.commands.now r.rows c.in_ok-joined.joined)
+    (sym c.finish-report.ensures.report)
+    (reads_behind c.args.text.now c.args.source_type _ c.args.token c.args.joining.now c.args.commands.now
+    c.in-Ok.session c.step_until_joined.new.session _ _ c.in_ok-joined.joined c.in-Ok.ensures.ok
+    c.in_ok-joined.ensures.ok)

@@ -1,0 +1,55 @@
+-- A report that is put together of kept rows, rows that were read, and old rows, moved.
+use Rattle.std.proofs.Common.{◌≡◌, ℕ, ◌+◌, ◌-◌, ◌≤◌, List, [], ◌++◌, length, map}
+use Rattle.std.proofs.Common.{take, drop, sym, ◌∙◌, ap, subst, arith}
+use Rattle.std.specs.List.{AllByRecursion}
+use Rattle.js_session.specs.declared.report.Report.{Report}
+use Rattle.js_session.specs.declared.row.Row.{Row}
+use Rattle.js_session.specs.Live.{nothing_live, report_with}
+use Rattle.js_session.specs.Shifted.{shifted_row}
+use Rattle.js_relex.specs.Documents.{AddsRows, DocState, IsDocument, IsGathered, IsInOrder, joining}
+use Rattle.js_relex.specs.Joined.{JoiningState}
+use Rattle.js_relex.specs.Joining.{PreparedState, Prepares, all_rows, taken_over}
+use Rattle.js_relex.proofs.InPlace.{behind_in_order, kept_before}
+use Rattle.js_relex.proofs.LiveRows.{adds_both, gathers}
+use Rattle.js_relex.proofs.Relexed.{rest_of}
+
+module _ (old : DocState) (start end : ℕ) (new : List ℕ) (p : PreparedState)
+    (doc : IsDocument old.text old.source_type old.commands old.report) (h : Prepares old start end new p)
+    (rows : List Row) (behind : ℕ) (rows_are : rows ≡ old.report.rows)
+    (behind_is : behind ≡ taken_over (joining old start end new p.commands) p.kept p.rows) where
+  abbrev j : JoiningState
+  j = joining old start end new p.commands
+
+  -- so many old rows are there
+  pub few_behind : behind ≤ length rows
+  few_behind =
+      let less = kept_before old start end new p doc h in
+      let count = ap length rows_are in
+      omega (arith, less, count, behind_is)
+
+  -- they lie in order
+  pub last_in_order : AllByRecursion IsInOrder
+      (take (length rows - (length rows - behind)) (drop (length rows - behind) rows))
+  last_in_order =
+      subst (AllByRecursion IsInOrder) (sym (rest_of rows (length rows - behind)))
+      (subst (λ n. AllByRecursion IsInOrder (drop (length rows - n) rows)) (sym behind_is)
+      (subst (λ rs. AllByRecursion IsInOrder (drop (length rs - taken_over j p.kept p.rows) rs)) (sym rows_are)
+      (behind_in_order old start end new p doc h)))
+
+  pub gathers_all : (kept : ℕ) (read : List Row) (from to : ℕ) (r0 r1 r2 r3 : Report) → kept ≡ p.kept
+      → read ≡ p.rows → from ≡ j.from → to ≡ j.to → r0 ≡ report_with [] [] nothing_live
+      → AddsRows r0 (take kept rows) r1 → AddsRows r1 read r2
+      → AddsRows r2
+      (map (shifted_row from to) (take (length rows - (length rows - behind)) (drop (length rows - behind) rows))) r3
+      → IsGathered (all_rows j p.kept p.rows) r3
+  gathers_all kept read from to r0 r1 r2 r3 kept_is read_is from_is to_is none front middle last =
+      let f = shifted_row from to in
+      let tail = take (length rows - (length rows - behind)) (drop (length rows - behind) rows) in
+      let all =
+      adds_both r0 r2 r3 (take kept rows ++ read) (map f tail) (adds_both r0 r1 r2 (take kept rows) read front middle)
+      last in
+      subst (λ rs. IsGathered rs r3)
+      (ap (λ rs. take kept rows ++ read ++ map f rs) (rest_of rows (length rows - behind))
+      ∙ (λ i. take (kept_is i) (rows_are i) ++ read_is i ++ map (shifted_row (from_is i) (to_is i))
+      (drop (length (rows_are i) - behind_is i) (rows_are i))))
+      (gathers r0 r3 (take kept rows ++ read ++ map f tail) none all)
