@@ -1,0 +1,83 @@
+-- A text without its comments, from a place on.
+use Rattle.std.proofs.Common.{◌≡◌, ℕ, ◌+◌, ◌-◌, ◌≤◌, List, [], ◌∷◌, ◌++◌, length, take, drop, sym, ◌∙◌, ap}
+use Rattle.std.proofs.Common.{arith, append_assoc, subst}
+use Rattle.std.specs.Prelude.{slice_range}
+use Rattle.std.specs.Str.{IsCharBoundary, IsUtf8}
+use Rattle.std.proofs.lemmas.Str.{IsCharBoundary-start}
+use Rattle.std.proofs.Math.Seq.{drop-append_seam}
+use Rattle.std.proofs.lemmas.List.{drop-take, length-take-le, take-append-drop, take-append-le, take-take}
+use Rattle.js_text.specs.declared.comment.Comment.{Comment}
+use Rattle.js_strip.specs.StripText.{StandInOrder, StandsFrom, stand_in, strip_text, without_comment}
+
+-- what is left from the place on, without these comments
+abbrev pub stripped_from : List ℕ → ℕ → List Comment → List ℕ
+stripped_from text place [] = drop place text
+stripped_from text place (c ∷ cs) =
+    slice_range text place c.span.start ++ stand_in c.kind ∷ stripped_from text c.span.end cs
+
+-- the bytes up to a place, and then those up to a later one
+take_split : (text : List ℕ) (p q : ℕ) → p ≤ q → take q text ≡ take p text ++ slice_range text p q
+take_split text p q h =
+    let sum : p + (q - p) ≡ q = omega (arith, h) in
+    sym (take-append-drop p (take q text))
+    ∙ ap (λ t. t ++ drop p (take q text)) (take-take p q text h)
+    ∙ ap (λ n. take p text ++ drop p (take n text)) (sym sum)
+    ∙ ap (λ t. take p text ++ t) (drop-take p (q - p) text)
+
+-- one comment, in a text of which the rest is already without its comments
+replaced : (text rest : List ℕ) (p : ℕ) (c : Comment) → StandsFrom text p c
+    → without_comment (take c.span.end text ++ rest) c
+    ≡ take p text ++ (slice_range text p c.span.start ++ stand_in c.kind ∷ rest)
+replaced text rest p c s =
+    let inside = s.ends.0 in
+    let whole : length (take c.span.end text) ≡ c.span.end = length-take-le c.span.end text inside in
+    let behind : drop c.span.end (take c.span.end text ++ rest) ≡ rest =
+    ap (λ n. drop n (take c.span.end text ++ rest)) (sym whole) ∙ drop-append_seam (take c.span.end text) rest in
+    let front : take c.span.start (take c.span.end text ++ rest) ≡ take c.span.start text =
+    take-append-le c.span.start (take c.span.end text) rest (omega (arith, whole, s.ordered))
+    ∙ take-take c.span.start c.span.end text s.ordered in
+    ap (λ t. t ++ stand_in c.kind ∷ drop c.span.end (take c.span.end text ++ rest)) front
+    ∙ ap (λ t. take c.span.start text ++ stand_in c.kind ∷ t) behind
+    ∙ ap (λ t. t ++ stand_in c.kind ∷ rest) (take_split text p c.span.start s.behind)
+    ∙ append_assoc (take p text) (slice_range text p c.span.start) (stand_in c.kind ∷ rest)
+
+-- The text without its comments is what stands before the place, and what is left from there on.
+pub stripped_behind : (text : List ℕ) (p : ℕ) (comments : List Comment) → StandInOrder text p comments
+    → strip_text text comments ≡ take p text ++ stripped_from text p comments
+stripped_behind text p [] stand = sym (take-append-drop p text)
+stripped_behind text p (c ∷ cs) stand =
+    ap (λ t. without_comment t c) (stripped_behind text c.span.end cs stand.1)
+    ∙ replaced text (stripped_from text c.span.end cs) p c stand.0
+
+pub stripped_whole : (text : List ℕ) (comments : List Comment) → StandInOrder text 0 comments
+    → strip_text text comments ≡ stripped_from text 0 comments
+stripped_whole text comments stand = stripped_behind text 0 comments stand
+
+-- So much was written of a text without its comments: up to the place, where these comments are left.
+pub record StrippedSoFar (text : List ℕ) (comments left : List Comment) (place : ℕ) (written : List ℕ) : Type 0 where
+  pub whole : written ++ stripped_from text place left ≡ strip_text text comments
+  pub stand : StandInOrder text place left
+  pub at : IsCharBoundary text place
+
+pub so_far_start : (text : List ℕ) (comments : List Comment) → IsUtf8 text → StandInOrder text 0 comments
+    → StrippedSoFar text comments comments 0 []
+so_far_start text comments u stand =
+    record { whole = sym (stripped_whole text comments stand); stand = stand; at = IsCharBoundary-start text u }
+
+-- one comment more
+pub so_far_next : (text : List ℕ) (comments left more : List Comment) (place : ℕ) (written new : List ℕ) (c : Comment)
+    → left ≡ c ∷ more
+    → new ≡ (written ++ slice_range text place c.span.start) ++ stand_in c.kind ∷ []
+    → StrippedSoFar text comments left place written → StrippedSoFar text comments more c.span.end new
+so_far_next text comments left more place written new c here e s =
+    let stand : StandInOrder text place (c ∷ more) = subst (StandInOrder text place) here s.stand in
+    let rest = stripped_from text c.span.end more in
+    let part = slice_range text place c.span.start in
+    record {
+      whole =
+          ap (λ t. t ++ rest) e ∙ append_assoc (written ++ part) (stand_in c.kind ∷ []) rest
+          ∙ append_assoc written part (stand_in c.kind ∷ rest)
+          ∙ ap (λ l. written ++ stripped_from text place l) (sym here) ∙ s.whole;
+      stand = stand.1;
+      at = stand.0.ends;
+    }

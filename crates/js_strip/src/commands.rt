@@ -1,0 +1,44 @@
+//! Which commands a source is stripped with.
+
+ghost use Rattle.std.specs.Prelude.{◌≡◌};
+ghost use Rattle.js_session.specs.Effects.{is_lasting};
+ghost use Rattle.js_strip.specs.Faults.{ends_before_html, first_bad, may_strip};
+
+use js_session::Command;
+use js_text::SourceType;
+
+/// Whether the command gives a row which stays.
+fn is_lasting(command: Command) -> bool
+    ensures { result ≡ is_lasting command }
+{
+    match command {
+        Command::Peek | Command::Mark | Command::Rewind | Command::Commit => false,
+        _ => true,
+    }
+}
+
+/// Whether the token of the command may end right before a `<!--`.
+fn ends_before_html(command: Command) -> bool
+    ensures { result ≡ ends_before_html command }
+{
+    match command {
+        Command::JsxChild | Command::TsLAngle => true,
+        _ => false,
+    }
+}
+
+/// Whether a source of the type is stripped with the command.
+fn may_strip(source_type: SourceType, command: Command) -> bool
+    ensures { result ≡ may_strip source_type command }
+{
+    is_lasting(command) && (source_type.is_module() || !ends_before_html(command))
+}
+
+/// The index of the first command with which no source of the type is stripped, if there is one.
+pub(crate) fn first_bad(source_type: SourceType, commands: &[Command]) -> Option<usize>
+    ensures { result ≡ first_bad source_type commands.now }
+{
+    commands
+        .iter()
+        .position(|command| !may_strip(source_type, *command))
+}
