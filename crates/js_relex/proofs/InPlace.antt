@@ -158,7 +158,8 @@ module _ (old : DocState) (start end : ℕ) (new : List ℕ) (p : PreparedState)
           elim (cases_lt joined.index p.kept) [
             | inl less ↦
                 let ends =
-                kept_at start old.report.rows p.commands p.kept joined.index joined.row h.kept_is less joined.is_there in
+                kept_at start old.report.rows p.commands p.kept joined.index joined.row h.kept_is less
+                joined.is_there in
                 let starts = joined.starts_behind in
                 let order = in_order_at old.report.rows joined.index joined.row all_in_order joined.is_there in
                 let edit = h.edit.ordered in

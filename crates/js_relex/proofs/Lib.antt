@@ -8,6 +8,7 @@ pub mod JoinedRows
 pub mod KeptLemmas
 pub mod KeptRows
 pub mod Lasting
+pub mod LiveInPlace
 pub mod LiveRows
 pub mod NewRows
 pub mod Outcomes

@@ -8,7 +8,7 @@ use Rattle.js_session.specs.declared.row.Row.{Row}
 use Rattle.js_session.specs.Live.{Live, nothing_live, report_live, report_with}
 use Rattle.js_relex.specs.Documents.{AddsRows, IsGathered, live_behind}
 
-live-append : (live : Live) (rows more : List Row)
+pub live-append : (live : Live) (rows more : List Row)
     → live_behind live (rows ++ more) ≡ live_behind (live_behind live rows) more
 live-append live [] more = refl
 live-append live (row ∷ rows) more = live-append (live_behind live (row ∷ [])) rows more

@@ -9,7 +9,7 @@ use Rattle.js_session.specs.Shifted.{shifted_row}
 use Rattle.js_relex.specs.Documents.{AddsRows, DocState, IsDocument, IsGathered, IsInOrder, joining}
 use Rattle.js_relex.specs.Joined.{JoiningState}
 use Rattle.js_relex.specs.Joining.{PreparedState, Prepares, all_rows, taken_over}
-use Rattle.js_relex.proofs.InPlace.{behind_in_order, kept_before}
+use Rattle.js_relex.proofs.InPlace.{behind_in_order, kept_before, stay_behind}
 use Rattle.js_relex.proofs.LiveRows.{adds_both, gathers}
 use Rattle.js_relex.proofs.Relexed.{rest_of}
 
@@ -35,6 +35,35 @@ module _ (old : DocState) (start end : ℕ) (new : List ℕ) (p : PreparedState)
       (subst (λ n. AllByRecursion IsInOrder (drop (length rows - n) rows)) (sym behind_is)
       (subst (λ rs. AllByRecursion IsInOrder (drop (length rs - taken_over j p.kept p.rows) rs)) (sym rows_are)
       (behind_in_order old start end new p doc h)))
+
+  pub order_behind : AllByRecursion IsInOrder (drop (length rows - behind) rows)
+  order_behind = subst (AllByRecursion IsInOrder) (rest_of rows (length rows - behind)) last_in_order
+
+  -- no row that is kept is one of them
+  pub few_kept : (kept : ℕ) → kept ≡ p.kept → kept + behind ≤ length rows
+  few_kept kept kept_is =
+      let less = kept_before old start end new p doc h in
+      let count = ap length rows_are in
+      omega (arith, less, count, behind_is, kept_is)
+
+  -- where nothing moves, they stay
+  pub rows_stay : (from to : ℕ) → from ≡ j.from → to ≡ j.to → from ≡ to
+      → map (shifted_row from to) (drop (length rows - behind) rows) ≡ drop (length rows - behind) rows
+  rows_stay from to from_is to_is same =
+      let stay = stay_behind old start end new p doc h (sym from_is ∙ same ∙ to_is) in
+      let here : drop (length rows - behind) rows
+      ≡ drop (length old.report.rows - taken_over j p.kept p.rows) old.report.rows =
+      (λ i. drop (length (rows_are i) - behind_is i) (rows_are i)) in
+      (λ i. map (shifted_row (from_is i) (to_is i)) (here i)) ∙ stay ∙ sym here
+
+  -- all rows, as they are put in place
+  pub in_place : (kept : ℕ) (read : List Row) (from to : ℕ) → kept ≡ p.kept → read ≡ p.rows → from ≡ j.from
+      → to ≡ j.to
+      → take kept rows ++ read ++ map (shifted_row from to) (drop (length rows - behind) rows)
+      ≡ all_rows j p.kept p.rows
+  in_place kept read from to kept_is read_is from_is to_is =
+      λ i. take (kept_is i) (rows_are i) ++ read_is i
+      ++ map (shifted_row (from_is i) (to_is i)) (drop (length (rows_are i) - behind_is i) (rows_are i))
 
   pub gathers_all : (kept : ℕ) (read : List Row) (from to : ℕ) (r0 r1 r2 r3 : Report) → kept ≡ p.kept
       → read ≡ p.rows → from ≡ j.from → to ≡ j.to → r0 ≡ report_with [] [] nothing_live

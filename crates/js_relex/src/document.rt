@@ -13,7 +13,7 @@ mod edited;
 use crate::commands::first_bad;
 use crate::drive::report_from_start;
 use crate::fault::RelexFault;
-pub use edited::relex;
+pub use edited::{NotRelexed, relex};
 use js_session::{Command, CommandList, Report, Steps};
 use js_text::{SourceText, SourceType};
 use std::alloc::{AllocError, Global};

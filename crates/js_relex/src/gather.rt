@@ -1,10 +1,11 @@
 //! Rows gathered into a report, with what is live behind them.
 
-ghost use Rattle.std.specs.Prelude.{◌≡◌, [], ◌∷◌, map, OnOk};
+ghost use Rattle.std.specs.Prelude.{◌≡◌, ◌≤◌, ◌+◌, ◌-◌, ◌↔◌, [], ◌∷◌, ◌++◌, length, take, drop, map};
+ghost use Rattle.std.specs.Prelude.{IfOk, IsTrue, OnErr, OnOk};
 ghost use Rattle.std.specs.List.{AllByRecursion};
 ghost use Rattle.js_session.specs.Live.{nothing_live, outcome_of, report_live, report_with, with_outcome};
 ghost use Rattle.js_session.specs.Live.{with_re_lexed};
-ghost use Rattle.js_session.specs.Shifted.{shifted_row};
+ghost use Rattle.js_session.specs.Shifted.{ShiftFits, shifted_row};
 ghost use Rattle.js_relex.specs.Documents.{AddsRows, GoesLive, IsInOrder, live_behind};
 
 use js_kind::TokenList;
@@ -26,6 +27,13 @@ pub(crate) fn empty_report(alloc: Global) -> Report
         irregular: SpanList::new_in(alloc),
         warnings: SpanList::new_in(alloc),
     }
+}
+
+/// The report with these rows.
+pub(crate) fn with_rows(report: Report, rows: RowList) -> Report
+    ensures { result ≡ record report { rows = rows } }
+{
+    Report { rows, ..report }
 }
 
 /// Adds what the row found.
@@ -118,5 +126,123 @@ pub(crate) fn add_moved_copies(
         let row = shift.row(alloc, row)?;
         add_row(report, row)?;
     }
+    Ok(())
+}
+
+/// Makes live what the rows make live.
+fn add_live_rows(report: &mut Report, rows: &[Row]) -> Result<(), AllocError>
+    ensures { OnOk result (GoesLive report.old (live_behind (report_live report.old) rows.now) report.new) }
+{
+    for row in rows {
+        add_live(report, row)?;
+    }
+    Ok(())
+}
+
+/// Makes live what the rows make live, moved.
+fn add_moved_live_rows(
+    alloc: Global,
+    report: &mut Report,
+    rows: &[Row],
+    shift: &Shift,
+) -> Result<(), AllocError>
+    requires { AllByRecursion IsInOrder rows.now }
+    ensures { OnOk result (GoesLive report.old
+        (live_behind (report_live report.old) (map (shifted_row shift.now.from shift.now.to) rows.now)) report.new) }
+{
+    for row in rows {
+        let moved = shift.row(alloc, row)?;
+        add_live(report, &moved)?;
+    }
+    Ok(())
+}
+
+/// Makes live what the rows make live, moved; where nothing moves they are as they should be.
+fn add_last_live_rows(
+    alloc: Global,
+    report: &mut Report,
+    rows: &[Row],
+    shift: &Shift,
+) -> Result<(), AllocError>
+    requires in_order { AllByRecursion IsInOrder rows.now }
+    requires stay { shift.now.from ≡ shift.now.to
+        → map (shifted_row shift.now.from shift.now.to) rows.now ≡ rows.now }
+    ensures { OnOk result (GoesLive report.old
+        (live_behind (report_live report.old) (map (shifted_row shift.now.from shift.now.to) rows.now)) report.new) }
+{
+    if shift.from == shift.to {
+        return add_live_rows(report, rows);
+    }
+    add_moved_live_rows(alloc, report, rows, shift)
+}
+
+/// A report of no rows, in which that is live which is behind the first rows, those that were read, and the last old
+/// ones, moved.
+pub(crate) fn live_of(
+    alloc: Global,
+    rows: &[Row],
+    kept: usize,
+    read: &[Row],
+    behind: usize,
+    shift: &Shift,
+) -> Result<Report, AllocError>
+    requires kept { kept ≤ length rows.now }
+    requires behind { behind ≤ length rows.now }
+    requires in_order { AllByRecursion IsInOrder (drop (length rows.now - behind) rows.now) }
+    requires stay { shift.now.from ≡ shift.now.to
+        → map (shifted_row shift.now.from shift.now.to) (drop (length rows.now - behind) rows.now)
+        ≡ drop (length rows.now - behind) rows.now }
+    ensures { IfOk result (λ report. report ≡ report_with [] [] (live_behind nothing_live (take kept rows.now
+        ++ read.now
+        ++ map (shifted_row shift.now.from shift.now.to) (drop (length rows.now - behind) rows.now)))) }
+{
+    let mut report = empty_report(alloc);
+    add_live_rows(&mut report, &rows[..kept])?;
+    add_live_rows(&mut report, read)?;
+    add_last_live_rows(alloc, &mut report, &rows[rows.len() - behind..], shift)?;
+    Ok(report)
+}
+
+/// Whether each place of each row is a `u32` once it is moved.
+fn all_fit(shift: &Shift, rows: &[Row]) -> bool
+    ensures { IsTrue result ↔ AllByRecursion (ShiftFits shift.now.from shift.now.to) rows.now }
+{
+    for row in rows {
+        if !shift.fits(row) {
+            return false;
+        }
+    }
+    true
+}
+
+/// Puts the rows that were read in the place of the old ones between the first and the last, and moves the last where
+/// they stand.
+pub(crate) fn replace_rows(
+    alloc: Global,
+    rows: &mut RowList,
+    kept: usize,
+    read: RowList,
+    behind: usize,
+    shift: &Shift,
+) -> Result<(), AllocError>
+    requires few { kept + behind ≤ length rows.old }
+    requires in_order { AllByRecursion IsInOrder (drop (length rows.old - behind) rows.old) }
+    requires stay { shift.now.from ≡ shift.now.to
+        → map (shifted_row shift.now.from shift.now.to) (drop (length rows.old - behind) rows.old)
+        ≡ drop (length rows.old - behind) rows.old }
+    ensures ok { OnOk result (rows.new ≡ take kept rows.old ++ read
+        ++ map (shifted_row shift.now.from shift.now.to) (drop (length rows.old - behind) rows.old)) }
+    ensures err { OnErr result (rows.new ≡ rows.old) }
+{
+    let start = rows.len() - behind;
+    if shift.from == shift.to {
+        return rows.replace(kept, start, read);
+    }
+    if !all_fit(shift, &rows.as_slice()[start..]) {
+        return Err(AllocError);
+    }
+    let index = kept + read.len();
+    rows.replace(kept, start, read)?;
+    rows.shift_behind(alloc, index, shift);
     Ok(())
 }

@@ -10,6 +10,6 @@ mod gather;
 mod join;
 mod kept;
 
-pub use document::{LexDoc, relex};
+pub use document::{LexDoc, NotRelexed, relex};
 pub use edit::Edit;
 pub use fault::RelexFault;

@@ -136,36 +136,88 @@ fn tell(alloc: Global, document: &LexDoc) -> Result<String, AllocError> {
     Ok(text)
 }
 
-/// The document of the case's text with its edit made, in words. None where there is none.
-fn told<L: Ledger>(alloc: Global, case: &Case, blank: Blank) -> Result<Option<String>, AllocError>
-    requires name { blank.name ≡ L.name }
-    requires parts { blank.parts ≡ L.parts }
-    requires some_part { 0 < L.parts }
-{
-    let mut steps = Steps::<L>::new(blank);
+/// The document of an edit, in words. None where there is none.
+fn tell_relexed<L: Ledger>(
+    alloc: Global,
+    old: &LexDoc,
+    edit: &Edit<'_>,
+    commands: &[Command],
+    steps: &mut Steps<L>,
+) -> Result<Option<String>, AllocError> {
+    match relex(alloc, old, edit, commands, steps) {
+        Ok(new) => Ok(Some(tell(alloc, &new)?)),
+        Err(_) => Ok(None),
+    }
+}
+
+/// The same, of a document that is given away.
+fn tell_moved<L: Ledger>(
+    alloc: Global,
+    old: LexDoc,
+    edit: &Edit<'_>,
+    commands: &[Command],
+    steps: &mut Steps<L>,
+) -> Result<Option<String>, AllocError> {
+    match old.into_relexed(alloc, edit, commands, steps) {
+        Ok(new) => Ok(Some(tell(alloc, &new)?)),
+        Err(_) => Ok(None),
+    }
+}
+
+/// The document of the case's text. None where there is none.
+fn document<L: Ledger>(
+    alloc: Global,
+    case: &Case,
+    steps: &mut Steps<L>,
+) -> Result<Option<LexDoc>, AllocError> {
     let commands = nexts(alloc, case.old_steps)?;
     let type_ = SourceType::Module;
-    let old = match LexDoc::new(alloc, case.text, type_, commands.as_slice(), &mut steps) {
-        Ok(old) => old,
-        Err(_) => return Ok(None),
-    };
+    Ok(LexDoc::new(alloc, case.text, type_, commands.as_slice(), steps).ok())
+}
+
+/// The document of the case's text with its edit made, in words: of a document that stays, or of one that is given away.
+/// None where there is none.
+fn told<L: Ledger>(
+    alloc: Global,
+    case: &Case,
+    moved: bool,
+    steps: &mut Steps<L>,
+) -> Result<Option<String>, AllocError> {
     let edit = Edit {
         start: case.start,
         end: case.end,
         text: case.new,
     };
     let commands = nexts(alloc, case.new_steps)?;
-    match relex(alloc, &old, &edit, commands.as_slice(), &mut steps) {
-        Ok(new) => Ok(Some(tell(alloc, &new)?)),
-        Err(_) => Ok(None),
+    match document(alloc, case, steps)? {
+        Some(old) if moved => tell_moved(alloc, old, &edit, commands.as_slice(), steps),
+        Some(old) => tell_relexed(alloc, &old, &edit, commands.as_slice(), steps),
+        None => Ok(None),
     }
+}
+
+/// What is told of the case in both ways.
+fn told_twice<L: Ledger>(
+    alloc: Global,
+    case: &Case,
+    blank: Blank,
+) -> Result<(Option<String>, Option<String>), AllocError>
+    requires name { blank.name ≡ L.name }
+    requires parts { blank.parts ≡ L.parts }
+    requires some_part { 0 < L.parts }
+{
+    let mut steps = Steps::<L>::new(blank);
+    let new = told(alloc, case, false, &mut steps)?;
+    let moved = told(alloc, case, true, &mut steps)?;
+    Ok((new, moved))
 }
 
 #[test]
 fn rows_behind_edits(rt: HostRuntime) -> Result<(), Fail> {
     for case in &CASES {
-        let told = told::<Brand>(rt.alloc(), case, Blank::new(1))?.ok_or("no document")?;
-        assert_eq!(rt; told.as_str(), case.told);
+        let (new, moved) = told_twice::<Brand>(rt.alloc(), case, Blank::new(1))?;
+        assert_eq!(rt; new.ok_or("no document")?.as_str(), case.told);
+        assert_eq!(rt; moved.ok_or("no document")?.as_str(), case.told);
     }
     Ok(())
 }
@@ -184,14 +236,29 @@ static FAULTS: [(u32, u32, &[Command], Option<RelexFault>); 5] = [
     (0, 1, &[Command::Next], None),
 ];
 
-/// The fault of an edit of `aé b` with these commands.
+/// The fault of an edit of a document that is given away, and how many bytes the one has that comes back.
+fn handed_back<L: Ledger>(
+    alloc: Global,
+    old: LexDoc,
+    edit: &Edit<'_>,
+    commands: &[Command],
+    steps: &mut Steps<L>,
+) -> Option<(RelexFault, usize)> {
+    match old.into_relexed(alloc, edit, commands, steps) {
+        Ok(_) => None,
+        Err(not) => Some((not.fault, not.document.text().len())),
+    }
+}
+
+/// The faults of an edit of `aé b` with these commands, of a document that stays and of one that is given away, and how
+/// many bytes the one has that comes back.
 fn fault<L: Ledger>(
     alloc: Global,
     start: u32,
     end: u32,
     commands: &[Command],
     blank: Blank,
-) -> Option<RelexFault>
+) -> Option<(RelexFault, RelexFault, usize)>
     requires name { blank.name ≡ L.name }
     requires parts { blank.parts ≡ L.parts }
     requires some_part { 0 < L.parts }
@@ -203,14 +270,16 @@ fn fault<L: Ledger>(
         end,
         text: "x",
     };
-    relex(alloc, &old, &edit, commands, &mut steps).err()
+    let fault = relex(alloc, &old, &edit, commands, &mut steps).err()?;
+    let (moved, count) = handed_back(alloc, old, &edit, commands, &mut steps)?;
+    Some((fault, moved, count))
 }
 
 #[test]
 fn faults_of_edits(rt: HostRuntime) -> Result<(), Fail> {
     for (start, end, commands, fault_of_edit) in &FAULTS {
         let found = fault::<Brand>(rt.alloc(), *start, *end, commands, Blank::new(1));
-        assert_eq!(rt; found, *fault_of_edit);
+        assert_eq!(rt; found, fault_of_edit.map(|fault| (fault, fault, 5)));
     }
     Ok(())
 }

@@ -1,7 +1,7 @@
 //! Documents of edited texts.
 
 ghost use Rattle.std.specs.Prelude.{◌≡◌, ◌≤◌, ◌<◌, ◌+◌, ◌-◌, ◌^◌, ◌⊎◌, true, length, Err};
-ghost use Rattle.std.specs.Prelude.{IfOk, IfErr, OnErr, OnOk, IsOk};
+ghost use Rattle.std.specs.Prelude.{IfOk, IfErr, OnErr, IsOk, MatchResult};
 ghost use Rattle.std.specs.List.{list_all};
 ghost use Rattle.js_session.specs.Effects.{is_lasting};
 ghost use Rattle.js_relex.specs.Documents.{EditCause, IsEdit, Relexes, TicksAtMost, edited, joining};
@@ -13,7 +13,9 @@ use super::{LexDoc, check};
 use crate::drive::{ReadRows, rows_behind, rows_from_start};
 use crate::edit::Edit;
 use crate::fault::RelexFault;
-use crate::gather::{add_copies, add_moved_copies, add_rows, empty_report};
+use crate::gather::{
+    add_copies, add_moved_copies, add_rows, empty_report, live_of, replace_rows, with_rows,
+};
 use crate::join::Joining;
 use crate::kept::count_kept;
 use js_session::{Command, CommandList, RowList, Shift, Steps};
@@ -310,5 +312,106 @@ pub fn relex<L: Ledger>(
     match put_together(alloc, old, edit, prepared) {
         Ok(document) => Ok(document),
         Err(_) => Err(RelexFault::Memory),
+    }
+}
+
+/// Why an edit gave no document, with the document as it was.
+#[derive(Drop)]
+pub struct NotRelexed {
+    pub document: LexDoc,
+    pub fault: RelexFault,
+}
+
+/// The document of the edited text, in which the old rows are moved where they stand; or the old one, as it was.
+fn put_in_place(
+    alloc: Global,
+    old: LexDoc,
+    edit: &Edit<'_>,
+    prepared: Prepared,
+) -> Result<LexDoc, LexDoc>
+    requires { Prepares old edit.now.start edit.now.end edit.now.text.now prepared }
+    ensures made { IfOk result (Relexes old edit.now.start edit.now.end edit.now.text.now prepared.commands
+        0 (length prepared.rows)) }
+    ensures refused { IfErr result (λ document. document ≡ old) }
+{
+    let behind = count_taken_over(&prepared);
+    let joined = joined_index(&prepared);
+    let shift = shift_of(edit);
+    let Prepared {
+        text,
+        commands,
+        kept,
+        rows: read,
+        joined: _,
+    } = prepared;
+    let rows = old.report.rows.as_slice();
+    let live = match live_of(alloc, rows, kept, read.as_slice(), behind, &shift) {
+        Ok(live) => live,
+        Err(_) => return Err(old),
+    };
+    let mut old = old;
+    match replace_rows(alloc, &mut old.report.rows, kept, read, behind, &shift) {
+        Ok(()) => {}
+        Err(_) => return Err(old),
+    }
+    let LexDoc {
+        source_type,
+        report,
+        ..
+    } = old;
+    Ok(LexDoc {
+        text,
+        source_type,
+        commands,
+        report: with_rows(live, report.rows),
+        kept,
+        joined,
+    })
+}
+
+impl LexDoc {
+    /// The same as `relex`, of a document that is given away: the rows that are kept or taken over are moved, and not
+    /// copied. Where there is no document of the edit, the old one comes back as it was.
+    pub fn into_relexed<L: Ledger>(
+        self,
+        alloc: Global,
+        edit: &Edit<'_>,
+        commands: &[Command],
+        steps: &mut Steps<L>,
+    ) -> Result<LexDoc, NotRelexed>
+        ensures relexes { IfOk result (Relexes self edit.now.start edit.now.end edit.now.text.now commands.now
+            steps.old steps.new) }
+        ensures handed_back { IfErr result (λ not. not.document ≡ self) }
+        // Each fault comes for its cause alone, and where its cause is there, nothing but a lack of memory comes in its
+        // place.
+        ensures cause { IfErr result (λ not. (not.fault ≡ RelexFault.Memory)
+            ⊎ EditCause self.text edit.now.start edit.now.end edit.now.text.now commands.now not.fault) }
+        ensures exact { (fault : RelexFault)
+            → EditCause self.text edit.now.start edit.now.end edit.now.text.now commands.now fault
+            → MatchResult result (λ document. ⊥) (λ not. (not.fault ≡ fault) ⊎ (not.fault ≡ RelexFault.Memory)) }
+        ensures complete { IsEdit self.text edit.now.start edit.now.end
+            → length (edited self.text edit.now.start edit.now.end edit.now.text.now) < 2 ^ 32
+            → list_all is_lasting commands.now ≡ true → IfErr result (λ not. not.fault ≡ RelexFault.Memory) }
+        ensures refused { IfErr result (λ not. (not.fault ≡ RelexFault.Memory) ⊎ (steps.new ≡ steps.old)) }
+        ensures at_least { steps.old ≤ steps.new }
+        ensures at_most { (steps.new ≡ steps.old) ⊎ TicksAtMost self edit.now.start edit.now.end edit.now.text.now
+            commands.now steps.old steps.new }
+    {
+        let prepared = match prepare(alloc, &self, edit, commands, steps) {
+            Ok(prepared) => prepared,
+            Err(fault) => {
+                return Err(NotRelexed {
+                    document: self,
+                    fault,
+                });
+            }
+        };
+        match put_in_place(alloc, self, edit, prepared) {
+            Ok(document) => Ok(document),
+            Err(document) => Err(NotRelexed {
+                document,
+                fault: RelexFault::Memory,
+            }),
+        }
     }
 }

@@ -1,5 +1,5 @@
 use Rattle.js_relex_tests.proofs.edits.rows_behind_edits.Given as goal
 
 -- The ledger of the counter.
-abbrev pub ghosts-told : goal.ghosts-told
-ghosts-told g a = record { name = a.blank.name; parts = a.blank.parts }
+abbrev pub ghosts-told_twice : goal.ghosts-told_twice
+ghosts-told_twice g a = record { name = a.blank.name; parts = a.blank.parts }
