@@ -33,6 +33,10 @@ is_kind a b r h =
     same_from_decides r (number a == number b) h
     (λ e. number_injective a b (eqb-true _ _ e), λ e. eq-eqb _ _ (ap number e))
 
+-- the kind of a token by the test for it
+pub kind_at : (kind : Kind) (c : CursorState) → is_at kind c ≡ true → c.token.kind ≡ kind
+kind_at kind c at = number_injective c.token.kind kind (eqb-true _ _ at)
+
 noted_more : (b : Bool) (error : CursorDiagnostic) (c : CursorState)
     → (more : List CursorDiagnostic)
     × ((if b then with_error error c else c) ≡ record c { errors = c.errors ++ more })
@@ -133,9 +137,13 @@ recovered_is earlier old new left to e goes restored new_is =
 
 -- the lexer of a new cursor stands on its token
 pub on_first : (goal : Goal) (old new : of_state.LexerState) (token : TokenParts) (rest : List ℕ)
-    → rest ≡ drop old.place old.text → IsFresh old → of_state.ReadsToken goal old token new → IsOnToken rest new token
+    → rest ≡ drop old.place old.text → IsFresh old → of_state.ReadsToken goal old token new
+    → IsOnToken rest new token 0
 on_first goal old new token rest rest_is fresh r = record {
   text_is = r.after.text ∙ sym (rest_is ∙ ap (λ n. drop n old.text) fresh.place);
   last = r.after.last ∙ ap Some (sym r.token_is);
   some_text = subst HasByte (sym r.token_is) r.reads.some_text;
+  ordered = subst (λ (t : TokenParts). t.start ≤ t.end) (sym r.token_is) r.reads.places.ordered;
+  is_read = subst (λ (t : TokenParts). t.end ≤ new.place) (sym r.token_is) (omega (arith, r.after.place));
+  previous = omega arith;
 }

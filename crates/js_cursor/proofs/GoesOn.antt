@@ -1,5 +1,5 @@
 -- What a cursor does is going on from where it was.
-use Rattle.std.proofs.Common.{Bool, true, false, List, [], ◌∷◌, ◌++◌, refl, sym, ◌∙◌, ap, subst, append_assoc}
+use Rattle.std.proofs.Common.{◌≡◌, Bool, true, false, List, [], ◌∷◌, ◌++◌, refl, sym, ◌∙◌, ap, subst, append_assoc}
 use Rattle.std.proofs.Common.{append-nil}
 use Rattle.std.specs.declared.alloc.AllocError.{AllocError}
 use Rattle.std.specs.Prelude.{Result, Ok, Err, OnOk, OnErr, ◌&&◌, if◌then◌else◌}
@@ -192,3 +192,25 @@ pub advance_goes_on : (kind : Kind) (old new : CursorState) (r : Result (Unit {0
     → OnOk r (Advances kind old new) → OnErr r (IsAsBefore old new) → GoesOnFrom old new
 advance_goes_on kind old new (Ok u) ok err = advances_goes_on kind old new ok
 advance_goes_on kind old new (Err e) ok err = as_before_goes_on old new err
+
+-- an error that is reported, or for which there is no memory
+pub reported_goes_on : (error : CursorDiagnostic) (old new : CursorState) (r : Result (Unit {0}) AllocError)
+    → OnOk r (new ≡ with_error error old) → OnErr r (new ≡ old) → GoesOnFrom old new
+reported_goes_on error old new (Ok u) ok err = subst (GoesOnFrom old) (sym ok) (error_goes_on error old)
+reported_goes_on error old new (Err e) ok err = subst (GoesOnFrom old) (sym err) (goes_on-refl old)
+
+-- a fatal error
+pub stopped_goes_on : (error : CursorDiagnostic) (old new : CursorState) → new ≡ with_fatal_error error old
+    → GoesOnFrom old new
+stopped_goes_on error old new e = subst (GoesOnFrom old) (sym e) (fatal_error_goes_on error old)
+
+-- a lexer that is as it was, but for decoded values that were added
+pub goes_on_restored : (old : CursorState) (l : LexerState) → IsRestored old.lexer l
+    → Keeps old.lexer.decoded l.decoded → GoesOnFrom old (record old { lexer = l })
+goes_on_restored old l r kept = record {
+  lexer = restored_goes_on old.lexer l r;
+  decoded = kept;
+  ambient = refl;
+  more = [];
+  errors = sym (append-nil old.errors);
+}

@@ -1,15 +1,20 @@
 -- The rounds of lists.
 use Rattle.std.proofs.Common.{◌≡◌, ◌<◌, ℕ, ◌-◌, ◌^◌, Bool, true, false, List, [], ◌∷◌, ◌++◌, refl, sym, ◌∙◌, subst}
 use Rattle.std.proofs.Common.{Option, Some, None, arith}
-use Rattle.std.specs.Prelude.{◌&&◌, ◌||◌, if◌then◌else◌, is_none, nat_le}
+use Rattle.std.specs.Prelude.{Result, ◌&&◌, ◌||◌, if◌then◌else◌, is_none, nat_le}
 use Rattle.std.specs.Option.{is_some}
 use Rattle.std.proofs.lemmas.Bool.Decides.{nat_tests}
 use Rattle.std.proofs.lemmas.Fn.{FoldsTo-push}
+use Rattle.std.specs.declared.alloc.AllocError.{AllocError}
 use Rattle.js_kind.specs.declared.kind.Kind.{Kind}
+use Rattle.js_cursor.specs.Checkpoint.{GoesOnFrom}
 use Rattle.js_cursor.specs.Cursor.{CursorState, is_at}
-use Rattle.js_cursor.specs.Lists.{IsRound, LeadingOn, OnStuck, Reading, Rounds, ends_at, is_stuck, is_stuck_at}
+use Rattle.js_cursor.specs.Lists.{Answering, GoesOn, IsRound, LeadingOn, OnStuck, Reading, Rounds, ends_at, is_stuck, is_stuck_at}
+use Rattle.js_cursor.specs.Lists.{left_to_read}
+use Rattle.js_cursor.specs.Memory.{OnMemory}
 use Rattle.js_cursor.specs.declared.fault.CursorFault.{CursorFault}
 use Rattle.js_cursor.specs.declared.fault.CursorFault.TheVariants.{Stuck, Memory}
+use Rattle.js_cursor.proofs.GoesOn.{goes_on-trans}
 
 -- one more round
 pub rounds-push : {F T : Type 0} (Q : Reading F T) (f : F) (c : CursorState) (xs : List T) (g : F) (d : CursorState)
@@ -25,10 +30,6 @@ or_none false b e = (refl, e)
 -- where a list does not end, no fatal error stands
 pub no_fatal_error : (close : Kind) (c : CursorState) → ends_at close c ≡ false → is_some c.fatal ≡ false
 no_fatal_error close c e = (or_none (is_at close c) (is_some c.fatal) e).1
-
--- what is left to read at most
-abbrev pub left_to_read : CursorState → ℕ
-left_to_read c = if is_some c.fatal then 0 else 2 ^ 32 - c.token.start
 
 leads_on : {A : Type 0} (before after : Option A) (m n : ℕ) → m < 2 ^ 32 → is_some before ≡ false
     → (is_none after && nat_le n m) ≡ false
@@ -65,3 +66,17 @@ pub on_stuck-map : (fault : CursorFault) (P Q : ℕ → Type 0) → ((at : ℕ) 
     → OnStuck fault Q
 on_stuck-map (Stuck at) P Q h p = h at p
 on_stuck-map Memory P Q h p = p
+
+-- what is said of a list that finds no memory
+pub on_memory : (fault : CursorFault) (P : Type 0) → P → OnMemory fault P
+on_memory (Stuck at) P p = tt
+on_memory Memory P p = p
+
+pub on_memory-map : (fault : CursorFault) (P Q : Type 0) → (P → Q) → OnMemory fault P → OnMemory fault Q
+on_memory-map (Stuck at) P Q h p = p
+on_memory-map Memory P Q h p = h p
+
+-- an element was called for behind what went on
+pub then_read : {F T : Type 0} (A : Answering F T) (a b : CursorState) (f : F) (answer : Result T AllocError) (g : F)
+    (d : CursorState) → (GoesOn A → GoesOnFrom a b) → A f b answer g d → GoesOn A → GoesOnFrom a d
+then_read A a b f answer g d before read onward = goes_on-trans a b d (before onward) (onward f b answer g d read)

@@ -17,10 +17,14 @@ pub record CursorCheckpoint : Type 0 where
   pub errors : ℕ
   pub fatal : Option FatalError
 
--- the token of a checkpoint is the last one of the lexer's
-pub record IsOfToken (lexer : of_lexer.Checkpoint) (token : TokenParts) : Type 0 where
+-- The token of a checkpoint is the last one of the lexer's, up to its place at most; the token before it ended no later
+-- than it starts.
+pub record IsOfToken (lexer : of_lexer.Checkpoint) (token : TokenParts) (previous_end : ℕ) : Type 0 where
   pub last : lexer.last ≡ Some token
   pub some_text : HasByte token
+  pub ordered : token.start ≤ token.end
+  pub is_read : token.end ≤ lexer.place
+  pub previous : previous_end ≤ token.start
 
 abbrev pub checkpoint_of : CursorState → CursorCheckpoint
 checkpoint_of c = record {
@@ -66,3 +70,9 @@ pub record GoesOnFrom (old now : CursorState) : Type 0 where
   pub ambient : now.ambient ≡ old.ambient
   pub more : List CursorDiagnostic
   pub errors : now.errors ≡ old.errors ++ more
+
+-- The cursor went on, and has not advanced: the current token starts where it did, and so does the one before it end.
+pub record HasNotAdvanced (old now : CursorState) : Type 0 where
+  pub goes_on : GoesOnFrom old now
+  pub start : now.token.start ≡ old.token.start
+  pub previous : now.previous_end ≡ old.previous_end

@@ -1,5 +1,5 @@
 -- How contracts see a cursor, and what its advances do.
-use Rattle.std.specs.Prelude.{◌≡◌, ◌≢◌, ℕ, ◌<◌, ◌==◌, ◌&&◌, ◌||◌, Bool, List, [], ◌∷◌, ◌++◌, length, Option, Some, None}
+use Rattle.std.specs.Prelude.{◌≡◌, ◌≢◌, ℕ, ◌<◌, ◌≤◌, ◌==◌, ◌&&◌, ◌||◌, Bool, List, [], ◌∷◌, ◌++◌, length, Option, Some, None}
 use Rattle.std.specs.Prelude.{if◌then◌else◌}
 use Rattle.std.specs.Option.{is_some}
 use Rattle.js_text.specs.declared.span.Span.{Span}
@@ -34,11 +34,15 @@ pub record IsFresh (l : LexerState) : Type 0 where
 abbrev pub HasByte : TokenParts → Type 0
 HasByte token = token.kind ≢ Eof → token.start < token.end
 
--- The text is that of the lexer, and the token is the last one that the lexer read.
-pub record IsOnToken (text : List ℕ) (lexer : LexerState) (token : TokenParts) : Type 0 where
+-- The text is that of the lexer, and the token is the last one that the lexer read, up to its place at most; the
+-- token before it ended no later than it starts.
+pub record IsOnToken (text : List ℕ) (lexer : LexerState) (token : TokenParts) (previous_end : ℕ) : Type 0 where
   pub text_is : lexer.text ≡ text
   pub last : lexer.last ≡ Some token
   pub some_text : HasByte token
+  pub ordered : token.start ≤ token.end
+  pub is_read : token.end ≤ lexer.place
+  pub previous : previous_end ≤ token.start
 
 -- where a token stands, in bytes
 abbrev pub span_of : TokenParts → Span
@@ -86,6 +90,14 @@ pub record IsAsBefore (old new : CursorState) : Type 0 where
 pub record ReadsOn (goal : Goal) (old new : CursorState) : Type 0 where
   pub read : ReadsToken goal old.lexer new.token new.lexer
   pub others : new ≡ record old { lexer = new.lexer; token = new.token; previous_end = old.token.end }
+
+-- The new token starts behind the start of the old one, where that was not the end of the source.
+abbrev pub StartsLater : CursorState → CursorState → Type 0
+StartsLater old new = old.token.kind ≢ Eof → old.token.start < new.token.start
+
+-- The start of the old token was passed: the token before the new one ends there or behind it.
+abbrev pub HasPassed : CursorState → CursorState → Type 0
+HasPassed old new = old.token.start ≤ new.previous_end
 
 -- An escape in the current token is an error where the token is taken as a word of the language (ECMA-262 12.7.2).
 abbrev pub noting_escape : Kind → CursorState → CursorState

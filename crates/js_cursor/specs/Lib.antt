@@ -1,9 +1,11 @@
+pub mod Ahead
 pub mod Checkpoint
 pub mod Cursor
 pub mod Diagnostic
 pub mod Expect
 pub mod ListSteps
 pub mod Lists
+pub mod Memory
 pub mod ReLex
 pub mod Rests
 pub mod RestSteps

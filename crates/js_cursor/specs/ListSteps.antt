@@ -4,11 +4,11 @@ use Rattle.js_text.specs.declared.span.Span.{Span}
 use Rattle.js_kind.specs.declared.kind.Kind.{Kind}
 use Rattle.js_cursor.specs.Cursor.{CursorState}
 use Rattle.js_cursor.specs.Lists.{EndsDelimited, IsSeparated, IsSeparatedRound, LeadingOn, Reading, Rounds}
-use Rattle.js_cursor.specs.declared.cursor.list.Behind.{Behind}
-use Rattle.js_cursor.specs.declared.cursor.list.Behind.TheVariants.{Element, End}
+use Rattle.js_cursor.specs.declared.list_step.ListStep.{ListStep}
+use Rattle.js_cursor.specs.declared.list_step.ListStep.TheVariants.{Element, End}
 
 -- Behind an element stands the next one, or the end of the list.
-abbrev pub GoesBehind : Kind → Kind → Span → CursorState → Behind → CursorState → Type 0
+abbrev pub GoesBehind : Kind → Kind → Span → CursorState → ListStep → CursorState → Type 0
 GoesBehind close separator opening old Element new = IsSeparated close separator old new
 GoesBehind close separator opening old (End trailing) new = EndsDelimited close separator opening old trailing new
 

@@ -1,21 +1,37 @@
 -- Lists that a cursor reads.
-use Rattle.std.specs.Prelude.{◌≡◌, ℕ, ◌-◌, ◌&&◌, ◌||◌, Bool, true, false, List, [], ◌∷◌, Option, Some, None, ⊤}
-use Rattle.std.specs.Prelude.{is_none, nat_le}
+use Rattle.std.specs.Prelude.{◌≡◌, ℕ, ◌-◌, ◌^◌, ◌&&◌, ◌||◌, Bool, true, false, List, [], ◌∷◌, Option, Some, None, ⊤}
+use Rattle.std.specs.Prelude.{Result, Ok, is_none, nat_le, if◌then◌else◌}
 use Rattle.std.specs.List.{FoldsTo}
 use Rattle.std.specs.Option.{is_some}
+use Rattle.std.specs.declared.alloc.AllocError.{AllocError}
 use Rattle.js_text.specs.declared.span.Span.{Span}
 use Rattle.js_kind.specs.Kinds.{is_one_of}
 use Rattle.js_kind.specs.declared.kind.Kind.{Kind}
 use Rattle.js_kind.specs.declared.kind.Kind.TheVariants.{Eof, Undetermined}
+use Rattle.js_cursor.specs.Checkpoint.{GoesOnFrom}
 use Rattle.js_cursor.specs.Cursor.{CursorState, Advances, is_at, span_of, with_fatal_error}
 use Rattle.js_cursor.specs.Expect.{expecting, expecting_closing}
 use Rattle.js_cursor.specs.declared.diagnostic.CursorDiagnostic.TheVariants.{ExpectClosingOrSeparator}
 use Rattle.js_cursor.specs.declared.fault.CursorFault.{CursorFault}
 use Rattle.js_cursor.specs.declared.fault.CursorFault.TheVariants.{Stuck, Memory}
 
--- What a call of an element means: the element and the cursor before it, what it read, and both after it.
+-- What a call of an element means, whatever it answers: the element and the cursor before it, its answer, and both
+-- after it.
+abbrev pub Answering : Type 0 → Type 0 → Type 1
+Answering F T = F → CursorState → Result T AllocError → F → CursorState → Type 0
+
+-- What a call that reads one means: the element and the cursor before it, what it read, and both after it.
 abbrev pub Reading : Type 0 → Type 0 → Type 1
 Reading F T = F → CursorState → T → F → CursorState → Type 0
+
+-- a call of an element that reads one
+abbrev pub Given : {F T : Type 0} → Answering F T → Reading F T
+Given A f c x g d = A f c (Ok x) g d
+
+-- Whatever a call of the element answers, the cursor has gone on.
+abbrev pub GoesOn : {F T : Type 0} → Answering F T → Type 0
+GoesOn {F} {T} A = (f : F) (c : CursorState) (answer : Result T AllocError) (g : F) (d : CursorState)
+    → A f c answer g d → GoesOnFrom c d
 
 -- The rounds read these items, one after another, each from where the one before it left the element and the cursor.
 abbrev pub Rounds : {F T : Type 0} → Reading F T → F → CursorState → List T → F → CursorState → Type 0
@@ -32,6 +48,11 @@ is_stuck_at start after = is_none after.fatal && nat_le after.token.start start
 
 abbrev pub is_stuck : CursorState → CursorState → Bool
 is_stuck before after = is_stuck_at before.token.start after
+
+-- What is left to read at most: nothing under a fatal error, and else the places from the current token's start on that
+-- a source may have. A round that leads on leaves less.
+abbrev pub left_to_read : CursorState → ℕ
+left_to_read c = if is_some c.fatal then 0 else 2 ^ 32 - c.token.start
 
 -- A round of a normal list, where the list does not end: an element.
 pub record IsRound {F T : Type 0} (R : Reading F T) (close : Kind) (f : F) (c : CursorState) (x : T) (g : F)

@@ -28,5 +28,5 @@ impl Model for ParserCheckpoint {
       fatal = c.fatal;
     } };
 
-    ghost invariant = { λ c. IsOfToken c.lexer c.token };
+    ghost invariant = { λ c. IsOfToken c.lexer c.token c.previous_end };
 }

@@ -5,6 +5,7 @@ ghost use Rattle.std.specs.Option.{is_some};
 ghost use Rattle.js_reader.specs.Decoded.{GivesTemplate, GivesText, IsStretch};
 ghost use Rattle.js_lexer.specs.Lexer.{IsOnPlaces, ReadsToken};
 ghost use Rattle.js_lexer.specs.Places.{ReadsInPlaces};
+ghost use Rattle.js_cursor.specs.Checkpoint.{HasNotAdvanced};
 ghost use Rattle.js_cursor.specs.Cursor.{IsFresh, allows_semicolon, is_at, is_at_token_end, span_of, with_error};
 ghost use Rattle.js_cursor.specs.Cursor.{with_fatal_error};
 
@@ -61,7 +62,7 @@ impl<'a, C: LexerConfig + Drop> Model for Cursor<'a, C> {
       ambient = c.ambient;
     } };
 
-    ghost invariant = { λ c. IsOnToken c.source_text.now c.lexer c.token };
+    ghost invariant = { λ c. IsOnToken c.source_text.now c.lexer c.token c.previous_end };
 }
 
 impl<'a, C: LexerConfig + Drop> Cursor<'a, C> {
@@ -98,7 +99,8 @@ impl<'a, C: LexerConfig + Drop> Cursor<'a, C> {
 
     /// Where the current token starts, as an offset in bytes.
     pub fn cur_start(&self) -> u32
-        ensures { result ≡ self.now.token.start }
+        ensures start { result ≡ self.now.token.start }
+        ensures behind { self.now.previous_end ≤ result }
     {
         self.token.start()
     }
@@ -113,7 +115,8 @@ impl<'a, C: LexerConfig + Drop> Cursor<'a, C> {
 
     /// Where the token before the current one ended, as an offset in bytes; 0 before the first advance.
     pub fn previous_end(&self) -> u32
-        ensures { result ≡ self.now.previous_end }
+        ensures end { result ≡ self.now.previous_end }
+        ensures before { result ≤ self.now.token.start }
     {
         self.previous_end
     }
@@ -277,6 +280,7 @@ impl<'a, C: LexerConfig + Drop> Cursor<'a, C> {
     pub fn error(&mut self, error: CursorDiagnostic) -> Result<(), AllocError>
         ensures ok { OnOk result (self.new ≡ with_error error self.old) }
         ensures err { OnErr result (self.new ≡ self.old) }
+        ensures stays { HasNotAdvanced self.old self.new }
     {
         self.errors.push(error)
     }
@@ -284,11 +288,14 @@ impl<'a, C: LexerConfig + Drop> Cursor<'a, C> {
     /// Stops the parser, unless an error did so before: the lexer goes to the end of the source, so that what is read
     /// from now on is the end.
     pub fn set_fatal_error(&mut self, error: CursorDiagnostic)
-        ensures { self.new ≡ with_fatal_error error self.old }
+        ensures state { self.new ≡ with_fatal_error error self.old }
+        ensures stays { HasNotAdvanced self.old self.new }
     {
         if self.fatal.is_some() {
             return;
         }
+        // The lexer's place is one of its text, so the end of that is no earlier than the current token's.
+        let _place = self.lexer.offset();
         let errors_len = self.lexer.errors().len();
         self.fatal = Some(FatalError { error, errors_len });
         self.lexer.advance_to_end();

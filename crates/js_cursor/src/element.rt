@@ -1,6 +1,7 @@
 //! What a parser reads in a list.
 
-ghost use Rattle.std.specs.Prelude.{IfOk};
+ghost use Rattle.std.specs.Prelude.{Result};
+ghost use Rattle.std.specs.declared.alloc.AllocError.{AllocError};
 ghost use Rattle.js_lexer.specs.Places.{KeepsPlaces};
 ghost use Rattle.js_cursor.specs.Cursor.{CursorState};
 
@@ -10,11 +11,11 @@ use std::alloc::AllocError;
 
 /// What a parser reads at a cursor, in the place of a closure.
 pub trait Element<C: LexerConfig + Drop, T> {
-    /// What a reading means: the element and the cursor before it, what was read, and both after it.
-    ghost reads: { Self → CursorState → T → Self → CursorState → Type 0 };
+    /// What a reading means, whatever it answers: the element and the cursor before it, its answer, and both after it.
+    ghost reads: { Self → CursorState → Result T AllocError → Self → CursorState → Type 0 };
 
     /// Reads one. The cursor's lexer gives up no place for a token.
     fn read(&mut self, cursor: &mut Cursor<'_, C>) -> Result<T, AllocError>
-        ensures reads { IfOk result (λ x. reads self.old cursor.old x self.new cursor.new) }
+        ensures reads { reads self.old cursor.old result self.new cursor.new }
         ensures places { KeepsPlaces cursor.old.lexer cursor.new.lexer };
 }

@@ -3,17 +3,21 @@
 //! lists.
 #![tactic(auto)]
 
+mod ahead;
 mod checkpoint;
 mod cursor;
 mod diagnostic;
 mod element;
 mod fault;
 pub mod laws;
+mod list_step;
 mod predicate;
 
+pub use ahead::{AreNext, IsNext, IsNextOnSameLine};
 pub use checkpoint::ParserCheckpoint;
 pub use cursor::Cursor;
 pub use diagnostic::{CursorDiagnostic, FatalError};
 pub use element::Element;
 pub use fault::CursorFault;
+pub use list_step::ListStep;
 pub use predicate::Predicate;

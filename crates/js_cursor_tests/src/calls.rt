@@ -1,6 +1,7 @@
 //! What no contract says: rows from outside, and that each call can succeed.
 
 use bitflags::Flags;
+use js_cursor::laws::going_on_composes;
 use js_cursor::{Cursor, CursorDiagnostic, CursorFault, Element, ParserCheckpoint, Predicate};
 use js_kind::{Kind, LexerConfig, RuntimeLexerConfig};
 use js_lexer::Lexer;
@@ -23,6 +24,7 @@ pub(crate) fn cursor_over(alloc: Global, source: &str) -> Result<TestCursor<'_>,
 #[derive(Clone, Copy)]
 enum Step {
     BumpAny,
+    Bump(Kind),
     Expect(Kind),
     ExpectAlternative(Span),
     ExpectJsxChild(Kind),
@@ -36,6 +38,7 @@ enum Step {
 fn take_step(cursor: &mut TestCursor<'_>, step: Step) -> Result<(), AllocError> {
     match step {
         Step::BumpAny => cursor.bump_any(),
+        Step::Bump(kind) => cursor.bump(kind),
         Step::Expect(kind) => cursor.expect(kind),
         Step::ExpectAlternative(question) => cursor.expect_conditional_alternative(question),
         Step::ExpectJsxChild(kind) => cursor.expect_jsx_child(kind),
@@ -72,7 +75,9 @@ fn fault_of(cursor: &TestCursor<'_>) -> (Option<CursorDiagnostic>, bool) {
 }
 
 /// A source, calls, and the token that is current behind them.
-static STANDS: [(&str, &[Step], (Kind, u32, u32)); 6] = [
+static STANDS: [(&str, &[Step], (Kind, u32, u32)); 8] = [
+    ("a b", &[Step::Bump(Kind::Ident)], (Kind::Ident, 2, 3)),
+    ("a;b", &[Step::BumpAny, Step::Asi], (Kind::Ident, 2, 3)),
     (
         "a b",
         &[Step::Expect(Kind::Ident), Step::Asi, Step::BumpAny],
@@ -217,6 +222,7 @@ impl<C: LexerConfig + Drop> Predicate<C, bool> for EndsBehindTwo {
     ghost gives = { λ p c answer d. Unit {0} };
 
     fn test(&self, cursor: &mut Cursor<'_, C>) -> bool {
+        going_on_composes();
         let first = cursor.bump_any();
         let second = cursor.bump_any();
         first.is_ok() && second.is_ok() && cursor.at(Kind::Eof)
@@ -333,6 +339,19 @@ fn reads_delimited<E: Element<RuntimeLexerConfig, ()> + Drop>(
         Ok((elements, trailing)) => Ok((elements.len(), trailing)),
         Err(fault) => Err(fault),
     }
+}
+
+/// How many tokens stand in braces, and whether the source ends behind them.
+fn reads_normal(cursor: &mut TestCursor<'_>, alloc: Global) -> Result<(usize, bool), CursorFault> {
+    let tokens = cursor.parse_normal_list(alloc, Kind::LCurly, Kind::RCurly, Tokens(1))?;
+    Ok((tokens.len(), cursor.at(Kind::Eof)))
+}
+
+#[test]
+fn a_normal_list(rt: HostRuntime) -> Result<(), Fail> {
+    let mut cursor = cursor_over(rt.alloc(), "{ a b }")?;
+    assert_eq!(rt; reads_normal(&mut cursor, rt.alloc()), Ok((2, true)));
+    Ok(())
 }
 
 #[test]

@@ -8,3 +8,5 @@ mod calls;
 mod json;
 #[cfg(test)]
 mod lexing;
+#[cfg(test)]
+mod moves;

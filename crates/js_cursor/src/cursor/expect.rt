@@ -1,8 +1,9 @@
 //! Tokens that are expected, the ends of statements, and the advances of JSX.
 
-ghost use Rattle.std.specs.Prelude.{◌≡◌, MatchBool, OnOk, OnErr};
+ghost use Rattle.std.specs.Prelude.{◌≡◌, ◌≤◌, ◌<◌, true, MatchBool, OnOk, OnErr};
 ghost use Rattle.js_lexer.specs.Places.{ReadsInPlaces};
-ghost use Rattle.js_cursor.specs.Cursor.{Advances, IsAsBefore, ReadsOn, is_at};
+ghost use Rattle.js_cursor.specs.Checkpoint.{GoesOnFrom, HasNotAdvanced};
+ghost use Rattle.js_cursor.specs.Cursor.{Advances, HasPassed, IsAsBefore, ReadsOn, StartsLater, is_at};
 ghost use Rattle.js_cursor.specs.Expect.{expecting, expecting_alternative, expecting_closing, expecting_semicolon};
 
 use super::Cursor;
@@ -15,7 +16,8 @@ use std::alloc::AllocError;
 impl<C: LexerConfig + Drop> Cursor<'_, C> {
     /// Stops the parser where the current token is not of the kind.
     pub fn expect_without_advance(&mut self, kind: Kind)
-        ensures { self.new ≡ expecting kind self.old }
+        ensures state { self.new ≡ expecting kind self.old }
+        ensures stays { HasNotAdvanced self.old self.new }
     {
         if self.at(kind) {
             return;
@@ -33,6 +35,11 @@ impl<C: LexerConfig + Drop> Cursor<'_, C> {
         ensures ok { OnOk result (Advances kind (expecting kind self.old) self.new) }
         ensures err { OnErr result (IsAsBefore (expecting kind self.old) self.new) }
         ensures places { ReadsInPlaces self.old.lexer self.new.lexer }
+        ensures goes_on { GoesOnFrom self.old self.new }
+        ensures starts { OnOk result (StartsLater self.old self.new) }
+        ensures passed { OnOk result (HasPassed self.old self.new) }
+        ensures onward { self.old.token.start ≤ self.new.token.start }
+        ensures previous { self.old.previous_end ≤ self.new.previous_end }
     {
         self.expect_without_advance(kind);
         self.advance(kind)
@@ -60,6 +67,11 @@ impl<C: LexerConfig + Drop> Cursor<'_, C> {
         ensures ok { OnOk result (Advances kind (expecting_closing kind opening_span self.old) self.new) }
         ensures err { OnErr result (IsAsBefore (expecting_closing kind opening_span self.old) self.new) }
         ensures places { ReadsInPlaces self.old.lexer self.new.lexer }
+        ensures goes_on { GoesOnFrom self.old self.new }
+        ensures starts { OnOk result (StartsLater self.old self.new) }
+        ensures passed { OnOk result (HasPassed self.old self.new) }
+        ensures onward { self.old.token.start ≤ self.new.token.start }
+        ensures previous { self.old.previous_end ≤ self.new.previous_end }
     {
         self.expect_closing_without_advance(kind, opening_span);
         self.advance(kind)
@@ -87,6 +99,11 @@ impl<C: LexerConfig + Drop> Cursor<'_, C> {
             (Advances self.old.token.kind (expecting_alternative question_span self.old) self.new) }
         ensures err { OnErr result (IsAsBefore (expecting_alternative question_span self.old) self.new) }
         ensures places { ReadsInPlaces self.old.lexer self.new.lexer }
+        ensures goes_on { GoesOnFrom self.old self.new }
+        ensures starts { OnOk result (StartsLater self.old self.new) }
+        ensures passed { OnOk result (HasPassed self.old self.new) }
+        ensures onward { self.old.token.start ≤ self.new.token.start }
+        ensures previous { self.old.previous_end ≤ self.new.previous_end }
     {
         let kind = self.cur_kind();
         self.expect_colon_without_advance(question_span);
@@ -111,6 +128,12 @@ impl<C: LexerConfig + Drop> Cursor<'_, C> {
             (self.new ≡ expecting_semicolon self.old)) }
         ensures err { OnErr result (IsAsBefore self.old self.new) }
         ensures places { ReadsInPlaces self.old.lexer self.new.lexer }
+        ensures goes_on { GoesOnFrom self.old self.new }
+        ensures starts { OnOk result (is_at Kind.Semicolon self.old ≡ true
+            → self.old.token.start < self.new.token.start) }
+        ensures passed { OnOk result (is_at Kind.Semicolon self.old ≡ true → HasPassed self.old self.new) }
+        ensures onward { self.old.token.start ≤ self.new.token.start }
+        ensures previous { self.old.previous_end ≤ self.new.previous_end }
     {
         if self.at(Kind::Semicolon) {
             return self.advance(Kind::Semicolon);
@@ -124,6 +147,11 @@ impl<C: LexerConfig + Drop> Cursor<'_, C> {
         ensures ok { OnOk result (ReadsOn Goal.JsxChild self.old self.new) }
         ensures err { OnErr result (IsAsBefore self.old self.new) }
         ensures places { ReadsInPlaces self.old.lexer self.new.lexer }
+        ensures goes_on { GoesOnFrom self.old self.new }
+        ensures starts { OnOk result (StartsLater self.old self.new) }
+        ensures passed { OnOk result (HasPassed self.old self.new) }
+        ensures onward { self.old.token.start ≤ self.new.token.start }
+        ensures previous { self.old.previous_end ≤ self.new.previous_end }
     {
         let token = self.lexer.next_jsx_child()?;
         self.previous_end = self.token.end();
@@ -136,6 +164,11 @@ impl<C: LexerConfig + Drop> Cursor<'_, C> {
         ensures ok { OnOk result (ReadsOn Goal.JsxAttributeValue self.old self.new) }
         ensures err { OnErr result (IsAsBefore self.old self.new) }
         ensures places { ReadsInPlaces self.old.lexer self.new.lexer }
+        ensures goes_on { GoesOnFrom self.old self.new }
+        ensures starts { OnOk result (StartsLater self.old self.new) }
+        ensures passed { OnOk result (HasPassed self.old self.new) }
+        ensures onward { self.old.token.start ≤ self.new.token.start }
+        ensures previous { self.old.previous_end ≤ self.new.previous_end }
     {
         let token = self.lexer.next_jsx_attribute_value()?;
         self.previous_end = self.token.end();
@@ -149,6 +182,11 @@ impl<C: LexerConfig + Drop> Cursor<'_, C> {
         ensures ok { OnOk result (ReadsOn Goal.JsxChild (expecting kind self.old) self.new) }
         ensures err { OnErr result (IsAsBefore (expecting kind self.old) self.new) }
         ensures places { ReadsInPlaces self.old.lexer self.new.lexer }
+        ensures goes_on { GoesOnFrom self.old self.new }
+        ensures starts { OnOk result (StartsLater self.old self.new) }
+        ensures passed { OnOk result (HasPassed self.old self.new) }
+        ensures onward { self.old.token.start ≤ self.new.token.start }
+        ensures previous { self.old.previous_end ≤ self.new.previous_end }
     {
         self.expect_without_advance(kind);
         self.advance_for_jsx_child()

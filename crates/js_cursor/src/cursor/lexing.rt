@@ -5,7 +5,7 @@ ghost use Rattle.js_text.specs.Lists.{with_last};
 ghost use Rattle.js_trivia.specs.Marks.{IsRangeOf, marked_within, pure_applied, no_side_effects_applied};
 ghost use Rattle.js_lexer.specs.Lexer.{Peeks, with_comments};
 ghost use Rattle.js_lexer.specs.Places.{StaysInPlaces};
-ghost use Rattle.js_cursor.specs.Checkpoint.{with_diagnostics};
+ghost use Rattle.js_cursor.specs.Checkpoint.{HasNotAdvanced, with_diagnostics};
 ghost use Rattle.js_cursor.specs.Cursor.{IsAsBefore};
 
 use super::Cursor;
@@ -19,6 +19,7 @@ impl<C: LexerConfig + Drop> Cursor<'_, C> {
         ensures ok { IfOk result (λ token. Peeks self.old.lexer token self.new.lexer) }
         ensures before { IsAsBefore self.old self.new }
         ensures places { StaysInPlaces self.old.lexer self.new.lexer }
+        ensures stays { HasNotAdvanced self.old self.new }
     {
         self.lexer.peek_token()
     }

@@ -1,20 +1,25 @@
 //! Lists.
 
-ghost use Rattle.std.specs.Prelude.{◌≡◌, ◌≢◌, ◌≤◌, [], ◌∷◌, ◌++◌, true, false, IfOk, IfErr, OnOk};
+ghost use Rattle.std.specs.Prelude.{◌≡◌, ◌≢◌, ◌≤◌, ◌<◌, not, [], ◌∷◌, ◌++◌, true, false, IfOk, IfErr, OnOk, OnErr};
 ghost use Rattle.js_text.specs.declared.span.Span.{Span};
 ghost use Rattle.js_kind.specs.Kinds.{is_one_of};
 ghost use Rattle.js_lexer.specs.Places.{KeepsPlaces};
-ghost use Rattle.js_cursor.specs.Cursor.{Advances, is_at};
-ghost use Rattle.js_cursor.specs.Lists.{GetsStuck, IsRound, IsSeparatedRound, LeadingOn, OnStuck, Present, Rounds};
+ghost use Rattle.js_cursor.specs.Cursor.{Advances, IsAsBefore, is_at};
+ghost use Rattle.js_cursor.specs.Checkpoint.{GoesOnFrom};
+ghost use Rattle.js_cursor.specs.Lists.{GetsStuck, Given, GoesOn, IsRound, IsSeparatedRound, LeadingOn, OnStuck};
+ghost use Rattle.js_cursor.specs.Lists.{Present, Rounds};
 ghost use Rattle.js_cursor.specs.Lists.{ReadsBreakableList, ReadsDelimitedList, ReadsNormalList, ReadsWhileSome};
 ghost use Rattle.js_cursor.specs.Lists.{StopsDelimitedList, StopsNormalList, ends_at, is_stuck_at};
 ghost use Rattle.js_cursor.specs.Lists.{neither_closed_nor_separated};
 ghost use Rattle.js_cursor.specs.ListSteps.{GoesBehind, ReadsMore};
+ghost use Rattle.js_cursor.specs.Memory.{LacksDelimitedList, LacksElements, LacksNormalList, LacksOne, LacksSeparated};
+ghost use Rattle.js_cursor.specs.Memory.{LacksSeparator, OnMemory, ReadsElements, ReadsSomeElements};
 
 use super::Cursor;
 use crate::diagnostic::CursorDiagnostic;
 use crate::element::Element;
 use crate::fault::CursorFault;
+use crate::list_step::ListStep;
 use js_kind::{Kind, LexerConfig};
 use js_text::Span;
 use std::alloc::{AllocError, Global};
@@ -25,14 +30,6 @@ pub(super) fn push_last<T: Drop>(elements: &mut Vec<T>, element: T) -> Result<()
 {
     elements.push(element)?;
     Ok(())
-}
-
-/// What stands behind an element of a list with separators.
-pub(crate) enum Behind {
-    /// The next element.
-    Element,
-    /// The end of the list, with the offset of a separator before it.
-    End(Option<u32>),
 }
 
 impl<C: LexerConfig + Drop> Cursor<'_, C> {
@@ -46,6 +43,20 @@ impl<C: LexerConfig + Drop> Cursor<'_, C> {
         self.has_fatal_error()
     }
 
+    /// Whether an element of a list without separators stands here: the list is not closed, and no fatal error stands.
+    pub fn normal_list_goes_on(&self, close: Kind) -> bool
+        ensures { result ≡ not (ends_at close self.now) }
+    {
+        !self.is_at_end_of_list(close)
+    }
+
+    /// Whether a list with separators has a first element here: it is not closed, and no fatal error stands.
+    pub fn delimited_list_begins(&self, close: Kind) -> bool
+        ensures { result ≡ not (ends_at close self.now) }
+    {
+        !self.is_at_end_of_list(close)
+    }
+
     /// Whether the source ends here, or is at fault.
     pub(super) fn is_cut_off(&self) -> bool
         ensures { result ≡ is_one_of (Kind.Eof ∷ Kind.Undetermined ∷ []) self.now.token.kind }
@@ -53,8 +64,9 @@ impl<C: LexerConfig + Drop> Cursor<'_, C> {
         matches!(self.cur_kind(), Kind::Eof | Kind::Undetermined)
     }
 
-    /// Whether a round that began at the offset has not led on.
-    pub(super) fn is_stuck_at(&self, start: u32) -> bool
+    /// Whether a round of a list that began at the offset, where a token was current, has not led on: no fatal error
+    /// stands, and the current token starts no later. A list with such a round would have no end.
+    pub fn is_stuck_at(&self, start: u32) -> bool
         ensures { result ≡ is_stuck_at start self.now }
     {
         if self.has_fatal_error() {
@@ -71,11 +83,14 @@ impl<C: LexerConfig + Drop> Cursor<'_, C> {
         f: &mut F,
     ) -> Result<Vec<T>, CursorFault>
         ensures ok { IfOk result (λ xs.
-            Rounds (LeadingOn (IsRound F.reads close)) f.old self.old xs.items f.new self.new) }
+            Rounds (LeadingOn (IsRound (Given F.reads) close)) f.old self.old xs.items f.new self.new) }
         ensures ends { OnOk result (ends_at close self.new ≡ true) }
         ensures stuck { IfErr result (λ fault. OnStuck fault
-            (λ at. GetsStuck (IsRound F.reads close) f.old self.old at self.new)) }
+            (λ at. GetsStuck (IsRound (Given F.reads) close) f.old self.old at self.new)) }
+        ensures memory { IfErr result (λ fault. OnMemory fault
+            (LacksElements F.reads (Given F.reads) close f.old self.old f.new self.new)) }
         ensures places { KeepsPlaces self.old.lexer self.new.lexer }
+        ensures goes_on { GoesOn F.reads → GoesOnFrom self.old self.new }
     {
         let mut elements = Vec::new(alloc);
         while !self.is_at_end_of_list(close) {
@@ -99,15 +114,20 @@ impl<C: LexerConfig + Drop> Cursor<'_, C> {
         close: Kind,
         f: F,
     ) -> Result<Vec<T>, CursorFault>
-        ensures ok { IfOk result (λ xs. ReadsNormalList F.reads opening close f self.old xs.items self.new) }
+        ensures ok { IfOk result (λ xs. ReadsNormalList (Given F.reads) opening close f self.old xs.items self.new) }
         ensures stuck { IfErr result (λ fault. OnStuck fault
-            (λ at. StopsNormalList F.reads opening close f self.old at self.new)) }
+            (λ at. StopsNormalList (Given F.reads) opening close f self.old at self.new)) }
+        ensures memory { IfErr result (λ fault. OnMemory fault
+            (LacksNormalList (LacksElements F.reads (Given F.reads) close) (ReadsElements (Given F.reads) close)
+            opening close f self.old self.new)) }
         ensures places { KeepsPlaces self.old.lexer self.new.lexer }
+        ensures goes_on { GoesOn F.reads → GoesOnFrom self.old self.new }
     {
         let mut f = f;
         let opening_span = self.cur_span();
         self.expect(opening)?;
-        let elements = match self.read_elements(alloc, close, &mut f) {
+        let read = self.read_elements(alloc, close, &mut f);
+        let elements = match read {
             Ok(elements) => elements,
             Err(fault) => return Err(fault),
         };
@@ -122,10 +142,13 @@ impl<C: LexerConfig + Drop> Cursor<'_, C> {
         close: Kind,
         f: &mut F,
     ) -> Result<Vec<T>, CursorFault>
-        ensures ok { IfOk result (λ xs. ReadsWhileSome F.reads close f.old self.old xs.items f.new self.new) }
+        ensures ok { IfOk result (λ xs. ReadsWhileSome (Given F.reads) close f.old self.old xs.items f.new self.new) }
         ensures stuck { IfErr result (λ fault. OnStuck fault
-            (λ at. GetsStuck (IsRound (Present F.reads) close) f.old self.old at self.new)) }
+            (λ at. GetsStuck (IsRound (Present (Given F.reads)) close) f.old self.old at self.new)) }
+        ensures memory { IfErr result (λ fault. OnMemory fault
+            (LacksElements F.reads (Present (Given F.reads)) close f.old self.old f.new self.new)) }
         ensures places { KeepsPlaces self.old.lexer self.new.lexer }
+        ensures goes_on { GoesOn F.reads → GoesOnFrom self.old self.new }
     {
         let mut elements = Vec::new(alloc);
         while !self.is_at_end_of_list(close) {
@@ -153,15 +176,20 @@ impl<C: LexerConfig + Drop> Cursor<'_, C> {
         close: Kind,
         f: F,
     ) -> Result<Vec<T>, CursorFault>
-        ensures ok { IfOk result (λ xs. ReadsBreakableList F.reads opening close f self.old xs.items self.new) }
+        ensures ok { IfOk result (λ xs. ReadsBreakableList (Given F.reads) opening close f self.old xs.items self.new) }
         ensures stuck { IfErr result (λ fault. OnStuck fault
-            (λ at. StopsNormalList (Present F.reads) opening close f self.old at self.new)) }
+            (λ at. StopsNormalList (Present (Given F.reads)) opening close f self.old at self.new)) }
+        ensures memory { IfErr result (λ fault. OnMemory fault
+            (LacksNormalList (LacksElements F.reads (Present (Given F.reads)) close)
+            (ReadsSomeElements (Given F.reads) close) opening close f self.old self.new)) }
         ensures places { KeepsPlaces self.old.lexer self.new.lexer }
+        ensures goes_on { GoesOn F.reads → GoesOnFrom self.old self.new }
     {
         let mut f = f;
         let opening_span = self.cur_span();
         self.expect(opening)?;
-        let elements = match self.read_elements_while_some(alloc, close, &mut f) {
+        let read = self.read_elements_while_some(alloc, close, &mut f);
+        let elements = match read {
             Ok(elements) => elements,
             Err(fault) => return Err(fault),
         };
@@ -175,7 +203,12 @@ impl<C: LexerConfig + Drop> Cursor<'_, C> {
         requires at { is_at separator self.old ≡ true }
         ensures ok { OnOk result (Advances separator self.old self.new) }
         ensures some_text { OnOk result (1 ≤ self.new.previous_end) }
+        ensures err { OnErr result (IsAsBefore self.old self.new) }
         ensures places { KeepsPlaces self.old.lexer self.new.lexer }
+        ensures goes_on { GoesOnFrom self.old self.new }
+        ensures starts { OnOk result (self.old.token.start < self.new.token.start) }
+        ensures onward { self.old.token.start ≤ self.new.token.start }
+        ensures previous { self.old.previous_end ≤ self.new.previous_end }
     {
         let _token = &self.token;
         self.advance(separator)?;
@@ -197,41 +230,55 @@ impl<C: LexerConfig + Drop> Cursor<'_, C> {
     }
 
     /// Goes past a separator, and tells whether an element or the end of the list is behind it.
-    fn go_past_separator(&mut self, close: Kind, separator: Kind) -> Result<Behind, AllocError>
+    fn go_past_separator(&mut self, close: Kind, separator: Kind) -> Result<ListStep, AllocError>
         requires some { separator ≢ Kind.Eof }
         requires open { ends_at close self.old ≡ false }
         requires at { is_at separator self.old ≡ true }
-        ensures behind { IfOk result (λ behind. (opening : Span)
-            → GoesBehind close separator opening self.old behind self.new) }
+        ensures step { IfOk result (λ step. (opening : Span)
+            → GoesBehind close separator opening self.old step self.new) }
+        ensures err { OnErr result (LacksSeparator close separator self.old self.new) }
         ensures places { KeepsPlaces self.old.lexer self.new.lexer }
+        ensures goes_on { GoesOnFrom self.old self.new }
+        ensures starts { IfOk result (λ step. step ≡ ListStep.Element
+            → self.old.token.start < self.new.token.start) }
+        ensures onward { self.old.token.start ≤ self.new.token.start }
+        ensures previous { self.old.previous_end ≤ self.new.previous_end }
     {
         self.go_past(separator)?;
         if self.at(close) {
-            return Ok(Behind::End(Some(self.previous_end - 1)));
+            return Ok(ListStep::End(Some(self.previous_end - 1)));
         }
         if self.is_cut_off() {
-            return Ok(Behind::End(None));
+            return Ok(ListStep::End(None));
         }
-        Ok(Behind::Element)
+        Ok(ListStep::Element)
     }
 
-    /// Tells what stands behind an element, and goes past a separator.
-    fn behind_element(
+    /// Tells what stands behind an element of a list with separators, and goes past a separator. One that is neither
+    /// closed nor goes on stops the parser.
+    #[tactic(auto, using(crate::proofs::TokenSteps::unchanged))]
+    pub fn delimited_list_goes_on(
         &mut self,
         close: Kind,
         separator: Kind,
         opening_span: Span,
-    ) -> Result<Behind, AllocError>
+    ) -> Result<ListStep, AllocError>
         requires { separator ≢ Kind.Eof }
-        ensures behind { IfOk result (λ behind. GoesBehind close separator opening_span self.old behind self.new) }
+        ensures step { IfOk result (λ step. GoesBehind close separator opening_span self.old step self.new) }
+        ensures err { OnErr result (LacksSeparator close separator self.old self.new) }
         ensures places { KeepsPlaces self.old.lexer self.new.lexer }
+        ensures goes_on { GoesOnFrom self.old self.new }
+        ensures starts { IfOk result (λ step. step ≡ ListStep.Element
+            → self.old.token.start < self.new.token.start) }
+        ensures onward { self.old.token.start ≤ self.new.token.start }
+        ensures previous { self.old.previous_end ≤ self.new.previous_end }
     {
         if self.is_at_end_of_list(close) {
-            return Ok(Behind::End(None));
+            return Ok(ListStep::End(None));
         }
         if !self.at(separator) {
             self.stop_list(close, separator, opening_span);
-            return Ok(Behind::End(None));
+            return Ok(ListStep::End(None));
         }
         self.go_past_separator(close, separator)
     }
@@ -246,17 +293,21 @@ impl<C: LexerConfig + Drop> Cursor<'_, C> {
         elements: &mut Vec<T>,
     ) -> Result<Option<u32>, CursorFault>
         requires { separator ≢ Kind.Eof }
-        ensures ok { IfOk result (λ trailing. ReadsMore F.reads close separator opening_span f.old self.old
+        ensures ok { IfOk result (λ trailing. ReadsMore (Given F.reads) close separator opening_span f.old self.old
             elements.old.items elements.new.items trailing f.new self.new) }
         ensures stuck { IfErr result (λ fault. OnStuck fault
-            (λ at. GetsStuck (IsSeparatedRound F.reads close separator) f.old self.old at self.new)) }
+            (λ at. GetsStuck (IsSeparatedRound (Given F.reads) close separator) f.old self.old at self.new)) }
+        ensures memory { IfErr result (λ fault. OnMemory fault
+            (LacksSeparated (LacksOne F.reads) (Given F.reads) close separator (LacksSeparator close separator)
+            f.old self.old f.new self.new)) }
         ensures places { KeepsPlaces self.old.lexer self.new.lexer }
+        ensures goes_on { GoesOn F.reads → GoesOnFrom self.old self.new }
     {
         'elements: loop {
             let start = self.cur_start();
-            match self.behind_element(close, separator, opening_span)? {
-                Behind::Element => {}
-                Behind::End(trailing) => return Ok(trailing),
+            match self.delimited_list_goes_on(close, separator, opening_span)? {
+                ListStep::Element => {}
+                ListStep::End(trailing) => return Ok(trailing),
             }
             let element = f.read(self)?;
             if self.is_stuck_at(start) {
@@ -280,11 +331,15 @@ impl<C: LexerConfig + Drop> Cursor<'_, C> {
         f: F,
     ) -> Result<(Vec<T>, Option<u32>), CursorFault>
         requires { separator ≢ Kind.Eof }
-        ensures ok { IfOk result (λ read. ReadsDelimitedList F.reads close separator opening_span f self.old
+        ensures ok { IfOk result (λ read. ReadsDelimitedList (Given F.reads) close separator opening_span f self.old
             read.0.items read.1 self.new) }
         ensures stuck { IfErr result (λ fault. OnStuck fault
-            (λ at. StopsDelimitedList F.reads close separator f self.old at self.new)) }
+            (λ at. StopsDelimitedList (Given F.reads) close separator f self.old at self.new)) }
+        ensures memory { IfErr result (λ fault. OnMemory fault
+            (LacksDelimitedList (LacksOne F.reads) (Given F.reads) close separator
+            (LacksSeparator close separator) f self.old self.new)) }
         ensures places { KeepsPlaces self.old.lexer self.new.lexer }
+        ensures goes_on { GoesOn F.reads → GoesOnFrom self.old self.new }
     {
         let mut f = f;
         let mut elements = Vec::new(alloc);

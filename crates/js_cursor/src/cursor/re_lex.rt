@@ -7,6 +7,7 @@ ghost use Rattle.js_kind.specs.Kinds.{is_identifier_name, is_one_of};
 ghost use Rattle.js_grammar.specs.ReLexed.{again_kinds, is_re_lexed};
 ghost use Rattle.js_lexer.specs.Lexer.{IsBehindFor};
 ghost use Rattle.js_lexer.specs.Places.{StaysInPlaces};
+ghost use Rattle.js_cursor.specs.Checkpoint.{HasNotAdvanced};
 ghost use Rattle.js_cursor.specs.Cursor.{IsAsBefore, is_at_token_end};
 ghost use Rattle.js_cursor.specs.ReLex.{ReLexes, ReadsExpression, is_angle, is_at_hyphen, is_free, may_re_lex};
 
@@ -48,6 +49,7 @@ impl<C: LexerConfig + Drop> Cursor<'_, C> {
         ensures ok { IfOk result (λ found. ReadsExpression self.old found.0 found.1 found.2 self.new) }
         ensures err { OnErr result (IsAsBefore self.old self.new) }
         ensures places { StaysInPlaces self.old.lexer self.new.lexer }
+        ensures stays { HasNotAdvanced self.old self.new }
     {
         let found = self.lexer.next_regex(self.token.kind())?;
         self.token = found.token;
@@ -60,6 +62,7 @@ impl<C: LexerConfig + Drop> Cursor<'_, C> {
             (ReLexes Goal.TemplateTail self.old self.new) (self.new ≡ self.old)) }
         ensures err { OnErr result (IsAsBefore self.old self.new) }
         ensures places { StaysInPlaces self.old.lexer self.new.lexer }
+        ensures stays { HasNotAdvanced self.old self.new }
     {
         if !self.may_re_lex(Goal::TemplateTail) {
             return Ok(());
@@ -75,6 +78,7 @@ impl<C: LexerConfig + Drop> Cursor<'_, C> {
         ensures changed { MatchBool result (ReLexes Goal.JsxIdentifier self.old self.new) (self.new ≡ self.old) }
         ensures answer { result ≡ (is_free self.old && is_at_hyphen self.old) }
         ensures places { StaysInPlaces self.old.lexer self.new.lexer }
+        ensures stays { HasNotAdvanced self.old self.new }
     {
         if !self.is_free() {
             return false;
@@ -88,6 +92,19 @@ impl<C: LexerConfig + Drop> Cursor<'_, C> {
         }
     }
 
+    /// Reads the longest punctuator that begins with the `>` that is current; else nothing changes.
+    fn take_right_angle(&mut self)
+        ensures taken { MatchBool (may_re_lex Goal.RightAngle self.old) (ReLexes Goal.RightAngle self.old self.new)
+            (self.new ≡ self.old) }
+        ensures places { StaysInPlaces self.old.lexer self.new.lexer }
+        ensures stays { HasNotAdvanced self.old self.new }
+    {
+        if !self.may_re_lex(Goal::RightAngle) {
+            return;
+        }
+        self.token = self.lexer.re_lex_right_angle();
+    }
+
     /// Reads the longest punctuator that begins with the `>` that is current; else nothing changes. Gives the kind that
     /// is current then, and `Eof` under a fatal error.
     pub fn re_lex_right_angle(&mut self) -> Kind
@@ -95,13 +112,12 @@ impl<C: LexerConfig + Drop> Cursor<'_, C> {
             (self.new ≡ self.old) }
         ensures answer { result ≡ (if is_some self.old.fatal then Kind.Eof else self.new.token.kind) }
         ensures places { StaysInPlaces self.old.lexer self.new.lexer }
+        ensures stays { HasNotAdvanced self.old self.new }
     {
         if self.has_fatal_error() {
             return Kind::Eof;
         }
-        if self.may_re_lex(Goal::RightAngle) {
-            self.token = self.lexer.re_lex_right_angle();
-        }
+        self.take_right_angle();
         self.cur_kind()
     }
 
@@ -112,6 +128,7 @@ impl<C: LexerConfig + Drop> Cursor<'_, C> {
             (ReLexes Goal.TypeScriptLeftAngle self.old self.new) (self.new ≡ self.old) }
         ensures answer { result ≡ is_angle Kind.LAngle Goal.TypeScriptLeftAngle self.old }
         ensures places { StaysInPlaces self.old.lexer self.new.lexer }
+        ensures stays { HasNotAdvanced self.old self.new }
     {
         if self.has_fatal_error() {
             return false;
@@ -131,6 +148,7 @@ impl<C: LexerConfig + Drop> Cursor<'_, C> {
             (ReLexes Goal.TypeScriptRightAngle self.old self.new) (self.new ≡ self.old) }
         ensures answer { result ≡ is_angle Kind.RAngle Goal.TypeScriptRightAngle self.old }
         ensures places { StaysInPlaces self.old.lexer self.new.lexer }
+        ensures stays { HasNotAdvanced self.old self.new }
     {
         if self.has_fatal_error() {
             return false;

@@ -1,11 +1,14 @@
 //! Lists that a rest may end.
 
-ghost use Rattle.std.specs.Prelude.{◌≡◌, true, false, None, IfOk, IfErr, OnOk};
+ghost use Rattle.std.specs.Prelude.{◌≡◌, true, false, None, IfOk, IfErr, OnOk, OnErr};
 ghost use Rattle.std.specs.Fn.{FnReturnsAt};
 ghost use Rattle.js_text.specs.declared.span.Span.{Span};
 ghost use Rattle.js_lexer.specs.Places.{KeepsPlaces};
 ghost use Rattle.js_cursor.specs.Cursor.{is_at};
-ghost use Rattle.js_cursor.specs.Lists.{GetsStuck, IsSeparatedRound, OnStuck, StopsDelimitedList, ends_at};
+ghost use Rattle.js_cursor.specs.Checkpoint.{GoesOnFrom};
+ghost use Rattle.js_cursor.specs.Lists.{GetsStuck, Given, GoesOn, IsSeparatedRound, OnStuck, StopsDelimitedList};
+ghost use Rattle.js_cursor.specs.Lists.{ends_at};
+ghost use Rattle.js_cursor.specs.Memory.{LacksComma, LacksDelimitedList, LacksItem, LacksSeparated, OnMemory};
 ghost use Rattle.js_cursor.specs.Rests.{ReadsItem, ReadsListWithRest, noting_trailing_comma};
 ghost use Rattle.js_cursor.specs.RestSteps.{GoesBehindItem, ReadsItems, ReadsOneItem, readers_of};
 
@@ -40,8 +43,12 @@ where
     P: Element<C, R>,
     requires first { items.old.found ≡ None }
     requires at { is_at Kind.Dot3 cursor.old ≡ true }
-    ensures item { OnOk result (ReadsOneItem E.reads P.reads items.old cursor.old items.new cursor.new) }
+    ensures item { OnOk result (ReadsOneItem (Given E.reads) (Given P.reads) items.old cursor.old items.new
+        cursor.new) }
+    ensures err { OnErr result (LacksItem E.reads P.reads (readers_of items.old) cursor.old (readers_of items.new)
+        cursor.new) }
     ensures places { KeepsPlaces cursor.old.lexer cursor.new.lexer }
+    ensures goes_on { GoesOn P.reads → GoesOnFrom cursor.old cursor.new }
 {
     let rest = items.rest.read(cursor)?;
     items.found = Some(rest);
@@ -61,8 +68,12 @@ where
     P: Element<C, R>,
     requires first { items.old.found ≡ None }
     requires at { is_at Kind.Dot3 cursor.old ≡ false }
-    ensures item { OnOk result (ReadsOneItem E.reads P.reads items.old cursor.old items.new cursor.new) }
+    ensures item { OnOk result (ReadsOneItem (Given E.reads) (Given P.reads) items.old cursor.old items.new
+        cursor.new) }
+    ensures err { OnErr result (LacksItem E.reads P.reads (readers_of items.old) cursor.old (readers_of items.new)
+        cursor.new) }
     ensures places { KeepsPlaces cursor.old.lexer cursor.new.lexer }
+    ensures goes_on { GoesOn E.reads → GoesOnFrom cursor.old cursor.new }
 {
     let element = items.element.read(cursor)?;
     push_last(&mut items.elements, element)?;
@@ -81,8 +92,12 @@ where
     E: Element<C, A>,
     P: Element<C, R>,
     requires { items.old.found ≡ None }
-    ensures item { OnOk result (ReadsOneItem E.reads P.reads items.old cursor.old items.new cursor.new) }
+    ensures item { OnOk result (ReadsOneItem (Given E.reads) (Given P.reads) items.old cursor.old items.new
+        cursor.new) }
+    ensures err { OnErr result (LacksItem E.reads P.reads (readers_of items.old) cursor.old (readers_of items.new)
+        cursor.new) }
     ensures places { KeepsPlaces cursor.old.lexer cursor.new.lexer }
+    ensures goes_on { GoesOn E.reads → GoesOn P.reads → GoesOnFrom cursor.old cursor.new }
 {
     if cursor.at(Kind::Dot3) {
         return read_rest(cursor, items);
@@ -92,9 +107,12 @@ where
 
 impl<C: LexerConfig + Drop> Cursor<'_, C> {
     /// Reports a comma at the span that stands between a rest and the end of its list.
+    #[tactic(auto, using(crate::proofs::TokenSteps::unchanged))]
     fn note_trailing_comma(&mut self, has_rest: bool, span: Span) -> Result<(), AllocError>
         ensures noted { OnOk result (self.new ≡ noting_trailing_comma has_rest span self.old) }
+        ensures err { OnErr result (self.new ≡ self.old) }
         ensures places { KeepsPlaces self.old.lexer self.new.lexer }
+        ensures goes_on { GoesOnFrom self.old self.new }
     {
         if !has_rest {
             return Ok(());
@@ -111,7 +129,9 @@ impl<C: LexerConfig + Drop> Cursor<'_, C> {
         requires at { is_at Kind.Comma self.old ≡ true }
         ensures behind { IfOk result (λ goes_on. (opening : Span)
             → GoesBehindItem close opening has_rest self.old goes_on self.new) }
+        ensures err { OnErr result (LacksComma close self.old self.new) }
         ensures places { KeepsPlaces self.old.lexer self.new.lexer }
+        ensures goes_on { GoesOnFrom self.old self.new }
     {
         let span = self.cur_span();
         self.go_past(Kind::Comma)?;
@@ -126,6 +146,7 @@ impl<C: LexerConfig + Drop> Cursor<'_, C> {
     }
 
     /// Tells whether an item stands behind an item, and goes past a comma; else the list ends there.
+    #[tactic(auto, using(crate::proofs::TokenSteps::unchanged))]
     fn behind_item(
         &mut self,
         close: Kind,
@@ -133,7 +154,9 @@ impl<C: LexerConfig + Drop> Cursor<'_, C> {
         has_rest: bool,
     ) -> Result<bool, AllocError>
         ensures behind { IfOk result (λ goes_on. GoesBehindItem close opening_span has_rest self.old goes_on self.new) }
+        ensures err { OnErr result (LacksComma close self.old self.new) }
         ensures places { KeepsPlaces self.old.lexer self.new.lexer }
+        ensures goes_on { GoesOnFrom self.old self.new }
     {
         if self.is_at_end_of_list(close) {
             return Ok(false);
@@ -163,13 +186,17 @@ impl<C: LexerConfig + Drop> Cursor<'_, C> {
         D: Fn(Span) -> CursorDiagnostic + Drop,
         requires span { S.IsAlwaysCallable rest_span }
         requires diagnostic { D.IsAlwaysCallable rest_last_diagnostic }
-        ensures ok { OnOk result (ReadsItems E.reads P.reads
+        ensures ok { OnOk result (ReadsItems (Given E.reads) (Given P.reads)
             (λ r error. (span : Span) × FnReturnsAt S.Fn rest_span r span × D.post rest_last_diagnostic span error)
             close opening_span items.old self.old items.new self.new) }
         ensures stuck { IfErr result (λ fault. OnStuck fault (λ at.
-            GetsStuck (IsSeparatedRound (ReadsItem E.reads P.reads) close Kind.Comma) (readers_of items.old) self.old at
-            self.new)) }
+            GetsStuck (IsSeparatedRound (ReadsItem (Given E.reads) (Given P.reads)) close Kind.Comma)
+            (readers_of items.old) self.old at self.new)) }
+        ensures memory { IfErr result (λ fault. OnMemory fault
+            (LacksSeparated (LacksItem E.reads P.reads) (ReadsItem (Given E.reads) (Given P.reads)) close
+            Kind.Comma (LacksComma close) (readers_of items.old) self.old (readers_of items.new) self.new)) }
         ensures places { KeepsPlaces self.old.lexer self.new.lexer }
+        ensures goes_on { GoesOn E.reads → GoesOn P.reads → GoesOnFrom self.old self.new }
     {
         'items: loop {
             let start = self.cur_start();
@@ -214,13 +241,18 @@ impl<C: LexerConfig + Drop> Cursor<'_, C> {
         D: Fn(Span) -> CursorDiagnostic + Drop,
         requires span { S.IsAlwaysCallable rest_span }
         requires diagnostic { D.IsAlwaysCallable rest_last_diagnostic }
-        ensures ok { IfOk result (λ read. ReadsListWithRest E.reads P.reads
+        ensures ok { IfOk result (λ read. ReadsListWithRest (Given E.reads) (Given P.reads)
             (λ r error. (span : Span) × FnReturnsAt S.Fn rest_span r span × D.post rest_last_diagnostic span error)
             close opening_span parse_element parse_rest self.old read.0.items read.1 self.new) }
         ensures stuck { IfErr result (λ fault. OnStuck fault (λ at.
-            StopsDelimitedList (ReadsItem E.reads P.reads) close Kind.Comma
+            StopsDelimitedList (ReadsItem (Given E.reads) (Given P.reads)) close Kind.Comma
             (record { element = parse_element; rest = parse_rest; found = None }) self.old at self.new)) }
+        ensures memory { IfErr result (λ fault. OnMemory fault
+            (LacksDelimitedList (LacksItem E.reads P.reads) (ReadsItem (Given E.reads) (Given P.reads)) close
+            Kind.Comma (LacksComma close) (record { element = parse_element; rest = parse_rest; found = None }) self.old
+            self.new)) }
         ensures places { KeepsPlaces self.old.lexer self.new.lexer }
+        ensures goes_on { GoesOn E.reads → GoesOn P.reads → GoesOnFrom self.old self.new }
     {
         if self.is_at_end_of_list(close) {
             return Ok((Vec::new(alloc), None));

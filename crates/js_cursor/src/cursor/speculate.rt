@@ -3,8 +3,8 @@
 ghost use Rattle.std.specs.Prelude.{◌≡◌, ◌↔◌, List, IsTrue, IfOk, OnOk, OnErr};
 ghost use Rattle.js_text.specs.declared.diagnostic.Diagnostic.{Diagnostic};
 ghost use Rattle.js_lexer.specs.Places.{IsSparse, IsSparseCheckpoint, StaysInPlaces};
-ghost use Rattle.js_cursor.specs.Checkpoint.{CanRewind, GoesOnFrom, checkpoint_of, checkpoint_with_errors_of};
-ghost use Rattle.js_cursor.specs.Checkpoint.{rewound, with_diagnostics, without_fatal_error};
+ghost use Rattle.js_cursor.specs.Checkpoint.{CanRewind, GoesOnFrom, HasNotAdvanced, checkpoint_of};
+ghost use Rattle.js_cursor.specs.Checkpoint.{checkpoint_with_errors_of, rewound, with_diagnostics, without_fatal_error};
 ghost use Rattle.js_cursor.specs.Cursor.{CursorState, IsAsBefore};
 
 use super::Cursor;
@@ -89,6 +89,7 @@ impl<C: LexerConfig + Drop> Cursor<'_, C> {
         ensures gives { (after : CursorState) × P.gives predicate (without_fatal_error self.old) result after }
         ensures no_trace { IsAsBefore self.old self.new }
         ensures places { StaysInPlaces self.old.lexer self.new.lexer }
+        ensures stays { HasNotAdvanced self.old self.new }
     {
         let checkpoint = self.checkpoint();
         let answer = predicate.test(self);

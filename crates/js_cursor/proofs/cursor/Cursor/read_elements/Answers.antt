@@ -1,6 +1,20 @@
-use Rattle.std.proofs.Common.{◌<◌, ◌^◌, sym, ◌∙◌, arith}
-use Rattle.js_cursor.proofs.RoundSteps.{leaves_less, round-push, stuck_as_told}
+use Rattle.std.proofs.Common.{◌<◌, ◌^◌, refl, sym, ◌∙◌, subst, arith}
+use Rattle.js_cursor.specs.Lists.{Given, IsRound, LeadingOn, Rounds}
+use Rattle.js_cursor.specs.Memory.LacksOne.{in_element, place}
+use Rattle.js_cursor.proofs.GoesOn.{goes_on-refl}
+use Rattle.js_cursor.proofs.MemorySteps.{lacks_element}
+use Rattle.js_cursor.proofs.RoundSteps.{leaves_less, round-push, stuck_as_told, then_read}
 use Rattle.js_cursor.proofs.cursor.Cursor.read_elements.Goals as goal
+
+pub loop-close-init : goal.loop-close-init
+loop-close-init g c = (
+  subst
+      (λ xs.
+      Rounds (LeadingOn (IsRound (Given g.F.Element.reads) c.args.close)) c.args.f.now c.args.self.now xs c.args.f.now
+      c.args.self.now) (sym c.new-elements.ensures.items) refl,
+  omega arith,
+  λ onward. goes_on-refl c.args.self.now,
+)
 
 pub loop-close-smaller : goal.loop-close-smaller
 loop-close-smaller g c =
@@ -8,15 +22,49 @@ loop-close-smaller g c =
     leaves_less c.args.close c.loop-close.self c.read.new.cursor short
     (sym c.is_at_end_of_list.ensures ∙ c.loop-close-test.true)
     (stuck_as_told c.loop-close.self c.read.new.cursor c.cur_start-start.result c.is_stuck_at.result _
-    c.cur_start-start.ensures c.is_stuck_at.ensures c.if-is_stuck_at.false)
+    c.cur_start-start.ensures.start c.is_stuck_at.ensures c.if-is_stuck_at.false)
 
 pub loop-close-preserved : goal.loop-close-preserved
 loop-close-preserved g c = (
-  round-push g.F.Element.reads c.args.close c.args.f.now c.args.self.now c.loop-close.elements.items _
+  round-push (Given g.F.Element.reads) c.args.close c.args.f.now c.args.self.now c.loop-close.elements.items _
       c.loop-close.f c.loop-close.self c.in_ok-element.element c.read.new.self c.read.new.cursor
       c.loop-close.invariant.0 (sym c.is_at_end_of_list.ensures ∙ c.loop-close-test.true) c.in_ok-element.ensures.reads
       (stuck_as_told c.loop-close.self c.read.new.cursor c.cur_start-start.result c.is_stuck_at.result _
-      c.cur_start-start.ensures c.is_stuck_at.ensures c.if-is_stuck_at.false)
+      c.cur_start-start.ensures.start c.is_stuck_at.ensures c.if-is_stuck_at.false)
       c.in_ok-push_last.ensures,
   omega (arith, c.loop-close.invariant.1, c.in_ok-element.ensures.places),
+  then_read g.F.Element.reads c.args.self.now c.loop-close.self c.loop-close.f _ c.read.new.self c.read.new.cursor
+      c.loop-close.invariant.2 c.in_ok-element.ensures.reads,
 )
+
+pub returns-in_err-element-clause-goes_on : goal.returns-in_err-element-clause-goes_on
+returns-in_err-element-clause-goes_on g c =
+    then_read g.F.Element.reads c.args.self.now c.loop-close.self c.loop-close.f _ c.read.new.self c.read.new.cursor
+    c.loop-close.invariant.2 c.in_err-element.ensures.reads
+
+pub returns-then-is_stuck_at-clause-goes_on : goal.returns-then-is_stuck_at-clause-goes_on
+returns-then-is_stuck_at-clause-goes_on g c =
+    then_read g.F.Element.reads c.args.self.now c.loop-close.self c.loop-close.f _ c.read.new.self c.read.new.cursor
+    c.loop-close.invariant.2 c.in_ok-element.ensures.reads
+
+pub returns-in_err-push_last-clause-goes_on : goal.returns-in_err-push_last-clause-goes_on
+returns-in_err-push_last-clause-goes_on g c =
+    then_read g.F.Element.reads c.args.self.now c.loop-close.self c.loop-close.f _ c.read.new.self c.read.new.cursor
+    c.loop-close.invariant.2 c.in_ok-element.ensures.reads
+
+pub returns-clause-goes_on : goal.returns-clause-goes_on
+returns-clause-goes_on g c = c.loop-close.invariant.2
+
+pub returns-in_err-element-clause-memory : goal.returns-in_err-element-clause-memory
+returns-in_err-element-clause-memory g c =
+    lacks_element g.F.Element.reads (Given g.F.Element.reads) c.args.close _ c.args.f.now c.args.self.now
+    c.loop-close.elements.items c.loop-close.f c.loop-close.self c.read.new.self c.read.new.cursor
+    c.loop-close.invariant.0 (sym c.is_at_end_of_list.ensures ∙ c.loop-close-test.true)
+    (in_element _ c.in_err-element.ensures.reads)
+
+pub returns-in_err-push_last-clause-memory : goal.returns-in_err-push_last-clause-memory
+returns-in_err-push_last-clause-memory g c =
+    lacks_element g.F.Element.reads (Given g.F.Element.reads) c.args.close _ c.args.f.now c.args.self.now
+    c.loop-close.elements.items c.loop-close.f c.loop-close.self c.read.new.self c.read.new.cursor
+    c.loop-close.invariant.0 (sym c.is_at_end_of_list.ensures ∙ c.loop-close-test.true)
+    (place _ c.in_ok-element.ensures.reads)

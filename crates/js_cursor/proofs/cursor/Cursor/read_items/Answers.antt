@@ -2,16 +2,25 @@ use Rattle.std.proofs.Common.{◌<◌, ◌^◌, ◌++◌, [], ◌∷◌, refl, s
 use Rattle.std.proofs.Common.{append-nil, arith}
 use Rattle.std.proofs.lemmas.Fn.{says_at}
 use Rattle.js_kind.specs.declared.kind.Kind.TheVariants.{Comma}
-use Rattle.js_cursor.specs.Lists.{IsSeparated, IsSeparatedRound, LeadingOn}
+use Rattle.js_cursor.specs.Lists.{Given, IsSeparated, IsSeparatedRound, LeadingOn}
+use Rattle.js_cursor.specs.Memory.{LacksComma, LacksItem}
 use Rattle.js_cursor.specs.RestSteps.{readers_of}
 use Rattle.js_cursor.specs.Rests.{ReadsItem, elements}
 use Rattle.js_cursor.specs.Rests.EndsWithRest.{ends, rest_is_not_last}
+use Rattle.js_cursor.proofs.GoesOn.{goes_on-refl, goes_on-trans}
+use Rattle.js_cursor.proofs.MemorySteps.{lacks_before, lacks_behind}
 use Rattle.js_cursor.proofs.RestItems.{elements-append, ends_behind, separated_behind}
 use Rattle.js_cursor.proofs.RoundSteps.{leaves_less, rounds-push, stuck_as_told}
 use Rattle.js_cursor.proofs.cursor.Cursor.read_items.Goals as goal
 
 pub items-init : goal.items-init
-items-init g c = ([], refl, sym (append-nil c.args.items.now.elements.items), omega arith)
+items-init g c = (
+  [],
+  refl,
+  sym (append-nil c.args.items.now.elements.items),
+  omega arith,
+  λ elements rests. goes_on-refl c.args.self.now,
+)
 
 pub items-smaller : goal.items-smaller
 items-smaller g c =
@@ -22,14 +31,14 @@ items-smaller g c =
     separated_behind c.args.close c.args.opening_span c.is_some-has_rest.result c.items.self c.in_ok-goes_on.goes_on
     c.behind_item.new.self c.if-not-goes_on.false c.in_ok-goes_on.ensures.behind in
     leaves_less c.args.close before after short separated.is_open
-    (stuck_as_told before after c.cur_start-start.result c.is_stuck_at.result _ c.cur_start-start.ensures
+    (stuck_as_told before after c.cur_start-start.result c.is_stuck_at.result _ c.cur_start-start.ensures.start
     c.is_stuck_at.ensures c.if-is_stuck_at.false)
 
 pub items-preserved : goal.items-preserved
 items-preserved g c =
     let before = c.items.self in
     let after = c.read_item.new.cursor in
-    let Q = LeadingOn (IsSeparatedRound (ReadsItem g.E.Element.reads g.P.Element.reads) c.args.close Comma) in
+    let Q = LeadingOn (IsSeparatedRound (ReadsItem (Given g.E.Element.reads) (Given g.P.Element.reads)) c.args.close Comma) in
     let separated : IsSeparated c.args.close Comma c.items.self c.behind_item.new.self =
     separated_behind c.args.close c.args.opening_span c.is_some-has_rest.result c.items.self c.in_ok-goes_on.goes_on
     c.behind_item.new.self c.if-not-goes_on.false c.in_ok-goes_on.ensures.behind in
@@ -39,7 +48,7 @@ items-preserved g c =
       rounds-push Q (readers_of c.args.items.now) c.args.self.now more (readers_of c.items.items) before round.item
           (readers_of c.read_item.new.items) after c.items.invariant.1 (
             record { between = c.behind_item.new.self; separated = separated; read = round.reads },
-            stuck_as_told before after c.cur_start-start.result c.is_stuck_at.result _ c.cur_start-start.ensures
+            stuck_as_told before after c.cur_start-start.result c.is_stuck_at.result _ c.cur_start-start.ensures.start
                 c.is_stuck_at.ensures c.if-is_stuck_at.false,
           ),
       round.kept ∙ ap (λ ys. ys ++ elements (round.item ∷ [])) c.items.invariant.2
@@ -51,6 +60,10 @@ items-preserved g c =
         c.in_ok-goes_on.ensures.places,
         c.in_ok-read_item.ensures.places,
       ),
+      λ elements rests.
+          goes_on-trans c.args.self.now c.behind_item.new.self c.read_item.new.cursor
+          (goes_on-trans c.args.self.now c.items.self c.behind_item.new.self (c.items.invariant.4 elements rests)
+          c.in_ok-goes_on.ensures.goes_on) (c.in_ok-read_item.ensures.goes_on elements rests),
     )
 
 pub returns-then-not-goes_on-clause-ok : goal.returns-then-not-goes_on-clause-ok
@@ -82,7 +95,7 @@ returns-in-Some-clause-ok g c =
           (separated_behind c.args.close c.args.opening_span c.is_some-has_rest.result c.items.self
           c.in_ok-goes_on.goes_on c.behind_item.new.self c.if-not-goes_on.false c.in_ok-goes_on.ensures.behind)
           c.rest_last_diagnostic.result
-          (c.rest_span.result, told, c.rest_last_diagnostic.ensures) c.set_fatal_error.ensures;
+          (c.rest_span.result, told, c.rest_last_diagnostic.ensures) c.set_fatal_error.ensures.state;
     }
 
 pub returns-then-is_stuck_at-clause-stuck : goal.returns-then-is_stuck_at-clause-stuck
@@ -105,7 +118,57 @@ returns-then-is_stuck_at-clause-stuck g c =
         read = round.reads;
       };
       stuck =
-          stuck_as_told c.items.self after c.cur_start-start.result c.is_stuck_at.result _ c.cur_start-start.ensures
+          stuck_as_told c.items.self after c.cur_start-start.result c.is_stuck_at.result _ c.cur_start-start.ensures.start
           c.is_stuck_at.ensures c.if-is_stuck_at.true;
-      at_is = c.cur_start.ensures;
+      at_is = c.cur_start.ensures.start;
     }
+
+pub returns-in_err-goes_on-clause-goes_on : goal.returns-in_err-goes_on-clause-goes_on
+returns-in_err-goes_on-clause-goes_on g c =
+    λ elements rests.
+    goes_on-trans c.args.self.now c.items.self c.behind_item.new.self (c.items.invariant.4 elements rests)
+    c.in_err-goes_on.ensures.goes_on
+
+pub returns-then-not-goes_on-clause-goes_on : goal.returns-then-not-goes_on-clause-goes_on
+returns-then-not-goes_on-clause-goes_on g c =
+    λ elements rests.
+    goes_on-trans c.args.self.now c.items.self c.behind_item.new.self (c.items.invariant.4 elements rests)
+    c.in_ok-goes_on.ensures.goes_on
+
+pub returns-in-Some-clause-goes_on : goal.returns-in-Some-clause-goes_on
+returns-in-Some-clause-goes_on g c =
+    λ elements rests.
+    goes_on-trans c.args.self.now c.behind_item.new.self c.set_fatal_error.new.self
+    (goes_on-trans c.args.self.now c.items.self c.behind_item.new.self (c.items.invariant.4 elements rests)
+    c.in_ok-goes_on.ensures.goes_on)
+    c.set_fatal_error.ensures.stays.goes_on
+
+pub returns-in_err-read_item-clause-goes_on : goal.returns-in_err-read_item-clause-goes_on
+returns-in_err-read_item-clause-goes_on g c =
+    λ elements rests.
+    goes_on-trans c.args.self.now c.behind_item.new.self c.read_item.new.cursor
+    (goes_on-trans c.args.self.now c.items.self c.behind_item.new.self (c.items.invariant.4 elements rests)
+    c.in_ok-goes_on.ensures.goes_on) (c.in_err-read_item.ensures.goes_on elements rests)
+
+pub returns-then-is_stuck_at-clause-goes_on : goal.returns-then-is_stuck_at-clause-goes_on
+returns-then-is_stuck_at-clause-goes_on g c =
+    λ elements rests.
+    goes_on-trans c.args.self.now c.behind_item.new.self c.read_item.new.cursor
+    (goes_on-trans c.args.self.now c.items.self c.behind_item.new.self (c.items.invariant.4 elements rests)
+    c.in_ok-goes_on.ensures.goes_on) (c.in_ok-read_item.ensures.goes_on elements rests)
+
+pub returns-in_err-goes_on-clause-memory : goal.returns-in_err-goes_on-clause-memory
+returns-in_err-goes_on-clause-memory g c =
+    lacks_before (LacksItem g.E.Element.reads g.P.Element.reads)
+    (ReadsItem (Given g.E.Element.reads) (Given g.P.Element.reads)) c.args.close Comma (LacksComma c.args.close) _ (readers_of c.args.items.now)
+    c.args.self.now c.items.invariant.0 c.items.self (readers_of c.items.items) c.behind_item.new.self
+    c.items.invariant.1 c.in_err-goes_on.ensures.err
+
+pub returns-in_err-read_item-clause-memory : goal.returns-in_err-read_item-clause-memory
+returns-in_err-read_item-clause-memory g c =
+    lacks_behind (LacksItem g.E.Element.reads g.P.Element.reads)
+    (ReadsItem (Given g.E.Element.reads) (Given g.P.Element.reads)) c.args.close Comma (LacksComma c.args.close) _ (readers_of c.args.items.now)
+    c.args.self.now c.items.invariant.0 (readers_of c.items.items) c.items.self c.behind_item.new.self
+    (readers_of c.read_item.new.items) c.read_item.new.cursor c.items.invariant.1
+    (separated_behind c.args.close c.args.opening_span c.is_some-has_rest.result c.items.self c.in_ok-goes_on.goes_on
+    c.behind_item.new.self c.if-not-goes_on.false c.in_ok-goes_on.ensures.behind) c.in_err-read_item.ensures.err

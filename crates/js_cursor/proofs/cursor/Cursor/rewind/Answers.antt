@@ -3,6 +3,7 @@ use Rattle.js_lexer.specs.Lexer as of_lexer
 use Rattle.js_cursor.specs.Checkpoint.{CursorCheckpoint}
 use Rattle.js_cursor.specs.Cursor.{CursorState}
 use Rattle.js_cursor.proofs.CursorSteps.{recovered_is}
+use Rattle.js_cursor.proofs.TokenSteps.{on_rewound}
 use Rattle.js_cursor.proofs.cursor.Cursor.rewind.Goals as goal
 
 pub returns-clause-state : goal.returns-clause-state
@@ -17,3 +18,9 @@ returns-clause-recovers g c =
     (subst (λ (now : CursorState). of_lexer.GoesOnFrom (of_lexer.with_diagnostics left earlier.lexer) now.lexer)
     (sym c.self.view_is) goes.lexer))
     (returns-clause-state g c)
+
+pub invariant_of-self : goal.invariant_of-self
+invariant_of-self g c =
+    on_rewound _ c.self.inside.lexer c.rewind.new.self c.checkpoint.inside.lexer c.self.inside.token
+    c.checkpoint.inside.token c.self.inside.previous_end c.checkpoint.inside.previous_end c.self.invariant
+    c.checkpoint.invariant c.rewind.ensures.state
