@@ -38,12 +38,12 @@ use Rattle.js_grammar.proofs.StringLaws.{not_empty, template_cut}
 use Rattle.js_grammar.proofs.StringSteps.{part_unterminated, part_with_substitution, part_with_tail}
 use Rattle.js_grammar.proofs.TemplateLaws.{substitution_is_read, tail_is_read, part_here}
 use Rattle.js_grammar.proofs.Tests.{prefix_is, prefix_of}
-use Rattle.js_strip.proofs.QuotedAnywhere.{part_anywhere}
-use Rattle.js_strip.specs.StripText.{stand_in}
-use Rattle.js_strip.proofs.Standing.{kind_of}
-use Rattle.js_strip.proofs.Without.{Without, comment_begins, dropped, has_no_blank, kept, kept_all}
-use Rattle.js_strip.proofs.Without.{FailsMarks, begins_comment, mark_fails, no_close, prefix_from, same}
-use Rattle.js_strip.proofs.Without.{true_is_not_false}
+use Rattle.js_grammar.proofs.QuotedAnywhere.{part_anywhere}
+use Rattle.js_grammar.specs.Blanks.{stand_in}
+use Rattle.js_grammar.specs.Blanks.{kind_of}
+use Rattle.js_grammar.proofs.Without.{Without, comment_begins, dropped, has_no_blank, kept, kept_all}
+use Rattle.js_grammar.proofs.Without.{FailsMarks, begins_comment, mark_fails, no_close, prefix_from, same}
+use Rattle.js_grammar.proofs.Without.{true_is_not_false}
 
 -- A part of a template that a mark ends, by its items.
 ended_part : (opening : ℕ) (closing xs ys : List ℕ) → (template_items (xs ++ ys)).rest ≡ closing ++ ys

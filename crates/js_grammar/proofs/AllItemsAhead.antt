@@ -37,7 +37,7 @@ pub record FoundAlike (found other : StringItems) (rest : List ℕ) : Type 0 whe
   pub items : bare other.items ≡ bare found.items
   pub left : other.rest ≡ rest
 
-none_up_to : (step : List ℕ → Option StringItem) (most : ℕ) (text : List ℕ) → step text ≡ None
+pub none_up_to : (step : List ℕ → Option StringItem) (most : ℕ) (text : List ℕ) → step text ≡ None
     → items_up_to step most text ≡ no_item text
 none_up_to step zero text e = refl
 none_up_to step (suc most) text e = rw e refl
@@ -50,13 +50,13 @@ nothing_taken step heads ys us item is e =
     absurd
     (omega (arith, head.some, ap length head.here, length-append item.text item.rest, ap length e, length-append us ys))
 
-some_up_to : (step : List ℕ → Option StringItem) (most : ℕ) (text : List ℕ) (item : StringItem)
+pub some_up_to : (step : List ℕ → Option StringItem) (most : ℕ) (text : List ℕ) (item : StringItem)
     → step text ≡ Some item
     → items_up_to step (suc most) text ≡ items_before (item ∷ []) (items_up_to step most item.rest)
 some_up_to step most text item e = rw e refl
 
 -- an item in both texts, and those behind it
-next_alike : (step : List ℕ → Option StringItem) (found more : StringItems) (m : ℕ) (text behind rest : List ℕ)
+pub next_alike : (step : List ℕ → Option StringItem) (found more : StringItems) (m : ℕ) (text behind rest : List ℕ)
     (item : StringItem) → length text ≤ m → length behind < length text → found ≡ items_before (item ∷ []) more
     → step text ≡ Some (up_to item behind)
     → ((m : ℕ) → length behind ≤ m → FoundAlike more (items_up_to step m behind) rest)

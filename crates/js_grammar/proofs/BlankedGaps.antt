@@ -19,9 +19,9 @@ use Rattle.js_grammar.specs.PieceItems.{block_kind}
 use Rattle.js_grammar.specs.Reading.{place_behind}
 use Rattle.js_grammar.proofs.PieceLemmas.{piece-line_terminator, piece-white}
 use Rattle.js_grammar.proofs.Reported.{append_nil, whole_gap_piece_of}
-use Rattle.js_strip.specs.StripText.{stand_in}
-use Rattle.js_strip.proofs.Standing.{kind_of}
-use Rattle.js_strip.proofs.Without.{Without, is_no_blank, kept, prefix_from}
+use Rattle.js_grammar.specs.Blanks.{stand_in}
+use Rattle.js_grammar.specs.Blanks.{kind_of}
+use Rattle.js_grammar.proofs.Without.{Without, is_no_blank, kept, prefix_from}
 
 -- A line ends in a comment of the kind.
 abbrev pub is_multi_line : CommentKind → Bool

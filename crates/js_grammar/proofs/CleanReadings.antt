@@ -46,8 +46,8 @@ use Rattle.js_grammar.proofs.StringLaws.{good_string, string_here, string_is_rea
 use Rattle.js_grammar.proofs.TemplateLaws.{good_part, part_here, substitution_is_read, tail_is_read}
 use Rattle.js_grammar.proofs.Tests.{prefix_is, prefix_of}
 use Rattle.js_grammar.proofs.Unique.{reading_unique}
-use Rattle.js_strip.proofs.QuotedAnywhere.{part_anywhere, string_anywhere}
-use Rattle.js_strip.proofs.Without.{FailsBlanks, Without, dropped, kept, longest_stays, none_begins, same}
+use Rattle.js_grammar.proofs.QuotedAnywhere.{part_anywhere, string_anywhere}
+use Rattle.js_grammar.proofs.Without.{FailsBlanks, Without, dropped, kept, longest_stays, none_begins, same}
 
 -- The same is read where other characters follow what was taken.
 abbrev pub StaysRead : SourceType → Bool → List ℕ → List ℕ → Reading → Type 0

@@ -16,7 +16,7 @@ use Rattle.js_grammar.specs.RegularExpression.{expression_of_body, flag_reports,
 use Rattle.js_grammar.specs.RegularExpression.{regular_expression, right_square_bracket}
 use Rattle.js_grammar.specs.RegularExpression.{with_letters}
 use Rattle.js_grammar.proofs.Ahead.{BeginAlike}
-use Rattle.js_grammar.proofs.GapsAhead.{first_local}
+use Rattle.js_grammar.proofs.GapsAhead.{FirstIs, first_local}
 use Rattle.js_grammar.proofs.GoalReadings.{FindsParts, behind_up_to_leaves, body_leaves, expression_terminated}
 use Rattle.js_grammar.proofs.GoalReadings.{expression_unterminated, finds_body_characters, finds_class_characters}
 use Rattle.js_grammar.proofs.GoalReadings.{finds_non_terminators, no_part, one_part, part_shorter}
@@ -147,60 +147,64 @@ flags_of text rest pattern_end letters = record (read_up_to RegExp text rest) {
   diagnostics = flag_reports no_flags (pattern_end + 1) letters;
 }
 
--- A regular expression, from what stands behind its `/` on.
-pub expression_local : (xs ys zs : List ℕ) → BeginAlike ys zs → (regular_expression (xs ++ ys)).rest ≡ ys
+-- A regular expression that has its end, from what stands behind its `/` on, where its letters end in both texts.
+pub terminated_local : (xs ys zs : List ℕ)
+    → ((letters : List ℕ) → from_first ends_flags (letters ++ ys) ≡ ys
+    → FirstIs ends_flags (letters ++ ys) (letters ++ zs) [] zs)
+    → begins (λ c. c == slash) (behind_body (xs ++ ys)) ≡ true → (regular_expression (xs ++ ys)).rest ≡ ys
     → regular_expression (xs ++ zs) ≡ record (regular_expression (xs ++ ys)) { rest = zs }
-expression_local xs ys zs alike left =
-    elim (true_or_false (begins (λ c. c == slash) (behind_body (xs ++ ys)))) [
-      | inl is ↦ terminated is
-      | inr none ↦
-          nothing_left ys zs alike
-          (sym (ap (λ (r : Reading). r.rest)
-          (expression_unterminated (slash ∷ (xs ++ ys)) (behind_body (xs ++ ys)) none)) ∙ left)
-    ]
+terminated_local xs ys zs stops is left =
+    let text = slash ∷ (xs ++ ys) in
+    let other = slash ∷ (xs ++ zs) in
+    let behind = behind_body (xs ++ ys) in
+    let letters = before_first ends_flags (drop 1 behind) in
+    let read = expression_terminated text behind is in
+    let rest : from_first ends_flags (drop 1 behind) ≡ ys = sym (ap (λ (r : Reading). r.rest) read) ∙ left in
+    let flags : drop 1 behind ≡ letters ++ ys =
+    sym (before_from ends_flags (drop 1 behind)) ∙ ap (λ t. letters ++ t) rest in
+    let here : behind ≡ slash ∷ (letters ++ ys) = first_is slash behind is ∙ ap (λ t. slash ∷ t) flags in
+    let there : behind_body (xs ++ zs) ≡ slash ∷ (letters ++ zs) =
+    all_local behind_body_character slash ys zs finds_body_characters (body_part_local ys zs) (λ cs. refl) xs
+    letters here in
+    let same = stops letters (ap (from_first ends_flags) (sym flags) ∙ rest) in
+    let letters_are : before_first ends_flags (letters ++ zs) ≡ letters =
+    same.before ∙ ap (before_first ends_flags) (sym flags) in
+    let leaves = body_leaves (xs ++ ys) in
+    let front : xs ≡ leaves.0 ++ (slash ∷ letters) =
+    append_cancel_right xs (leaves.0 ++ (slash ∷ letters)) ys
+    (leaves.1 ∙ ap (λ t. leaves.0 ++ t) here ∙ sym (append_assoc leaves.0 (slash ∷ letters) ys)) in
+    let split : other ≡ (slash ∷ leaves.0) ++ (slash ∷ (letters ++ zs)) =
+    ap (λ t. slash ∷ (t ++ zs)) front ∙ ap (λ t. slash ∷ t) (append_assoc leaves.0 (slash ∷ letters) zs) in
+    let ends : before_rest other (slash ∷ (letters ++ zs)) ≡ before_rest text behind =
+    taken_is other (slash ∷ leaves.0) (slash ∷ (letters ++ zs)) split
+    ∙ sym (taken_is text (slash ∷ leaves.0) behind (ap (λ t. slash ∷ t) leaves.1)) in
+    let pattern_end : size_of (read_up_to RegExp other (slash ∷ (letters ++ zs)))
+    ≡ size_of (read_up_to RegExp text behind) =
+    ap (λ t. length (encode_utf8_all t)) ends in
+    ap (expression_of_body other) there
+    ∙ expression_terminated other (slash ∷ (letters ++ zs)) refl
+    ∙ ap (λ t. flags_of other (from_first ends_flags (letters ++ zs))
+    (size_of (read_up_to RegExp other (slash ∷ (letters ++ zs)))) t) letters_are
+    ∙ ap (λ n. flags_of other (from_first ends_flags (letters ++ zs)) n letters) pattern_end
+    ∙ ap (λ t. flags_of other t (size_of (read_up_to RegExp text behind)) letters) same.from
+    ∙ taken (size_of (read_up_to RegExp text behind)) letters
+    ∙ ap (λ t. record (flags_of text t (size_of (read_up_to RegExp text behind)) letters) { rest = zs }) (sym rest)
+    ∙ ap (λ (r : Reading). record r { rest = zs }) (sym read)
   where
     taken : (n : ℕ) (letters : List ℕ)
         → flags_of (slash ∷ (xs ++ zs)) zs n letters
         ≡ record (flags_of (slash ∷ (xs ++ ys)) ys n letters) { rest = zs }
     taken n letters = rw (sym (same_taken (slash ∷ xs) ys zs)) refl
 
-    terminated : begins (λ c. c == slash) (behind_body (xs ++ ys)) ≡ true
-        → regular_expression (xs ++ zs) ≡ record (regular_expression (xs ++ ys)) { rest = zs }
-    terminated is =
-        let text = slash ∷ (xs ++ ys) in
-        let other = slash ∷ (xs ++ zs) in
-        let behind = behind_body (xs ++ ys) in
-        let letters = before_first ends_flags (drop 1 behind) in
-        let read = expression_terminated text behind is in
-        let rest : from_first ends_flags (drop 1 behind) ≡ ys = sym (ap (λ (r : Reading). r.rest) read) ∙ left in
-        let flags : drop 1 behind ≡ letters ++ ys =
-        sym (before_from ends_flags (drop 1 behind)) ∙ ap (λ t. letters ++ t) rest in
-        let here : behind ≡ slash ∷ (letters ++ ys) = first_is slash behind is ∙ ap (λ t. slash ∷ t) flags in
-        let there : behind_body (xs ++ zs) ≡ slash ∷ (letters ++ zs) =
-        all_local behind_body_character slash ys zs finds_body_characters (body_part_local ys zs) (λ cs. refl) xs
-        letters here in
-        let same = first_local ends_flags letters ys zs [] alike
-        (ap (from_first ends_flags) (sym flags) ∙ rest) in
-        let letters_are : before_first ends_flags (letters ++ zs) ≡ letters =
-        same.before ∙ ap (before_first ends_flags) (sym flags) in
-        let leaves = body_leaves (xs ++ ys) in
-        let front : xs ≡ leaves.0 ++ (slash ∷ letters) =
-        append_cancel_right xs (leaves.0 ++ (slash ∷ letters)) ys
-        (leaves.1 ∙ ap (λ t. leaves.0 ++ t) here ∙ sym (append_assoc leaves.0 (slash ∷ letters) ys)) in
-        let split : other ≡ (slash ∷ leaves.0) ++ (slash ∷ (letters ++ zs)) =
-        ap (λ t. slash ∷ (t ++ zs)) front ∙ ap (λ t. slash ∷ t) (append_assoc leaves.0 (slash ∷ letters) zs) in
-        let ends : before_rest other (slash ∷ (letters ++ zs)) ≡ before_rest text behind =
-        taken_is other (slash ∷ leaves.0) (slash ∷ (letters ++ zs)) split
-        ∙ sym (taken_is text (slash ∷ leaves.0) behind (ap (λ t. slash ∷ t) leaves.1)) in
-        let pattern_end : size_of (read_up_to RegExp other (slash ∷ (letters ++ zs)))
-        ≡ size_of (read_up_to RegExp text behind) =
-        ap (λ t. length (encode_utf8_all t)) ends in
-        ap (expression_of_body other) there
-        ∙ expression_terminated other (slash ∷ (letters ++ zs)) refl
-        ∙ ap (λ t. flags_of other (from_first ends_flags (letters ++ zs))
-        (size_of (read_up_to RegExp other (slash ∷ (letters ++ zs)))) t) letters_are
-        ∙ ap (λ n. flags_of other (from_first ends_flags (letters ++ zs)) n letters) pattern_end
-        ∙ ap (λ t. flags_of other t (size_of (read_up_to RegExp text behind)) letters) same.from
-        ∙ taken (size_of (read_up_to RegExp text behind)) letters
-        ∙ ap (λ t. record (flags_of text t (size_of (read_up_to RegExp text behind)) letters) { rest = zs }) (sym rest)
-        ∙ ap (λ (r : Reading). record r { rest = zs }) (sym read)
+-- A regular expression, from what stands behind its `/` on.
+pub expression_local : (xs ys zs : List ℕ) → BeginAlike ys zs → (regular_expression (xs ++ ys)).rest ≡ ys
+    → regular_expression (xs ++ zs) ≡ record (regular_expression (xs ++ ys)) { rest = zs }
+expression_local xs ys zs alike left =
+    elim (true_or_false (begins (λ c. c == slash) (behind_body (xs ++ ys)))) [
+      | inl is ↦
+          terminated_local xs ys zs (λ letters e. first_local ends_flags letters ys zs [] alike e) is left
+      | inr none ↦
+          nothing_left ys zs alike
+          (sym (ap (λ (r : Reading). r.rest)
+          (expression_unterminated (slash ∷ (xs ++ ys)) (behind_body (xs ++ ys)) none)) ∙ left)
+    ]

@@ -1,10 +1,14 @@
 pub mod AgainKinds
+pub mod AgainReadings
 pub mod Ahead
 pub mod AllItemsAhead
 pub mod AtPlaces
+pub mod BlankedGaps
 pub mod Clean
+pub mod CleanReadings
 pub mod EscapeCases
 pub mod EscapesAhead
+pub mod ExpressionReadings
 pub mod ExpressionsAhead
 pub mod Flags
 pub mod GapEnds
@@ -49,6 +53,7 @@ pub mod PieceLemmas
 pub mod Printable
 pub mod PunctuatorLemmas
 pub mod PunctuatorsAhead
+pub mod QuotedAnywhere
 pub mod QuotedReadings
 pub mod QuotedValues
 pub mod ReadingLemmas
@@ -71,3 +76,4 @@ pub mod TokenStarts
 pub mod UnicodeEscapes
 pub mod Unique
 pub mod Values
+pub mod Without

@@ -1,42 +1,23 @@
 -- A string and a part of a template are read the same whatever follows them.
 use Rattle.std.proofs.Common.{◌≡◌, ℕ, zero, suc, ◌<◌, ◌≤◌, true, false, ◌==◌, ◌&&◌, List, [], ◌∷◌, ◌++◌}
-use Rattle.std.proofs.Common.{length, refl, sym, ◌∙◌, ap, arith, inl, inr, length-append, None, Some}
+use Rattle.std.proofs.Common.{length, refl, sym, ◌∙◌, ap, arith, inl, inr, length-append, None}
 use Rattle.std.proofs.Common.{Option, ◌⊎◌}
 use Rattle.std.proofs.lemmas.Bool.{eq-eqb, eqb-true}
 use Rattle.js_text.specs.Ascii.{apostrophe, backslash, quotation_mark}
 use Rattle.js_kind.specs.declared.kind.Kind.{Kind}
-use Rattle.js_grammar.specs.StringItems.{IsString, StringItem, StringItems, are_good, contains_bad_escape}
+use Rattle.js_grammar.specs.StringItems.{IsString, StringItem, StringItems, are_good}
 use Rattle.js_grammar.specs.StringItems.{contains_escape, is_good, is_quote, items_before, items_up_to}
-use Rattle.js_grammar.specs.StringItems.{no_item, string_item, string_items, string_text, string_units}
+use Rattle.js_grammar.specs.StringItems.{string_item, string_items, string_text, string_units}
 use Rattle.js_grammar.specs.Template.{IsPart, template_item, template_items, template_value}
 use Rattle.js_grammar.proofs.Ahead.{BeginAlike, nothing_before}
-use Rattle.js_grammar.proofs.AllItemsAhead.{FoundAlike, StepIsLocal, bare, string_step_local, template_step_local}
+use Rattle.js_grammar.proofs.AllItemsAhead.{FoundAlike, StepIsLocal, bare, next_alike, none_up_to, some_up_to}
+use Rattle.js_grammar.proofs.AllItemsAhead.{string_step_local, template_step_local}
 use Rattle.js_grammar.proofs.ItemsAhead.{up_to}
 use Rattle.js_grammar.proofs.NumberItems.{true_or_false}
 use Rattle.js_grammar.proofs.StringLaws.{good_string, items_and_rest}
+use Rattle.js_grammar.proofs.StringsAhead.{bare_escape, bare_text, bare_units, bare_value, same_of}
 use Rattle.js_grammar.proofs.StringSteps.{none_or_some, shorter, string_ends}
 use Rattle.js_grammar.proofs.TemplateLaws.{good_part}
-
-none_up_to : (step : List ℕ → Option StringItem) (most : ℕ) (text : List ℕ) → step text ≡ None
-    → items_up_to step most text ≡ no_item text
-none_up_to step zero text e = refl
-none_up_to step (suc most) text e = rw e refl
-
-some_up_to : (step : List ℕ → Option StringItem) (most : ℕ) (text : List ℕ) (item : StringItem)
-    → step text ≡ Some item
-    → items_up_to step (suc most) text ≡ items_before (item ∷ []) (items_up_to step most item.rest)
-some_up_to step most text item e = rw e refl
-
-next_alike : (step : List ℕ → Option StringItem) (found more : StringItems) (m : ℕ) (text behind rest : List ℕ)
-    (item : StringItem) → length text ≤ m → length behind < length text → found ≡ items_before (item ∷ []) more
-    → step text ≡ Some (up_to item behind)
-    → ((m : ℕ) → length behind ≤ m → FoundAlike more (items_up_to step m behind) rest)
-    → FoundAlike found (items_up_to step m text) rest
-next_alike step found more zero text behind rest item k less here is next = absurd (omega arith)
-next_alike step found more (suc m) text behind rest item k less here is next =
-    let alike = next m (omega arith) in
-    let there = some_up_to step m text (up_to item behind) is in
-    rw (here, there) (record { items = ap (λ items. up_to item [] ∷ items) alike.items; left = alike.left })
 
 -- All items up to a mark, which begins what is left in both texts.
 items_same : (step : List ℕ → Option StringItem) → StepIsLocal step → (n m : ℕ) (xs ys zs : List ℕ)
@@ -72,34 +53,9 @@ items_same step local (suc n) m xs ys zs alike stop h k some e =
           (λ m k. items_same step local n m vs ys zs alike stop within k some next_left))
     ]
 
--- What is known of items doesn't depend on what is left behind each.
-bare_text : (items : List StringItem) → string_text (bare items) ≡ string_text items
-bare_text [] = refl
-bare_text (item ∷ items) = ap (λ t. item.text ++ t) (bare_text items)
-
-bare_units : (items : List StringItem) → string_units (bare items) ≡ string_units items
-bare_units [] = refl
-bare_units (item ∷ items) = ap (λ t. item.units ++ t) (bare_units items)
-
-bare_escape : (items : List StringItem) → contains_escape (bare items) ≡ contains_escape items
-bare_escape [] = refl
-bare_escape (item ∷ items) = rw (bare_escape items) refl
-
-bare_bad_escape : (items : List StringItem) → contains_bad_escape (bare items) ≡ contains_bad_escape items
-bare_bad_escape [] = refl
-bare_bad_escape (item ∷ items) = rw (bare_bad_escape items) refl
-
 bare_good : (items : List StringItem) → are_good (bare items) ≡ are_good items
 bare_good [] = refl
 bare_good (item ∷ items) = ap (λ b. is_good item.fault && b) (bare_good items)
-
-bare_value : (items : List StringItem) → template_value (bare items) ≡ template_value items
-unfolding template_value
-bare_value items = rw (bare_bad_escape items, bare_units items) refl
-
-same_of : {A : Type 0} (f : List StringItem → A) → ((items : List StringItem) → f (bare items) ≡ f items)
-    → (xs ys : List StringItem) → bare xs ≡ bare ys → f xs ≡ f ys
-same_of f law xs ys e = sym (law xs) ∙ ap f e ∙ law ys
 
 -- a quote ends a string
 quote_stops : (quote : ℕ) (ys : List ℕ) → is_quote quote ≡ true → string_item quote (quote ∷ ys) ≡ None

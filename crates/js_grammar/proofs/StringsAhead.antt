@@ -31,15 +31,15 @@ use Rattle.js_grammar.proofs.StringSteps.{part_with_substitution, part_untermina
 use Rattle.js_grammar.proofs.Tests.{prefix_is}
 
 -- what is known of items doesn't depend on what is left behind each
-bare_text : (items : List StringItem) → string_text (bare items) ≡ string_text items
+pub bare_text : (items : List StringItem) → string_text (bare items) ≡ string_text items
 bare_text [] = refl
 bare_text (item ∷ items) = ap (λ t. item.text ++ t) (bare_text items)
 
-bare_units : (items : List StringItem) → string_units (bare items) ≡ string_units items
+pub bare_units : (items : List StringItem) → string_units (bare items) ≡ string_units items
 bare_units [] = refl
 bare_units (item ∷ items) = ap (λ t. item.units ++ t) (bare_units items)
 
-bare_escape : (items : List StringItem) → contains_escape (bare items) ≡ contains_escape items
+pub bare_escape : (items : List StringItem) → contains_escape (bare items) ≡ contains_escape items
 bare_escape [] = refl
 bare_escape (item ∷ items) = rw (bare_escape items) refl
 
@@ -47,7 +47,7 @@ bare_bad_escape : (items : List StringItem) → contains_bad_escape (bare items)
 bare_bad_escape [] = refl
 bare_bad_escape (item ∷ items) = rw (bare_bad_escape items) refl
 
-bare_value : (items : List StringItem) → template_value (bare items) ≡ template_value items
+pub bare_value : (items : List StringItem) → template_value (bare items) ≡ template_value items
 unfolding template_value
 bare_value items = rw (bare_bad_escape items, bare_units items) refl
 
@@ -59,7 +59,7 @@ bare_reports t start place (item ∷ items) =
     ap (λ r. fault_reports t start place end item.fault ++ r) (bare_reports t start end items)
 
 -- so it is the same of two lists of such items
-same_of : {A : Type 0} (f : List StringItem → A) → ((items : List StringItem) → f (bare items) ≡ f items)
+pub same_of : {A : Type 0} (f : List StringItem → A) → ((items : List StringItem) → f (bare items) ≡ f items)
     → (xs ys : List StringItem) → bare xs ≡ bare ys → f xs ≡ f ys
 same_of f law xs ys e = sym (law xs) ∙ ap f e ∙ law ys
 

@@ -23,8 +23,8 @@ use Rattle.js_grammar.specs.Punctuators.Exclusion.{excludes_nothing, excludes_di
 use Rattle.js_grammar.specs.Punctuators.Exclusion.{excludes_reported_comment}
 use Rattle.js_grammar.proofs.NumberItems.{true_or_false}
 use Rattle.js_grammar.proofs.Tests.{and_true}
-use Rattle.js_strip.specs.StripText.{stand_in}
-use Rattle.js_strip.proofs.Standing.{kind_of}
+use Rattle.js_grammar.specs.Blanks.{stand_in}
+use Rattle.js_grammar.specs.Blanks.{kind_of}
 
 -- The other text is the text, in which what stands for some comments is in their place. None of them is one that a
 -- module may not have.

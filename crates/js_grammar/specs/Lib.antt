@@ -1,5 +1,6 @@
 pub mod Angle
 pub mod Attach
+pub mod Blanks
 pub mod CommentClasses
 pub mod Gap
 pub mod GapItems

@@ -5,6 +5,7 @@ pub mod Marks
 pub mod Moved
 pub mod Report
 pub mod RowReader
+pub mod SameRows
 pub mod Session
 pub mod Shifted
 pub mod WholeSource

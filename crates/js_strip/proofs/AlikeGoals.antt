@@ -57,15 +57,15 @@ use Rattle.js_grammar.proofs.StringBegins.{quote_is_quoted, quoted_begins_no_com
 use Rattle.js_grammar.proofs.StringLaws.{not_empty}
 use Rattle.js_grammar.proofs.Tests.{prefix_is}
 use Rattle.js_grammar.proofs.StringSteps.{part_unterminated, part_with_substitution, part_with_tail}
-use Rattle.js_strip.proofs.AgainReadings.{angle_stays, child_stays, jsx_name_stays, jsx_string_stays, part_stays}
-use Rattle.js_strip.proofs.AgainReadings.{false_when, hyphen_goes_on, stops_before, stops_both, whole_first}
+use Rattle.js_grammar.proofs.AgainReadings.{angle_stays, child_stays, jsx_name_stays, jsx_string_stays, part_stays}
+use Rattle.js_grammar.proofs.AgainReadings.{false_when, hyphen_goes_on, stops_before, stops_both, whole_first}
 use Rattle.js_strip.proofs.AlikeReadings.{GapThere, ReadAlike, gap_alike, gap_there, quiet_parts, read_alike}
 use Rattle.js_strip.proofs.AlikeReadings.{taken_there}
-use Rattle.js_strip.proofs.ExpressionReadings.{expression_stays}
+use Rattle.js_grammar.proofs.ExpressionReadings.{expression_stays}
 use Rattle.js_strip.proofs.Standing.{StandBetween}
 use Rattle.js_strip.proofs.StrippedChars.{chars_between, without_from}
 use Rattle.js_strip.proofs.StrippedText.{stripped_from}
-use Rattle.js_strip.proofs.Without.{FailsMarks, Without, has_no_blank, prefix_from, true_is_not_false}
+use Rattle.js_grammar.proofs.Without.{FailsMarks, Without, has_no_blank, prefix_from, true_is_not_false}
 
 -- What is read of a text from a start on, and of the other text from where it stands there, where what is read of
 -- characters stays the same before what is left.

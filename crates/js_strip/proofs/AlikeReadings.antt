@@ -28,14 +28,15 @@ use Rattle.js_grammar.proofs.AtPlaces.{BehindGap, ReadParts, behind_characters, 
 use Rattle.js_grammar.proofs.Clean.{none_moved}
 use Rattle.js_grammar.proofs.Reported.{append_nil, piece_texts, pieces_text}
 use Rattle.js_grammar.proofs.Spans.{here_is_taken}
-use Rattle.js_strip.proofs.BlankedGaps.{blank_kind, blank_texts, blanked, blanked_pieces, none_stays, piece_for}
-use Rattle.js_strip.proofs.BlankedGaps.{pieces_blanked, unreported_pieces}
-use Rattle.js_strip.proofs.CleanReadings.{clean_here, clean_stays, nothing_follows}
-use Rattle.js_strip.proofs.Standing.{StandBetween, behind_line_end, behind_listed, between_from, gap_comments, kind_of}
+use Rattle.js_grammar.proofs.BlankedGaps.{blank_kind, blank_texts, blanked, blanked_pieces, none_stays, piece_for}
+use Rattle.js_grammar.proofs.BlankedGaps.{pieces_blanked, unreported_pieces}
+use Rattle.js_grammar.proofs.CleanReadings.{clean_here, clean_stays, nothing_follows}
+use Rattle.js_strip.proofs.Standing.{StandBetween, behind_line_end, behind_listed, between_from, gap_comments}
+use Rattle.js_grammar.specs.Blanks.{kind_of}
 use Rattle.js_strip.proofs.StrippedChars.{chars_between, stripped_chars, without_from}
 use Rattle.js_strip.proofs.StrippedGaps.{gap_stripped}
 use Rattle.js_strip.proofs.StrippedText.{stripped_from}
-use Rattle.js_strip.proofs.Without.{Without, kept_all}
+use Rattle.js_grammar.proofs.Without.{Without, kept_all}
 
 -- the token of what was read at a place
 abbrev pub token_at : Bool → ℕ → Reading → TokenParts

@@ -42,11 +42,11 @@ use Rattle.js_grammar.proofs.AtPlaces.{gap_end}
 use Rattle.js_grammar.proofs.Clean.{none_moved}
 use Rattle.js_grammar.proofs.GapLemmas.{piece_text}
 use Rattle.js_grammar.proofs.Reported.{append_nil}
-use Rattle.js_strip.proofs.AgainReadings.{module_begins}
+use Rattle.js_grammar.proofs.AgainReadings.{module_begins}
 use Rattle.js_strip.proofs.AlikeGoals.{expression_some, part_is_no_end}
 use Rattle.js_strip.proofs.AlikeReadings.{quiet_parts}
-use Rattle.js_strip.proofs.BlankedGaps.{unreported_pieces}
-use Rattle.js_strip.proofs.Without.{begins_comment, comment_begins, true_is_not_false}
+use Rattle.js_grammar.proofs.BlankedGaps.{unreported_pieces}
+use Rattle.js_grammar.proofs.Without.{begins_comment, comment_begins, true_is_not_false}
 use Rattle.js_strip.proofs.Standing.{IsComment, StandBetween, child_none, gap_comments, no_hashbang_there, pieces_stand}
 
 clean_gap : (text : List ℕ) (t : SourceType) (before : Option TokenParts) (place : ℕ) (pieces : List Piece)

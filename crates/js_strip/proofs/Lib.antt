@@ -1,14 +1,9 @@
-pub mod AgainReadings
 pub mod AlikeGoals
 pub mod AlikeReadings
-pub mod BlankedGaps
 pub mod Causes
-pub mod CleanReadings
-pub mod ExpressionReadings
 pub mod FutureComments
 pub mod FutureRows
 pub mod Positions
-pub mod QuotedAnywhere
 pub mod SameReports
 pub mod SameValues
 pub mod Standing
@@ -17,4 +12,3 @@ pub mod StrippedChars
 pub mod StrippedGaps
 pub mod StrippedRows
 pub mod StrippedText
-pub mod Without

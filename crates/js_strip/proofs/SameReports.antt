@@ -15,7 +15,7 @@ use Rattle.js_grammar.specs.declared.goal.Goal.TheVariants.{First}
 use Rattle.js_grammar.proofs.KindTexts.{goal_reads_spelling}
 use Rattle.js_grammar.proofs.Unique.{goal_reads_unique}
 use Rattle.js_lexer.specs.Lexer.{token_or_default}
-use Rattle.js_strip.specs.SameRows.{SameRow, SameRows}
+use Rattle.js_session.specs.SameRows.{SameRow, SameRows}
 use Rattle.js_session.specs.declared.command.Command.{Command}
 use Rattle.js_session.specs.declared.report.Report.{Report}
 use Rattle.js_session.specs.declared.row.Row.{Row}
@@ -36,7 +36,7 @@ use Rattle.js_strip.proofs.Standing.{StandBetween, between_append, between_from}
 use Rattle.js_strip.proofs.StrippedChars.{without_from}
 use Rattle.js_strip.proofs.StrippedRows.{Beside, IsBare, rows_alike, runs_alike}
 use Rattle.js_strip.proofs.StrippedText.{stripped_from, stripped_whole}
-use Rattle.js_strip.proofs.Without.{Without}
+use Rattle.js_grammar.proofs.Without.{Without}
 
 -- the comments of a row are those that are live more
 row_live : (text : List ℕ) (t : SourceType) (effect : Effect) (row : Row) (s : State) → Strips t effect

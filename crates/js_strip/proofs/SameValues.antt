@@ -13,7 +13,7 @@ use Rattle.js_grammar.specs.Reading.{moved_value}
 use Rattle.js_grammar.specs.TokenText.{closing_length, is_private_name, is_quoted, is_valued, text_end, text_slice}
 use Rattle.js_grammar.specs.TokenText.{text_start, unescaped_value}
 use Rattle.js_grammar.specs.Values.{HasText, IsValueOf, template_row_value}
-use Rattle.js_strip.specs.SameRows.{SameValue}
+use Rattle.js_session.specs.SameRows.{SameValue}
 
 -- the value is no stretch of its text
 abbrev pub is_own : RowValue → Bool

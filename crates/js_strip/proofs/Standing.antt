@@ -36,16 +36,6 @@ use Rattle.js_grammar.proofs.AtPlaces.{behind_characters, gap_end}
 use Rattle.js_grammar.proofs.Reported.{piece_texts, place_behind-append, whole_gap_piece_text}
 use Rattle.js_strip.specs.StripText.{StandInOrder}
 
--- which comment a piece is, by its kind and its characters
-abbrev pub kind_of : PieceKind → List ℕ → Option CommentKind
-kind_of white_space text = None
-kind_of line_terminator text = None
-kind_of single_line_comment text = Some Line
-kind_of multi_line_comment text = Some (block_kind text)
-kind_of html_open_comment text = Some HtmlOpen
-kind_of html_close_comment text = Some HtmlClose
-kind_of reported_comment text = Some HtmlOpen
-
 -- What finds the piece that a text begins with, where the flag tells whether a line has ended before it.
 abbrev pub Step : Type 0
 Step = Bool → List ℕ → Option Piece

@@ -13,10 +13,10 @@ use Rattle.js_text.specs.declared.comment.CommentKind.TheVariants.{Line, SingleL
 use Rattle.js_text.specs.declared.comment.CommentKind.TheVariants.{HtmlClose}
 use Rattle.js_text.specs.declared.source_type.SourceType.{SourceType}
 use Rattle.js_grammar.specs.Gap.{piece}
-use Rattle.js_strip.specs.StripText.{stand_in}
+use Rattle.js_grammar.specs.Blanks.{stand_in}
 use Rattle.js_strip.proofs.Standing.{StandBetween}
 use Rattle.js_strip.proofs.StrippedText.{stripped_from}
-use Rattle.js_strip.proofs.Without.{Without, dropped, kept_all, same}
+use Rattle.js_grammar.proofs.Without.{Without, dropped, kept_all, same}
 
 -- the characters between two places
 pub chars_between : (text : List ℕ) (p q : ℕ) → IsUtf8 text → p ≤ q → IsCharBoundary text p → IsCharBoundary text q

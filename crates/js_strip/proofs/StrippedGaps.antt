@@ -21,9 +21,10 @@ use Rattle.js_grammar.specs.Reading.{place_behind}
 use Rattle.js_grammar.proofs.AtPlaces.{behind_characters}
 use Rattle.js_grammar.proofs.GapLemmas.{piece_text}
 use Rattle.js_grammar.proofs.Reported.{piece_texts, place_behind-append}
-use Rattle.js_strip.specs.StripText.{stand_in}
-use Rattle.js_strip.proofs.BlankedGaps.{blank_texts, characters_for}
-use Rattle.js_strip.proofs.Standing.{StandBetween, behind_line_end, behind_listed, between_append, kind_of, pieces_stand}
+use Rattle.js_grammar.specs.Blanks.{stand_in}
+use Rattle.js_grammar.proofs.BlankedGaps.{blank_texts, characters_for}
+use Rattle.js_strip.proofs.Standing.{StandBetween, behind_line_end, behind_listed, between_append, pieces_stand}
+use Rattle.js_grammar.specs.Blanks.{kind_of}
 use Rattle.js_strip.proofs.StrippedChars.{chars_between, chars_stand_in, stripped_chars}
 use Rattle.js_strip.proofs.StrippedText.{stripped_from}
 

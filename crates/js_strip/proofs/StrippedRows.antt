@@ -32,7 +32,7 @@ use Rattle.js_grammar.proofs.Unique.{goal_reads_unique}
 use Rattle.js_grammar.proofs.Texts.{goal_reads_text}
 use Rattle.js_grammar.proofs.Values.{goal_reads_value}
 use Rattle.js_lexer.specs.Lexer.{IsOnPlaces, token_or_default}
-use Rattle.js_strip.specs.SameRows.{SameRow, SameValue}
+use Rattle.js_session.specs.SameRows.{SameRow, SameValue}
 use Rattle.js_session.specs.declared.command.Command.{Command}
 use Rattle.js_session.specs.declared.row.Row.{Row}
 use Rattle.js_session.proofs.LastingRuns.{lasting_steps}
@@ -48,7 +48,7 @@ use Rattle.js_strip.proofs.FutureRows.{IsLast, IsQuiet, Strips, last_behind, las
 use Rattle.js_strip.proofs.Standing.{StandBetween, again_starts, between_ordered}
 use Rattle.js_strip.proofs.StrippedChars.{chars_between, stripped_chars, without_from}
 use Rattle.js_strip.proofs.StrippedText.{stripped_from}
-use Rattle.js_strip.proofs.Without.{Without, begins_from}
+use Rattle.js_grammar.proofs.Without.{Without, begins_from}
 use Rattle.js_strip.proofs.SameValues.{SameBytes, same_value}
 
 -- The bytes of a token that was read alike.

@@ -7,7 +7,8 @@ use Rattle.std.proofs.lemmas.Str.{IsCharBoundary-start}
 use Rattle.std.proofs.Math.Seq.{drop-append_seam}
 use Rattle.std.proofs.lemmas.List.{drop-take, length-take-le, take-append-drop, take-append-le, take-take}
 use Rattle.js_text.specs.declared.comment.Comment.{Comment}
-use Rattle.js_strip.specs.StripText.{StandInOrder, StandsFrom, stand_in, strip_text, without_comment}
+use Rattle.js_strip.specs.StripText.{StandInOrder, StandsFrom, strip_text, without_comment}
+use Rattle.js_grammar.specs.Blanks.{stand_in}
 
 -- what is left from the place on, without these comments
 abbrev pub stripped_from : List ℕ → ℕ → List Comment → List ℕ

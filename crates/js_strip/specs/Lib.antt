@@ -1,3 +1,2 @@
 pub mod Faults
-pub mod SameRows
 pub mod StripText

@@ -1,22 +1,8 @@
 -- A text without its comments.
 use Rattle.std.specs.Prelude.{ℕ, ◌≤◌, List, [], ◌∷◌, ◌++◌, take, drop}
 use Rattle.std.specs.Str.{IsCharBoundary}
-use Rattle.js_text.specs.Ascii.{line_feed}
 use Rattle.js_text.specs.declared.comment.Comment.{Comment}
-use Rattle.js_text.specs.declared.comment.CommentKind.{CommentKind}
-use Rattle.js_text.specs.declared.comment.CommentKind.TheVariants.{Line, SingleLineBlock, MultiLineBlock, HtmlOpen}
-use Rattle.js_text.specs.declared.comment.CommentKind.TheVariants.{HtmlClose}
-
-abbrev pub space : ℕ
-space = 0x20
-
--- what stands for a comment: a line end, where one is inside, else a space (ECMA-262 12.4)
-abbrev pub stand_in : CommentKind → ℕ
-stand_in Line = space
-stand_in SingleLineBlock = space
-stand_in MultiLineBlock = line_feed
-stand_in HtmlOpen = space
-stand_in HtmlClose = space
+use Rattle.js_grammar.specs.Blanks.{stand_in}
 
 -- the text with what stands for the comment in its place
 abbrev pub without_comment : List ℕ → Comment → List ℕ

@@ -4,7 +4,7 @@ ghost use Rattle.std.specs.Prelude.{◌≡◌, ◌⊎◌, false, Err, IfOk, OnOk
 ghost use Rattle.js_session.specs.Faults.{IsReadable};
 ghost use Rattle.js_session.specs.Report.{ReportOf};
 ghost use Rattle.js_strip.specs.Faults.{StripCause, first_bad, first_diagnosed};
-ghost use Rattle.js_strip.specs.SameRows.{SameRows};
+ghost use Rattle.js_session.specs.SameRows.{SameRows};
 ghost use Rattle.js_strip.specs.StripText.{StandInOrder, strip_text};
 ghost use Rattle.js_strip.specs.declared.fault.StripFault.{StripFault};
 

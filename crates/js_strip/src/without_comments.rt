@@ -1,7 +1,8 @@
 //! A text without its comments.
 
 ghost use Rattle.std.specs.Prelude.{◌≡◌, IfOk, ◌∷◌, []};
-ghost use Rattle.js_strip.specs.StripText.{StandInOrder, stand_in, strip_text};
+ghost use Rattle.js_strip.specs.StripText.{StandInOrder, strip_text};
+ghost use Rattle.js_grammar.specs.Blanks.{stand_in};
 
 use js_text::{Comment, CommentKind, SourceText};
 use std::alloc::{AllocError, Global};

@@ -1,6 +1,6 @@
 use Rattle.std.proofs.Common.{◌∙◌, ap, false, subst, sym}
 use Rattle.js_session.specs.declared.report.Report.{Report}
-use Rattle.js_strip.specs.SameRows.{SameRows}
+use Rattle.js_session.specs.SameRows.{SameRows}
 use Rattle.js_strip.specs.StripText.{StandInOrder, strip_text}
 use Rattle.js_strip.proofs.Causes.{sound_no_cause}
 use Rattle.js_strip.proofs.Positions.{all_last, all_may, all_quiet}
