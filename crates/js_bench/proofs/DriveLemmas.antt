@@ -1,5 +1,5 @@
 -- A lexer that is driven makes the steps of a session.
-use Rattle.std.proofs.Common.{◌≡◌, ℕ, suc, add-zero, true, List, [], ◌∷◌, ◌++◌, length, refl, sym, ◌∙◌, ap, subst}
+use Rattle.std.proofs.Common.{◌≡◌, ℕ, add-zero, true, List, [], ◌∷◌, ◌++◌, length, refl, sym, ◌∙◌, ap, subst}
 use Rattle.std.proofs.Common.{Option, Some, None, Result, Ok, Err}
 use Rattle.std.proofs.lemmas.List.{length-append}
 use Rattle.std.specs.List.{AllByRecursion, last_or}
@@ -27,7 +27,7 @@ use Rattle.js_session.specs.declared.command.Command.{Command}
 use Rattle.js_session.specs.declared.command.Command.TheVariants.{Next, Regex, TemplateTail}
 use Rattle.js_reader.specs.declared.regex.RegexToken.{RegexToken}
 use Rattle.js_lexer.proofs.ReadAgain.{part_again}
-use Rattle.js_session.proofs.LiveLemmas.{same_live}
+use Rattle.js_session.proofs.LiveLemmas.{length-with_last, same_live}
 use Rattle.js_session.proofs.StepLemmas.{in_order_lies, on_adds_row, order_added, order_re_lexed, re_lex_adds_row, seen}
 use Rattle.js_auto.specs.Choice.{Chooser, chooser_of}
 use Rattle.js_auto.proofs.ChosenLemmas.{Chosen, chosen_by}
@@ -110,11 +110,6 @@ step_next old new c d token r told s h =
           (order_added NextGoal (Some Next) before after [] in_order adds) (told s.state.now.tokens h.told);
       more_are = length-append s.state.now.tokens (token ∷ []);
     }
-
-length-with_last : (tokens : List TokenParts) (token : TokenParts) → length (with_last tokens token) ≡ length tokens
-length-with_last [] token = refl
-length-with_last (t ∷ []) token = refl
-length-with_last (t ∷ u ∷ us) token = ap (λ n. suc n) (length-with_last (u ∷ us) token)
 
 -- A token that was read again, where the last one fits.
 step_again : (goal : Goal) (command : Command) (old new : LexerState) (c d : Chooser) (token : TokenParts)

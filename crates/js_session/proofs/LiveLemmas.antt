@@ -1,6 +1,6 @@
 -- What is live, and the lexer behind it.
 use Rattle.std.proofs.Common.{◌≡◌, ℕ, Bool, List, [], ◌∷◌, ◌++◌, refl, sym, ◌∙◌, ap, subst, append-nil, Option, Some}
-use Rattle.std.proofs.Common.{None, true, false}
+use Rattle.std.proofs.Common.{None, true, false, length, suc}
 use Rattle.std.specs.Prelude.{if◌then◌else◌}
 use Rattle.std.proofs.lemmas.Grind.{flat_map-append}
 use Rattle.std.specs.List.{last_or, AllByRecursion}
@@ -111,7 +111,12 @@ collected_some o (u ∷ us) t last e some =
     by_first [] a rest e = (a, rest, e)
     by_first (x ∷ xs) a rest e = (x, xs ++ all_collected true (u ∷ us), refl)
 
-with_last-append : (xs : List TokenParts) (a : TokenParts) (rest : List TokenParts) (y : TokenParts)
+pub length-with_last : (ts : List TokenParts) (t : TokenParts) → length (with_last ts t) ≡ length ts
+length-with_last [] t = refl
+length-with_last (a ∷ []) t = refl
+length-with_last (a ∷ b ∷ ts) t = ap (λ n. suc n) (length-with_last (b ∷ ts) t)
+
+pub with_last-append : (xs : List TokenParts) (a : TokenParts) (rest : List TokenParts) (y : TokenParts)
     → with_last (xs ++ a ∷ rest) y ≡ xs ++ with_last (a ∷ rest) y
 with_last-append [] a rest y = refl
 with_last-append (x ∷ []) a rest y = refl

@@ -16,12 +16,8 @@ use Rattle.js_session.specs.Live.{Live, with_outcome, with_re_lexed}
 use Rattle.js_session.specs.Marks.{front, fronts, lexer_behind, lexer_at, IsAlike, IsMark, AreMarks}
 use Rattle.js_session.specs.declared.mark.SessionMark.{SessionMark}
 use Rattle.js_session.proofs.LexerLemmas.{goes_on-trans, can_rewind-on, begins_alike-refl}
-use Rattle.js_session.proofs.LiveLemmas.{same_live, last_none, goes_on-behind, goes_on-behind_re_lexed, IsReplaced}
-
-length-with_last : (ts : List TokenParts) (t : TokenParts) → length (with_last ts t) ≡ length ts
-length-with_last [] t = refl
-length-with_last (a ∷ []) t = refl
-length-with_last (a ∷ b ∷ ts) t = ap (λ n. suc n) (length-with_last (b ∷ ts) t)
+use Rattle.js_session.proofs.LiveLemmas.{IsReplaced, goes_on-behind, goes_on-behind_re_lexed, last_none, length-with_last}
+use Rattle.js_session.proofs.LiveLemmas.{same_live}
 
 length-put_back : (ts : List TokenParts) (last : Option TokenParts) → length (put_back ts last) ≡ length ts
 length-put_back ts None = refl
