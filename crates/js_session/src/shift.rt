@@ -133,7 +133,8 @@ impl Shift {
         }
     }
 
-    fn diagnostics(
+    /// Copies of the diagnostics, moved.
+    pub fn diagnostics(
         &self,
         alloc: Global,
         diagnostics: &[Diagnostic],
@@ -149,7 +150,8 @@ impl Shift {
         Ok(moved)
     }
 
-    fn comments(&self, alloc: Global, comments: &[Comment]) -> Result<CommentList, AllocError>
+    /// Copies of the comments, moved.
+    pub fn comments(&self, alloc: Global, comments: &[Comment]) -> Result<CommentList, AllocError>
         ensures { IfOk result (λ new. new ≡ map (shifted_comment self.now.from self.now.to) comments.now) }
     {
         let mut moved = CommentList::new_in(alloc);
@@ -160,7 +162,8 @@ impl Shift {
         Ok(moved)
     }
 
-    fn spans(&self, alloc: Global, spans: &[Span]) -> Result<SpanList, AllocError>
+    /// Copies of the spans, moved.
+    pub fn spans(&self, alloc: Global, spans: &[Span]) -> Result<SpanList, AllocError>
         ensures { IfOk result (λ new. new ≡ map (shifted_span self.now.from self.now.to) spans.now) }
     {
         let mut moved = SpanList::new_in(alloc);
