@@ -29,6 +29,7 @@ use Rattle.js_relex.specs.Kept.{IsKept, IsKeptBehind}
 use Rattle.js_relex.proofs.FirstLemmas.{found_there}
 use Rattle.js_relex.proofs.JoinedRows.{RunsOnFrom, count_rows, old_runs_on}
 use Rattle.js_relex.proofs.KeptRows.{drop_lasting}
+use Rattle.js_relex.proofs.LiveInPlace.{all_dropped}
 
 -- rows that answer commands lie in order
 run_in_order : (text : List ℕ) (t : SourceType) (s : State) (commands : List Command) (rows : List Row)
@@ -48,11 +49,6 @@ rows_in_order : (text : List ℕ) (t : SourceType) (commands : List Command) (ro
 rows_in_order text t commands [] lasting are = tt
 rows_in_order text t commands (row ∷ rows) lasting are =
     (are.0.places.token.ordered, run_in_order text t (state_after_first row) commands rows lasting are.1)
-
-drop_in_order : (n : ℕ) (rows : List Row) → AllByRecursion IsInOrder rows → AllByRecursion IsInOrder (drop n rows)
-drop_in_order zero rows h = h
-drop_in_order (suc n) [] h = tt
-drop_in_order (suc n) (row ∷ rows) h = drop_in_order n rows h.1
 
 in_order_at : (rows : List Row) (index : ℕ) (row : Row) → AllByRecursion IsInOrder rows
     → slice_get rows index ≡ Some row → IsInOrder row
@@ -109,7 +105,7 @@ module _ (old : DocState) (start end : ℕ) (new : List ℕ) (p : PreparedState)
   all_in_order = rows_in_order old.text old.source_type old.commands old.report.rows doc.lasting doc.report_is.rows
 
   pub behind_in_order : AllByRecursion IsInOrder (old_rows_behind j behind)
-  behind_in_order = drop_in_order (length old.report.rows - behind) old.report.rows all_in_order
+  behind_in_order = all_dropped IsInOrder (length old.report.rows - behind) old.report.rows all_in_order
 
   -- the old row that is joined
   record IsJoined : Type 0 where

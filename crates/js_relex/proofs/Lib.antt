@@ -7,8 +7,12 @@ pub mod JoinLemmas
 pub mod JoinedRows
 pub mod KeptLemmas
 pub mod KeptRows
+pub mod Lasted
 pub mod Lasting
 pub mod LiveInPlace
+pub mod LiveLists
+pub mod LiveMoved
+pub mod LiveParts
 pub mod LiveRows
 pub mod NewRows
 pub mod Outcomes

@@ -1,5 +1,5 @@
 -- What is live behind rows that stay where they are.
-use Rattle.std.proofs.Common.{◌≡◌, ℕ, ◌+◌, ◌<◌, List, [], ◌∷◌, ◌++◌, length, map, take, suc, refl, sym, ◌∙◌, ap, subst}
+use Rattle.std.proofs.Common.{◌≡◌, ℕ, ◌+◌, ◌<◌, List, [], ◌∷◌, ◌++◌, length, map, take, drop, suc, refl, sym, ◌∙◌, ap, subst}
 use Rattle.std.proofs.Common.{arith, get_or, zero}
 use Rattle.std.proofs.Math.Seq.{take-length, take-suc}
 use Rattle.std.proofs.lemmas.List.{map-append}
@@ -88,3 +88,13 @@ module _ (P : Row → Type 0) where
       subst (λ n. AllByRecursion P (take n rows)) one
       (subst (AllByRecursion P) (sym (take-suc rows index d some))
       (all_both (take index rows) (get_or rows index d ∷ []) h (k, tt)))
+
+  pub all_dropped : (n : ℕ) (rows : List Row) → AllByRecursion P rows → AllByRecursion P (drop n rows)
+  all_dropped zero rows h = h
+  all_dropped (suc n) [] h = tt
+  all_dropped (suc n) (row ∷ rows) h = all_dropped n rows h.1
+
+  pub all_taken : (n : ℕ) (rows : List Row) → AllByRecursion P rows → AllByRecursion P (take n rows)
+  all_taken zero rows h = tt
+  all_taken (suc n) [] h = tt
+  all_taken (suc n) (row ∷ rows) h = (h.0, all_taken n rows h.1)

@@ -53,6 +53,17 @@ run_live text t s (c ∷ cs) (row ∷ rows) lasting run =
     ∙ run_live text t (after_row (effect_of c) row s) cs rows both.1 run.1
     ∙ ap (λ (x : State). x.now) (sym (state_step s c cs row rows step))
 
+-- what is live behind the commands is what their rows make live
+pub live_of_rows : (text : List ℕ) (t : SourceType) (commands : List Command) (rows : List Row)
+    → list_all is_lasting commands ≡ true → AreRows text t commands rows
+    → live commands rows ≡ live_behind nothing_live rows
+live_of_rows text t commands [] lasting are = absurd are
+live_of_rows text t commands (row ∷ rows) lasting are =
+    sym
+    (ap (λ e. live_behind (after_row (row_effect e) row (record { now = nothing_live; marks = [] })).now rows)
+    are.0.command_is
+    ∙ run_live text t (state_after_first row) commands rows lasting are.1)
+
 -- A report that is gathered from the rows of the commands is the report of these.
 pub gathered_report : (text : List ℕ) (t : SourceType) (commands : List Command) (rows : List Row) (report : Report)
     → IsUtf8 text → length text < 2 ^ 32 → list_all is_lasting commands ≡ true → AreRows text t commands rows
@@ -63,11 +74,7 @@ gathered_report text t commands (row ∷ rows) report u short lasting are g = re
   short = short;
   rows = subst (AreRows text t commands) (sym g.rows_are) are;
   lists =
-      g.live
-      ∙ ap (λ e. live_behind (after_row (row_effect e) row (record { now = nothing_live; marks = [] })).now rows)
-      are.0.command_is
-      ∙ run_live text t (state_after_first row) commands rows lasting are.1
-      ∙ ap (live commands) (sym g.rows_are);
+      g.live ∙ sym (live_of_rows text t commands (row ∷ rows) lasting are) ∙ ap (live commands) (sym g.rows_are);
   collected_are = g.collected ∙ sym (none_collected report.tokens);
 }
   where

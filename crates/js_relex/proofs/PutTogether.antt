@@ -6,10 +6,11 @@ use Rattle.js_session.specs.declared.report.Report.{Report}
 use Rattle.js_session.specs.declared.row.Row.{Row}
 use Rattle.js_session.specs.Live.{nothing_live, report_with}
 use Rattle.js_session.specs.Shifted.{shifted_row}
-use Rattle.js_relex.specs.Documents.{AddsRows, DocState, IsDocument, IsGathered, IsInOrder, joining}
+use Rattle.js_relex.specs.Documents.{AddsRows, DocState, IsDocument, IsGathered, IsInOrder, joining, live_behind}
 use Rattle.js_relex.specs.Joined.{JoiningState}
 use Rattle.js_relex.specs.Joining.{PreparedState, Prepares, all_rows, taken_over}
 use Rattle.js_relex.proofs.InPlace.{behind_in_order, kept_before, stay_behind}
+use Rattle.js_relex.proofs.LiveInPlace.{gathered_live}
 use Rattle.js_relex.proofs.LiveRows.{adds_both, gathers}
 use Rattle.js_relex.proofs.Relexed.{rest_of}
 
@@ -82,3 +83,28 @@ module _ (old : DocState) (start end : ℕ) (new : List ℕ) (p : PreparedState)
       ∙ (λ i. take (kept_is i) (rows_are i) ++ read_is i ++ map (shifted_row (from_is i) (to_is i))
       (drop (length (rows_are i) - behind_is i) (rows_are i))))
       (gathers r0 r3 (take kept rows ++ read ++ map f tail) none all)
+
+-- What is live, with the rows that were put in place, is gathered of these.
+pub gathered_in_place : (old : DocState) (start end : ℕ) (new : List ℕ) (p : PreparedState)
+    (doc : IsDocument old.text old.source_type old.commands old.report) (h : Prepares old start end new p)
+    (rows others : List Row) (behind kept : ℕ) (read other : List Row) (from to : ℕ) (live report : Report)
+    (all : List Row) → rows ≡ old.report.rows → others ≡ old.report.rows
+    → behind ≡ taken_over (joining old start end new p.commands) p.kept p.rows → kept ≡ p.kept → read ≡ p.rows
+    → other ≡ p.rows → from ≡ end → to ≡ start + length new
+    → live ≡ report_with [] [] (live_behind nothing_live (take kept rows ++ read
+    ++ map (shifted_row from to) (drop (length rows - behind) rows)))
+    → all ≡ take kept others ++ other ++ map (shifted_row from to) (drop (length others - behind) others)
+    → report ≡ record live { rows = all }
+    → IsGathered (all_rows (joining old start end new p.commands) p.kept p.rows) report
+gathered_in_place old start end new p doc h rows others behind kept read other from to live report all rows_are
+    others_are behind_is kept_is read_is other_is from_is to_is live_is all_are is =
+    let j = joining old start end new p.commands in
+    let here =
+    in_place old start end new p doc h rows behind rows_are behind_is kept read from to kept_is read_is from_is to_is in
+    let there =
+    in_place old start end new p doc h others behind others_are behind_is kept other from to kept_is other_is from_is
+    to_is in
+    subst (IsGathered (all_rows j p.kept p.rows)) (sym is)
+    (gathered_live live all (all_rows j p.kept p.rows)
+    (live_is ∙ ap (λ rs. report_with [] [] (live_behind nothing_live rs)) here)
+    (all_are ∙ there))

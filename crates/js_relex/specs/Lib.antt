@@ -2,3 +2,4 @@ pub mod Documents
 pub mod Joined
 pub mod Joining
 pub mod Kept
+pub mod LiveLists

@@ -130,7 +130,7 @@ pub(crate) fn add_moved_copies(
 }
 
 /// Makes live what the rows make live.
-fn add_live_rows(report: &mut Report, rows: &[Row]) -> Result<(), AllocError>
+pub(crate) fn add_live_rows(report: &mut Report, rows: &[Row]) -> Result<(), AllocError>
     ensures { OnOk result (GoesLive report.old (live_behind (report_live report.old) rows.now) report.new) }
 {
     for row in rows {
@@ -140,7 +140,7 @@ fn add_live_rows(report: &mut Report, rows: &[Row]) -> Result<(), AllocError>
 }
 
 /// Makes live what the rows make live, moved.
-fn add_moved_live_rows(
+pub(crate) fn add_moved_live_rows(
     alloc: Global,
     report: &mut Report,
     rows: &[Row],
@@ -155,52 +155,6 @@ fn add_moved_live_rows(
         add_live(report, &moved)?;
     }
     Ok(())
-}
-
-/// Makes live what the rows make live, moved; where nothing moves they are as they should be.
-fn add_last_live_rows(
-    alloc: Global,
-    report: &mut Report,
-    rows: &[Row],
-    shift: &Shift,
-) -> Result<(), AllocError>
-    requires in_order { AllByRecursion IsInOrder rows.now }
-    requires stay { shift.now.from ≡ shift.now.to
-        → map (shifted_row shift.now.from shift.now.to) rows.now ≡ rows.now }
-    ensures { OnOk result (GoesLive report.old
-        (live_behind (report_live report.old) (map (shifted_row shift.now.from shift.now.to) rows.now)) report.new) }
-{
-    if shift.from == shift.to {
-        return add_live_rows(report, rows);
-    }
-    add_moved_live_rows(alloc, report, rows, shift)
-}
-
-/// A report of no rows, in which that is live which is behind the first rows, those that were read, and the last old
-/// ones, moved.
-pub(crate) fn live_of(
-    alloc: Global,
-    rows: &[Row],
-    kept: usize,
-    read: &[Row],
-    behind: usize,
-    shift: &Shift,
-) -> Result<Report, AllocError>
-    requires kept { kept ≤ length rows.now }
-    requires behind { behind ≤ length rows.now }
-    requires in_order { AllByRecursion IsInOrder (drop (length rows.now - behind) rows.now) }
-    requires stay { shift.now.from ≡ shift.now.to
-        → map (shifted_row shift.now.from shift.now.to) (drop (length rows.now - behind) rows.now)
-        ≡ drop (length rows.now - behind) rows.now }
-    ensures { IfOk result (λ report. report ≡ report_with [] [] (live_behind nothing_live (take kept rows.now
-        ++ read.now
-        ++ map (shifted_row shift.now.from shift.now.to) (drop (length rows.now - behind) rows.now)))) }
-{
-    let mut report = empty_report(alloc);
-    add_live_rows(&mut report, &rows[..kept])?;
-    add_live_rows(&mut report, read)?;
-    add_last_live_rows(alloc, &mut report, &rows[rows.len() - behind..], shift)?;
-    Ok(report)
 }
 
 /// Whether each place of each row is a `u32` once it is moved.

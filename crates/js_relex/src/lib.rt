@@ -9,6 +9,7 @@ mod fault;
 mod gather;
 mod join;
 mod kept;
+mod live;
 
 pub use document::{LexDoc, NotRelexed, relex};
 pub use edit::Edit;

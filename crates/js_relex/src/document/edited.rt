@@ -14,10 +14,11 @@ use crate::drive::{ReadRows, rows_behind, rows_from_start};
 use crate::edit::Edit;
 use crate::fault::RelexFault;
 use crate::gather::{
-    add_copies, add_moved_copies, add_rows, empty_report, live_of, replace_rows, with_rows,
+    add_copies, add_moved_copies, add_rows, empty_report, replace_rows, with_rows,
 };
 use crate::join::Joining;
 use crate::kept::count_kept;
+use crate::live::live_of;
 use js_session::{Command, CommandList, RowList, Shift, Steps};
 use js_text::SourceText;
 use std::alloc::{AllocError, Global};
@@ -344,8 +345,15 @@ fn put_in_place(
         rows: read,
         joined: _,
     } = prepared;
-    let rows = old.report.rows.as_slice();
-    let live = match live_of(alloc, rows, kept, read.as_slice(), behind, &shift) {
+    let live = match live_of(
+        alloc,
+        &old.report,
+        old.commands.as_slice(),
+        kept,
+        read.as_slice(),
+        behind,
+        &shift,
+    ) {
         Ok(live) => live,
         Err(_) => return Err(old),
     };
