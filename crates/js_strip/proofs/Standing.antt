@@ -11,6 +11,7 @@ use Rattle.js_text.specs.declared.source_type.SourceType.{SourceType}
 use Rattle.js_text.specs.declared.span.Span.{Span}
 use Rattle.js_kind.specs.TokenParts.{TokenParts}
 use Rattle.js_grammar.specs.Attach.{attach, attach_from}
+use Rattle.js_grammar.specs.Blanks.{kind_of}
 use Rattle.js_grammar.specs.Gap.{Piece, PieceKind, Pieces, WholeGap, whole_gap_piece}
 use Rattle.js_grammar.specs.Gap.PieceKind.{white_space, line_terminator, single_line_comment, multi_line_comment}
 use Rattle.js_grammar.specs.Gap.PieceKind.{html_open_comment, html_close_comment, reported_comment}
