@@ -75,7 +75,7 @@ answers_at_refusal line bytes text_of output fault few (inr cause) =
     answers_at_fault line bytes text_of output fault few cause
 
 -- the report of what ran is one over the bytes
-report_over : (line : CommandLine) (bytes : List ℕ) (ran : Ran) → IsRunOver line bytes ran
+pub report_over : (line : CommandLine) (bytes : List ℕ) (ran : Ran) → IsRunOver line bytes ran
     → HasReport line bytes ran.report
 report_over line bytes ran over = (
   ran.commands,

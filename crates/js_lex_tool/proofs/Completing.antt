@@ -1,16 +1,18 @@
 -- What a run comes to whose words ask for something, and one whose words do not.
-use Rattle.std.proofs.Common.{◌≡◌, ◌≢◌, ℕ, ◌≤◌, ◌⊎◌, List, [], ◌∷◌, length, arith, refl, sym, inl, inr}
+use Rattle.std.proofs.Common.{◌≡◌, ◌≢◌, ℕ, ◌≤◌, ◌⊎◌, List, [], ◌∷◌, length, arith, refl, sym, inl, inr, subst}
 use Rattle.std.proofs.Common.{Option, None, Some, append-nil, length-append}
 use Rattle.std.specs.Io.KnownBytes.{Consumes, IsAtEnd}
 use Rattle.std.proofs.KnownBytes.{Consumes-nil}
 use Rattle.js_lex_tool.specs.Generated.{generated, summary_of}
 use Rattle.js_lex_tool.specs.Outside.{InputState, OutputState, Rises}
-use Rattle.js_lex_tool.specs.Run.{CanRun, RunsTask, RunsTool, lexes_lines}
+use Rattle.js_lex_tool.specs.ReportText.{report_text_of}
+use Rattle.js_lex_tool.specs.Run.{Answers, AnswersAnew, CanBeRead, CanRun, ReadsInput, RunsTask, RunsTool, lexes_lines}
 use Rattle.js_lex_tool.specs.Status.{number, later_than, IsOneOf}
-use Rattle.js_lex_tool.specs.Status.Status.{Done, OutOfMemory, Usage, ReadFailed, WriteFailed, TooLong}
+use Rattle.js_lex_tool.specs.Status.Status.{Done, OutOfMemory, Usage, ReadFailed, WriteFailed, TooLong, NotUtf8, NoMark}
+use Rattle.js_lex_tool.specs.Status.Status.{Diagnosed}
 use Rattle.js_lex_tool.specs.declared.tool.ToolOutcome.{ToolOutcome}
 use Rattle.js_lex_tool.specs.declared.words.Task.{Task}
-use Rattle.js_lex_tool.specs.declared.words.Task.TheVariants.{Lex, Generate}
+use Rattle.js_lex_tool.specs.declared.words.Task.TheVariants.{Lex, Generate, WriteAnew}
 use Rattle.js_lex_tool.proofs.Answering.{without_run, answers_at_memory}
 use Rattle.js_lex_tool.proofs.Courses.{InTime-refl}
 
@@ -26,9 +28,13 @@ taken_few : (bytes taken : List ℕ) (new : Option (List ℕ)) → Consumes (Som
 taken_few bytes taken None took = absurd took
 taken_few bytes taken (Some left) took = rw took (omega (arith, length-append taken left))
 
-two_left : (n : ℕ) → IsOneOf (OutOfMemory ∷ later_than TooLong) n → n ≢ 4 → n ≢ 6 → n ≢ 7
+two_left : (n : ℕ) → IsOneOf (OutOfMemory ∷ NotUtf8 ∷ NoMark ∷ WriteFailed ∷ Done ∷ []) n → n ≢ 4 → n ≢ 6 → n ≢ 7
     → IsOneOf (Done ∷ OutOfMemory ∷ []) n
 two_left n known a b c = grind (arith, known)
+
+two_left_anew : (n : ℕ) → IsOneOf (OutOfMemory ∷ NotUtf8 ∷ Diagnosed ∷ WriteFailed ∷ Done ∷ []) n → n ≢ 4 → n ≢ 6
+    → n ≢ 9 → IsOneOf (Done ∷ OutOfMemory ∷ []) n
+two_left_anew n known a b c = grind (arith, known)
 
 one_left : (n : ℕ) → IsOneOf (OutOfMemory ∷ ReadFailed ∷ TooLong ∷ []) n → n ≢ 3 → n ≢ 5
     → IsOneOf (Done ∷ OutOfMemory ∷ []) n
@@ -37,23 +43,38 @@ one_left n known a b = grind (arith, known)
 three_left : (n : ℕ) → IsOneOf (OutOfMemory ∷ WriteFailed ∷ Done ∷ []) n → n ≢ 4 → IsOneOf (Done ∷ OutOfMemory ∷ []) n
 three_left n known a = grind (arith, known)
 
+-- A run whose input can be read, and does not fail, ends as its answer to the bytes does.
+reads_complete : (AnswersTo : List ℕ → OutputState → OutputState → ToolOutcome → Type 0) (input input_new : InputState)
+    (output output_new : OutputState) (outcome : ToolOutcome)
+    → ReadsInput AnswersTo input input_new output output_new outcome → (can : CanBeRead input.left)
+    → ¬ (Rises input.faults input_new.faults)
+    → (AnswersTo can.bytes output output_new outcome → IsOneOf (Done ∷ OutOfMemory ∷ []) outcome.status)
+    → IsOneOf (Done ∷ OutOfMemory ∷ []) outcome.status
+reads_complete AnswersTo input input_new output output_new outcome runs can no_read_fault ends =
+    let took : Consumes (Some can.bytes) input_new.left runs.bytes = rw can.left_is at runs.read in
+    let few = taken_few can.bytes runs.bytes input_new.left took in
+    elim runs.ends [
+      | inl gave ↦ one_left outcome.status gave.known (λ e. no_read_fault (runs.faults.rises e))
+          (λ e. omega (arith, few, can.few, (runs.long (λ other. omega (arith, e, other))).0 e))
+      | inr answers ↦
+          let all = all_taken can.bytes runs.bytes input_new.left took answers.0 in
+          ends (subst (λ b. AnswersTo b output output_new outcome) all answers.1)
+    ]
+
 -- A run over words and bytes that can be run, whose two ends don't fail, is done or out of memory.
 pub completes : (task : Task) (input input_new : InputState) (output output_new : OutputState) (outcome : ToolOutcome)
     → RunsTask task input input_new output output_new outcome → CanRun (Some task) input.left
     → ¬ (Rises input.faults input_new.faults) → ¬ (Rises output.faults output_new.faults)
     → IsOneOf (Done ∷ OutOfMemory ∷ []) outcome.status
 completes (Lex line) input input_new output output_new outcome runs can no_read_fault no_write_fault =
-    let took : Consumes (Some can.input.bytes) input_new.left runs.bytes = rw can.input.left_is at runs.read in
-    let few = taken_few can.input.bytes runs.bytes input_new.left took in
-    elim runs.ends [
-      | inl gave ↦ one_left outcome.status gave.known (λ e. no_read_fault (runs.faults.rises e))
-          (λ e. omega (arith, few, can.input.few, (runs.long (λ other. omega (arith, e, other))).0 e))
-      | inr answers ↦
-          let all = all_taken can.input.bytes runs.bytes input_new.left took answers.0 in
-          let a = rw all at answers.1 in
-          two_left outcome.status a.known (λ e. no_write_fault (a.faults.rises e)) (λ e. a.utf8.fails e can.input.utf8)
-          (λ e. a.marks.fails e can.marks)
-    ]
+    reads_complete (λ bytes. Answers line bytes (report_text_of bytes)) input input_new output output_new outcome runs
+    can.input no_read_fault
+    (λ a. two_left outcome.status a.known (λ e. no_write_fault (a.faults.rises e)) (λ e. a.utf8.fails e can.input.utf8)
+    (λ e. a.marks.fails e can.marks))
+completes (WriteAnew r) input input_new output output_new outcome runs can no_read_fault no_write_fault =
+    reads_complete (AnswersAnew r) input input_new output output_new outcome runs can.input no_read_fault
+    (λ a. two_left_anew outcome.status a.known (λ e. no_write_fault (a.faults.rises e))
+    (λ e. a.utf8.fails e can.input.utf8) (λ e. can.clean (a.rows.fails e)))
 completes (Generate lines) input input_new output output_new outcome runs can no_read_fault no_write_fault =
     three_left outcome.status runs.known (λ e. no_write_fault (runs.answers.faults.rises e))
 
@@ -62,6 +83,10 @@ known_task : (task : Task) (input input_new : InputState) (output output_new : O
     → RunsTask task input input_new output output_new outcome
     → IsOneOf (later_than Usage) outcome.status ⊎ (outcome.status ≡ number OutOfMemory)
 known_task (Lex line) input input_new output output_new outcome runs = elim runs.ends [
+  | inl gave ↦ let known = gave.known in grind (arith, known)
+  | inr answers ↦ let known = answers.1.known in grind (arith, known)
+]
+known_task (WriteAnew r) input input_new output output_new outcome runs = elim runs.ends [
   | inl gave ↦ let known = gave.known in grind (arith, known)
   | inr answers ↦ let known = answers.1.known in grind (arith, known)
 ]
@@ -105,6 +130,15 @@ task_out (Lex line) input output = record {
   in_time = InTime-refl input.course;
   ends = inl (record { known = inl refl; ran = refl; quiet = refl });
 }
+task_out (WriteAnew r) input output = record {
+  bytes = [];
+  read = Consumes-nil input.left;
+  bounded = omega arith;
+  long = λ other. absurd (other refl);
+  faults = record { rises = λ e. absurd (omega (arith, e)); stays = λ _. refl };
+  in_time = InTime-refl input.course;
+  ends = inl (record { known = inl refl; ran = refl; quiet = refl });
+}
 task_out (Generate lines) input output = record {
   known = inl refl;
   unread = refl;
@@ -131,9 +165,16 @@ pub never_fails : (words : Option Task) (input input_new : InputState) (output o
     → (outcome.status ≢ number ReadFailed) × (outcome.status ≢ number WriteFailed)
 never_fails None input input_new output output_new outcome runs no_read_fault no_write_fault = (
   λ e. absurd (let passed = runs.usage.passes (inl e) in cc),
-  λ e. absurd (let passed = runs.usage.passes (inr (inr (inr (inr (inl e))))) in cc),
+  λ e. absurd (let passed = runs.usage.passes (inr (inr (inr (inr (inr (inl e)))))) in cc),
 )
 never_fails (Some (Lex line)) input input_new output output_new outcome runs no_read_fault no_write_fault = (
+  λ e. no_read_fault (runs.runs.faults.rises e),
+  λ e. elim runs.runs.ends [
+    | inl gave ↦ let known = gave.known in omega (arith, e, known)
+    | inr answers ↦ no_write_fault (answers.1.faults.rises e)
+  ],
+)
+never_fails (Some (WriteAnew r)) input input_new output output_new outcome runs no_read_fault no_write_fault = (
   λ e. no_read_fault (runs.runs.faults.rises e),
   λ e. elim runs.runs.ends [
     | inl gave ↦ let known = gave.known in omega (arith, e, known)

@@ -1,4 +1,5 @@
 pub mod Answering
+pub mod AnsweringAnew
 pub mod Completing
 pub mod Counts
 pub mod Courses

@@ -1,3 +1,4 @@
+pub mod Anew
 pub mod Command
 pub mod Exit
 pub mod Generated

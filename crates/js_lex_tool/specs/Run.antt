@@ -14,18 +14,24 @@ use Rattle.js_session.specs.declared.fault.LexFault.TheVariants.{NoMark as NoMar
 use Rattle.js_session.specs.declared.report.Report.{Report}
 use Rattle.js_text.specs.declared.source_type.SourceType.{SourceType}
 use Rattle.js_text.specs.declared.source_type.SourceType.TheVariants.{Module}
+use Rattle.js_strip.specs.Faults.{first_diagnosed}
+use Rattle.js_strip.specs.declared.fault.StripFault.{StripFault}
+use Rattle.js_strip.specs.declared.fault.StripFault.TheVariants as strip_fault
+use Rattle.js_lex_tool.specs.Anew.{KeepsRows, lexes_anew, text_anew}
 use Rattle.js_lex_tool.specs.Generated.{generated, summary_of}
 use Rattle.js_lex_tool.specs.Outside.{InputState, OutputState, Rises, WritesAll, WritesPrefix, InTime}
 use Rattle.js_lex_tool.specs.ReportText.{report_text_of}
 use Rattle.js_lex_tool.specs.Status.{Status, number, order, later_than, IsOneOf, HasPassed, Tests}
 use Rattle.js_lex_tool.specs.Status.Status.{Done, OutOfMemory, Usage, ReadFailed, WriteFailed, TooLong, NotUtf8, NoMark}
+use Rattle.js_lex_tool.specs.Status.Status.{Diagnosed}
 use Rattle.js_lex_tool.specs.declared.tool.Ran.{Ran}
 use Rattle.js_lex_tool.specs.declared.tool.ToolOutcome.{ToolOutcome}
 use Rattle.js_lex_tool.specs.declared.words.CommandLine.{CommandLine}
 use Rattle.js_lex_tool.specs.declared.words.Commands.{Commands}
 use Rattle.js_lex_tool.specs.declared.words.Commands.TheVariants.{Listed, All, Auto}
+use Rattle.js_lex_tool.specs.declared.words.Rewriting.{Rewriting}
 use Rattle.js_lex_tool.specs.declared.words.Task.{Task}
-use Rattle.js_lex_tool.specs.declared.words.Task.TheVariants.{Lex, Generate}
+use Rattle.js_lex_tool.specs.declared.words.Task.TheVariants.{Lex, Generate, WriteAnew}
 
 -- the most bytes that an input may have
 abbrev pub most_bytes : ℕ
@@ -37,6 +43,14 @@ status_of Overlong = TooLong
 status_of (NotUtf8Fault at) = NotUtf8
 status_of (NoMarkFault index) = NoMark
 status_of Memory = OutOfMemory
+
+-- the status of a run whose source is not written anew for this fault; the words have no command that could be at fault
+abbrev pub status_anew : StripFault → Status
+status_anew strip_fault.Overlong = TooLong
+status_anew (strip_fault.NotUtf8 at) = NotUtf8
+status_anew (strip_fault.BadCommand index) = Usage
+status_anew (strip_fault.Diagnosed index) = Diagnosed
+status_anew strip_fault.Memory = OutOfMemory
 
 -- a count of faults rises exactly in a run with this status
 pub record CountsFault (status : Status) (n before now : ℕ) : Type 0 where
@@ -87,7 +101,7 @@ MayWrite line bytes text_of old new =
 -- makes of a report.
 pub record Answers (line : CommandLine) (bytes : List ℕ) (text_of : Report → List ℕ) (old new : OutputState)
     (outcome : ToolOutcome) : Type 0 where
-  pub known : IsOneOf (OutOfMemory ∷ later_than TooLong) outcome.status
+  pub known : IsOneOf (OutOfMemory ∷ NotUtf8 ∷ NoMark ∷ WriteFailed ∷ Done ∷ []) outcome.status
   -- the tests of the bytes and the commands
   pub utf8 : Tests NotUtf8 outcome.status (¬ (IsUtf8 bytes)) (IsUtf8 bytes)
   pub marks : Tests NoMark outcome.status (¬ (HasMarks (listed_commands line.commands)))
@@ -103,15 +117,43 @@ pub record Answers (line : CommandLine) (bytes : List ℕ) (text_of : Report →
   pub quiet : (¬ (HasPassed NoMark outcome.status)) → outcome.status ≢ number OutOfMemory → new ≡ old
   pub memory : outcome.status ≡ number OutOfMemory → MayWrite line bytes text_of old new
 
+-- The report of a session over the bytes has a row with a diagnostic.
+pub record IsDiagnosed (line : CommandLine) (bytes : List ℕ) : Type 0 where
+  pub report : Report
+  pub report_is : HasReport line bytes report
+  pub index : ℕ
+  pub first : first_diagnosed report.rows ≡ Some index
+
+-- What a run that writes its source anew comes to once it has all bytes of it.
+pub record AnswersAnew (r : Rewriting) (bytes : List ℕ) (old new : OutputState) (outcome : ToolOutcome) : Type 0 where
+  pub known : IsOneOf (OutOfMemory ∷ NotUtf8 ∷ Diagnosed ∷ WriteFailed ∷ Done ∷ []) outcome.status
+  -- the tests of the bytes and of the rows of their report
+  pub utf8 : Tests NotUtf8 outcome.status (¬ (IsUtf8 bytes)) (IsUtf8 bytes)
+  pub rows : Tests Diagnosed outcome.status (IsDiagnosed (lexes_anew r) bytes) (¬ (IsDiagnosed (lexes_anew r) bytes))
+  -- where both were passed, the outcome tells what ran, and the text made of it was written or the output failed
+  pub has_run : IsSome outcome.ran ↔ HasPassed Diagnosed outcome.status
+  pub ran : IfSome outcome.ran (IsRunOver (lexes_anew r) bytes)
+  pub text : IfSome outcome.ran (λ ran. Writes (text_anew r.rewrite bytes ran.report) old new outcome.status)
+  pub keeps : IfSome outcome.ran
+      (λ ran. KeepsRows bytes r.source_type ran.commands ran.report (text_anew r.rewrite bytes ran.report))
+  pub faults : CountsFault WriteFailed outcome.status old.faults new.faults
+  -- no call came after a write or a flush that failed
+  pub in_time : InTime old.course new.course
+  -- else nothing was written; a run that is out of memory may have begun to write
+  pub quiet : (¬ (HasPassed Diagnosed outcome.status)) → outcome.status ≢ number OutOfMemory → new ≡ old
+  pub memory : outcome.status ≡ number OutOfMemory
+      → MayWrite (lexes_anew r) bytes (text_anew r.rewrite bytes) old new
+
 -- a run that gave up before its input was read to its end, and has written nothing
 pub record GivesUp (old new : OutputState) (outcome : ToolOutcome) : Type 0 where
   pub known : IsOneOf (OutOfMemory ∷ ReadFailed ∷ TooLong ∷ []) outcome.status
   pub ran : outcome.ran ≡ None
   pub quiet : new ≡ old
 
--- What a run of a command line comes to, by what its input and its output tell before and after it.
-pub record RunsLine (line : CommandLine) (input input_new : InputState) (output output_new : OutputState)
-    (outcome : ToolOutcome) : Type 0 where
+-- What a run comes to that reads its input to its end, by what it answers to the bytes, and by what its input and its
+-- output tell before and after it.
+pub record ReadsInput (AnswersTo : List ℕ → OutputState → OutputState → ToolOutcome → Type 0)
+    (input input_new : InputState) (output output_new : OutputState) (outcome : ToolOutcome) : Type 0 where
   -- the bytes that it read: one too many exactly where the input is too long
   pub bytes : List ℕ
   pub read : Consumes input.left input_new.left bytes
@@ -121,8 +163,17 @@ pub record RunsLine (line : CommandLine) (input input_new : InputState) (output 
   -- no read came after one that found the end, nor after one that failed
   pub in_time : InTime input.course input_new.course
   -- it gave up while it read, or has read all bytes and answers
-  pub ends : GivesUp output output_new outcome
-      ⊎ (IsAtEnd input_new.left × Answers line bytes (report_text_of bytes) output output_new outcome)
+  pub ends : GivesUp output output_new outcome ⊎ (IsAtEnd input_new.left × AnswersTo bytes output output_new outcome)
+
+-- What a run of a command line comes to: it writes the report.
+abbrev pub RunsLine : CommandLine → InputState → InputState → OutputState → OutputState → ToolOutcome → Type 0
+RunsLine line input input_new output output_new outcome =
+    ReadsInput (λ bytes. Answers line bytes (report_text_of bytes)) input input_new output output_new outcome
+
+-- What a run comes to that writes its source anew.
+abbrev pub RunsAnew : Rewriting → InputState → InputState → OutputState → OutputState → ToolOutcome → Type 0
+RunsAnew r input input_new output output_new outcome =
+    ReadsInput (AnswersAnew r) input input_new output output_new outcome
 
 -- generated lines are lexed to their end as a module, and their tokens are collected
 abbrev pub lexes_lines : CommandLine
@@ -143,6 +194,7 @@ RunsTask (Lex line) input input_new output output_new outcome =
     RunsLine line input input_new output output_new outcome
 RunsTask (Generate lines) input input_new output output_new outcome =
     RunsGenerated lines input input_new output output_new outcome
+RunsTask (WriteAnew r) input input_new output output_new outcome = RunsAnew r input input_new output output_new outcome
 
 -- An input can be read: the bytes that are left of it are known, few enough, and UTF-8.
 pub record CanBeRead (left : Option (List ℕ)) : Type 0 where
@@ -156,12 +208,19 @@ pub record CanRunLine (line : CommandLine) (left : Option (List ℕ)) : Type 0 w
   pub marks : HasMarks (listed_commands line.commands)
   pub input : CanBeRead left
 
+-- A source can be written anew: the input can be read, and the report of a session over it has no row with a
+-- diagnostic.
+pub record CanWriteAnew (r : Rewriting) (left : Option (List ℕ)) : Type 0 where
+  pub input : CanBeRead left
+  pub clean : ¬ (IsDiagnosed (lexes_anew r) input.bytes)
+
 -- A run can only be done, or out of memory, if neither the input nor the output fails: the words ask for generated
--- lines, whatever the input is, or for a command line that can be run.
+-- lines, whatever the input is, for a command line that can be run, or for a source that can be written anew.
 abbrev pub CanRun : Option Task → Option (List ℕ) → Type 0
 CanRun None left = ⊥
 CanRun (Some (Lex line)) left = CanRunLine line left
 CanRun (Some (Generate lines)) left = ⊤
+CanRun (Some (WriteAnew r)) left = CanWriteAnew r left
 
 -- What a run of the program comes to, by what its words ask for, and by what its input and its output tell before and
 -- after it.

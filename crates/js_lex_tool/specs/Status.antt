@@ -14,6 +14,7 @@ pub data Status : Type 0 where
   TooLong : Status
   NotUtf8 : Status
   NoMark : Status
+  Diagnosed : Status
   NoArguments : Status
 
 -- the exit status that the system is given
@@ -26,6 +27,7 @@ number WriteFailed = 4
 number TooLong = 5
 number NotUtf8 = 6
 number NoMark = 7
+number Diagnosed = 9
 number NoArguments = 10
 
 -- the status of a program that was not given its words, by the kind of the error
@@ -43,11 +45,13 @@ reason usage WriteFailed = codes "cannot write output"
 reason usage TooLong = codes "input is longer than 67108864 bytes"
 reason usage NotUtf8 = codes "input is not UTF-8"
 reason usage NoMark = codes "rewind or commit without a mark"
+reason usage Diagnosed = codes "source has diagnostics"
 reason usage NoArguments = codes "cannot read arguments"
 
 -- each status but Done
 abbrev pub failures : List Status
-failures = OutOfMemory ∷ Usage ∷ ReadFailed ∷ WriteFailed ∷ TooLong ∷ NotUtf8 ∷ NoMark ∷ NoArguments ∷ []
+failures =
+    OutOfMemory ∷ Usage ∷ ReadFailed ∷ WriteFailed ∷ TooLong ∷ NotUtf8 ∷ NoMark ∷ Diagnosed ∷ NoArguments ∷ []
 
 -- why a program with this usage stops with an exit status
 abbrev pub reason_for : List ℕ → ℕ → Option (List ℕ)
@@ -68,10 +72,12 @@ js_lex = codes "js_lex"
 abbrev pub js_lex_usage : List ℕ
 js_lex_usage =
     codes "usage: js_lex module|script|unambiguous tokens|no-tokens all|auto|COMMAND[*N].. or js_lex gen N"
+    ++ codes " or js_lex strip module|script|unambiguous all|COMMAND[*N].."
 
--- The statuses in the order in which a run tests for them. OutOfMemory is not among them: it may come at any time.
+-- The statuses in the order in which a run tests for them. OutOfMemory is not among them: it may come at any time. No
+-- run tests for both Diagnosed and NoMark.
 abbrev pub order : List Status
-order = Usage ∷ ReadFailed ∷ TooLong ∷ NotUtf8 ∷ NoMark ∷ WriteFailed ∷ Done ∷ []
+order = Usage ∷ ReadFailed ∷ TooLong ∷ NotUtf8 ∷ Diagnosed ∷ NoMark ∷ WriteFailed ∷ Done ∷ []
 
 -- the statuses that are tested after one
 abbrev pub later_than : Status → List Status

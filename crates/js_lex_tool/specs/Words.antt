@@ -1,7 +1,7 @@
 -- The words of the program, and what they mean.
 use Rattle.std.specs.Prelude.{ℕ, String, map, string_bytes, Bool, true, false, List, [], ◌∷◌, ◌++◌, ◌&&◌, ◌==◌, length}
-use Rattle.std.specs.Prelude.{replicate, ◌≤◌, ⊤, nat_lt, nat_le, if◌then◌else◌, codes, Option, Some, None, option_map}
-use Rattle.std.specs.Prelude.{option_and_then, find}
+use Rattle.std.specs.Prelude.{replicate, ◌≡◌, ◌≤◌, ⊤, nat_lt, nat_le, if◌then◌else◌, codes, Option, Some, None}
+use Rattle.std.specs.Prelude.{option_map, option_and_then, find}
 use Rattle.std.specs.declared.alloc.Global.{Global}
 use Rattle.std.specs.Fmt.{decimal}
 use Rattle.std.specs.List.{list_any, before_first, after_first}
@@ -13,11 +13,15 @@ use Rattle.js_text.specs.declared.source_type.SourceType.TheVariants.{Module, Sc
 use Rattle.js_lex_tool.specs.Command.{command_word, all_commands}
 use Rattle.js_lex_tool.specs.Generated.{most_lines}
 use Rattle.js_session.specs.declared.command.Command.{Command}
+use Rattle.js_strip.specs.Faults.{first_bad}
 use Rattle.js_lex_tool.specs.declared.words.CommandLine.{CommandLine}
 use Rattle.js_lex_tool.specs.declared.words.Commands.{Commands}
 use Rattle.js_lex_tool.specs.declared.words.Commands.TheVariants.{Listed, All, Auto}
+use Rattle.js_lex_tool.specs.declared.words.Rewrite.{Rewrite}
+use Rattle.js_lex_tool.specs.declared.words.Rewrite.TheVariants.{Strip}
+use Rattle.js_lex_tool.specs.declared.words.Rewriting.{Rewriting}
 use Rattle.js_lex_tool.specs.declared.words.Task.{Task}
-use Rattle.js_lex_tool.specs.declared.words.Task.TheVariants.{Lex, Generate}
+use Rattle.js_lex_tool.specs.declared.words.Task.TheVariants.{Lex, Generate, WriteAnew}
 
 -- at most so many commands, and so many repetitions of one
 abbrev pub most_commands : ℕ
@@ -112,14 +116,61 @@ lines_in (first ∷ []) = None
 lines_in (first ∷ number ∷ []) = if bytes_eq first (codes "gen") then count_in most_lines number else None
 lines_in (first ∷ number ∷ other ∷ words) = None
 
--- as many lines as words may ask for
+-- the words for the ways to write a source anew
+abbrev pub rewrite_words : List (List ℕ × Rewrite)
+rewrite_words = (codes "strip", Strip) ∷ []
+
+-- something, unless something else was found
+abbrev pub unless_found : {A B : Type 0} → Option A → B → Option B
+unless_found None b = Some b
+unless_found (Some a) b = None
+
+-- the commands, where a source of the type is written anew with each of them
+abbrev pub commands_for : SourceType → List Command → Option (List Command)
+commands_for t commands = unless_found (first_bad t commands) commands
+
+-- what words mean in the place of commands where a source is written anew: `all`, alone, or commands that are listed
+abbrev pub rewriting_commands : SourceType → List (List ℕ) → Option Commands
+rewriting_commands t words =
+    if is_alone (codes "all") words then Some All
+    else option_map Listed (option_and_then (commands_for t) (allowed_commands_in words))
+
+-- how a source is written anew: in this way, of this type, with these commands
+abbrev pub rewriting_with : Rewrite → SourceType → Commands → Rewriting
+rewriting_with rewrite t commands = record { rewrite = rewrite; source_type = t; commands = commands }
+
+-- the same of parts, where each is there
+abbrev pub rewriting_of : Option Rewrite → Option SourceType → List (List ℕ) → Option Rewriting
+rewriting_of None t words = None
+rewriting_of (Some rewrite) None words = None
+rewriting_of (Some rewrite) (Some t) words =
+    option_map (rewriting_with rewrite t) (rewriting_commands t words)
+
+-- how words say that a source is written anew: a way, a source type, and commands or `all`
+abbrev pub rewriting_in : List (List ℕ) → Option Rewriting
+rewriting_in [] = None
+rewriting_in (first ∷ []) = None
+rewriting_in (first ∷ second ∷ words) =
+    rewriting_of (entry_for rewrite_words first) (entry_for source_type_words second) words
+
+-- A source of the type may be written anew with these commands.
+abbrev pub MayRewrite : SourceType → Commands → Type 0
+MayRewrite t (Listed commands) = first_bad t commands ≡ None
+MayRewrite t All = ⊤
+MayRewrite t Auto = ⊥
+
+-- what words may ask for: so many lines, and commands with which a source may be written anew
 abbrev pub IsAllowed : Task → Type 0
 IsAllowed (Lex line) = ⊤
 IsAllowed (Generate lines) = (1 ≤ lines) × (lines ≤ most_lines)
+IsAllowed (WriteAnew r) = MayRewrite r.source_type r.commands
 
--- what words ask for: so many lines, or what a command line says. No words are both, since `gen` is no source type.
+-- What words ask for: so many lines, what a command line says, or a source that is written anew. No words are two of
+-- these, since neither `gen` nor `strip` is a source type.
 abbrev pub task_in : List (List ℕ) → Option Task
-task_in words = option_or (option_map Generate (lines_in words)) (option_map Lex (command_line_in words))
+task_in words =
+    option_or (option_map Generate (lines_in words))
+    (option_or (option_map Lex (command_line_in words)) (option_map WriteAnew (rewriting_in words)))
 
 -- what the words of a run ask for
 abbrev pub task_of : List (String Global) → Option Task

@@ -1,6 +1,7 @@
 //! The program as a library: where bytes come from, what words mean, what is written.
 #![tactic(auto)]
 
+mod anew;
 mod arguments;
 mod calls;
 mod command;
@@ -35,6 +36,6 @@ pub use std_streams::{StdIn, StdOut};
 pub use text_maker::{TextMaker, text_run};
 pub use tool::{Ran, ToolOutcome, lex_tool_run, lex_tool_run_sure};
 pub use words::{
-    CommandLine, Commands, Task, parse_count, parse_number, parse_source_type, parse_tokens,
-    read_listed, read_words,
+    CommandLine, Commands, Rewrite, Rewriting, Task, parse_count, parse_number, parse_source_type,
+    parse_tokens, read_listed, read_words,
 };

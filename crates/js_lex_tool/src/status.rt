@@ -25,6 +25,8 @@ pub const TOO_LONG: u8 = 5;
 pub const NOT_UTF8: u8 = 6;
 /// A command closes a mark where none is open.
 pub const NO_MARK: u8 = 7;
+/// A row of a source that is to be written anew has a diagnostic.
+pub const DIAGNOSED: u8 = 9;
 /// The program was not given its arguments. No run comes to this.
 pub const NO_ARGUMENTS: u8 = 10;
 
@@ -32,8 +34,10 @@ pub const NO_ARGUMENTS: u8 = 10;
 pub const PROGRAM: &str = "js_lex";
 
 /// What `js_lex` prints where its arguments are not valid.
-pub const USAGE_LINE: &str =
-    "usage: js_lex module|script|unambiguous tokens|no-tokens all|auto|COMMAND[*N].. or js_lex gen N";
+pub const USAGE_LINE: &str = concat!(
+    "usage: js_lex module|script|unambiguous tokens|no-tokens all|auto|COMMAND[*N].. or js_lex gen N",
+    " or js_lex strip module|script|unambiguous all|COMMAND[*N]..",
+);
 
 /// The line that tells why a program stops before it is done, without its line end.
 #[derive(Debug, Drop)]
@@ -94,6 +98,7 @@ fn reason(usage: &'static str, status: u8) -> Option<&'static str>
         TOO_LONG => "input is longer than 67108864 bytes",
         NOT_UTF8 => "input is not UTF-8",
         NO_MARK => "rewind or commit without a mark",
+        DIAGNOSED => "source has diagnostics",
         NO_ARGUMENTS => "cannot read arguments",
         _ => return None,
     };

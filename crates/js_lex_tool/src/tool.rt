@@ -16,6 +16,7 @@ ghost use Rattle.js_lex_tool.specs.Status.{number, IsOneOf, HasPassed};
 ghost use Rattle.js_lex_tool.specs.Status.Status.{Done, OutOfMemory, ReadFailed, WriteFailed, NoMark};
 ghost use Rattle.js_lex_tool.specs.Words.{task_of, IsAllowed};
 
+use crate::anew::run_anew;
 use crate::generator::{gen_summary, generated};
 use crate::memory_in::SureIn;
 use crate::memory_out::SureOut;
@@ -52,7 +53,7 @@ pub struct ToolOutcome {
 }
 
 /// The outcome of a run that has no report.
-fn outcome_without_run(status: u8) -> ToolOutcome
+pub(crate) fn outcome_without_run(status: u8) -> ToolOutcome
     ensures { result ≡ record { status = status; ran = None } }
 {
     ToolOutcome { status, ran: None }
@@ -69,7 +70,7 @@ fn outcome_of(status: u8, ran: Ran) -> ToolOutcome
 }
 
 /// The status for a fault of a session.
-fn status_of(fault: LexFault) -> u8
+pub(crate) fn status_of(fault: LexFault) -> u8
     ensures { result ≡ number (status_of fault) }
 {
     match fault {
@@ -99,7 +100,7 @@ fn summary_of(alloc: Global, lines: u32, ran: &Ran) -> Result<String, AllocError
 }
 
 /// The outcome of a run behind the writing of its text.
-fn outcome_behind(status: u8, ran: Ran) -> ToolOutcome
+pub(crate) fn outcome_behind(status: u8, ran: Ran) -> ToolOutcome
     requires { (status ≡ number OutOfMemory) ⊎ HasPassed NoMark status }
     ensures outcome { (result ≡ record { status = number OutOfMemory; ran = None })
         ⊎ (HasPassed NoMark result.status × (result.ran ≡ Some ran)) }
@@ -193,7 +194,7 @@ fn run_listed(
 }
 
 /// A session up to the end of the source: its commands, and its report.
-fn run_all(
+pub(crate) fn run_all(
     alloc: Global,
     source: &[u8],
     source_type: SourceType,
@@ -217,7 +218,7 @@ fn run_all(
 }
 
 /// A session whose goals are chosen by the tokens: its commands, and its report.
-fn run_auto(
+pub(crate) fn run_auto(
     alloc: Global,
     source: &[u8],
     source_type: SourceType,
@@ -350,11 +351,13 @@ fn run_task<I: ByteIn, O: ByteOut>(
     match task {
         Task::Lex(line) => run_line(alloc, line, input, output),
         Task::Generate(lines) => run_generated(alloc, lines, output),
+        Task::WriteAnew(rewriting) => run_anew(alloc, rewriting, input, output),
     }
 }
 
 /// Runs the program: finds what the words ask for. With a command line it then reads the input to its end, and writes
-/// the report of a session over it; with generated lines it reads nothing, and writes the summary of one over these.
+/// the report of a session over it; with generated lines it reads nothing, and writes the summary of one over these; a
+/// source that is to be written anew is read to its end, and a text with the same rows is written.
 pub fn lex_tool_run<I: ByteIn, O: ByteOut>(
     alloc: Global,
     words: &Vec<String>,

@@ -4,7 +4,9 @@ ghost use Rattle.std.specs.Prelude.{◌≡◌, ◌≤◌, ◌++◌, IfOk, IfSome
 ghost use Rattle.js_lex_tool.specs.Generated.{most_lines};
 ghost use Rattle.js_lex_tool.specs.Words.{entry_for, source_type_words, tokens_words, command_of, count_in, number_in};
 ghost use Rattle.js_lex_tool.specs.Words.{repeated_command, allowed_commands_in, is_alone, commands_meant};
-ghost use Rattle.js_lex_tool.specs.Words.{command_line_in, lines_in, task_of, IsAllowed};
+ghost use Rattle.js_lex_tool.specs.Words.{command_line_in, lines_in, task_of, IsAllowed, rewrite_words, MayRewrite};
+ghost use Rattle.js_lex_tool.specs.Words.{rewriting_commands, rewriting_in};
+ghost use Rattle.js_strip.specs.Faults.{first_bad, may_strip};
 
 use crate::command::{COMMANDS, command_word};
 use crate::generator::MOST_LINES;
@@ -35,6 +37,21 @@ pub struct CommandLine {
     pub commands: Commands,
 }
 
+/// A way to write a source anew.
+#[derive(Clone, Copy, PartialEq, Eq, Debug)]
+pub enum Rewrite {
+    /// Without its comments.
+    Strip,
+}
+
+/// How a source is written anew.
+#[derive(Drop)]
+pub struct Rewriting {
+    pub rewrite: Rewrite,
+    pub source_type: SourceType,
+    pub commands: Commands,
+}
+
 /// What the words of a run ask for.
 #[derive(Drop)]
 pub enum Task {
@@ -42,6 +59,8 @@ pub enum Task {
     Lex(CommandLine),
     /// To lex so many generated lines, and to write a summary.
     Generate(u32),
+    /// To write the input anew, with the same rows.
+    WriteAnew(Rewriting),
 }
 
 /// The source type that the word means.
@@ -206,6 +225,85 @@ fn read_lines(words: &[String]) -> Option<u32>
     }
 }
 
+/// The way to write a source anew that the word means.
+fn parse_rewrite(word: &str) -> Option<Rewrite>
+    ensures { result ≡ entry_for rewrite_words word.now }
+{
+    match word {
+        "strip" => Some(Rewrite::Strip),
+        _ => None,
+    }
+}
+
+/// Whether a source of the type is written anew with the command.
+fn may_rewrite(source_type: SourceType, command: Command) -> bool
+    ensures { result ≡ may_strip source_type command }
+{
+    match command {
+        Command::Peek | Command::Mark | Command::Rewind | Command::Commit => false,
+        Command::JsxChild | Command::TsLAngle => source_type.is_module(),
+        _ => true,
+    }
+}
+
+/// The index of the first command with which no source of the type is written anew, if there is one.
+fn first_refused(source_type: SourceType, commands: &[Command]) -> Option<usize>
+    ensures { result ≡ first_bad source_type commands.now }
+{
+    commands
+        .iter()
+        .position(|command| !may_rewrite(source_type, *command))
+}
+
+/// What the words in the place of commands mean where a source is written anew. None: they are not valid.
+fn read_rewriting_commands(
+    alloc: Global,
+    source_type: SourceType,
+    words: &[String],
+) -> Result<Option<Commands>, AllocError>
+    ensures meant { IfOk result (λ commands.
+        commands ≡ rewriting_commands source_type (map string_bytes words.now)) }
+    ensures allowed { IfOk result (λ commands. IfSome commands (MayRewrite source_type)) }
+{
+    if is_alone("all", words) {
+        return Ok(Some(Commands::All));
+    }
+    let Some(commands) = read_listed(alloc, words)? else {
+        return Ok(None);
+    };
+    match first_refused(source_type, commands.as_slice()) {
+        Some(_) => Ok(None),
+        None => Ok(Some(Commands::Listed(commands))),
+    }
+}
+
+/// How the words say that a source is written anew. None: they do not.
+fn read_rewriting(alloc: Global, words: &[String]) -> Result<Option<Rewriting>, AllocError>
+    ensures rewriting { IfOk result (λ r. r ≡ rewriting_in (map string_bytes words.now)) }
+    ensures allowed { IfOk result (λ r. IfSome r (λ r. MayRewrite r.source_type r.commands)) }
+{
+    let Some((first, words)) = words.split_first() else {
+        return Ok(None);
+    };
+    let Some((second, words)) = words.split_first() else {
+        return Ok(None);
+    };
+    let Some(rewrite) = parse_rewrite(first.as_str()) else {
+        return Ok(None);
+    };
+    let Some(source_type) = parse_source_type(second.as_str()) else {
+        return Ok(None);
+    };
+    let Some(commands) = read_rewriting_commands(alloc, source_type, words)? else {
+        return Ok(None);
+    };
+    Ok(Some(Rewriting {
+        rewrite,
+        source_type,
+        commands,
+    }))
+}
+
 /// What the words after the program's name ask for. None: they are not valid.
 pub fn read_words(alloc: Global, words: &Vec<String>) -> Result<Option<Task>, AllocError>
     ensures task { IfOk result (λ task. task ≡ task_of words.now.items) }
@@ -214,8 +312,11 @@ pub fn read_words(alloc: Global, words: &Vec<String>) -> Result<Option<Task>, Al
     if let Some(lines) = read_lines(words.as_slice()) {
         return Ok(Some(Task::Generate(lines)));
     }
-    match read_command_line(alloc, words.as_slice())? {
-        Some(line) => Ok(Some(Task::Lex(line))),
+    if let Some(line) = read_command_line(alloc, words.as_slice())? {
+        return Ok(Some(Task::Lex(line)));
+    }
+    match read_rewriting(alloc, words.as_slice())? {
+        Some(rewriting) => Ok(Some(Task::WriteAnew(rewriting))),
         None => Ok(None),
     }
 }
