@@ -1,6 +1,6 @@
 //! Whole runs, over inputs and outputs in memory.
 
-use js_lex_tool::status::{DONE, NO_MARK, NOT_UTF8, READ_FAILED, USAGE, WRITE_FAILED};
+use js_lex_tool::status::{DIAGNOSED, DONE, NO_MARK, NOT_UTF8, READ_FAILED, USAGE, WRITE_FAILED};
 use js_lex_tool::{
     MemoryIn, MemoryOut, SureIn, SureOut, generated, lex_tool_run, lex_tool_run_sure,
 };
@@ -44,7 +44,12 @@ const CHOICE: &str = concat!(
 const SUMMARY: &str = "gen 1 bytes 21 rows 8 tokens 8 comments 1 diagnostics 0\n";
 
 /// Words, a source, and the text that is written. Generated lines are lexed whatever the source is.
-static TEXTS: [(&str, &str, &str); 39] = [
+static TEXTS: [(&str, &str, &str); 44] = [
+    ("strip module all", "a/*x*/b // y\nc", "a b  \nc"),
+    ("strip module all", "a /*\n*/ b", "a \n b"),
+    ("strip script all", "a<!--x\n-->y", "a \n "),
+    ("strip module", "/*x*/a/*y*/", " a/*y*/"),
+    ("strip module next*2 regex next", "x=/a///b", "x=/a/ "),
     ("gen 1", "", SUMMARY),
     (
         "gen 10",
@@ -543,7 +548,7 @@ fn a_whole_file(rt: HostRuntime) -> Result<(), Fail> {
 }
 
 /// Words, a source, and the status that comes of them.
-static REFUSALS: [(&str, &[u8], u8); 30] = [
+static REFUSALS: [(&str, &[u8], u8); 42] = [
     ("gen", b"a", USAGE),
     ("gen 0", b"a", USAGE),
     ("gen 01", b"a", USAGE),
@@ -568,6 +573,18 @@ static REFUSALS: [(&str, &[u8], u8); 30] = [
     ("module no-tokens auto next", b"a", USAGE),
     ("module no-tokens all auto", b"a", USAGE),
     ("module no-tokens auto*2", b"a", USAGE),
+    ("strip", b"a", USAGE),
+    ("strip no-tokens all", b"a", USAGE),
+    ("strip module tokens all", b"a", USAGE),
+    ("strip module all next", b"a", USAGE),
+    ("strip module auto", b"a", USAGE),
+    ("strip module next peek", b"1x\xff", USAGE),
+    ("strip script jsx-child", b"1x", USAGE),
+    ("strip unambiguous next*2 ts-langle", b"a", USAGE),
+    ("strip module all", b"1x\xff", NOT_UTF8),
+    ("strip module all", b"1x", DIAGNOSED),
+    ("strip module jsx-child", b">}", DIAGNOSED),
+    ("strip script all", b"a /*", DIAGNOSED),
     ("module no-tokens all", b"a\xff", NOT_UTF8),
     ("module no-tokens auto", b"/a\xff", NOT_UTF8),
     ("module no-tokens", b"a\xe2\x82", NOT_UTF8),
@@ -595,7 +612,7 @@ fn commands_run(alloc: Global, words: &str, source: &[u8]) -> Result<Option<usiz
 }
 
 /// Words, a source, and how many commands these mean for it.
-static COUNTS: [(&str, &[u8], usize); 8] = [
+static COUNTS: [(&str, &[u8], usize); 10] = [
     ("gen 1", b"", 7),
     ("gen 10", b"\xff", 70),
     ("module no-tokens all", b"", 0),
@@ -604,6 +621,8 @@ static COUNTS: [(&str, &[u8], usize); 8] = [
     ("module no-tokens auto", b"", 0),
     ("module no-tokens auto", b"x=/b/g", 4),
     ("module no-tokens auto", b"a/b", 3),
+    ("strip module all", b"a/*x*/b", 2),
+    ("strip module next", b"a/*x*/b", 1),
 ];
 
 #[test]
@@ -708,6 +727,23 @@ fn generated_lines_read_nothing(rt: HostRuntime) -> Result<(), Fail> {
         faults: (0, 1),
     };
     let ends = run_failing(rt.alloc(), "gen 1", &[], &[1])?;
+    assert_eq!(rt; ends, failed);
+    Ok(())
+}
+
+// A text that is made of the source is written, and then flushed.
+#[test]
+fn stripped_texts_that_fail(rt: HostRuntime) -> Result<(), Fail> {
+    let words = "strip module all";
+    let ends = run_failing(rt.alloc(), words, &[], &[])?;
+    assert_eq!(rt; ends, whole("a?.1:b"));
+    let failed = Ends {
+        status: WRITE_FAILED,
+        written: 6,
+        flushed: 0,
+        faults: (0, 1),
+    };
+    let ends = run_failing(rt.alloc(), words, &[], &[1])?;
     assert_eq!(rt; ends, failed);
     Ok(())
 }

@@ -8,17 +8,21 @@ use std::process::ExitCode;
 use std::test::Fail;
 
 /// Each status that has a line, and its line.
-static LINES: [(u8, &str); 8] = [
+static LINES: [(u8, &str); 9] = [
     (1, "js_lex: out of memory"),
     (
         2,
-        "js_lex: usage: js_lex module|script|unambiguous tokens|no-tokens all|auto|COMMAND[*N].. or js_lex gen N",
+        concat!(
+            "js_lex: usage: js_lex module|script|unambiguous tokens|no-tokens all|auto|COMMAND[*N].. or js_lex gen N",
+            " or js_lex strip module|script|unambiguous all|COMMAND[*N]..",
+        ),
     ),
     (3, "js_lex: cannot read input"),
     (4, "js_lex: cannot write output"),
     (5, "js_lex: input is longer than 67108864 bytes"),
     (6, "js_lex: input is not UTF-8"),
     (7, "js_lex: rewind or commit without a mark"),
+    (9, "js_lex: source has diagnostics"),
     (10, "js_lex: cannot read arguments"),
 ];
 
