@@ -16,6 +16,7 @@ pub mod LiveParts
 pub mod LiveRows
 pub mod NewRows
 pub mod Outcomes
+pub mod OutlineLemmas
 pub mod PutTogether
 pub mod ReadRows
 pub mod Relexed

@@ -3,3 +3,4 @@ pub mod Joined
 pub mod Joining
 pub mod Kept
 pub mod LiveLists
+pub mod Outlines

@@ -13,6 +13,7 @@ mod edited;
 use crate::commands::first_bad;
 use crate::drive::report_from_start;
 use crate::fault::RelexFault;
+use crate::outlined::OutlinedReport;
 pub use edited::{NotRelexed, relex};
 use js_session::{Command, CommandList, Report, Steps};
 use js_text::{SourceText, SourceType};
@@ -26,7 +27,7 @@ pub struct LexDoc {
     text: SourceText,
     source_type: SourceType,
     commands: CommandList,
-    report: Report,
+    report: OutlinedReport,
     kept: usize,
     joined: Option<usize>,
 }
@@ -109,7 +110,7 @@ impl LexDoc {
         ensures of_commands { ReportOf self.now.text self.now.source_type false self.now.commands result.now }
         ensures slices { AllByRecursion (λ row. IsSliceOnPlaces self.now.text row.value) result.now.rows }
     {
-        &self.report
+        self.report.report()
     }
 
     /// How many rows at the front of its report the document took over from the one that was edited; 0 where it is
@@ -161,6 +162,7 @@ fn document_of_text<L: Ledger>(
     ensures at_most { steps.new ≤ steps.old + (length commands.now + 1) }
 {
     let report = report_from_start(alloc, text, source_type, commands, steps)?;
+    let outlined = OutlinedReport::new(alloc, report)?;
     let mut held = CommandList::new_in(alloc);
     held.extend_from_slice(commands)?;
     let mut copied = SourceText::new_in(alloc);
@@ -169,7 +171,7 @@ fn document_of_text<L: Ledger>(
         text: copied,
         source_type,
         commands: held,
-        report,
+        report: outlined,
         kept: 0,
         joined: None,
     })

@@ -1,38 +1,57 @@
 //! How many rows an edit leaves as they are.
 
-ghost use Rattle.std.specs.Prelude.{◌+◌, ◌≤◌, ◌↔◌, IsTrue, length};
-ghost use Rattle.js_relex.specs.Kept.{IsKept, IsKeptBehind, MayStay};
+ghost use Rattle.std.specs.Prelude.{◌≡◌, ◌+◌, ◌≤◌, ◌↔◌, ◌∷◌, List, IsTrue, Some, None, length, map};
+ghost use Rattle.js_session.specs.declared.row.Row.{Row};
+ghost use Rattle.js_relex.specs.Kept.{IsKept, IsKeptBehind};
+ghost use Rattle.js_relex.specs.Outlines.{AreOutlined, outline_of};
 
-use js_session::{Command, Row};
+use crate::outline::RowOutline;
+use crate::outlined::OutlinedReport;
+use js_session::Command;
 
-/// Whether the row has the command, and its token ends four bytes or more before the place.
-fn may_stay(row: &Row, command: Option<Command>, start: u32) -> bool
-    ensures { IsTrue result ↔ MayStay start command row.now }
+/// Whether a row of the outline ends four bytes or more before the place.
+fn ends_before(outline: RowOutline, start: u32) -> bool
+    ensures { IsTrue result ↔ (outline.end + 4 ≤ start) }
 {
-    if row.command != command {
+    if outline.end > start {
         return false;
     }
-    let end = row.token.end();
-    if end > start {
-        return false;
-    }
-    start - end >= 4
+    start - outline.end >= 4
 }
 
-/// How many of the rows behind the first one stay as they are, where the text changes from the place on and the
-/// commands are these.
-fn count_behind(rows: &[Row], commands: &[Command], start: u32) -> usize
-    ensures kept { IsKeptBehind start rows.now commands.now result }
-    ensures few { result ≤ length rows.now }
+/// Whether the command is the old one, and the row of the outline ends four bytes or more before the place.
+fn may_stay(outline: RowOutline, old: Command, command: Command, start: u32) -> bool
+    ensures { IsTrue result ↔ ((old ≡ command) × (outline.end + 4 ≤ start)) }
+{
+    if old != command {
+        return false;
+    }
+    ends_before(outline, start)
+}
+
+/// How many of the rows behind the first one stay as they are, which have these outlines and answer the old commands,
+/// where the text changes from the place on and the commands are the new ones.
+fn count_behind(
+    outlines: &[RowOutline],
+    old_commands: &[Command],
+    commands: &[Command],
+    start: u32,
+) -> usize
+    requires { length outlines.now ≡ length old_commands.now }
+    ensures kept { (rows : List Row) → AreOutlined (map Some old_commands.now) outlines.now rows
+        → IsKeptBehind start rows commands.now result }
+    ensures few { result ≤ length outlines.now }
     ensures fits { result ≤ length commands.now }
 {
     let mut kept = 0;
-    while kept < rows.len() {
+    while kept < outlines.len() {
         if kept >= commands.len() {
             return kept;
         }
+        let outline = outlines[kept];
+        let old = old_commands[kept];
         let command = commands[kept];
-        if !may_stay(&rows[kept], Some(command), start) {
+        if !may_stay(outline, old, command, start) {
             return kept;
         }
         kept += 1;
@@ -40,18 +59,25 @@ fn count_behind(rows: &[Row], commands: &[Command], start: u32) -> usize
     kept
 }
 
-/// How many rows stay as they are, where the text changes from the place on and the commands are these.
-pub(crate) fn count_kept(rows: &[Row], commands: &[Command], start: u32) -> usize
-    ensures kept { IsKept start rows.now commands.now result }
-    ensures few { result ≤ length rows.now }
+/// How many rows of the report stay as they are, which answer the old commands, where the text changes from the place
+/// on and the commands are the new ones.
+pub(crate) fn count_kept(
+    old: &OutlinedReport,
+    old_commands: &[Command],
+    commands: &[Command],
+    start: u32,
+) -> usize
+    requires { map (λ (row : Row). row.command) old.now.rows ≡ None ∷ map Some old_commands.now }
+    ensures kept { IsKept start old.now.rows commands.now result }
+    ensures few { result ≤ length old.now.rows }
     ensures fits { result ≤ length commands.now + 1 }
 {
-    match rows.split_first() {
+    match old.outlines().split_first() {
         Some((first, behind)) => {
-            if !may_stay(first, None, start) {
+            if !ends_before(*first, start) {
                 return 0;
             }
-            count_behind(behind, commands, start) + 1
+            count_behind(behind, old_commands, commands, start) + 1
         }
         None => 0,
     }

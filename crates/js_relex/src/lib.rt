@@ -10,6 +10,8 @@ mod gather;
 mod join;
 mod kept;
 mod live;
+mod outline;
+mod outlined;
 
 pub use document::{LexDoc, NotRelexed, relex};
 pub use edit::Edit;

@@ -9,8 +9,11 @@ ghost use Rattle.js_relex.specs.Documents.{GoesLive, IsInOrder, live_behind};
 ghost use Rattle.js_relex.specs.LiveLists.{AreWithin, HasLasted, Lasts, StartsAnew, count_readings, first_readings};
 ghost use Rattle.js_relex.specs.LiveLists.{found_length, is_reading, joined_live, live_from, live_lengths, live_up_to};
 ghost use Rattle.js_relex.specs.LiveLists.{HasOrder, more_lengths, row_readings, shifted_live, total_found};
+ghost use Rattle.js_relex.specs.Outlines.{outline_of};
 
 use crate::gather::{add_live_rows, add_moved_live_rows, empty_report};
+use crate::outline::RowOutline;
+use crate::outlined::OutlinedReport;
 use js_kind::{Token, TokenList};
 use js_session::{Command, Report, Row, Shift};
 use std::alloc::{AllocError, Global};
@@ -87,24 +90,52 @@ fn found_length(list: FoundList, row: &Row) -> usize
     }
 }
 
+/// How many items the row of the outline has in the list: a row that found nothing is not looked at.
+fn outlined_length(list: FoundList, row: &Row, outline: RowOutline) -> usize
+    requires { outline ≡ outline_of row.now }
+    ensures { result ≡ found_length list row.now }
+{
+    if outline.has_found {
+        found_length(list, row)
+    } else {
+        0
+    }
+}
+
 /// How many items a list has with those of the rows, where it has so many before, and so many in all: where all stand
-/// before, no row is looked at.
-fn length_behind(list: FoundList, before: usize, rows: &[Row], all: usize) -> usize
-    requires { before + total_found list rows.now ≤ all }
+/// before, no outline is looked at.
+fn length_behind(
+    list: FoundList,
+    before: usize,
+    rows: &[Row],
+    outlines: &[RowOutline],
+    all: usize,
+) -> usize
+    requires outlined { outlines.now ≡ map outline_of rows.now }
+    requires few { before + total_found list rows.now ≤ all }
     ensures { result ≡ before + total_found list rows.now }
 {
     if before == all {
         return before;
     }
     let mut length = before;
-    for row in rows {
-        length += found_length(list, row);
+    let mut index = 0;
+    while index < rows.len() {
+        length += outlined_length(list, &rows[index], outlines[index]);
+        index += 1;
     }
     length
 }
 
 /// The lengths with so many readings more, and with what the rows found.
-fn more_lengths(old: &Report, before: LiveLengths, readings: usize, rows: &[Row]) -> LiveLengths
+fn more_lengths(
+    old: &Report,
+    before: LiveLengths,
+    readings: usize,
+    rows: &[Row],
+    outlines: &[RowOutline],
+) -> LiveLengths
+    requires outlined { outlines.now ≡ map outline_of rows.now }
     requires inside { AreWithin (more_lengths before readings rows.now) (live_lengths (report_live old.now)) }
     requires short { before.tokens + readings < 2 ^ 64 }
     ensures { result ≡ more_lengths before readings rows.now }
@@ -112,11 +143,41 @@ fn more_lengths(old: &Report, before: LiveLengths, readings: usize, rows: &[Row]
     use FoundList::{Comments, Deferred, Diagnostics, Irregular, Warnings};
     LiveLengths {
         tokens: before.tokens + readings,
-        diagnostics: length_behind(Diagnostics, before.diagnostics, rows, old.diagnostics.len()),
-        deferred: length_behind(Deferred, before.deferred, rows, old.deferred.len()),
-        comments: length_behind(Comments, before.comments, rows, old.comments.len()),
-        irregular: length_behind(Irregular, before.irregular, rows, old.irregular.len()),
-        warnings: length_behind(Warnings, before.warnings, rows, old.warnings.len()),
+        diagnostics: length_behind(
+            Diagnostics,
+            before.diagnostics,
+            rows,
+            outlines,
+            old.diagnostics.len(),
+        ),
+        deferred: length_behind(
+            Deferred,
+            before.deferred,
+            rows,
+            outlines,
+            old.deferred.len(),
+        ),
+        comments: length_behind(
+            Comments,
+            before.comments,
+            rows,
+            outlines,
+            old.comments.len(),
+        ),
+        irregular: length_behind(
+            Irregular,
+            before.irregular,
+            rows,
+            outlines,
+            old.irregular.len(),
+        ),
+        warnings: length_behind(
+            Warnings,
+            before.warnings,
+            rows,
+            outlines,
+            old.warnings.len(),
+        ),
     }
 }
 
@@ -147,17 +208,25 @@ fn count_first_readings(commands: &[Command], rows: usize) -> usize
 }
 
 /// The lengths of what the rows before the place made live.
-fn lengths_at(old: &Report, commands: &[Command], place: usize) -> LiveLengths
+fn lengths_at(old: &OutlinedReport, commands: &[Command], place: usize) -> LiveLengths
     requires lasted { HasLasted commands.now old.now }
     requires inside { place ≤ length old.now.rows }
     ensures { result ≡ live_lengths (live_behind nothing_live (take place old.now.rows)) }
 {
     let readings = count_first_readings(commands, place);
-    more_lengths(old, no_lengths(), readings, &old.rows.as_slice()[..place])
+    let report = old.report();
+    let rows = &report.rows.as_slice()[..place];
+    let outlines = &old.outlines()[..place];
+    more_lengths(report, no_lengths(), readings, rows, outlines)
 }
 
 /// The lengths of what the rows before the second place made live, by those of what the rows before the first one did.
-fn lengths_further(old: &Report, before: LiveLengths, start: usize, end: usize) -> LiveLengths
+fn lengths_further(
+    old: &OutlinedReport,
+    before: LiveLengths,
+    start: usize,
+    end: usize,
+) -> LiveLengths
     requires lasted { AllByRecursion Lasts old.now.rows }
     requires live { report_live old.now ≡ live_behind nothing_live old.now.rows }
     requires before { before ≡ live_lengths (live_behind nothing_live (take start old.now.rows)) }
@@ -165,8 +234,10 @@ fn lengths_further(old: &Report, before: LiveLengths, start: usize, end: usize) 
     requires inside { end ≤ length old.now.rows }
     ensures { result ≡ live_lengths (live_behind nothing_live (take end old.now.rows)) }
 {
-    let rows = &old.rows.as_slice()[start..end];
-    more_lengths(old, before, count_row_readings(rows), rows)
+    let report = old.report();
+    let rows = &report.rows.as_slice()[start..end];
+    let outlines = &old.outlines()[start..end];
+    more_lengths(report, before, count_row_readings(rows), rows, outlines)
 }
 
 /// Whether no row stands at the place, or one that reads a token behind the last one.
@@ -307,7 +378,7 @@ fn live_before(
 fn add_moved_live(
     alloc: Global,
     report: &mut Report,
-    old: &Report,
+    old: &OutlinedReport,
     place: usize,
     start: usize,
     lengths: LiveLengths,
@@ -322,11 +393,12 @@ fn add_moved_live(
     ensures { OnOk result (GoesLive report.old (live_behind (report_live report.old)
         (map (shifted_row shift.now.from shift.now.to) (drop place old.now.rows))) report.new) }
 {
-    let rows = old.rows.as_slice();
+    let old_report = old.report();
+    let rows = old_report.rows.as_slice();
     let next = next_start(rows, place);
     add_moved_live_rows(alloc, report, &rows[place..next], shift)?;
     let lengths = lengths_further(old, lengths, start, next);
-    add_moved_from(alloc, report, old, lengths, shift)
+    add_moved_from(alloc, report, old_report, lengths, shift)
 }
 
 /// A report of no rows, in which that is live which is behind the first rows, those that were read, and the last old
@@ -334,7 +406,7 @@ fn add_moved_live(
 /// it found.
 pub(crate) fn live_of(
     alloc: Global,
-    old: &Report,
+    old: &OutlinedReport,
     commands: &[Command],
     kept: usize,
     read: &[Row],
@@ -348,11 +420,12 @@ pub(crate) fn live_of(
         ++ read.now
         ++ map (shifted_row shift.now.from shift.now.to) (drop (length old.now.rows - behind) old.now.rows)))) }
 {
-    let start = last_start(old.rows.as_slice(), kept);
+    let old_report = old.report();
+    let start = last_start(old_report.rows.as_slice(), kept);
     let lengths = lengths_at(old, commands, start);
-    let mut report = live_before(alloc, old, kept, start, lengths)?;
+    let mut report = live_before(alloc, old_report, kept, start, lengths)?;
     add_live_rows(&mut report, read)?;
-    let place = old.rows.len() - behind;
+    let place = old_report.rows.len() - behind;
     add_moved_live(alloc, &mut report, old, place, start, lengths, shift)?;
     Ok(report)
 }

@@ -13,12 +13,11 @@ use super::{LexDoc, check};
 use crate::drive::{ReadRows, rows_behind, rows_from_start};
 use crate::edit::Edit;
 use crate::fault::RelexFault;
-use crate::gather::{
-    add_copies, add_moved_copies, add_rows, empty_report, replace_rows, with_rows,
-};
+use crate::gather::{add_copies, add_moved_copies, add_rows, empty_report};
 use crate::join::Joining;
 use crate::kept::count_kept;
 use crate::live::live_of;
+use crate::outlined::OutlinedReport;
 use js_session::{Command, CommandList, RowList, Shift, Steps};
 use js_text::SourceText;
 use std::alloc::{AllocError, Global};
@@ -44,7 +43,7 @@ fn joining_of<'d>(old: &'d LexDoc, edit: &Edit<'_>, commands: &'d [Command]) -> 
 {
     Joining::new(
         shift_of(edit),
-        old.report.rows.as_slice(),
+        old.report.report().rows.as_slice(),
         old.commands.as_slice(),
         commands,
     )
@@ -76,7 +75,7 @@ fn read_behind_kept<L: Ledger>(
     ensures at_least { steps.old ≤ steps.new }
     ensures at_most { steps.new + (last + 1) ≤ steps.old + (length joining.now.commands + 1) }
 {
-    let rows = old.report.rows.as_slice();
+    let rows = old.report.report().rows.as_slice();
     let commands = joining.commands();
     rows_behind(
         alloc,
@@ -168,7 +167,7 @@ fn prepare_text<L: Ledger>(
 {
     let mut held = CommandList::new_in(alloc);
     held.extend_from_slice(commands)?;
-    let kept = count_kept(old.report.rows.as_slice(), commands, edit.start);
+    let kept = count_kept(&old.report, old.commands.as_slice(), commands, edit.start);
     let joining = joining_of(old, edit, commands);
     let read = read_edited(alloc, old, edit, kept, text.as_str(), &joining, steps)?;
     let ReadRows { rows, joined } = read;
@@ -253,7 +252,7 @@ fn put_together(
     ensures { IfOk result (Relexes old.now edit.now.start edit.now.end edit.now.text.now prepared.commands
         0 (length prepared.rows)) }
 {
-    let rows = old.report.rows.as_slice();
+    let rows = old.report.report().rows.as_slice();
     let behind = count_taken_over(&prepared);
     let joined = joined_index(&prepared);
     let shift = shift_of(edit);
@@ -268,11 +267,12 @@ fn put_together(
     add_copies(alloc, &mut report, &rows[..kept])?;
     add_rows(&mut report, read)?;
     add_moved_copies(alloc, &mut report, &rows[rows.len() - behind..], &shift)?;
+    let outlined = OutlinedReport::new(alloc, report)?;
     Ok(LexDoc {
         text,
         source_type: old.source_type,
         commands,
-        report,
+        report: outlined,
         kept,
         joined,
     })
@@ -358,7 +358,7 @@ fn put_in_place(
         Err(_) => return Err(old),
     };
     let mut old = old;
-    match replace_rows(alloc, &mut old.report.rows, kept, read, behind, &shift) {
+    match old.report.replace(alloc, live, kept, read, behind, &shift) {
         Ok(()) => {}
         Err(_) => return Err(old),
     }
@@ -371,7 +371,7 @@ fn put_in_place(
         text,
         source_type,
         commands,
-        report: with_rows(live, report.rows),
+        report,
         kept,
         joined,
     })

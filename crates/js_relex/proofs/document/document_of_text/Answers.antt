@@ -6,7 +6,6 @@ use Rattle.js_relex.proofs.document.document_of_text.Goals as goal
 
 pub invariant_of-result : goal.invariant_of-result
 invariant_of-result g c =
-    let report = c.in_ok-report.report in
     let held : c.extend_from_slice.new.self ≡ c.args.commands.now =
     c.in_ok-extend_from_slice.ensures.ok ∙ ap (λ xs. xs ++ c.args.commands.now) c.new_in-held.ensures in
     let copied : c.push_str.new.self ≡ c.args.text.now =
@@ -14,7 +13,9 @@ invariant_of-result g c =
     record {
       lasting = ap (list_all is_lasting) held ∙ c.requires.lasting;
       report_is =
-          subst (λ x. ReportOf x c.args.source_type false c.extend_from_slice.new.self report) (sym copied)
-          (subst (λ y. ReportOf c.args.text.now c.args.source_type false y report) (sym held)
-          c.in_ok-report.ensures.report);
+          subst (λ x. ReportOf x c.args.source_type false c.extend_from_slice.new.self c.in_ok-outlined.outlined)
+          (sym copied)
+          (subst (λ y. ReportOf c.args.text.now c.args.source_type false y c.in_ok-outlined.outlined) (sym held)
+          (subst (ReportOf c.args.text.now c.args.source_type false c.args.commands.now) (sym c.in_ok-outlined.ensures)
+          c.in_ok-report.ensures.report));
     }

@@ -1,12 +1,17 @@
-use Rattle.std.proofs.Common.{◌≡◌, ◌∙◌, ◌+◌, ◌<◌, ◌≤◌, ap, subst, sym, length, inl, inr}
+use Rattle.std.proofs.Common.{◌≡◌, ◌∙◌, ◌+◌, ◌<◌, ◌≤◌, ap, subst, sym, length, inl, inr, Some, None, map, ◌∷◌}
 use Rattle.std.specs.Prelude.{◌^◌}
 use Rattle.js_relex.specs.Documents.{DocState, joining}
 use Rattle.js_relex.specs.Joined.{JoiningState}
 use Rattle.js_relex.specs.Joining.{BreaksEdited, PreparedState, ReadsEdited}
 use Rattle.js_relex.specs.Kept.{IsKept}
+use Rattle.js_relex.proofs.Lasted.{has_lasted}
 use Rattle.js_relex.proofs.Relexed.{document_of}
 use Rattle.js_relex.proofs.Ticks.{broken_at_most, read_at_most}
 use Rattle.js_relex.proofs.document.edited.prepare_text.Goals as goal
+
+pub count_kept-kept-requires : goal.count_kept-kept-requires
+count_kept-kept-requires g c =
+    (has_lasted _ _ _ _ c.old.invariant).commands_are ∙ ap (λ cs. None ∷ map Some cs) (sym c.as_slice.ensures)
 
 pub returns-in_err-read-clause-at_most : goal.returns-in_err-read-clause-at_most
 returns-in_err-read-clause-at_most g c =
@@ -15,7 +20,7 @@ returns-in_err-read-clause-at_most g c =
     let commands = c.args.commands.now in
     let kept = c.count_kept-kept.result in
     let now = c.read_edited.new.steps in
-    let rows = c.as_slice.ensures ∙ ap (λ (d : DocState). d.report.rows) c.old.view_is in
+    let rows = ap (λ (d : DocState). d.report.rows) c.old.view_is in
     let j : c.joining_of-joining.result ≡ joining old edit.start edit.end edit.text.now commands =
     c.joining_of-joining.ensures in
     elim c.in_err-read.ensures.broken [
@@ -39,7 +44,7 @@ returns-clause-at_most g c =
     let read = c.in_ok-read.read in
     let text = c.as_str.result.now in
     let is = c.as_str.ensures ∙ c.requires.text in
-    let rows = c.as_slice.ensures ∙ ap (λ (d : DocState). d.report.rows) c.old.view_is in
+    let rows = ap (λ (d : DocState). d.report.rows) c.old.view_is in
     let j : c.joining_of-joining.result ≡ joining old edit.start edit.end edit.text.now commands =
     c.joining_of-joining.ensures in
     let p : PreparedState =

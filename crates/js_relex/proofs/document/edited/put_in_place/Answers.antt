@@ -1,4 +1,4 @@
-use Rattle.std.proofs.Common.{◌∙◌, ap, subst, sym}
+use Rattle.std.proofs.Common.{◌∙◌, ap, refl, subst, sym}
 use Rattle.js_relex.specs.Documents.{DocState, IsDocument}
 use Rattle.js_relex.specs.Joining.{PreparedState}
 use Rattle.js_relex.specs.LiveLists.{HasLasted}
@@ -27,23 +27,23 @@ live_of-requires-clause-in_order c =
     c.count_taken_over-behind.result (ap (λ (d : DocState). d.report.rows) c.old.view_is)
     c.count_taken_over-behind.ensures
 
-pub replace_rows-requires-clause-few : goal.replace_rows-requires-clause-few
-replace_rows-requires-clause-few c =
+pub replace-requires-clause-few : goal.replace-requires-clause-few
+replace-requires-clause-few c =
     few_kept c.args.old c.args.edit.now.start c.args.edit.now.end c.args.edit.now.text.now c.args.prepared
     (document_of c.args.old _ _ _ _ _ _ c.old-2.invariant c.old-2.view_is) c.requires c.old-2.inside.report.rows
     c.count_taken_over-behind.result (ap (λ (d : DocState). d.report.rows) c.old-2.view_is)
     c.count_taken_over-behind.ensures c.prepared.inside.kept
     (ap (λ (x : PreparedState). x.kept) c.prepared.view_is)
 
-pub replace_rows-requires-clause-in_order : goal.replace_rows-requires-clause-in_order
-replace_rows-requires-clause-in_order c =
+pub replace-requires-clause-in_order : goal.replace-requires-clause-in_order
+replace-requires-clause-in_order c =
     order_behind c.args.old c.args.edit.now.start c.args.edit.now.end c.args.edit.now.text.now c.args.prepared
     (document_of c.args.old _ _ _ _ _ _ c.old-2.invariant c.old-2.view_is) c.requires c.old-2.inside.report.rows
     c.count_taken_over-behind.result (ap (λ (d : DocState). d.report.rows) c.old-2.view_is)
     c.count_taken_over-behind.ensures
 
-pub replace_rows-requires-clause-stay : goal.replace_rows-requires-clause-stay
-replace_rows-requires-clause-stay c =
+pub replace-requires-clause-stay : goal.replace-requires-clause-stay
+replace-requires-clause-stay c =
     rows_stay c.args.old c.args.edit.now.start c.args.edit.now.end c.args.edit.now.text.now c.args.prepared
     (document_of c.args.old _ _ _ _ _ _ c.old-2.invariant c.old-2.view_is) c.requires c.old-2.inside.report.rows
     c.count_taken_over-behind.result (ap (λ (d : DocState). d.report.rows) c.old-2.view_is)
@@ -56,19 +56,19 @@ invariant_of-result c =
     gathered_in_place c.args.old c.args.edit.now.start c.args.edit.now.end c.args.edit.now.text.now c.args.prepared
     (document_of c.args.old _ _ _ _ _ _ c.old.invariant c.old.view_is) c.requires c.old.inside.report.rows
     c.old-2.inside.report.rows c.count_taken_over-behind.result c.prepared.inside.kept c.as_slice-2.result.now
-    c.prepared.inside.rows c.shift_of-shift.result.from c.shift_of-shift.result.to c.in-Ok.live c.with_rows.result
-    c.replace_rows.new.rows (ap (λ (d : DocState). d.report.rows) c.old.view_is)
+    c.prepared.inside.rows c.shift_of-shift.result.from c.shift_of-shift.result.to c.in-Ok.live c.replace.new.self
+    _ (ap (λ (d : DocState). d.report.rows) c.old.view_is)
     (ap (λ (d : DocState). d.report.rows) c.old-2.view_is) c.count_taken_over-behind.ensures
     (ap (λ (x : PreparedState). x.kept) c.prepared.view_is)
     (c.as_slice-2.ensures ∙ ap (λ (x : PreparedState). x.rows) c.prepared.view_is)
     (ap (λ (x : PreparedState). x.rows) c.prepared.view_is) c.shift_of-shift.ensures.from
-    c.shift_of-shift.ensures.to c.in-Ok.ensures c.in-Ok-replace_rows.ensures.ok c.with_rows.ensures in
-    subst (λ (x : PreparedState). IsDocument x.text c.old-2.inside.source_type x.commands c.with_rows.result)
+    c.shift_of-shift.ensures.to c.in-Ok.ensures refl c.in-Ok-replace.ensures.ok in
+    subst (λ (x : PreparedState). IsDocument x.text c.old-2.inside.source_type x.commands c.replace.new.self)
     (sym c.prepared.view_is)
-    (subst (λ (d : DocState). IsDocument c.args.prepared.text d.source_type c.args.prepared.commands c.with_rows.result)
+    (subst (λ (d : DocState). IsDocument c.args.prepared.text d.source_type c.args.prepared.commands c.replace.new.self)
     (sym c.old-2.view_is)
     (is_document c.args.old c.args.edit.now.start c.args.edit.now.end c.args.edit.now.text.now c.args.prepared
-    (document_of c.args.old _ _ _ _ _ _ c.old.invariant c.old.view_is) c.requires c.with_rows.result gathered))
+    (document_of c.args.old _ _ _ _ _ _ c.old.invariant c.old.view_is) c.requires c.replace.new.self gathered))
 
 pub returns-clause-made : goal.returns-clause-made
 returns-clause-made c =
@@ -76,13 +76,13 @@ returns-clause-made c =
     gathered_in_place c.args.old c.args.edit.now.start c.args.edit.now.end c.args.edit.now.text.now c.args.prepared
     (document_of c.args.old _ _ _ _ _ _ c.old.invariant c.old.view_is) c.requires c.old.inside.report.rows
     c.old-2.inside.report.rows c.count_taken_over-behind.result c.prepared.inside.kept c.as_slice-2.result.now
-    c.prepared.inside.rows c.shift_of-shift.result.from c.shift_of-shift.result.to c.in-Ok.live c.with_rows.result
-    c.replace_rows.new.rows (ap (λ (d : DocState). d.report.rows) c.old.view_is)
+    c.prepared.inside.rows c.shift_of-shift.result.from c.shift_of-shift.result.to c.in-Ok.live c.replace.new.self
+    _ (ap (λ (d : DocState). d.report.rows) c.old.view_is)
     (ap (λ (d : DocState). d.report.rows) c.old-2.view_is) c.count_taken_over-behind.ensures
     (ap (λ (x : PreparedState). x.kept) c.prepared.view_is)
     (c.as_slice-2.ensures ∙ ap (λ (x : PreparedState). x.rows) c.prepared.view_is)
     (ap (λ (x : PreparedState). x.rows) c.prepared.view_is) c.shift_of-shift.ensures.from
-    c.shift_of-shift.ensures.to c.in-Ok.ensures c.in-Ok-replace_rows.ensures.ok c.with_rows.ensures in
+    c.shift_of-shift.ensures.to c.in-Ok.ensures refl c.in-Ok-replace.ensures.ok in
     made c.args.old c.args.edit.now.start c.args.edit.now.end c.args.edit.now.text.now c.args.prepared
     (document_of c.args.old _ _ _ _ _ _ c.old.invariant c.old.view_is) c.requires _
     (ap (λ (x : PreparedState). x.text) c.prepared.view_is) (ap (λ (d : DocState). d.source_type) c.old-2.view_is)

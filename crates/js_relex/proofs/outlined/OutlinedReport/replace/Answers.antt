@@ -1,0 +1,17 @@
+use Rattle.std.proofs.Common.{◌≡◌, ◌∙◌, ◌-◌, ◌++◌, ap, drop, length, map, sym, take, List}
+use Rattle.js_session.specs.declared.report.Report.{Report}
+use Rattle.js_session.specs.declared.row.Row.{Row}
+use Rattle.js_session.specs.Shifted.{shifted_row}
+use Rattle.js_relex.proofs.OutlineLemmas.{outlines_replaced}
+use Rattle.js_relex.proofs.outlined.OutlinedReport.replace.Goals as goal
+
+pub invariant_of-self-2 : goal.invariant_of-self-2
+invariant_of-self-2 c =
+    let from = c.args.shift.now.from in
+    let to = c.args.shift.now.to in
+    let rows = c.self.inside.report.rows in
+    let moved = map (shifted_row from to) (drop (length rows - c.args.behind) rows) in
+    outlines_replaced from to c.args.kept c.args.behind rows c.as_slice-2.result.now c.with_rows.result.rows
+    c.as_slice.result.now c.in_ok-outlines.outlines (c.as_slice.ensures ∙ c.self.invariant) c.in_ok-outlines.ensures
+    (ap (λ (r : Report). r.rows) c.with_rows.ensures ∙ c.replace-rows.ensures.value ∙ c.in_ok-replace_rows.ensures.ok
+    ∙ ap (λ rs. take c.args.kept rows ++ rs ++ moved) (sym c.as_slice-2.ensures))
