@@ -31,7 +31,7 @@ use Rattle.js_grammar.specs.Goals.ReadsPlainly.{hashbang, behind_gap}
 use Rattle.js_grammar.specs.Hashbang.{begins_hashbang}
 use Rattle.js_grammar.specs.Jsx.{ends_jsx_name, jsx_child_reading, jsx_child_warnings, jsx_name_reading, jsx_name_up_to}
 use Rattle.js_grammar.specs.Jsx.{jsx_string_before, jsx_string_reading}
-use Rattle.js_grammar.specs.Outcome.{Outcome, outcome_at}
+use Rattle.js_grammar.specs.Outcome.{Outcome, gap_diagnostics, outcome_at}
 use Rattle.js_grammar.specs.Reading.{Reading, moved_diagnostics, place_behind, size_of}
 use Rattle.js_grammar.specs.Reads.{is_onward}
 use Rattle.js_grammar.specs.RegularExpression.{behind_body, regular_expression, regular_expression_reading}
@@ -684,7 +684,7 @@ abbrev pub GapsFor : List ℕ → List ℕ → SourceType → Option TokenParts 
 GapsFor text other t before there place q o zs =
     (pieces : List Piece) (has : Bool)
     → WholeGap t (line_has_ended_behind before) (from_place text place) pieces has (from_place text o.token.start)
-    → o.token.is_on_new_line ≡ has → GapsAlike text other t there q has o zs
+    → gap_diagnostics place pieces ≡ [] → o.token.is_on_new_line ≡ has → GapsAlike text other t there q has o zs
 
 -- what is read without a fault where a gap has ended has no line end
 here_on_line : (t : SourceType) (has : Bool) (here : List ℕ) (r : Reading) → ReadsHere t has here r
@@ -693,7 +693,7 @@ here_on_line t has here r (spelled xs l is) clean = ap (λ (x : Reading). x.line
 here_on_line t has here r (recovers nothing found) clean =
     absurd (recovery_reports t has here r nothing found clean)
 
-behind_gap_line : (text : List ℕ) (t : SourceType) (before : Option TokenParts) (place : ℕ) (o : Outcome)
+pub behind_gap_line : (text : List ℕ) (t : SourceType) (before : Option TokenParts) (place : ℕ) (o : Outcome)
     → (reads : ReadsBehindGap text t before place o) → o.findings.diagnostics ≡ []
     → o.token.is_on_new_line ≡ reads.line_has_ended
 behind_gap_line text t before place o reads clean =
@@ -711,11 +711,14 @@ pub behind_gaps_alike : (text other zs : List ℕ) (t : SourceType) (before ther
     → (p : Outcome) × ReadsBehindGap other t there q p × ReadAlike text other zs o p
     × (begins is_quote (from_place text o.token.start) ≡ false → begins is_quote (from_place other p.token.start) ≡ false)
 behind_gaps_alike text other zs t before there place q o v d reads clean gaps =
+    let quiet =
+    quiet_parts place o.token.start reads.pieces reads.reading
+    (sym (ap (λ (x : Outcome). x.findings.diagnostics) reads.outcome_is) ∙ clean) in
     let g =
-    gaps reads.pieces reads.line_has_ended reads.gap (behind_gap_line text t before place o reads clean) in
+    gaps reads.pieces reads.line_has_ended reads.gap quiet.0 (behind_gap_line text t before place o reads clean) in
     gap_alike text other t before there place q o zs v d reads clean g.characters g.here g.follows g.gap
 
-string_line : (here : List ℕ) (r : Reading) → jsx_string_reading here ≡ Some r → r.line_ended ≡ false
+pub string_line : (here : List ℕ) (r : Reading) → jsx_string_reading here ≡ Some r → r.line_ended ≡ false
 string_line [] r found = absurd (let no : None ≡ Some r = found in cc)
 string_line (c ∷ cs) r found = by_quote (is_quote c) found
   where
@@ -761,7 +764,7 @@ attribute_alike text other zs t before there place q o v d (string reads) clean 
     let line : o.token.is_on_new_line ≡ has =
     ap (λ (x : Outcome). x.token.is_on_new_line) whole
     ∙ ap (λ b. b || has) (string_line (from_place text s) r from.read_is) in
-    let g = gaps reads.pieces has reads.gap line in
+    let g = gaps reads.pieces has reads.gap quiet.0 line in
     let front : g.characters ≡ r.taken = append_cancel_right g.characters r.taken ys (sym g.here ∙ here) in
     let gap : BlankGap other t there q has (r.taken ++ zs) =
     subst (λ x. BlankGap other t there q has (x ++ zs)) front g.gap in

@@ -1,7 +1,9 @@
+pub mod BlankGaps
 pub mod Causes
 pub mod Following
 pub mod FollowingAgain
 pub mod FollowingReadings
+pub mod GapsBefore
 pub mod GoalsAlike
 pub mod LastTokens
 pub mod NumberEnds
