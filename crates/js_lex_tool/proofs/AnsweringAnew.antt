@@ -18,9 +18,9 @@ use Rattle.js_session.specs.declared.report.Report.{Report}
 use Rattle.js_session.proofs.Unique.{report_unique}
 use Rattle.js_session.proofs.WholeUnique.{whole_unique}
 use Rattle.js_auto.proofs.ChosenLemmas.{one_list}
-use Rattle.js_strip.specs.Faults.{StripCause, first_bad, first_diagnosed, may_strip}
-use Rattle.js_strip.specs.declared.fault.StripFault.{StripFault}
-use Rattle.js_strip.specs.declared.fault.StripFault.TheVariants as strip_fault
+use Rattle.js_rewrite.specs.Faults.{RewriteCause, first_bad, first_diagnosed, may_rewrite}
+use Rattle.js_rewrite.specs.declared.fault.RewriteFault.{RewriteFault}
+use Rattle.js_rewrite.specs.declared.fault.RewriteFault.TheVariants as rewrite_fault
 use Rattle.js_lex_tool.specs.Anew.{KeepsRows, lexes_anew, text_anew}
 use Rattle.js_lex_tool.specs.Outside.{InTime, OutputState}
 use Rattle.js_lex_tool.specs.Run.{AnswersAnew, AreMeant, CountsFault, IsDiagnosed, IsRunOver, Writes, most_bytes}
@@ -39,7 +39,7 @@ use Rattle.js_lex_tool.proofs.Courses.{InTime-refl}
 one_more : (m n : ℕ) → m ≡ n → 1 + m ≡ suc n
 one_more m n e = omega (arith, e)
 
-no_next_is_bad : (t : SourceType) (n : ℕ) → position_or_len (λ c. not (may_strip t c)) (nexts n) ≡ length (nexts n)
+no_next_is_bad : (t : SourceType) (n : ℕ) → position_or_len (λ c. not (may_rewrite t c)) (nexts n) ≡ length (nexts n)
 no_next_is_bad t zero = refl
 no_next_is_bad Module (suc n) = one_more _ _ (no_next_is_bad Module n)
 no_next_is_bad Script (suc n) = one_more _ _ (no_next_is_bad Script n)
@@ -54,7 +54,7 @@ none_passes p xs e =
 
 -- A source of any type is written anew with each `next`.
 nexts_allowed : (t : SourceType) (n : ℕ) → first_bad t (nexts n) ≡ None
-nexts_allowed t n = none_passes (λ command. not (may_strip t command)) (nexts n) (no_next_is_bad t n)
+nexts_allowed t n = none_passes (λ command. not (may_rewrite t command)) (nexts n) (no_next_is_bad t n)
 
 -- Commands that are meant may stand, where the words may.
 pub meant_allowed : (commands : Commands) (source : List ℕ) (t : SourceType) (tokens : Bool) (list : List Command)
@@ -83,10 +83,10 @@ meant_unique All source t tokens c d a b m r n s = (whole_unique source t tokens
 meant_unique Auto source t tokens c d a b m r n s = (one_list source t tokens c d a b m n).1
 
 -- A source that is written anew has no cause of a fault.
-pub no_cause : {A : Type 0} (source : List ℕ) (t : SourceType) (commands : List Command) (result : Result A StripFault)
-    → ((fault : StripFault) → StripCause source t commands fault
-    → (result ≡ Err fault) ⊎ (result ≡ Err strip_fault.Memory))
-    → OnOk result ((fault : StripFault) → ¬ (StripCause source t commands fault))
+pub no_cause : {A : Type 0} (source : List ℕ) (t : SourceType) (commands : List Command) (result : Result A RewriteFault)
+    → ((fault : RewriteFault) → RewriteCause source t commands fault
+    → (result ≡ Err fault) ⊎ (result ≡ Err rewrite_fault.Memory))
+    → OnOk result ((fault : RewriteFault) → ¬ (RewriteCause source t commands fault))
 no_cause source t commands (Ok a) exact =
     λ fault cause. elim (exact fault cause) [ inl e ↦ absurd (cc) | inr e ↦ absurd (cc) ]
 no_cause source t commands (Err e) exact = tt
@@ -95,12 +95,12 @@ no_cause source t commands (Err e) exact = tt
 pub not_diagnosed : (r : Rewriting) (bytes : List ℕ) (list : List Command) (report : Report)
     → AreMeant r.commands bytes r.source_type false list report → ReportOf bytes r.source_type false list report
     → first_bad r.source_type list ≡ None
-    → ((fault : StripFault) → ¬ (StripCause bytes r.source_type list fault)) → ¬ (IsDiagnosed (lexes_anew r) bytes)
+    → ((fault : RewriteFault) → ¬ (RewriteCause bytes r.source_type list fault)) → ¬ (IsDiagnosed (lexes_anew r) bytes)
 not_diagnosed r bytes list report meant is allowed none d =
     let same : d.report ≡ report =
     meant_unique r.commands bytes r.source_type false d.report_is.0 list d.report report d.report_is.1 d.report_is.2
     meant is in
-    none (strip_fault.Diagnosed d.index) (
+    none (rewrite_fault.Diagnosed d.index) (
       record { short = is.short; utf8 = is.utf8 },
       allowed,
       record {
@@ -156,17 +156,17 @@ pub at_lex_fault : (r : Rewriting) (bytes : List ℕ) (output : OutputState) (fa
 at_lex_fault r bytes output fault few (inl e) = rw e (at_memory r bytes output)
 at_lex_fault r bytes output fault few (inr cause) = at_source_cause r bytes output fault few cause
 
-at_cause : (r : Rewriting) (bytes : List ℕ) (list : List Command) (output : OutputState) (fault : StripFault)
+at_cause : (r : Rewriting) (bytes : List ℕ) (list : List Command) (output : OutputState) (fault : RewriteFault)
     → length bytes ≤ most_bytes → first_bad r.source_type list ≡ None
     → ((report : Report) → ReportOf bytes r.source_type false list report
     → AreMeant r.commands bytes r.source_type false list report)
-    → StripCause bytes r.source_type list fault
+    → RewriteCause bytes r.source_type list fault
     → AnswersAnew r bytes output output (without_run (number (status_anew fault)))
-at_cause r bytes list output strip_fault.Overlong few allowed meant cause = absurd (omega (arith, few, cause))
-at_cause r bytes list output (strip_fault.NotUtf8 at) few allowed meant cause = at_no_utf8 r bytes output cause.1
-at_cause r bytes list output (strip_fault.BadCommand index) few allowed meant cause =
+at_cause r bytes list output rewrite_fault.Overlong few allowed meant cause = absurd (omega (arith, few, cause))
+at_cause r bytes list output (rewrite_fault.NotUtf8 at) few allowed meant cause = at_no_utf8 r bytes output cause.1
+at_cause r bytes list output (rewrite_fault.BadCommand index) few allowed meant cause =
     absurd (let no : Some index ≡ None = sym cause.1 ∙ allowed in cc)
-at_cause r bytes list output (strip_fault.Diagnosed index) few allowed meant cause =
+at_cause r bytes list output (rewrite_fault.Diagnosed index) few allowed meant cause =
     let d = cause.2 in
     refusal r bytes output 9 (inr (inr (inl refl)))
     (record { fails = λ e. absurd (omega (arith, e)); passes = λ _. cause.0.utf8 })
@@ -179,17 +179,17 @@ at_cause r bytes list output (strip_fault.Diagnosed index) few allowed meant cau
       };
       passes = λ h. absurd (omega (arith, h));
     })
-at_cause r bytes list output strip_fault.Memory few allowed meant cause = absurd cause
+at_cause r bytes list output rewrite_fault.Memory few allowed meant cause = absurd cause
 
 -- What a fault comes to of the text that is made.
-pub at_strip_fault : (r : Rewriting) (bytes : List ℕ) (list : List Command) (output : OutputState) (fault : StripFault)
+pub at_rewrite_fault : (r : Rewriting) (bytes : List ℕ) (list : List Command) (output : OutputState) (fault : RewriteFault)
     → length bytes ≤ most_bytes → first_bad r.source_type list ≡ None
     → ((report : Report) → ReportOf bytes r.source_type false list report
     → AreMeant r.commands bytes r.source_type false list report)
-    → (fault ≡ strip_fault.Memory) ⊎ StripCause bytes r.source_type list fault
+    → (fault ≡ rewrite_fault.Memory) ⊎ RewriteCause bytes r.source_type list fault
     → AnswersAnew r bytes output output (without_run (number (status_anew fault)))
-at_strip_fault r bytes list output fault few allowed meant (inl e) = rw e (at_memory r bytes output)
-at_strip_fault r bytes list output fault few allowed meant (inr cause) =
+at_rewrite_fault r bytes list output fault few allowed meant (inl e) = rw e (at_memory r bytes output)
+at_rewrite_fault r bytes list output fault few allowed meant (inr cause) =
     at_cause r bytes list output fault few allowed meant cause
 
 -- A run that has made its text has passed both tests, or is out of memory.

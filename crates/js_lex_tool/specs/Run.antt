@@ -14,9 +14,9 @@ use Rattle.js_session.specs.declared.fault.LexFault.TheVariants.{NoMark as NoMar
 use Rattle.js_session.specs.declared.report.Report.{Report}
 use Rattle.js_text.specs.declared.source_type.SourceType.{SourceType}
 use Rattle.js_text.specs.declared.source_type.SourceType.TheVariants.{Module}
-use Rattle.js_strip.specs.Faults.{first_diagnosed}
-use Rattle.js_strip.specs.declared.fault.StripFault.{StripFault}
-use Rattle.js_strip.specs.declared.fault.StripFault.TheVariants as strip_fault
+use Rattle.js_rewrite.specs.Faults.{first_diagnosed}
+use Rattle.js_rewrite.specs.declared.fault.RewriteFault.{RewriteFault}
+use Rattle.js_rewrite.specs.declared.fault.RewriteFault.TheVariants as rewrite_fault
 use Rattle.js_lex_tool.specs.Anew.{KeepsRows, lexes_anew, text_anew}
 use Rattle.js_lex_tool.specs.Generated.{generated, summary_of}
 use Rattle.js_lex_tool.specs.Outside.{InputState, OutputState, Rises, WritesAll, WritesPrefix, InTime}
@@ -45,12 +45,12 @@ status_of (NoMarkFault index) = NoMark
 status_of Memory = OutOfMemory
 
 -- the status of a run whose source is not written anew for this fault; the words have no command that could be at fault
-abbrev pub status_anew : StripFault → Status
-status_anew strip_fault.Overlong = TooLong
-status_anew (strip_fault.NotUtf8 at) = NotUtf8
-status_anew (strip_fault.BadCommand index) = Usage
-status_anew (strip_fault.Diagnosed index) = Diagnosed
-status_anew strip_fault.Memory = OutOfMemory
+abbrev pub status_anew : RewriteFault → Status
+status_anew rewrite_fault.Overlong = TooLong
+status_anew (rewrite_fault.NotUtf8 at) = NotUtf8
+status_anew (rewrite_fault.BadCommand index) = Usage
+status_anew (rewrite_fault.Diagnosed index) = Diagnosed
+status_anew rewrite_fault.Memory = OutOfMemory
 
 -- a count of faults rises exactly in a run with this status
 pub record CountsFault (status : Status) (n before now : ℕ) : Type 0 where

@@ -13,7 +13,7 @@ use Rattle.js_text.specs.declared.source_type.SourceType.TheVariants.{Module, Sc
 use Rattle.js_lex_tool.specs.Command.{command_word, all_commands}
 use Rattle.js_lex_tool.specs.Generated.{most_lines}
 use Rattle.js_session.specs.declared.command.Command.{Command}
-use Rattle.js_strip.specs.Faults.{first_bad}
+use Rattle.js_rewrite.specs.Faults.{first_bad}
 use Rattle.js_lex_tool.specs.declared.words.CommandLine.{CommandLine}
 use Rattle.js_lex_tool.specs.declared.words.Commands.{Commands}
 use Rattle.js_lex_tool.specs.declared.words.Commands.TheVariants.{Listed, All, Auto}

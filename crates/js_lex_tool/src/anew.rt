@@ -3,7 +3,7 @@
 ghost use Rattle.std.specs.Prelude.{◌≡◌, ◌≤◌, ◌⊎◌, Some, None, false, length, IfOk, OnOk, IfErr};
 ghost use Rattle.js_session.specs.Faults.{SourceCause};
 ghost use Rattle.js_session.specs.Report.{ReportOf};
-ghost use Rattle.js_strip.specs.Faults.{StripCause, first_bad};
+ghost use Rattle.js_rewrite.specs.Faults.{RewriteCause, first_bad};
 ghost use Rattle.js_lex_tool.specs.Anew.{KeepsRows, text_anew};
 ghost use Rattle.js_lex_tool.specs.Outside.{InTime};
 ghost use Rattle.js_lex_tool.specs.Run.{AnswersAnew, AreMeant, CountsFault, RunsAnew, Writes, most_bytes, status_anew};
@@ -19,21 +19,22 @@ use crate::tool::{
 };
 use crate::words::{Commands, Rewrite, Rewriting};
 use crate::write_all::write_status;
+use js_rewrite::RewriteFault;
 use js_session::{Command, CommandList, LexFault, Report};
-use js_strip::{StripFault, Stripped, strip};
+use js_strip::{Stripped, strip};
 use js_text::{ByteList, SourceText, SourceType};
 use std::alloc::Global;
 
 /// The status for the fault of a source that is not written anew.
-fn status_anew(fault: StripFault) -> u8
+fn status_anew(fault: RewriteFault) -> u8
     ensures { result ≡ number (status_anew fault) }
 {
     match fault {
-        StripFault::Overlong => TOO_LONG,
-        StripFault::NotUtf8(_) => NOT_UTF8,
-        StripFault::BadCommand(_) => USAGE,
-        StripFault::Diagnosed(_) => DIAGNOSED,
-        StripFault::Memory => MEMORY,
+        RewriteFault::Overlong => TOO_LONG,
+        RewriteFault::NotUtf8(_) => NOT_UTF8,
+        RewriteFault::BadCommand(_) => USAGE,
+        RewriteFault::Diagnosed(_) => DIAGNOSED,
+        RewriteFault::Memory => MEMORY,
     }
 }
 
@@ -69,13 +70,13 @@ fn make_stripped(
     source: &[u8],
     source_type: SourceType,
     commands: &[Command],
-) -> Result<(SourceText, Report), StripFault>
+) -> Result<(SourceText, Report), RewriteFault>
     ensures report { IfOk result (λ made. ReportOf source.now source_type false commands.now made.1) }
     ensures text { IfOk result (λ made. made.0 ≡ text_anew Rewrite.Strip source.now made.1) }
     ensures keeps { IfOk result (λ made. KeepsRows source.now source_type commands.now made.1 made.0) }
-    ensures ok { OnOk result ((fault : StripFault) → ¬ (StripCause source.now source_type commands.now fault)) }
-    ensures cause { IfErr result (λ fault. (fault ≡ StripFault.Memory)
-        ⊎ StripCause source.now source_type commands.now fault) }
+    ensures ok { OnOk result ((fault : RewriteFault) → ¬ (RewriteCause source.now source_type commands.now fault)) }
+    ensures cause { IfErr result (λ fault. (fault ≡ RewriteFault.Memory)
+        ⊎ RewriteCause source.now source_type commands.now fault) }
 {
     match strip(alloc, source, source_type, commands) {
         Ok(Stripped { text, before, .. }) => Ok((text, before)),
@@ -90,13 +91,13 @@ fn make_anew(
     source: &[u8],
     source_type: SourceType,
     commands: &[Command],
-) -> Result<(SourceText, Report), StripFault>
+) -> Result<(SourceText, Report), RewriteFault>
     ensures report { IfOk result (λ made. ReportOf source.now source_type false commands.now made.1) }
     ensures text { IfOk result (λ made. made.0 ≡ text_anew rewrite source.now made.1) }
     ensures keeps { IfOk result (λ made. KeepsRows source.now source_type commands.now made.1 made.0) }
-    ensures ok { OnOk result ((fault : StripFault) → ¬ (StripCause source.now source_type commands.now fault)) }
-    ensures cause { IfErr result (λ fault. (fault ≡ StripFault.Memory)
-        ⊎ StripCause source.now source_type commands.now fault) }
+    ensures ok { OnOk result ((fault : RewriteFault) → ¬ (RewriteCause source.now source_type commands.now fault)) }
+    ensures cause { IfErr result (λ fault. (fault ≡ RewriteFault.Memory)
+        ⊎ RewriteCause source.now source_type commands.now fault) }
 {
     match rewrite {
         Rewrite::Strip => make_stripped(alloc, source, source_type, commands),

@@ -6,10 +6,10 @@ ghost use Rattle.js_lex_tool.specs.Words.{entry_for, source_type_words, tokens_w
 ghost use Rattle.js_lex_tool.specs.Words.{repeated_command, allowed_commands_in, is_alone, commands_meant};
 ghost use Rattle.js_lex_tool.specs.Words.{command_line_in, lines_in, task_of, IsAllowed, rewrite_words, MayRewrite};
 ghost use Rattle.js_lex_tool.specs.Words.{rewriting_commands, rewriting_in};
-ghost use Rattle.js_strip.specs.Faults.{first_bad, may_strip};
 
 use crate::command::{COMMANDS, command_word};
 use crate::generator::MOST_LINES;
+use js_rewrite::first_bad;
 use js_session::{Command, CommandList};
 use js_text::SourceType;
 use std::alloc::{AllocError, Global};
@@ -235,26 +235,6 @@ fn parse_rewrite(word: &str) -> Option<Rewrite>
     }
 }
 
-/// Whether a source of the type is written anew with the command.
-fn may_rewrite(source_type: SourceType, command: Command) -> bool
-    ensures { result ≡ may_strip source_type command }
-{
-    match command {
-        Command::Peek | Command::Mark | Command::Rewind | Command::Commit => false,
-        Command::JsxChild | Command::TsLAngle => source_type.is_module(),
-        _ => true,
-    }
-}
-
-/// The index of the first command with which no source of the type is written anew, if there is one.
-fn first_refused(source_type: SourceType, commands: &[Command]) -> Option<usize>
-    ensures { result ≡ first_bad source_type commands.now }
-{
-    commands
-        .iter()
-        .position(|command| !may_rewrite(source_type, *command))
-}
-
 /// What the words in the place of commands mean where a source is written anew. None: they are not valid.
 fn read_rewriting_commands(
     alloc: Global,
@@ -271,7 +251,7 @@ fn read_rewriting_commands(
     let Some(commands) = read_listed(alloc, words)? else {
         return Ok(None);
     };
-    match first_refused(source_type, commands.as_slice()) {
+    match first_bad(source_type, commands.as_slice()) {
         Some(_) => Ok(None),
         None => Ok(Some(Commands::Listed(commands))),
     }

@@ -34,7 +34,7 @@ use Rattle.js_session.specs.Report.{IsNotTaken, IsOfEffect, IsReLexed, Run}
 use Rattle.js_session.proofs.LastingRuns.{lasting_steps}
 use Rattle.js_session.proofs.LiveLemmas.{last_or-push}
 use Rattle.js_session.proofs.LocalRuns.{replaced_last}
-use Rattle.js_strip.specs.Faults.{may_strip}
+use Rattle.js_rewrite.specs.Faults.{may_rewrite}
 use Rattle.js_strip.proofs.AlikeGoals.{name_grows}
 use Rattle.js_strip.proofs.FutureComments.{again_some, all_later, clean_onward, comments_of, later_from, no_mark, no_slash}
 use Rattle.js_strip.proofs.Standing.{StandBetween, again_starts, between_append, between_from}
@@ -56,7 +56,7 @@ module_only : (b : Bool) → (true && (b || false)) ≡ true → b ≡ true
 module_only true e = refl
 module_only false e = absurd (cc)
 
-pub strips : (t : SourceType) (c : Command) → may_strip t c ≡ true → Strips t (effect_of c)
+pub strips : (t : SourceType) (c : Command) → may_rewrite t c ≡ true → Strips t (effect_of c)
 strips t NextCommand e = (refl, λ no. absurd (cc), λ no. absurd (cc))
 strips t ChildCommand e = (refl, λ no. absurd (cc), λ is. module_only (is_module t) e)
 strips t JsxAttr e = (refl, λ no. absurd (cc), λ no. absurd (cc))
@@ -71,7 +71,7 @@ strips t Mark e = absurd (cc)
 strips t Rewind e = absurd (cc)
 strips t Commit e = absurd (cc)
 
-pub lasting_of : (t : SourceType) (c : Command) → may_strip t c ≡ true → is_lasting c ≡ true
+pub lasting_of : (t : SourceType) (c : Command) → may_rewrite t c ≡ true → is_lasting c ≡ true
 lasting_of t c e = (and_parts (is_lasting c) _ e).0
 
 -- Where comments stand behind what a goal read of a token again, they stand behind the token.
@@ -202,17 +202,17 @@ row_stands text t (re_lexes goal) row s token comments u on l lies at is quiet s
 
 -- The comments of rows stand behind the last token before them.
 pub rows_future : (text : List ℕ) (t : SourceType) (s : State) (commands : List Command) (rows : List Row)
-    (token : TokenParts) → IsUtf8 text → list_all (may_strip t) commands ≡ true → AllByRecursion IsQuiet rows
+    (token : TokenParts) → IsUtf8 text → list_all (may_rewrite t) commands ≡ true → AllByRecursion IsQuiet rows
     → IsLast text s token → Run text t s commands rows
     → StandBetween text (piece t) token.end (comments_of rows) (length text)
 rows_future text t s [] rows token u may quiet l run =
     subst (λ rs. StandBetween text (piece t) token.end (comments_of rs) (length text)) (sym run) l.lies.end.0
 rows_future text t s (c ∷ cs) [] token u may quiet l run =
     absurd
-    (let step = lasting_steps c (lasting_of t c (and_parts (may_strip t c) (list_all (may_strip t) cs) may).0) in
+    (let step = lasting_steps c (lasting_of t c (and_parts (may_rewrite t c) (list_all (may_rewrite t) cs) may).0) in
     rw step at run)
 rows_future text t s (c ∷ cs) (row ∷ rows) token u may quiet l run =
-    let both = and_parts (may_strip t c) (list_all (may_strip t) cs) may in
+    let both = and_parts (may_rewrite t c) (list_all (may_rewrite t) cs) may in
     let step = lasting_steps c (lasting_of t c both.0) in
     let here = rw step at run in
     let on = strips t c both.0 in

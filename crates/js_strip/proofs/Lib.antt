@@ -1,11 +1,8 @@
 pub mod AlikeGoals
 pub mod AlikeReadings
-pub mod Causes
 pub mod FutureComments
 pub mod FutureRows
-pub mod Positions
 pub mod SameReports
-pub mod SameValues
 pub mod Standing
 pub mod StandingRows
 pub mod StrippedChars

@@ -26,7 +26,7 @@ use Rattle.js_session.specs.Live.{state_after_first}
 use Rattle.js_session.specs.Report.{AreRows, IsNotTaken, IsOfEffect, IsReLexed, ReportOf, Run}
 use Rattle.js_session.proofs.LastingRuns.{lasting_steps}
 use Rattle.js_session.proofs.RunLemmas.{state_step}
-use Rattle.js_strip.specs.Faults.{may_strip}
+use Rattle.js_rewrite.specs.Faults.{may_rewrite}
 use Rattle.js_strip.specs.StripText.{StandInOrder, strip_text}
 use Rattle.js_strip.proofs.AlikeGoals.{GoalAlike, first_alike}
 use Rattle.js_strip.proofs.AlikeReadings.{ReadAlike}
@@ -58,17 +58,17 @@ row_live text t (re_lexes goal) row s on is = by_flag (fits text goal (token_or_
         (sym (ap (λ cs. s.now.findings.comments ++ cs) none ∙ append-nil s.now.findings.comments))
 
 rows_live : (text : List ℕ) (t : SourceType) (s : State) (commands : List Command) (rows : List Row)
-    → list_all (may_strip t) commands ≡ true → Run text t s commands rows
+    → list_all (may_rewrite t) commands ≡ true → Run text t s commands rows
     → (state_after s commands rows).now.findings.comments ≡ s.now.findings.comments ++ comments_of rows
 rows_live text t s [] rows may run =
     subst (λ rs. s.now.findings.comments ≡ s.now.findings.comments ++ comments_of rs) (sym run)
     (sym (append-nil s.now.findings.comments))
 rows_live text t s (c ∷ cs) [] may run =
     absurd
-    (let step = lasting_steps c (lasting_of t c (and_parts (may_strip t c) (list_all (may_strip t) cs) may).0) in
+    (let step = lasting_steps c (lasting_of t c (and_parts (may_rewrite t c) (list_all (may_rewrite t) cs) may).0) in
     rw step at run)
 rows_live text t s (c ∷ cs) (row ∷ rows) may run =
-    let both = and_parts (may_strip t c) (list_all (may_strip t) cs) may in
+    let both = and_parts (may_rewrite t c) (list_all (may_rewrite t) cs) may in
     let step = lasting_steps c (lasting_of t c both.0) in
     let here = rw step at run in
     ap (λ (x : State). x.now.findings.comments) (state_step s c cs row rows step)
@@ -104,15 +104,15 @@ still_behind rewinds row s bare still = still
 still_behind commits row s bare still = still
 
 rows_still : (text : List ℕ) (t : SourceType) (s : State) (commands : List Command) (rows : List Row)
-    → list_all (may_strip t) commands ≡ true → Run text t s commands rows → AllByRecursion IsBare rows → IsStill s
+    → list_all (may_rewrite t) commands ≡ true → Run text t s commands rows → AllByRecursion IsBare rows → IsStill s
     → IsStill (state_after s commands rows)
 rows_still text t s [] rows may run bare still = subst (λ rs. IsStill (state_after s [] rs)) (sym run) still
 rows_still text t s (c ∷ cs) [] may run bare still =
     absurd
-    (let step = lasting_steps c (lasting_of t c (and_parts (may_strip t c) (list_all (may_strip t) cs) may).0) in
+    (let step = lasting_steps c (lasting_of t c (and_parts (may_rewrite t c) (list_all (may_rewrite t) cs) may).0) in
     rw step at run)
 rows_still text t s (c ∷ cs) (row ∷ rows) may run bare still =
-    let both = and_parts (may_strip t c) (list_all (may_strip t) cs) may in
+    let both = and_parts (may_rewrite t c) (list_all (may_rewrite t) cs) may in
     let step = lasting_steps c (lasting_of t c both.0) in
     let here = rw step at run in
     subst IsStill (sym (state_step s c cs row rows step))
@@ -121,7 +121,7 @@ rows_still text t s (c ∷ cs) (row ∷ rows) may run bare still =
 
 -- The rows of both texts are the same.
 rows_same : (text other : List ℕ) (t : SourceType) (commands : List Command) (xs ys : List Row) → IsUtf8 text
-    → IsUtf8 other → list_all (may_strip t) commands ≡ true → AllByRecursion IsQuiet xs
+    → IsUtf8 other → list_all (may_rewrite t) commands ≡ true → AllByRecursion IsQuiet xs
     → other ≡ stripped_from text 0 (live commands xs).findings.comments → AreRows text t commands xs
     → AreRows other t commands ys
     → AllZip (SameRow text other) xs ys × IsStill (record { now = live commands ys; marks = [] })
@@ -192,7 +192,7 @@ rows_same text other t commands (a ∷ xs) (b ∷ ys) u v may quiet stripped are
 
 -- The report of a source in which nothing is reported, and that of the source without its comments, have the same rows.
 pub same_reports : (source other : List ℕ) (t : SourceType) (commands : List Command) (before after : Report)
-    → list_all (may_strip t) commands ≡ true → AllByRecursion IsQuiet before.rows
+    → list_all (may_rewrite t) commands ≡ true → AllByRecursion IsQuiet before.rows
     → StandInOrder source 0 before.comments
     → ReportOf source t false commands before → other ≡ strip_text source before.comments
     → ReportOf other t false commands after → SameRows source before other after

@@ -40,7 +40,7 @@ use Rattle.js_session.specs.Effects.{Effect, effect_of}
 use Rattle.js_session.specs.Effects.Effect.{reads, peeks, re_lexes, opens, rewinds, commits}
 use Rattle.js_session.specs.Live.{State, after_row, last_live, outcome_of, place_behind_last}
 use Rattle.js_session.specs.Report.{IsNotTaken, IsOfEffect, IsReLexed, IsRead, Run}
-use Rattle.js_strip.specs.Faults.{may_strip}
+use Rattle.js_rewrite.specs.Faults.{may_rewrite}
 use Rattle.js_strip.proofs.AlikeGoals.{GoalAlike, again_alike, name_goes_on, name_grows, onward_alike}
 use Rattle.js_strip.proofs.AlikeReadings.{ReadAlike, taken_there}
 use Rattle.js_strip.proofs.FutureComments.{clean_onward, comments_of}
@@ -49,7 +49,7 @@ use Rattle.js_strip.proofs.Standing.{StandBetween, again_starts, between_ordered
 use Rattle.js_strip.proofs.StrippedChars.{chars_between, stripped_chars, without_from}
 use Rattle.js_strip.proofs.StrippedText.{stripped_from}
 use Rattle.js_grammar.proofs.Without.{Without, begins_from}
-use Rattle.js_strip.proofs.SameValues.{SameBytes, same_value}
+use Rattle.js_rewrite.proofs.SameValues.{SameBytes, same_value}
 
 -- The bytes of a token that was read alike.
 bytes_alike : (text other : List ℕ) (more : List Comment) (o p : Outcome) → IsUtf8 text → IsUtf8 other
@@ -475,20 +475,20 @@ IsBare row = (row.diagnostics ≡ []) × (row.comments ≡ [])
 
 -- The rows of the two runs are the same, and in those of the other nothing is reported, and no comment is found.
 pub runs_alike : (text other : List ℕ) (t : SourceType) (s q : State) (commands : List Command) (xs ys : List Row)
-    (token there : TokenParts) → IsUtf8 text → IsUtf8 other → list_all (may_strip t) commands ≡ true
+    (token there : TokenParts) → IsUtf8 text → IsUtf8 other → list_all (may_rewrite t) commands ≡ true
     → AllByRecursion IsQuiet xs → Beside text other s q token there (comments_of xs) → Run text t s commands xs
     → Run other t q commands ys → AllZip (SameRow text other) xs ys × AllByRecursion IsBare ys
 runs_alike text other t s q [] xs ys token there u v may quiet h run other_run = rw (run, other_run) (tt, tt)
 runs_alike text other t s q (c ∷ cs) [] ys token there u v may quiet h run other_run =
     absurd
-    (let step = lasting_steps c (lasting_of t c (and_parts (may_strip t c) (list_all (may_strip t) cs) may).0) in
+    (let step = lasting_steps c (lasting_of t c (and_parts (may_rewrite t c) (list_all (may_rewrite t) cs) may).0) in
     rw step at run)
 runs_alike text other t s q (c ∷ cs) (a ∷ xs) [] token there u v may quiet h run other_run =
     absurd
-    (let step = lasting_steps c (lasting_of t c (and_parts (may_strip t c) (list_all (may_strip t) cs) may).0) in
+    (let step = lasting_steps c (lasting_of t c (and_parts (may_rewrite t c) (list_all (may_rewrite t) cs) may).0) in
     rw step at other_run)
 runs_alike text other t s q (c ∷ cs) (a ∷ xs) (b ∷ ys) token there u v may quiet h run other_run =
-    let both = and_parts (may_strip t c) (list_all (may_strip t) cs) may in
+    let both = and_parts (may_rewrite t c) (list_all (may_rewrite t) cs) may in
     let step = lasting_steps c (lasting_of t c both.0) in
     let here = rw step at run in
     let other_here = rw step at other_run in

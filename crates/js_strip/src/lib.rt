@@ -1,11 +1,8 @@
 //! Sources without their comments, whose tokens are the same.
 #![tactic(auto)]
 
-mod commands;
-mod diagnosed;
-mod fault;
 mod stripping;
 mod without_comments;
 
-pub use fault::StripFault;
+pub use js_rewrite::RewriteFault as StripFault;
 pub use stripping::{Stripped, strip};

@@ -1,18 +1,15 @@
 //! Sources that are stripped.
 
 ghost use Rattle.std.specs.Prelude.{◌≡◌, ◌⊎◌, false, Err, IfOk, OnOk, IfErr, IsOk, None};
-ghost use Rattle.js_session.specs.Faults.{IsReadable};
 ghost use Rattle.js_session.specs.Report.{ReportOf};
-ghost use Rattle.js_strip.specs.Faults.{StripCause, first_bad, first_diagnosed};
+ghost use Rattle.js_rewrite.specs.Faults.{RewriteCause};
 ghost use Rattle.js_session.specs.SameRows.{SameRows};
 ghost use Rattle.js_strip.specs.StripText.{StandInOrder, strip_text};
-ghost use Rattle.js_strip.specs.declared.fault.StripFault.{StripFault};
+ghost use Rattle.js_rewrite.specs.declared.fault.RewriteFault.{RewriteFault};
 
-use crate::commands::first_bad;
-use crate::diagnosed::first_diagnosed;
-use crate::fault::{StripFault, fault_of};
 use crate::without_comments::strip_text;
-use js_session::{Command, Report, lex_session, utf8_text};
+use js_rewrite::{RewriteFault, check, clean_report, report};
+use js_session::{Command, Report};
 use js_text::{SourceText, SourceType};
 use std::alloc::{AllocError, Global};
 
@@ -25,65 +22,6 @@ pub struct Stripped {
     pub before: Report,
     /// The report of the text, with no tokens collected.
     pub after: Report,
-}
-
-/// The source as a text, where it and the commands are ones to strip.
-fn check<'a>(
-    source: &'a [u8],
-    source_type: SourceType,
-    commands: &[Command],
-) -> Result<&'a str, StripFault>
-    ensures text { IfOk result (λ text. text.now ≡ source.now) }
-    ensures ok { OnOk result (IsReadable source.now × (first_bad source_type commands.now ≡ None)) }
-    ensures cause { IfErr result (StripCause source.now source_type commands.now) }
-{
-    let text = match utf8_text(source) {
-        Ok(text) => text,
-        Err(fault) => return Err(fault_of(fault)),
-    };
-    match first_bad(source_type, commands) {
-        Some(index) => Err(StripFault::BadCommand(index)),
-        None => Ok(text),
-    }
-}
-
-/// The report of the commands over the source, with no tokens collected.
-fn report(
-    alloc: Global,
-    source: &[u8],
-    source_type: SourceType,
-    commands: &[Command],
-) -> Result<Report, AllocError>
-    ensures { IfOk result (ReportOf source.now source_type false commands.now) }
-{
-    match lex_session(alloc, source, source_type, false, commands) {
-        Ok(report) => Ok(report),
-        Err(_) => Err(AllocError),
-    }
-}
-
-/// The report of a source and commands that were tested, where no row has a diagnostic.
-fn clean_report(
-    alloc: Global,
-    source: &[u8],
-    source_type: SourceType,
-    commands: &[Command],
-) -> Result<Report, StripFault>
-    requires readable { IsReadable source.now }
-    requires commands { first_bad source_type commands.now ≡ None }
-    ensures report { IfOk result (ReportOf source.now source_type false commands.now) }
-    ensures clean { IfOk result (λ report. first_diagnosed report.rows ≡ None) }
-    ensures cause { IfErr result (λ fault. (fault ≡ StripFault.Memory)
-        ⊎ StripCause source.now source_type commands.now fault) }
-{
-    let report = match report(alloc, source, source_type, commands) {
-        Ok(report) => report,
-        Err(_) => return Err(StripFault::Memory),
-    };
-    match first_diagnosed(report.rows.as_slice()) {
-        Some(index) => Err(StripFault::Diagnosed(index)),
-        None => Ok(report),
-    }
 }
 
 /// A text without the comments of its report, and the report of what is left.
@@ -114,14 +52,14 @@ fn strip_source(
     source: &[u8],
     source_type: SourceType,
     commands: &[Command],
-) -> Result<Stripped, StripFault>
+) -> Result<Stripped, RewriteFault>
     ensures before { IfOk result (λ s. ReportOf source.now source_type false commands.now s.before) }
     ensures text { IfOk result (λ s. s.text ≡ strip_text source.now s.before.comments) }
     ensures after { IfOk result (λ s. ReportOf s.text source_type false commands.now s.after) }
     ensures same { IfOk result (λ s. SameRows source.now s.before s.text s.after) }
-    ensures ok { OnOk result ((fault : StripFault) → ¬ (StripCause source.now source_type commands.now fault)) }
-    ensures cause { IfErr result (λ fault. (fault ≡ StripFault.Memory)
-        ⊎ StripCause source.now source_type commands.now fault) }
+    ensures ok { OnOk result ((fault : RewriteFault) → ¬ (RewriteCause source.now source_type commands.now fault)) }
+    ensures cause { IfErr result (λ fault. (fault ≡ RewriteFault.Memory)
+        ⊎ RewriteCause source.now source_type commands.now fault) }
 {
     let text = match check(source, source_type, commands) {
         Ok(text) => text,
@@ -133,7 +71,7 @@ fn strip_source(
     };
     match strip_text_of(alloc, text, source_type, commands, before) {
         Ok(stripped) => Ok(stripped),
-        Err(_) => Err(StripFault::Memory),
+        Err(_) => Err(RewriteFault::Memory),
     }
 }
 
@@ -144,7 +82,7 @@ pub fn strip(
     source: &[u8],
     source_type: SourceType,
     commands: &[Command],
-) -> Result<Stripped, StripFault>
+) -> Result<Stripped, RewriteFault>
     ensures before { IfOk result (λ s. ReportOf source.now source_type false commands.now s.before) }
     // One byte stands in the place of each comment, and all else stays.
     ensures text { IfOk result (λ s. s.text ≡ strip_text source.now s.before.comments) }
@@ -153,12 +91,12 @@ pub fn strip(
     ensures same { IfOk result (λ s. SameRows source.now s.before s.text s.after) }
     // Each fault comes for its cause alone, and where its cause is there, nothing but a lack of memory comes in its
     // place.
-    ensures cause { IfErr result (λ fault. (fault ≡ StripFault.Memory)
-        ⊎ StripCause source.now source_type commands.now fault) }
-    ensures exact { (fault : StripFault) → StripCause source.now source_type commands.now fault
-        → (result ≡ Err fault) ⊎ (result ≡ Err StripFault.Memory) }
-    ensures complete { ((fault : StripFault) → ¬ (StripCause source.now source_type commands.now fault))
-        → IsOk result ⊎ (result ≡ Err StripFault.Memory) }
+    ensures cause { IfErr result (λ fault. (fault ≡ RewriteFault.Memory)
+        ⊎ RewriteCause source.now source_type commands.now fault) }
+    ensures exact { (fault : RewriteFault) → RewriteCause source.now source_type commands.now fault
+        → (result ≡ Err fault) ⊎ (result ≡ Err RewriteFault.Memory) }
+    ensures complete { ((fault : RewriteFault) → ¬ (RewriteCause source.now source_type commands.now fault))
+        → IsOk result ⊎ (result ≡ Err RewriteFault.Memory) }
 {
     strip_source(alloc, source, source_type, commands)
 }

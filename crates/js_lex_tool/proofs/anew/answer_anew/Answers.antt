@@ -1,5 +1,5 @@
 use Rattle.std.proofs.Common.{false, refl}
-use Rattle.js_lex_tool.proofs.AnsweringAnew.{at_lex_fault, at_strip_fault, at_text, not_diagnosed}
+use Rattle.js_lex_tool.proofs.AnsweringAnew.{at_lex_fault, at_rewrite_fault, at_text, not_diagnosed}
 use Rattle.js_lex_tool.specs.declared.tool.Ran.{Ran}
 use Rattle.js_lex_tool.proofs.anew.answer_anew.Goals as goal
 
@@ -14,7 +14,7 @@ returns-in-Err-make_anew g c =
     let meant = rw c.as_slice-bytes.ensures at c.in-Ok.ensures.meant in
     let cause = rw (c.as_slice-bytes.ensures, c.as_slice.ensures) at c.in-Err-make_anew.ensures.cause in
     rw (c.outcome_without_run-in-Err-make_anew.ensures, c.status_anew.ensures)
-    (at_strip_fault c.args.rewriting c.args.source c.in-Ok.commands _ c.in-Err-make_anew.fault c.requires.few
+    (at_rewrite_fault c.args.rewriting c.args.source c.in-Ok.commands _ c.in-Err-make_anew.fault c.requires.few
     c.in-Ok.ensures.allowed meant cause)
 
 pub returns : goal.returns

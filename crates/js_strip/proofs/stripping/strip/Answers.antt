@@ -1,4 +1,4 @@
-use Rattle.js_strip.proofs.Causes.{completely, exactly}
+use Rattle.js_rewrite.proofs.Causes.{completely, exactly}
 use Rattle.js_strip.proofs.stripping.strip.Goals as goal
 
 pub returns-clause-exact : goal.returns-clause-exact

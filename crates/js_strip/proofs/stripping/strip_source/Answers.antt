@@ -2,8 +2,8 @@ use Rattle.std.proofs.Common.{◌∙◌, ap, false, subst, sym}
 use Rattle.js_session.specs.declared.report.Report.{Report}
 use Rattle.js_session.specs.SameRows.{SameRows}
 use Rattle.js_strip.specs.StripText.{StandInOrder, strip_text}
-use Rattle.js_strip.proofs.Causes.{sound_no_cause}
-use Rattle.js_strip.proofs.Positions.{all_last, all_may, all_quiet}
+use Rattle.js_rewrite.proofs.Causes.{sound_no_cause}
+use Rattle.js_rewrite.proofs.Positions.{all_last, all_may, all_quiet}
 use Rattle.js_strip.proofs.SameReports.{same_reports}
 use Rattle.js_strip.proofs.StandingRows.{report_stands}
 use Rattle.js_strip.proofs.stripping.strip_source.Goals as goal

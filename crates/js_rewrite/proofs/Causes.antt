@@ -8,9 +8,9 @@ use Rattle.js_session.specs.declared.report.Report.{Report}
 use Rattle.js_session.specs.Faults.{IsReadable}
 use Rattle.js_session.specs.Report.{ReportOf}
 use Rattle.js_session.proofs.Unique.{report_unique}
-use Rattle.js_strip.specs.Faults.{IsFirstDiagnosed, StripCause, first_bad, first_diagnosed}
-use Rattle.js_strip.specs.declared.fault.StripFault.{StripFault}
-use Rattle.js_strip.specs.declared.fault.StripFault.TheVariants.{Overlong, NotUtf8, BadCommand, Diagnosed, Memory}
+use Rattle.js_rewrite.specs.Faults.{IsFirstDiagnosed, RewriteCause, first_bad, first_diagnosed}
+use Rattle.js_rewrite.specs.declared.fault.RewriteFault.{RewriteFault}
+use Rattle.js_rewrite.specs.declared.fault.RewriteFault.TheVariants.{Overlong, NotUtf8, BadCommand, Diagnosed, Memory}
 
 -- A source that can be read, with commands that may stand, and a report in which no row has a diagnostic.
 pub record IsSound (source : List ℕ) (t : SourceType) (commands : List Command) : Type 0 where
@@ -34,8 +34,8 @@ first_of source t commands index report is d =
     ap (λ (r : Report). first_diagnosed r.rows)
     (report_unique source t false commands report d.report is d.report_is) ∙ d.first
 
-pub sound_no_cause : (source : List ℕ) (t : SourceType) (commands : List Command) (fault : StripFault)
-    → IsSound source t commands → ¬ (StripCause source t commands fault)
+pub sound_no_cause : (source : List ℕ) (t : SourceType) (commands : List Command) (fault : RewriteFault)
+    → IsSound source t commands → ¬ (RewriteCause source t commands fault)
 sound_no_cause source t commands Overlong s c = omega (arith, s.readable.short, c)
 sound_no_cause source t commands (NotUtf8 at) s c = c.1 s.readable.utf8
 sound_no_cause source t commands (BadCommand i) s c = no_index i (first_bad t commands) c.1 s.no_bad
@@ -43,8 +43,8 @@ sound_no_cause source t commands (Diagnosed i) s c =
     no_index i (first_diagnosed s.report.rows) (first_of source t commands i s.report s.report_is c.2) s.clean
 sound_no_cause source t commands Memory s c = c
 
-pub cause_unique : (source : List ℕ) (t : SourceType) (commands : List Command) (a b : StripFault)
-    → StripCause source t commands a → StripCause source t commands b → a ≡ b
+pub cause_unique : (source : List ℕ) (t : SourceType) (commands : List Command) (a b : RewriteFault)
+    → RewriteCause source t commands a → RewriteCause source t commands b → a ≡ b
 cause_unique source t commands Overlong Overlong c d = refl
 cause_unique source t commands Overlong (NotUtf8 j) c d = absurd (omega (arith, c, d.0))
 cause_unique source t commands Overlong (BadCommand j) c d = absurd (omega (arith, c, d.0.short))
@@ -72,9 +72,9 @@ cause_unique source t commands (Diagnosed i) Memory c d = absurd d
 cause_unique source t commands Memory b c d = absurd c
 
 -- Where a fault has its cause, it comes, or a lack of memory is reported.
-pub exactly : {A : Type 0} (source : List ℕ) (t : SourceType) (commands : List Command) (result : Result A StripFault)
-    (fault : StripFault) → OnOk result ((fault : StripFault) → ¬ (StripCause source t commands fault))
-    → IfErr result (λ e. (e ≡ Memory) ⊎ StripCause source t commands e) → StripCause source t commands fault
+pub exactly : {A : Type 0} (source : List ℕ) (t : SourceType) (commands : List Command) (result : Result A RewriteFault)
+    (fault : RewriteFault) → OnOk result ((fault : RewriteFault) → ¬ (RewriteCause source t commands fault))
+    → IfErr result (λ e. (e ≡ Memory) ⊎ RewriteCause source t commands e) → RewriteCause source t commands fault
     → (result ≡ Err fault) ⊎ (result ≡ Err Memory)
 exactly source t commands (Ok a) fault ok cause c = absurd (ok fault c)
 exactly source t commands (Err e) fault ok cause c =
@@ -83,10 +83,10 @@ exactly source t commands (Err e) fault ok cause c =
       | inr other ↦ inl (ap Err (cause_unique source t commands e fault other c))
     ]
 
--- Where nothing is at fault, the source is stripped, or a lack of memory is reported.
+-- Where nothing is at fault, the source is written anew, or a lack of memory is reported.
 pub completely : {A : Type 0} (source : List ℕ) (t : SourceType) (commands : List Command)
-    (result : Result A StripFault) → IfErr result (λ e. (e ≡ Memory) ⊎ StripCause source t commands e)
-    → ((fault : StripFault) → ¬ (StripCause source t commands fault)) → IsOk result ⊎ (result ≡ Err Memory)
+    (result : Result A RewriteFault) → IfErr result (λ e. (e ≡ Memory) ⊎ RewriteCause source t commands e)
+    → ((fault : RewriteFault) → ¬ (RewriteCause source t commands fault)) → IsOk result ⊎ (result ≡ Err Memory)
 completely source t commands (Ok a) cause none = inl refl
 completely source t commands (Err e) cause none =
     elim cause [ inl memory ↦ inr (ap Err memory) | inr other ↦ absurd (none e other) ]

@@ -1,4 +1,4 @@
--- Why a source is not stripped.
+-- Why a source is not written anew.
 use Rattle.std.specs.Prelude.{◌≡◌, ℕ, Bool, true, false, not, ◌&&◌, ◌||◌, ◌==◌, List, length, Option, Some, None}
 use Rattle.std.specs.List.{position}
 use Rattle.js_text.specs.SourceType.{is_module}
@@ -13,8 +13,8 @@ use Rattle.js_session.specs.declared.row.Row.{Row}
 use Rattle.js_session.specs.Effects.{is_lasting}
 use Rattle.js_session.specs.Faults.{IsReadable, SourceCause}
 use Rattle.js_session.specs.Report.{ReportOf}
-use Rattle.js_strip.specs.declared.fault.StripFault.{StripFault}
-use Rattle.js_strip.specs.declared.fault.StripFault.TheVariants.{Overlong, NotUtf8, BadCommand, Diagnosed, Memory}
+use Rattle.js_rewrite.specs.declared.fault.RewriteFault.{RewriteFault}
+use Rattle.js_rewrite.specs.declared.fault.RewriteFault.TheVariants.{Overlong, NotUtf8, BadCommand, Diagnosed, Memory}
 
 -- The commands whose token may end right before a `<!--`. Outside modules a comment may begin there, and a space in its
 -- place would be read with the token.
@@ -33,13 +33,14 @@ ends_before_html Mark = false
 ends_before_html Rewind = false
 ends_before_html Commit = false
 
--- A source of the type is stripped with the command: it gives a row which stays, and is read the same without comments.
-abbrev pub may_strip : SourceType → Command → Bool
-may_strip t command = is_lasting command && (is_module t || not (ends_before_html command))
+-- A source of the type is written anew with the command: it gives a row which stays, and its token is the same where
+-- white space stands for a comment.
+abbrev pub may_rewrite : SourceType → Command → Bool
+may_rewrite t command = is_lasting command && (is_module t || not (ends_before_html command))
 
--- the first command with which no source of the type is stripped, if there is one
+-- the first command with which no source of the type is written anew, if there is one
 abbrev pub first_bad : SourceType → List Command → Option ℕ
-first_bad t commands = position (λ command. not (may_strip t command)) commands
+first_bad t commands = position (λ command. not (may_rewrite t command)) commands
 
 -- the first row that has a diagnostic, if there is one
 abbrev pub first_diagnosed : List Row → Option ℕ
@@ -52,10 +53,10 @@ pub record IsFirstDiagnosed (source : List ℕ) (t : SourceType) (commands : Lis
   pub first : first_diagnosed report.rows ≡ Some index
 
 -- The cause of a fault: that of one is none of those tested before it. A lack of memory has none here.
-abbrev pub StripCause : List ℕ → SourceType → List Command → StripFault → Type 0
-StripCause source t commands Overlong = SourceCause source lex_fault.Overlong
-StripCause source t commands (NotUtf8 at) = SourceCause source (lex_fault.NotUtf8 at)
-StripCause source t commands (BadCommand index) = IsReadable source × (first_bad t commands ≡ Some index)
-StripCause source t commands (Diagnosed index) =
+abbrev pub RewriteCause : List ℕ → SourceType → List Command → RewriteFault → Type 0
+RewriteCause source t commands Overlong = SourceCause source lex_fault.Overlong
+RewriteCause source t commands (NotUtf8 at) = SourceCause source (lex_fault.NotUtf8 at)
+RewriteCause source t commands (BadCommand index) = IsReadable source × (first_bad t commands ≡ Some index)
+RewriteCause source t commands (Diagnosed index) =
     IsReadable source × (first_bad t commands ≡ None) × IsFirstDiagnosed source t commands index
-StripCause source t commands Memory = ⊥
+RewriteCause source t commands Memory = ⊥

@@ -1,8 +1,8 @@
-//! Which commands a source is stripped with.
+//! Which commands a source is written anew with.
 
 ghost use Rattle.std.specs.Prelude.{◌≡◌};
 ghost use Rattle.js_session.specs.Effects.{is_lasting};
-ghost use Rattle.js_strip.specs.Faults.{ends_before_html, first_bad, may_strip};
+ghost use Rattle.js_rewrite.specs.Faults.{ends_before_html, first_bad, may_rewrite};
 
 use js_session::Command;
 use js_text::SourceType;
@@ -27,18 +27,18 @@ fn ends_before_html(command: Command) -> bool
     }
 }
 
-/// Whether a source of the type is stripped with the command.
-fn may_strip(source_type: SourceType, command: Command) -> bool
-    ensures { result ≡ may_strip source_type command }
+/// Whether a source of the type is written anew with the command.
+fn may_rewrite(source_type: SourceType, command: Command) -> bool
+    ensures { result ≡ may_rewrite source_type command }
 {
     is_lasting(command) && (source_type.is_module() || !ends_before_html(command))
 }
 
-/// The index of the first command with which no source of the type is stripped, if there is one.
-pub(crate) fn first_bad(source_type: SourceType, commands: &[Command]) -> Option<usize>
+/// The index of the first command with which no source of the type is written anew, if there is one.
+pub fn first_bad(source_type: SourceType, commands: &[Command]) -> Option<usize>
     ensures { result ≡ first_bad source_type commands.now }
 {
     commands
         .iter()
-        .position(|command| !may_strip(source_type, *command))
+        .position(|command| !may_rewrite(source_type, *command))
 }

@@ -10,7 +10,7 @@ use Rattle.js_session.specs.declared.command.Command.{Command}
 use Rattle.js_session.specs.declared.row.Row.{Row}
 use Rattle.js_session.specs.Effects.{is_lasting}
 use Rattle.std.proofs.lemmas.Bool.{and_parts}
-use Rattle.js_strip.specs.Faults.{first_bad, first_diagnosed, may_strip}
+use Rattle.js_rewrite.specs.Faults.{first_bad, first_diagnosed, may_rewrite}
 
 whole_prefix : {X : Type 0} (p : X → Bool) (xs : List X) → length xs ≤ prefix_len p xs → list_all p xs ≡ true
 whole_prefix p [] h = refl
@@ -44,20 +44,20 @@ all_twice p (x ∷ xs) e =
     let both = and_parts (not (not (p x))) (list_all (λ x. not (not (p x))) xs) e in
     rw (twice (p x) both.0) (all_twice p xs both.1)
 
--- Where no command is bad, a source may be stripped with each.
+-- Where no command is bad, a source may be written anew with each.
 pub all_may : (t : SourceType) (commands : List Command) → first_bad t commands ≡ None
-    → list_all (may_strip t) commands ≡ true
-all_may t commands e = all_twice (may_strip t) commands (none_passes (λ c. not (may_strip t c)) commands e)
+    → list_all (may_rewrite t) commands ≡ true
+all_may t commands e = all_twice (may_rewrite t) commands (none_passes (λ c. not (may_rewrite t c)) commands e)
 
 -- and so each gives a row which stays
 pub all_last : (t : SourceType) (commands : List Command) → first_bad t commands ≡ None
     → list_all is_lasting commands ≡ true
 all_last t commands e = each commands (all_may t commands e)
   where
-    each : (cs : List Command) → list_all (may_strip t) cs ≡ true → list_all is_lasting cs ≡ true
+    each : (cs : List Command) → list_all (may_rewrite t) cs ≡ true → list_all is_lasting cs ≡ true
     each [] f = refl
     each (c ∷ cs) f =
-        let both = and_parts (may_strip t c) (list_all (may_strip t) cs) f in
+        let both = and_parts (may_rewrite t c) (list_all (may_rewrite t) cs) f in
         rw (and_parts (is_lasting c) _ both.0).0 (each cs both.1)
 
 no_length : {X : Type 0} (xs : List X) → (length xs == 0) ≡ true → xs ≡ []

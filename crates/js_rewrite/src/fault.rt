@@ -1,16 +1,16 @@
-//! Why a source is not stripped.
+//! Why a source is not written anew.
 
 ghost use Rattle.std.specs.Prelude.{◌≡◌, List, ℕ};
 ghost use Rattle.js_text.specs.declared.source_type.SourceType.{SourceType};
 ghost use Rattle.js_session.specs.declared.command.Command.{Command};
 ghost use Rattle.js_session.specs.Faults.{SourceCause};
-ghost use Rattle.js_strip.specs.Faults.{StripCause};
+ghost use Rattle.js_rewrite.specs.Faults.{RewriteCause};
 
 use js_session::LexFault;
 
-/// Why a source is not stripped, in the order in which it is tested.
+/// Why a source is not written anew, in the order in which it is tested.
 #[derive(Clone, Copy, PartialEq, Eq, Debug)]
-pub enum StripFault {
+pub enum RewriteFault {
     /// The source has more than `u32::MAX` bytes.
     Overlong,
     /// The source is not UTF-8. Its longest beginning that is has so many bytes.
@@ -25,13 +25,13 @@ pub enum StripFault {
 }
 
 /// The fault of a source. No source is at fault for its marks or for lack of memory.
-pub(crate) fn fault_of(fault: LexFault) -> StripFault
+pub fn fault_of(fault: LexFault) -> RewriteFault
     ensures { (source : List ℕ) (t : SourceType) (commands : List Command) → SourceCause source fault
-        → StripCause source t commands result }
+        → RewriteCause source t commands result }
 {
     match fault {
-        LexFault::Overlong => StripFault::Overlong,
-        LexFault::NotUtf8(at) => StripFault::NotUtf8(at),
-        LexFault::NoMark(_) | LexFault::Memory => StripFault::Memory,
+        LexFault::Overlong => RewriteFault::Overlong,
+        LexFault::NotUtf8(at) => RewriteFault::NotUtf8(at),
+        LexFault::NoMark(_) | LexFault::Memory => RewriteFault::Memory,
     }
 }

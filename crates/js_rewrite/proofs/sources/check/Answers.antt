@@ -1,4 +1,4 @@
-use Rattle.js_strip.proofs.stripping.check.Goals as goal
+use Rattle.js_rewrite.proofs.sources.check.Goals as goal
 
 pub returns-in-Err-clause-cause : goal.returns-in-Err-clause-cause
 returns-in-Err-clause-cause c =

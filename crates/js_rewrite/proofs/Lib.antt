@@ -1,0 +1,13 @@
+pub mod BlankGaps
+pub mod Causes
+pub mod Following
+pub mod FollowingAgain
+pub mod FollowingReadings
+pub mod GapsBefore
+pub mod GoalsAlike
+pub mod LastTokens
+pub mod NumberEnds
+pub mod Positions
+pub mod ReadAlike
+pub mod RowsAlike
+pub mod SameValues
