@@ -1,6 +1,6 @@
 -- What a run answers that writes its source anew.
 use Rattle.std.proofs.Common.{◌≡◌, ℕ, zero, suc, ◌+◌, ◌≤◌, ◌⊎◌, Bool, false, List, [], ◌∷◌, length, arith, refl, sym}
-use Rattle.std.proofs.Common.{inl, inr, None, Some, Result, Ok, Err, OnOk, cond, not, subst, ap, ◌∙◌}
+use Rattle.std.proofs.Common.{inl, inr, None, Some, Result, Ok, Err, OnOk, cond, not, subst, ◌∙◌}
 use Rattle.std.specs.Prelude.{nat_lt}
 use Rattle.std.specs.List.{position, position_or_len}
 use Rattle.std.specs.Str.{IsUtf8}

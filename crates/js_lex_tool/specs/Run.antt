@@ -21,7 +21,7 @@ use Rattle.js_lex_tool.specs.Anew.{KeepsRows, lexes_anew, text_anew}
 use Rattle.js_lex_tool.specs.Generated.{generated, summary_of}
 use Rattle.js_lex_tool.specs.Outside.{InputState, OutputState, Rises, WritesAll, WritesPrefix, InTime}
 use Rattle.js_lex_tool.specs.ReportText.{report_text_of}
-use Rattle.js_lex_tool.specs.Status.{Status, number, order, later_than, IsOneOf, HasPassed, Tests}
+use Rattle.js_lex_tool.specs.Status.{Status, number, order, IsOneOf, HasPassed, Tests}
 use Rattle.js_lex_tool.specs.Status.Status.{Done, OutOfMemory, Usage, ReadFailed, WriteFailed, TooLong, NotUtf8, NoMark}
 use Rattle.js_lex_tool.specs.Status.Status.{Diagnosed}
 use Rattle.js_lex_tool.specs.declared.tool.Ran.{Ran}

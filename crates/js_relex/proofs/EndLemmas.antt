@@ -1,6 +1,6 @@
 -- How many commands at the end of two lists are the same.
 use Rattle.std.proofs.Common.{◌≡◌, ℕ, suc, ◌+◌, ◌-◌, ◌<◌, ◌≤◌, List, [], ◌∷◌, length}
-use Rattle.std.proofs.Common.{drop, refl, sym, ◌∙◌, ap, arith, get_or}
+use Rattle.std.proofs.Common.{drop, sym, ◌∙◌, ap, arith, get_or}
 use Rattle.std.proofs.Common.{inl, inr}
 use Rattle.std.proofs.Math.Seq.{drop-cons, drop-length}
 use Rattle.std.proofs.lemmas.Bool.{cases_lt}

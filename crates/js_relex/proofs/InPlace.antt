@@ -22,7 +22,7 @@ use Rattle.js_session.specs.Session.{MayResume}
 use Rattle.js_session.specs.Shifted.{shifted_row}
 use Rattle.js_session.proofs.LastingRuns.{lasting_steps}
 use Rattle.js_session.proofs.ShiftedRows.{run_stays}
-use Rattle.js_relex.specs.Documents.{DocState, IsDocument, IsEdit, IsInOrder, joining}
+use Rattle.js_relex.specs.Documents.{DocState, IsDocument, IsInOrder, joining}
 use Rattle.js_relex.specs.Joined.{FirstFrom, JoiningState, Joins}
 use Rattle.js_relex.specs.Joining.{PreparedState, Prepares, joined_at, old_rows_behind, taken_over}
 use Rattle.js_relex.specs.Kept.{IsKept, IsKeptBehind}

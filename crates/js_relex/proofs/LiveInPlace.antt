@@ -1,12 +1,12 @@
 -- What is live behind rows that stay where they are.
 use Rattle.std.proofs.Common.{◌≡◌, ℕ, ◌+◌, ◌<◌, List, [], ◌∷◌, ◌++◌, length, map, take, drop, suc, refl, sym, ◌∙◌, ap, subst}
 use Rattle.std.proofs.Common.{arith, get_or, zero}
-use Rattle.std.proofs.Math.Seq.{take-length, take-suc}
+use Rattle.std.proofs.Math.Seq.{take-suc}
 use Rattle.std.proofs.lemmas.List.{map-append}
 use Rattle.std.specs.List.{AllByRecursion}
 use Rattle.js_session.specs.declared.report.Report.{Report}
 use Rattle.js_session.specs.declared.row.Row.{Row}
-use Rattle.js_session.specs.Live.{Live, nothing_live, report_live, report_with}
+use Rattle.js_session.specs.Live.{nothing_live, report_live, report_with}
 use Rattle.js_relex.specs.Documents.{GoesLive, IsGathered, live_behind}
 use Rattle.js_relex.proofs.LiveRows.{live-append}
 

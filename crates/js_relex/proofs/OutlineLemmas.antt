@@ -1,12 +1,12 @@
 -- Outlines of rows: one by one, and of rows that are moved.
-use Rattle.std.proofs.Common.{◌≡◌, ℕ, zero, suc, ◌+◌, ◌<◌, ◌≤◌, Bool, not, ◌&&◌, ◌==◌, List, [], ◌∷◌, length, map}
+use Rattle.std.proofs.Common.{◌≡◌, ℕ, zero, suc, ◌+◌, ◌<◌, ◌≤◌, not, ◌&&◌, ◌==◌, List, [], ◌∷◌, length, map}
 use Rattle.std.proofs.Common.{Option, Some, refl, sym, ◌∙◌, ap, subst, arith, get_or, ◌-◌, ◌++◌, take, drop}
 use Rattle.std.proofs.lemmas.List.{drop-map, length-map, map-append, take-map}
 use Rattle.js_session.specs.declared.command.Command.{Command}
 use Rattle.js_session.specs.declared.row.Row.{Row}
 use Rattle.js_session.specs.Shifted.{shifted_comment, shifted_diagnostic, shifted_row, shifted_span}
 use Rattle.js_relex.specs.Kept.{MayStay}
-use Rattle.js_relex.specs.Outlines.{AreOutlined, has_found, outline_of, shifted_outline}
+use Rattle.js_relex.specs.Outlines.{AreOutlined, outline_of, shifted_outline}
 use Rattle.js_relex.specs.declared.outline.RowOutline.{RowOutline}
 
 -- there are as many outlines as rows

@@ -1,20 +1,16 @@
 -- By how much the counter rises where a text is edited.
-use Rattle.std.proofs.Common.{◌≡◌, ℕ, zero, suc, ◌+◌, ◌-◌, ◌<◌, ◌≤◌, Bool, true}
+use Rattle.std.proofs.Common.{◌≡◌, ℕ, ◌+◌, ◌-◌, ◌<◌, ◌≤◌, Bool, true}
 use Rattle.std.proofs.Common.{false, List, [], ◌∷◌, ◌++◌, length, map}
 use Rattle.std.proofs.Common.{take, drop, refl, sym, ◌∙◌, ap, subst, arith, append_assoc, Option, Some, None}
-use Rattle.std.specs.Prelude.{◌⊎◌, ◌^◌}
-use Rattle.std.specs.List.{list_all}
-use Rattle.std.specs.Str.{IsUtf8}
 use Rattle.std.proofs.Math.Seq.{drop-append_seam, drop-length}
 use Rattle.std.proofs.lemmas.List.{length-append, length-take-le}
-use Rattle.js_text.specs.declared.source_type.SourceType.{SourceType}
 use Rattle.js_session.specs.declared.command.Command.{Command}
 use Rattle.js_session.specs.declared.report.Report.{Report}
 use Rattle.js_session.specs.declared.row.Row.{Row}
 use Rattle.js_session.specs.Report.{AreRows, ReportOf}
 use Rattle.js_session.specs.Shifted.{shifted_row}
 use Rattle.js_session.proofs.Unique.{rows_unique}
-use Rattle.js_relex.specs.Documents.{DocState, IsDocument, IsDocumentOf, IsGathered, Relexes, Spares, TicksAtMost}
+use Rattle.js_relex.specs.Documents.{DocState, IsDocument, IsGathered, Relexes, Spares, TicksAtMost}
 use Rattle.js_relex.specs.Documents.{edited, joining, rows_taken_over}
 use Rattle.js_relex.specs.Joined.{FirstFrom, JoiningState, Joins}
 use Rattle.js_relex.specs.Joining.{BreaksEdited, PreparedState, Prepares, all_rows, joined_at, old_rows_behind}

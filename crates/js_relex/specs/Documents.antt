@@ -1,6 +1,6 @@
 -- Documents, and what an edit makes of one.
 use Rattle.std.specs.Prelude.{◌≡◌, ℕ, ◌<◌, ◌≤◌, ◌+◌, ◌^◌, true, false, List, [], ◌∷◌, ◌++◌, length, take, drop}
-use Rattle.std.specs.Prelude.{◌-◌, suc, map, slice_get, Option, Some, None}
+use Rattle.std.specs.Prelude.{◌-◌, suc, slice_get, Option, Some, None}
 use Rattle.std.specs.List.{list_all}
 use Rattle.std.specs.Str.{IsCharBoundary}
 use Rattle.js_text.specs.declared.source_type.SourceType.{SourceType}
@@ -10,7 +10,6 @@ use Rattle.js_session.specs.declared.row.Row.{Row}
 use Rattle.js_session.specs.Effects.{is_lasting, row_effect}
 use Rattle.js_session.specs.Live.{Live, after_row, nothing_live, report_live}
 use Rattle.js_session.specs.Report.{AreRows, ReportOf}
-use Rattle.js_session.specs.Shifted.{shifted_row}
 use Rattle.js_relex.specs.Joined.{FirstFrom, JoiningState, Joins}
 use Rattle.js_relex.specs.Kept.{IsKept}
 use Rattle.js_relex.specs.declared.fault.RelexFault.{RelexFault}

@@ -1,6 +1,6 @@
 -- The comments that a reading finds stand in its text before its token, one behind the other.
 use Rattle.std.proofs.Common.{◌≡◌, ℕ, ◌≤◌, Bool, true, false, List, [], ◌∷◌, ◌++◌, refl, sym, ◌∙◌, ap}
-use Rattle.std.proofs.Common.{zero, suc, subst, arith, append-nil, Option, Some, None}
+use Rattle.std.proofs.Common.{zero, suc, subst, arith, append-nil, Option, Some}
 use Rattle.std.specs.Prelude.{◌&&◌, is_none, not}
 use Rattle.std.specs.Str.{IsCharBoundary, IsUtf8}
 use Rattle.js_text.specs.Characters.{begins, from_place, is_irregular_whitespace}

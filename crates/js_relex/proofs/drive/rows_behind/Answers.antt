@@ -1,9 +1,9 @@
-use Rattle.std.proofs.Common.{◌+◌, sym, subst, arith, inr}
+use Rattle.std.proofs.Common.{sym, subst, inr}
 use Rattle.js_session.specs.Session.{state_behind}
 use Rattle.js_session.specs.declared.report.Report.{Report}
 use Rattle.js_relex.specs.Joining.{BreaksBehind, ReadsUntil}
 use Rattle.js_relex.proofs.Outcomes.{on_err}
-use Rattle.js_relex.proofs.ReadRows.{breaks_behind, reads_behind, ticks_behind}
+use Rattle.js_relex.proofs.ReadRows.{breaks_behind, reads_behind}
 use Rattle.js_relex.proofs.drive.rows_behind.Goals as goal
 
 pub returns-in_err-joined-clause-broken : goal.returns-in_err-joined-clause-broken

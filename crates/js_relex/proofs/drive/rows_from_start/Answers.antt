@@ -1,4 +1,4 @@
-use Rattle.std.proofs.Common.{◌≡◌, ◌-◌, [], ap, sym, subst, true, length}
+use Rattle.std.proofs.Common.{◌-◌, [], ap, sym, subst, true, length}
 use Rattle.js_session.specs.Session.{SessionState}
 use Rattle.js_session.specs.declared.report.Report.{Report}
 use Rattle.js_relex.specs.Joined.{Joins}

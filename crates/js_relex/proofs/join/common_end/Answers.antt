@@ -1,4 +1,4 @@
-use Rattle.std.proofs.Common.{ℕ, ◌≤◌, length, arith}
+use Rattle.std.proofs.Common.{arith}
 use Rattle.js_session.specs.declared.command.Command.TheVariants.{Next}
 use Rattle.js_relex.proofs.EndLemmas.{one_differs, one_more}
 use Rattle.js_relex.proofs.join.common_end.Goals as goal

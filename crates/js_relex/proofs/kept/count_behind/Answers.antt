@@ -1,4 +1,4 @@
-use Rattle.std.proofs.Common.{◌≡◌, ◌<◌, ◌≤◌, arith, false, get_or, length}
+use Rattle.std.proofs.Common.{arith, false, get_or}
 use Rattle.js_session.specs.declared.command.Command.TheVariants.{Next}
 use Rattle.js_relex.proofs.KeptLemmas.{all_before, no_command_more, no_row_more, none_stays, one_stays}
 use Rattle.js_relex.proofs.OutlineLemmas.{count_outlined, outlined_at}

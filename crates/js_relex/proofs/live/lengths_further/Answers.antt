@@ -1,4 +1,4 @@
-use Rattle.std.proofs.Common.{◌≡◌, ◌∙◌, ◌-◌, ap, drop, subst, sym, take}
+use Rattle.std.proofs.Common.{◌∙◌, ◌-◌, ap, drop, subst, sym, take}
 use Rattle.js_session.specs.declared.report.Report.{Report}
 use Rattle.js_session.specs.Live.{report_live}
 use Rattle.js_relex.specs.LiveLists.{AreWithin, live_lengths, more_lengths}

@@ -1,4 +1,4 @@
-use Rattle.std.proofs.Common.{◌-◌, ◌≡◌, ◌∙◌, [], ◌++◌, ap, drop, length, map, subst, take}
+use Rattle.std.proofs.Common.{◌-◌, ◌≡◌, ◌∙◌, [], ◌++◌, ap, drop, length, map, take}
 use Rattle.js_session.specs.declared.report.Report.{Report}
 use Rattle.js_session.specs.Live.{nothing_live, report_with}
 use Rattle.js_session.specs.Shifted.{shifted_row}

@@ -1,4 +1,4 @@
-use Rattle.std.proofs.Common.{◌≡◌, ◌∙◌, ◌+◌, ap, subst, sym, length}
+use Rattle.std.proofs.Common.{◌∙◌, ap, subst, sym}
 use Rattle.js_session.specs.declared.report.Report.{Report}
 use Rattle.js_relex.specs.Documents.{DocState, IsDocument, IsGathered}
 use Rattle.js_relex.specs.Documents.{joining}

@@ -1,4 +1,4 @@
-use Rattle.std.proofs.Common.{◌≡◌, ◌∙◌, ◌+◌, ◌-◌, ap, sym, subst, take, drop, get_or, length, inl, inr}
+use Rattle.std.proofs.Common.{◌≡◌, ◌∙◌, ◌-◌, ap, sym, subst, take, drop, get_or, length, inl, inr}
 use Rattle.std.specs.Prelude.{◌⊎◌, IfOk, OnErr}
 use Rattle.std.specs.List.{list_all}
 use Rattle.js_session.specs.Effects.{is_lasting}

@@ -1,6 +1,5 @@
-use Rattle.std.proofs.Common.{◌≡◌, ◌∙◌, ◌-◌, ◌++◌, ap, drop, length, map, sym, take, List}
+use Rattle.std.proofs.Common.{◌∙◌, ◌-◌, ◌++◌, ap, drop, length, map, sym, take}
 use Rattle.js_session.specs.declared.report.Report.{Report}
-use Rattle.js_session.specs.declared.row.Row.{Row}
 use Rattle.js_session.specs.Shifted.{shifted_row}
 use Rattle.js_relex.proofs.OutlineLemmas.{outlines_replaced}
 use Rattle.js_relex.proofs.outlined.OutlinedReport.replace.Goals as goal
