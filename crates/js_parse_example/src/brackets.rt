@@ -1,6 +1,6 @@
 //! What encloses lists of expressions.
 
-ghost use Rattle.std.specs.Prelude.{◌≡◌, ◌≤◌, ◌<◌, ◌≢◌, IfOk, IsTrue, OnOk};
+ghost use Rattle.std.specs.Prelude.{◌≤◌, ◌<◌, ◌≢◌, IfOk, IsTrue, OnOk};
 ghost use Rattle.js_cursor.specs.Cursor.{StartsLater};
 
 use crate::node::NodeKind;

@@ -1,8 +1,6 @@
 //! What operands begin with.
 
-ghost use Rattle.std.specs.Prelude.{◌≡◌, ◌≤◌, true};
-ghost use Rattle.js_kind.specs.Kinds.{is_one_of};
-ghost use Rattle.js_grammar.specs.ReLexed.{again_kinds};
+ghost use Rattle.std.specs.Prelude.{◌≤◌};
 
 use crate::arrow::{arrow_head, is_arrow};
 use crate::brackets::{Brackets, open};

@@ -1,6 +1,6 @@
 //! What the parts of the parser share: the cursor, and the nodes of single tokens.
 
-ghost use Rattle.std.specs.Prelude.{◌≡◌, ◌≤◌, ◌<◌, ◌^◌};
+ghost use Rattle.std.specs.Prelude.{◌≤◌, ◌<◌, ◌^◌};
 
 use crate::node::NodeKind;
 use crate::tree::Trees;
