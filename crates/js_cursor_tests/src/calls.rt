@@ -26,6 +26,7 @@ enum Step {
     BumpAny,
     Bump(Kind),
     Expect(Kind),
+    ExpectClosing(Kind, Span),
     ExpectAlternative(Span),
     ExpectJsxChild(Kind),
     Asi,
@@ -40,6 +41,7 @@ fn take_step(cursor: &mut TestCursor<'_>, step: Step) -> Result<(), AllocError> 
         Step::BumpAny => cursor.bump_any(),
         Step::Bump(kind) => cursor.bump(kind),
         Step::Expect(kind) => cursor.expect(kind),
+        Step::ExpectClosing(kind, opening) => cursor.expect_closing(kind, opening),
         Step::ExpectAlternative(question) => cursor.expect_conditional_alternative(question),
         Step::ExpectJsxChild(kind) => cursor.expect_jsx_child(kind),
         Step::Asi => cursor.asi(),
@@ -75,13 +77,21 @@ fn fault_of(cursor: &TestCursor<'_>) -> (Option<CursorDiagnostic>, bool) {
 }
 
 /// A source, calls, and the token that is current behind them.
-static STANDS: [(&str, &[Step], (Kind, u32, u32)); 8] = [
+static STANDS: [(&str, &[Step], (Kind, u32, u32)); 9] = [
     ("a b", &[Step::Bump(Kind::Ident)], (Kind::Ident, 2, 3)),
     ("a;b", &[Step::BumpAny, Step::Asi], (Kind::Ident, 2, 3)),
     (
         "a b",
         &[Step::Expect(Kind::Ident), Step::Asi, Step::BumpAny],
         (Kind::Eof, 3, 3),
+    ),
+    (
+        "[]",
+        &[
+            Step::BumpAny,
+            Step::ExpectClosing(Kind::RBrack, Span { start: 0, end: 1 }),
+        ],
+        (Kind::Eof, 2, 2),
     ),
     (
         ">x<",

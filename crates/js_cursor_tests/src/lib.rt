@@ -1,13 +1,11 @@
-//! Tests of js_cursor, by its public calls, and a small parser over it. They stand in a crate of their own, since a
-//! crate's functions are proved again with its tests.
+//! Tests of js_cursor, by its public calls. They stand in a crate of their own, since a crate's functions are proved
+//! again with its tests.
 #![tactic(auto)]
 
 #[cfg(test)]
 mod calls;
 #[cfg(test)]
 mod first;
-#[cfg(test)]
-mod json;
 #[cfg(test)]
 mod lexing;
 #[cfg(test)]

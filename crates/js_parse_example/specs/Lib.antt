@@ -1,0 +1,2 @@
+pub mod Arrow
+pub mod Trees
