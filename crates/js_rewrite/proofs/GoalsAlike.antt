@@ -651,7 +651,7 @@ child_alike text other zs t before there place q o v d module_is same_before rea
     }
 
 -- the string of an attribute: it has a quote
-string_here : (here : List ℕ) (r : Reading) → jsx_string_reading here ≡ Some r → r.diagnostics ≡ []
+pub string_here : (here : List ℕ) (r : Reading) → jsx_string_reading here ≡ Some r → r.diagnostics ≡ []
     → (begins is_quote here ≡ true) × (r.kind ≡ Str)
 string_here [] r found clean = absurd (let no : None ≡ Some r = found in cc)
 string_here (c ∷ cs) r found clean = by_quote (is_quote c) found

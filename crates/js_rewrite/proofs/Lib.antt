@@ -1,3 +1,4 @@
+pub mod BareRows
 pub mod BlankGaps
 pub mod Causes
 pub mod Following
