@@ -73,6 +73,7 @@ abbrev pub js_lex_usage : List ℕ
 js_lex_usage =
     codes "usage: js_lex module|script|unambiguous tokens|no-tokens all|auto|COMMAND[*N].. or js_lex gen N"
     ++ codes " or js_lex strip module|script|unambiguous all|COMMAND[*N].."
+    ++ codes " or js_lex squeeze module|script|unambiguous all|COMMAND[*N].."
 
 -- The statuses in the order in which a run tests for them. OutOfMemory is not among them: it may come at any time. No
 -- run tests for both Diagnosed and NoMark.

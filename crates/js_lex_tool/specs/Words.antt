@@ -18,7 +18,7 @@ use Rattle.js_lex_tool.specs.declared.words.CommandLine.{CommandLine}
 use Rattle.js_lex_tool.specs.declared.words.Commands.{Commands}
 use Rattle.js_lex_tool.specs.declared.words.Commands.TheVariants.{Listed, All, Auto}
 use Rattle.js_lex_tool.specs.declared.words.Rewrite.{Rewrite}
-use Rattle.js_lex_tool.specs.declared.words.Rewrite.TheVariants.{Strip}
+use Rattle.js_lex_tool.specs.declared.words.Rewrite.TheVariants.{Strip, Squeeze}
 use Rattle.js_lex_tool.specs.declared.words.Rewriting.{Rewriting}
 use Rattle.js_lex_tool.specs.declared.words.Task.{Task}
 use Rattle.js_lex_tool.specs.declared.words.Task.TheVariants.{Lex, Generate, WriteAnew}
@@ -118,7 +118,7 @@ lines_in (first ∷ number ∷ other ∷ words) = None
 
 -- the words for the ways to write a source anew
 abbrev pub rewrite_words : List (List ℕ × Rewrite)
-rewrite_words = (codes "strip", Strip) ∷ []
+rewrite_words = (codes "strip", Strip) ∷ (codes "squeeze", Squeeze) ∷ []
 
 -- something, unless something else was found
 abbrev pub unless_found : {A B : Type 0} → Option A → B → Option B
@@ -166,7 +166,7 @@ IsAllowed (Generate lines) = (1 ≤ lines) × (lines ≤ most_lines)
 IsAllowed (WriteAnew r) = MayRewrite r.source_type r.commands
 
 -- What words ask for: so many lines, what a command line says, or a source that is written anew. No words are two of
--- these, since neither `gen` nor `strip` is a source type.
+-- these, since none of `gen`, `strip` and `squeeze` is a source type.
 abbrev pub task_in : List (List ℕ) → Option Task
 task_in words =
     option_or (option_map Generate (lines_in words))

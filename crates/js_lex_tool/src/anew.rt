@@ -21,6 +21,7 @@ use crate::words::{Commands, Rewrite, Rewriting};
 use crate::write_all::write_status;
 use js_rewrite::RewriteFault;
 use js_session::{Command, CommandList, LexFault, Report};
+use js_squeeze::{Squeezed, squeeze};
 use js_strip::{Stripped, strip};
 use js_text::{ByteList, SourceText, SourceType};
 use std::alloc::Global;
@@ -84,6 +85,26 @@ fn make_stripped(
     }
 }
 
+/// The squeezed source, and the report of the commands over the source.
+fn make_squeezed(
+    alloc: Global,
+    source: &[u8],
+    source_type: SourceType,
+    commands: &[Command],
+) -> Result<(SourceText, Report), RewriteFault>
+    ensures report { IfOk result (λ made. ReportOf source.now source_type false commands.now made.1) }
+    ensures text { IfOk result (λ made. made.0 ≡ text_anew Rewrite.Squeeze source.now made.1) }
+    ensures keeps { IfOk result (λ made. KeepsRows source.now source_type commands.now made.1 made.0) }
+    ensures ok { OnOk result ((fault : RewriteFault) → ¬ (RewriteCause source.now source_type commands.now fault)) }
+    ensures cause { IfErr result (λ fault. (fault ≡ RewriteFault.Memory)
+        ⊎ RewriteCause source.now source_type commands.now fault) }
+{
+    match squeeze(alloc, source, source_type, commands) {
+        Ok(Squeezed { text, before, .. }) => Ok((text, before)),
+        Err(fault) => Err(fault),
+    }
+}
+
 /// The text that is made of a source, and the report of the commands over the source.
 fn make_anew(
     alloc: Global,
@@ -101,6 +122,7 @@ fn make_anew(
 {
     match rewrite {
         Rewrite::Strip => make_stripped(alloc, source, source_type, commands),
+        Rewrite::Squeeze => make_squeezed(alloc, source, source_type, commands),
     }
 }
 

@@ -37,6 +37,7 @@ pub const PROGRAM: &str = "js_lex";
 pub const USAGE_LINE: &str = concat!(
     "usage: js_lex module|script|unambiguous tokens|no-tokens all|auto|COMMAND[*N].. or js_lex gen N",
     " or js_lex strip module|script|unambiguous all|COMMAND[*N]..",
+    " or js_lex squeeze module|script|unambiguous all|COMMAND[*N]..",
 );
 
 /// The line that tells why a program stops before it is done, without its line end.

@@ -42,6 +42,8 @@ pub struct CommandLine {
 pub enum Rewrite {
     /// Without its comments.
     Strip,
+    /// Without its comments, and with no more white space than its tokens need.
+    Squeeze,
 }
 
 /// How a source is written anew.
@@ -231,6 +233,7 @@ fn parse_rewrite(word: &str) -> Option<Rewrite>
 {
     match word {
         "strip" => Some(Rewrite::Strip),
+        "squeeze" => Some(Rewrite::Squeeze),
         _ => None,
     }
 }

@@ -44,12 +44,22 @@ const CHOICE: &str = concat!(
 const SUMMARY: &str = "gen 1 bytes 21 rows 8 tokens 8 comments 1 diagnostics 0\n";
 
 /// Words, a source, and the text that is written. Generated lines are lexed whatever the source is.
-static TEXTS: [(&str, &str, &str); 44] = [
+static TEXTS: [(&str, &str, &str); 50] = [
     ("strip module all", "a/*x*/b // y\nc", "a b  \nc"),
     ("strip module all", "a /*\n*/ b", "a \n b"),
     ("strip script all", "a<!--x\n-->y", "a \n "),
     ("strip module", "/*x*/a/*y*/", " a/*y*/"),
     ("strip module next*2 regex next", "x=/a///b", "x=/a/ "),
+    (
+        "squeeze module all",
+        "let  x = /* c */ \"a\" + 1 ;\ny",
+        "let x=\"a\"+1;\ny",
+    ),
+    ("squeeze module all", "a - -b", "a - -b"),
+    ("squeeze module all", "1 .x", "1 .x"),
+    ("squeeze module all", "#\\u{61} in x", "#\\u{61} in x"),
+    ("squeeze script all", "f ( x )", "f(x)"),
+    ("squeeze module next*2 regex next", "x = /a/ // b", "x=/a/"),
     ("gen 1", "", SUMMARY),
     (
         "gen 10",
@@ -548,7 +558,7 @@ fn a_whole_file(rt: HostRuntime) -> Result<(), Fail> {
 }
 
 /// Words, a source, and the status that comes of them.
-static REFUSALS: [(&str, &[u8], u8); 42] = [
+static REFUSALS: [(&str, &[u8], u8); 47] = [
     ("gen", b"a", USAGE),
     ("gen 0", b"a", USAGE),
     ("gen 01", b"a", USAGE),
@@ -585,6 +595,11 @@ static REFUSALS: [(&str, &[u8], u8); 42] = [
     ("strip module all", b"1x", DIAGNOSED),
     ("strip module jsx-child", b">}", DIAGNOSED),
     ("strip script all", b"a /*", DIAGNOSED),
+    ("squeeze", b"a", USAGE),
+    ("squeeze module auto", b"a", USAGE),
+    ("squeeze script next jsx-child", b"1x", USAGE),
+    ("squeeze module all", b"1x\xff", NOT_UTF8),
+    ("squeeze module all", b"1x", DIAGNOSED),
     ("module no-tokens all", b"a\xff", NOT_UTF8),
     ("module no-tokens auto", b"/a\xff", NOT_UTF8),
     ("module no-tokens", b"a\xe2\x82", NOT_UTF8),
@@ -612,7 +627,7 @@ fn commands_run(alloc: Global, words: &str, source: &[u8]) -> Result<Option<usiz
 }
 
 /// Words, a source, and how many commands these mean for it.
-static COUNTS: [(&str, &[u8], usize); 10] = [
+static COUNTS: [(&str, &[u8], usize); 11] = [
     ("gen 1", b"", 7),
     ("gen 10", b"\xff", 70),
     ("module no-tokens all", b"", 0),
@@ -623,6 +638,7 @@ static COUNTS: [(&str, &[u8], usize); 10] = [
     ("module no-tokens auto", b"a/b", 3),
     ("strip module all", b"a/*x*/b", 2),
     ("strip module next", b"a/*x*/b", 1),
+    ("squeeze module all", b"a /*x*/ b", 2),
 ];
 
 #[test]

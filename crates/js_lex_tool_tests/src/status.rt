@@ -15,6 +15,7 @@ static LINES: [(u8, &str); 9] = [
         concat!(
             "js_lex: usage: js_lex module|script|unambiguous tokens|no-tokens all|auto|COMMAND[*N].. or js_lex gen N",
             " or js_lex strip module|script|unambiguous all|COMMAND[*N]..",
+            " or js_lex squeeze module|script|unambiguous all|COMMAND[*N]..",
         ),
     ),
     (3, "js_lex: cannot read input"),
