@@ -60,7 +60,7 @@ static CASES: [Case; 6] = [
         source_type: SourceType::Module,
         commands: &[N, Command::TsLAngle, N],
         source: "f << T",
-        left: "f <<T",
+        left: "f<< T",
         tokens: &[
             (Kind::Ident, true),
             (Kind::ShiftLeft, false),
@@ -87,7 +87,11 @@ static CASES: [Case; 6] = [
         commands: &[Command::Regex, N],
         source: "/x/ in",
         left: "/x/ in",
-        tokens: &[(Kind::Slash, true), (Kind::RegExp, true), (Kind::In, false)],
+        tokens: &[
+            (Kind::Slash, true),
+            (Kind::RegExp, false),
+            (Kind::In, false),
+        ],
     },
 ];
 
