@@ -59,7 +59,7 @@ static TEXTS: [(&str, &str, &str); 50] = [
     ("squeeze module all", "1 .x", "1 .x"),
     ("squeeze module all", "#\\u{61} in x", "#\\u{61} in x"),
     ("squeeze script all", "f ( x )", "f(x)"),
-    ("squeeze module next*2 regex next", "x = /a/ // b", "x=/a/"),
+    ("squeeze module next*2 regex next", "x = /a/ // b", "x= /a/"),
     ("gen 1", "", SUMMARY),
     (
         "gen 10",
