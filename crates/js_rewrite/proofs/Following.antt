@@ -1,7 +1,7 @@
 -- What follows a token in a text, and in another text in which a gap behind it is left out or is a blank.
-use Rattle.std.proofs.Common.{◌≡◌, ℕ, Bool, true, false, not, ◌||◌, ◌&&◌, ◌==◌, List, [], ◌∷◌, ◌++◌, length, drop}
-use Rattle.std.proofs.Common.{refl, sym, ◌∙◌, ap, subst, Option, Some, None, inl, inr, ◌⊎◌}
-use Rattle.std.specs.Prelude.{codes, unwrap_or}
+use Rattle.std.proofs.Common.{◌≡◌, ℕ, Bool, true, false, ◌||◌, ◌&&◌, ◌==◌, List, [], ◌∷◌, ◌++◌, length, drop}
+use Rattle.std.proofs.Common.{refl, sym, ◌∙◌, ap, Some, None, inl, inr, ◌⊎◌}
+use Rattle.std.specs.Prelude.{unwrap_or}
 use Rattle.std.specs.List.{last_or, list_all}
 use Rattle.std.proofs.lemmas.Bool.{and_parts, eqb-true}
 use Rattle.js_text.specs.Ascii.{full_stop, hyphen_minus}
@@ -9,13 +9,9 @@ use Rattle.js_text.specs.Characters.{begins, is_line_terminator, is_white_space}
 use Rattle.js_text.specs.declared.source_type.SourceType.{SourceType}
 use Rattle.js_kind.specs.declared.kind.Kind.{Kind}
 use Rattle.js_grammar.specs.Gap.{Piece, is_prefix, piece}
-use Rattle.js_grammar.specs.Punctuators.{Exclusion, excludes}
-use Rattle.js_grammar.specs.Punctuators.Exclusion.{excludes_nothing, excludes_digits, excludes_asterisk}
-use Rattle.js_grammar.specs.Punctuators.Exclusion.{excludes_reported_comment}
 use Rattle.js_grammar.proofs.BlankedGaps.{PieceIs, piece_is}
 use Rattle.js_grammar.proofs.BlankedGaps.PieceIs.{white, line, a_comment}
-use Rattle.js_grammar.proofs.NumberItems.{true_or_false}
-use Rattle.js_grammar.proofs.Without.{FailsBlanks, FailsMarks, begins_comment, comment_begins, mark_fails, no_close}
+use Rattle.js_grammar.proofs.Without.{FailsBlanks, begins_comment, comment_begins}
 use Rattle.js_grammar.proofs.Without.{true_is_not_false}
 use Rattle.js_rewrite.specs.Space.{begins_as_word, ends_as_word, is_operator, meets}
 

@@ -1,7 +1,7 @@
 -- What other goals read without a fault is read the same where another text follows it.
-use Rattle.std.proofs.Common.{◌≡◌, ℕ, ◌≤◌, Bool, true, false, not, ◌||◌, ◌&&◌, ◌==◌, List, [], ◌∷◌, ◌++◌, length}
-use Rattle.std.proofs.Common.{drop, refl, sym, ◌∙◌, ap, subst, arith, append_assoc, Some, None, inl, inr, ◌⊎◌}
-use Rattle.std.specs.Prelude.{codes, if◌then◌else◌, nat_lt}
+use Rattle.std.proofs.Common.{◌≡◌, ℕ, Bool, true, false, not, ◌||◌, ◌&&◌, ◌==◌, List, [], ◌∷◌, ◌++◌, length}
+use Rattle.std.proofs.Common.{drop, refl, sym, ◌∙◌, ap, subst, append_assoc, Some, None, inl, inr}
+use Rattle.std.specs.Prelude.{if◌then◌else◌, nat_lt}
 use Rattle.std.specs.List.{list_all}
 use Rattle.std.proofs.lemmas.Bool.{and_parts, eqb-true}
 use Rattle.std.proofs.lemmas.List.{append_cancel_right}
@@ -16,8 +16,7 @@ use Rattle.js_kind.specs.Kinds.{kind_text}
 use Rattle.js_kind.specs.declared.kind.Kind.{Kind}
 use Rattle.js_kind.specs.declared.kind.Kind.TheVariants.{Eof, JSXText, LAngle, LCurly}
 use Rattle.js_grammar.specs.Angle.{angle_reading, punctuator_reading}
-use Rattle.js_grammar.specs.Blanks.{kind_of}
-use Rattle.js_grammar.specs.Gap.{Piece, is_prefix, piece}
+use Rattle.js_grammar.specs.Gap.{is_prefix}
 use Rattle.js_grammar.specs.Jsx.{begins_child, ends_jsx_name, ends_jsx_text, jsx_child_reading, jsx_name_reading}
 use Rattle.js_grammar.specs.Jsx.{jsx_name_up_to, jsx_text_before, jsx_text_reading, reported}
 use Rattle.js_grammar.specs.NumberReads.{empty_span}
@@ -25,7 +24,7 @@ use Rattle.js_grammar.specs.Reading.{Reading, before_rest, read_up_to, size_of}
 use Rattle.js_grammar.specs.RegularExpression.{behind_body, ends_flags, is_flag_character, regular_expression}
 use Rattle.js_grammar.specs.UnicodeEscape.{left_curly_bracket}
 use Rattle.js_grammar.proofs.Ahead.{nothing_before}
-use Rattle.js_grammar.proofs.AgainReadings.{PassesBlanks, StopsBoth, false_when, hyphen_goes_on, stops_both, whole_first}
+use Rattle.js_grammar.proofs.AgainReadings.{PassesBlanks, false_when, hyphen_goes_on, stops_both, whole_first}
 use Rattle.js_grammar.proofs.AgainReadings.{module_begins}
 use Rattle.js_grammar.proofs.BlankedGaps.{PieceIs, piece_is}
 use Rattle.js_grammar.proofs.BlankedGaps.PieceIs.{white, line, a_comment}
@@ -36,9 +35,9 @@ use Rattle.js_grammar.proofs.GoalsAhead.{ReadsSame, jsx_child_local, none_same, 
 use Rattle.js_grammar.proofs.NumberItems.{true_or_false}
 use Rattle.js_grammar.proofs.StringLaws.{not_empty}
 use Rattle.js_grammar.proofs.Tests.{prefix_is, prefix_of}
-use Rattle.js_grammar.proofs.Without.{FailsMarks, mark_fails, true_is_not_false}
+use Rattle.js_grammar.proofs.Without.{true_is_not_false}
 use Rattle.js_rewrite.specs.Space.{begins_as_word, is_operator, meets}
-use Rattle.js_rewrite.proofs.Following.{BeginsGap, Follows, are_operators, gap_begins, kept_before, last_character}
+use Rattle.js_rewrite.proofs.Following.{BeginsGap, Follows, are_operators, kept_before, last_character}
 use Rattle.js_rewrite.proofs.Following.{mark_here}
 use Rattle.js_rewrite.proofs.Following.Follows.{same, kept, line_end, space, joined, nothing_left}
 

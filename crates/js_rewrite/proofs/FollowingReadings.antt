@@ -1,6 +1,6 @@
 -- What is read without a fault where a gap has ended is read the same where another text follows it.
 use Rattle.std.proofs.Common.{◌≡◌, ℕ, ◌<◌, ◌≤◌, Bool, true, false, not, ◌||◌, ◌&&◌, ◌==◌, List, [], ◌∷◌, ◌++◌, length}
-use Rattle.std.proofs.Common.{drop, refl, sym, ◌∙◌, ap, subst, arith, Some, None, inl, inr, ◌⊎◌}
+use Rattle.std.proofs.Common.{drop, refl, sym, ◌∙◌, ap, subst, arith, Some, inl, inr, ◌⊎◌}
 use Rattle.std.specs.Prelude.{codes, nat_eq, nat_le}
 use Rattle.std.specs.Char.{is_ascii_digit}
 use Rattle.std.specs.List.{list_all}
@@ -9,7 +9,7 @@ use Rattle.std.proofs.lemmas.Bool.{and_parts, eqb-true}
 use Rattle.std.proofs.lemmas.List.{append_cancel_right}
 use Rattle.std.proofs.lemmas.Bool.Decides.{nat_tests}
 use Rattle.unicode_ident.proofs.Computing.{unicode_ident}
-use Rattle.js_text.specs.Ascii.{asterisk, backslash, full_stop, grave_accent, number_sign}
+use Rattle.js_text.specs.Ascii.{asterisk, full_stop, grave_accent, number_sign}
 use Rattle.js_text.specs.Characters.{begins, is_identifier_part, is_identifier_start, is_irregular_whitespace}
 use Rattle.js_text.specs.Characters.{is_line_terminator, is_white_space}
 use Rattle.js_text.specs.SourceType.{is_module}
@@ -20,7 +20,7 @@ use Rattle.js_kind.specs.declared.kind.Kind.{Kind}
 use Rattle.js_kind.specs.declared.kind.Kind.TheVariants.{Decimal, NoSubstitutionTemplate, PrivateIdentifier, RegExp}
 use Rattle.js_kind.specs.declared.kind.Kind.TheVariants.{TemplateHead}
 use Rattle.js_kind.proofs.NameKinds.{name_kind-is_identifier_name}
-use Rattle.js_grammar.specs.Gap.{Piece, is_prefix, piece}
+use Rattle.js_grammar.specs.Gap.{is_prefix}
 use Rattle.js_grammar.specs.Goals.{ReadsHere}
 use Rattle.js_grammar.specs.Goals.ReadsHere.{spelled, recovers}
 use Rattle.js_grammar.specs.Name.{IsName, continues_name, name_reading, private_reading}
@@ -47,7 +47,6 @@ use Rattle.js_grammar.proofs.NameLaws.{good_private_name, name_is_read, private_
 use Rattle.js_grammar.proofs.NameReadings.{name_reads_here, private_reads_here}
 use Rattle.js_grammar.proofs.NumberBegins.{number_begins}
 use Rattle.js_grammar.proofs.NumberClasses.{all_below, below, or_true}
-use Rattle.js_grammar.proofs.NumberItems.{true_or_false}
 use Rattle.js_grammar.proofs.NumberLaws.{number_is_read}
 use Rattle.js_grammar.proofs.NumberReadings.{number_reads_here}
 use Rattle.js_grammar.proofs.PunctuatorLemmas.{passes_at, some_text, spelled_at}
@@ -61,11 +60,11 @@ use Rattle.js_grammar.proofs.Tests.{and_true, prefix_is, prefix_of}
 use Rattle.js_grammar.proofs.Unique.{reading_unique}
 use Rattle.js_grammar.proofs.Without.{FailsBlanks, begins_comment, no_close, true_is_not_false}
 use Rattle.js_rewrite.specs.Space.{begins_as_word, ends_as_word, is_operator, meets}
-use Rattle.js_rewrite.proofs.Following.{BeginsGap, Behind, FailsGaps, Follows, FollowsToken, Meets, are_operators}
-use Rattle.js_rewrite.proofs.Following.{begins_here, begins_there, gap_begins, gap_fails, kept_before, last_character}
+use Rattle.js_rewrite.proofs.Following.{BeginsGap, FailsGaps, Follows, FollowsToken, Meets, are_operators}
+use Rattle.js_rewrite.proofs.Following.{begins_here, begins_there, gap_fails, kept_before, last_character}
 use Rattle.js_rewrite.proofs.Following.{mark_here, none_begin, nothing_behind, operators_meet}
 use Rattle.js_rewrite.proofs.Following.Follows.{same, kept, line_end, space, joined, nothing_left}
-use Rattle.js_rewrite.proofs.NumberEnds.{digit_is_part, excluded_is_part, number_ends}
+use Rattle.js_rewrite.proofs.NumberEnds.{excluded_is_part, number_ends}
 
 implies : (a b : Bool) → (not a || b) ≡ true → a ≡ true → b ≡ true
 implies true b e h = e

@@ -1,19 +1,23 @@
 -- The gap before a token that is read without a fault.
-use Rattle.std.proofs.Common.{◌≡◌, ◌≢◌, ℕ, ◌+◌, ◌<◌, ◌≤◌, Bool, true, false, ◌||◌, ◌==◌, List, [], ◌∷◌, ◌++◌, length}
-use Rattle.std.proofs.Common.{refl, sym, ◌∙◌, ap, subst, arith, length-append, Option, Some, None, inl, inr, ◌⊎◌}
+use Rattle.std.proofs.Common.{◌≡◌, ◌≢◌, ℕ, ◌≤◌, Bool, true, false, ◌||◌, ◌==◌, List, [], ◌∷◌, ◌++◌, length}
+use Rattle.std.proofs.Common.{refl, sym, ◌∙◌, ap, subst, arith, Option, Some, None, inl, inr, ◌⊎◌}
+use Rattle.std.specs.Prelude.{is_none}
 use Rattle.std.specs.Str.{IsCharBoundary, IsUtf8}
 use Rattle.std.proofs.lemmas.Bool.{eqb-true}
 use Rattle.js_text.specs.Characters.{begins, from_place, is_irregular_whitespace, is_line_terminator, is_white_space}
 use Rattle.js_text.specs.declared.source_type.SourceType.{SourceType}
 use Rattle.js_text.proofs.TextLemmas.{place_unique}
 use Rattle.js_kind.specs.TokenParts.{TokenParts}
+use Rattle.js_grammar.specs.Attach.{attach}
 use Rattle.js_grammar.specs.Gap.{Piece, Pieces, WholeGap, piece, whole_gap_piece}
+use Rattle.js_grammar.specs.GapItems.{token_before}
 use Rattle.js_grammar.specs.Goals.{GoalReads, ReadsAttributeValue, ReadsBehindGap, ReadsJsxChild, ReadsPlainly}
 use Rattle.js_grammar.specs.Goals.{line_has_ended_behind, with_gap}
 use Rattle.js_grammar.specs.Goals.ReadsAttributeValue.{string, plain}
 use Rattle.js_grammar.specs.Goals.ReadsPlainly.{hashbang, behind_gap}
 use Rattle.js_grammar.specs.Hashbang.{begins_hashbang}
 use Rattle.js_grammar.specs.Outcome.{Outcome, gap_diagnostics, outcome_at}
+use Rattle.js_grammar.specs.PieceItems.{gap_of}
 use Rattle.js_grammar.specs.Reads.{is_onward}
 use Rattle.js_grammar.specs.declared.goal.Goal.{Goal}
 use Rattle.js_grammar.specs.declared.goal.Goal.TheVariants.{First, Next, TemplateTail, RegularExpression, RightAngle}
@@ -24,9 +28,10 @@ use Rattle.js_grammar.proofs.BlankedGaps.PieceIs.{white, line, a_comment}
 use Rattle.js_grammar.proofs.GapLemmas.{piece_takes}
 use Rattle.js_grammar.proofs.NumberClasses.{or_true}
 use Rattle.js_grammar.proofs.Without.{FailsMarks, comment_begins, mark_fails, true_is_not_false}
+use Rattle.js_rewrite.proofs.BlankGaps.{gap_comments, no_gap}
 use Rattle.js_rewrite.proofs.Following.{BeginsGap}
-use Rattle.js_rewrite.proofs.GoalsAlike.{behind_gap_line, string_line}
-use Rattle.js_rewrite.proofs.ReadAlike.{quiet_parts}
+use Rattle.js_rewrite.proofs.GoalsAlike.{GapsFor, behind_gap_line, string_line}
+use Rattle.js_rewrite.proofs.ReadAlike.{StandsAlike, quiet_parts}
 
 -- The gap before a token, in which nothing is reported.
 pub record GapParts (text : List ℕ) (t : SourceType) (before : Option TokenParts) (place : ℕ) (o : Outcome) : Type 0
@@ -38,6 +43,9 @@ pub record GapParts (text : List ℕ) (t : SourceType) (before : Option TokenPar
     pub quiet : gap_diagnostics place pieces ≡ []
     pub flag : o.token.is_on_new_line ≡ has
     pub start : IsCharBoundary text o.token.start
+    pub gap_token : TokenParts
+    pub comments : o.findings.comments
+        ≡ attach (gap_of (is_none before) (token_before before) place pieces gap_token)
 
 parts_behind_gap : (text : List ℕ) (t : SourceType) (before : Option TokenParts) (place : ℕ) (o : Outcome)
     → ReadsBehindGap text t before place o → o.findings.diagnostics ≡ [] → GapParts text t before place o
@@ -50,9 +58,13 @@ parts_behind_gap text t before place o reads clean = record {
       (sym (ap (λ (x : Outcome). x.findings.diagnostics) reads.outcome_is) ∙ clean)).0;
   flag = behind_gap_line text t before place o reads clean;
   start = reads.start;
+  gap_token = (outcome_at reads.line_has_ended o.token.start reads.reading).token;
+  comments =
+      ap (λ (x : Outcome). x.findings.comments) reads.outcome_is
+      ∙ gap_comments t before place reads.pieces (outcome_at reads.line_has_ended o.token.start reads.reading) refl;
 }
 
-parts_of_attribute : (text : List ℕ) (t : SourceType) (before : Option TokenParts) (place : ℕ) (o : Outcome)
+pub parts_of_attribute : (text : List ℕ) (t : SourceType) (before : Option TokenParts) (place : ℕ) (o : Outcome)
     → ReadsAttributeValue text t before place o → o.findings.diagnostics ≡ [] → GapParts text t before place o
 parts_of_attribute text t before place o (plain no_quote reads) clean =
     parts_behind_gap text t before place o reads clean
@@ -72,9 +84,13 @@ parts_of_attribute text t before place o (string reads) clean =
           ap (λ (x : Outcome). x.token.is_on_new_line) whole
           ∙ ap (λ b. b || has) (string_line (from_place text o.token.start) from.found from.read_is);
       start = from.begins;
+      gap_token = (outcome_at has o.token.start from.found).token;
+      comments =
+          ap (λ (x : Outcome). x.findings.comments) whole
+          ∙ gap_comments t before place reads.pieces (outcome_at has o.token.start from.found) refl;
     }
 
-parts_plainly : (text : List ℕ) (t : SourceType) (goal : Goal) (before : Option TokenParts) (place : ℕ) (o : Outcome)
+pub parts_plainly : (text : List ℕ) (t : SourceType) (goal : Goal) (before : Option TokenParts) (place : ℕ) (o : Outcome)
     → begins_hashbang goal text place ≡ false → ReadsPlainly text t goal before place o → o.findings.diagnostics ≡ []
     → GapParts text t before place o
 parts_plainly text t goal before place o none (hashbang begins_it reads) clean =
@@ -223,3 +239,17 @@ no_pieces text t nl place (x ∷ xs) has start g quiet same =
         let takes = piece_takes t ended here x g.0 in
         let later = shorter t x.line_has_ended x.rest xs has rest g.1 in
         omega (arith, takes, later)
+
+-- Where the token stands at the place in both texts, there is no gap in either.
+pub gaps_at : (text other zs : List ℕ) (t : SourceType) (before there : Option TokenParts) (place q : ℕ) (o : Outcome)
+    → is_none before ≡ is_none there → o.token.start ≡ place
+    → StandsAlike text other t o.token.kind place o.token.end q zs → GapsFor text other t before there place q o zs
+gaps_at text other zs t before there place q o same_before start stands = λ pieces has gap quiet flag. record {
+  characters = stands.characters;
+  here = ap (from_place text) start ∙ stands.here;
+  follows = stands.follows;
+  gap =
+      no_gap other t there q has (stands.characters ++ zs) stands.there_is
+      (no_pieces text t (line_has_ended_behind before) place pieces has o.token.start gap.pieces_are quiet start
+      ∙ same_before);
+}

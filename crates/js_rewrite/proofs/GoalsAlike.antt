@@ -1,5 +1,5 @@
 -- What a goal reads in a text is read in another one where the same characters stand, and other ones follow.
-use Rattle.std.proofs.Common.{◌≡◌, ◌≢◌, ℕ, zero, suc, ◌+◌, ◌<◌, ◌≤◌, Bool, true, false, ◌==◌, List, [], ◌∷◌, ◌++◌, length}
+use Rattle.std.proofs.Common.{◌≡◌, ◌≢◌, ℕ, ◌+◌, ◌<◌, ◌≤◌, Bool, true, false, ◌==◌, List, [], ◌∷◌, ◌++◌, length}
 use Rattle.std.proofs.Common.{drop, refl, sym, ◌∙◌, ap, subst, arith, Option, Some, None, append_assoc, inl, inr}
 use Rattle.std.proofs.Common.{length-append, not, ◌||◌}
 use Rattle.std.specs.Prelude.{codes, if◌then◌else◌, IfSome, is_none}

@@ -141,3 +141,25 @@ again_starts text t JsxIdentifier token place o off read =
     from_starts text false token.start (jsx_name_reading read.part (from_place text token.end)) o read.reads
 again_starts text t JsxChild token place o off read = absurd (cc)
 again_starts text t JsxAttributeValue token place o off read = absurd (cc)
+
+-- where a row that read the token again starts, and what a row holds that did not
+pub taken_starts : (text : List ℕ) (t : SourceType) (goal : Goal) (s : State) (token : TokenParts) (row : Row)
+    → is_onward goal ≡ false → last_live s.now ≡ Some token → IsOfEffect text t s.now (re_lexes goal) row
+    → row.taken ≡ true → StartsThere token.start (outcome_of row)
+taken_starts text t goal s token row off last is taken =
+    by_flag (fits text goal (token_or_default (last_live s.now))) is
+  where
+    by_flag : (b : Bool) → MatchBool b (IsReLexed text t s.now goal row) (IsNotTaken s.now row)
+        → StartsThere token.start (outcome_of row)
+    by_flag true is =
+        again_starts text t goal token token.start (outcome_of row) off
+        (subst (λ l. GoalReads text t goal l (token_or_default l).start (outcome_of row)) last is.reads)
+    by_flag false is = absurd (let no : true ≡ false = sym taken ∙ is.taken in cc)
+
+pub not_taken_is : (text : List ℕ) (t : SourceType) (goal : Goal) (s : State) (row : Row)
+    → IsOfEffect text t s.now (re_lexes goal) row → row.taken ≡ false → IsNotTaken s.now row
+not_taken_is text t goal s row is taken = by_flag (fits text goal (token_or_default (last_live s.now))) is
+  where
+    by_flag : (b : Bool) → MatchBool b (IsReLexed text t s.now goal row) (IsNotTaken s.now row) → IsNotTaken s.now row
+    by_flag true is = absurd (let no : true ≡ false = sym is.taken ∙ taken in cc)
+    by_flag false is = is

@@ -1,7 +1,7 @@
 -- The last character of a number: one that goes on with a name, or a point.
-use Rattle.std.proofs.Common.{◌≡◌, ℕ, ◌<◌, ◌≤◌, Bool, true, false, not, ◌||◌, ◌==◌, List, [], ◌∷◌, ◌++◌, drop, refl, sym}
+use Rattle.std.proofs.Common.{◌≡◌, ℕ, ◌≤◌, Bool, true, false, not, ◌||◌, ◌==◌, List, [], ◌∷◌, ◌++◌, drop, refl, sym}
 use Rattle.std.proofs.Common.{◌∙◌, ap, subst, arith, append-nil, append_assoc, Option, Some, None, inl, inr, ◌⊎◌}
-use Rattle.std.specs.Prelude.{codes, nat_le, nat_lt, unwrap_or}
+use Rattle.std.specs.Prelude.{codes, unwrap_or}
 use Rattle.std.specs.List.{last_or, list_all}
 use Rattle.std.proofs.lemmas.Bool.{and_parts, eqb-true}
 use Rattle.unicode_ident.specs.Ident.{is_xid_continue, is_xid_start}
@@ -11,8 +11,8 @@ use Rattle.js_text.specs.Ascii.{full_stop, low_line}
 use Rattle.js_text.specs.Characters.{begins, is_identifier_part, is_identifier_start}
 use Rattle.js_kind.specs.Digits.{is_digit_of}
 use Rattle.js_kind.specs.declared.kind.Kind.{Kind}
-use Rattle.js_grammar.specs.Number.{Is, IsBeforePoint, IsExponent, IsFloatExponent, IsNumber, IsOptional, Item, are_digits}
-use Rattle.js_grammar.specs.Number.{broken, digit_zero, digits_on, integer, item-cons, may_not_follow_number, run}
+use Rattle.js_grammar.specs.Number.{Is, IsExponent, IsFloatExponent, IsNumber, IsOptional, Item, are_digits}
+use Rattle.js_grammar.specs.Number.{digit_zero, digits_on, integer, may_not_follow_number, run}
 use Rattle.js_grammar.specs.Number.{sign_text, whole}
 use Rattle.js_grammar.specs.Number.IsExponent.{exponent}
 use Rattle.js_grammar.specs.Number.IsLegacyDecimal.{legacy as legacy_decimal_digits}

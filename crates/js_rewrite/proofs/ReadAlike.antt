@@ -1,8 +1,7 @@
 -- Readings of a text and of another one, in which the same characters are read, and other ones follow.
-use Rattle.std.proofs.Common.{◌≡◌, ℕ, ◌+◌, ◌≤◌, Bool, true, false, List, [], ◌∷◌, ◌++◌, refl, sym, ◌∙◌, ap}
+use Rattle.std.proofs.Common.{◌≡◌, ℕ, ◌+◌, Bool, true, false, List, [], ◌∷◌, ◌++◌, refl, sym, ◌∙◌, ap}
 use Rattle.std.proofs.Common.{subst, Option, Some, None}
-use Rattle.std.specs.Prelude.{◌&&◌, codes, if◌then◌else◌, is_none}
-use Rattle.std.specs.List.{list_all}
+use Rattle.std.specs.Prelude.{◌&&◌, codes, if◌then◌else◌}
 use Rattle.std.specs.Option.{option_map}
 use Rattle.std.specs.Str.{IsCharBoundary, IsUtf8}
 use Rattle.std.proofs.lemmas.List.{append_cancel_right}
@@ -11,11 +10,11 @@ use Rattle.js_text.specs.SourceType.{is_module}
 use Rattle.js_text.specs.declared.source_type.SourceType.{SourceType}
 use Rattle.js_kind.specs.TokenParts.{TokenParts}
 use Rattle.js_kind.specs.declared.kind.Kind.{Kind}
-use Rattle.js_grammar.specs.Gap.{Piece, Pieces, WholeGap, block_comment, has_html_comments, is_prefix, is_reported}
-use Rattle.js_grammar.specs.Gap.{line_comment, one_character, piece, whole_gap_piece}
+use Rattle.js_grammar.specs.Gap.{Piece, Pieces, has_html_comments, is_prefix, is_reported}
+use Rattle.js_grammar.specs.Gap.{line_comment, one_character, whole_gap_piece}
 use Rattle.js_grammar.specs.Gap.PieceKind.{white_space, line_terminator, single_line_comment, html_open_comment}
 use Rattle.js_grammar.specs.Gap.PieceKind.{html_close_comment, reported_comment}
-use Rattle.js_grammar.specs.Goals.{ReadsBehindGap, ReadsFrom, ReadsHere, line_has_ended_behind, with_gap}
+use Rattle.js_grammar.specs.Goals.{ReadsBehindGap, ReadsFrom, line_has_ended_behind, with_gap}
 use Rattle.js_grammar.specs.Outcome.{Findings, Outcome, gap_diagnostics, outcome_at}
 use Rattle.js_grammar.specs.Reading.{Reading, moved_diagnostics, moved_regex, moved_value, place_behind, reported_at}
 use Rattle.js_grammar.specs.Reading.{size_of}

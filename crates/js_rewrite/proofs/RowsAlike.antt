@@ -1,5 +1,5 @@
 -- The rows of a session over a text, and of one over another text in which the same characters are read.
-use Rattle.std.proofs.Common.{◌≡◌, ◌≢◌, ℕ, ◌<◌, ◌≤◌, Bool, true, false, ◌&&◌, List, [], ◌∷◌, ◌++◌, length}
+use Rattle.std.proofs.Common.{◌≡◌, ◌≢◌, ℕ, ◌<◌, Bool, true, false, ◌&&◌, List, [], ◌∷◌, ◌++◌, length}
 use Rattle.std.proofs.Common.{refl, sym, ◌∙◌, ap, subst, arith, append_assoc, Option, Some, None}
 use Rattle.std.specs.Prelude.{◌==◌, ◌||◌, MatchBool}
 use Rattle.std.specs.Option.{option_map}
@@ -9,7 +9,6 @@ use Rattle.std.proofs.lemmas.List.{append_cancel_right}
 use Rattle.std.proofs.lemmas.Str.{encodes-append}
 use Rattle.js_text.specs.Ascii.{full_stop, hyphen_minus}
 use Rattle.js_text.specs.Characters.{begins, from_place, is_identifier_part}
-use Rattle.js_text.specs.SourceType.{is_module}
 use Rattle.js_text.specs.declared.reg_exp_flags.RegexInfo.{RegexInfo}
 use Rattle.js_text.specs.declared.source_type.SourceType.{SourceType}
 use Rattle.js_text.specs.declared.value.RowValue.TheVariants.{Nothing}
@@ -39,7 +38,7 @@ use Rattle.js_session.specs.Effects.{Effect}
 use Rattle.js_session.specs.Effects.Effect.{reads, re_lexes}
 use Rattle.js_session.specs.Live.{State, after_row, last_live, outcome_of, place_behind_last}
 use Rattle.js_session.specs.Report.{IsNotTaken, IsOfEffect, IsReLexed, IsRead}
-use Rattle.js_rewrite.specs.Space.{begins_as_word, ends_as_word, is_operator, meets}
+use Rattle.js_rewrite.specs.Space.{begins_as_word, ends_as_word, is_operator}
 use Rattle.js_rewrite.proofs.Following.{Follows, FollowsToken, Meets, begins_here, last_character}
 use Rattle.js_rewrite.proofs.GoalsAlike.{GapsFor, GoalAlike, again_alike, append_cancel_left, name_cut}
 use Rattle.js_rewrite.proofs.GoalsAlike.{name_goes_on, onward_alike}

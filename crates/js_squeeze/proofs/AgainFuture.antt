@@ -1,9 +1,9 @@
 -- What follows a token that is read again.
-use Rattle.std.proofs.Common.{◌≡◌, ◌≢◌, ℕ, ◌+◌, ◌<◌, ◌≤◌, Bool, true, false, ◌&&◌, ◌||◌, ◌==◌, List, [], ◌∷◌, ◌++◌, length}
-use Rattle.std.proofs.Common.{drop, refl, sym, ◌∙◌, ap, subst, arith, append_assoc, append-nil, length-append, Option, Some, None, inl, inr}
-use Rattle.std.proofs.Common.{◌⊎◌, not, zero, suc}
+use Rattle.std.proofs.Common.{◌≡◌, ◌≢◌, ℕ, ◌<◌, Bool, true, false, ◌&&◌, ◌==◌, List, [], ◌∷◌, ◌++◌, length}
+use Rattle.std.proofs.Common.{drop, refl, sym, ◌∙◌, ap, subst, arith, append_assoc, append-nil, length-append, Some, None, inl, inr}
+use Rattle.std.proofs.Common.{◌⊎◌, not}
 use Rattle.std.specs.Prelude.{unwrap_or}
-use Rattle.std.specs.List.{last_or, list_all}
+use Rattle.std.specs.List.{list_all}
 use Rattle.std.specs.Str.{IsUtf8, encode_utf8_all}
 use Rattle.std.proofs.lemmas.Bool.{and_parts}
 use Rattle.std.proofs.lemmas.List.{append_cancel_right}
@@ -16,10 +16,8 @@ use Rattle.js_text.proofs.TextLemmas.{place_past}
 use Rattle.js_kind.specs.Kinds.{is_identifier_name, is_one_of, kind_text}
 use Rattle.js_kind.specs.TokenParts.{TokenParts}
 use Rattle.js_kind.specs.declared.kind.Kind.{Kind}
-use Rattle.js_kind.specs.declared.kind.Kind.TheVariants.{Eof}
 use Rattle.js_kind.proofs.Members.{one_passes}
 use Rattle.js_grammar.specs.Goals.{GoalReads, ReadsJsxName}
-use Rattle.js_grammar.specs.Outcome.{Outcome}
 use Rattle.js_grammar.specs.ReLexed.{HasSpelling, again_kinds, fits}
 use Rattle.js_grammar.specs.Reads.{is_onward}
 use Rattle.js_grammar.specs.declared.goal.Goal.{Goal}
@@ -43,7 +41,7 @@ use Rattle.js_rewrite.proofs.LastTokens.{IsQuiet}
 use Rattle.js_rewrite.proofs.NumberEnds.{last_over}
 use Rattle.js_squeeze.specs.SqueezeText.{first_reads}
 use Rattle.js_squeeze.proofs.Future.{Future}
-use Rattle.js_squeeze.proofs.Written.{characters, characters_here, final, written}
+use Rattle.js_squeeze.proofs.Written.{characters, characters_here}
 
 -- A text that is cut twice: what is in front of one cut is in front of the other, with what is between them.
 cut_twice : (xs us ys zs : List ℕ) → xs ++ ys ≡ us ++ zs

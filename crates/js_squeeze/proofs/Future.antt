@@ -1,38 +1,24 @@
 -- What follows a token in its text, and in the squeezed text.
-use Rattle.std.proofs.Common.{◌≡◌, ◌≢◌, ℕ, ◌+◌, ◌<◌, ◌≤◌, Bool, true, false, ◌&&◌, ◌||◌, ◌==◌, List, [], ◌∷◌, ◌++◌, length}
-use Rattle.std.proofs.Common.{drop, refl, sym, ◌∙◌, ap, subst, arith, append_assoc, Option, Some, None, inl, inr, ◌⊎◌, not}
-use Rattle.std.specs.Prelude.{if◌then◌else◌, MatchBool, slice_get, unwrap_or, nat_lt}
-use Rattle.std.specs.List.{AllByRecursion, last_or, list_all}
-use Rattle.std.specs.Str.{IsCharBoundary, IsUtf8, chars}
-use Rattle.std.proofs.lemmas.Bool.{and_parts, eq-eqb, eqb-true}
-use Rattle.std.proofs.lemmas.List.{append_cancel_right}
-use Rattle.js_text.specs.Characters.{begins, from_place, is_line_terminator}
-use Rattle.js_text.specs.SourceType.{is_module}
+use Rattle.std.proofs.Common.{◌≡◌, ◌≢◌, ℕ, Bool, true, false, ◌==◌, List, [], ◌∷◌, ◌++◌}
+use Rattle.std.proofs.Common.{refl, sym, ◌∙◌, ap, subst, Option, Some, None, inl, inr, ◌⊎◌}
+use Rattle.std.specs.Prelude.{if◌then◌else◌, slice_get, unwrap_or}
+use Rattle.std.specs.List.{last_or}
+use Rattle.std.specs.Str.{IsUtf8}
+use Rattle.std.proofs.lemmas.Bool.{eq-eqb, eqb-true}
+use Rattle.js_text.specs.Characters.{from_place}
 use Rattle.js_text.specs.declared.source_type.SourceType.{SourceType}
-use Rattle.js_text.proofs.TextLemmas.{place_past}
-use Rattle.js_kind.specs.Kinds.{is_identifier_name, is_one_of, kind_text}
 use Rattle.js_kind.specs.TokenParts.{TokenParts}
 use Rattle.js_kind.specs.declared.kind.Kind.{Kind}
-use Rattle.js_kind.specs.declared.kind.Kind.TheVariants.{Eof}
 use Rattle.js_grammar.specs.Gap.{piece}
-use Rattle.js_grammar.specs.Goals.{GoalReads}
-use Rattle.js_grammar.specs.Reads.{is_onward}
-use Rattle.js_grammar.specs.declared.goal.Goal.{Goal}
-use Rattle.js_grammar.proofs.NumberItems.{true_or_false}
 use Rattle.js_grammar.proofs.Without.{true_is_not_false}
-use Rattle.js_lexer.specs.Lexer.{IsOnPlaces, token_or_default}
-use Rattle.js_session.specs.declared.command.Command.{Command}
+use Rattle.js_lexer.specs.Lexer.{IsOnPlaces}
 use Rattle.js_session.specs.declared.row.Row.{Row}
-use Rattle.js_session.specs.Effects.{Effect, effect_of}
-use Rattle.js_session.specs.Effects.Effect.{reads, peeks, re_lexes, opens, rewinds, commits}
-use Rattle.js_session.specs.Live.{State, after_row, last_live, outcome_of, place_behind_last}
-use Rattle.js_session.specs.Report.{IsOfEffect, IsRead}
+use Rattle.js_session.specs.Live.{outcome_of}
 use Rattle.js_rewrite.specs.Space.{ends_as_word, meets, need_space}
-use Rattle.js_rewrite.proofs.Following.{Follows, FollowsToken, kept_before, last_character, nothing_behind}
-use Rattle.js_rewrite.proofs.Following.Follows.{same, kept, line_end, space, joined, nothing_left}
-use Rattle.js_rewrite.proofs.GapsBefore.{Gapped, at_or_gapped, onward_parts}
-use Rattle.js_rewrite.proofs.LastTokens.{IsLast, IsQuiet, Rewrites}
-use Rattle.js_squeeze.specs.SqueezeText.{first_reads, reads_on, separator_behind, token_text}
+use Rattle.js_rewrite.proofs.Following.{FollowsToken, kept_before, last_character, nothing_behind}
+use Rattle.js_rewrite.proofs.Following.Follows.{same, line_end, space, joined, nothing_left}
+use Rattle.js_rewrite.proofs.GapsBefore.{Gapped}
+use Rattle.js_squeeze.specs.SqueezeText.{first_reads, separator_behind}
 use Rattle.js_squeeze.proofs.Written.{characters, characters_here, final, written}
 
 -- What is written from a token on begins with the token, and what is behind it follows it as in the text. Where there

@@ -26,7 +26,7 @@ use Rattle.js_squeeze.specs.SqueezeText.{first_reads, reads_on}
 use Rattle.js_squeeze.proofs.AgainFuture.{again_future, again_some_characters}
 use Rattle.js_squeeze.proofs.Ends.{onward_ends}
 use Rattle.js_squeeze.proofs.Future.{EndsText, Future, no_row, read_future}
-use Rattle.js_squeeze.proofs.Written.{TokensLie, characters, final, written}
+use Rattle.js_squeeze.proofs.Written.{TokensLie, characters, final}
 
 -- What follows a token, and where it and the tokens behind it lie.
 pub record Onward (text : List ℕ) (t : SourceType) (token : TokenParts) (rows : List Row) : Type 0 where

@@ -1,5 +1,5 @@
 -- The reports of a source and of the squeezed source have the same rows.
-use Rattle.std.proofs.Common.{◌≡◌, ℕ, ◌≤◌, Bool, true, false, ◌&&◌, ◌||◌, ◌==◌, List, [], ◌∷◌, ◌++◌, length}
+use Rattle.std.proofs.Common.{◌≡◌, ℕ, Bool, true, false, List, [], ◌∷◌, ◌++◌}
 use Rattle.std.proofs.Common.{refl, sym, ◌∙◌, ap, subst, append_assoc, drop, Option, Some, None}
 use Rattle.std.specs.Prelude.{codes, if◌then◌else◌, MatchBool}
 use Rattle.std.specs.List.{AllByRecursion, AllZip, filter, last_or, list_all}
@@ -11,18 +11,17 @@ use Rattle.js_text.specs.Characters.{from_place, is_identifier_start}
 use Rattle.js_text.specs.Lists.{with_last}
 use Rattle.js_text.specs.declared.source_type.SourceType.{SourceType}
 use Rattle.js_kind.specs.TokenParts.{TokenParts}
-use Rattle.js_grammar.specs.Gap.{Piece, WholeGap, is_prefix}
-use Rattle.js_grammar.specs.Goals.{GoalReads, ReadsHere, ReadsPlainly}
+use Rattle.js_grammar.specs.Gap.{is_prefix}
+use Rattle.js_grammar.specs.Goals.{GoalReads, ReadsHere}
 use Rattle.js_grammar.specs.Goals.ReadsPlainly.{hashbang, behind_gap}
 use Rattle.js_grammar.specs.Hashbang.{begins_hashbang}
-use Rattle.js_grammar.specs.Name.{begins_name, no_private_name, private_reading}
-use Rattle.js_grammar.specs.Outcome.{Outcome, gap_diagnostics}
+use Rattle.js_grammar.specs.Name.{no_private_name, private_reading}
+use Rattle.js_grammar.specs.Outcome.{Outcome}
 use Rattle.js_grammar.specs.Reading.{Reading}
 use Rattle.js_grammar.specs.ReLexed.{fits}
 use Rattle.js_grammar.specs.declared.goal.Goal.TheVariants.{First}
 use Rattle.js_grammar.proofs.KindTexts.{goal_reads_spelling}
 use Rattle.js_grammar.proofs.NameReadings.{private_reads_here}
-use Rattle.js_grammar.proofs.Spans.{here_is_taken}
 use Rattle.js_grammar.proofs.StringLaws.{not_empty}
 use Rattle.js_grammar.proofs.Tests.{prefix_is}
 use Rattle.js_grammar.proofs.Unique.{goal_reads_unique, reading_unique}
@@ -46,14 +45,14 @@ use Rattle.js_rewrite.proofs.FollowingReadings.{clean_follows}
 use Rattle.js_rewrite.proofs.GapsBefore.{started_ended}
 use Rattle.js_rewrite.proofs.GoalsAlike.{GapsFor, GoalAlike, first_alike}
 use Rattle.js_rewrite.proofs.LastTokens.{IsLast, IsQuiet, Rewrites, lasting_of, rewrites}
-use Rattle.js_rewrite.proofs.ReadAlike.{ReadAlike, StandsAlike, quiet_parts}
+use Rattle.js_rewrite.proofs.ReadAlike.{ReadAlike, quiet_parts}
 use Rattle.js_rewrite.proofs.RowsAlike.{Beside, rows_alike}
 use Rattle.js_squeeze.specs.SqueezeText.{first_reads, reads_on, squeeze_text, squeezed}
 use Rattle.js_squeeze.proofs.Ends.{onward_ends}
 use Rattle.js_squeeze.proofs.Future.{EndsText}
 use Rattle.js_squeeze.proofs.Futures.{Onward, onward}
 use Rattle.js_squeeze.proofs.SqueezedRows.{runs_alike}
-use Rattle.js_squeeze.proofs.Written.{TokensLie, characters, characters_here, final, finals, squeezed_written, written}
+use Rattle.js_squeeze.proofs.Written.{TokensLie, characters, characters_here, finals, squeezed_written}
 
 -- the last of some tokens is replaced
 with_last_behind : (front : List TokenParts) (a b : TokenParts) → with_last (front ++ a ∷ []) b ≡ front ++ b ∷ []

@@ -1,7 +1,6 @@
 -- The rows of a source and of the squeezed source are the same.
-use Rattle.std.proofs.Common.{◌≡◌, ◌≢◌, ℕ, ◌≤◌, Bool, true, false, ◌==◌, List, [], ◌∷◌, ◌++◌, length}
-use Rattle.std.proofs.Common.{refl, sym, ◌∙◌, ap, subst, Option, Some, None, append_assoc}
-use Rattle.std.specs.Prelude.{MatchBool}
+use Rattle.std.proofs.Common.{◌≡◌, ℕ, Bool, true, false, List, [], ◌∷◌, ◌++◌}
+use Rattle.std.proofs.Common.{refl, sym, ◌∙◌, ap, subst, Some}
 use Rattle.std.specs.List.{AllByRecursion, AllZip, list_all}
 use Rattle.std.specs.Str.{IsUtf8}
 use Rattle.std.proofs.lemmas.Bool.{and_parts, eq-eqb}
@@ -13,8 +12,6 @@ use Rattle.js_kind.specs.declared.kind.Kind.{Kind}
 use Rattle.js_grammar.specs.Gap.{Piece, WholeGap}
 use Rattle.js_grammar.specs.Goals.{GoalReads, line_has_ended_behind}
 use Rattle.js_grammar.specs.Outcome.{gap_diagnostics}
-use Rattle.js_grammar.specs.ReLexed.{fits}
-use Rattle.js_grammar.specs.Reads.{is_onward}
 use Rattle.js_grammar.specs.declared.goal.Goal.{Goal}
 use Rattle.js_grammar.specs.declared.goal.Goal.TheVariants.{JsxChild}
 use Rattle.js_lexer.specs.Lexer.{IsOnPlaces, token_or_default}
@@ -24,14 +21,15 @@ use Rattle.js_session.specs.declared.row.Row.{Row}
 use Rattle.js_session.specs.Effects.{Effect, effect_of, row_effect}
 use Rattle.js_session.specs.Effects.Effect.{reads, peeks, re_lexes, opens, rewinds, commits}
 use Rattle.js_session.specs.Live.{State, after_row, last_live, outcome_of, place_behind_last}
-use Rattle.js_session.specs.Report.{IsNotTaken, IsOfEffect, IsReLexed, Run}
+use Rattle.js_session.specs.Report.{IsOfEffect, Run}
 use Rattle.js_session.proofs.LastingRuns.{lasting_steps}
 use Rattle.js_rewrite.specs.Faults.{may_rewrite}
 use Rattle.js_rewrite.proofs.BareRows.{IsBare}
 use Rattle.js_rewrite.proofs.BlankGaps.{line_end_gap, no_gap, space_gap}
 use Rattle.js_rewrite.proofs.GapsBefore.{child_starts, no_pieces}
 use Rattle.js_rewrite.proofs.GoalsAlike.{GapsFor, append_cancel_left}
-use Rattle.js_rewrite.proofs.LastTokens.{IsLast, IsQuiet, Rewrites, again_starts, last_behind, lasting_of, rewrites}
+use Rattle.js_rewrite.proofs.LastTokens.{IsLast, IsQuiet, Rewrites, last_behind, lasting_of, not_taken_is, rewrites}
+use Rattle.js_rewrite.proofs.LastTokens.{taken_starts}
 use Rattle.js_rewrite.proofs.ReadAlike.{BlankGap, StandsAlike}
 use Rattle.js_rewrite.proofs.RowsAlike.{Beside, StepAlike, re_lex_step, read_step}
 use Rattle.js_squeeze.specs.SqueezeText.{first_reads, reads_on, separator_behind}
@@ -115,29 +113,6 @@ reads_alike text other t goal s q token there a b rows zs u v on command first h
           follows = f.follows;
         }
 
--- where a token that is read again starts, and which one is held that is not
-taken_starts : (text : List ℕ) (t : SourceType) (goal : Goal) (s : State) (token : TokenParts) (a : Row)
-    → is_onward goal ≡ false → last_live s.now ≡ Some token → IsOfEffect text t s.now (re_lexes goal) a
-    → a.taken ≡ true → a.token.start ≡ token.start
-taken_starts text t goal s token a off last is taken =
-    by_flag (fits text goal (token_or_default (last_live s.now))) is
-  where
-    by_flag : (b : Bool) → MatchBool b (IsReLexed text t s.now goal a) (IsNotTaken s.now a)
-        → a.token.start ≡ token.start
-    by_flag true is =
-        (again_starts text t goal token token.start (outcome_of a) off
-        (subst (λ l. GoalReads text t goal l (token_or_default l).start (outcome_of a)) last is.reads)).start_is
-    by_flag false is = absurd (let no : true ≡ false = sym taken ∙ is.taken in cc)
-
-not_taken_same : (text : List ℕ) (t : SourceType) (goal : Goal) (s : State) (token : TokenParts) (a : Row)
-    → last_live s.now ≡ Some token → IsOfEffect text t s.now (re_lexes goal) a → a.taken ≡ false → a.token ≡ token
-not_taken_same text t goal s token a last is taken =
-    by_flag (fits text goal (token_or_default (last_live s.now))) is
-  where
-    by_flag : (b : Bool) → MatchBool b (IsReLexed text t s.now goal a) (IsNotTaken s.now a) → a.token ≡ token
-    by_flag true is = absurd (let no : true ≡ false = sym is.taken ∙ taken in cc)
-    by_flag false is = is.token ∙ ap token_or_default last
-
 -- A row that reads the last token again, in each session.
 again_alike : (text other : List ℕ) (t : SourceType) (goal : Goal) (s q : State) (token there : TokenParts) (a b : Row)
     (rows : List Row) (zs : List ℕ) → IsUtf8 text → IsUtf8 other → Rewrites t (re_lexes goal) → a.command ≡ b.command
@@ -152,7 +127,7 @@ again_alike text other t goal s q token there a b rows zs u v on command again h
     let both : characters text token ++ zs ≡ xs ++ f.zs = sym whole ∙ (rw again refl) ∙ f.whole in
     re_lex_step text other t goal s q token there a b zs f.zs u v on command h quiet last other_last
     (λ taken.
-    let start = taken_starts text t goal s token a on.0 h.last.last_is is taken in
+    let start = (taken_starts text t goal s token a on.0 h.last.last_is is taken).start_is in
     record {
       characters = xs;
       here = ap (from_place text) (sym start) ∙ characters_here text a.token u lies;
@@ -162,7 +137,7 @@ again_alike text other t goal s q token there a b rows zs u v on command again h
       follows = f.follows;
     })
     (λ not_taken.
-    let same = not_taken_same text t goal s token a h.last.last_is is not_taken in
+    let same : a.token ≡ token = (not_taken_is text t goal s a is not_taken).token ∙ ap token_or_default h.last.last_is in
     append_cancel_left (characters text token) zs f.zs
     (both ∙ ap (λ x. characters text x ++ f.zs) same))
     is other_is

@@ -1,8 +1,8 @@
 -- The comments that rows find stand behind the last token before them, where nothing is reported.
-use Rattle.std.proofs.Common.{◌≡◌, ◌≢◌, ℕ, ◌+◌, ◌<◌, ◌≤◌, Bool, true, false, ◌&&◌, List, [], ◌∷◌, ◌++◌, length, drop}
-use Rattle.std.proofs.Common.{refl, sym, ◌∙◌, ap, subst, arith, Option, Some, None, inl, inr}
+use Rattle.std.proofs.Common.{◌≡◌, ℕ, ◌+◌, ◌<◌, ◌≤◌, Bool, true, false, ◌&&◌, List, [], ◌∷◌, ◌++◌, length, drop}
+use Rattle.std.proofs.Common.{refl, sym, ◌∙◌, ap, subst, arith, Option, inl, inr}
 use Rattle.std.proofs.Common.{◌⊎◌, not}
-use Rattle.std.specs.Prelude.{◌==◌, if◌then◌else◌, is_none, nat_lt}
+use Rattle.std.specs.Prelude.{◌==◌, is_none, nat_lt}
 use Rattle.std.specs.Char.{len_utf8}
 use Rattle.std.specs.List.{list_all}
 use Rattle.std.specs.Str.{IsCharBoundary, IsUtf8}
@@ -16,38 +16,33 @@ use Rattle.js_text.proofs.TextLemmas.{past_character, place_past}
 use Rattle.js_kind.specs.Kinds.{is_one_of, kind_text}
 use Rattle.js_kind.specs.TokenParts.{TokenParts}
 use Rattle.js_kind.specs.declared.kind.Kind.{Kind}
-use Rattle.js_kind.specs.declared.kind.Kind.TheVariants.{Eof, TemplateMiddle, TemplateTail as TailKind}
 use Rattle.js_kind.proofs.Members.{one_passes}
 use Rattle.js_lexer.specs.Lexer.{IsOnPlaces}
 use Rattle.js_session.specs.declared.row.Row.{Row}
-use Rattle.js_grammar.specs.Angle.{angle_reading, first_left_angle, first_right_angle, punctuator_reading}
-use Rattle.js_grammar.specs.Angle.{right_angles}
 use Rattle.js_grammar.specs.Attach.{attach}
-use Rattle.js_grammar.specs.Gap.{Piece, WholeGap, is_prefix, piece}
+use Rattle.js_grammar.specs.Gap.{Piece, WholeGap, piece}
 use Rattle.js_grammar.specs.GapItems.{token_before}
 use Rattle.js_grammar.specs.Goals.{GoalReads, ReadsAttributeValue, ReadsBehindGap, ReadsPlainly}
-use Rattle.js_grammar.specs.Goals.{line_has_ended_behind, next_part, with_gap}
+use Rattle.js_grammar.specs.Goals.{line_has_ended_behind, with_gap}
 use Rattle.js_grammar.specs.Goals.ReadsAttributeValue.{string, plain}
 use Rattle.js_grammar.specs.Goals.ReadsPlainly.{hashbang, behind_gap}
 use Rattle.js_grammar.specs.Outcome.{Outcome, gap_diagnostics, outcome_at}
 use Rattle.js_grammar.specs.PieceItems.{gap_of}
 use Rattle.js_grammar.specs.ReLexed.{HasSpelling, is_re_lexed}
-use Rattle.js_grammar.specs.Reading.{Reading}
 use Rattle.js_grammar.specs.Reads.{is_onward}
 use Rattle.js_grammar.specs.declared.goal.Goal.{Goal}
 use Rattle.js_grammar.specs.declared.goal.Goal.TheVariants.{First, Next, TemplateTail, RegularExpression, RightAngle}
 use Rattle.js_grammar.specs.declared.goal.Goal.TheVariants.{TypeScriptLeftAngle, TypeScriptRightAngle, JsxIdentifier}
 use Rattle.js_grammar.specs.declared.goal.Goal.TheVariants.{JsxChild, JsxAttributeValue}
 use Rattle.js_grammar.proofs.AtPlaces.{gap_end}
-use Rattle.js_grammar.proofs.Clean.{none_moved}
 use Rattle.js_grammar.proofs.GapLemmas.{piece_text}
 use Rattle.js_grammar.proofs.Reported.{append_nil}
 use Rattle.js_grammar.proofs.AgainReadings.{module_begins}
-use Rattle.js_strip.proofs.AlikeGoals.{expression_some, part_is_no_end}
-use Rattle.js_strip.proofs.AlikeReadings.{quiet_parts}
+use Rattle.js_rewrite.proofs.ReadAlike.{quiet_parts}
 use Rattle.js_grammar.proofs.BlankedGaps.{unreported_pieces}
-use Rattle.js_grammar.proofs.Without.{begins_comment, comment_begins, true_is_not_false}
-use Rattle.js_strip.proofs.Standing.{IsComment, StandBetween, child_none, gap_comments, no_hashbang_there, pieces_stand}
+use Rattle.js_grammar.proofs.Without.{begins_comment, comment_begins}
+use Rattle.js_strip.proofs.Standing.{IsComment, StandBetween, child_none, no_hashbang_there, pieces_stand}
+use Rattle.js_rewrite.proofs.BlankGaps.{gap_comments}
 
 clean_gap : (text : List ℕ) (t : SourceType) (before : Option TokenParts) (place : ℕ) (pieces : List Piece)
     (has : Bool) (inner o : Outcome) → IsUtf8 text → IsCharBoundary text place → IsCharBoundary text o.token.start
@@ -215,52 +210,6 @@ none_within text t token kinds c u lies spelled is slashes (inr marks) behind be
     (one_passes (all_later no_mark) kinds token.kind marks is) behind before in
     let mark : begins_comment inside.first ≡ true = sym (ap (begins begins_comment) inside.here) ∙ begun in
     let no : true ≡ false = sym inside.passes ∙ ap not mark in cc
-
--- the kind is not that of the end of the source
-abbrev no_end : Kind → Bool
-no_end k = not (is_one_of (Eof ∷ []) k)
-
--- What is read of a token again is not the end of the source.
-angle_some : (kinds : List Kind) (here : List ℕ) (r : Reading) → list_all no_end kinds ≡ true
-    → angle_reading kinds here ≡ Some r → r.kind ≢ Eof
-angle_some [] here r all found end = absurd (let none : None ≡ Some r = found in cc)
-angle_some (k ∷ ks) here r all found end =
-    let both = and_parts (no_end k) (list_all no_end ks) all in
-    by_mark both.0 (λ f. angle_some ks here r both.1 f end) (is_prefix (kind_text k) here) found
-  where
-    by_mark : no_end k ≡ true → (angle_reading ks here ≡ Some r → ⊥) → (b : Bool)
-        → (if b then Some (punctuator_reading k here) else angle_reading ks here) ≡ Some r → ⊥
-    by_mark other later true f =
-        let read : punctuator_reading k here ≡ r = cc in
-        let is_end : k ≡ Eof = ap (λ (x : Reading). x.kind) read ∙ end in
-        true_is_not_false (no_end Eof) (sym (ap no_end is_end) ∙ other) refl
-    by_mark other later false f = later f
-
-pub again_some : (text : List ℕ) (t : SourceType) (goal : Goal) (token : TokenParts) (place : ℕ) (o : Outcome)
-    → is_onward goal ≡ false → goal ≢ JsxIdentifier → GoalReads text t goal (Some token) place o
-    → o.findings.diagnostics ≡ [] → o.token.kind ≢ Eof
-again_some text t First token place o off no_name read clean = absurd (cc)
-again_some text t Next token place o off no_name read clean = absurd (cc)
-again_some text t TemplateTail token place o off no_name read clean = λ end.
-    part_is_no_end TemplateMiddle TailKind (from_place text token.start)
-    (none_moved token.start (next_part (from_place text token.start)).diagnostics
-    (sym (ap (λ (x : Outcome). x.findings.diagnostics) read.outcome_is) ∙ clean))
-    (λ no. absurd (cc)) (λ no. absurd (cc)) (sym (ap (λ (x : Outcome). x.token.kind) read.outcome_is) ∙ end)
-again_some text t RegularExpression token place o off no_name read clean = λ end.
-    expression_some (from_place text token.start) read.found read.read_is
-    (sym (ap (λ (x : Outcome). x.token.kind) read.outcome_is) ∙ end)
-again_some text t RightAngle token place o off no_name read clean = λ end.
-    angle_some right_angles (from_place text token.start) read.found refl read.read_is
-    (sym (ap (λ (x : Outcome). x.token.kind) read.outcome_is) ∙ end)
-again_some text t TypeScriptLeftAngle token place o off no_name read clean = λ end.
-    angle_some first_left_angle (from_place text token.start) read.found refl read.read_is
-    (sym (ap (λ (x : Outcome). x.token.kind) read.outcome_is) ∙ end)
-again_some text t TypeScriptRightAngle token place o off no_name read clean = λ end.
-    angle_some first_right_angle (from_place text token.start) read.found refl read.read_is
-    (sym (ap (λ (x : Outcome). x.token.kind) read.outcome_is) ∙ end)
-again_some text t JsxIdentifier token place o off no_name read clean = absurd (no_name refl)
-again_some text t JsxChild token place o off no_name read clean = absurd (cc)
-again_some text t JsxAttributeValue token place o off no_name read clean = absurd (cc)
 
 -- Comments that stand behind a token that was read again stand behind the token that it was.
 pub later_from : (text : List ℕ) (t : SourceType) (token : TokenParts) (kinds : List Kind) (end e : ℕ)

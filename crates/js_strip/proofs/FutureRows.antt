@@ -1,6 +1,6 @@
 -- The comments of rows in which nothing is reported stand behind the token before them.
-use Rattle.std.proofs.Common.{◌≡◌, ◌≢◌, ℕ, ◌<◌, ◌≤◌, Bool, true, false, ◌&&◌, ◌||◌, List, [], ◌∷◌, ◌++◌, length}
-use Rattle.std.proofs.Common.{refl, sym, ◌∙◌, ap, subst, Some, None, inl, inr, ◌⊎◌}
+use Rattle.std.proofs.Common.{◌≡◌, ◌≢◌, ℕ, ◌<◌, ◌≤◌, Bool, true, false, List, [], ◌∷◌, ◌++◌, length}
+use Rattle.std.proofs.Common.{refl, sym, ◌∙◌, ap, subst, Some, inl, inr, ◌⊎◌}
 use Rattle.std.specs.Prelude.{MatchBool}
 use Rattle.std.specs.List.{AllByRecursion, list_all}
 use Rattle.std.specs.Str.{IsCharBoundary, IsUtf8}
@@ -20,59 +20,19 @@ use Rattle.js_grammar.specs.declared.goal.Goal.TheVariants.{TypeScriptLeftAngle,
 use Rattle.js_grammar.specs.declared.goal.Goal.TheVariants.{JsxChild, JsxAttributeValue}
 use Rattle.js_grammar.proofs.AgainKinds.{again_is_re_lexed}
 use Rattle.js_grammar.proofs.GoalWays.{goal_reads_span}
-use Rattle.js_grammar.proofs.KindTexts.{goal_reads_spelling}
 use Rattle.js_lexer.specs.Lexer.{IsOnPlaces, token_or_default}
 use Rattle.js_session.specs.declared.command.Command.{Command}
-use Rattle.js_session.specs.declared.command.Command.TheVariants.{Next as NextCommand, JsxChild as ChildCommand}
-use Rattle.js_session.specs.declared.command.Command.TheVariants.{JsxAttr, Regex, TemplateTail as TailCommand, JsxName}
-use Rattle.js_session.specs.declared.command.Command.TheVariants.{RAngle, TsLAngle, TsRAngle, Peek, Mark, Rewind, Commit}
 use Rattle.js_session.specs.declared.row.Row.{Row}
-use Rattle.js_session.specs.Effects.{Effect, effect_of, is_lasting}
+use Rattle.js_session.specs.Effects.{Effect, effect_of}
 use Rattle.js_session.specs.Effects.Effect.{reads, peeks, re_lexes, opens, rewinds, commits}
 use Rattle.js_session.specs.Live.{State, after_row, last_live, outcome_of, place_behind_last}
 use Rattle.js_session.specs.Report.{IsNotTaken, IsOfEffect, IsReLexed, Run}
 use Rattle.js_session.proofs.LastingRuns.{lasting_steps}
-use Rattle.js_session.proofs.LiveLemmas.{last_or-push}
-use Rattle.js_session.proofs.LocalRuns.{replaced_last}
 use Rattle.js_rewrite.specs.Faults.{may_rewrite}
-use Rattle.js_strip.proofs.AlikeGoals.{name_grows}
-use Rattle.js_strip.proofs.FutureComments.{again_some, all_later, clean_onward, comments_of, later_from, no_mark, no_slash}
-use Rattle.js_strip.proofs.Standing.{StandBetween, again_starts, between_append, between_from}
-
--- nothing is reported in a row
-abbrev pub IsQuiet : Row → Type 0
-IsQuiet row = row.diagnostics ≡ []
-
--- The effects of commands with which a source of the type is stripped.
-abbrev pub Strips : SourceType → Effect → Type 0
-Strips t (reads goal) = (is_onward goal ≡ true) × (goal ≢ First) × (goal ≡ JsxChild → is_module t ≡ true)
-Strips t (peeks goal) = ⊥
-Strips t (re_lexes goal) = (is_onward goal ≡ false) × (goal ≡ TypeScriptLeftAngle → is_module t ≡ true)
-Strips t opens = ⊥
-Strips t rewinds = ⊥
-Strips t commits = ⊥
-
-module_only : (b : Bool) → (true && (b || false)) ≡ true → b ≡ true
-module_only true e = refl
-module_only false e = absurd (cc)
-
-pub strips : (t : SourceType) (c : Command) → may_rewrite t c ≡ true → Strips t (effect_of c)
-strips t NextCommand e = (refl, λ no. absurd (cc), λ no. absurd (cc))
-strips t ChildCommand e = (refl, λ no. absurd (cc), λ is. module_only (is_module t) e)
-strips t JsxAttr e = (refl, λ no. absurd (cc), λ no. absurd (cc))
-strips t Regex e = (refl, λ no. absurd (cc))
-strips t TailCommand e = (refl, λ no. absurd (cc))
-strips t JsxName e = (refl, λ no. absurd (cc))
-strips t RAngle e = (refl, λ no. absurd (cc))
-strips t TsLAngle e = (refl, λ is. module_only (is_module t) e)
-strips t TsRAngle e = (refl, λ no. absurd (cc))
-strips t Peek e = absurd (cc)
-strips t Mark e = absurd (cc)
-strips t Rewind e = absurd (cc)
-strips t Commit e = absurd (cc)
-
-pub lasting_of : (t : SourceType) (c : Command) → may_rewrite t c ≡ true → is_lasting c ≡ true
-lasting_of t c e = (and_parts (is_lasting c) _ e).0
+use Rattle.js_rewrite.proofs.GoalsAlike.{again_some, name_grows}
+use Rattle.js_rewrite.proofs.LastTokens.{IsLast, IsQuiet, Rewrites, again_starts, last_behind, lasting_of, rewrites}
+use Rattle.js_strip.proofs.FutureComments.{all_later, clean_onward, comments_of, later_from, no_mark, no_slash}
+use Rattle.js_strip.proofs.Standing.{StandBetween, between_append, between_from}
 
 -- Where comments stand behind what a goal read of a token again, they stand behind the token.
 behind_again : (text : List ℕ) (t : SourceType) (goal : Goal) (token : TokenParts) (place : ℕ) (row : Row) (e : ℕ)
@@ -121,49 +81,9 @@ behind_again text t goal token place row e comments u off in_module lies spelled
     by_goal JsxChild off in_module fit read = absurd (cc)
     by_goal JsxAttributeValue off in_module fit read = absurd (cc)
 
--- A token that is the last live one, and lies on the text with its spelling.
-pub record IsLast (text : List ℕ) (s : State) (token : TokenParts) : Type 0 where
-  pub last_is : last_live s.now ≡ Some token
-  pub lies : IsOnPlaces text token
-  pub spelled : HasSpelling text token
-
--- the token of a row is the last one behind it
-pub last_behind : (text : List ℕ) (t : SourceType) (effect : Effect) (row : Row) (s : State) (token : TokenParts)
-    → Strips t effect → IsLast text s token → IsOnPlaces text row.token → IsOfEffect text t s.now effect row
-    → IsLast text (after_row effect row s) row.token
-last_behind text t (reads goal) row s token on l lies is = record {
-  last_is = last_or-push None s.now.tokens row.token;
-  lies = lies;
-  spelled = goal_reads_spelling text t goal (last_live s.now) row.place (outcome_of row) is.reads;
-}
-last_behind text t (peeks goal) row s token on l lies is = absurd on
-last_behind text t opens row s token on l lies is = absurd on
-last_behind text t rewinds row s token on l lies is = absurd on
-last_behind text t commits row s token on l lies is = absurd on
-last_behind text t (re_lexes goal) row s token on l lies is =
-    by_flag (fits text goal (token_or_default (last_live s.now))) is
-  where
-    by_flag : (b : Bool) → MatchBool b (IsReLexed text t s.now goal row) (IsNotTaken s.now row)
-        → IsLast text (after_row (re_lexes goal) row s) row.token
-    by_flag true is =
-        rw is.taken (record {
-          last_is = replaced_last s.now.tokens token row.token l.last_is;
-          lies = lies;
-          spelled =
-              goal_reads_spelling text t goal (last_live s.now) (token_or_default (last_live s.now)).start
-              (outcome_of row) is.reads;
-        })
-    by_flag false is =
-        let same : row.token ≡ token = is.token ∙ ap token_or_default l.last_is in
-        rw is.taken (record {
-          last_is = l.last_is ∙ ap Some (sym same);
-          lies = lies;
-          spelled = subst (HasSpelling text) (sym same) l.spelled;
-        })
-
 -- The comments of a row and those that stand behind its token stand behind the token before it.
 row_stands : (text : List ℕ) (t : SourceType) (effect : Effect) (row : Row) (s : State) (token : TokenParts)
-    (comments : List Comment) → IsUtf8 text → Strips t effect → IsLast text s token → IsOnPlaces text row.token
+    (comments : List Comment) → IsUtf8 text → Rewrites t effect → IsLast text s token → IsOnPlaces text row.token
     → row.place ≡ place_behind_last s.now → IsOfEffect text t s.now effect row → IsQuiet row
     → StandBetween text (piece t) row.token.end comments (length text)
     → StandBetween text (piece t) token.end (row.comments ++ comments) (length text)
@@ -215,7 +135,7 @@ rows_future text t s (c ∷ cs) (row ∷ rows) token u may quiet l run =
     let both = and_parts (may_rewrite t c) (list_all (may_rewrite t) cs) may in
     let step = lasting_steps c (lasting_of t c both.0) in
     let here = rw step at run in
-    let on = strips t c both.0 in
+    let on = rewrites t c both.0 in
     let next = last_behind text t (effect_of c) row s token on l here.0.places.token here.0.gives in
     row_stands text t (effect_of c) row s token (comments_of rows) u on l here.0.places.token here.0.place
     here.0.gives quiet.0

@@ -1,5 +1,4 @@
-pub mod AlikeGoals
-pub mod AlikeReadings
+pub mod Followed
 pub mod FutureComments
 pub mod FutureRows
 pub mod SameReports

@@ -1,20 +1,24 @@
 -- The reports of a source and of the source without its comments have the same rows.
 use Rattle.std.proofs.Common.{◌≡◌, ℕ, Bool, true, false, List, [], ◌∷◌, ◌++◌, length, refl, sym, ◌∙◌, ap, subst, None}
-use Rattle.std.proofs.Common.{append-nil, append_assoc}
-use Rattle.std.specs.Prelude.{MatchBool}
+use Rattle.std.proofs.Common.{append-nil, append_assoc, arith}
+use Rattle.std.specs.Prelude.{MatchBool, codes}
 use Rattle.std.specs.List.{AllByRecursion, AllZip, list_all}
 use Rattle.std.specs.Str.{IsUtf8, chars}
 use Rattle.std.proofs.lemmas.Bool.{and_parts}
 use Rattle.std.proofs.lemmas.Str.{IsCharBoundary-start}
 use Rattle.js_text.specs.Characters.{from_place}
 use Rattle.js_text.specs.declared.source_type.SourceType.{SourceType}
-use Rattle.js_grammar.specs.Gap.{piece}
+use Rattle.js_text.specs.declared.comment.Comment.{Comment}
+use Rattle.js_grammar.specs.Gap.{is_prefix, piece}
 use Rattle.js_grammar.specs.Goals.{GoalReads}
+use Rattle.js_grammar.specs.Goals.ReadsPlainly.{hashbang, behind_gap}
+use Rattle.js_grammar.specs.Hashbang.{begins_hashbang}
+use Rattle.js_grammar.specs.Outcome.{Outcome}
 use Rattle.js_grammar.specs.ReLexed.{fits}
 use Rattle.js_grammar.specs.declared.goal.Goal.TheVariants.{First}
 use Rattle.js_grammar.proofs.KindTexts.{goal_reads_spelling}
 use Rattle.js_grammar.proofs.Unique.{goal_reads_unique}
-use Rattle.js_lexer.specs.Lexer.{token_or_default}
+use Rattle.js_lexer.specs.Lexer.{IsOnPlaces, token_or_default}
 use Rattle.js_session.specs.SameRows.{SameRow, SameRows}
 use Rattle.js_session.specs.declared.command.Command.{Command}
 use Rattle.js_session.specs.declared.report.Report.{Report}
@@ -28,18 +32,24 @@ use Rattle.js_session.proofs.LastingRuns.{lasting_steps}
 use Rattle.js_session.proofs.RunLemmas.{state_step}
 use Rattle.js_rewrite.specs.Faults.{may_rewrite}
 use Rattle.js_strip.specs.StripText.{StandInOrder, strip_text}
-use Rattle.js_strip.proofs.AlikeGoals.{GoalAlike, first_alike}
-use Rattle.js_strip.proofs.AlikeReadings.{ReadAlike}
+use Rattle.js_rewrite.proofs.BareRows.{IsStill, rows_still}
+use Rattle.js_rewrite.proofs.GapsBefore.{first_parts, gaps_at}
+use Rattle.js_rewrite.proofs.GoalsAlike.{GapsFor, GoalAlike, first_alike}
+use Rattle.js_rewrite.proofs.LastTokens.{IsLast, IsQuiet, Rewrites, lasting_of, rewrites}
+use Rattle.js_rewrite.proofs.ReadAlike.{ReadAlike, StandsAlike}
+use Rattle.js_rewrite.proofs.RowsAlike.{Beside, rows_alike}
+use Rattle.js_strip.proofs.Followed.{follows_without, gaps_stripped, stands_alike}
 use Rattle.js_strip.proofs.FutureComments.{clean_onward, comments_of}
-use Rattle.js_strip.proofs.FutureRows.{IsLast, IsQuiet, Strips, lasting_of, rows_future, strips}
+use Rattle.js_strip.proofs.FutureRows.{rows_future}
 use Rattle.js_strip.proofs.Standing.{StandBetween, between_append, between_from}
 use Rattle.js_strip.proofs.StrippedChars.{without_from}
-use Rattle.js_strip.proofs.StrippedRows.{Beside, IsBare, rows_alike, runs_alike}
+use Rattle.js_strip.proofs.StrippedRows.{left_behind, runs_alike}
 use Rattle.js_strip.proofs.StrippedText.{stripped_from, stripped_whole}
-use Rattle.js_grammar.proofs.Without.{Without}
+use Rattle.js_grammar.proofs.AgainReadings.{false_when}
+use Rattle.js_grammar.proofs.Without.{Without, prefix_from, true_is_not_false}
 
 -- the comments of a row are those that are live more
-row_live : (text : List ℕ) (t : SourceType) (effect : Effect) (row : Row) (s : State) → Strips t effect
+row_live : (text : List ℕ) (t : SourceType) (effect : Effect) (row : Row) (s : State) → Rewrites t effect
     → IsOfEffect text t s.now effect row
     → (after_row effect row s).now.findings.comments ≡ s.now.findings.comments ++ row.comments
 row_live text t (reads goal) row s on is = refl
@@ -74,50 +84,43 @@ rows_live text t s (c ∷ cs) (row ∷ rows) may run =
     ap (λ (x : State). x.now.findings.comments) (state_step s c cs row rows step)
     ∙ rows_live text t (after_row (effect_of c) row s) cs rows both.1 here.1
     ∙ ap (λ cs. cs ++ comments_of rows)
-    (row_live text t (effect_of c) row s (strips t c both.0) here.0.gives)
+    (row_live text t (effect_of c) row s (rewrites t c both.0) here.0.gives)
     ∙ append_assoc s.now.findings.comments row.comments (comments_of rows)
 
--- nothing is live of what is reported and of comments
-abbrev IsStill : State → Type 0
-IsStill s = (s.now.findings.diagnostics ≡ []) × (s.now.findings.comments ≡ [])
+-- A hashbang begins the other text only where one begins the text.
+no_hashbang : (t : SourceType) (text other : List ℕ) → Without t (from_place text 0) (from_place other 0)
+    → begins_hashbang First text 0 ≡ false → begins_hashbang First other 0 ≡ false
+no_hashbang t text other w none =
+    false_when (is_prefix (codes "#!") (from_place text 0)) (is_prefix (codes "#!") (from_place other 0))
+    (λ e. (prefix_from t (codes "#!") (from_place text 0) (from_place other 0) refl w e).here) none
 
-both_empty : {A : Type 0} (xs ys : List A) → xs ≡ [] → ys ≡ [] → xs ++ ys ≡ []
-both_empty xs ys e f = ap (λ zs. zs ++ ys) e ∙ f
+-- a hashbang has no comment before it, and starts at the start
+hashbang_comments : (text : List ℕ) (t : SourceType) (o : Outcome) → GoalReads text t First None 0 o
+    → begins_hashbang First text 0 ≡ true → o.findings.comments ≡ []
+hashbang_comments text t o (hashbang begins_it found) begun = ap (λ (x : Outcome). x.findings.comments) found.alone
+hashbang_comments text t o (behind_gap none found) begun = true_is_not_false (begins_hashbang First text 0) begun none
 
-still_behind : (effect : Effect) (row : Row) (s : State) → IsBare row → IsStill s → IsStill (after_row effect row s)
-still_behind (reads goal) row s bare still = (
-  both_empty s.now.findings.diagnostics row.diagnostics still.0 bare.0,
-  both_empty s.now.findings.comments row.comments still.1 bare.1,
-)
-still_behind (peeks goal) row s bare still = still
-still_behind (re_lexes goal) row s bare still = by_flag row.taken refl
-  where
-    by_flag : (b : Bool) → row.taken ≡ b → IsStill (after_row (re_lexes goal) row s)
-    by_flag true e =
-        rw e (
-          both_empty s.now.findings.diagnostics row.diagnostics still.0 bare.0,
-          both_empty s.now.findings.comments row.comments still.1 bare.1,
-        )
-    by_flag false e = rw e still
-still_behind opens row s bare still = still
-still_behind rewinds row s bare still = still
-still_behind commits row s bare still = still
+hashbang_starts : (text : List ℕ) (t : SourceType) (o : Outcome) → GoalReads text t First None 0 o
+    → begins_hashbang First text 0 ≡ true → o.token.start ≡ 0
+hashbang_starts text t o (hashbang begins_it found) begun = found.is_hashbang.start
+hashbang_starts text t o (behind_gap none found) begun = true_is_not_false (begins_hashbang First text 0) begun none
 
-rows_still : (text : List ℕ) (t : SourceType) (s : State) (commands : List Command) (rows : List Row)
-    → list_all (may_rewrite t) commands ≡ true → Run text t s commands rows → AllByRecursion IsBare rows → IsStill s
-    → IsStill (state_after s commands rows)
-rows_still text t s [] rows may run bare still = subst (λ rs. IsStill (state_after s [] rs)) (sym run) still
-rows_still text t s (c ∷ cs) [] may run bare still =
-    absurd
-    (let step = lasting_steps c (lasting_of t c (and_parts (may_rewrite t c) (list_all (may_rewrite t) cs) may).0) in
-    rw step at run)
-rows_still text t s (c ∷ cs) (row ∷ rows) may run bare still =
-    let both = and_parts (may_rewrite t c) (list_all (may_rewrite t) cs) may in
-    let step = lasting_steps c (lasting_of t c both.0) in
-    let here = rw step at run in
-    subst IsStill (sym (state_step s c cs row rows step))
-    (rows_still text t (after_row (effect_of c) row s) cs rows both.1 here.1 bare.1
-    (still_behind (effect_of c) row s bare.0 still))
+-- the gap before the first token
+first_gaps : (text other : List ℕ) (t : SourceType) (o : Outcome) (more : List Comment) → IsUtf8 text
+    → GoalReads text t First None 0 o → o.findings.diagnostics ≡ [] → IsOnPlaces text o.token
+    → from_place other 0 ≡ chars (stripped_from text 0 (o.findings.comments ++ more))
+    → StandBetween text (piece t) o.token.end more (length text)
+    → (begins_hashbang First text 0 ≡ true
+    → StandsAlike text other t o.token.kind 0 o.token.end 0 (left_behind text o.token more))
+    → (b : Bool) → begins_hashbang First text 0 ≡ b
+    → GapsFor text other t None None 0 0 o (left_behind text o.token more)
+first_gaps text other t o more u read clean lies begun stand hashbang_stands true is =
+    gaps_at text other (left_behind text o.token more) t None None 0 0 o refl (hashbang_starts text t o read is)
+    (hashbang_stands is)
+first_gaps text other t o more u read clean lies begun stand hashbang_stands false is =
+    gaps_stripped text other t None None 0 0 (length text) o more u (IsCharBoundary-start text u) refl lies.ordered lies.end
+    (first_parts text t o is read clean) begun stand
+    (between_from text (piece t) o.token.start o.token.end (length text) more lies.ordered stand)
 
 -- The rows of both texts are the same.
 rows_same : (text other : List ℕ) (t : SourceType) (commands : List Command) (xs ys : List Row) → IsUtf8 text
@@ -158,18 +161,26 @@ rows_same text other t commands (a ∷ xs) (b ∷ ys) u v may quiet stripped are
     let begun : from_place other 0 ≡ chars (stripped_from text 0 (a.comments ++ more)) =
     ap chars (stripped
     ∙ ap (stripped_from text 0) (rows_live text t (state_after_first a) commands xs may are.1)) in
-    let g : GoalAlike text other t First None 0 more (outcome_of a) =
-    first_alike text other t (outcome_of a) more (length text) u v read quiet.0 row.places.token.ordered
+    let zs = left_behind text a.token more in
+    let lies = row.places.token in
+    let hashbang_stands = λ (is : begins_hashbang First text 0 ≡ true).
+    stands_alike text other t a.token.kind 0 a.token.end 0 (length text) more u (omega arith) start lies.end stand
+    (begun ∙ ap (λ cs. chars (stripped_from text 0 (cs ++ more))) (hashbang_comments text t (outcome_of a) read is)) in
+    let g : GoalAlike text other zs t First None 0 (outcome_of a) =
+    first_alike text other zs t (outcome_of a) u v read quiet.0
+    (first_gaps text other t (outcome_of a) more u read quiet.0 lies begun stand hashbang_stands
+    (begins_hashbang First text 0) refl)
+    hashbang_stands
+    (no_hashbang t text other
     (subst (Without t (from_place text 0)) (sym begun)
-    (without_from text t 0 (length text) (a.comments ++ more) u start whole))
-    begun stand in
+    (without_from text t 0 (length text) (a.comments ++ more) u start whole))) in
     let one : g.outcome ≡ outcome_of b =
     goal_reads_unique other t First None 0 g.outcome (outcome_of b) v g.reads other_read in
-    let alike = subst (ReadAlike text other more (outcome_of a)) one g.alike in
+    let alike = subst (ReadAlike text other zs (outcome_of a)) one g.alike in
     let same =
-    rows_alike text other t First First None None 0 0 more a b u v (row.command_is ∙ sym other_row.command_is)
+    rows_alike text other t First First None None 0 0 zs a b u v (row.command_is ∙ sym other_row.command_is)
     (row.gives.taken ∙ sym other_row.gives.taken) read other_read alike in
-    let beside : Beside text other (state_after_first a) (state_after_first b) a.token b.token more =
+    let beside : Beside text other t (state_after_first a) (state_after_first b) a.token b.token zs =
     record {
       last = last;
       other_last = other_last;
@@ -181,6 +192,9 @@ rows_same text other t commands (a ∷ xs) (b ∷ ys) u v may quiet stripped are
       here = alike.part;
       there_is = alike.other_part;
       behind = alike.behind;
+      follows =
+          follows_without t _ _ (from_place text a.token.end) zs
+          (without_from text t a.token.end (length text) more u lies.end stand);
     } in
     let later =
     runs_alike text other t (state_after_first a) (state_after_first b) commands xs ys a.token b.token u v may quiet.1

@@ -1,6 +1,6 @@
 -- The comments that a reading finds stand in its text before its token, one behind the other.
 use Rattle.std.proofs.Common.{◌≡◌, ℕ, ◌≤◌, Bool, true, false, List, [], ◌∷◌, ◌++◌, refl, sym, ◌∙◌, ap}
-use Rattle.std.proofs.Common.{zero, suc, subst, arith, append-nil, Option, Some}
+use Rattle.std.proofs.Common.{zero, suc, subst, arith, Option, Some}
 use Rattle.std.specs.Prelude.{◌&&◌, is_none, not}
 use Rattle.std.specs.Str.{IsCharBoundary, IsUtf8}
 use Rattle.js_text.specs.Characters.{begins, from_place, is_irregular_whitespace}
@@ -16,18 +16,15 @@ use Rattle.js_grammar.specs.Gap.{Piece, PieceKind, Pieces, WholeGap, whole_gap_p
 use Rattle.js_grammar.specs.Gap.PieceKind.{white_space, line_terminator, single_line_comment, multi_line_comment}
 use Rattle.js_grammar.specs.Gap.PieceKind.{html_open_comment, html_close_comment, reported_comment}
 use Rattle.js_grammar.specs.GapItems.{Gap, Item, comment, irregular, line_end, token_before}
-use Rattle.js_grammar.specs.Angle.{angle_reading, right_angles, first_left_angle, first_right_angle}
-use Rattle.js_grammar.specs.Goals.{GoalReads, ReadsAttributeValue, ReadsBehindGap, ReadsFrom, ReadsJsxChild}
+use Rattle.js_grammar.specs.Goals.{GoalReads, ReadsAttributeValue, ReadsBehindGap, ReadsJsxChild}
 use Rattle.js_grammar.specs.Goals.{ReadsPlainly, line_has_ended_behind, with_gap}
-use Rattle.js_grammar.specs.Jsx.{jsx_name_reading}
-use Rattle.js_grammar.specs.RegularExpression.{regular_expression_reading}
 use Rattle.js_grammar.specs.Goals.ReadsAttributeValue.{string, plain}
 use Rattle.js_grammar.specs.Goals.ReadsPlainly.{hashbang, behind_gap}
 use Rattle.js_grammar.specs.Hashbang.{begins_hashbang}
 use Rattle.js_grammar.specs.Outcome.{Outcome, outcome_at}
 use Rattle.js_grammar.specs.PieceItems.{block_kind, found_comment, is_line_comment, items_from, items_of_kind, listed_if}
 use Rattle.js_grammar.specs.PieceItems.{gap_of, is_separator, piece_span}
-use Rattle.js_grammar.specs.Reading.{Reading, place_behind}
+use Rattle.js_grammar.specs.Reading.{place_behind}
 use Rattle.js_grammar.specs.declared.goal.Goal.{Goal}
 use Rattle.js_grammar.specs.Reads.{is_onward}
 use Rattle.js_grammar.specs.declared.goal.Goal.TheVariants.{First, Next, TemplateTail, RegularExpression, RightAngle}
@@ -35,6 +32,7 @@ use Rattle.js_grammar.specs.declared.goal.Goal.TheVariants.{TypeScriptLeftAngle,
 use Rattle.js_grammar.specs.declared.goal.Goal.TheVariants.{JsxChild, JsxAttributeValue}
 use Rattle.js_grammar.proofs.AtPlaces.{behind_characters, gap_end}
 use Rattle.js_grammar.proofs.Reported.{piece_texts, place_behind-append, whole_gap_piece_text}
+use Rattle.js_rewrite.proofs.BlankGaps.{gap_comments}
 use Rattle.js_strip.specs.StripText.{StandInOrder}
 
 -- What finds the piece that a text begins with, where the flag tells whether a line has ended before it.
@@ -197,15 +195,6 @@ pieces_stand text step takes gap before ended p ends (x ∷ xs) has rest u b g =
     (pieces_stand text step takes gap earlier x.line_has_ended (place_behind p x.text) line xs has rest u next.0
     (subst (λ h. Pieces step x.line_has_ended h xs has rest) (sym next.1) g.1)))
 
--- the comments of a gap, where nothing else is found
-pub gap_comments : (t : SourceType) (before : Option TokenParts) (place : ℕ) (pieces : List Piece) (inner : Outcome)
-    → inner.findings.comments ≡ []
-    → (with_gap t before place pieces inner).findings.comments
-    ≡ attach (gap_of (is_none before) (token_before before) place pieces inner.token)
-gap_comments t before place pieces inner none =
-    ap (λ cs. attach (gap_of (is_none before) (token_before before) place pieces inner.token) ++ cs) none
-    ∙ append-nil (attach (gap_of (is_none before) (token_before before) place pieces inner.token))
-
 -- What a gap finds stands before the token behind it.
 gap_stands : (text : List ℕ) (t : SourceType) (before : Option TokenParts) (place : ℕ) (pieces : List Piece)
     (has : Bool) (inner o : Outcome) → IsUtf8 text → IsCharBoundary text place → IsCharBoundary text o.token.start
@@ -291,36 +280,3 @@ onward_stands text t JsxChild before place o u b on read =
     child_none text (whole_gap_piece t) (line_has_ended_behind before) place o read
 onward_stands text t JsxAttributeValue before place o u b on read =
     attribute_stands text t before place o u b read
-
--- A token that is read again starts where it did, and no comment is found.
-pub record StartsThere (start : ℕ) (o : Outcome) : Type 0 where
-  pub no_comment : o.findings.comments ≡ []
-  pub start_is : o.token.start ≡ start
-
-from_starts : (text : List ℕ) (ended : Bool) (start : ℕ) (read : Option Reading) (o : Outcome)
-    → ReadsFrom text ended start read o → StartsThere start o
-from_starts text ended start read o reads = record {
-  no_comment = ap (λ (x : Outcome). x.findings.comments) reads.outcome_is;
-  start_is = ap (λ (x : Outcome). x.token.start) reads.outcome_is;
-}
-
-pub again_starts : (text : List ℕ) (t : SourceType) (goal : Goal) (token : TokenParts) (place : ℕ) (o : Outcome)
-    → is_onward goal ≡ false → GoalReads text t goal (Some token) place o → StartsThere token.start o
-again_starts text t First token place o off read = absurd (cc)
-again_starts text t Next token place o off read = absurd (cc)
-again_starts text t TemplateTail token place o off read = record {
-  no_comment = ap (λ (x : Outcome). x.findings.comments) read.outcome_is;
-  start_is = ap (λ (x : Outcome). x.token.start) read.outcome_is;
-}
-again_starts text t RegularExpression token place o off read =
-    from_starts text false token.start (regular_expression_reading (from_place text token.start)) o read
-again_starts text t RightAngle token place o off read =
-    from_starts text false token.start (angle_reading right_angles (from_place text token.start)) o read
-again_starts text t TypeScriptLeftAngle token place o off read =
-    from_starts text false token.start (angle_reading first_left_angle (from_place text token.start)) o read
-again_starts text t TypeScriptRightAngle token place o off read =
-    from_starts text false token.start (angle_reading first_right_angle (from_place text token.start)) o read
-again_starts text t JsxIdentifier token place o off read =
-    from_starts text false token.start (jsx_name_reading read.part (from_place text token.end)) o read.reads
-again_starts text t JsxChild token place o off read = absurd (cc)
-again_starts text t JsxAttributeValue token place o off read = absurd (cc)

@@ -30,7 +30,8 @@ use Rattle.js_session.proofs.LiveLemmas.{last_or-push}
 use Rattle.js_session.proofs.LocalRuns.{replaced_last}
 use Rattle.js_session.proofs.RunLemmas.{state_step}
 use Rattle.js_strip.specs.StripText.{StandInOrder}
-use Rattle.js_strip.proofs.Standing.{StandBetween, again_starts, between_append, between_to, in_order, onward_stands}
+use Rattle.js_strip.proofs.Standing.{StandBetween, between_append, between_to, in_order, onward_stands}
+use Rattle.js_rewrite.proofs.LastTokens.{again_starts}
 
 -- The effects of commands that give a row which stays: a reading from a place on, or of the last token again.
 abbrev pub Stays : Effect → Type 0

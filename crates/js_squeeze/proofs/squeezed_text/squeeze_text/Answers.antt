@@ -1,4 +1,4 @@
-use Rattle.std.proofs.Common.{◌≡◌, ◌++◌, ap, drop, sym, ◌∙◌}
+use Rattle.std.proofs.Common.{◌++◌, ap, drop, ◌∙◌}
 use Rattle.std.specs.List.{filter}
 use Rattle.js_squeeze.specs.SqueezeText.{first_reads}
 use Rattle.js_squeeze.proofs.SqueezedSoFar.{behind_rows, behind_tokens}
