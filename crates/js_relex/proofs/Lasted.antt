@@ -61,23 +61,27 @@ run_lasts text t s (c ∷ cs) (row ∷ rows) lasting run =
       (λ i. run.0.command_is i ∷ more.1 i),
     )
 
+-- Rows that answer commands a document may be given.
+pub rows_last : (text : List ℕ) (t : SourceType) (commands : List Command) (rows : List Row)
+    → list_all is_lasting commands ≡ true → AreRows text t commands rows
+    → AllByRecursion Lasts rows × (map (λ (row : Row). row.command) rows ≡ None ∷ map Some commands)
+rows_last text t commands [] lasting are = absurd are
+rows_last text t commands (row ∷ rows) lasting are =
+    let more = run_lasts text t (state_after_first row) commands rows lasting are.1 in
+    let first : Lasts row =
+    record {
+      lasting = ap (λ k. lasts (row_effect k)) are.0.command_is;
+      untaken = none_found text t nothing_live (row_effect None) row are.0.gives;
+    } in
+    ((first, more.0), (λ i. are.0.command_is i ∷ more.1 i))
+
 -- The rows of a document.
 pub has_lasted : (text : List ℕ) (t : SourceType) (commands : List Command) (report : Report)
     → IsDocument text t commands report → HasLasted commands report
-has_lasted text t commands report doc = by_rows report.rows refl doc.report_is.rows
-  where
-    by_rows : (rows : List Row) → report.rows ≡ rows → AreRows text t commands rows → HasLasted commands report
-    by_rows [] is are = absurd are
-    by_rows (row ∷ rows) is are =
-        let more = run_lasts text t (state_after_first row) commands rows doc.lasting are.1 in
-        let first : Lasts row =
-        record {
-          lasting = ap (λ k. lasts (row_effect k)) are.0.command_is;
-          untaken = none_found text t nothing_live (row_effect None) row are.0.gives;
-        } in
-        record {
-          lasted = subst (AllByRecursion Lasts) (sym is) (first, more.0);
-          commands_are =
-              ap (map (λ (row : Row). row.command)) is ∙ (λ i. are.0.command_is i ∷ more.1 i);
-          live = doc.report_is.lists ∙ live_of_rows text t commands report.rows doc.lasting doc.report_is.rows;
-        }
+has_lasted text t commands report doc =
+    let rows = rows_last text t commands report.rows doc.lasting doc.report_is.rows in
+    record {
+      lasted = rows.0;
+      commands_are = rows.1;
+      live = doc.report_is.lists ∙ live_of_rows text t commands report.rows doc.lasting doc.report_is.rows;
+    }

@@ -17,6 +17,7 @@ pub mod LiveRows
 pub mod NewRows
 pub mod Outcomes
 pub mod OutlineLemmas
+pub mod Patches
 pub mod PutTogether
 pub mod ReadRows
 pub mod Relexed

@@ -7,7 +7,7 @@ use Rattle.std.specs.List.{AllByRecursion}
 use Rattle.js_session.specs.declared.report.Report.{Report}
 use Rattle.js_session.specs.declared.row.Row.{Row}
 use Rattle.js_session.specs.Live.{nothing_live, report_live, report_with}
-use Rattle.js_relex.specs.Documents.{GoesLive, IsGathered, live_behind}
+use Rattle.js_relex.specs.Documents.{GoesLive, live_behind}
 use Rattle.js_relex.proofs.LiveRows.{live-append}
 
 -- what is live behind the rows was made live
@@ -61,15 +61,6 @@ live_report none a rows is h =
     h.live_is ∙ ap (λ (r : Report). live_behind (report_live r) rows) is in
     λ j. report_with (rows_are j) (collected j) (live j)
 
--- with the rows themselves it is gathered
-pub gathered_live : (live : Report) (rows all : List Row) → live ≡ report_with [] [] (live_behind nothing_live all)
-    → rows ≡ all → IsGathered all (record live { rows = rows })
-gathered_live live rows all is same = record {
-  rows_are = same;
-  live = ap report_live is;
-  collected = ap (λ (r : Report). r.collected) is;
-}
-
 module _ (P : Row → Type 0) where
   pub all_at : (rows : List Row) (index : ℕ) (d : Row) → index < length rows → AllByRecursion P rows
       → P (get_or rows index d)
@@ -77,7 +68,7 @@ module _ (P : Row → Type 0) where
   all_at (row ∷ rows) zero d some h = h.0
   all_at (row ∷ rows) (suc index) d some h = all_at rows index d (omega (arith, some)) h.1
 
-  all_both : (xs ys : List Row) → AllByRecursion P xs → AllByRecursion P ys → AllByRecursion P (xs ++ ys)
+  pub all_both : (xs ys : List Row) → AllByRecursion P xs → AllByRecursion P ys → AllByRecursion P (xs ++ ys)
   all_both [] ys h k = k
   all_both (x ∷ xs) ys h k = (h.0, all_both xs ys h.1 k)
 

@@ -30,7 +30,7 @@ counted_at old commands place none n rows h none_is n_is rows_are =
     ∙ lengths_at_place old.rows commands place h.lasted h.commands_are
 
 -- what stands between two places, and behind the second
-between : {A : Type 0} (xs : List A) (n m : ℕ) → n ≤ m → take (m - n) (drop n xs) ++ drop m xs ≡ drop n xs
+pub between : {A : Type 0} (xs : List A) (n m : ℕ) → n ≤ m → take (m - n) (drop n xs) ++ drop m xs ≡ drop n xs
 between xs n m ordered =
     let whole : n + (m - n) ≡ m = omega (arith, ordered) in
     ap (λ ys. take (m - n) (drop n xs) ++ ys) (ap (λ k. drop k xs) (sym whole) ∙ sym (drop-drop (m - n) n xs))
@@ -73,14 +73,14 @@ module _ (old : Report) (lasted : AllByRecursion Lasts old.rows)
       (lengths_are : lengths ≡ live_lengths (live_behind nothing_live (take place old.rows)))
       (anew : StartsAnew (drop place old.rows)) where
     -- the live lists up to the place
-    up_to_place : live_up_to lengths (report_live old) ≡ live_behind nothing_live (take place old.rows)
+    pub up_to_place : live_up_to lengths (report_live old) ≡ live_behind nothing_live (take place old.rows)
     up_to_place =
         let front = live_behind nothing_live (take place old.rows) in
         (λ i. live_up_to (lengths_are i) ((live ∙ split_live old.rows place lasted anew) i))
         ∙ up_to_front front (live_behind nothing_live (drop place old.rows))
 
     -- and from there on
-    from_place : live_from lengths (report_live old) ≡ live_behind nothing_live (drop place old.rows)
+    pub from_place : live_from lengths (report_live old) ≡ live_behind nothing_live (drop place old.rows)
     from_place =
         let front = live_behind nothing_live (take place old.rows) in
         (λ i. live_from (lengths_are i) ((live ∙ split_live old.rows place lasted anew) i))

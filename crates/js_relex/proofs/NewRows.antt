@@ -64,6 +64,11 @@ live_of_rows text t commands (row ∷ rows) lasting are =
     are.0.command_is
     ∙ run_live text t (state_after_first row) commands rows lasting are.1)
 
+-- where no tokens are collected, none is
+pub none_collected : (tokens : List TokenParts) → all_collected false tokens ≡ []
+none_collected [] = refl
+none_collected (t ∷ ts) = none_collected ts
+
 -- A report that is gathered from the rows of the commands is the report of these.
 pub gathered_report : (text : List ℕ) (t : SourceType) (commands : List Command) (rows : List Row) (report : Report)
     → IsUtf8 text → length text < 2 ^ 32 → list_all is_lasting commands ≡ true → AreRows text t commands rows
@@ -77,7 +82,3 @@ gathered_report text t commands (row ∷ rows) report u short lasting are g = re
       g.live ∙ sym (live_of_rows text t commands (row ∷ rows) lasting are) ∙ ap (live commands) (sym g.rows_are);
   collected_are = g.collected ∙ sym (none_collected report.tokens);
 }
-  where
-    none_collected : (tokens : List TokenParts) → all_collected false tokens ≡ []
-    none_collected [] = refl
-    none_collected (t ∷ ts) = none_collected ts

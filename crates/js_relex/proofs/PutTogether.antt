@@ -6,13 +6,17 @@ use Rattle.js_session.specs.declared.report.Report.{Report}
 use Rattle.js_session.specs.declared.row.Row.{Row}
 use Rattle.js_session.specs.Live.{nothing_live, report_with}
 use Rattle.js_session.specs.Shifted.{shifted_row}
-use Rattle.js_relex.specs.Documents.{AddsRows, DocState, IsDocument, IsGathered, IsInOrder, joining, live_behind}
+use Rattle.js_relex.specs.Documents.{AddsRows, DocState, IsDocument, IsGathered, IsInOrder, joining}
 use Rattle.js_relex.specs.Joined.{JoiningState}
 use Rattle.js_relex.specs.Joining.{PreparedState, Prepares, all_rows, taken_over}
+use Rattle.js_relex.specs.LiveLists.{Lasts}
 use Rattle.js_relex.proofs.InPlace.{behind_in_order, kept_before, stay_behind}
-use Rattle.js_relex.proofs.LiveInPlace.{gathered_live}
+use Rattle.js_relex.proofs.KeptRows.{take_lasting}
+use Rattle.js_relex.proofs.Lasted.{rows_last}
+use Rattle.js_relex.proofs.LiveInPlace.{all_dropped}
 use Rattle.js_relex.proofs.LiveRows.{adds_both, gathers}
 use Rattle.js_relex.proofs.Relexed.{rest_of}
+use Rattle.js_relex.proofs.Ticks.{behind_kept}
 
 module _ (old : DocState) (start end : ℕ) (new : List ℕ) (p : PreparedState)
     (doc : IsDocument old.text old.source_type old.commands old.report) (h : Prepares old start end new p)
@@ -46,6 +50,16 @@ module _ (old : DocState) (start end : ℕ) (new : List ℕ) (p : PreparedState)
       let less = kept_before old start end new p doc h in
       let count = ap length rows_are in
       omega (arith, less, count, behind_is, kept_is)
+
+  -- the rows that were read stay
+  pub read_lasts : (read : List Row) → read ≡ p.rows → AllByRecursion Lasts read
+  read_lasts read read_is =
+      let n = p.kept + length p.rows - 1 in
+      let all =
+      rows_last p.text old.source_type (take n p.commands) (take p.kept j.rows ++ p.rows)
+      (take_lasting n p.commands h.lasting) h.reads.are in
+      subst (AllByRecursion Lasts) (behind_kept j p.kept p.rows h.few_kept ∙ sym read_is)
+      (all_dropped Lasts p.kept (take p.kept j.rows ++ p.rows) all.0)
 
   -- where nothing moves, they stay
   pub rows_stay : (from to : ℕ) → from ≡ j.from → to ≡ j.to → from ≡ to
@@ -84,27 +98,16 @@ module _ (old : DocState) (start end : ℕ) (new : List ℕ) (p : PreparedState)
       (drop (length (rows_are i) - behind_is i) (rows_are i))))
       (gathers r0 r3 (take kept rows ++ read ++ map f tail) none all)
 
--- What is live, with the rows that were put in place, is gathered of these.
+-- What is gathered of the rows that were put in place is gathered of all.
 pub gathered_in_place : (old : DocState) (start end : ℕ) (new : List ℕ) (p : PreparedState)
     (doc : IsDocument old.text old.source_type old.commands old.report) (h : Prepares old start end new p)
-    (rows others : List Row) (behind kept : ℕ) (read other : List Row) (from to : ℕ) (live report : Report)
-    (all : List Row) → rows ≡ old.report.rows → others ≡ old.report.rows
+    (rows : List Row) (behind kept : ℕ) (read : List Row) (from to : ℕ) (report : Report) → rows ≡ old.report.rows
     → behind ≡ taken_over (joining old start end new p.commands) p.kept p.rows → kept ≡ p.kept → read ≡ p.rows
-    → other ≡ p.rows → from ≡ end → to ≡ start + length new
-    → live ≡ report_with [] [] (live_behind nothing_live (take kept rows ++ read
-    ++ map (shifted_row from to) (drop (length rows - behind) rows)))
-    → all ≡ take kept others ++ other ++ map (shifted_row from to) (drop (length others - behind) others)
-    → report ≡ record live { rows = all }
+    → from ≡ end → to ≡ start + length new
+    → IsGathered (take kept rows ++ read ++ map (shifted_row from to) (drop (length rows - behind) rows)) report
     → IsGathered (all_rows (joining old start end new p.commands) p.kept p.rows) report
-gathered_in_place old start end new p doc h rows others behind kept read other from to live report all rows_are
-    others_are behind_is kept_is read_is other_is from_is to_is live_is all_are is =
-    let j = joining old start end new p.commands in
-    let here =
-    in_place old start end new p doc h rows behind rows_are behind_is kept read from to kept_is read_is from_is to_is in
-    let there =
-    in_place old start end new p doc h others behind others_are behind_is kept other from to kept_is other_is from_is
-    to_is in
-    subst (IsGathered (all_rows j p.kept p.rows)) (sym is)
-    (gathered_live live all (all_rows j p.kept p.rows)
-    (live_is ∙ ap (λ rs. report_with [] [] (live_behind nothing_live rs)) here)
-    (all_are ∙ there))
+gathered_in_place old start end new p doc h rows behind kept read from to report rows_are behind_is kept_is read_is
+    from_is to_is gathered =
+    subst (λ rs. IsGathered rs report)
+    (in_place old start end new p doc h rows behind rows_are behind_is kept read from to kept_is read_is from_is to_is)
+    gathered

@@ -21,7 +21,7 @@ use Rattle.js_relex.proofs.JoinedRows.{rows_of_edit}
 use Rattle.js_relex.proofs.NewRows.{gathered_report}
 
 -- behind the kept rows
-behind_kept : (j : JoiningState) (kept : ℕ) (rows : List Row) → kept ≤ length j.rows
+pub behind_kept : (j : JoiningState) (kept : ℕ) (rows : List Row) → kept ≤ length j.rows
     → drop kept (take kept j.rows ++ rows) ≡ rows
 behind_kept j kept rows few =
     ap (λ n. drop n (take kept j.rows ++ rows)) (sym (length-take-le kept j.rows few))

@@ -4,3 +4,4 @@ pub mod Joining
 pub mod Kept
 pub mod LiveLists
 pub mod Outlines
+pub mod Patches

@@ -131,6 +131,27 @@ live_from lengths live = record {
   };
 }
 
+-- the lengths behind what is live next
+abbrev pub lengths_past : LiveLengths → Live → LiveLengths
+lengths_past before live = record {
+  tokens = before.tokens + length live.tokens;
+  diagnostics = before.diagnostics + length live.findings.diagnostics;
+  deferred = before.deferred + length live.findings.deferred;
+  comments = before.comments + length live.findings.comments;
+  irregular = before.irregular + length live.findings.irregular;
+  warnings = before.warnings + length live.findings.warnings;
+}
+
+-- what is live where this stands in the place of as much from these lengths on
+abbrev pub overwritten_live : LiveLengths → Live → Live → Live
+overwritten_live before middle live =
+    joined_live (joined_live (live_up_to before live) middle) (live_from (lengths_past before middle) live)
+
+-- In the place of as much from these lengths on, this makes that live which is live behind the rows.
+pub record IsPatch (old : Live) (before : LiveLengths) (middle : Live) (rows : List Row) : Type 0 where
+  pub inside : AreWithin (lengths_past before middle) (live_lengths old)
+  pub live : overwritten_live before middle old ≡ live_behind nothing_live rows
+
 -- what is live, with each place shifted
 abbrev pub shifted_live : ℕ → ℕ → Live → Live
 shifted_live from to live = record {

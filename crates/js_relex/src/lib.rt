@@ -12,6 +12,7 @@ mod kept;
 mod live;
 mod outline;
 mod outlined;
+mod patch;
 
 pub use document::{LexDoc, NotRelexed, relex};
 pub use edit::Edit;

@@ -20,13 +20,13 @@ use std::alloc::{AllocError, Global};
 
 /// How many items there are in each live list.
 #[derive(Clone, Copy)]
-struct LiveLengths {
-    tokens: usize,
-    diagnostics: usize,
-    deferred: usize,
-    comments: usize,
-    irregular: usize,
-    warnings: usize,
+pub(crate) struct LiveLengths {
+    pub(crate) tokens: usize,
+    pub(crate) diagnostics: usize,
+    pub(crate) deferred: usize,
+    pub(crate) comments: usize,
+    pub(crate) irregular: usize,
+    pub(crate) warnings: usize,
 }
 
 /// A list of what a row found.
@@ -208,7 +208,7 @@ fn count_first_readings(commands: &[Command], rows: usize) -> usize
 }
 
 /// The lengths of what the rows before the place made live.
-fn lengths_at(old: &OutlinedReport, commands: &[Command], place: usize) -> LiveLengths
+pub(crate) fn lengths_at(old: &OutlinedReport, commands: &[Command], place: usize) -> LiveLengths
     requires lasted { HasLasted commands.now old.now }
     requires inside { place ≤ length old.now.rows }
     ensures { result ≡ live_lengths (live_behind nothing_live (take place old.now.rows)) }
@@ -221,7 +221,7 @@ fn lengths_at(old: &OutlinedReport, commands: &[Command], place: usize) -> LiveL
 }
 
 /// The lengths of what the rows before the second place made live, by those of what the rows before the first one did.
-fn lengths_further(
+pub(crate) fn lengths_further(
     old: &OutlinedReport,
     before: LiveLengths,
     start: usize,
@@ -251,7 +251,7 @@ fn starts_anew(rows: &[Row], place: usize) -> bool
 }
 
 /// The last place up to the end from which rows start anew.
-fn last_start(rows: &[Row], end: usize) -> usize
+pub(crate) fn last_start(rows: &[Row], end: usize) -> usize
     requires first { StartsAnew rows.now }
     ensures before { result ≤ end }
     ensures anew { StartsAnew (drop result rows.now) }
@@ -267,7 +267,7 @@ fn last_start(rows: &[Row], end: usize) -> usize
 }
 
 /// The first place from the start on from which rows start anew.
-fn next_start(rows: &[Row], start: usize) -> usize
+pub(crate) fn next_start(rows: &[Row], start: usize) -> usize
     requires inside { start ≤ length rows.now }
     ensures behind { start ≤ result }
     ensures inside { result ≤ length rows.now }

@@ -1,14 +1,18 @@
 //! A report with the outlines of its rows.
 
-ghost use Rattle.std.specs.Prelude.{◌≡◌, ◌≤◌, ◌+◌, ◌-◌, ◌++◌, length, take, drop, map, IfOk, OnOk, OnErr};
+ghost use Rattle.std.specs.Prelude.{◌≡◌, ◌≤◌, ◌+◌, ◌-◌, [], ◌++◌, length, take, drop, map, IfOk, OnOk, OnErr};
 ghost use Rattle.std.specs.List.{AllByRecursion};
+ghost use Rattle.js_session.specs.Live.{report_live};
 ghost use Rattle.js_session.specs.Shifted.{shifted_row};
-ghost use Rattle.js_relex.specs.Documents.{IsInOrder};
+ghost use Rattle.js_relex.specs.Documents.{IsGathered, IsInOrder};
+ghost use Rattle.js_relex.specs.LiveLists.{AreWithin, HasLasted, Lasts, lengths_past, live_lengths, overwritten_live};
 ghost use Rattle.js_relex.specs.Outlines.{outline_of, shifted_outline};
 
 use crate::gather::{replace_rows, with_rows};
+use crate::live::live_of;
 use crate::outline::{OutlineList, RowOutline, add_moved_outlines, add_outlines};
-use js_session::{Report, Row, RowList, Shift};
+use crate::patch::{LivePatch, overwrite, overwrite_live, patch_of, patched_tokens};
+use js_session::{Command, Report, Row, RowList, Shift};
 use std::alloc::{AllocError, Global};
 use std::marker::Model;
 use std::mem;
@@ -52,13 +56,21 @@ fn replaced_outlines(
     Ok(list)
 }
 
+/// The outlines of the rows.
+fn outlines_of(alloc: Global, rows: &[Row]) -> Result<OutlineList, AllocError>
+    ensures { IfOk result (λ outlines. outlines ≡ map outline_of rows.now) }
+{
+    let mut outlines = OutlineList::from_vec(Vec::with_capacity(alloc, rows.len())?);
+    add_outlines(&mut outlines, rows)?;
+    Ok(outlines)
+}
+
 impl OutlinedReport {
     /// The report with the outlines of its rows.
     pub(crate) fn new(alloc: Global, report: Report) -> Result<OutlinedReport, AllocError>
         ensures { IfOk result (λ outlined. outlined ≡ report) }
     {
-        let mut outlines = OutlineList::from_vec(Vec::with_capacity(alloc, report.rows.len())?);
-        add_outlines(&mut outlines, report.rows.as_slice())?;
+        let outlines = outlines_of(alloc, report.rows.as_slice())?;
         Ok(OutlinedReport { report, outlines })
     }
 
@@ -78,7 +90,7 @@ impl OutlinedReport {
 
     /// Puts the rows that were read in the place of those between the first and the last, which it moves where they
     /// stand, and has this live with them.
-    pub(crate) fn replace(
+    fn replace_with(
         &mut self,
         alloc: Global,
         live: Report,
@@ -111,5 +123,92 @@ impl OutlinedReport {
         self.report = with_rows(live, rows);
         self.outlines = outlines;
         Ok(())
+    }
+
+    /// Puts the rows that were read in the place of as many behind the first, which stay, and has the patch made in what
+    /// is live.
+    fn overwrite(
+        &mut self,
+        alloc: Global,
+        kept: usize,
+        read: RowList,
+        behind: usize,
+        patch: LivePatch,
+    ) -> Result<(), AllocError>
+        requires as_many { kept + length read + behind ≡ length self.old.rows }
+        requires inside { AreWithin (lengths_past patch.before (report_live patch.middle))
+            (live_lengths (report_live self.old)) }
+        ensures rows { OnOk result
+            (self.new.rows ≡ take kept self.old.rows ++ read ++ drop (length self.old.rows - behind) self.old.rows) }
+        ensures live { OnOk result (report_live self.new
+            ≡ overwritten_live patch.before (report_live patch.middle) (report_live self.old)) }
+        ensures collected { OnOk result (self.new.collected ≡ self.old.collected) }
+        ensures err { OnErr result (self.new ≡ self.old) }
+    {
+        let LivePatch { before, middle } = patch;
+        let tokens = patched_tokens(alloc, &self.report.tokens, before.tokens, &middle.tokens)?;
+        let outlines = outlines_of(alloc, read.as_slice())?;
+        let end = self.report.rows.len() - behind;
+        self.report.rows.replace(kept, end, read)?;
+        overwrite_live(alloc, &mut self.report, tokens, &before, &middle);
+        overwrite(alloc, &mut self.outlines, kept, outlines.as_slice());
+        Ok(())
+    }
+
+    /// Puts the rows that were read in the place of those between the first and the last, which it moves where they
+    /// stand, and makes anew what is live with them.
+    fn replace_anew(
+        &mut self,
+        alloc: Global,
+        commands: &[Command],
+        kept: usize,
+        read: RowList,
+        behind: usize,
+        shift: &Shift,
+    ) -> Result<(), AllocError>
+        requires lasted { HasLasted commands.now self.old }
+        requires few { kept + behind ≤ length self.old.rows }
+        requires in_order { AllByRecursion IsInOrder (drop (length self.old.rows - behind) self.old.rows) }
+        requires stay { shift.now.from ≡ shift.now.to
+            → map (shifted_row shift.now.from shift.now.to) (drop (length self.old.rows - behind) self.old.rows)
+            ≡ drop (length self.old.rows - behind) self.old.rows }
+        ensures ok { OnOk result (IsGathered (take kept self.old.rows ++ read
+            ++ map (shifted_row shift.now.from shift.now.to) (drop (length self.old.rows - behind) self.old.rows))
+            self.new) }
+        ensures err { OnErr result (self.new ≡ self.old) }
+    {
+        let live = live_of(alloc, self, commands, kept, read.as_slice(), behind, shift)?;
+        self.replace_with(alloc, live, kept, read, behind, shift)
+    }
+
+    /// Puts the rows that were read in the place of those between the first and the last, which it moves where they
+    /// stand. Where nothing moves, and with them as much is live as before, what they make live is put in the place of
+    /// as much; else what is live is made anew.
+    pub(crate) fn replace(
+        &mut self,
+        alloc: Global,
+        commands: &[Command],
+        kept: usize,
+        read: RowList,
+        behind: usize,
+        shift: &Shift,
+    ) -> Result<(), AllocError>
+        requires lasted { HasLasted commands.now self.old }
+        requires collected { self.old.collected ≡ [] }
+        requires read_lasted { AllByRecursion Lasts read }
+        requires few { kept + behind ≤ length self.old.rows }
+        requires in_order { AllByRecursion IsInOrder (drop (length self.old.rows - behind) self.old.rows) }
+        requires stay { shift.now.from ≡ shift.now.to
+            → map (shifted_row shift.now.from shift.now.to) (drop (length self.old.rows - behind) self.old.rows)
+            ≡ drop (length self.old.rows - behind) self.old.rows }
+        ensures ok { OnOk result (IsGathered (take kept self.old.rows ++ read
+            ++ map (shifted_row shift.now.from shift.now.to) (drop (length self.old.rows - behind) self.old.rows))
+            self.new) }
+        ensures err { OnErr result (self.new ≡ self.old) }
+    {
+        match patch_of(alloc, self, commands, kept, read.as_slice(), behind, shift)? {
+            Some(patch) => self.overwrite(alloc, kept, read, behind, patch),
+            None => self.replace_anew(alloc, commands, kept, read, behind, shift),
+        }
     }
 }

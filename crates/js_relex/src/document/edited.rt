@@ -16,7 +16,6 @@ use crate::fault::RelexFault;
 use crate::gather::{add_copies, add_moved_copies, add_rows, empty_report};
 use crate::join::Joining;
 use crate::kept::count_kept;
-use crate::live::live_of;
 use crate::outlined::OutlinedReport;
 use js_session::{Command, CommandList, RowList, Shift, Steps};
 use js_text::SourceText;
@@ -345,20 +344,11 @@ fn put_in_place(
         rows: read,
         joined: _,
     } = prepared;
-    let live = match live_of(
-        alloc,
-        &old.report,
-        old.commands.as_slice(),
-        kept,
-        read.as_slice(),
-        behind,
-        &shift,
-    ) {
-        Ok(live) => live,
-        Err(_) => return Err(old),
-    };
     let mut old = old;
-    match old.report.replace(alloc, live, kept, read, behind, &shift) {
+    match old
+        .report
+        .replace(alloc, old.commands.as_slice(), kept, read, behind, &shift)
+    {
         Ok(()) => {}
         Err(_) => return Err(old),
     }

@@ -13,14 +13,18 @@ pub overflow_sub-rows : goal.overflow_sub-rows
 overflow_sub-rows c =
     few_behind c.args.old.now c.args.edit.now.start c.args.edit.now.end c.args.edit.now.text.now c.args.prepared
     (document_of c.args.old.now _ _ _ _ _ _ c.old.invariant c.old.view_is) c.requires c.as_slice-rows.result.now
-    c.count_taken_over-behind.result (c.as_slice-rows.ensures ∙ ap (λ (r : Report). r.rows) c.report.ensures ∙ ap (λ (d : DocState). d.report.rows) c.old.view_is)
+    c.count_taken_over-behind.result
+    (c.as_slice-rows.ensures ∙ ap (λ (r : Report). r.rows) c.report.ensures
+    ∙ ap (λ (d : DocState). d.report.rows) c.old.view_is)
     c.count_taken_over-behind.ensures
 
 pub add_moved_copies-requires : goal.add_moved_copies-requires
 add_moved_copies-requires c =
     last_in_order c.args.old.now c.args.edit.now.start c.args.edit.now.end c.args.edit.now.text.now c.args.prepared
     (document_of c.args.old.now _ _ _ _ _ _ c.old.invariant c.old.view_is) c.requires c.as_slice-rows.result.now
-    c.count_taken_over-behind.result (c.as_slice-rows.ensures ∙ ap (λ (r : Report). r.rows) c.report.ensures ∙ ap (λ (d : DocState). d.report.rows) c.old.view_is)
+    c.count_taken_over-behind.result
+    (c.as_slice-rows.ensures ∙ ap (λ (r : Report). r.rows) c.report.ensures
+    ∙ ap (λ (d : DocState). d.report.rows) c.old.view_is)
     c.count_taken_over-behind.ensures
 
 pub invariant_of-result : goal.invariant_of-result
@@ -31,7 +35,9 @@ invariant_of-result c =
     let doc = document_of old _ _ _ _ _ _ c.old.invariant c.old.view_is in
     let read =
     gathers_all old edit.start edit.end edit.text.now p doc c.requires c.as_slice-rows.result.now
-    c.count_taken_over-behind.result (c.as_slice-rows.ensures ∙ ap (λ (r : Report). r.rows) c.report.ensures ∙ ap (λ (d : DocState). d.report.rows) c.old.view_is)
+    c.count_taken_over-behind.result
+    (c.as_slice-rows.ensures ∙ ap (λ (r : Report). r.rows) c.report.ensures
+    ∙ ap (λ (d : DocState). d.report.rows) c.old.view_is)
     c.count_taken_over-behind.ensures c.prepared.inside.kept c.prepared.inside.rows c.shift_of-shift.result.from
     c.shift_of-shift.result.to c.empty_report-report.result c.add_copies.new.report c.add_rows.new.report
     c.add_moved_copies.new.report (ap (λ (x : PreparedState). x.kept) c.prepared.view_is)
@@ -55,7 +61,9 @@ returns c =
     let doc = document_of old _ _ _ _ _ _ c.old.invariant c.old.view_is in
     let read =
     gathers_all old edit.start edit.end edit.text.now p doc c.requires c.as_slice-rows.result.now
-    c.count_taken_over-behind.result (c.as_slice-rows.ensures ∙ ap (λ (r : Report). r.rows) c.report.ensures ∙ ap (λ (d : DocState). d.report.rows) c.old.view_is)
+    c.count_taken_over-behind.result
+    (c.as_slice-rows.ensures ∙ ap (λ (r : Report). r.rows) c.report.ensures
+    ∙ ap (λ (d : DocState). d.report.rows) c.old.view_is)
     c.count_taken_over-behind.ensures c.prepared.inside.kept c.prepared.inside.rows c.shift_of-shift.result.from
     c.shift_of-shift.result.to c.empty_report-report.result c.add_copies.new.report c.add_rows.new.report
     c.add_moved_copies.new.report (ap (λ (x : PreparedState). x.kept) c.prepared.view_is)

@@ -18,7 +18,8 @@ rows_behind-requires-clause-resumes g c =
     kept_of_document c.args.old.now c.as_slice-rows.result.now c.args.text.now c.args.edit.now.text.now
     c.args.edit.now.start c.args.edit.now.end c.args.joining.now.commands c.args.last c.index-rows-last.result
     (document_of c.args.old.now _ _ _ _ _ _ c.old.invariant c.old.view_is)
-    (c.as_slice-rows.ensures ∙ ap (λ (r : Report). r.rows) c.report.ensures ∙ ap (λ (d : DocState). d.report.rows) c.old.view_is) c.requires.edit c.requires.text
+    (c.as_slice-rows.ensures ∙ ap (λ (r : Report). r.rows) c.report.ensures
+    ∙ ap (λ (d : DocState). d.report.rows) c.old.view_is) c.requires.edit c.requires.text
     c.utf8.text c.requires.lasting c.requires.kept in
     (goes_on c.args.text.now c.args.old.now.source_type c.args.joining.now.commands c.args.old.now.report.rows
     c.args.last _ c.requires.lasting kept).may
@@ -38,7 +39,8 @@ returns-clause-rows g c =
     kept_of_document c.args.old.now c.as_slice-rows.result.now text c.args.edit.now.text.now
     c.args.edit.now.start c.args.edit.now.end j.commands c.args.last c.index-rows-last.result
     (document_of c.args.old.now _ _ _ _ _ _ c.old.invariant c.old.view_is)
-    (c.as_slice-rows.ensures ∙ ap (λ (r : Report). r.rows) c.report.ensures ∙ ap (λ (d : DocState). d.report.rows) c.old.view_is) c.requires.edit c.requires.text
+    (c.as_slice-rows.ensures ∙ ap (λ (r : Report). r.rows) c.report.ensures
+    ∙ ap (λ (d : DocState). d.report.rows) c.old.view_is) c.requires.edit c.requires.text
     c.utf8.text c.requires.lasting c.requires.kept in
     let all : KeptAll text c.args.old.now.source_type j.commands j.rows c.args.last token =
     subst (λ rs. KeptAll text c.args.old.now.source_type j.commands rs c.args.last token) (sym c.requires.joining)
@@ -66,7 +68,8 @@ returns-clause-broken g c =
     kept_of_document c.args.old.now c.as_slice-rows.result.now text c.args.edit.now.text.now
     c.args.edit.now.start c.args.edit.now.end j.commands c.args.last c.index-rows-last.result
     (document_of c.args.old.now _ _ _ _ _ _ c.old.invariant c.old.view_is)
-    (c.as_slice-rows.ensures ∙ ap (λ (r : Report). r.rows) c.report.ensures ∙ ap (λ (d : DocState). d.report.rows) c.old.view_is) c.requires.edit c.requires.text
+    (c.as_slice-rows.ensures ∙ ap (λ (r : Report). r.rows) c.report.ensures
+    ∙ ap (λ (d : DocState). d.report.rows) c.old.view_is) c.requires.edit c.requires.text
     c.utf8.text c.requires.lasting c.requires.kept in
     let all : KeptAll text c.args.old.now.source_type j.commands j.rows c.args.last token =
     subst (λ rs. KeptAll text c.args.old.now.source_type j.commands rs c.args.last token) (sym c.requires.joining)

@@ -2,7 +2,7 @@ use Rattle.std.proofs.Common.{◌∙◌, ◌-◌, ◌++◌, ap, drop, length, ma
 use Rattle.js_session.specs.declared.report.Report.{Report}
 use Rattle.js_session.specs.Shifted.{shifted_row}
 use Rattle.js_relex.proofs.OutlineLemmas.{outlines_replaced}
-use Rattle.js_relex.proofs.outlined.OutlinedReport.replace.Goals as goal
+use Rattle.js_relex.proofs.outlined.OutlinedReport.replace_with.Goals as goal
 
 pub invariant_of-self-2 : goal.invariant_of-self-2
 invariant_of-self-2 c =
