@@ -11,7 +11,7 @@ typedef struct Source {
     size_t length;
 } Source;
 
-static void *room(size_t items, size_t size) {
+static inline void *room(size_t items, size_t size) {
     void *list = calloc(items != 0 ? items : 1, size);
     if (list == NULL) {
         fprintf(stderr, "no memory\n");
@@ -20,7 +20,7 @@ static void *room(size_t items, size_t size) {
     return list;
 }
 
-static Source read_source(const char *path) {
+static inline Source read_source(const char *path) {
     Source source = {NULL, 0};
     FILE *file = fopen(path, "rb");
     long length = -1;
@@ -37,7 +37,7 @@ static Source read_source(const char *path) {
     return source;
 }
 
-static JsLists make_lists(const JsCounts *counts) {
+static inline JsLists make_lists(const JsCounts *counts) {
     JsLists lists = {
         room(counts->tokens, sizeof(JsToken)),           counts->tokens,
         room(counts->units, sizeof(uint16_t)),           counts->units,
@@ -50,7 +50,7 @@ static JsLists make_lists(const JsCounts *counts) {
     return lists;
 }
 
-static void free_lists(JsLists *lists) {
+static inline void free_lists(JsLists *lists) {
     free(lists->tokens);
     free(lists->units);
     free(lists->diagnostics);
@@ -61,7 +61,7 @@ static void free_lists(JsLists *lists) {
 }
 
 /* Whether each list had room for all of its items. */
-static int had_room(const JsLists *lists, const JsCounts *counts) {
+static inline int had_room(const JsLists *lists, const JsCounts *counts) {
     return counts->tokens <= lists->token_room && counts->units <= lists->unit_room &&
            counts->diagnostics <= lists->diagnostic_room && counts->deferred <= lists->deferred_room &&
            counts->comments <= lists->comment_room && counts->irregular <= lists->irregular_room &&
@@ -69,7 +69,7 @@ static int had_room(const JsLists *lists, const JsCounts *counts) {
 }
 
 /* Lexes a source into lists with room for everything: a first guess, and, where it was short, once more. */
-static uint32_t lex_source(const Source *source, uint32_t source_type, JsLists *lists, JsCounts *counts) {
+static inline uint32_t lex_source(const Source *source, uint32_t source_type, JsLists *lists, JsCounts *counts) {
     JsCounts guess = {source->length / 4 + 16, 64, 16, 16, source->length / 64 + 16, 16, 16, 0};
     *lists = make_lists(&guess);
     uint32_t answer = js_lex_auto(source->bytes, source->length, source_type, lists, counts);
@@ -84,7 +84,7 @@ static uint32_t lex_source(const Source *source, uint32_t source_type, JsLists *
 /* A name of a number, with a 0 behind it. */
 typedef size_t NameOf(uint32_t number, uint8_t *buffer, size_t room);
 
-static const char *name_of(NameOf *call, uint32_t number, char *buffer, size_t size) {
+static inline const char *name_of(NameOf *call, uint32_t number, char *buffer, size_t size) {
     size_t length = call(number, (uint8_t *)buffer, size - 1);
     buffer[length < size ? length : size - 1] = 0;
     return buffer;

@@ -148,15 +148,6 @@ adds_longer opens taken old new a = ap (λ c. length c.links) a ∙ longer old.l
 adds_longer rewinds taken old new a = ap (λ c. length c.links) a ∙ longer old.links 0
 adds_longer commits taken old new a = ap (λ c. length c.links) a ∙ longer old.links 0
 
--- an effect that gives a row changes no mark
-no_mark : (effect : Effect) (s : RowState) → gives_row effect ≡ true → with_mark effect s ≡ s
-no_mark (reads goal) s e = refl
-no_mark (peeks goal) s e = refl
-no_mark (re_lexes goal) s e = refl
-no_mark opens s e = absurd cc
-no_mark rewinds s e = absurd cc
-no_mark commits s e = absurd cc
-
 rows_step : (s : RowState) (c : Command) (left : List Command) (row : Row) (rows : List Row) → is_step c ≡ true
     → rows_behind s (c ∷ left) (row ∷ rows) ≡ rows_behind (with_row (effect_of c) row s) left rows
 rows_step s c left row rows e = rw e refl
@@ -165,10 +156,6 @@ rows_mark : (s : RowState) (c : Command) (left : List Command) (rows : List Row)
     → rows_behind s (c ∷ left) rows ≡ rows_behind (with_mark (effect_of c) s) left rows
 rows_mark s c left [] e = refl
 rows_mark s c left (row ∷ rows) e = rw e refl
-
-rows_none : (s : RowState) (c : Command) (left : List Command) → is_step c ≡ true
-    → rows_behind s (c ∷ left) [] ≡ rows_behind s left []
-rows_none s c left e = ap (λ x. rows_behind x left []) (no_mark (effect_of c) s e)
 
 -- the rows from one on
 rows_from : (rows : List Row) (k : ℕ) (row : Row) → slice_get rows k ≡ Some row
@@ -190,19 +177,6 @@ follows_row rows c old new row e at a s left h = record {
       ∙ ap (λ n. rows_behind (with_row (effect_of c) row s) left (drop n rows))
       (sym (adds_longer (effect_of c) row.taken old new a));
 }
-
--- the same where no row is left
-pub follows_no_row : (rows : List Row) (c : Command) (old new : RowChains) → is_step c ≡ true
-    → length rows ≤ length old.links → new ≡ old → Follows rows c old new
-follows_no_row rows c old new e past same s left h =
-    let none : drop (length old.links) rows ≡ [] = drop_all (length old.links) rows past in
-    record {
-      state = s;
-      stands = subst (λ x. Stands rows x s) (sym same) h;
-      behind =
-          ap (rows_behind s (c ∷ left)) none ∙ rows_none s c left e ∙ sym (ap (rows_behind s left) none)
-          ∙ sym (ap (λ x. rows_behind s left (drop (length x.links) rows)) same);
-    }
 
 -- What stood at the last mark.
 record LastMark (rows : List Row) (links ends : List ℕ) (link : ℕ) (lives : List (List Row)) : Type 0 where
@@ -377,10 +351,6 @@ pub record Walk (rows : List Row) (links : List ℕ) (live : List Row) (numbers 
   pub left : List Row
   pub chain : IsChain rows links link left
   pub all : map Some live ≡ map (slice_get rows) numbers ++ map Some left
-
-pub walk_start : (rows : List Row) (links : List ℕ) (live : List Row) (link : ℕ) → IsChain rows links link live
-    → Walk rows links live [] link
-walk_start rows links live link h = record { left = live; chain = h; all = refl }
 
 -- One more step of a walk: the link falls.
 pub record Steps (rows : List Row) (links : List ℕ) (live : List Row) (numbers : List ℕ) (number : ℕ) : Type 0 where

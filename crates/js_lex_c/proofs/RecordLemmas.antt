@@ -1,9 +1,9 @@
 -- Records of tokens, one row after the other.
-use Rattle.std.proofs.Common.{◌≡◌, ℕ, zero, suc, ◌+◌, ◌<◌, ◌≤◌, List, [], ◌∷◌, ◌++◌, length, map, take, get_or, refl}
+use Rattle.std.proofs.Common.{◌≡◌, ℕ, zero, suc, ◌+◌, ◌<◌, List, [], ◌∷◌, ◌++◌, length, map, take, get_or, refl}
 use Rattle.std.proofs.Common.{sym}
-use Rattle.std.proofs.Common.{◌∙◌, ap, arith, add-one, add_assoc, zero-add, append-nil, Option, Some}
+use Rattle.std.proofs.Common.{◌∙◌, ap, arith, add-one, add_assoc, zero-add, append-nil, Some}
 use Rattle.std.proofs.lemmas.Grind.{flat_map-append}
-use Rattle.std.proofs.lemmas.List.{length-append, length-map, take_all}
+use Rattle.std.proofs.lemmas.List.{length-append}
 use Rattle.std.specs.Prelude.{slice_get}
 use Rattle.js_session.specs.declared.row.Row.{Row}
 use Rattle.js_lex_c.specs.Tokens.{pool, token_lists, token_record, token_records, value_units, with_token}
@@ -63,14 +63,3 @@ lists_step rows live numbers index d old new within e before adds =
     let next : take (index + 1) live ≡ take index live ++ at.row ∷ [] = rw add-one at.more in
     adds at.row at.here ∙ ap (with_token at.row) before
     ∙ sym (ap token_lists next ∙ lists_more (take index live) at.row)
-
--- all rows
-pub lists_end : (rows live : List Row) (numbers : List ℕ) (index : ℕ) (lists : TokenLists) → length numbers ≤ index
-    → map (slice_get rows) numbers ≡ map Some live → lists ≡ token_lists (take index live)
-    → lists ≡ token_lists live
-lists_end rows live numbers index lists whole e is =
-    let some : Row → Option Row = Some in
-    let counts : length (map (slice_get rows) numbers) ≡ length (map Some live) = ap length e in
-    let within : length live ≤ index =
-    omega (arith, whole, counts, length-map numbers (slice_get rows), length-map live some) in
-    is ∙ ap token_lists (take_all index live within)

@@ -1,6 +1,7 @@
 -- The lists of a report, as C sees them, and what a call does to the lists of its caller.
 use Rattle.std.specs.Prelude.{◌≡◌, ◌⊎◌, ℕ, ◌+◌, ◌≤◌, false, List, length, map, Result, Ok, Err}
 use Rattle.js_text.specs.declared.source_type.SourceType.{SourceType}
+use Rattle.js_session.specs.Faults.{HasMarks}
 use Rattle.js_session.specs.Report.{ReportOf}
 use Rattle.js_session.specs.declared.command.Command.{Command}
 use Rattle.js_session.specs.declared.report.Report.{Report}
@@ -51,12 +52,13 @@ pub record AutoLists (source : List ℕ) (number : ℕ) (lists : ReportLists) : 
   pub type_is : number ≡ source_type_number source_type
   pub are_lists : ListsOfChosen source source_type lists
 
--- The lists of the report of a source and commands.
+-- The lists of the report of a source and commands, each of which that closes a mark has one to close.
 pub record ListsOfCommands (source : List ℕ) (t : SourceType) (commands : List Command) (lists : ReportLists)
     : Type 0 where
   pub report : Report
   pub report_is : ReportOf source t false commands report
   pub are_lists : AreListsOf commands report lists
+  pub marks : HasMarks commands
 
 -- the same of a source type and commands by their numbers
 pub record StepLists (source : List ℕ) (number : ℕ) (numbers : List ℕ) (lists : ReportLists) : Type 0 where

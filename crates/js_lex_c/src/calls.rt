@@ -1,7 +1,12 @@
 //! The calls that fill lists.
 
-ghost use Rattle.js_lex_c.specs.Faults.{AutoFaultCause, StepsFaultCause};
+ghost use Rattle.std.specs.Prelude.{◌≡◌, ◌⊎◌, ◌<◌, List, map};
+ghost use Rattle.js_session.specs.Faults.{HasMarks, IsReadable};
+ghost use Rattle.js_session.specs.declared.command.Command.{Command};
+ghost use Rattle.js_lex_c.specs.Faults.{AutoFaultCause, StepsFaultCause, fault_number};
 ghost use Rattle.js_lex_c.specs.Lists.{Answers, AutoLists, StepLists, Ends, held};
+ghost use Rattle.js_lex_c.specs.Numbers.{command_number, source_type_count};
+ghost use Rattle.js_lex_c.specs.declared.fault.Fault.{Fault};
 
 use crate::fault::Fault;
 use crate::fill::{JsCounts, JsLists};
@@ -40,8 +45,13 @@ pub extern "C" fn js_lex_auto(
     out: &mut JsLists<'_>,
     counts: &mut JsCounts,
 ) -> u32
-    ensures { Answers (AutoLists source.now source_type) (AutoFaultCause source.now source_type) result
+    ensures answer { Answers (AutoLists source.now source_type) (AutoFaultCause source.now source_type) result
         (held out.old) (held out.new) counts.new }
+    // Where a fault has its cause, or nothing is at fault, nothing but a lack of memory comes in the place of what is
+    // answered.
+    ensures exact { (fault : Fault) → AutoFaultCause source.now source_type fault
+        → (result ≡ fault_number fault) ⊎ (result ≡ 1) }
+    ensures complete { IsReadable source.now → source_type < source_type_count → (result ≡ 0) ⊎ (result ≡ 1) }
 {
     let found = auto_lists(alloc, source, source_type);
     end(found, out, counts)
@@ -60,8 +70,12 @@ pub extern "C" fn js_lex_steps(
     out: &mut JsLists<'_>,
     counts: &mut JsCounts,
 ) -> u32
-    ensures { Answers (StepLists source.now source_type commands.now)
+    ensures answer { Answers (StepLists source.now source_type commands.now)
         (StepsFaultCause source.now source_type commands.now) result (held out.old) (held out.new) counts.new }
+    ensures exact { (fault : Fault) → StepsFaultCause source.now source_type commands.now fault
+        → (result ≡ fault_number fault) ⊎ (result ≡ 1) }
+    ensures complete { (list : List Command) → IsReadable source.now → source_type < source_type_count
+        → map command_number list ≡ commands.now → HasMarks list → (result ≡ 0) ⊎ (result ≡ 1) }
 {
     let found = step_lists(alloc, source, source_type, commands);
     end(found, out, counts)

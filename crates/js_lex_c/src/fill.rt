@@ -1,6 +1,6 @@
 //! The lists and the counts of a caller.
 
-ghost use Rattle.std.specs.Prelude.{◌≡◌, length};
+ghost use Rattle.std.specs.Prelude.{◌≡◌};
 ghost use Rattle.js_lex_c.specs.Filled.{filled};
 ghost use Rattle.js_lex_c.specs.Lists.{AreFilled, counts_of, fault_counts, held};
 

@@ -1,6 +1,6 @@
 //! Tokens as C sees them, and the pool of their decoded values.
 
-ghost use Rattle.std.specs.Prelude.{◌≡◌, ◌≤◌, ◌+◌, ◌++◌, [], List, length, map, slice_get, Some, IfOk, OnOk};
+ghost use Rattle.std.specs.Prelude.{◌≡◌, ◌≤◌, ◌+◌, ◌++◌, [], List, map, slice_get, Some, IfOk, OnOk};
 ghost use Rattle.js_session.specs.declared.row.Row.{Row};
 ghost use Rattle.js_lex_c.specs.Tokens.{bit, has_flags_error, pattern_end_of, regex_flags_of, value_form, value_span};
 ghost use Rattle.js_lex_c.specs.Tokens.{value_units, token_flags, token_record, with_token, token_lists};
