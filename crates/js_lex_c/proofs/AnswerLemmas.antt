@@ -1,7 +1,5 @@
 -- What calls answer, from what they found.
-use Rattle.std.proofs.Common.{◌≡◌, ◌⊎◌, ℕ, ◌+◌, ◌≤◌, false, List, length, sym, subst, inl}
-use Rattle.std.proofs.Common.{inr}
-use Rattle.std.proofs.Common.{Result, Ok, Err}
+use Rattle.std.proofs.Common.{◌≡◌, ◌⊎◌, ℕ, ◌+◌, ◌≤◌, false, List, length, sym, subst, inl, inr, Result, Ok, Err}
 use Rattle.std.specs.Prelude.{MatchResult}
 use Rattle.js_text.specs.declared.source_type.SourceType.{SourceType}
 use Rattle.js_session.specs.Faults.{HasMarks}
@@ -10,8 +8,7 @@ use Rattle.js_session.specs.declared.command.Command.{Command}
 use Rattle.js_session.specs.declared.report.Report.{Report}
 use Rattle.js_auto.specs.Auto.{ReportOfChosen}
 use Rattle.js_lex_c.specs.Faults.{out_of_memory}
-use Rattle.js_lex_c.specs.Lists.{Answers, AreListsOf, Ends, Held, ListsOfChosen, ListsOfCommands}
-use Rattle.js_lex_c.specs.Lists.{lists_of}
+use Rattle.js_lex_c.specs.Lists.{Answers, AreListsOf, Ends, Held, ListsOfChosen, ListsOfCommands, lists_of}
 use Rattle.js_lex_c.specs.declared.fault.Fault.{Fault}
 use Rattle.js_lex_c.specs.declared.fill.JsCounts.{JsCounts}
 use Rattle.js_lex_c.specs.declared.gather.ReportLists.{ReportLists}

@@ -1,8 +1,7 @@
 -- Chains of links keep what they lead to when rows are added, and have what is live after each command.
 use Rattle.std.proofs.Common.{◌≡◌, ℕ, zero, suc, ◌+◌, ◌<◌, ◌≤◌, Bool, true, false, List, [], ◌∷◌, ◌++◌, length, get_or}
 use Rattle.std.proofs.Common.{drop, take, map, reverse, min, refl, sym, ◌∙◌, ap, subst, arith, add-one, append-nil}
-use Rattle.std.proofs.Common.{append_assoc}
-use Rattle.std.proofs.Common.{Option, Some, None}
+use Rattle.std.proofs.Common.{append_assoc, Option, Some, None}
 use Rattle.std.proofs.lemmas.List.{drop_all, get_or_append_left, get_or_at, length-append, map-append, reverse-append}
 use Rattle.std.proofs.lemmas.Option.{get_or_from_slice_get, slice_get_within}
 use Rattle.std.proofs.Math.Seq.{drop-cons}
@@ -11,8 +10,8 @@ use Rattle.js_session.specs.Effects.{Effect, effect_of, gives_row, is_step}
 use Rattle.js_session.specs.Effects.Effect.{reads, peeks, re_lexes, opens, rewinds, commits}
 use Rattle.js_session.specs.declared.command.Command.{Command}
 use Rattle.js_session.specs.declared.row.Row.{Row}
-use Rattle.js_lex_c.specs.Chains.{LeadsTo, IsChain, AreChains, Stands, Adds, ChangesMarks, Follows, Leaves}
-use Rattle.js_lex_c.specs.Chains.{Puts, first_chain, passed, put_behind}
+use Rattle.js_lex_c.specs.Chains.{LeadsTo, IsChain, AreChains, Stands, Adds, ChangesMarks, Follows, Leaves, Puts}
+use Rattle.js_lex_c.specs.Chains.{first_chain, passed, put_behind}
 use Rattle.js_lex_c.specs.LiveRows.{RowState, live_backward, rows_behind, rows_committed, rows_rewound, with_first}
 use Rattle.js_lex_c.specs.LiveRows.{with_mark, with_row}
 use Rattle.js_lex_c.specs.declared.chain.RowChains.{RowChains}

@@ -1,6 +1,6 @@
 -- The tokens of the live rows are the live tokens.
-use Rattle.std.proofs.Common.{◌≡◌, ℕ, Bool, true, false, List, [], ◌∷◌, ◌++◌, map, reverse, refl, sym, ◌∙◌}
-use Rattle.std.proofs.Common.{ap, subst, Some}
+use Rattle.std.proofs.Common.{◌≡◌, ℕ, Bool, true, false, List, [], ◌∷◌, ◌++◌, map, reverse, refl, sym, ◌∙◌, ap, subst}
+use Rattle.std.proofs.Common.{Some}
 use Rattle.std.proofs.lemmas.List.{map-append, reverse-append}
 use Rattle.std.specs.Prelude.{MatchBool, if◌then◌else◌}
 use Rattle.js_text.specs.Lists.{with_last}
@@ -17,8 +17,7 @@ use Rattle.js_session.specs.declared.row.Row.{Row}
 use Rattle.js_session.proofs.LiveLemmas.{with_last-append}
 use Rattle.js_session.proofs.RunLemmas.{state_mark, state_step}
 use Rattle.js_lex_c.specs.LiveRows.{RowState, live_rows, rows_behind, rows_committed, rows_rewound, with_first}
-use Rattle.js_lex_c.specs.LiveRows.{with_mark}
-use Rattle.js_lex_c.specs.LiveRows.{with_row}
+use Rattle.js_lex_c.specs.LiveRows.{with_mark, with_row}
 
 -- the token of a row
 abbrev pub token_of : Row → TokenParts

@@ -1,6 +1,5 @@
 -- Numbers of source types and commands.
-use Rattle.std.proofs.Common.{◌<◌}
-use Rattle.std.proofs.Common.{lit<}
+use Rattle.std.proofs.Common.{◌<◌, lit<}
 use Rattle.js_text.specs.declared.source_type.SourceType.{SourceType}
 use Rattle.js_text.specs.declared.source_type.SourceType.TheVariants.{Module}
 use Rattle.js_session.specs.declared.command.Command.{Command}

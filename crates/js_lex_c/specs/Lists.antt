@@ -89,6 +89,16 @@ held out = record {
   warnings = out.warnings.now;
 }
 
+-- Each list of the caller is still the same stretch of its memory.
+pub record StayInPlace (old new : JsLists) : Type 0 where
+  pub tokens : new.tokens.ghost_name ≡ old.tokens.ghost_name
+  pub units : new.units.ghost_name ≡ old.units.ghost_name
+  pub diagnostics : new.diagnostics.ghost_name ≡ old.diagnostics.ghost_name
+  pub deferred : new.deferred.ghost_name ≡ old.deferred.ghost_name
+  pub comments : new.comments.ghost_name ≡ old.comments.ghost_name
+  pub irregular : new.irregular.ghost_name ≡ old.irregular.ghost_name
+  pub warnings : new.warnings.ghost_name ≡ old.warnings.ghost_name
+
 -- Each list of the caller has the items as far as there is room, and behind them what stood there.
 pub record AreFilled (lists : ReportLists) (old new : Held) : Type 0 where
   pub tokens : new.tokens ≡ filled old.tokens lists.tokens

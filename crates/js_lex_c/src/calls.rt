@@ -4,7 +4,7 @@ ghost use Rattle.std.specs.Prelude.{◌≡◌, ◌⊎◌, ◌<◌, List, map};
 ghost use Rattle.js_session.specs.Faults.{HasMarks, IsReadable};
 ghost use Rattle.js_session.specs.declared.command.Command.{Command};
 ghost use Rattle.js_lex_c.specs.Faults.{AutoFaultCause, StepsFaultCause, fault_number};
-ghost use Rattle.js_lex_c.specs.Lists.{Answers, AutoLists, StepLists, Ends, held};
+ghost use Rattle.js_lex_c.specs.Lists.{Answers, AutoLists, StepLists, Ends, StayInPlace, held};
 ghost use Rattle.js_lex_c.specs.Numbers.{command_number, source_type_count};
 ghost use Rattle.js_lex_c.specs.declared.fault.Fault.{Fault};
 
@@ -16,7 +16,8 @@ use std::alloc::Global;
 
 /// Hands lists, or why there are none, to the caller.
 fn end(found: Result<ReportLists, Fault>, out: &mut JsLists<'_>, counts: &mut JsCounts) -> u32
-    ensures { Ends found result (held out.old) (held out.new) counts.new }
+    ensures ends { Ends found result (held out.old) (held out.new) counts.new }
+    ensures places { StayInPlace out.old out.new }
 {
     match found {
         Ok(lists) => {
@@ -47,6 +48,7 @@ pub extern "C" fn js_lex_auto(
 ) -> u32
     ensures answer { Answers (AutoLists source.now source_type) (AutoFaultCause source.now source_type) result
         (held out.old) (held out.new) counts.new }
+    ensures places { StayInPlace out.old out.new }
     // Where a fault has its cause, or nothing is at fault, nothing but a lack of memory comes in the place of what is
     // answered.
     ensures exact { (fault : Fault) → AutoFaultCause source.now source_type fault
@@ -72,6 +74,7 @@ pub extern "C" fn js_lex_steps(
 ) -> u32
     ensures answer { Answers (StepLists source.now source_type commands.now)
         (StepsFaultCause source.now source_type commands.now) result (held out.old) (held out.new) counts.new }
+    ensures places { StayInPlace out.old out.new }
     ensures exact { (fault : Fault) → StepsFaultCause source.now source_type commands.now fault
         → (result ≡ fault_number fault) ⊎ (result ≡ 1) }
     ensures complete { (list : List Command) → IsReadable source.now → source_type < source_type_count

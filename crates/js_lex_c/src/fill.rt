@@ -2,7 +2,7 @@
 
 ghost use Rattle.std.specs.Prelude.{◌≡◌};
 ghost use Rattle.js_lex_c.specs.Filled.{filled};
-ghost use Rattle.js_lex_c.specs.Lists.{AreFilled, counts_of, fault_counts, held};
+ghost use Rattle.js_lex_c.specs.Lists.{AreFilled, StayInPlace, counts_of, fault_counts, held};
 
 use crate::fault::Fault;
 use crate::gather::ReportLists;
@@ -55,7 +55,8 @@ pub(crate) fn fill<T: Copy>(room: &mut [T], items: &[T])
 impl JsLists<'_> {
     /// Puts the lists of a report into those of the caller.
     pub(crate) fn fill(&mut self, lists: &ReportLists)
-        ensures { AreFilled lists.now (held self.old) (held self.new) }
+        ensures filled { AreFilled lists.now (held self.old) (held self.new) }
+        ensures places { StayInPlace self.old self.new }
     {
         fill(self.tokens, lists.tokens.as_slice());
         fill(self.units, lists.units.as_slice());

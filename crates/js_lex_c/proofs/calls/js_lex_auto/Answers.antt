@@ -10,7 +10,7 @@ answer : (c : goal.After-end) → Answers (AutoLists c.args.source.now c.args.so
 answer c =
     answers (AutoLists c.args.source.now c.args.source_type) (AutoFaultCause c.args.source.now c.args.source_type)
     c.auto_lists-found.result c.end.result (held c.args.out.now) (held c.end.new.out) c.end.new.counts
-    c.auto_lists-found.ensures c.end.ensures
+    c.auto_lists-found.ensures c.end.ensures.ends
 
 pub returns-clause-answer : goal.returns-clause-answer
 returns-clause-answer c = answer c

@@ -10,7 +10,7 @@ answer : (c : goal.After-end) → Answers (StepLists c.args.source.now c.args.so
 answer c =
     answers (StepLists c.args.source.now c.args.source_type c.args.commands.now)
     (StepsFaultCause c.args.source.now c.args.source_type c.args.commands.now) c.step_lists-found.result c.end.result
-    (held c.args.out.now) (held c.end.new.out) c.end.new.counts c.step_lists-found.ensures c.end.ensures
+    (held c.args.out.now) (held c.end.new.out) c.end.new.counts c.step_lists-found.ensures c.end.ensures.ends
 
 pub returns-clause-answer : goal.returns-clause-answer
 returns-clause-answer c = answer c
