@@ -1,0 +1,26 @@
+use Rattle.js_lex_c.specs.Faults.{StepsFaultCause}
+use Rattle.js_lex_c.specs.Lists.{Answers, StepLists, held}
+use Rattle.js_lex_c.proofs.AnswerLemmas.{answers}
+use Rattle.js_lex_c.proofs.ExactLemmas.{steps_completely, steps_exactly}
+use Rattle.js_lex_c.proofs.calls.js_lex_steps.Goals as goal
+
+answer : (c : goal.After-end) → Answers (StepLists c.args.source.now c.args.source_type c.args.commands.now)
+    (StepsFaultCause c.args.source.now c.args.source_type c.args.commands.now) c.end.result (held c.args.out.now)
+    (held c.end.new.out) c.end.new.counts
+answer c =
+    answers (StepLists c.args.source.now c.args.source_type c.args.commands.now)
+    (StepsFaultCause c.args.source.now c.args.source_type c.args.commands.now) c.step_lists-found.result c.end.result
+    (held c.args.out.now) (held c.end.new.out) c.end.new.counts c.step_lists-found.ensures c.end.ensures.ends
+
+pub returns-clause-answer : goal.returns-clause-answer
+returns-clause-answer c = answer c
+
+pub returns-clause-exact : goal.returns-clause-exact
+returns-clause-exact c =
+    steps_exactly c.args.source.now c.args.source_type c.args.commands.now c.end.result (held c.args.out.now)
+    (held c.end.new.out) c.end.new.counts (answer c)
+
+pub returns-clause-complete : goal.returns-clause-complete
+returns-clause-complete c =
+    steps_completely c.args.source.now c.args.source_type c.args.commands.now c.end.result (held c.args.out.now)
+    (held c.end.new.out) c.end.new.counts (answer c)

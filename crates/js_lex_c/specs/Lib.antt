@@ -1,0 +1,9 @@
+pub mod Chains
+pub mod Faults
+pub mod Filled
+pub mod LiveRows
+pub mod Lists
+pub mod Names
+pub mod Numbers
+pub mod Records
+pub mod Tokens

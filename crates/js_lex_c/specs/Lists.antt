@@ -1,0 +1,162 @@
+-- The lists of a report, as C sees them, and what a call does to the lists of its caller.
+use Rattle.std.specs.Prelude.{◌≡◌, ◌⊎◌, ℕ, ◌+◌, ◌≤◌, false, List, length, map, Result, Ok, Err}
+use Rattle.js_text.specs.declared.source_type.SourceType.{SourceType}
+use Rattle.js_session.specs.Faults.{HasMarks}
+use Rattle.js_session.specs.Report.{ReportOf}
+use Rattle.js_session.specs.declared.command.Command.{Command}
+use Rattle.js_session.specs.declared.report.Report.{Report}
+use Rattle.js_auto.specs.Auto.{ReportOfChosen}
+use Rattle.js_lex_c.specs.Faults.{fault_number, fault_place, out_of_memory}
+use Rattle.js_lex_c.specs.Filled.{filled}
+use Rattle.js_lex_c.specs.LiveRows.{live_rows}
+use Rattle.js_lex_c.specs.Numbers.{command_number, source_type_number}
+use Rattle.js_lex_c.specs.Records.{comment_record, diagnostic_record, span_record}
+use Rattle.js_lex_c.specs.Tokens.{pool, token_records}
+use Rattle.js_lex_c.specs.declared.fault.Fault.{Fault}
+use Rattle.js_lex_c.specs.declared.fill.JsCounts.{JsCounts}
+use Rattle.js_lex_c.specs.declared.fill.JsLists.{JsLists}
+use Rattle.js_lex_c.specs.declared.gather.ReportLists.{ReportLists}
+use Rattle.js_lex_c.specs.declared.record.JsComment.{JsComment}
+use Rattle.js_lex_c.specs.declared.record.JsDiagnostic.{JsDiagnostic}
+use Rattle.js_lex_c.specs.declared.record.JsSpan.{JsSpan}
+use Rattle.js_lex_c.specs.declared.record.JsToken.{JsToken}
+
+-- the lists of the report of these commands: a token for each live row, and what is live of all else
+abbrev pub lists_of : List Command → Report → ReportLists
+lists_of commands report = record {
+  tokens = token_records 0 (live_rows commands report.rows);
+  units = pool (live_rows commands report.rows);
+  diagnostics = map diagnostic_record report.diagnostics;
+  deferred = map diagnostic_record report.deferred;
+  comments = map comment_record report.comments;
+  irregular = map span_record report.irregular;
+  warnings = map span_record report.warnings;
+}
+
+-- The lists are those of the report of these commands, and the live rows are those of its tokens.
+pub record AreListsOf (commands : List Command) (report : Report) (lists : ReportLists) : Type 0 where
+  pub lists_are : lists ≡ lists_of commands report
+  pub tokens_are : map (λ row. row.token) (live_rows commands report.rows) ≡ report.tokens
+
+-- The lists of the report of a source whose goals are chosen. There is one token more than bytes, at most.
+pub record ListsOfChosen (source : List ℕ) (t : SourceType) (lists : ReportLists) : Type 0 where
+  pub commands : List Command
+  pub report : Report
+  pub chosen : ReportOfChosen source t false commands report
+  pub are_lists : AreListsOf commands report lists
+  pub few : length lists.tokens ≤ length source + 1
+
+-- the same of a source type by its number
+pub record AutoLists (source : List ℕ) (number : ℕ) (lists : ReportLists) : Type 0 where
+  pub source_type : SourceType
+  pub type_is : number ≡ source_type_number source_type
+  pub are_lists : ListsOfChosen source source_type lists
+
+-- The lists of the report of a source and commands, each of which that closes a mark has one to close.
+pub record ListsOfCommands (source : List ℕ) (t : SourceType) (commands : List Command) (lists : ReportLists)
+    : Type 0 where
+  pub report : Report
+  pub report_is : ReportOf source t false commands report
+  pub are_lists : AreListsOf commands report lists
+  pub marks : HasMarks commands
+
+-- the same of a source type and commands by their numbers
+pub record StepLists (source : List ℕ) (number : ℕ) (numbers : List ℕ) (lists : ReportLists) : Type 0 where
+  pub source_type : SourceType
+  pub type_is : number ≡ source_type_number source_type
+  pub commands : List Command
+  pub commands_are : map command_number commands ≡ numbers
+  pub are_lists : ListsOfCommands source source_type commands lists
+
+-- What the lists of a caller hold, each in all of its room.
+pub record Held : Type 0 where
+  pub tokens : List JsToken
+  pub units : List ℕ
+  pub diagnostics : List JsDiagnostic
+  pub deferred : List JsDiagnostic
+  pub comments : List JsComment
+  pub irregular : List JsSpan
+  pub warnings : List JsSpan
+
+abbrev pub held : JsLists → Held
+held out = record {
+  tokens = out.tokens.now;
+  units = out.units.now;
+  diagnostics = out.diagnostics.now;
+  deferred = out.deferred.now;
+  comments = out.comments.now;
+  irregular = out.irregular.now;
+  warnings = out.warnings.now;
+}
+
+-- Each list of the caller is still the same stretch of its memory.
+pub record StayInPlace (old new : JsLists) : Type 0 where
+  pub tokens : new.tokens.ghost_name ≡ old.tokens.ghost_name
+  pub units : new.units.ghost_name ≡ old.units.ghost_name
+  pub diagnostics : new.diagnostics.ghost_name ≡ old.diagnostics.ghost_name
+  pub deferred : new.deferred.ghost_name ≡ old.deferred.ghost_name
+  pub comments : new.comments.ghost_name ≡ old.comments.ghost_name
+  pub irregular : new.irregular.ghost_name ≡ old.irregular.ghost_name
+  pub warnings : new.warnings.ghost_name ≡ old.warnings.ghost_name
+
+-- Each list of the caller has the items as far as there is room, and behind them what stood there.
+pub record AreFilled (lists : ReportLists) (old new : Held) : Type 0 where
+  pub tokens : new.tokens ≡ filled old.tokens lists.tokens
+  pub units : new.units ≡ filled old.units lists.units
+  pub diagnostics : new.diagnostics ≡ filled old.diagnostics lists.diagnostics
+  pub deferred : new.deferred ≡ filled old.deferred lists.deferred
+  pub comments : new.comments ≡ filled old.comments lists.comments
+  pub irregular : new.irregular ≡ filled old.irregular lists.irregular
+  pub warnings : new.warnings ≡ filled old.warnings lists.warnings
+
+-- how many items there are of each list
+abbrev pub counts_of : ReportLists → JsCounts
+counts_of lists = record {
+  tokens = length lists.tokens;
+  units = length lists.units;
+  diagnostics = length lists.diagnostics;
+  deferred = length lists.deferred;
+  comments = length lists.comments;
+  irregular = length lists.irregular;
+  warnings = length lists.warnings;
+  place = 0;
+}
+
+-- where a fault is, and no items
+abbrev pub fault_counts : Fault → JsCounts
+fault_counts fault = record {
+  tokens = 0;
+  units = 0;
+  diagnostics = 0;
+  deferred = 0;
+  comments = 0;
+  irregular = 0;
+  warnings = 0;
+  place = fault_place fault;
+}
+
+-- The call filled the lists with such lists, and counted their items.
+pub record Gives (Are : ReportLists → Type 0) (old new : Held) (counts : JsCounts) : Type 0 where
+  pub lists : ReportLists
+  pub are : Are lists
+  pub filled : AreFilled lists old new
+  pub counted : counts ≡ counts_of lists
+
+-- The call found a fault, which has its cause, and left the lists as they were.
+pub record Refuses (Cause : Fault → Type 0) (answer : ℕ) (old new : Held) (counts : JsCounts) : Type 0 where
+  pub fault : Fault
+  pub cause : (fault ≡ out_of_memory) ⊎ Cause fault
+  pub number : answer ≡ fault_number fault
+  pub untouched : new ≡ old
+  pub counted : counts ≡ fault_counts fault
+
+-- What a call answers that found these lists, or this fault.
+abbrev pub Ends : Result ReportLists Fault → ℕ → Held → Held → JsCounts → Type 0
+Ends (Ok lists) answer old new counts = (answer ≡ 0) × AreFilled lists old new × (counts ≡ counts_of lists)
+Ends (Err fault) answer old new counts =
+    (answer ≡ fault_number fault) × (new ≡ old) × (counts ≡ fault_counts fault)
+
+-- The call answers 0 and gives such lists, or another number for a fault.
+abbrev pub Answers : (ReportLists → Type 0) → (Fault → Type 0) → ℕ → Held → Held → JsCounts → Type 0
+Answers Are Cause answer old new counts =
+    ((answer ≡ 0) × Gives Are old new counts) ⊎ Refuses Cause answer old new counts

@@ -1,0 +1,189 @@
+/* The lexer for JavaScript, for programs in C and in what calls C: the static library js_lex_c.
+ *
+ * A call reads a source, and fills lists that the caller owns, each from its beginning as far as it has room. It keeps
+ * nothing behind it: there is no handle, and nothing to free. Where room was short, the caller calls again with more.
+ *
+ * Offsets are in bytes from the start of the source, which is UTF-8. A span goes from `start` up to `end`, without it.
+ *
+ * Who calls keeps to this, which nothing checks:
+ * - No pointer is null, also where a length is 0.
+ * - Behind each pointer stand as many items as its length says, aligned as C has them, and written before, as calloc
+ *   leaves them. What they hold is of no matter.
+ * - No two lists overlap, and none overlaps the source, the commands, `out` or `counts`. During a call nothing else
+ *   reads or writes them. The call reads the source and the commands alone, and writes the lists and the counts alone.
+ * - A call comes from no signal handler, and from no child that a process with threads forked.
+ * Several calls may run at once in several threads, each with lists of its own; a source may be one for all.
+ *
+ * docs/EMBEDDING.md says how to link it, and what is proved.
+ */
+#ifndef JS_LEX_H
+#define JS_LEX_H
+
+#include <stddef.h>
+#include <stdint.h>
+
+#ifdef __cplusplus
+extern "C" {
+#endif
+
+/* As what a source is read. */
+enum {
+    JS_LEX_MODULE = 0,
+    JS_LEX_SCRIPT = 1,
+    JS_LEX_UNAMBIGUOUS = 2 /* a module if it has an import or an export, else a script */
+};
+
+/* What a call answers. On any but JS_LEX_OK the lists are as before, and the counts are 0 but for `place`. */
+enum {
+    JS_LEX_OK = 0,
+    JS_LEX_NO_MEMORY = 1,            /* or the pool would have 2^32 units or more */
+    JS_LEX_NOT_UTF8 = 6,             /* the longest beginning that is UTF-8 has `place` bytes */
+    JS_LEX_NO_MARK = 7,              /* the command at the index `place` closes a mark where none is open */
+    JS_LEX_OVERLONG = 11,            /* the source has 2^32 bytes or more */
+    JS_LEX_UNKNOWN_COMMAND = 12,     /* the number at the index `place` is that of no command */
+    JS_LEX_UNKNOWN_SOURCE_TYPE = 13
+};
+
+/* What a session does next, one byte each. */
+enum {
+    JS_LEX_NEXT = 0,          /* reads the next token, which is live from then on */
+    JS_LEX_JSX_CHILD = 1,     /* reads what stands between two tags of JSX */
+    JS_LEX_JSX_ATTR = 2,      /* reads the value of an attribute of JSX */
+    JS_LEX_REGEX = 3,         /* reads a regular expression from the `/` or `/=` on that is the last live token */
+    JS_LEX_TEMPLATE_TAIL = 4, /* reads on a template behind the `}` that is the last live token */
+    JS_LEX_JSX_NAME = 5,      /* reads on a name of JSX where a `-` follows the last live token */
+    JS_LEX_R_ANGLE = 6,       /* reads the longest punctuator from the `>` on that is the last live token */
+    JS_LEX_TS_L_ANGLE = 7,    /* reads the `<` alone with which the last live token begins */
+    JS_LEX_TS_R_ANGLE = 8,    /* reads the `>` alone with which the last live token begins */
+    JS_LEX_PEEK = 9,          /* reads the next token, and goes back before it */
+    JS_LEX_MARK = 10,         /* marks what is live */
+    JS_LEX_REWIND = 11,       /* goes back to the last mark that is open, and closes it */
+    JS_LEX_COMMIT = 12        /* closes the last mark that is open */
+};
+
+/* In the place of an offset or a character: there is none. */
+#define JS_LEX_NONE 0xFFFFFFFFu
+
+/* A stretch, of the source in bytes or of the pool in units. */
+typedef struct JsSpan {
+    uint32_t start;
+    uint32_t end;
+} JsSpan;
+
+/* The flags of a token. */
+enum {
+    JS_TOKEN_ON_NEW_LINE = 1, /* a line has ended before it, or it is the first */
+    JS_TOKEN_ESCAPED = 2,     /* it has an escape in it, or a line end that its value changes */
+    JS_TOKEN_SEPARATOR = 4,   /* it is a number with `_` between its digits */
+    JS_TOKEN_BAD_FLAGS = 8    /* a flag of the regular expression is unknown or stands twice */
+};
+
+/* The flags of a regular expression: bit 0 to 7 for `g`, `i`, `m`, `s`, `u`, `y`, `d` and `v`. */
+#define JS_REGEX_FLAGS "gimsuydv"
+
+/* How the value of a token is told. */
+enum {
+    JS_VALUE_NONE = 0,   /* a token of its kind has no value */
+    JS_VALUE_SOURCE = 1, /* it is the stretch `value` of the source, as it stands there */
+    JS_VALUE_UNITS = 2,  /* it is the stretch `value` of the pool: UTF-16 units, in which a surrogate may be alone */
+    JS_VALUE_BAD = 3     /* it is a part of a template with an escape that stands for nothing */
+};
+
+/* A token. */
+typedef struct JsToken {
+    JsSpan span;          /* where it stands */
+    JsSpan value;         /* where its value is, by `value_form`; 0 and 0 where it has none */
+    uint32_t pattern_end; /* of a regular expression the offset of the `/` behind its pattern, else 0 */
+    uint8_t kind;         /* js_lex_kind_name names it */
+    uint8_t flags;        /* a sum of JS_TOKEN_.. */
+    uint8_t regex_flags;  /* of a regular expression its flags, else 0 */
+    uint8_t value_form;   /* JS_VALUE_.. */
+} JsToken;
+
+/* How a comment is written. */
+enum {
+    JS_COMMENT_LINE = 0,              /* `//` */
+    JS_COMMENT_SINGLE_LINE_BLOCK = 1, /* from slash and star to star and slash, without a line end inside */
+    JS_COMMENT_MULTI_LINE_BLOCK = 2,  /* the same with one */
+    JS_COMMENT_HTML_OPEN = 3,         /* `<!--` */
+    JS_COMMENT_HTML_CLOSE = 4         /* `-->` */
+};
+
+/* To which token a comment belongs. */
+enum { JS_COMMENT_LEADING = 0, JS_COMMENT_TRAILING = 1 };
+
+/* On which sides of a comment lines end. */
+enum { JS_NEWLINE_BEFORE = 1, JS_NEWLINE_AFTER = 2 };
+
+/* A comment. */
+typedef struct JsComment {
+    JsSpan span;          /* the whole comment with its marks, without the line end behind it */
+    uint32_t attached_to; /* the start of the token that it leads, or the end of the token that it trails */
+    uint8_t kind;         /* JS_COMMENT_LINE .. JS_COMMENT_HTML_CLOSE */
+    uint8_t position;     /* JS_COMMENT_LEADING or JS_COMMENT_TRAILING */
+    uint8_t newlines;     /* a sum of JS_NEWLINE_.. */
+    uint8_t content;      /* its class; js_lex_content_name names it */
+} JsComment;
+
+/* A diagnostic. */
+typedef struct JsDiagnostic {
+    JsSpan span;        /* what it is about; both ends are JS_LEX_NONE where it is about the whole file */
+    uint32_t number;    /* js_lex_diagnostic_name names it */
+    uint32_t character; /* the character that it names, or JS_LEX_NONE */
+} JsDiagnostic;
+
+/* The lists of the caller, each with its room: how many items it may have. */
+typedef struct JsLists {
+    JsToken *tokens; /* the live tokens, in order */
+    size_t token_room;
+    uint16_t *units; /* the pool: the UTF-16 units of decoded values, one value behind the other */
+    size_t unit_room;
+    JsDiagnostic *diagnostics; /* what is at fault */
+    size_t diagnostic_room;
+    JsDiagnostic *deferred; /* what is at fault if the source is a module */
+    size_t deferred_room;
+    JsComment *comments;
+    size_t comment_room;
+    JsSpan *irregular; /* white space other than TAB and SP */
+    size_t irregular_room;
+    JsSpan *warnings; /* each `>` in the text of a child of JSX */
+    size_t warning_room;
+} JsLists;
+
+/* How many items there are of each list, however much room there was. */
+typedef struct JsCounts {
+    size_t tokens;
+    size_t units;
+    size_t diagnostics;
+    size_t deferred;
+    size_t comments;
+    size_t irregular;
+    size_t warnings;
+    size_t place; /* of some answers an offset or an index, else 0 */
+} JsCounts;
+
+/* Lexes a source of `source_length` bytes by goals that are chosen: where a `/` begins a regular expression, and where
+ * a `}` ends a substitution of a template, is told by the tokens before it. This is a rule of thumb, and not a parser's.
+ *
+ * It answers JS_LEX_OK, JS_LEX_NO_MEMORY, JS_LEX_NOT_UTF8, JS_LEX_OVERLONG or JS_LEX_UNKNOWN_SOURCE_TYPE. The last
+ * token is the end of the source. Room for `source_length` + 1 tokens always suffices. */
+uint32_t js_lex_auto(const uint8_t *source, size_t source_length, uint32_t source_type, JsLists *out,
+                     JsCounts *counts);
+
+/* Lexes a source by commands: the first token is read before any. It answers what js_lex_auto does, and besides
+ * JS_LEX_NO_MARK and JS_LEX_UNKNOWN_COMMAND. */
+uint32_t js_lex_steps(const uint8_t *source, size_t source_length, uint32_t source_type, const uint8_t *commands,
+                      size_t command_count, JsLists *out, JsCounts *counts);
+
+/* The name of a kind of tokens, of a diagnostic, and of a class of comments, by its number: each fills the buffer as
+ * far as there is room, with no 0 behind it, and gives the length of the name in bytes, all of them ASCII. It gives 0
+ * for a number that has no name, and leaves the buffer. The numbers go from 0 on without a gap. */
+size_t js_lex_kind_name(uint32_t number, uint8_t *buffer, size_t room);
+size_t js_lex_diagnostic_name(uint32_t number, uint8_t *buffer, size_t room);
+size_t js_lex_content_name(uint32_t number, uint8_t *buffer, size_t room);
+
+#ifdef __cplusplus
+}
+#endif
+
+#endif
