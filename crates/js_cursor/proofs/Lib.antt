@@ -1,7 +1,7 @@
 pub mod AheadSteps
 pub mod CursorSteps
+pub mod FailingSteps
 pub mod GoesOn
-pub mod MemorySteps
 pub mod PlaceSteps
 pub mod RestItems
 pub mod RoundSteps

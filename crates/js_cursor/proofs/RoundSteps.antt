@@ -5,15 +5,11 @@ use Rattle.std.specs.Prelude.{Result, ◌&&◌, ◌||◌, if◌then◌else◌, i
 use Rattle.std.specs.Option.{is_some}
 use Rattle.std.proofs.lemmas.Bool.Decides.{nat_tests}
 use Rattle.std.proofs.lemmas.Fn.{FoldsTo-push}
-use Rattle.std.specs.declared.alloc.AllocError.{AllocError}
 use Rattle.js_kind.specs.declared.kind.Kind.{Kind}
 use Rattle.js_cursor.specs.Checkpoint.{GoesOnFrom}
 use Rattle.js_cursor.specs.Cursor.{CursorState, is_at}
-use Rattle.js_cursor.specs.Lists.{Answering, GoesOn, IsRound, LeadingOn, OnStuck, Reading, Rounds, ends_at, is_stuck, is_stuck_at}
-use Rattle.js_cursor.specs.Lists.{left_to_read}
-use Rattle.js_cursor.specs.Memory.{OnMemory}
-use Rattle.js_cursor.specs.declared.fault.CursorFault.{CursorFault}
-use Rattle.js_cursor.specs.declared.fault.CursorFault.TheVariants.{Stuck, Memory}
+use Rattle.js_cursor.specs.Lists.{Answering, GoesOn, IsRound, LeadingOn, Reading, Rounds, ends_at, is_stuck}
+use Rattle.js_cursor.specs.Lists.{is_stuck_at, left_to_read}
 use Rattle.js_cursor.proofs.GoesOn.{goes_on-trans}
 
 -- one more round
@@ -61,22 +57,7 @@ round-push R close f c xs ys g d x h e rounds is_open read leading added =
     (rounds-push (LeadingOn (IsRound R close)) f c xs g d x h e rounds
     (record { is_open = is_open; read = read }, leading))
 
--- what is said of a place where a list gets stuck
-pub on_stuck-map : (fault : CursorFault) (P Q : ℕ → Type 0) → ((at : ℕ) → P at → Q at) → OnStuck fault P
-    → OnStuck fault Q
-on_stuck-map (Stuck at) P Q h p = h at p
-on_stuck-map Memory P Q h p = p
-
--- what is said of a list that finds no memory
-pub on_memory : (fault : CursorFault) (P : Type 0) → P → OnMemory fault P
-on_memory (Stuck at) P p = tt
-on_memory Memory P p = p
-
-pub on_memory-map : (fault : CursorFault) (P Q : Type 0) → (P → Q) → OnMemory fault P → OnMemory fault Q
-on_memory-map (Stuck at) P Q h p = p
-on_memory-map Memory P Q h p = h p
-
 -- an element was called for behind what went on
-pub then_read : {F T : Type 0} (A : Answering F T) (a b : CursorState) (f : F) (answer : Result T AllocError) (g : F)
-    (d : CursorState) → (GoesOn A → GoesOnFrom a b) → A f b answer g d → GoesOn A → GoesOnFrom a d
+pub then_read : {F T Fault : Type 0} (A : Answering F T Fault) (a b : CursorState) (f : F) (answer : Result T Fault)
+    (g : F) (d : CursorState) → (GoesOn A → GoesOnFrom a b) → A f b answer g d → GoesOn A → GoesOnFrom a d
 then_read A a b f answer g d before read onward = goes_on-trans a b d (before onward) (onward f b answer g d read)

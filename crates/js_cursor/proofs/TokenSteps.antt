@@ -1,7 +1,7 @@
 -- Where the current token and the one before it stand.
 use Rattle.std.proofs.Common.{◌≡◌, ◌≢◌, ◌<◌, ◌≤◌, ℕ, Bool, true, false, List, length, refl, sym, ◌∙◌, ap, subst, arith}
-use Rattle.std.proofs.Common.{Option, Some, None}
-use Rattle.std.specs.Prelude.{Result, Ok, Err, MatchBool, OnOk, OnErr, ◌&&◌, ◌||◌, if◌then◌else◌}
+use Rattle.std.proofs.Common.{Some}
+use Rattle.std.specs.Prelude.{Result, Ok, Err, MatchBool, OnOk, OnErr, ◌&&◌, if◌then◌else◌}
 use Rattle.std.specs.Option.{is_some}
 use Rattle.std.specs.Str.{IsCharBoundary}
 use Rattle.std.specs.declared.alloc.AllocError.{AllocError}

@@ -3,9 +3,10 @@ pub mod Checkpoint
 pub mod Cursor
 pub mod Diagnostic
 pub mod Expect
+pub mod Failing
+pub mod Faults
 pub mod ListSteps
 pub mod Lists
-pub mod Memory
 pub mod ReLex
 pub mod Rests
 pub mod RestSteps

@@ -1,9 +1,8 @@
 -- Lists that a cursor reads.
-use Rattle.std.specs.Prelude.{◌≡◌, ℕ, ◌-◌, ◌^◌, ◌&&◌, ◌||◌, Bool, true, false, List, [], ◌∷◌, Option, Some, None, ⊤}
+use Rattle.std.specs.Prelude.{◌≡◌, ℕ, ◌-◌, ◌^◌, ◌&&◌, ◌||◌, Bool, true, false, List, [], ◌∷◌, Option, Some, None}
 use Rattle.std.specs.Prelude.{Result, Ok, is_none, nat_le, if◌then◌else◌}
 use Rattle.std.specs.List.{FoldsTo}
 use Rattle.std.specs.Option.{is_some}
-use Rattle.std.specs.declared.alloc.AllocError.{AllocError}
 use Rattle.js_text.specs.declared.span.Span.{Span}
 use Rattle.js_kind.specs.Kinds.{is_one_of}
 use Rattle.js_kind.specs.declared.kind.Kind.{Kind}
@@ -12,25 +11,23 @@ use Rattle.js_cursor.specs.Checkpoint.{GoesOnFrom}
 use Rattle.js_cursor.specs.Cursor.{CursorState, Advances, is_at, span_of, with_fatal_error}
 use Rattle.js_cursor.specs.Expect.{expecting, expecting_closing}
 use Rattle.js_cursor.specs.declared.diagnostic.CursorDiagnostic.TheVariants.{ExpectClosingOrSeparator}
-use Rattle.js_cursor.specs.declared.fault.CursorFault.{CursorFault}
-use Rattle.js_cursor.specs.declared.fault.CursorFault.TheVariants.{Stuck, Memory}
 
 -- What a call of an element means, whatever it answers: the element and the cursor before it, its answer, and both
 -- after it.
-abbrev pub Answering : Type 0 → Type 0 → Type 1
-Answering F T = F → CursorState → Result T AllocError → F → CursorState → Type 0
+abbrev pub Answering : Type 0 → Type 0 → Type 0 → Type 1
+Answering F T Fault = F → CursorState → Result T Fault → F → CursorState → Type 0
 
 -- What a call that reads one means: the element and the cursor before it, what it read, and both after it.
 abbrev pub Reading : Type 0 → Type 0 → Type 1
 Reading F T = F → CursorState → T → F → CursorState → Type 0
 
 -- a call of an element that reads one
-abbrev pub Given : {F T : Type 0} → Answering F T → Reading F T
+abbrev pub Given : {F T Fault : Type 0} → Answering F T Fault → Reading F T
 Given A f c x g d = A f c (Ok x) g d
 
 -- Whatever a call of the element answers, the cursor has gone on.
-abbrev pub GoesOn : {F T : Type 0} → Answering F T → Type 0
-GoesOn {F} {T} A = (f : F) (c : CursorState) (answer : Result T AllocError) (g : F) (d : CursorState)
+abbrev pub GoesOn : {F T Fault : Type 0} → Answering F T Fault → Type 0
+GoesOn {F} {T} {Fault} A = (f : F) (c : CursorState) (answer : Result T Fault) (g : F) (d : CursorState)
     → A f c answer g d → GoesOnFrom c d
 
 -- The rounds read these items, one after another, each from where the one before it left the element and the cursor.
@@ -91,11 +88,6 @@ pub record GetsStuck {F T : Type 0} (Q : Reading F T) (f : F) (c : CursorState) 
   pub round : Q before from x after new
   pub stuck : is_stuck from new ≡ true
   pub at_is : at ≡ new.token.start
-
--- why a list was not read, where no memory was wanting
-abbrev pub OnStuck : CursorFault → (ℕ → Type 0) → Type 0
-OnStuck (Stuck at) P = P at
-OnStuck Memory P = ⊤
 
 -- A normal list was read: its opening, elements up to its end, and its closing.
 pub record ReadsNormalList {F T : Type 0} (R : Reading F T) (opening close : Kind) (f : F) (old : CursorState)

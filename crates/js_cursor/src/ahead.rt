@@ -1,6 +1,5 @@
 //! Questions of the tokens ahead, for `Cursor::lookahead`.
 
-ghost use Rattle.std.specs.Prelude.{◌≡◌};
 ghost use Rattle.js_lexer.specs.Places.{KeepsPlaces};
 ghost use Rattle.js_cursor.specs.Ahead.{LooksAhead, LooksTwoAhead, is_at_on_same_line};
 ghost use Rattle.js_cursor.specs.Checkpoint.{GoesOnFrom};

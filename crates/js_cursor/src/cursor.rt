@@ -13,6 +13,7 @@ mod advance;
 mod expect;
 mod lexing;
 mod list;
+mod plain_list;
 mod re_lex;
 mod rest;
 mod speculate;

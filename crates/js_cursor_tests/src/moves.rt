@@ -1,6 +1,6 @@
 //! What a parser relies on as it goes on: places, lists step by step, and questions of the tokens ahead.
 
-ghost use Rattle.std.specs.Prelude.{◌≡◌, ◌≢◌, ◌≤◌, ◌<◌, OnOk};
+ghost use Rattle.std.specs.Prelude.{◌≢◌, ◌<◌, OnOk};
 
 use crate::calls::{TestCursor, cursor_over};
 use js_cursor::laws::what_leads_on_leaves_less;

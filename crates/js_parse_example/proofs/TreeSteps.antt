@@ -7,7 +7,7 @@ use Rattle.std.specs.Str.{IsCharBoundary}
 use Rattle.std.proofs.lemmas.List.{take-append-drop}
 use Rattle.js_text.specs.declared.span.Span.{Span}
 use Rattle.js_reader.specs.Decoded.{IsStretch}
-use Rattle.js_parse_example.specs.Trees.{AreInOrder, AreKept, AreTrees, Fits, HasInside, IsBefore, end_of, last_end}
+use Rattle.js_parse_example.specs.Trees.{AreInOrder, AreKept, AreTrees, Fits, IsBefore, end_of, last_end}
 use Rattle.js_parse_example.specs.Trees.AreTrees.{node, none}
 use Rattle.js_parse_example.specs.declared.node.Node.{Node}
 

@@ -1,4 +1,4 @@
-//! Lists.
+//! Lists, and their steps.
 
 ghost use Rattle.std.specs.Prelude.{◌≡◌, ◌≢◌, ◌≤◌, ◌<◌, not, [], ◌∷◌, ◌++◌, true, false, IfOk, IfErr, OnOk, OnErr};
 ghost use Rattle.js_text.specs.declared.span.Span.{Span};
@@ -6,19 +6,21 @@ ghost use Rattle.js_kind.specs.Kinds.{is_one_of};
 ghost use Rattle.js_lexer.specs.Places.{KeepsPlaces};
 ghost use Rattle.js_cursor.specs.Cursor.{Advances, IsAsBefore, is_at};
 ghost use Rattle.js_cursor.specs.Checkpoint.{GoesOnFrom};
-ghost use Rattle.js_cursor.specs.Lists.{GetsStuck, Given, GoesOn, IsRound, IsSeparatedRound, LeadingOn, OnStuck};
+ghost use Rattle.js_cursor.specs.Failing.{FailsDelimitedList, FailsInElements, FailsNormalList, FailsSeparated};
+ghost use Rattle.js_cursor.specs.Failing.{FailsWith, LacksNormalList, LacksPlace, LacksSeparator, NothingBefore};
+ghost use Rattle.js_cursor.specs.Failing.{ReadsElements, ReadsSomeElements};
+ghost use Rattle.js_cursor.specs.Faults.{IfElement, IfMemory, IfStuck};
+ghost use Rattle.js_cursor.specs.Lists.{GetsStuck, Given, GoesOn, IsRound, IsSeparatedRound, LeadingOn};
 ghost use Rattle.js_cursor.specs.Lists.{Present, Rounds};
 ghost use Rattle.js_cursor.specs.Lists.{ReadsBreakableList, ReadsDelimitedList, ReadsNormalList, ReadsWhileSome};
 ghost use Rattle.js_cursor.specs.Lists.{StopsDelimitedList, StopsNormalList, ends_at, is_stuck_at};
 ghost use Rattle.js_cursor.specs.Lists.{neither_closed_nor_separated};
 ghost use Rattle.js_cursor.specs.ListSteps.{GoesBehind, ReadsMore};
-ghost use Rattle.js_cursor.specs.Memory.{LacksDelimitedList, LacksElements, LacksNormalList, LacksOne, LacksSeparated};
-ghost use Rattle.js_cursor.specs.Memory.{LacksSeparator, OnMemory, ReadsElements, ReadsSomeElements};
 
 use super::Cursor;
 use crate::diagnostic::CursorDiagnostic;
-use crate::element::Element;
-use crate::fault::CursorFault;
+use crate::element::FallibleElement;
+use crate::fault::ListFault;
 use crate::list_step::ListStep;
 use js_kind::{Kind, LexerConfig};
 use js_text::Span;
@@ -76,28 +78,33 @@ impl<C: LexerConfig + Drop> Cursor<'_, C> {
     }
 
     /// Reads elements up to the end of the list.
-    fn read_elements<T: Drop, F: Element<C, T>>(
+    fn read_elements<T: Drop, Fault, F: FallibleElement<C, T, Fault>>(
         &mut self,
         alloc: Global,
         close: Kind,
         f: &mut F,
-    ) -> Result<Vec<T>, CursorFault>
+    ) -> Result<Vec<T>, ListFault<Fault>>
         ensures ok { IfOk result (λ xs.
             Rounds (LeadingOn (IsRound (Given F.reads) close)) f.old self.old xs.items f.new self.new) }
         ensures ends { OnOk result (ends_at close self.new ≡ true) }
-        ensures stuck { IfErr result (λ fault. OnStuck fault
+        ensures stuck { IfErr result (λ fault. IfStuck fault
             (λ at. GetsStuck (IsRound (Given F.reads) close) f.old self.old at self.new)) }
-        ensures memory { IfErr result (λ fault. OnMemory fault
-            (LacksElements F.reads (Given F.reads) close f.old self.old f.new self.new)) }
+        ensures memory { IfErr result (λ fault. IfMemory fault
+            (FailsInElements (LacksPlace F.reads) (Given F.reads) close f.old self.old f.new self.new)) }
+        ensures element { IfErr result (λ fault. IfElement fault
+            (λ e. FailsInElements (FailsWith F.reads e) (Given F.reads) close f.old self.old f.new self.new)) }
         ensures places { KeepsPlaces self.old.lexer self.new.lexer }
         ensures goes_on { GoesOn F.reads → GoesOnFrom self.old self.new }
     {
         let mut elements = Vec::new(alloc);
         while !self.is_at_end_of_list(close) {
             let start = self.cur_start();
-            let element = f.read(self)?;
+            let element = match f.try_read(self) {
+                Ok(element) => element,
+                Err(fault) => return Err(ListFault::Element(fault)),
+            };
             if self.is_stuck_at(start) {
-                return Err(CursorFault::Stuck {
+                return Err(ListFault::Stuck {
                     at: self.cur_start(),
                 });
             }
@@ -106,20 +113,24 @@ impl<C: LexerConfig + Drop> Cursor<'_, C> {
         Ok(elements)
     }
 
-    /// Reads a list: `opening`, elements up to `close` or a fatal error, and `close`.
-    pub fn parse_normal_list<T: Drop, F: Element<C, T> + Drop>(
+    /// Reads a list: `opening`, elements up to `close` or a fatal error, and `close`. An element that fails ends it,
+    /// with its fault.
+    pub fn try_parse_normal_list<T: Drop, Fault, F: FallibleElement<C, T, Fault> + Drop>(
         &mut self,
         alloc: Global,
         opening: Kind,
         close: Kind,
         f: F,
-    ) -> Result<Vec<T>, CursorFault>
+    ) -> Result<Vec<T>, ListFault<Fault>>
         ensures ok { IfOk result (λ xs. ReadsNormalList (Given F.reads) opening close f self.old xs.items self.new) }
-        ensures stuck { IfErr result (λ fault. OnStuck fault
+        ensures stuck { IfErr result (λ fault. IfStuck fault
             (λ at. StopsNormalList (Given F.reads) opening close f self.old at self.new)) }
-        ensures memory { IfErr result (λ fault. OnMemory fault
-            (LacksNormalList (LacksElements F.reads (Given F.reads) close) (ReadsElements (Given F.reads) close)
-            opening close f self.old self.new)) }
+        ensures memory { IfErr result (λ fault. IfMemory fault
+            (LacksNormalList (FailsInElements (LacksPlace F.reads) (Given F.reads) close)
+            (ReadsElements (Given F.reads) close) opening close f self.old self.new)) }
+        ensures element { IfErr result (λ fault. IfElement fault
+            (λ e. FailsNormalList (FailsInElements (FailsWith F.reads e) (Given F.reads) close) opening f self.old
+            self.new)) }
         ensures places { KeepsPlaces self.old.lexer self.new.lexer }
         ensures goes_on { GoesOn F.reads → GoesOnFrom self.old self.new }
     {
@@ -136,27 +147,34 @@ impl<C: LexerConfig + Drop> Cursor<'_, C> {
     }
 
     /// Reads elements up to the end of the list, or up to one that is none.
-    fn read_elements_while_some<T: Drop, F: Element<C, Option<T>>>(
+    fn read_elements_while_some<T: Drop, Fault, F: FallibleElement<C, Option<T>, Fault>>(
         &mut self,
         alloc: Global,
         close: Kind,
         f: &mut F,
-    ) -> Result<Vec<T>, CursorFault>
+    ) -> Result<Vec<T>, ListFault<Fault>>
         ensures ok { IfOk result (λ xs. ReadsWhileSome (Given F.reads) close f.old self.old xs.items f.new self.new) }
-        ensures stuck { IfErr result (λ fault. OnStuck fault
+        ensures stuck { IfErr result (λ fault. IfStuck fault
             (λ at. GetsStuck (IsRound (Present (Given F.reads)) close) f.old self.old at self.new)) }
-        ensures memory { IfErr result (λ fault. OnMemory fault
-            (LacksElements F.reads (Present (Given F.reads)) close f.old self.old f.new self.new)) }
+        ensures memory { IfErr result (λ fault. IfMemory fault
+            (FailsInElements (LacksPlace F.reads) (Present (Given F.reads)) close f.old self.old f.new self.new)) }
+        ensures element { IfErr result (λ fault. IfElement fault
+            (λ e. FailsInElements (FailsWith F.reads e) (Present (Given F.reads)) close f.old self.old f.new
+            self.new)) }
         ensures places { KeepsPlaces self.old.lexer self.new.lexer }
         ensures goes_on { GoesOn F.reads → GoesOnFrom self.old self.new }
     {
         let mut elements = Vec::new(alloc);
         while !self.is_at_end_of_list(close) {
             let start = self.cur_start();
-            match f.read(self)? {
+            let read = match f.try_read(self) {
+                Ok(read) => read,
+                Err(fault) => return Err(ListFault::Element(fault)),
+            };
+            match read {
                 Some(element) => {
                     if self.is_stuck_at(start) {
-                        return Err(CursorFault::Stuck {
+                        return Err(ListFault::Stuck {
                             at: self.cur_start(),
                         });
                     }
@@ -168,20 +186,26 @@ impl<C: LexerConfig + Drop> Cursor<'_, C> {
         Ok(elements)
     }
 
-    /// Reads a list: `opening`, elements up to `close` or a fatal error, or up to one that is none, and `close`.
-    pub fn parse_normal_list_breakable<T: Drop, F: Element<C, Option<T>> + Drop>(
+    /// Reads a list: `opening`, elements up to `close` or a fatal error, or up to one that is none, and `close`. An
+    /// element that fails ends it, with its fault.
+    pub fn try_parse_normal_list_breakable<T: Drop, Fault, F>(
         &mut self,
         alloc: Global,
         opening: Kind,
         close: Kind,
         f: F,
-    ) -> Result<Vec<T>, CursorFault>
+    ) -> Result<Vec<T>, ListFault<Fault>>
+    where
+        F: FallibleElement<C, Option<T>, Fault> + Drop,
         ensures ok { IfOk result (λ xs. ReadsBreakableList (Given F.reads) opening close f self.old xs.items self.new) }
-        ensures stuck { IfErr result (λ fault. OnStuck fault
+        ensures stuck { IfErr result (λ fault. IfStuck fault
             (λ at. StopsNormalList (Present (Given F.reads)) opening close f self.old at self.new)) }
-        ensures memory { IfErr result (λ fault. OnMemory fault
-            (LacksNormalList (LacksElements F.reads (Present (Given F.reads)) close)
+        ensures memory { IfErr result (λ fault. IfMemory fault
+            (LacksNormalList (FailsInElements (LacksPlace F.reads) (Present (Given F.reads)) close)
             (ReadsSomeElements (Given F.reads) close) opening close f self.old self.new)) }
+        ensures element { IfErr result (λ fault. IfElement fault
+            (λ e. FailsNormalList (FailsInElements (FailsWith F.reads e) (Present (Given F.reads)) close) opening f
+            self.old self.new)) }
         ensures places { KeepsPlaces self.old.lexer self.new.lexer }
         ensures goes_on { GoesOn F.reads → GoesOnFrom self.old self.new }
     {
@@ -284,22 +308,25 @@ impl<C: LexerConfig + Drop> Cursor<'_, C> {
     }
 
     /// Reads separators with elements behind them up to the end of the list.
-    fn read_separated<T: Drop, F: Element<C, T>>(
+    fn read_separated<T: Drop, Fault, F: FallibleElement<C, T, Fault>>(
         &mut self,
         close: Kind,
         separator: Kind,
         opening_span: Span,
         f: &mut F,
         elements: &mut Vec<T>,
-    ) -> Result<Option<u32>, CursorFault>
+    ) -> Result<Option<u32>, ListFault<Fault>>
         requires { separator ≢ Kind.Eof }
         ensures ok { IfOk result (λ trailing. ReadsMore (Given F.reads) close separator opening_span f.old self.old
             elements.old.items elements.new.items trailing f.new self.new) }
-        ensures stuck { IfErr result (λ fault. OnStuck fault
+        ensures stuck { IfErr result (λ fault. IfStuck fault
             (λ at. GetsStuck (IsSeparatedRound (Given F.reads) close separator) f.old self.old at self.new)) }
-        ensures memory { IfErr result (λ fault. OnMemory fault
-            (LacksSeparated (LacksOne F.reads) (Given F.reads) close separator (LacksSeparator close separator)
+        ensures memory { IfErr result (λ fault. IfMemory fault
+            (FailsSeparated (LacksPlace F.reads) (Given F.reads) close separator (LacksSeparator close separator)
             f.old self.old f.new self.new)) }
+        ensures element { IfErr result (λ fault. IfElement fault
+            (λ e. FailsSeparated (FailsWith F.reads e) (Given F.reads) close separator NothingBefore f.old self.old
+            f.new self.new)) }
         ensures places { KeepsPlaces self.old.lexer self.new.lexer }
         ensures goes_on { GoesOn F.reads → GoesOnFrom self.old self.new }
     {
@@ -309,9 +336,12 @@ impl<C: LexerConfig + Drop> Cursor<'_, C> {
                 ListStep::Element => {}
                 ListStep::End(trailing) => return Ok(trailing),
             }
-            let element = f.read(self)?;
+            let element = match f.try_read(self) {
+                Ok(element) => element,
+                Err(fault) => return Err(ListFault::Element(fault)),
+            };
             if self.is_stuck_at(start) {
-                return Err(CursorFault::Stuck {
+                return Err(ListFault::Stuck {
                     at: self.cur_start(),
                 });
             }
@@ -321,23 +351,26 @@ impl<C: LexerConfig + Drop> Cursor<'_, C> {
 
     /// Reads a list up to `close`, with separators between its elements. It gives the elements, and the offset of the
     /// last byte of a separator that stands before `close`, if one does. The caller has gone past what opens the list,
-    /// and goes past `close`.
-    pub fn parse_delimited_list<T: Drop, F: Element<C, T> + Drop>(
+    /// and goes past `close`. An element that fails ends the list, with its fault.
+    pub fn try_parse_delimited_list<T: Drop, Fault, F: FallibleElement<C, T, Fault> + Drop>(
         &mut self,
         alloc: Global,
         close: Kind,
         separator: Kind,
         opening_span: Span,
         f: F,
-    ) -> Result<(Vec<T>, Option<u32>), CursorFault>
+    ) -> Result<(Vec<T>, Option<u32>), ListFault<Fault>>
         requires { separator ≢ Kind.Eof }
         ensures ok { IfOk result (λ read. ReadsDelimitedList (Given F.reads) close separator opening_span f self.old
             read.0.items read.1 self.new) }
-        ensures stuck { IfErr result (λ fault. OnStuck fault
+        ensures stuck { IfErr result (λ fault. IfStuck fault
             (λ at. StopsDelimitedList (Given F.reads) close separator f self.old at self.new)) }
-        ensures memory { IfErr result (λ fault. OnMemory fault
-            (LacksDelimitedList (LacksOne F.reads) (Given F.reads) close separator
+        ensures memory { IfErr result (λ fault. IfMemory fault
+            (FailsDelimitedList (LacksPlace F.reads) (Given F.reads) close separator
             (LacksSeparator close separator) f self.old self.new)) }
+        ensures element { IfErr result (λ fault. IfElement fault
+            (λ e. FailsDelimitedList (FailsWith F.reads e) (Given F.reads) close separator NothingBefore f self.old
+            self.new)) }
         ensures places { KeepsPlaces self.old.lexer self.new.lexer }
         ensures goes_on { GoesOn F.reads → GoesOnFrom self.old self.new }
     {
@@ -346,7 +379,10 @@ impl<C: LexerConfig + Drop> Cursor<'_, C> {
         if self.is_at_end_of_list(close) {
             return Ok((elements, None));
         }
-        let first = f.read(self)?;
+        let first = match f.try_read(self) {
+            Ok(first) => first,
+            Err(fault) => return Err(ListFault::Element(fault)),
+        };
         push_last(&mut elements, first)?;
         let read = self.read_separated(close, separator, opening_span, &mut f, &mut elements);
         let trailing = match read {

@@ -6,17 +6,18 @@ ghost use Rattle.js_text.specs.declared.span.Span.{Span};
 ghost use Rattle.js_lexer.specs.Places.{KeepsPlaces};
 ghost use Rattle.js_cursor.specs.Cursor.{is_at};
 ghost use Rattle.js_cursor.specs.Checkpoint.{GoesOnFrom};
-ghost use Rattle.js_cursor.specs.Lists.{GetsStuck, Given, GoesOn, IsSeparatedRound, OnStuck, StopsDelimitedList};
-ghost use Rattle.js_cursor.specs.Lists.{ends_at};
-ghost use Rattle.js_cursor.specs.Memory.{LacksComma, LacksDelimitedList, LacksItem, LacksSeparated, OnMemory};
+ghost use Rattle.js_cursor.specs.Failing.{FailsDelimitedList, FailsItem, FailsSeparated, FailsWith, LacksComma};
+ghost use Rattle.js_cursor.specs.Failing.{LacksPlace, NeverFails, NothingBefore};
+ghost use Rattle.js_cursor.specs.Faults.{IfElement, IfMemory, IfStuck};
+ghost use Rattle.js_cursor.specs.Lists.{GetsStuck, Given, GoesOn, IsSeparatedRound, StopsDelimitedList, ends_at};
 ghost use Rattle.js_cursor.specs.Rests.{ReadsItem, ReadsListWithRest, noting_trailing_comma};
 ghost use Rattle.js_cursor.specs.RestSteps.{GoesBehindItem, ReadsItems, ReadsOneItem, readers_of};
 
 use super::Cursor;
 use super::list::push_last;
 use crate::diagnostic::CursorDiagnostic;
-use crate::element::Element;
-use crate::fault::CursorFault;
+use crate::element::FallibleElement;
+use crate::fault::ListFault;
 use js_kind::{Kind, LexerConfig};
 use js_text::Span;
 use std::alloc::{AllocError, Global};
@@ -31,71 +32,86 @@ pub(crate) struct ItemReader<E, P, A, R> {
 }
 
 /// Reads a rest.
-fn read_rest<C, A, R, E, P>(
+fn read_rest<C, A, R, Fault, E, P>(
     cursor: &mut Cursor<'_, C>,
     items: &mut ItemReader<E, P, A, R>,
-) -> Result<(), AllocError>
+) -> Result<(), ListFault<Fault>>
 where
     C: LexerConfig + Drop,
     A: Drop,
     R: Drop,
-    E: Element<C, A>,
-    P: Element<C, R>,
+    E: FallibleElement<C, A, Fault>,
+    P: FallibleElement<C, R, Fault>,
     requires first { items.old.found ≡ None }
     requires at { is_at Kind.Dot3 cursor.old ≡ true }
     ensures item { OnOk result (ReadsOneItem (Given E.reads) (Given P.reads) items.old cursor.old items.new
         cursor.new) }
-    ensures err { OnErr result (LacksItem E.reads P.reads (readers_of items.old) cursor.old (readers_of items.new)
-        cursor.new) }
+    ensures stuck { IfErr result (λ fault. IfStuck fault (λ at. ⊥)) }
+    ensures memory { IfErr result (λ fault. IfMemory fault (FailsItem (LacksPlace E.reads) NeverFails
+        (readers_of items.old) cursor.old (readers_of items.new) cursor.new)) }
+    ensures element { IfErr result (λ fault. IfElement fault (λ e. FailsItem (FailsWith E.reads e) (FailsWith P.reads e)
+        (readers_of items.old) cursor.old (readers_of items.new) cursor.new)) }
     ensures places { KeepsPlaces cursor.old.lexer cursor.new.lexer }
     ensures goes_on { GoesOn P.reads → GoesOnFrom cursor.old cursor.new }
 {
-    let rest = items.rest.read(cursor)?;
+    let rest = match items.rest.try_read(cursor) {
+        Ok(rest) => rest,
+        Err(fault) => return Err(ListFault::Element(fault)),
+    };
     items.found = Some(rest);
     Ok(())
 }
 
 /// Reads an element.
-fn read_element<C, A, R, E, P>(
+fn read_element<C, A, R, Fault, E, P>(
     cursor: &mut Cursor<'_, C>,
     items: &mut ItemReader<E, P, A, R>,
-) -> Result<(), AllocError>
+) -> Result<(), ListFault<Fault>>
 where
     C: LexerConfig + Drop,
     A: Drop,
     R: Drop,
-    E: Element<C, A>,
-    P: Element<C, R>,
+    E: FallibleElement<C, A, Fault>,
+    P: FallibleElement<C, R, Fault>,
     requires first { items.old.found ≡ None }
     requires at { is_at Kind.Dot3 cursor.old ≡ false }
     ensures item { OnOk result (ReadsOneItem (Given E.reads) (Given P.reads) items.old cursor.old items.new
         cursor.new) }
-    ensures err { OnErr result (LacksItem E.reads P.reads (readers_of items.old) cursor.old (readers_of items.new)
-        cursor.new) }
+    ensures stuck { IfErr result (λ fault. IfStuck fault (λ at. ⊥)) }
+    ensures memory { IfErr result (λ fault. IfMemory fault (FailsItem (LacksPlace E.reads) NeverFails
+        (readers_of items.old) cursor.old (readers_of items.new) cursor.new)) }
+    ensures element { IfErr result (λ fault. IfElement fault (λ e. FailsItem (FailsWith E.reads e) (FailsWith P.reads e)
+        (readers_of items.old) cursor.old (readers_of items.new) cursor.new)) }
     ensures places { KeepsPlaces cursor.old.lexer cursor.new.lexer }
     ensures goes_on { GoesOn E.reads → GoesOnFrom cursor.old cursor.new }
 {
-    let element = items.element.read(cursor)?;
+    let element = match items.element.try_read(cursor) {
+        Ok(element) => element,
+        Err(fault) => return Err(ListFault::Element(fault)),
+    };
     push_last(&mut items.elements, element)?;
     Ok(())
 }
 
 /// Reads an item: a rest where it begins with `...`, and else an element.
-fn read_item<C, A, R, E, P>(
+fn read_item<C, A, R, Fault, E, P>(
     cursor: &mut Cursor<'_, C>,
     items: &mut ItemReader<E, P, A, R>,
-) -> Result<(), AllocError>
+) -> Result<(), ListFault<Fault>>
 where
     C: LexerConfig + Drop,
     A: Drop,
     R: Drop,
-    E: Element<C, A>,
-    P: Element<C, R>,
+    E: FallibleElement<C, A, Fault>,
+    P: FallibleElement<C, R, Fault>,
     requires { items.old.found ≡ None }
     ensures item { OnOk result (ReadsOneItem (Given E.reads) (Given P.reads) items.old cursor.old items.new
         cursor.new) }
-    ensures err { OnErr result (LacksItem E.reads P.reads (readers_of items.old) cursor.old (readers_of items.new)
-        cursor.new) }
+    ensures stuck { IfErr result (λ fault. IfStuck fault (λ at. ⊥)) }
+    ensures memory { IfErr result (λ fault. IfMemory fault (FailsItem (LacksPlace E.reads) NeverFails
+        (readers_of items.old) cursor.old (readers_of items.new) cursor.new)) }
+    ensures element { IfErr result (λ fault. IfElement fault (λ e. FailsItem (FailsWith E.reads e) (FailsWith P.reads e)
+        (readers_of items.old) cursor.old (readers_of items.new) cursor.new)) }
     ensures places { KeepsPlaces cursor.old.lexer cursor.new.lexer }
     ensures goes_on { GoesOn E.reads → GoesOn P.reads → GoesOnFrom cursor.old cursor.new }
 {
@@ -169,19 +185,19 @@ impl<C: LexerConfig + Drop> Cursor<'_, C> {
     }
 
     /// Reads commas with items behind them up to the end of the list.
-    fn read_items<A, R, E, P, S, D>(
+    fn read_items<A, R, Fault, E, P, S, D>(
         &mut self,
         close: Kind,
         opening_span: Span,
         items: &mut ItemReader<E, P, A, R>,
         rest_span: S,
         rest_last_diagnostic: D,
-    ) -> Result<(), CursorFault>
+    ) -> Result<(), ListFault<Fault>>
     where
         A: Drop,
         R: Drop,
-        E: Element<C, A>,
-        P: Element<C, R>,
+        E: FallibleElement<C, A, Fault>,
+        P: FallibleElement<C, R, Fault>,
         S: Fn(&R) -> Span + Drop,
         D: Fn(Span) -> CursorDiagnostic + Drop,
         requires span { S.IsAlwaysCallable rest_span }
@@ -189,12 +205,16 @@ impl<C: LexerConfig + Drop> Cursor<'_, C> {
         ensures ok { OnOk result (ReadsItems (Given E.reads) (Given P.reads)
             (λ r error. (span : Span) × FnReturnsAt S.Fn rest_span r span × D.post rest_last_diagnostic span error)
             close opening_span items.old self.old items.new self.new) }
-        ensures stuck { IfErr result (λ fault. OnStuck fault (λ at.
+        ensures stuck { IfErr result (λ fault. IfStuck fault (λ at.
             GetsStuck (IsSeparatedRound (ReadsItem (Given E.reads) (Given P.reads)) close Kind.Comma)
             (readers_of items.old) self.old at self.new)) }
-        ensures memory { IfErr result (λ fault. OnMemory fault
-            (LacksSeparated (LacksItem E.reads P.reads) (ReadsItem (Given E.reads) (Given P.reads)) close
-            Kind.Comma (LacksComma close) (readers_of items.old) self.old (readers_of items.new) self.new)) }
+        ensures memory { IfErr result (λ fault. IfMemory fault
+            (FailsSeparated (FailsItem (LacksPlace E.reads) NeverFails) (ReadsItem (Given E.reads) (Given P.reads))
+            close Kind.Comma (LacksComma close) (readers_of items.old) self.old (readers_of items.new) self.new)) }
+        ensures element { IfErr result (λ fault. IfElement fault
+            (λ e. FailsSeparated (FailsItem (FailsWith E.reads e) (FailsWith P.reads e))
+            (ReadsItem (Given E.reads) (Given P.reads)) close Kind.Comma NothingBefore (readers_of items.old) self.old
+            (readers_of items.new) self.new)) }
         ensures places { KeepsPlaces self.old.lexer self.new.lexer }
         ensures goes_on { GoesOn E.reads → GoesOn P.reads → GoesOnFrom self.old self.new }
     {
@@ -209,9 +229,12 @@ impl<C: LexerConfig + Drop> Cursor<'_, C> {
                 self.set_fatal_error(rest_last_diagnostic(rest_span(rest)));
                 return Ok(());
             }
-            read_item(self, items)?;
+            match read_item(self, items) {
+                Ok(()) => {}
+                Err(fault) => return Err(fault),
+            }
             if self.is_stuck_at(start) {
-                return Err(CursorFault::Stuck {
+                return Err(ListFault::Stuck {
                     at: self.cur_start(),
                 });
             }
@@ -221,8 +244,9 @@ impl<C: LexerConfig + Drop> Cursor<'_, C> {
     /// Reads a list up to `close`, with commas between its items: elements, and at the end a rest, which begins with
     /// `...`. It gives the elements, and the rest, if there is one. An item behind a rest stops the parser, with what
     /// `rest_last_diagnostic` gives for the span that `rest_span` tells; a comma between a rest and `close` is an
-    /// error, but in an ambient context. The caller has gone past what opens the list, and goes past `close`.
-    pub fn parse_delimited_list_with_rest<A, R, E, P, S, D>(
+    /// error, but in an ambient context. The caller has gone past what opens the list, and goes past `close`. An
+    /// element or a rest that fails ends the list, with its fault.
+    pub fn try_parse_delimited_list_with_rest<A, R, Fault, E, P, S, D>(
         &mut self,
         alloc: Global,
         close: Kind,
@@ -231,12 +255,12 @@ impl<C: LexerConfig + Drop> Cursor<'_, C> {
         parse_rest: P,
         rest_span: S,
         rest_last_diagnostic: D,
-    ) -> Result<(Vec<A>, Option<R>), CursorFault>
+    ) -> Result<(Vec<A>, Option<R>), ListFault<Fault>>
     where
         A: Drop,
         R: Drop,
-        E: Element<C, A> + Drop,
-        P: Element<C, R> + Drop,
+        E: FallibleElement<C, A, Fault> + Drop,
+        P: FallibleElement<C, R, Fault> + Drop,
         S: Fn(&R) -> Span + Drop,
         D: Fn(Span) -> CursorDiagnostic + Drop,
         requires span { S.IsAlwaysCallable rest_span }
@@ -244,13 +268,17 @@ impl<C: LexerConfig + Drop> Cursor<'_, C> {
         ensures ok { IfOk result (λ read. ReadsListWithRest (Given E.reads) (Given P.reads)
             (λ r error. (span : Span) × FnReturnsAt S.Fn rest_span r span × D.post rest_last_diagnostic span error)
             close opening_span parse_element parse_rest self.old read.0.items read.1 self.new) }
-        ensures stuck { IfErr result (λ fault. OnStuck fault (λ at.
+        ensures stuck { IfErr result (λ fault. IfStuck fault (λ at.
             StopsDelimitedList (ReadsItem (Given E.reads) (Given P.reads)) close Kind.Comma
             (record { element = parse_element; rest = parse_rest; found = None }) self.old at self.new)) }
-        ensures memory { IfErr result (λ fault. OnMemory fault
-            (LacksDelimitedList (LacksItem E.reads P.reads) (ReadsItem (Given E.reads) (Given P.reads)) close
-            Kind.Comma (LacksComma close) (record { element = parse_element; rest = parse_rest; found = None }) self.old
-            self.new)) }
+        ensures memory { IfErr result (λ fault. IfMemory fault
+            (FailsDelimitedList (FailsItem (LacksPlace E.reads) NeverFails) (ReadsItem (Given E.reads) (Given P.reads))
+            close Kind.Comma (LacksComma close) (record { element = parse_element; rest = parse_rest; found = None })
+            self.old self.new)) }
+        ensures element { IfErr result (λ fault. IfElement fault
+            (λ e. FailsDelimitedList (FailsItem (FailsWith E.reads e) (FailsWith P.reads e))
+            (ReadsItem (Given E.reads) (Given P.reads)) close Kind.Comma NothingBefore
+            (record { element = parse_element; rest = parse_rest; found = None }) self.old self.new)) }
         ensures places { KeepsPlaces self.old.lexer self.new.lexer }
         ensures goes_on { GoesOn E.reads → GoesOn P.reads → GoesOnFrom self.old self.new }
     {
@@ -263,7 +291,10 @@ impl<C: LexerConfig + Drop> Cursor<'_, C> {
             elements: Vec::new(alloc),
             found: None,
         };
-        read_item(self, &mut items)?;
+        match read_item(self, &mut items) {
+            Ok(()) => {}
+            Err(fault) => return Err(fault),
+        }
         let read = self.read_items(
             close,
             opening_span,

@@ -1,10 +1,10 @@
 use Rattle.std.proofs.Common.{sym, ◌∙◌, ap, subst}
 use Rattle.js_cursor.specs.Rests.{noting_trailing_comma}
 use Rattle.js_cursor.specs.Rests.EndsBehindItem.{trails}
-use Rattle.js_cursor.specs.Memory.{LacksComma}
-use Rattle.js_cursor.specs.Memory.LacksComma.{comma, error}
+use Rattle.js_cursor.specs.Failing.{LacksComma}
+use Rattle.js_cursor.specs.Failing.LacksComma.{comma, error}
 use Rattle.js_cursor.proofs.GoesOn.{goes_on-trans}
-use Rattle.js_cursor.proofs.MemorySteps.{on_err}
+use Rattle.js_cursor.proofs.FailingSteps.{on_err}
 use Rattle.js_cursor.proofs.cursor.Cursor.go_past_comma.Goals as goal
 
 pub returns-then-at-clause-behind : goal.returns-then-at-clause-behind

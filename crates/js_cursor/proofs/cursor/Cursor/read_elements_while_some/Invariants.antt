@@ -6,10 +6,10 @@ use Rattle.js_cursor.proofs.cursor.Cursor.read_elements_while_some.Given as goal
 -- What was read so far are rounds, no place was given up, and the cursor has gone on.
 abbrev pub invariant-loop-close : goal.invariant-loop-close
 invariant-loop-close g l =
-    Rounds (LeadingOn (IsRound (Present (Given g.F.Element.reads)) l.close)) l.initial.f l.initial.self
+    Rounds (LeadingOn (IsRound (Present (Given g.F.FallibleElement.reads)) l.close)) l.initial.f l.initial.self
     l.elements.items l.f l.self
     × KeepsPlaces l.initial.self.lexer l.self.lexer
-    × (GoesOn g.F.Element.reads → GoesOnFrom l.initial.self l.self)
+    × (GoesOn g.F.FallibleElement.reads → GoesOnFrom l.initial.self l.self)
 
 -- No fatal error stands, and there is still text behind the current token.
 abbrev pub decreases-loop-close : goal.decreases-loop-close

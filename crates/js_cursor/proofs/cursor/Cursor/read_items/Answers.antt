@@ -3,12 +3,13 @@ use Rattle.std.proofs.Common.{append-nil, arith}
 use Rattle.std.proofs.lemmas.Fn.{says_at}
 use Rattle.js_kind.specs.declared.kind.Kind.TheVariants.{Comma}
 use Rattle.js_cursor.specs.Lists.{Given, IsSeparated, IsSeparatedRound, LeadingOn}
-use Rattle.js_cursor.specs.Memory.{LacksComma, LacksItem}
+use Rattle.js_cursor.specs.Failing.{FailsItem, LacksComma, LacksPlace, NeverFails}
+use Rattle.js_cursor.specs.Failing.FailsInRounds.{in_item}
 use Rattle.js_cursor.specs.RestSteps.{readers_of}
 use Rattle.js_cursor.specs.Rests.{ReadsItem, elements}
 use Rattle.js_cursor.specs.Rests.EndsWithRest.{ends, rest_is_not_last}
 use Rattle.js_cursor.proofs.GoesOn.{goes_on-refl, goes_on-trans}
-use Rattle.js_cursor.proofs.MemorySteps.{lacks_before, lacks_behind}
+use Rattle.js_cursor.proofs.FailingSteps.{if_element-map, if_memory-map, if_stuck-map, lacks_before}
 use Rattle.js_cursor.proofs.RestItems.{elements-append, ends_behind, separated_behind}
 use Rattle.js_cursor.proofs.RoundSteps.{leaves_less, rounds-push, stuck_as_told}
 use Rattle.js_cursor.proofs.cursor.Cursor.read_items.Goals as goal
@@ -38,12 +39,13 @@ pub items-preserved : goal.items-preserved
 items-preserved g c =
     let before = c.items.self in
     let after = c.read_item.new.cursor in
-    let Q = LeadingOn (IsSeparatedRound (ReadsItem (Given g.E.Element.reads) (Given g.P.Element.reads)) c.args.close Comma) in
+    let Q = LeadingOn (IsSeparatedRound (ReadsItem (Given g.E.FallibleElement.reads) (Given
+    g.P.FallibleElement.reads)) c.args.close Comma) in
     let separated : IsSeparated c.args.close Comma c.items.self c.behind_item.new.self =
     separated_behind c.args.close c.args.opening_span c.is_some-has_rest.result c.items.self c.in_ok-goes_on.goes_on
     c.behind_item.new.self c.if-not-goes_on.false c.in_ok-goes_on.ensures.behind in
     let more = c.items.invariant.0 in
-    let round = c.in_ok-read_item.ensures.item in (
+    let round = c.in-Ok.ensures.item in (
       more ++ round.item ∷ [],
       rounds-push Q (readers_of c.args.items.now) c.args.self.now more (readers_of c.items.items) before round.item
           (readers_of c.read_item.new.items) after c.items.invariant.1 (
@@ -58,12 +60,12 @@ items-preserved g c =
         arith,
         c.items.invariant.3,
         c.in_ok-goes_on.ensures.places,
-        c.in_ok-read_item.ensures.places,
+        c.in-Ok.ensures.places,
       ),
       λ elements rests.
           goes_on-trans c.args.self.now c.behind_item.new.self c.read_item.new.cursor
           (goes_on-trans c.args.self.now c.items.self c.behind_item.new.self (c.items.invariant.4 elements rests)
-          c.in_ok-goes_on.ensures.goes_on) (c.in_ok-read_item.ensures.goes_on elements rests),
+          c.in_ok-goes_on.ensures.goes_on) (c.in-Ok.ensures.goes_on elements rests),
     )
 
 pub returns-then-not-goes_on-clause-ok : goal.returns-then-not-goes_on-clause-ok
@@ -101,7 +103,7 @@ returns-in-Some-clause-ok g c =
 pub returns-then-is_stuck_at-clause-stuck : goal.returns-then-is_stuck_at-clause-stuck
 returns-then-is_stuck_at-clause-stuck g c =
     let read = c.items.invariant in
-    let round = c.in_ok-read_item.ensures.item in
+    let round = c.in-Ok.ensures.item in
     let after = c.read_item.new.cursor in
     record {
       xs = read.0;
@@ -118,7 +120,8 @@ returns-then-is_stuck_at-clause-stuck g c =
         read = round.reads;
       };
       stuck =
-          stuck_as_told c.items.self after c.cur_start-start.result c.is_stuck_at.result _ c.cur_start-start.ensures.start
+          stuck_as_told c.items.self after c.cur_start-start.result c.is_stuck_at.result _
+          c.cur_start-start.ensures.start
           c.is_stuck_at.ensures c.if-is_stuck_at.true;
       at_is = c.cur_start.ensures.start;
     }
@@ -143,32 +146,48 @@ returns-in-Some-clause-goes_on g c =
     c.in_ok-goes_on.ensures.goes_on)
     c.set_fatal_error.ensures.stays.goes_on
 
-pub returns-in_err-read_item-clause-goes_on : goal.returns-in_err-read_item-clause-goes_on
-returns-in_err-read_item-clause-goes_on g c =
+pub returns-in-Err-clause-goes_on : goal.returns-in-Err-clause-goes_on
+returns-in-Err-clause-goes_on g c =
     λ elements rests.
     goes_on-trans c.args.self.now c.behind_item.new.self c.read_item.new.cursor
     (goes_on-trans c.args.self.now c.items.self c.behind_item.new.self (c.items.invariant.4 elements rests)
-    c.in_ok-goes_on.ensures.goes_on) (c.in_err-read_item.ensures.goes_on elements rests)
+    c.in_ok-goes_on.ensures.goes_on) (c.in-Err.ensures.goes_on elements rests)
 
 pub returns-then-is_stuck_at-clause-goes_on : goal.returns-then-is_stuck_at-clause-goes_on
 returns-then-is_stuck_at-clause-goes_on g c =
     λ elements rests.
     goes_on-trans c.args.self.now c.behind_item.new.self c.read_item.new.cursor
     (goes_on-trans c.args.self.now c.items.self c.behind_item.new.self (c.items.invariant.4 elements rests)
-    c.in_ok-goes_on.ensures.goes_on) (c.in_ok-read_item.ensures.goes_on elements rests)
+    c.in_ok-goes_on.ensures.goes_on) (c.in-Ok.ensures.goes_on elements rests)
 
 pub returns-in_err-goes_on-clause-memory : goal.returns-in_err-goes_on-clause-memory
 returns-in_err-goes_on-clause-memory g c =
-    lacks_before (LacksItem g.E.Element.reads g.P.Element.reads)
-    (ReadsItem (Given g.E.Element.reads) (Given g.P.Element.reads)) c.args.close Comma (LacksComma c.args.close) _ (readers_of c.args.items.now)
+    lacks_before (FailsItem (LacksPlace g.E.FallibleElement.reads) NeverFails)
+    (ReadsItem (Given g.E.FallibleElement.reads) (Given g.P.FallibleElement.reads)) c.args.close Comma (LacksComma
+    c.args.close) _ (readers_of c.args.items.now)
     c.args.self.now c.items.invariant.0 c.items.self (readers_of c.items.items) c.behind_item.new.self
     c.items.invariant.1 c.in_err-goes_on.ensures.err
 
-pub returns-in_err-read_item-clause-memory : goal.returns-in_err-read_item-clause-memory
-returns-in_err-read_item-clause-memory g c =
-    lacks_behind (LacksItem g.E.Element.reads g.P.Element.reads)
-    (ReadsItem (Given g.E.Element.reads) (Given g.P.Element.reads)) c.args.close Comma (LacksComma c.args.close) _ (readers_of c.args.items.now)
-    c.args.self.now c.items.invariant.0 (readers_of c.items.items) c.items.self c.behind_item.new.self
-    (readers_of c.read_item.new.items) c.read_item.new.cursor c.items.invariant.1
-    (separated_behind c.args.close c.args.opening_span c.is_some-has_rest.result c.items.self c.in_ok-goes_on.goes_on
-    c.behind_item.new.self c.if-not-goes_on.false c.in_ok-goes_on.ensures.behind) c.in_err-read_item.ensures.err
+pub returns-in-Err-clause-stuck : goal.returns-in-Err-clause-stuck
+returns-in-Err-clause-stuck g c =
+    if_stuck-map c.in-Err.fault _ _ (λ at never. absurd never) c.in-Err.ensures.stuck
+
+pub returns-in-Err-clause-memory : goal.returns-in-Err-clause-memory
+returns-in-Err-clause-memory g c =
+    if_memory-map c.in-Err.fault _ _
+    (λ lacks.
+    in_item c.items.invariant.0 (readers_of c.items.items) c.items.self c.behind_item.new.self c.items.invariant.1
+    (separated_behind c.args.close c.args.opening_span c.is_some-has_rest.result c.items.self
+    c.in_ok-goes_on.goes_on c.behind_item.new.self c.if-not-goes_on.false c.in_ok-goes_on.ensures.behind)
+    lacks)
+    c.in-Err.ensures.memory
+
+pub returns-in-Err-clause-element : goal.returns-in-Err-clause-element
+returns-in-Err-clause-element g c =
+    if_element-map c.in-Err.fault _ _
+    (λ e failed.
+    in_item c.items.invariant.0 (readers_of c.items.items) c.items.self c.behind_item.new.self c.items.invariant.1
+    (separated_behind c.args.close c.args.opening_span c.is_some-has_rest.result c.items.self
+    c.in_ok-goes_on.goes_on c.behind_item.new.self c.if-not-goes_on.false c.in_ok-goes_on.ensures.behind)
+    failed)
+    c.in-Err.ensures.element

@@ -12,11 +12,12 @@ use Rattle.js_cursor.proofs.cursor.Cursor.read_items.Given as goal
 abbrev pub invariant-items : goal.invariant-items
 invariant-items g l =
     (more : List (Item g.row.A.Denot g.row.R.Denot))
-    × Rounds (LeadingOn (IsSeparatedRound (ReadsItem (Given g.E.Element.reads) (Given g.P.Element.reads)) l.close Comma))
+    × Rounds (LeadingOn (IsSeparatedRound (ReadsItem (Given g.E.FallibleElement.reads) (Given
+    g.P.FallibleElement.reads)) l.close Comma))
     (readers_of l.initial.items) l.initial.self more (readers_of l.items) l.self
     × (l.items.elements.items ≡ l.initial.items.elements.items ++ elements more)
     × KeepsPlaces l.initial.self.lexer l.self.lexer
-    × (GoesOn g.E.Element.reads → GoesOn g.P.Element.reads → GoesOnFrom l.initial.self l.self)
+    × (GoesOn g.E.FallibleElement.reads → GoesOn g.P.FallibleElement.reads → GoesOnFrom l.initial.self l.self)
 
 -- No fatal error stands, and there is still text behind the current token.
 abbrev pub decreases-items : goal.decreases-items

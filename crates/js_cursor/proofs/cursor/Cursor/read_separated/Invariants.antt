@@ -9,11 +9,12 @@ use Rattle.js_cursor.proofs.cursor.Cursor.read_separated.Given as goal
 abbrev pub invariant-elements : goal.invariant-elements
 invariant-elements g l =
     (more : List g.row.T.Denot)
-    × Rounds (LeadingOn (IsSeparatedRound (Given g.F.Element.reads) l.close l.separator)) l.initial.f l.initial.self more l.f
+    × Rounds (LeadingOn (IsSeparatedRound (Given g.F.FallibleElement.reads) l.close l.separator)) l.initial.f
+    l.initial.self more l.f
     l.self
     × (l.elements.items ≡ l.initial.elements.items ++ more)
     × KeepsPlaces l.initial.self.lexer l.self.lexer
-    × (GoesOn g.F.Element.reads → GoesOnFrom l.initial.self l.self)
+    × (GoesOn g.F.FallibleElement.reads → GoesOnFrom l.initial.self l.self)
 
 -- No fatal error stands, and there is still text behind the current token.
 abbrev pub decreases-elements : goal.decreases-elements
