@@ -1,0 +1,20 @@
+//! Tests of js_lex_tool, by its public calls. They stand in a crate of their own, since a crate's functions are proved
+//! again with its tests.
+#![tactic(auto)]
+
+#[cfg(test)]
+mod arguments;
+#[cfg(test)]
+mod broken;
+#[cfg(test)]
+mod buffers;
+#[cfg(test)]
+mod devices;
+#[cfg(test)]
+mod memory;
+#[cfg(test)]
+mod run;
+#[cfg(test)]
+mod status;
+#[cfg(test)]
+mod streams;
