@@ -3,8 +3,9 @@
 use bitflags::Flags;
 use js_text::{
     ByteList, Comment, CommentContent, CommentKind, CommentList, CommentPosition, Diagnostic,
-    DiagnosticList, JSStrBuilder, RegExpFlags, SourceText, Span, SpanList, is_identifier_part,
-    is_identifier_start, is_irregular_whitespace, is_line_terminator, is_white_space,
+    DiagnosticList, JSStrBuilder, RegExpFlags, RowValue, SourceText, Span, SpanList,
+    is_identifier_part, is_identifier_start, is_irregular_whitespace, is_line_terminator,
+    is_white_space,
 };
 use std::test::Fail;
 
@@ -269,5 +270,17 @@ fn lone_surrogates(rt: HostRuntime) -> Result<(), Fail> {
     builder.push_unit(0xD83D)?;
     let text = builder.into_js_str().to_text(rt.alloc())?;
     assert!(rt; text.is_none());
+    Ok(())
+}
+
+#[test]
+fn values_of_rows(rt: HostRuntime) -> Result<(), Fail> {
+    let mut builder = JSStrBuilder::with_capacity_in(rt.alloc(), 2)?;
+    builder.push('a')?;
+    let value = RowValue::Units(builder.into_js_str());
+    match value.copy(rt.alloc())? {
+        RowValue::Units(copied) => assert_eq!(rt; copied.units(), [0x61].as_slice()),
+        _ => return Err(Fail::from("no units")),
+    }
     Ok(())
 }

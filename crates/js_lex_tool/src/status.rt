@@ -1,7 +1,7 @@
 //! The statuses of a run, and the line that the program prints for each.
 
-ghost use Rattle.std.specs.Prelude.{◌≡◌, ◌++◌, Some, OnOk, OnErr, codes, option_map};
-ghost use Rattle.js_lex_tool.specs.Outside.{WritesAll, StaysOpen, Closes};
+ghost use Rattle.std.specs.Prelude.{◌≡◌, ◌++◌, Some, OnOk, OnErr, IsErrOf, codes, option_map};
+ghost use Rattle.js_lex_tool.specs.Outside.{Rises, WritesAll, WritesPrefix, StaysOpen, Closes};
 ghost use Rattle.js_lex_tool.specs.Status.{js_lex, js_lex_usage, line_for, reason_for};
 
 use crate::outside::ByteOut;
@@ -67,8 +67,13 @@ impl fmt::Display for StatusLine {
 }
 
 /// Writes two texts, one behind the other.
+#[tactic(auto, using(crate::proofs::Pieces::begins_with_more, crate::proofs::Pieces::begins_behind))]
 fn write_both<E: ByteOut>(first: &str, second: &str, output: &mut E) -> Result<(), WriteFault>
     ensures all { OnOk result (WritesAll (E.state output.old) (E.state output.new) (first.now ++ second.now)) }
+    ensures prefix { OnErr result (WritesPrefix (E.state output.old) (E.state output.new) (first.now ++ second.now)) }
+    ensures fault { IsErrOf result WriteFault.Failed → Rises (E.state output.old).faults (E.state output.new).faults }
+    ensures no_fault { (¬ (IsErrOf result WriteFault.Failed))
+        → (E.state output.new).faults ≡ (E.state output.old).faults }
     ensures stays_open { OnOk result (StaysOpen (E.state output.old).course (E.state output.new).course) }
     ensures closes { OnErr result (Closes (E.state output.old).course (E.state output.new).course) }
 {
@@ -80,6 +85,12 @@ impl StatusLine {
     /// Writes the line and its line end. It asks for no memory, since there may be none.
     pub fn write_to<E: ByteOut>(&self, output: &mut E) -> Result<(), WriteFault>
         ensures all { OnOk result (WritesAll (E.state output.old) (E.state output.new) (self.now ++ codes "\n")) }
+        ensures prefix { OnErr result (WritesPrefix (E.state output.old) (E.state output.new)
+            (self.now ++ codes "\n")) }
+        ensures fault { IsErrOf result WriteFault.Failed
+            → Rises (E.state output.old).faults (E.state output.new).faults }
+        ensures no_fault { (¬ (IsErrOf result WriteFault.Failed))
+            → (E.state output.new).faults ≡ (E.state output.old).faults }
         ensures closes { OnErr result (Closes (E.state output.old).course (E.state output.new).course) }
     {
         write_both(self.program, ": ", output)?;

@@ -5,7 +5,13 @@
 #[cfg(test)]
 mod arguments;
 #[cfg(test)]
+mod broken;
+#[cfg(test)]
 mod buffers;
+#[cfg(test)]
+mod devices;
+#[cfg(test)]
+mod memory;
 #[cfg(test)]
 mod run;
 #[cfg(test)]

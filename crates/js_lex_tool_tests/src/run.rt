@@ -1,9 +1,7 @@
 //! Whole runs, over inputs and outputs in memory.
 
-use js_lex_tool::status::{DIAGNOSED, DONE, NO_MARK, NOT_UTF8, READ_FAILED, USAGE, WRITE_FAILED};
-use js_lex_tool::{
-    MemoryIn, MemoryOut, SureIn, SureOut, generated, lex_tool_run, lex_tool_run_sure,
-};
+use js_lex_tool::status::{DIAGNOSED, DONE, NO_MARK, NOT_UTF8, USAGE};
+use js_lex_tool::{SureIn, SureOut, generated, lex_tool_run_sure};
 use std::alloc::{AllocError, Global};
 use std::test::Fail;
 
@@ -17,7 +15,7 @@ pub fn strings_of(alloc: Global, words: &str) -> Result<Vec<String>, AllocError>
 }
 
 /// A run over ends that never fail: its status, and its output.
-fn run_sure(alloc: Global, words: &str, source: &[u8]) -> Result<(u8, SureOut), AllocError> {
+pub fn run_sure(alloc: Global, words: &str, source: &[u8]) -> Result<(u8, SureOut), AllocError> {
     let mut input = SureIn::new(source, 3);
     let mut output = SureOut::new(alloc, 10);
     let words = strings_of(alloc, words)?;
@@ -41,10 +39,10 @@ const CHOICE: &str = concat!(
 );
 
 /// What is written of one generated line.
-const SUMMARY: &str = "gen 1 bytes 21 rows 8 tokens 8 comments 1 diagnostics 0\n";
+pub const SUMMARY: &str = "gen 1 bytes 21 rows 8 tokens 8 comments 1 diagnostics 0\n";
 
 /// Words, a source, and the text that is written. Generated lines are lexed whatever the source is.
-static TEXTS: [(&str, &str, &str); 50] = [
+static TEXTS: [(&str, &str, &str); 49] = [
     ("strip module all", "a/*x*/b // y\nc", "a b  \nc"),
     ("strip module all", "a /*\n*/ b", "a \n b"),
     ("strip script all", "a<!--x\n-->y", "a \n "),
@@ -247,16 +245,6 @@ static TEXTS: [(&str, &str, &str); 50] = [
             "collected Ident 4..5 -\n",
             "collected TemplateTail 5..8 -\n",
             "collected Eof 8..8 -\n",
-        ),
-    ),
-    (
-        "module no-tokens template",
-        "}",
-        concat!(
-            "row 0 first 0 1 RCurly 0..1 n\n",
-            "row 1 template 1 1 Undetermined 0..1 -\n",
-            "token Undetermined 0..1 -\n",
-            "diagnostic UnterminatedString 0..1\n",
         ),
     ),
     (
@@ -647,120 +635,6 @@ fn commands_of_whole_sources(rt: HostRuntime) -> Result<(), Fail> {
         let commands = commands_run(rt.alloc(), words, source)?;
         assert_eq!(rt; commands, Some(*count), "{words}");
     }
-    Ok(())
-}
-
-/// What a run came to whose calls may fail: its status, how many bytes were written and how many of them flushed, and
-/// how many calls failed.
-#[derive(Clone, Copy, PartialEq, Eq, Debug)]
-struct Ends {
-    status: u8,
-    written: usize,
-    flushed: usize,
-    faults: (u64, u64),
-}
-
-/// The words of a run that writes `CHOICE`.
-const CHOICE_WORDS: &str = "module no-tokens next*5";
-
-/// A run over six bytes, of which some reads, writes and flushes fail.
-fn run_failing(
-    alloc: Global,
-    words: &str,
-    reads: &[u64],
-    writes: &[u64],
-) -> Result<Ends, AllocError> {
-    let mut input = MemoryIn::new(b"a?.1:b", 2, reads);
-    let mut output = MemoryOut::new(alloc, 10, writes);
-    let words = strings_of(alloc, words)?;
-    let outcome = lex_tool_run(alloc, &words, &mut input, &mut output);
-    Ok(Ends {
-        status: outcome.status,
-        written: output.written().len(),
-        flushed: output.flushed(),
-        faults: (input.faults(), output.faults()),
-    })
-}
-
-/// What a run comes to that writes a text, and none of whose calls fails.
-fn whole(text: &str) -> Ends {
-    Ends {
-        status: DONE,
-        written: text.len(),
-        flushed: text.len(),
-        faults: (0, 0),
-    }
-}
-
-// Three reads give six bytes in pieces of two, the fourth finds the end, and no read is made after it.
-#[test]
-fn reads_that_fail(rt: HostRuntime) -> Result<(), Fail> {
-    let failed = Ends {
-        status: READ_FAILED,
-        written: 0,
-        flushed: 0,
-        faults: (1, 0),
-    };
-    for call in 0..5 {
-        let ends = run_failing(rt.alloc(), CHOICE_WORDS, &[call], &[])?;
-        let wanted = if call < 4 { failed } else { whole(CHOICE) };
-        assert_eq!(rt; ends, wanted, "at call {call}");
-    }
-    Ok(())
-}
-
-// The text is written in pieces of ten, and then flushed; nothing is called after that.
-#[test]
-fn writes_that_fail(rt: HostRuntime) -> Result<(), Fail> {
-    let writes = CHOICE.len().div_ceil(10) as u64;
-    for call in 0..writes + 2 {
-        let ends = run_failing(rt.alloc(), CHOICE_WORDS, &[], &[call])?;
-        let failed = Ends {
-            status: WRITE_FAILED,
-            written: CHOICE.len().min(10 * call as usize),
-            flushed: 0,
-            faults: (0, 1),
-        };
-        let wanted = if call <= writes {
-            failed
-        } else {
-            whole(CHOICE)
-        };
-        assert_eq!(rt; ends, wanted, "at call {call}");
-    }
-    Ok(())
-}
-
-// With generated lines no read is made, so none can fail.
-#[test]
-fn generated_lines_read_nothing(rt: HostRuntime) -> Result<(), Fail> {
-    let ends = run_failing(rt.alloc(), "gen 1", &[0], &[])?;
-    assert_eq!(rt; ends, whole(SUMMARY));
-    let failed = Ends {
-        status: WRITE_FAILED,
-        written: 10,
-        flushed: 0,
-        faults: (0, 1),
-    };
-    let ends = run_failing(rt.alloc(), "gen 1", &[], &[1])?;
-    assert_eq!(rt; ends, failed);
-    Ok(())
-}
-
-// A text that is made of the source is written, and then flushed.
-#[test]
-fn stripped_texts_that_fail(rt: HostRuntime) -> Result<(), Fail> {
-    let words = "strip module all";
-    let ends = run_failing(rt.alloc(), words, &[], &[])?;
-    assert_eq!(rt; ends, whole("a?.1:b"));
-    let failed = Ends {
-        status: WRITE_FAILED,
-        written: 6,
-        flushed: 0,
-        faults: (0, 1),
-    };
-    let ends = run_failing(rt.alloc(), words, &[], &[1])?;
-    assert_eq!(rt; ends, failed);
     Ok(())
 }
 

@@ -3,6 +3,8 @@
 #![tactic(auto)]
 
 #[cfg(test)]
+mod behind;
+#[cfg(test)]
 mod cases;
 #[cfg(test)]
 mod checkpoints;

@@ -3,8 +3,11 @@
 ghost use Rattle.std.specs.Prelude.{◌≡◌, ◌≤◌, true, IfSome};
 ghost use Rattle.js_session.specs.Shifted.{ShiftFits};
 
+use js_kind::{Kind, Token};
 use js_session::{Command, Row, RowList, Shift, lex_session};
-use js_text::{Diagnostic, SourceType, Span};
+use js_text::{
+    Comment, CommentContent, CommentKind, CommentPosition, Diagnostic, SourceType, Span,
+};
 use std::alloc::Global;
 use std::test::Fail;
 
@@ -121,5 +124,75 @@ fn a_row_is_moved_in_its_place(rt: HostRuntime) -> Result<(), Fail> {
 fn a_row_is_put_between_others(rt: HostRuntime) -> Result<(), Fail> {
     let rows = moved_between(rt.alloc()).ok_or("no rows")?;
     assert!(rt; is_between(rows.as_slice()));
+    Ok(())
+}
+
+/// A move by five bytes of what stands behind two.
+const BY_FIVE: Shift = Shift { from: 2, to: 7 };
+
+/// A stretch, and where it stands once it is moved.
+const STRETCH: Span = Span { start: 3, end: 6 };
+
+const MOVED: Span = Span { start: 8, end: 11 };
+
+#[test]
+fn places_are_moved(rt: HostRuntime) -> Result<(), Fail> {
+    for (place, moved) in [(0, 7), (2, 7), (3, 8), (100, 105)] {
+        assert_eq!(rt; BY_FIVE.place(place)?, moved);
+    }
+    assert_eq!(rt; BY_FIVE.span(STRETCH)?, MOVED);
+    Ok(())
+}
+
+// What is behind the last place of a `u32` is no place.
+#[test]
+fn places_that_do_not_fit(rt: HostRuntime) {
+    let far = Shift {
+        from: 0,
+        to: u32::MAX,
+    };
+    assert_eq!(rt; far.place(0).ok(), Some(u32::MAX));
+    assert_eq!(rt; far.place(1).ok(), None);
+}
+
+#[test]
+fn a_token_is_moved(rt: HostRuntime) -> Result<(), Fail> {
+    let token = BY_FIVE.token(Token::new(Kind::Let, STRETCH, true))?;
+    assert_eq!(rt; token, Token::new(Kind::Let, MOVED, true));
+    Ok(())
+}
+
+#[test]
+fn diagnostics_are_moved(rt: HostRuntime) -> Result<(), Fail> {
+    let here = Diagnostic::UnexpectedEnd { span: STRETCH };
+    let moved = Diagnostic::UnexpectedEnd { span: MOVED };
+    assert_eq!(rt; BY_FIVE.diagnostic(here)?, moved);
+    let list = BY_FIVE.diagnostics(rt.alloc(), &[here])?;
+    assert_eq!(rt; list.as_slice(), [moved].as_slice());
+    Ok(())
+}
+
+/// A comment there.
+fn comment(span: Span, attached_to: u32) -> Comment {
+    Comment {
+        span,
+        kind: CommentKind::SingleLineBlock,
+        position: CommentPosition::Leading,
+        attached_to,
+        preceded: true,
+        followed: false,
+        content: CommentContent::None,
+    }
+}
+
+#[test]
+fn comments_are_moved(rt: HostRuntime) -> Result<(), Fail> {
+    let here = comment(STRETCH, 9);
+    let moved = comment(MOVED, 14);
+    assert_eq!(rt; BY_FIVE.comment(here)?, moved);
+    let list = BY_FIVE.comments(rt.alloc(), &[here])?;
+    assert_eq!(rt; list.as_slice(), [moved].as_slice());
+    let list = BY_FIVE.spans(rt.alloc(), &[STRETCH])?;
+    assert_eq!(rt; list.as_slice(), [MOVED].as_slice());
     Ok(())
 }

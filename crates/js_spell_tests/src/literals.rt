@@ -5,8 +5,8 @@ ghost use Rattle.js_source.specs.Source.{rest};
 
 use js_kind::{Kind, Token};
 use js_source::Source;
-use js_spell::{Spelt, SpeltValue, read_number, read_string, read_template_part};
-use js_text::{DiagnosticList, JSStr};
+use js_spell::{Spelt, SpeltValue, read_escape, read_number, read_string, read_template_part};
+use js_text::{DiagnosticList, JSStr, JSStrBuilder};
 use std::alloc::AllocError;
 use std::test::Fail;
 
@@ -226,6 +226,33 @@ fn line_ends_of_templates(rt: HostRuntime) -> Result<(), Fail> {
 fn units_of_surrogates(rt: HostRuntime) -> Result<(), Fail> {
     if let Some(value) = read_units(rt, "\"\\uD83D\\u{DE00}\\x41\"")? {
         assert_eq!(rt; value.units(), [0xD83D, 0xDE00, 0x41].as_slice());
+    }
+    Ok(())
+}
+
+/// What stands behind a `\\`, whether in a template, whether it is an escape, its units, where it ends, and how much is
+/// reported.
+static ESCAPES: [(&str, bool, bool, &[u16], u32, usize); 6] = [
+    ("n", false, true, &[10], 1, 0),
+    ("u{1F600}x", false, true, &[0xD83D, 0xDE00], 8, 0),
+    ("\r\na", true, true, &[], 2, 0),
+    ("101", false, true, &[65], 3, 0),
+    ("u\"", false, false, &[], 1, 0),
+    ("", true, true, &[], 0, 1),
+];
+
+#[test]
+fn escapes(rt: HostRuntime) -> Result<(), Fail> {
+    for (text, in_template, is_escape, units, end, reported) in ESCAPES {
+        let mut source = Source::new(text);
+        let mut errors = DiagnosticList::new_in(rt.alloc());
+        let mut value = JSStrBuilder::new_in(rt.alloc());
+        let token = Token::default();
+        let read = read_escape(&mut source, &mut value, &mut errors, &token, in_template)?;
+        assert_eq!(rt; read, is_escape, "{text:?}");
+        assert_eq!(rt; value.into_js_str().units(), units, "{text:?}");
+        assert_eq!(rt; source.offset(), end, "{text:?}");
+        assert_eq!(rt; errors.len(), reported, "{text:?}");
     }
     Ok(())
 }
