@@ -39,6 +39,9 @@ INPUTS = {
     "marks": ("commands, marks and rewinds", "mark*{0} rewind*{0}", MILLION, lambda size: b"a"),
 }
 
+# How often each is run: the least time counts, since other work on the machine only adds to it.
+RUNS = 5
+
 # How many edits of one byte are made, and of how many bytes the document is, at most.
 EDITS = 10_000
 DOCUMENT = 60_000
@@ -60,8 +63,11 @@ def times_of(name, folder):
         file = folder / "input"
         file.write_bytes(make(size))
         command = [JS_LEX, "module", "no-tokens", *words.format(size // 2).split()]
-        with file.open("rb") as source:
-            status, taken = timed(command, source)
+        runs = []
+        for _ in range(RUNS):
+            with file.open("rb") as source:
+                runs.append(timed(command, source))
+        status, taken = min(runs, key=lambda run: run[1])
         print(f"{name}: {size:,} {what}: status {status}, {taken:.2f} s", flush=True)
         seconds.append(taken)
     print(f"{name}: the whole takes {seconds[1] / max(seconds[0], 0.001):.2f} times as long as the half", flush=True)

@@ -75,7 +75,7 @@ fn find_behind(
 
 #[test]
 fn what_was_found(rt: HostRuntime) -> Result<(), Fail> {
-    let source = "/*a*/ 1x /*b*/ /*c*/ \u{A0} 2x";
+    let source = "/*a*/ a /*b*/ /*c*/ \u{A0} \u{1}";
     match Lexer::new(rt.alloc(), source, SourceType::Module, TokensLexerConfig) {
         Ok(lexer) => {
             let mut lexer = lexer;
