@@ -1,9 +1,9 @@
 //! Lexers that go on behind a token, and what was found behind one.
 
-ghost use Rattle.std.specs.Prelude.{◌≡◌, false};
-ghost use Rattle.js_grammar.specs.ReLexed.{is_re_lexed};
+ghost use Rattle.std.specs.Prelude.{◌≡◌};
 
 use crate::script::{next, push_tokens};
+use js_grammar::is_re_lexed;
 use js_kind::{Kind, Token, TokensLexerConfig};
 use js_lexer::Lexer;
 use js_text::{SourceType, Span};
@@ -14,7 +14,6 @@ use std::test::Fail;
 fn first_name() -> Token
     ensures start { result.start ≡ 0 }
     ensures end { result.end ≡ 1 }
-    ensures plain { is_re_lexed result.kind ≡ false }
 {
     let span = Span { start: 0, end: 1 };
     Token::new(Kind::Ident, span, true)
@@ -36,8 +35,13 @@ fn tell_behind(alloc: Global, text: &str) -> Result<String, Fail> {
     if !text.is_char_boundary(0) || !text.is_char_boundary(1) {
         return Err(Fail::from("no name"));
     }
+    let token = first_name();
+    // A name is not read again, so no clause asks for its spelling.
+    if is_re_lexed(token.kind()) {
+        return Err(Fail::from("no name"));
+    }
     let config = TokensLexerConfig;
-    match Lexer::resume(alloc, text, SourceType::Module, config, first_name()) {
+    match Lexer::resume(alloc, text, SourceType::Module, config, token) {
         Ok(lexer) => {
             let mut lexer = lexer;
             Ok(tell_next(alloc, &mut lexer)?)

@@ -15,6 +15,8 @@ mod goals;
 #[cfg(test)]
 mod lists;
 #[cfg(test)]
+mod reader;
+#[cfg(test)]
 mod readings;
 #[cfg(test)]
 mod script;
