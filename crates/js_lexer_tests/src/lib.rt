@@ -3,8 +3,6 @@
 #![tactic(auto)]
 
 #[cfg(test)]
-mod behind;
-#[cfg(test)]
 mod cases;
 #[cfg(test)]
 mod checkpoints;
@@ -14,8 +12,6 @@ mod gaps;
 mod goals;
 #[cfg(test)]
 mod lists;
-#[cfg(test)]
-mod reader;
 #[cfg(test)]
 mod readings;
 #[cfg(test)]
