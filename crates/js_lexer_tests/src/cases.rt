@@ -10,7 +10,7 @@ use std::test::Fail;
 /// A source, what is done with it, and what is told where tokens are collected, and where they are not.
 type Case = (SourceType, &'static str, Script, &'static str, &'static str);
 
-static CASES: [Case; 19] = [
+static CASES: [Case; 20] = [
     (
         SourceType::Module,
         "#!x\na",
@@ -117,6 +117,13 @@ static CASES: [Case; 19] = [
         "RegExp 0..9;pattern ends 6, flags at fault true;Semicolon 9..10;|\
          RegExp 0..9;Semicolon 9..10;RegExpFlagTwice 8..9;",
         "RegExp 0..9;pattern ends 6, flags at fault true;Semicolon 9..10;|RegExpFlagTwice 8..9;",
+    ),
+    (
+        SourceType::Module,
+        "}c`;",
+        Script::NextPart,
+        "TemplateTail 0..3;Semicolon 3..4;|TemplateTail 0..3;Semicolon 3..4;",
+        "TemplateTail 0..3;Semicolon 3..4;|",
     ),
     (
         SourceType::Module,

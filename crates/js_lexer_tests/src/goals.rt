@@ -60,6 +60,22 @@ pub fn read_regular_expression<C: LexerConfig + Drop>(
     Ok(push_rest(text, lexer)?)
 }
 
+/// Reads the first token, a `}`, as the next part of a template, and the token behind it.
+pub fn read_next_part<C: LexerConfig + Drop>(
+    text: &mut String,
+    lexer: &mut Lexer<'_, C>,
+) -> Result<(), Fail>
+    requires { lexer.old.last ≡ None }
+{
+    let token = lexer.first_token()?;
+    if !token.kind().is_same(Kind::RCurly) {
+        return Err(Fail::from("no brace"));
+    }
+    let part = lexer.next_template_substitution_tail()?;
+    push_token(text, &part)?;
+    Ok(push_rest(text, lexer)?)
+}
+
 /// Reads the first token, a `>`, as a compound, which is cut again, and the token behind it.
 pub fn read_right_angle<C: LexerConfig + Drop>(
     text: &mut String,

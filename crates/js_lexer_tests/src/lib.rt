@@ -3,6 +3,8 @@
 #![tactic(auto)]
 
 #[cfg(test)]
+mod behind;
+#[cfg(test)]
 mod cases;
 #[cfg(test)]
 mod checkpoints;
@@ -12,6 +14,8 @@ mod gaps;
 mod goals;
 #[cfg(test)]
 mod lists;
+#[cfg(test)]
+mod reader;
 #[cfg(test)]
 mod readings;
 #[cfg(test)]

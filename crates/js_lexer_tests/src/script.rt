@@ -8,7 +8,8 @@ use crate::checkpoints::{
 };
 use crate::gaps::tell_gaps;
 use crate::goals::{
-    cut_left_angle, read_child_and_value, read_jsx_name, read_regular_expression, read_right_angle,
+    cut_left_angle, read_child_and_value, read_jsx_name, read_next_part, read_regular_expression,
+    read_right_angle,
 };
 use crate::lists::{
     finalize, hand_out_comments, keep_annotations, mark_comments, recover, rewrite,
@@ -56,6 +57,8 @@ pub enum Script {
     HandOutComments,
     /// A `/` is read again as a regular expression.
     RegularExpression,
+    /// A `}` is read again as the next part of a template.
+    NextPart,
     /// A `>` is read again as a compound, which is cut.
     RightAngle,
     /// A compound of `<` is cut.
@@ -174,6 +177,7 @@ fn run<C: LexerConfig + Drop>(
         Script::KeepAnnotations => Ok(keep_annotations(text, lexer)?),
         Script::HandOutComments => Ok(hand_out_comments(text, lexer)?),
         Script::RegularExpression => read_regular_expression(text, lexer),
+        Script::NextPart => read_next_part(text, lexer),
         Script::RightAngle => read_right_angle(text, lexer),
         Script::LeftAngle => cut_left_angle(text, lexer),
         Script::JsxName => read_jsx_name(text, lexer),
