@@ -7,6 +7,8 @@ mod chosen;
 #[cfg(test)]
 mod driven;
 #[cfg(test)]
+mod resumed;
+#[cfg(test)]
 mod rows;
 #[cfg(test)]
 mod shifted;
