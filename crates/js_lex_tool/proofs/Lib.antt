@@ -4,5 +4,8 @@ pub mod Completing
 pub mod Counts
 pub mod Courses
 pub mod Generating
+pub mod Held
+pub mod Lines
 pub mod Pieces
+pub mod Plain
 pub mod Stars

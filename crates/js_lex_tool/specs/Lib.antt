@@ -2,6 +2,8 @@ pub mod Anew
 pub mod Command
 pub mod Exit
 pub mod Generated
+pub mod Held
+pub mod Line
 pub mod Memory
 pub mod Outside
 pub mod Program

@@ -137,14 +137,17 @@ comment_line c = comment_head c ++ comment_rest c ++ 10 ∷ []
 abbrev pub span_line : List ℕ → Span → List ℕ
 span_line label span = label ++ codes " " ++ span_text span.start span.end ++ 10 ∷ []
 
--- The text of a report: its rows, then what is live.
-abbrev pub report_text_of : List ℕ → Report → List ℕ
-report_text_of source report =
-    row_lines source 0 report.rows
-    ++ flat_map (token_line (codes "token")) report.tokens
+-- what is live, behind the rows of a report
+abbrev pub rest_text_of : Report → List ℕ
+rest_text_of report =
+    flat_map (token_line (codes "token")) report.tokens
     ++ flat_map (token_line (codes "collected")) report.collected
     ++ flat_map (diagnostic_line (codes "diagnostic")) report.diagnostics
     ++ flat_map (diagnostic_line (codes "deferred")) report.deferred
     ++ flat_map comment_line report.comments
     ++ flat_map (span_line (codes "irregular")) report.irregular
     ++ flat_map (span_line (codes "warning")) report.warnings
+
+-- The text of a report: its rows, then what is live.
+abbrev pub report_text_of : List ℕ → Report → List ℕ
+report_text_of source report = row_lines source 0 report.rows ++ rest_text_of report

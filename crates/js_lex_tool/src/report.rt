@@ -1,26 +1,37 @@
 //! The text of a report.
 
-ghost use Rattle.std.specs.Prelude.{◌≡◌, ◌+◌, ◌++◌, [], codes, IfOk, OnOk, string_bytes, if◌then◌else◌};
+ghost use Rattle.std.specs.Prelude.{◌≡◌, ◌+◌, ◌≤◌, ◌++◌, [], ◌∷◌, true, codes, length, IfOk, OnOk, string_bytes};
+ghost use Rattle.std.specs.Prelude.{if◌then◌else◌};
 ghost use Rattle.std.specs.List.{AllByRecursion, flat_map};
+ghost use Rattle.js_kind.specs.Kinds.{kind_name};
+ghost use Rattle.js_text.specs.Comment.{comment_kind_name, comment_position_name, comment_content_name};
 ghost use Rattle.js_session.specs.Report.{IsSliceOnPlaces};
 ghost use Rattle.js_lex_tool.specs.ReportText.{flags_text, token_text, step_name, bit_text, row_head, value_text};
 ghost use Rattle.js_lex_tool.specs.ReportText.{row_line, row_lines, token_line, span_or_dash, named_character};
-ghost use Rattle.js_lex_tool.specs.ReportText.{diagnostic_text, diagnostic_line, report_text_of};
+ghost use Rattle.js_lex_tool.specs.ReportText.{diagnostic_text, diagnostic_line, rest_text_of, report_text_of};
 ghost use Rattle.js_lex_tool.specs.ReportText.{flag_letter, regex_flags_text, regex_text};
+ghost use Rattle.js_lex_tool.specs.Units.{text_in_units};
 ghost use Rattle.js_lex_tool.specs.ReportText.{comment_head, comment_rest, comment_line, span_line};
 
 use crate::command::command_word;
-use crate::units::{push_number, push_text_in_units, push_units};
+use crate::line::Line;
+use crate::units::{is_plain, push_number, push_text_in_units, push_units};
 use bitflags::Flags;
-use js_kind::Token;
+use js_kind::{Kind, Token};
 use js_session::{Command, Report, Row, RowValue};
-use js_text::{Comment, Diagnostic, RegExpFlags, RegexInfo, Span};
+use js_text::{
+    Comment, CommentContent, CommentKind, CommentPosition, Diagnostic, RegExpFlags, RegexInfo, Span,
+};
 use std::alloc::{AllocError, Global};
 use std::fmt::Write;
 
+/// A value that is no longer is written with its row.
+const SHORT: usize = 60;
+
 /// The flags that hold, or a dash.
 fn flags(token: &Token) -> &'static str
-    ensures { result.now ≡ flags_text token.now.is_on_new_line token.now.escaped token.now.has_separator }
+    ensures text { result.now ≡ flags_text token.now.is_on_new_line token.now.escaped token.now.has_separator }
+    ensures short { length result.now ≤ 3 }
 {
     match (
         token.is_on_new_line(),
@@ -39,7 +50,8 @@ fn flags(token: &Token) -> &'static str
 }
 
 fn step_name(command: Option<Command>) -> &'static str
-    ensures { result.now ≡ step_name command }
+    ensures name { result.now ≡ step_name command }
+    ensures short { length result.now ≤ 9 }
 {
     match command {
         None => "first",
@@ -47,31 +59,95 @@ fn step_name(command: Option<Command>) -> &'static str
     }
 }
 
+fn kind_name(kind: Kind) -> &'static str
+    ensures name { result.now ≡ kind_name kind }
+    ensures short { length result.now ≤ 22 }
+{
+    kind.name()
+}
+
 fn bit(holds: bool) -> &'static str
-    ensures { result.now ≡ bit_text holds }
+    ensures text { result.now ≡ bit_text holds }
+    ensures short { length result.now ≡ 1 }
 {
     if holds { "1" } else { "0" }
 }
 
 #[tactic(auto, unfolding(crate::specs::ReportText::token_text))]
-fn push_token(text: &mut String, token: &Token) -> Result<(), AllocError>
-    ensures { OnOk result (string_bytes text.new ≡ string_bytes text.old ++ token_text token.now) }
+fn put_token(line: &mut Line, token: &Token)
+    requires { 69 ≤ line.old.room }
+    ensures text { line.new.text ≡ token_text token.now ++ line.old.text }
+    ensures room { line.old.room ≤ line.new.room + 69 }
 {
-    let kind = token.kind().name();
-    let start = token.start();
-    let end = token.end();
-    let flags = flags(token);
-    write!(text, "{kind} {start}..{end} {flags}")
+    line.put_text(flags(token));
+    line.put_text(" ");
+    line.put_number(u64::from(token.end()));
+    line.put_text("..");
+    line.put_number(u64::from(token.start()));
+    line.put_text(" ");
+    line.put_text(kind_name(token.kind()));
 }
 
 #[tactic(auto, unfolding(crate::specs::ReportText::row_head))]
-fn push_head(text: &mut String, index: usize, row: &Row) -> Result<(), AllocError>
-    ensures { OnOk result (string_bytes text.new ≡ string_bytes text.old ++ row_head index row.now) }
+fn put_head(line: &mut Line, index: usize, row: &Row)
+    requires { 59 ≤ line.old.room }
+    ensures { line.new.text ≡ row_head index row.now ++ line.old.text }
 {
-    let step = step_name(row.command);
-    let place = row.place;
-    let taken = bit(row.taken);
-    write!(text, "row {index} {step} {place} {taken} ")
+    line.put_text(" ");
+    line.put_text(bit(row.taken));
+    line.put_text(" ");
+    line.put_number(u64::from(row.place));
+    line.put_text(" ");
+    line.put_text(step_name(row.command));
+    line.put_text(" ");
+    line.put_number(index as u64);
+    line.put_text("row ");
+}
+
+/// Puts a value that is short and stands for itself. It is told whether it was put.
+fn put_slice(line: &mut Line, value: &str) -> bool
+    requires { 62 ≤ line.old.room }
+    ensures text { result ≡ true → line.new.text ≡ codes " =" ++ text_in_units value.now ++ line.old.text }
+    ensures room { line.old.room ≤ line.new.room + 62 }
+{
+    if value.len() > SHORT {
+        return false;
+    }
+    if !is_plain(value) {
+        return false;
+    }
+    line.put_text(value);
+    line.put_text(" =");
+    true
+}
+
+/// Puts a value if it is short and stands for itself. It is told whether it was put.
+fn put_value(line: &mut Line, source: &str, value: &RowValue) -> bool
+    requires slice { IsSliceOnPlaces source.now value.now }
+    requires fits { 62 ≤ line.old.room }
+    ensures text { result ≡ true → line.new.text ≡ value_text source.now value.now ++ line.old.text }
+    ensures room { line.old.room ≤ line.new.room + 62 }
+{
+    match value {
+        RowValue::Nothing => true,
+        RowValue::Slice(span) => put_slice(line, &source[span.start as usize..span.end as usize]),
+        RowValue::Units(_) | RowValue::Bad => false,
+    }
+}
+
+/// Begins a line with what stands behind the token of a row, if that is short. It is told whether it is.
+fn put_tail(line: &mut Line, source: &str, row: &Row) -> bool
+    requires { IsSliceOnPlaces source.now row.now.value }
+    ensures text { result ≡ true
+        → line.new.text ≡ value_text source.now row.now.value ++ (regex_text row.now.regex ++ 10 ∷ []) }
+    ensures room { result ≡ true → 128 ≤ line.new.room }
+{
+    line.clear();
+    line.put_text("\n");
+    match row.regex {
+        None => put_value(line, source, &row.value),
+        Some(_) => false,
+    }
 }
 
 fn push_value(text: &mut String, source: &str, value: &RowValue) -> Result<(), AllocError>
@@ -146,42 +222,89 @@ fn push_regex(text: &mut String, regex: Option<RegexInfo>) -> Result<(), AllocEr
     }
 }
 
-fn push_row(text: &mut String, source: &str, index: usize, row: &Row) -> Result<(), AllocError>
+/// A row whose line is begun with what stands behind the token.
+fn push_begun_row(
+    text: &mut String,
+    line: &mut Line,
+    index: usize,
+    row: &Row,
+) -> Result<(), AllocError>
+    requires { 128 ≤ line.old.room }
+    ensures { OnOk result (string_bytes text.new
+        ≡ string_bytes text.old ++ (row_head index row.now ++ (token_text row.now.token ++ line.old.text))) }
+{
+    put_token(line, &row.token);
+    put_head(line, index, row);
+    text.push_str(line.as_str())
+}
+
+/// A row with any value.
+fn push_any_row(
+    text: &mut String,
+    line: &mut Line,
+    source: &str,
+    index: usize,
+    row: &Row,
+) -> Result<(), AllocError>
     requires { IsSliceOnPlaces source.now row.now.value }
     ensures { OnOk result (string_bytes text.new ≡ string_bytes text.old ++ row_line source.now index row.now) }
 {
-    push_head(text, index, row)?;
-    push_token(text, &row.token)?;
+    line.clear();
+    push_begun_row(text, line, index, row)?;
     push_value(text, source, &row.value)?;
     push_regex(text, row.regex)?;
     text.push_str("\n")
+}
+
+/// The line of a row.
+pub(crate) fn push_row(
+    text: &mut String,
+    line: &mut Line,
+    source: &str,
+    index: usize,
+    row: &Row,
+) -> Result<(), AllocError>
+    requires { IsSliceOnPlaces source.now row.now.value }
+    ensures { OnOk result (string_bytes text.new ≡ string_bytes text.old ++ row_line source.now index row.now) }
+{
+    if put_tail(line, source, row) {
+        push_begun_row(text, line, index, row)
+    } else {
+        push_any_row(text, line, source, index, row)
+    }
 }
 
 fn push_rows(text: &mut String, source: &str, rows: &[Row]) -> Result<(), AllocError>
     requires { AllByRecursion (λ row. IsSliceOnPlaces source.now row.value) rows.now }
     ensures { OnOk result (string_bytes text.new ≡ string_bytes text.old ++ row_lines source.now 0 rows.now) }
 {
+    let mut line = Line::new();
     for (index, row) in rows.iter().enumerate() {
-        push_row(text, source, index, row)?;
+        push_row(text, &mut line, source, index, row)?;
     }
     Ok(())
 }
 
-fn push_token_line(text: &mut String, label: &str, token: &Token) -> Result<(), AllocError>
-    ensures { OnOk result (string_bytes text.new ≡ string_bytes text.old ++ token_line label.now token.now) }
+fn put_token_line(line: &mut Line, label: &str, token: &Token)
+    requires { length label.now ≤ 100 }
+    ensures { line.new.text ≡ token_line label.now token.now }
 {
-    text.push_str(label)?;
-    text.push_str(" ")?;
-    push_token(text, token)?;
-    text.push_str("\n")
+    line.clear();
+    line.put_text("\n");
+    put_token(line, token);
+    line.put_text(" ");
+    line.put_text(label);
 }
 
 fn push_tokens(text: &mut String, label: &str, tokens: &[Token]) -> Result<(), AllocError>
+    requires { length label.now ≤ 100 }
     ensures { OnOk result (string_bytes text.new
         ≡ string_bytes text.old ++ flat_map (token_line label.now) tokens.now) }
 {
+    let mut line = Line::new();
     for token in tokens {
-        push_token_line(text, label, token)?;
+        put_token_line(&mut line, label, token);
+        text.push_str(line.as_str())?;
     }
     Ok(())
 }
@@ -245,41 +368,74 @@ fn push_diagnostics(
     Ok(())
 }
 
-#[tactic(auto, unfolding(crate::specs::ReportText::comment_head))]
-fn push_comment_head(text: &mut String, comment: &Comment) -> Result<(), AllocError>
-    ensures { OnOk result (string_bytes text.new ≡ string_bytes text.old ++ comment_head comment.now) }
+fn comment_kind(kind: CommentKind) -> &'static str
+    ensures name { result.now ≡ comment_kind_name kind }
+    ensures short { length result.now ≤ 15 }
 {
-    let start = comment.span.start;
-    let end = comment.span.end;
-    let kind = comment.kind.name();
-    let position = comment.position.name();
-    write!(text, "comment {start}..{end} {kind} {position}")
+    kind.name()
+}
+
+fn comment_position(position: CommentPosition) -> &'static str
+    ensures name { result.now ≡ comment_position_name position }
+    ensures short { length result.now ≤ 8 }
+{
+    position.name()
+}
+
+fn comment_content(content: CommentContent) -> &'static str
+    ensures name { result.now ≡ comment_content_name content }
+    ensures short { length result.now ≤ 23 }
+{
+    content.name()
 }
 
 #[tactic(auto, unfolding(crate::specs::ReportText::comment_rest))]
-fn push_comment_rest(text: &mut String, comment: &Comment) -> Result<(), AllocError>
-    ensures { OnOk result (string_bytes text.new ≡ string_bytes text.old ++ comment_rest comment.now) }
+fn put_comment_rest(line: &mut Line, comment: &Comment)
+    requires { 49 ≤ line.old.room }
+    ensures text { line.new.text ≡ comment_rest comment.now ++ line.old.text }
+    ensures room { line.old.room ≤ line.new.room + 49 }
 {
-    let attached_to = comment.attached_to;
-    let preceded = bit(comment.preceded);
-    let followed = bit(comment.followed);
-    let content = comment.content.name();
-    write!(text, " {attached_to} {preceded} {followed} {content}")
+    line.put_text(comment_content(comment.content));
+    line.put_text(" ");
+    line.put_text(bit(comment.followed));
+    line.put_text(" ");
+    line.put_text(bit(comment.preceded));
+    line.put_text(" ");
+    line.put_number(u64::from(comment.attached_to));
+    line.put_text(" ");
 }
 
-fn push_comment(text: &mut String, comment: &Comment) -> Result<(), AllocError>
-    ensures { OnOk result (string_bytes text.new ≡ string_bytes text.old ++ comment_line comment.now) }
+#[tactic(auto, unfolding(crate::specs::ReportText::comment_head))]
+fn put_comment_head(line: &mut Line, comment: &Comment)
+    requires { 75 ≤ line.old.room }
+    ensures { line.new.text ≡ comment_head comment.now ++ line.old.text }
 {
-    push_comment_head(text, comment)?;
-    push_comment_rest(text, comment)?;
-    text.push_str("\n")
+    line.put_text(comment_position(comment.position));
+    line.put_text(" ");
+    line.put_text(comment_kind(comment.kind));
+    line.put_text(" ");
+    line.put_number(u64::from(comment.span.end));
+    line.put_text("..");
+    line.put_number(u64::from(comment.span.start));
+    line.put_text("comment ");
+}
+
+fn put_comment(line: &mut Line, comment: &Comment)
+    ensures { line.new.text ≡ comment_line comment.now }
+{
+    line.clear();
+    line.put_text("\n");
+    put_comment_rest(line, comment);
+    put_comment_head(line, comment);
 }
 
 fn push_comments(text: &mut String, comments: &[Comment]) -> Result<(), AllocError>
     ensures { OnOk result (string_bytes text.new ≡ string_bytes text.old ++ flat_map comment_line comments.now) }
 {
+    let mut line = Line::new();
     for comment in comments {
-        push_comment(text, comment)?;
+        put_comment(&mut line, comment);
+        text.push_str(line.as_str())?;
     }
     Ok(())
 }
@@ -302,6 +458,19 @@ fn push_spans(text: &mut String, label: &str, spans: &[Span]) -> Result<(), Allo
     Ok(())
 }
 
+/// The text of a report behind its rows.
+pub(crate) fn push_rest(text: &mut String, report: &Report) -> Result<(), AllocError>
+    ensures { OnOk result (string_bytes text.new ≡ string_bytes text.old ++ rest_text_of report.now) }
+{
+    push_tokens(text, "token", report.tokens.as_slice())?;
+    push_tokens(text, "collected", report.collected.as_slice())?;
+    push_diagnostics(text, "diagnostic", report.diagnostics.as_slice())?;
+    push_diagnostics(text, "deferred", report.deferred.as_slice())?;
+    push_comments(text, report.comments.as_slice())?;
+    push_spans(text, "irregular", report.irregular.as_slice())?;
+    push_spans(text, "warning", report.warnings.as_slice())
+}
+
 /// The text of a report: a line for each row, with what the row found, then one for each live token, each collected
 /// one, each live diagnostic, each deferred one, each live comment, each live stretch of irregular white space, and
 /// each live warning.
@@ -311,12 +480,6 @@ pub fn report_text(alloc: Global, source: &str, report: &Report) -> Result<Strin
 {
     let mut text = String::new(alloc);
     push_rows(&mut text, source, report.rows.as_slice())?;
-    push_tokens(&mut text, "token", report.tokens.as_slice())?;
-    push_tokens(&mut text, "collected", report.collected.as_slice())?;
-    push_diagnostics(&mut text, "diagnostic", report.diagnostics.as_slice())?;
-    push_diagnostics(&mut text, "deferred", report.deferred.as_slice())?;
-    push_comments(&mut text, report.comments.as_slice())?;
-    push_spans(&mut text, "irregular", report.irregular.as_slice())?;
-    push_spans(&mut text, "warning", report.warnings.as_slice())?;
+    push_rest(&mut text, report)?;
     Ok(text)
 }

@@ -22,7 +22,7 @@ use crate::memory_in::SureIn;
 use crate::memory_out::SureOut;
 use crate::outside::{ByteIn, ByteOut};
 use crate::read_all::{MOST_BYTES, ReadFault, read_to_end};
-use crate::report::report_text;
+use crate::report_out::write_report_text;
 use crate::status::{MEMORY, NO_MARK, NOT_UTF8, READ_FAILED, TOO_LONG, USAGE};
 use crate::words::{CommandLine, Commands, Task, push_repeated, read_words};
 use crate::write_all::write_status;
@@ -81,16 +81,6 @@ pub(crate) fn status_of(fault: LexFault) -> u8
     }
 }
 
-/// The text of what ran.
-fn output_text(alloc: Global, ran: &Ran) -> Result<String, AllocError>
-    requires utf8 { IsUtf8 ran.now.source }
-    requires slices { AllByRecursion (λ row. IsSliceOnPlaces ran.now.source row.value) ran.now.report.rows }
-    ensures { IfOk result (λ text. string_bytes text ≡ report_text_of ran.now.source ran.now.report) }
-{
-    let source = str::from_utf8(ran.source.as_slice()).unwrap();
-    report_text(alloc, source, &ran.report)
-}
-
 /// The summary of what ran over so many generated lines.
 fn summary_of(alloc: Global, lines: u32, ran: &Ran) -> Result<String, AllocError>
     requires { length ran.now.source < 2 ^ 32 }
@@ -123,10 +113,8 @@ fn report_status<O: ByteOut>(alloc: Global, ran: &Ran, output: &mut O) -> u8
     ensures faults { CountsFault WriteFailed result (O.state output.old).faults (O.state output.new).faults }
     ensures in_time { InTime (O.state output.old).course (O.state output.new).course }
 {
-    match output_text(alloc, ran) {
-        Ok(text) => write_status(text.as_str(), output),
-        Err(_) => MEMORY,
-    }
+    let source = unsafe { str::from_utf8_unchecked(ran.source.as_slice()) };
+    write_report_text(alloc, source, &ran.report, output)
 }
 
 /// Writes the text of what ran.

@@ -42,6 +42,19 @@ pub fn push_units(text: &mut String, units: &[u16]) -> Result<(), AllocError>
     Ok(())
 }
 
+/// Whether all of a text stands for itself.
+pub fn is_plain(value: &str) -> bool
+    ensures { result ≡ true → text_in_units value.now ≡ value.now }
+{
+    let bytes = value.as_bytes();
+    for byte in bytes {
+        if !is_printed_as_itself(u16::from(*byte)) {
+            return false;
+        }
+    }
+    true
+}
+
 fn push_character(text: &mut String, c: char) -> Result<(), AllocError>
     ensures { OnOk result (string_bytes text.new ≡ string_bytes text.old ++ units_text c) }
 {
@@ -49,14 +62,24 @@ fn push_character(text: &mut String, c: char) -> Result<(), AllocError>
     push_units(text, c.encode_utf16(&mut buf))
 }
 
-/// Appends the units of a value.
-pub fn push_text_in_units(text: &mut String, value: &str) -> Result<(), AllocError>
+fn push_characters(text: &mut String, value: &str) -> Result<(), AllocError>
     ensures { OnOk result (string_bytes text.new ≡ string_bytes text.old ++ text_in_units value.now) }
 {
     for c in value.chars() {
         push_character(text, c)?;
     }
     Ok(())
+}
+
+/// Appends the units of a value.
+pub fn push_text_in_units(text: &mut String, value: &str) -> Result<(), AllocError>
+    ensures { OnOk result (string_bytes text.new ≡ string_bytes text.old ++ text_in_units value.now) }
+{
+    if is_plain(value) {
+        text.push_str(value)
+    } else {
+        push_characters(text, value)
+    }
 }
 
 /// Appends the number of a character.

@@ -1,6 +1,8 @@
 //! Writing a text to an output.
 
 ghost use Rattle.std.specs.Prelude.{◌≡◌, ◌⊎◌, OnOk, OnErr, IsErrOf};
+ghost use Rattle.std.specs.Io.KnownBytes.{Appends};
+ghost use Rattle.js_lex_tool.specs.Held.{WritesUnflushed};
 ghost use Rattle.js_lex_tool.specs.Outside.{Rises, WritesAll, WritesPrefix, StaysOpen, Closes, InTime};
 ghost use Rattle.js_lex_tool.specs.Run.{CountsFault, Writes};
 ghost use Rattle.js_lex_tool.specs.Status.{number, HasPassed};
@@ -16,14 +18,13 @@ pub enum WriteFault {
     Memory,
 }
 
-/// Writes all of a text and flushes it.
-pub fn write_all<O: ByteOut>(output: &mut O, text: &[u8]) -> Result<(), WriteFault>
-    ensures all { OnOk result (WritesAll (O.state output.old) (O.state output.new) text.now) }
+/// Writes all of a text. It is not flushed.
+fn write_bytes<O: ByteOut>(output: &mut O, text: &[u8]) -> Result<(), WriteFault>
+    ensures all { OnOk result (Appends (O.state output.old).written (O.state output.new).written text.now) }
     ensures prefix { OnErr result (WritesPrefix (O.state output.old) (O.state output.new) text.now) }
     ensures fault { IsErrOf result WriteFault.Failed → Rises (O.state output.old).faults (O.state output.new).faults }
     ensures no_fault { (¬ (IsErrOf result WriteFault.Failed))
         → (O.state output.new).faults ≡ (O.state output.old).faults }
-    // No call comes after one that has failed.
     ensures stays_open { OnOk result (StaysOpen (O.state output.old).course (O.state output.new).course) }
     ensures closes { OnErr result (Closes (O.state output.old).course (O.state output.new).course) }
 {
@@ -35,6 +36,28 @@ pub fn write_all<O: ByteOut>(output: &mut O, text: &[u8]) -> Result<(), WriteFau
             OutAnswer::Failed => return Err(WriteFault::Failed),
         }
     }
+    Ok(())
+}
+
+/// Writes all of a piece of a text. It is not flushed.
+pub(crate) fn write_piece<O: ByteOut>(output: &mut O, piece: &str) -> Result<(), WriteFault>
+    ensures { WritesUnflushed piece.now (O.state output.old) (O.state output.new) result }
+{
+    write_bytes(output, piece.as_bytes())
+}
+
+/// Writes all of a text and flushes it.
+pub fn write_all<O: ByteOut>(output: &mut O, text: &[u8]) -> Result<(), WriteFault>
+    ensures all { OnOk result (WritesAll (O.state output.old) (O.state output.new) text.now) }
+    ensures prefix { OnErr result (WritesPrefix (O.state output.old) (O.state output.new) text.now) }
+    ensures fault { IsErrOf result WriteFault.Failed → Rises (O.state output.old).faults (O.state output.new).faults }
+    ensures no_fault { (¬ (IsErrOf result WriteFault.Failed))
+        → (O.state output.new).faults ≡ (O.state output.old).faults }
+    // No call comes after one that has failed.
+    ensures stays_open { OnOk result (StaysOpen (O.state output.old).course (O.state output.new).course) }
+    ensures closes { OnErr result (Closes (O.state output.old).course (O.state output.new).course) }
+{
+    write_bytes(output, text)?;
     match output.flush() {
         FlushAnswer::Done => Ok(()),
         FlushAnswer::Failed => Err(WriteFault::Failed),

@@ -2,7 +2,7 @@ use Rattle.js_lex_tool.proofs.Courses.{stays_open}
 use Rattle.js_lex_tool.proofs.Pieces.{appends_more}
 use Rattle.std.proofs.Common.{arith, rules}
 use Rattle.std.proofs.lemmas.Grind.{common_steps}
-use Rattle.js_lex_tool.proofs.write_all.write_all.Goals as goal
+use Rattle.js_lex_tool.proofs.write_all.write_bytes.Goals as goal
 
 pub loop-at-preserved : goal.loop-at-preserved
 loop-at-preserved g c =

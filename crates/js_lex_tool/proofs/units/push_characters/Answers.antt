@@ -4,7 +4,7 @@ use Rattle.std.proofs.lemmas.Iterator.{YieldsList-from_chars}
 use Rattle.std.proofs.lemmas.Iterator.Consumers.{YieldsList-end}
 use Rattle.std.specs.List.{flat_map}
 use Rattle.js_lex_tool.specs.Units.{units_text}
-use Rattle.js_lex_tool.proofs.units.push_text_in_units.Goals as goal
+use Rattle.js_lex_tool.proofs.units.push_characters.Goals as goal
 
 pub returns : goal.returns
 returns c =

@@ -1,7 +1,7 @@
 use Rattle.std.proofs.Common.{◌≡◌, ◌-◌, ◌≤◌, length, take}
 use Rattle.std.specs.Io.KnownBytes.{Appends}
 use Rattle.js_lex_tool.specs.Outside.{StaysOpen}
-use Rattle.js_lex_tool.proofs.write_all.write_all.Given as goal
+use Rattle.js_lex_tool.proofs.write_all.write_bytes.Given as goal
 
 -- The text up to here was written, and no write has failed.
 abbrev pub invariant-loop-at : goal.invariant-loop-at

@@ -1,7 +1,7 @@
 use Rattle.std.proofs.Common.{◌≡◌, ◌++◌, string_bytes}
 use Rattle.std.specs.List.{flat_map}
 use Rattle.js_lex_tool.specs.Units.{units_text}
-use Rattle.js_lex_tool.proofs.units.push_text_in_units.Given as goal
+use Rattle.js_lex_tool.proofs.units.push_characters.Given as goal
 
 -- The characters so far were appended.
 abbrev pub invariant-loop-c : goal.invariant-loop-c
