@@ -28,24 +28,27 @@ use std::fmt::Write;
 /// A value that is no longer is written with its row.
 const SHORT: usize = 60;
 
-/// The flags that hold, or a dash.
-fn flags(token: &Token) -> &'static str
-    ensures text { result.now ≡ flags_text token.now.is_on_new_line token.now.escaped token.now.has_separator }
-    ensures short { length result.now ≤ 3 }
+/// Puts the flags that hold, or a dash.
+#[inline(always)]
+fn put_flags(line: &mut Line, token: &Token)
+    requires { 3 ≤ line.old.room }
+    ensures text { line.new.text
+        ≡ flags_text token.now.is_on_new_line token.now.escaped token.now.has_separator ++ line.old.text }
+    ensures room { line.old.room ≤ line.new.room + 3 }
 {
     match (
         token.is_on_new_line(),
         token.escaped(),
         token.has_separator(),
     ) {
-        (false, false, false) => "-",
-        (true, false, false) => "n",
-        (false, true, false) => "e",
-        (false, false, true) => "s",
-        (true, true, false) => "ne",
-        (true, false, true) => "ns",
-        (false, true, true) => "es",
-        (true, true, true) => "nes",
+        (false, false, false) => line.put_text("-"),
+        (true, false, false) => line.put_text("n"),
+        (false, true, false) => line.put_text("e"),
+        (false, false, true) => line.put_text("s"),
+        (true, true, false) => line.put_text("ne"),
+        (true, false, true) => line.put_text("ns"),
+        (false, true, true) => line.put_text("es"),
+        (true, true, true) => line.put_text("nes"),
     }
 }
 
@@ -59,6 +62,19 @@ fn step_name(command: Option<Command>) -> &'static str
     }
 }
 
+/// Puts the name of a step. That of `next` is the most common one.
+#[inline(always)]
+fn put_step(line: &mut Line, command: Option<Command>)
+    requires { 9 ≤ line.old.room }
+    ensures text { line.new.text ≡ step_name command ++ line.old.text }
+    ensures room { line.old.room ≤ line.new.room + 9 }
+{
+    match command {
+        Some(Command::Next) => line.put_text("next"),
+        _ => line.put_text(step_name(command)),
+    }
+}
+
 fn kind_name(kind: Kind) -> &'static str
     ensures name { result.now ≡ kind_name kind }
     ensures short { length result.now ≤ 22 }
@@ -67,10 +83,22 @@ fn kind_name(kind: Kind) -> &'static str
 }
 
 fn bit(holds: bool) -> &'static str
-    ensures text { result.now ≡ bit_text holds }
-    ensures short { length result.now ≡ 1 }
+    ensures { result.now ≡ bit_text holds }
 {
     if holds { "1" } else { "0" }
+}
+
+#[inline(always)]
+fn put_bit(line: &mut Line, holds: bool)
+    requires { 1 ≤ line.old.room }
+    ensures text { line.new.text ≡ bit_text holds ++ line.old.text }
+    ensures room { line.old.room ≡ line.new.room + 1 }
+{
+    if holds {
+        line.put_text("1")
+    } else {
+        line.put_text("0")
+    }
 }
 
 #[tactic(auto, unfolding(crate::specs::ReportText::token_text))]
@@ -79,7 +107,7 @@ fn put_token(line: &mut Line, token: &Token)
     ensures text { line.new.text ≡ token_text token.now ++ line.old.text }
     ensures room { line.old.room ≤ line.new.room + 69 }
 {
-    line.put_text(flags(token));
+    put_flags(line, token);
     line.put_text(" ");
     line.put_number(u64::from(token.end()));
     line.put_text("..");
@@ -94,11 +122,11 @@ fn put_head(line: &mut Line, index: usize, row: &Row)
     ensures { line.new.text ≡ row_head index row.now ++ line.old.text }
 {
     line.put_text(" ");
-    line.put_text(bit(row.taken));
+    put_bit(line, row.taken);
     line.put_text(" ");
     line.put_number(u64::from(row.place));
     line.put_text(" ");
-    line.put_text(step_name(row.command));
+    put_step(line, row.command);
     line.put_text(" ");
     line.put_number(index as u64);
     line.put_text("row ");
@@ -285,6 +313,7 @@ fn push_rows(text: &mut String, source: &str, rows: &[Row]) -> Result<(), AllocE
     Ok(())
 }
 
+#[inline(always)]
 fn put_token_line(line: &mut Line, label: &str, token: &Token)
     requires { length label.now ≤ 100 }
     ensures { line.new.text ≡ token_line label.now token.now }
@@ -296,6 +325,7 @@ fn put_token_line(line: &mut Line, label: &str, token: &Token)
     line.put_text(label);
 }
 
+#[inline(always)]
 fn push_tokens(text: &mut String, label: &str, tokens: &[Token]) -> Result<(), AllocError>
     requires { length label.now ≤ 100 }
     ensures { OnOk result (string_bytes text.new
@@ -397,9 +427,9 @@ fn put_comment_rest(line: &mut Line, comment: &Comment)
 {
     line.put_text(comment_content(comment.content));
     line.put_text(" ");
-    line.put_text(bit(comment.followed));
+    put_bit(line, comment.followed);
     line.put_text(" ");
-    line.put_text(bit(comment.preceded));
+    put_bit(line, comment.preceded);
     line.put_text(" ");
     line.put_number(u64::from(comment.attached_to));
     line.put_text(" ");
