@@ -1,6 +1,6 @@
 //! Short lines of a report, which are written from their ends on.
 
-ghost use Rattle.std.specs.Prelude.{◌≡◌, ℕ, ◌+◌, ◌≤◌, ◌++◌, [], length, drop};
+ghost use Rattle.std.specs.Prelude.{◌≡◌, ◌+◌, ◌≤◌, ◌++◌, [], length, drop};
 ghost use Rattle.std.specs.Fmt.{decimal};
 
 use itoa::write_digits;

@@ -1,4 +1,4 @@
-use Rattle.std.proofs.Common.{◌-◌, length, drop, arith, take_all, length-drop}
+use Rattle.std.proofs.Common.{◌-◌, drop, arith, take_all, length-drop}
 use Rattle.js_lex_tool.proofs.line.Line.as_str.Goals as goal
 
 pub from_utf8_unchecked-requires : goal.from_utf8_unchecked-requires

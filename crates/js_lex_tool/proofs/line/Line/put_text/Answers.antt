@@ -1,4 +1,4 @@
-use Rattle.std.proofs.Common.{◌++◌, drop, arith}
+use Rattle.std.proofs.Common.{drop, arith}
 use Rattle.std.proofs.lemmas.Str.{IsUtf8-append}
 use Rattle.js_lex_tool.proofs.line.Line.put_text.Goals as goal
 
