@@ -59,7 +59,6 @@ pub fn items_from<T: Copy + Drop>(
     requires { from ≤ length items.now }
     ensures { IfOk result (λ list. list ≡ drop from items.now) }
 {
-    let mut list = ItemList::new_in(alloc);
-    list.extend_from_slice(&items[from..])?;
-    Ok(list)
+    let copies = Vec::from_slice(alloc, &items[from..])?;
+    Ok(ItemList::from_vec(copies))
 }
