@@ -2,8 +2,8 @@
 
 use bitflags::Flags;
 use js_text::{
-    ByteList, Comment, CommentContent, CommentKind, CommentList, CommentPosition, Diagnostic,
-    DiagnosticList, JSStrBuilder, RegExpFlags, RowValue, SourceText, Span, SpanList,
+    BoxedJSStr, ByteList, Comment, CommentContent, CommentKind, CommentList, CommentPosition,
+    Diagnostic, DiagnosticList, JSStrBuilder, RegExpFlags, RowValue, SourceText, Span, SpanList,
     is_identifier_part, is_identifier_start, is_irregular_whitespace, is_line_terminator,
     is_white_space,
 };
@@ -277,7 +277,7 @@ fn lone_surrogates(rt: HostRuntime) -> Result<(), Fail> {
 fn values_of_rows(rt: HostRuntime) -> Result<(), Fail> {
     let mut builder = JSStrBuilder::with_capacity_in(rt.alloc(), 2)?;
     builder.push('a')?;
-    let value = RowValue::Units(builder.into_js_str());
+    let value = RowValue::Units(BoxedJSStr::new(rt.alloc(), builder.into_js_str())?);
     match value.copy(rt.alloc())? {
         RowValue::Units(copied) => assert_eq!(rt; copied.units(), [0x61].as_slice()),
         _ => return Err(Fail::from("no units")),

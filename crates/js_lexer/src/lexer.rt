@@ -7,7 +7,7 @@ ghost use Rattle.std.specs.Str.{IsCharBoundary, IsUtf8};
 ghost use Rattle.js_text.specs.declared.comment.Comment.{Comment};
 ghost use Rattle.js_text.specs.declared.diagnostic.Diagnostic.{Diagnostic};
 ghost use Rattle.js_grammar.specs.Goals.{line_has_ended_behind};
-ghost use Rattle.js_grammar.specs.Outcome.{AreWithin, found_since, no_findings};
+ghost use Rattle.js_grammar.specs.Outcome.{AreWithin, found_since, lengths_of, no_findings};
 ghost use Rattle.js_grammar.specs.TokenText.{text_start, text_end};
 ghost use Rattle.js_grammar.specs.Reads.{is_onward};
 ghost use Rattle.js_kind.specs.TokenParts.{TokenParts};
@@ -663,6 +663,14 @@ impl<'a, C: LexerConfig + Drop> Lexer<'a, C> {
         let mut checkpoint = self.checkpoint();
         checkpoint.errors_copy = Some(errors);
         Ok(checkpoint)
+    }
+
+    /// Whether nothing was found since the checkpoint.
+    #[inline(always)]
+    pub fn has_found_nothing_since(&self, checkpoint: &LexerCheckpoint) -> bool
+        ensures { IsTrue result ↔ (checkpoint.now.lengths ≡ lengths_of self.now.findings) }
+    {
+        self.found.has_found_nothing_since(&checkpoint.start.found)
     }
 
     /// Copies of what was found since the checkpoint.

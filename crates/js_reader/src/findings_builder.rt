@@ -1,7 +1,7 @@
 //! What readings find, as a lexer gathers it.
 
 ghost use Rattle.std.specs.Prelude.{◌≡◌, ◌≤◌, ◌↔◌, [], length, IfOk, IsTrue};
-ghost use Rattle.js_grammar.specs.Outcome.{AreWithin, found_since};
+ghost use Rattle.js_grammar.specs.Outcome.{AreWithin, found_since, lengths_of};
 ghost use Rattle.js_trivia.specs.Trivia.{no_trivia, AreRangesUpTo, CanCutBack};
 ghost use Rattle.js_reader.specs.Found.{HasFound, findings_in, found_lengths, found_up_to, lengths_in};
 
@@ -80,6 +80,20 @@ impl FindingsBuilder {
         self.deferred.truncate(to.deferred);
         self.warnings.truncate(to.warnings);
         self.trivia.cut_back(to.trivia);
+    }
+
+    /// Whether nothing was found since then, between two gaps.
+    #[inline(always)]
+    pub fn has_found_nothing_since(&self, then: &FindingsLengths) -> bool
+        requires { self.now.trivia.attachment.pending ≡ [] }
+        ensures { IsTrue result ↔ (lengths_in then.now ≡ lengths_of (findings_in self.now)) }
+    {
+        let now = self.lengths();
+        then.errors == now.errors
+            && then.deferred == now.deferred
+            && then.trivia.comments == now.trivia.comments
+            && then.trivia.irregular == now.trivia.irregular
+            && then.warnings == now.warnings
     }
 
     /// Copies of what was found since then, between two gaps.

@@ -32,7 +32,7 @@ use Rattle.js_session.specs.Moved.{moved_row}
 use Rattle.js_session.specs.Report.{Run}
 use Rattle.js_session.specs.Session.{state_behind}
 use Rattle.js_session.specs.Shifted.{shifted, shifted_comment, shifted_diagnostic, shifted_regex, shifted_row}
-use Rattle.js_session.specs.Shifted.{shifted_span, shifted_token, shifted_value}
+use Rattle.js_session.specs.Shifted.{shifted_findings, shifted_span, shifted_token, shifted_value}
 use Rattle.js_session.specs.Shifted.{OfComment, OfDiagnostic, OfEachPlace, OfFindings, OfRegex, OfSpan, OfValue}
 use Rattle.js_session.proofs.MovedRuns.{behind_byte, run_back, run_forward}
 
@@ -84,6 +84,22 @@ module _ (from to : ℕ) where
   diagnostics_on ds =
       each_on (shifted_diagnostic from to) (moved_diagnostic from) (moved_diagnostic to) diagnostic_on ds
 
+  comments_on : (cs : List Comment)
+      → map (shifted_comment from to) (map (moved_comment from) cs) ≡ map (moved_comment to) cs
+  comments_on cs = each_on (shifted_comment from to) (moved_comment from) (moved_comment to) comment_on cs
+
+  spans_on : (ss : List Span) → map (shifted_span from to) (map (moved_span from) ss) ≡ map (moved_span to) ss
+  spans_on ss = each_on (shifted_span from to) (moved_span from) (moved_span to) span_on ss
+
+  findings_on : (found : Findings) → shifted_findings from to (moved_findings from found) ≡ moved_findings to found
+  findings_on found = λ j. record {
+    diagnostics = diagnostics_on found.diagnostics j;
+    deferred = diagnostics_on found.deferred j;
+    comments = comments_on found.comments j;
+    irregular = spans_on found.irregular j;
+    warnings = spans_on found.warnings j;
+  }
+
   -- what was moved from its own text to the one place is moved on to the other
   row_on : (row : Row) → shifted_row from to (moved_row from row) ≡ moved_row to row
   row_on row = λ j. record {
@@ -93,11 +109,7 @@ module _ (from to : ℕ) where
     token = token_on row.token j;
     value = value_on row.value j;
     regex = regex_on row.regex j;
-    diagnostics = diagnostics_on row.diagnostics j;
-    deferred = diagnostics_on row.deferred j;
-    comments = each_on (shifted_comment from to) (moved_comment from) (moved_comment to) comment_on row.comments j;
-    irregular = each_on (shifted_span from to) (moved_span from) (moved_span to) span_on row.irregular j;
-    warnings = each_on (shifted_span from to) (moved_span from) (moved_span to) span_on row.warnings j;
+    findings = findings_on row.findings j;
   }
 
   rows_on : (rows : List Row) → map (shifted_row from to) (map (moved_row from) rows) ≡ map (moved_row to) rows

@@ -13,13 +13,7 @@ use Rattle.js_session.specs.declared.row.Row.{Row}
 
 -- what a row has found
 abbrev pub row_findings : Row → Findings
-row_findings row = record {
-  diagnostics = row.diagnostics;
-  deferred = row.deferred;
-  comments = row.comments;
-  irregular = row.irregular;
-  warnings = row.warnings;
-}
+row_findings row = row.findings
 
 -- what the reading of a row gave
 abbrev pub outcome_of : Row → Outcome
@@ -34,11 +28,7 @@ row_of command place taken outcome = record {
   token = outcome.token;
   value = outcome.value;
   regex = outcome.regex;
-  diagnostics = outcome.findings.diagnostics;
-  deferred = outcome.findings.deferred;
-  comments = outcome.findings.comments;
-  irregular = outcome.findings.irregular;
-  warnings = outcome.findings.warnings;
+  findings = outcome.findings;
 }
 
 -- the live tokens, and what is live of what was found

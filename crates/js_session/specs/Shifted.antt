@@ -70,6 +70,15 @@ abbrev pub shifted_token : ℕ → ℕ → TokenParts → TokenParts
 shifted_token from to token =
     record token { start = shifted from to token.start; end = shifted from to token.end }
 
+abbrev pub shifted_findings : ℕ → ℕ → Findings → Findings
+shifted_findings from to found = record {
+  diagnostics = map (shifted_diagnostic from to) found.diagnostics;
+  deferred = map (shifted_diagnostic from to) found.deferred;
+  comments = map (shifted_comment from to) found.comments;
+  irregular = map (shifted_span from to) found.irregular;
+  warnings = map (shifted_span from to) found.warnings;
+}
+
 -- the row with each of its places shifted
 abbrev pub shifted_row : ℕ → ℕ → Row → Row
 shifted_row from to row = record {
@@ -79,11 +88,7 @@ shifted_row from to row = record {
   token = shifted_token from to row.token;
   value = shifted_value from to row.value;
   regex = option_map (shifted_regex from to) row.regex;
-  diagnostics = map (shifted_diagnostic from to) row.diagnostics;
-  deferred = map (shifted_diagnostic from to) row.deferred;
-  comments = map (shifted_comment from to) row.comments;
-  irregular = map (shifted_span from to) row.irregular;
-  warnings = map (shifted_span from to) row.warnings;
+  findings = shifted_findings from to row.findings;
 }
 
 -- P holds of both ends of a span.

@@ -1,7 +1,7 @@
 //! Rows that are read from a lexer.
 
 ghost use Rattle.std.specs.Prelude.{◌≡◌, ◌≤◌, true, [], ◌∷◌, is_some, None, IfOk, OnOk, OnErr, MatchBool};
-ghost use Rattle.js_grammar.specs.Outcome.{AreWithin};
+ghost use Rattle.js_grammar.specs.Outcome.{AreWithin, found_since};
 ghost use Rattle.js_grammar.specs.ReLexed.{fits};
 ghost use Rattle.js_grammar.specs.Reads.{is_onward};
 ghost use Rattle.js_grammar.specs.TokenText.{text_start, text_end};
@@ -18,11 +18,12 @@ use crate::command::Command;
 use crate::mark::SessionMark;
 use crate::re_lex::read_again;
 use crate::row::Row;
+use crate::row_findings::RowFindings;
 use crate::row_list::RowList;
 use js_grammar::Goal;
 use js_kind::{LexerConfig, Token, TokenList};
-use js_lexer::{Findings, Lexer, LexerCheckpoint, is_template, is_valued, text_span};
-use js_text::{JsText, RegexInfo, RowValue, TemplateValue};
+use js_lexer::{Lexer, LexerCheckpoint, is_template, is_valued, text_span};
+use js_text::{BoxedJSStr, JsText, RegexInfo, RowValue, TemplateValue};
 use std::alloc::{AllocError, Global};
 use std::marker::Model;
 
@@ -51,7 +52,7 @@ fn decoded_value<C: LexerConfig + Drop>(
     ensures { IfOk result (λ value. HoldsUnits (value_of lexer.now.decoded.strings token.now.start) value) }
 {
     match lexer.get_string(*token) {
-        Some(JsText::Decoded(text)) => Ok(RowValue::Units(text.copy(alloc)?)),
+        Some(JsText::Decoded(text)) => Ok(RowValue::Units(BoxedJSStr::copy_of(alloc, text)?)),
         _ => unreachable!(),
     }
 }
@@ -68,7 +69,9 @@ fn part_value<C: LexerConfig + Drop>(
     ensures { IfOk result (λ value. HoldsPart (value_of lexer.now.decoded.templates token.now.start) value) }
 {
     match lexer.get_template_string(*token) {
-        Some(TemplateValue::Text(JsText::Decoded(text))) => Ok(RowValue::Units(text.copy(alloc)?)),
+        Some(TemplateValue::Text(JsText::Decoded(text))) => {
+            Ok(RowValue::Units(BoxedJSStr::copy_of(alloc, text)?))
+        }
         Some(TemplateValue::Bad) => Ok(RowValue::Bad),
         _ => unreachable!(),
     }
@@ -128,6 +131,23 @@ fn read_token<C: LexerConfig + Drop>(
     }
 }
 
+/// What was found since the checkpoint. Most tokens are read without a finding, and then no list is made.
+fn findings_since<C: LexerConfig + Drop>(
+    lexer: &Lexer<'_, C>,
+    alloc: Global,
+    before: &LexerCheckpoint,
+) -> Result<RowFindings, AllocError>
+    requires { AreWithin before.now.lengths lexer.now.findings }
+    ensures { IfOk result (λ found. found ≡ found_since before.now.lengths lexer.now.findings) }
+{
+    if lexer.has_found_nothing_since(before) {
+        return Ok(RowFindings::nothing());
+    }
+    let found = lexer.findings_since(alloc, before)?;
+    let findings = RowFindings::new(alloc, found)?;
+    Ok(findings)
+}
+
 /// The row of a token that was just read from the place, where the checkpoint was made.
 fn row_of<C: LexerConfig + Drop>(
     lexer: &Lexer<'_, C>,
@@ -144,8 +164,8 @@ fn row_of<C: LexerConfig + Drop>(
     ensures { IfOk result (IsMadeOf command place before.now.lengths token regex lexer.now) }
 {
     let value = value_of(lexer, alloc, &token)?;
-    let found = lexer.findings_since(alloc, before)?;
-    Ok(Row::new(command, place, true, token, value, regex, found))
+    let findings = findings_since(lexer, alloc, before)?;
+    Ok(Row::new(command, place, true, token, value, regex, findings))
 }
 
 /// Reads a row of a goal that goes on. Where it cannot allocate, the lexer may have gone on.
@@ -200,18 +220,22 @@ fn read_row_again<C: LexerConfig + Drop>(
 }
 
 /// The row of a re-lex that is not taken: it holds the last token, and nothing else.
-fn not_taken<C: LexerConfig + Drop>(
-    lexer: &Lexer<'_, C>,
-    alloc: Global,
-    command: Option<Command>,
-) -> Row
+fn not_taken<C: LexerConfig + Drop>(lexer: &Lexer<'_, C>, command: Option<Command>) -> Row
     ensures row { result ≡ not_taken command lexer.now }
     ensures places { IsOnPlaces lexer.now.text (token_or_default lexer.now.last) }
 {
     let place = lexer.offset();
     let token = lexer.last_token();
-    let found = Findings::new_in(alloc);
-    Row::new(command, place, false, token, RowValue::Nothing, None, found)
+    let findings = RowFindings::nothing();
+    Row::new(
+        command,
+        place,
+        false,
+        token,
+        RowValue::Nothing,
+        None,
+        findings,
+    )
 }
 
 /// A lexer, the rows that were read from it, and the tokens that are live.
@@ -336,7 +360,7 @@ impl<'a, C: LexerConfig + Drop> RowReader<'a, C> {
                 Ok(())
             }
             None => {
-                let row = not_taken(&self.lexer, self.alloc, command);
+                let row = not_taken(&self.lexer, command);
                 self.rows.push(row)
             }
         }

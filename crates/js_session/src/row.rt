@@ -3,37 +3,29 @@
 ghost use Rattle.std.specs.Prelude.{◌≡◌, IfOk};
 ghost use Rattle.std.specs.Option.{option_map};
 ghost use Rattle.js_text.specs.JsText.{js_text_units};
-ghost use Rattle.js_session.specs.Live.{row_findings, row_of};
+ghost use Rattle.js_session.specs.Live.{row_of};
 ghost use Rattle.js_session.specs.Report.{IsSliceOnPlaces, text_of};
 
 use crate::command::Command;
+use crate::row_findings::RowFindings;
 use js_kind::Token;
-use js_lexer::Findings;
-use js_text::{CommentList, DiagnosticList, JsText, RegexInfo, RowValue, SpanList};
+use js_text::{JsText, RegexInfo, RowValue};
 use std::alloc::{AllocError, Global};
 
 /// What a step gave.
 #[derive(Drop)]
 pub struct Row {
-    /// None for the first step.
-    pub command: Option<Command>,
-    /// Where the lexer stood before the command, as an offset in bytes.
-    pub place: u32,
-    /// Whether the command was carried out.
-    pub taken: bool,
     pub token: Token,
     pub value: RowValue,
+    /// What the reading found beside its token.
+    pub findings: RowFindings,
     pub regex: Option<RegexInfo>,
-    /// What the reading reported.
-    pub diagnostics: DiagnosticList,
-    /// What it reported for the case that the source is a module.
-    pub deferred: DiagnosticList,
-    /// The comments of its gap.
-    pub comments: CommentList,
-    /// The irregular white space of its gap.
-    pub irregular: SpanList,
-    /// What the reading warned of.
-    pub warnings: SpanList,
+    /// Where the lexer stood before the command, as an offset in bytes.
+    pub place: u32,
+    /// None for the first step.
+    pub command: Option<Command>,
+    /// Whether the command was carried out.
+    pub taken: bool,
 }
 
 impl Row {
@@ -45,23 +37,19 @@ impl Row {
         token: Token,
         value: RowValue,
         regex: Option<RegexInfo>,
-        found: Findings,
+        findings: RowFindings,
     ) -> Row
         ensures { result ≡ row_of command place taken
-            (record { token = token; value = value; regex = regex; findings = found }) }
+            (record { token = token; value = value; regex = regex; findings = findings }) }
     {
         Row {
-            command,
-            place,
-            taken,
             token,
             value,
+            findings,
             regex,
-            diagnostics: found.diagnostics,
-            deferred: found.deferred,
-            comments: found.comments,
-            irregular: found.irregular,
-            warnings: found.warnings,
+            place,
+            command,
+            taken,
         }
     }
 
@@ -76,21 +64,8 @@ impl Row {
                 let range = span.start as usize..span.end as usize;
                 Some(JsText::Source(&source[range]))
             }
-            RowValue::Units(text) => Some(JsText::Decoded(text)),
+            RowValue::Units(text) => Some(JsText::Decoded(text.as_js_str())),
         }
-    }
-
-    /// Copies of what it found.
-    fn findings(&self, alloc: Global) -> Result<Findings, AllocError>
-        ensures { IfOk result (λ found. found ≡ row_findings self.now) }
-    {
-        Ok(Findings {
-            diagnostics: self.diagnostics.copy(alloc)?,
-            deferred: self.deferred.copy(alloc)?,
-            comments: self.comments.copy(alloc)?,
-            irregular: self.irregular.copy(alloc)?,
-            warnings: self.warnings.copy(alloc)?,
-        })
     }
 
     /// An equal row.
@@ -98,7 +73,7 @@ impl Row {
         ensures { IfOk result (λ row. row ≡ self.now) }
     {
         let value = self.value.copy(alloc)?;
-        let found = self.findings(alloc)?;
+        let findings = self.findings.copy(alloc)?;
         Ok(Row::new(
             self.command,
             self.place,
@@ -106,7 +81,7 @@ impl Row {
             self.token,
             value,
             self.regex,
-            found,
+            findings,
         ))
     }
 }

@@ -3,10 +3,12 @@
 ghost use Rattle.std.specs.Prelude.{◌≡◌, ◌≤◌, map, IfOk};
 ghost use Rattle.std.specs.Option.{option_map};
 ghost use Rattle.js_session.specs.Shifted.{shifted, shifted_comment, shifted_diagnostic, shifted_regex, shifted_row};
-ghost use Rattle.js_session.specs.Shifted.{shifted_span, shifted_token, shifted_value, with_span};
+ghost use Rattle.js_session.specs.Shifted.{shifted_findings, shifted_span, shifted_token, shifted_value, with_span};
 
 use crate::row::Row;
+use crate::row_findings::RowFindings;
 use js_kind::Token;
+use js_lexer::Findings;
 use js_text::{
     Comment, CommentList, Diagnostic, DiagnosticList, RegexInfo, RowValue, Span, SpanList,
 };
@@ -174,6 +176,32 @@ impl Shift {
         Ok(moved)
     }
 
+    /// Copies of the lists, moved.
+    fn lists(&self, alloc: Global, found: &Findings) -> Result<Findings, AllocError>
+        ensures { IfOk result (λ new. new ≡ shifted_findings self.now.from self.now.to found.now) }
+    {
+        Ok(Findings {
+            diagnostics: self.diagnostics(alloc, found.diagnostics.as_slice())?,
+            deferred: self.diagnostics(alloc, found.deferred.as_slice())?,
+            comments: self.comments(alloc, found.comments.as_slice())?,
+            irregular: self.spans(alloc, found.irregular.as_slice())?,
+            warnings: self.spans(alloc, found.warnings.as_slice())?,
+        })
+    }
+
+    /// A copy of what was found, moved.
+    fn findings(&self, alloc: Global, found: &RowFindings) -> Result<RowFindings, AllocError>
+        ensures { IfOk result (λ new. new ≡ shifted_findings self.now.from self.now.to found.now) }
+    {
+        match found.lists() {
+            Some(lists) => {
+                let moved = self.lists(alloc, lists)?;
+                Ok(RowFindings::new(alloc, moved)?)
+            }
+            None => Ok(RowFindings::nothing()),
+        }
+    }
+
     /// A copy of the row, moved.
     pub fn row(&self, alloc: Global, row: &Row) -> Result<Row, AllocError>
         requires { row.now.token.start ≤ row.now.token.end }
@@ -183,23 +211,15 @@ impl Shift {
         let token = self.token(row.token)?;
         let value = self.value(alloc, &row.value)?;
         let regex = self.regex(row.regex)?;
-        let diagnostics = self.diagnostics(alloc, row.diagnostics.as_slice())?;
-        let deferred = self.diagnostics(alloc, row.deferred.as_slice())?;
-        let comments = self.comments(alloc, row.comments.as_slice())?;
-        let irregular = self.spans(alloc, row.irregular.as_slice())?;
-        let warnings = self.spans(alloc, row.warnings.as_slice())?;
+        let findings = self.findings(alloc, &row.findings)?;
         Ok(Row {
-            command: row.command,
-            place,
-            taken: row.taken,
             token,
             value,
+            findings,
             regex,
-            diagnostics,
-            deferred,
-            comments,
-            irregular,
-            warnings,
+            place,
+            command: row.command,
+            taken: row.taken,
         })
     }
 }

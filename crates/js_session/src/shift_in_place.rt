@@ -4,12 +4,15 @@ ghost use Rattle.std.specs.Prelude.{◌≡◌, ◌≤◌, map};
 ghost use Rattle.std.specs.List.{All, AllByRecursion};
 ghost use Rattle.std.specs.Option.{option_map};
 ghost use Rattle.js_session.specs.Shifted.{shifted, shifted_comment, shifted_diagnostic, shifted_regex, shifted_row};
-ghost use Rattle.js_session.specs.Shifted.{shifted_span, shifted_token, shifted_value};
-ghost use Rattle.js_session.specs.Shifted.{FitsShifted, OfComment, OfDiagnostic, OfRegex, OfSpan, OfValue, ShiftFits};
+ghost use Rattle.js_session.specs.Shifted.{shifted_findings, shifted_span, shifted_token, shifted_value};
+ghost use Rattle.js_session.specs.Shifted.{FitsShifted, OfComment, OfDiagnostic, OfFindings, OfRegex, OfSpan, OfValue};
+ghost use Rattle.js_session.specs.Shifted.{ShiftFits};
 
 use crate::row::Row;
+use crate::row_findings::{BoxedFindings, RowFindings};
 use crate::shift::{Shift, with_span};
 use js_kind::Token;
+use js_lexer::Findings;
 use js_text::{
     Comment, CommentList, Diagnostic, DiagnosticList, RegexInfo, RowValue, Span, SpanList,
 };
@@ -133,6 +136,32 @@ impl Shift {
         *spans = SpanList::from_vec(items);
     }
 
+    fn move_findings(&self, alloc: Global, found: &mut Findings)
+        requires { OfFindings (FitsShifted self.now.from self.now.to) found.old }
+        ensures { found.new ≡ shifted_findings self.now.from self.now.to found.old }
+    {
+        self.move_diagnostics(alloc, &mut found.diagnostics);
+        self.move_diagnostics(alloc, &mut found.deferred);
+        self.move_comments(alloc, &mut found.comments);
+        self.move_spans(alloc, &mut found.irregular);
+        self.move_spans(alloc, &mut found.warnings);
+    }
+
+    fn move_row_findings(&self, alloc: Global, found: RowFindings) -> RowFindings
+        requires { OfFindings (FitsShifted self.now.from self.now.to) found }
+        ensures { result ≡ shifted_findings self.now.from self.now.to found }
+    {
+        match found.boxed {
+            BoxedFindings::Nothing => RowFindings::nothing(),
+            BoxedFindings::Lists(mut lists) => {
+                self.move_findings(alloc, lists.as_mut());
+                RowFindings {
+                    boxed: BoxedFindings::Lists(lists),
+                }
+            }
+        }
+    }
+
     /// Moves the row in its place. It takes no memory: the allocator is for the empty lists that stand there meanwhile.
     pub fn move_row(&self, alloc: Global, row: &mut Row)
         requires fits { ShiftFits self.now.from self.now.to row.old }
@@ -143,11 +172,8 @@ impl Shift {
         self.move_token(&mut row.token);
         self.move_value(&mut row.value);
         self.move_regex(&mut row.regex);
-        self.move_diagnostics(alloc, &mut row.diagnostics);
-        self.move_diagnostics(alloc, &mut row.deferred);
-        self.move_comments(alloc, &mut row.comments);
-        self.move_spans(alloc, &mut row.irregular);
-        self.move_spans(alloc, &mut row.warnings);
+        let found = mem::replace(&mut row.findings, RowFindings::nothing());
+        row.findings = self.move_row_findings(alloc, found);
     }
 
     /// Moves each row in its place.
