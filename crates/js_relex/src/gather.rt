@@ -108,6 +108,18 @@ pub(crate) fn add_rows(report: &mut Report, rows: RowList) -> Result<(), AllocEr
     Ok(())
 }
 
+/// A copy of the row, moved. Nothing is said here of the text that it is moved to, so a row with a place that is no
+/// `u32` then is answered as lack of memory.
+fn moved_row(alloc: Global, shift: &Shift, row: &Row) -> Result<Row, AllocError>
+    requires { IsInOrder row.now }
+    ensures { IfOk result (λ new. new ≡ shifted_row shift.now.from shift.now.to row.now) }
+{
+    match shift.row(alloc, row)? {
+        Some(moved) => Ok(moved),
+        None => Err(AllocError),
+    }
+}
+
 /// Adds copies of the rows, moved.
 pub(crate) fn add_moved_copies(
     alloc: Global,
@@ -120,7 +132,7 @@ pub(crate) fn add_moved_copies(
         (AddsRows report.old (map (shifted_row shift.now.from shift.now.to) rows.now) report.new) }
 {
     for row in rows {
-        let row = shift.row(alloc, row)?;
+        let row = moved_row(alloc, shift, row)?;
         add_row(report, row)?;
     }
     Ok(())
@@ -148,7 +160,7 @@ pub(crate) fn add_moved_live_rows(
         (live_behind (report_live report.old) (map (shifted_row shift.now.from shift.now.to) rows.now)) report.new) }
 {
     for row in rows {
-        let moved = shift.row(alloc, row)?;
+        let moved = moved_row(alloc, shift, row)?;
         add_live(report, &moved)?;
     }
     Ok(())

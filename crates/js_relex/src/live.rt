@@ -4,7 +4,8 @@
 ghost use Rattle.std.specs.Prelude.{◌≡◌, ◌≤◌, ◌<◌, ◌+◌, ◌-◌, ◌^◌, ◌↔◌, ◌++◌, [], length, take, drop, map, IfOk, IsTrue, OnOk};
 ghost use Rattle.std.specs.List.{AllByRecursion};
 ghost use Rattle.js_session.specs.Live.{nothing_live, report_live, report_with};
-ghost use Rattle.js_session.specs.Shifted.{shifted_row, shifted_token};
+ghost use Rattle.js_session.specs.Shifted.{shifted_comment, shifted_diagnostic, shifted_row, shifted_span};
+ghost use Rattle.js_session.specs.Shifted.{shifted_token};
 ghost use Rattle.js_relex.specs.Documents.{GoesLive, IsInOrder, live_behind};
 ghost use Rattle.js_relex.specs.LiveLists.{AreWithin, HasLasted, Lasts, StartsAnew, count_readings, first_readings};
 ghost use Rattle.js_relex.specs.LiveLists.{found_length, is_reading, joined_live, live_from, live_lengths, live_up_to};
@@ -16,6 +17,7 @@ use crate::outline::RowOutline;
 use crate::outlined::OutlinedReport;
 use js_kind::{Token, TokenList};
 use js_session::{Command, Report, Row, Shift};
+use js_text::{Comment, CommentList, Diagnostic, DiagnosticList, Span, SpanList};
 use std::alloc::{AllocError, Global};
 
 /// How many items there are in each live list.
@@ -303,6 +305,14 @@ fn add_up_to(report: &mut Report, old: &Report, lengths: LiveLengths) -> Result<
     report.warnings.extend_from_slice(warnings)
 }
 
+/// The token, moved. One with a place that is no `u32` then is answered as lack of memory, as in a row.
+fn moved_token(shift: &Shift, token: Token) -> Result<Token, AllocError>
+    requires { HasOrder token }
+    ensures { IfOk result (λ new. new ≡ shifted_token shift.now.from shift.now.to token) }
+{
+    shift.token(token).ok_or(AllocError)
+}
+
 /// Adds copies of the tokens, moved.
 fn add_moved_tokens(list: &mut TokenList, tokens: &[Token], shift: &Shift) -> Result<(), AllocError>
     requires { AllByRecursion HasOrder tokens.now }
@@ -310,10 +320,58 @@ fn add_moved_tokens(list: &mut TokenList, tokens: &[Token], shift: &Shift) -> Re
         (list.new ≡ list.old ++ map (shifted_token shift.now.from shift.now.to) tokens.now) }
 {
     for token in tokens {
-        let moved = shift.token(*token)?;
+        let moved = moved_token(shift, *token)?;
         list.push(moved)?;
     }
     Ok(())
+}
+
+/// Adds copies of the diagnostics, moved.
+fn add_moved_diagnostics(
+    alloc: Global,
+    list: &mut DiagnosticList,
+    diagnostics: &[Diagnostic],
+    shift: &Shift,
+) -> Result<(), AllocError>
+    ensures { OnOk result
+        (list.new ≡ list.old ++ map (shifted_diagnostic shift.now.from shift.now.to) diagnostics.now) }
+{
+    match shift.diagnostics(alloc, diagnostics)? {
+        Some(moved) => list.extend_from_slice(moved.as_slice()),
+        None => Err(AllocError),
+    }
+}
+
+/// Adds copies of the comments, moved.
+fn add_moved_comments(
+    alloc: Global,
+    list: &mut CommentList,
+    comments: &[Comment],
+    shift: &Shift,
+) -> Result<(), AllocError>
+    ensures { OnOk result
+        (list.new ≡ list.old ++ map (shifted_comment shift.now.from shift.now.to) comments.now) }
+{
+    match shift.comments(alloc, comments)? {
+        Some(moved) => list.extend_from_slice(moved.as_slice()),
+        None => Err(AllocError),
+    }
+}
+
+/// Adds copies of the spans, moved.
+fn add_moved_spans(
+    alloc: Global,
+    list: &mut SpanList,
+    spans: &[Span],
+    shift: &Shift,
+) -> Result<(), AllocError>
+    ensures { OnOk result
+        (list.new ≡ list.old ++ map (shifted_span shift.now.from shift.now.to) spans.now) }
+{
+    match shift.spans(alloc, spans)? {
+        Some(moved) => list.extend_from_slice(moved.as_slice()),
+        None => Err(AllocError),
+    }
 }
 
 /// Makes live what is live in the old report from these lengths on, moved.
@@ -335,19 +393,12 @@ fn add_moved_from(
     let comments = &old.comments.as_slice()[lengths.comments..];
     let irregular = &old.irregular.as_slice()[lengths.irregular..];
     let warnings = &old.warnings.as_slice()[lengths.warnings..];
-    let diagnostics = shift.diagnostics(alloc, diagnostics)?;
-    let deferred = shift.diagnostics(alloc, deferred)?;
-    let comments = shift.comments(alloc, comments)?;
-    let irregular = shift.spans(alloc, irregular)?;
-    let warnings = shift.spans(alloc, warnings)?;
     add_moved_tokens(&mut report.tokens, tokens, shift)?;
-    report
-        .diagnostics
-        .extend_from_slice(diagnostics.as_slice())?;
-    report.deferred.extend_from_slice(deferred.as_slice())?;
-    report.comments.extend_from_slice(comments.as_slice())?;
-    report.irregular.extend_from_slice(irregular.as_slice())?;
-    report.warnings.extend_from_slice(warnings.as_slice())
+    add_moved_diagnostics(alloc, &mut report.diagnostics, diagnostics, shift)?;
+    add_moved_diagnostics(alloc, &mut report.deferred, deferred, shift)?;
+    add_moved_comments(alloc, &mut report.comments, comments, shift)?;
+    add_moved_spans(alloc, &mut report.irregular, irregular, shift)?;
+    add_moved_spans(alloc, &mut report.warnings, warnings, shift)
 }
 
 /// A report of no rows, in which that is live which the rows before the place made live, by the lengths of what those

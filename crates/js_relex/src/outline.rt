@@ -1,7 +1,7 @@
 //! What an edit asks of a row that stays, apart from the row: the outlines of all rows stand close together in memory.
 
-ghost use Rattle.std.specs.Prelude.{◌≡◌, ◌↔◌, ◌≤◌, ◌++◌, IsTrue, OnOk, map};
-ghost use Rattle.js_session.specs.Shifted.{shifted_row};
+ghost use Rattle.std.specs.Prelude.{◌≡◌, ◌↔◌, ◌≤◌, ◌++◌, IfOk, IsTrue, OnOk, map};
+ghost use Rattle.js_session.specs.Shifted.{shifted, shifted_row};
 ghost use Rattle.js_relex.specs.Outlines.{has_found, outline_of, shifted_outline};
 
 use js_session::{Row, Shift};
@@ -49,6 +49,13 @@ pub(crate) fn add_outlines(list: &mut OutlineList, rows: &[Row]) -> Result<(), A
     Ok(())
 }
 
+/// The place, moved. One that is no `u32` then is answered as lack of memory, as in a row.
+fn moved_place(shift: &Shift, place: u32) -> Result<u32, AllocError>
+    ensures { IfOk result (λ new. new ≡ shifted shift.now.from shift.now.to place) }
+{
+    shift.place(place).ok_or(AllocError)
+}
+
 /// Adds the outlines, moved.
 pub(crate) fn add_moved_outlines(
     list: &mut OutlineList,
@@ -59,7 +66,7 @@ pub(crate) fn add_moved_outlines(
         (list.new ≡ list.old ++ map (shifted_outline shift.now.from shift.now.to) outlines.now) }
 {
     for outline in outlines {
-        let end = shift.place(outline.end)?;
+        let end = moved_place(shift, outline.end)?;
         list.push(RowOutline { end, ..*outline })?;
     }
     Ok(())

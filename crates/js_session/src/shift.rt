@@ -1,17 +1,15 @@
 //! Rows whose text is moved.
 
 ghost use Rattle.std.specs.Prelude.{◌≡◌, ◌≤◌, map, IfOk};
-ghost use Rattle.std.specs.Option.{option_map};
-ghost use Rattle.js_session.specs.Shifted.{shifted, shifted_comment, shifted_diagnostic, shifted_regex, shifted_row};
-ghost use Rattle.js_session.specs.Shifted.{shifted_findings, shifted_span, shifted_token, shifted_value, with_span};
+ghost use Rattle.std.specs.List.{All};
+ghost use Rattle.std.specs.Option.{SomeIff};
+ghost use Rattle.js_session.specs.Shifted.{shifted, shifted_comment, shifted_diagnostic, shifted_row, shifted_span};
+ghost use Rattle.js_session.specs.Shifted.{shifted_token, with_span, FitsShifted, OfComment, OfDiagnostic, OfSpan};
+ghost use Rattle.js_session.specs.Shifted.{ShiftFits};
 
 use crate::row::Row;
-use crate::row_findings::RowFindings;
 use js_kind::Token;
-use js_lexer::Findings;
-use js_text::{
-    Comment, CommentList, Diagnostic, DiagnosticList, RegexInfo, RowValue, Span, SpanList,
-};
+use js_text::{Comment, CommentList, Diagnostic, DiagnosticList, Span, SpanList};
 use std::alloc::{AllocError, Global};
 
 /// The same diagnostic, about another stretch.
@@ -37,8 +35,8 @@ pub(crate) fn with_span(diagnostic: Diagnostic, span: Span) -> Diagnostic
     }
 }
 
-/// A move of the end of a text: what stood from `from` on stands from `to` on. A place that is no `u32` then is
-/// answered as lack of memory.
+/// A move of the end of a text: what stood from `from` on stands from `to` on. A place that is no `u32` then has none
+/// there, and what has such a place is not moved.
 #[derive(Clone, Copy, PartialEq, Eq, Debug)]
 pub struct Shift {
     pub from: u32,
@@ -46,180 +44,134 @@ pub struct Shift {
 }
 
 impl Shift {
-    /// The place, moved.
-    pub fn place(&self, place: u32) -> Result<u32, AllocError>
-        ensures { IfOk result (λ new. new ≡ shifted self.now.from self.now.to place) }
+    /// The place, moved. None where it is no `u32` then.
+    pub fn place(&self, place: u32) -> Option<u32>
+        ensures { SomeIff result (FitsShifted self.now.from self.now.to place)
+            (shifted self.now.from self.now.to place) }
     {
-        place
-            .saturating_sub(self.from)
-            .checked_add(self.to)
-            .ok_or(AllocError)
+        place.saturating_sub(self.from).checked_add(self.to)
     }
 
-    /// The span, moved.
-    pub fn span(&self, span: Span) -> Result<Span, AllocError>
-        ensures { IfOk result (λ new. new ≡ shifted_span self.now.from self.now.to span) }
+    /// The span, moved. None where one of its ends is no `u32` then.
+    pub fn span(&self, span: Span) -> Option<Span>
+        ensures { SomeIff result (OfSpan (FitsShifted self.now.from self.now.to) span)
+            (shifted_span self.now.from self.now.to span) }
     {
-        let start = self.place(span.start)?;
-        let end = self.place(span.end)?;
-        Ok(Span { start, end })
+        if !self.span_fits(span) {
+            return None;
+        }
+        let mut moved = span;
+        self.move_span(&mut moved);
+        Some(moved)
     }
 
-    /// The token, moved.
-    pub fn token(&self, token: Token) -> Result<Token, AllocError>
+    /// The token, moved. None where one of its ends is no `u32` then.
+    pub fn token(&self, token: Token) -> Option<Token>
         requires { token.start ≤ token.end }
-        ensures { IfOk result (λ new. new ≡ shifted_token self.now.from self.now.to token) }
+        ensures { SomeIff result
+            (FitsShifted self.now.from self.now.to token.start × FitsShifted self.now.from self.now.to token.end)
+            (shifted_token self.now.from self.now.to token) }
     {
-        let start = self.place(token.start())?;
-        let end = self.place(token.end())?;
+        if !self.span_fits(token.span()) {
+            return None;
+        }
         let mut moved = token;
-        moved.set_span(Span { start, end });
-        Ok(moved)
+        self.move_token(&mut moved);
+        Some(moved)
     }
 
-    /// The diagnostic, with its span moved, if it has one.
-    pub fn diagnostic(&self, diagnostic: Diagnostic) -> Result<Diagnostic, AllocError>
-        ensures { IfOk result (λ new. new ≡ shifted_diagnostic self.now.from self.now.to diagnostic) }
+    /// The diagnostic, with its span moved, if it has one. None where an end of the span is no `u32` then.
+    pub fn diagnostic(&self, diagnostic: Diagnostic) -> Option<Diagnostic>
+        ensures { SomeIff result (OfDiagnostic (FitsShifted self.now.from self.now.to) diagnostic)
+            (shifted_diagnostic self.now.from self.now.to diagnostic) }
     {
-        match diagnostic.span() {
-            Some(span) => {
-                let span = self.span(span)?;
-                Ok(with_span(diagnostic, span))
-            }
-            None => Ok(diagnostic),
+        if !self.diagnostic_fits(diagnostic) {
+            return None;
         }
+        let mut moved = diagnostic;
+        self.move_diagnostic(&mut moved);
+        Some(moved)
     }
 
-    /// The comment, with its span moved, and the place that it is attached to.
-    pub fn comment(&self, comment: Comment) -> Result<Comment, AllocError>
-        ensures { IfOk result (λ new. new ≡ shifted_comment self.now.from self.now.to comment) }
+    /// The comment, with its span moved, and the place that it is attached to. None where one of these is no `u32`
+    /// then.
+    pub fn comment(&self, comment: Comment) -> Option<Comment>
+        ensures { SomeIff result (OfComment (FitsShifted self.now.from self.now.to) comment)
+            (shifted_comment self.now.from self.now.to comment) }
     {
-        let span = self.span(comment.span)?;
-        let attached_to = self.place(comment.attached_to)?;
-        Ok(Comment {
-            span,
-            attached_to,
-            ..comment
-        })
-    }
-
-    fn regex(&self, info: Option<RegexInfo>) -> Result<Option<RegexInfo>, AllocError>
-        ensures { IfOk result (λ new. new ≡ option_map (shifted_regex self.now.from self.now.to) info) }
-    {
-        match info {
-            Some(info) => {
-                let pattern_end = self.place(info.pattern_end)?;
-                Ok(Some(RegexInfo {
-                    pattern_end,
-                    ..info
-                }))
-            }
-            None => Ok(None),
+        if !self.comment_fits(comment) {
+            return None;
         }
+        let mut moved = comment;
+        self.move_comment(&mut moved);
+        Some(moved)
     }
 
-    fn value(&self, alloc: Global, value: &RowValue) -> Result<RowValue, AllocError>
-        ensures { IfOk result (λ new. new ≡ shifted_value self.now.from self.now.to value.now) }
-    {
-        match value {
-            RowValue::Nothing => Ok(RowValue::Nothing),
-            RowValue::Slice(span) => {
-                let span = self.span(*span)?;
-                Ok(RowValue::Slice(span))
-            }
-            RowValue::Units(text) => {
-                let text = text.copy(alloc)?;
-                Ok(RowValue::Units(text))
-            }
-            RowValue::Bad => Ok(RowValue::Bad),
-        }
-    }
-
-    /// Copies of the diagnostics, moved.
+    /// Copies of the diagnostics, moved. None where a place of one is no `u32` then.
     pub fn diagnostics(
         &self,
         alloc: Global,
         diagnostics: &[Diagnostic],
-    ) -> Result<DiagnosticList, AllocError>
-        ensures { IfOk result (λ new.
-            new ≡ map (shifted_diagnostic self.now.from self.now.to) diagnostics.now) }
+    ) -> Result<Option<DiagnosticList>, AllocError>
+        ensures { IfOk result (λ found.
+            SomeIff found (All (OfDiagnostic (FitsShifted self.now.from self.now.to)) diagnostics.now)
+            (map (shifted_diagnostic self.now.from self.now.to) diagnostics.now)) }
     {
+        if !self.diagnostics_fit(diagnostics) {
+            return Ok(None);
+        }
         let mut moved = DiagnosticList::new_in(alloc);
-        for diagnostic in diagnostics {
-            let diagnostic = self.diagnostic(*diagnostic)?;
-            moved.push(diagnostic)?;
-        }
-        Ok(moved)
+        moved.extend_from_slice(diagnostics)?;
+        self.move_diagnostics(alloc, &mut moved);
+        Ok(Some(moved))
     }
 
-    /// Copies of the comments, moved.
-    pub fn comments(&self, alloc: Global, comments: &[Comment]) -> Result<CommentList, AllocError>
-        ensures { IfOk result (λ new. new ≡ map (shifted_comment self.now.from self.now.to) comments.now) }
+    /// Copies of the comments, moved. None where a place of one is no `u32` then.
+    pub fn comments(
+        &self,
+        alloc: Global,
+        comments: &[Comment],
+    ) -> Result<Option<CommentList>, AllocError>
+        ensures { IfOk result (λ found.
+            SomeIff found (All (OfComment (FitsShifted self.now.from self.now.to)) comments.now)
+            (map (shifted_comment self.now.from self.now.to) comments.now)) }
     {
+        if !self.comments_fit(comments) {
+            return Ok(None);
+        }
         let mut moved = CommentList::new_in(alloc);
-        for comment in comments {
-            let comment = self.comment(*comment)?;
-            moved.push(comment)?;
-        }
-        Ok(moved)
+        moved.extend_from_slice(comments)?;
+        self.move_comments(alloc, &mut moved);
+        Ok(Some(moved))
     }
 
-    /// Copies of the spans, moved.
-    pub fn spans(&self, alloc: Global, spans: &[Span]) -> Result<SpanList, AllocError>
-        ensures { IfOk result (λ new. new ≡ map (shifted_span self.now.from self.now.to) spans.now) }
+    /// Copies of the spans, moved. None where an end of one is no `u32` then.
+    pub fn spans(&self, alloc: Global, spans: &[Span]) -> Result<Option<SpanList>, AllocError>
+        ensures { IfOk result (λ found.
+            SomeIff found (All (OfSpan (FitsShifted self.now.from self.now.to)) spans.now)
+            (map (shifted_span self.now.from self.now.to) spans.now)) }
     {
+        if !self.spans_fit(spans) {
+            return Ok(None);
+        }
         let mut moved = SpanList::new_in(alloc);
-        for span in spans {
-            let span = self.span(*span)?;
-            moved.push(span)?;
-        }
-        Ok(moved)
+        moved.extend_from_slice(spans)?;
+        self.move_spans(alloc, &mut moved);
+        Ok(Some(moved))
     }
 
-    /// Copies of the lists, moved.
-    fn lists(&self, alloc: Global, found: &Findings) -> Result<Findings, AllocError>
-        ensures { IfOk result (λ new. new ≡ shifted_findings self.now.from self.now.to found.now) }
-    {
-        Ok(Findings {
-            diagnostics: self.diagnostics(alloc, found.diagnostics.as_slice())?,
-            deferred: self.diagnostics(alloc, found.deferred.as_slice())?,
-            comments: self.comments(alloc, found.comments.as_slice())?,
-            irregular: self.spans(alloc, found.irregular.as_slice())?,
-            warnings: self.spans(alloc, found.warnings.as_slice())?,
-        })
-    }
-
-    /// A copy of what was found, moved.
-    fn findings(&self, alloc: Global, found: &RowFindings) -> Result<RowFindings, AllocError>
-        ensures { IfOk result (λ new. new ≡ shifted_findings self.now.from self.now.to found.now) }
-    {
-        match found.lists() {
-            Some(lists) => {
-                let moved = self.lists(alloc, lists)?;
-                Ok(RowFindings::new(alloc, moved)?)
-            }
-            None => Ok(RowFindings::nothing()),
-        }
-    }
-
-    /// A copy of the row, moved.
-    pub fn row(&self, alloc: Global, row: &Row) -> Result<Row, AllocError>
+    /// A copy of the row, moved. None where a place of it is no `u32` then.
+    pub fn row(&self, alloc: Global, row: &Row) -> Result<Option<Row>, AllocError>
         requires { row.now.token.start ≤ row.now.token.end }
-        ensures { IfOk result (λ new. new ≡ shifted_row self.now.from self.now.to row.now) }
+        ensures { IfOk result (λ found.
+            SomeIff found (ShiftFits self.now.from self.now.to row.now)
+            (shifted_row self.now.from self.now.to row.now)) }
     {
-        let place = self.place(row.place)?;
-        let token = self.token(row.token)?;
-        let value = self.value(alloc, &row.value)?;
-        let regex = self.regex(row.regex)?;
-        let findings = self.findings(alloc, &row.findings)?;
-        Ok(Row {
-            token,
-            value,
-            findings,
-            regex,
-            place,
-            command: row.command,
-            taken: row.taken,
-        })
+        if !self.fits(row) {
+            return Ok(None);
+        }
+        let mut moved = row.copy(alloc)?;
+        self.move_row(alloc, &mut moved);
+        Ok(Some(moved))
     }
 }

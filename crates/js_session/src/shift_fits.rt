@@ -20,13 +20,13 @@ impl Shift {
             .is_some()
     }
 
-    fn span_fits(&self, span: Span) -> bool
+    pub(crate) fn span_fits(&self, span: Span) -> bool
         ensures { IsTrue result ↔ OfSpan (FitsShifted self.now.from self.now.to) span }
     {
         self.place_fits(span.start) && self.place_fits(span.end)
     }
 
-    fn diagnostic_fits(&self, diagnostic: Diagnostic) -> bool
+    pub(crate) fn diagnostic_fits(&self, diagnostic: Diagnostic) -> bool
         ensures { IsTrue result ↔ OfDiagnostic (FitsShifted self.now.from self.now.to) diagnostic }
     {
         match diagnostic.span() {
@@ -35,7 +35,7 @@ impl Shift {
         }
     }
 
-    fn comment_fits(&self, comment: Comment) -> bool
+    pub(crate) fn comment_fits(&self, comment: Comment) -> bool
         ensures { IsTrue result ↔ OfComment (FitsShifted self.now.from self.now.to) comment }
     {
         self.span_fits(comment.span) && self.place_fits(comment.attached_to)
@@ -59,7 +59,7 @@ impl Shift {
         }
     }
 
-    fn diagnostics_fit(&self, diagnostics: &[Diagnostic]) -> bool
+    pub(crate) fn diagnostics_fit(&self, diagnostics: &[Diagnostic]) -> bool
         ensures { IsTrue result ↔ All (OfDiagnostic (FitsShifted self.now.from self.now.to)) diagnostics.now }
     {
         for diagnostic in diagnostics {
@@ -70,7 +70,7 @@ impl Shift {
         true
     }
 
-    fn comments_fit(&self, comments: &[Comment]) -> bool
+    pub(crate) fn comments_fit(&self, comments: &[Comment]) -> bool
         ensures { IsTrue result ↔ All (OfComment (FitsShifted self.now.from self.now.to)) comments.now }
     {
         for comment in comments {
@@ -81,7 +81,7 @@ impl Shift {
         true
     }
 
-    fn spans_fit(&self, spans: &[Span]) -> bool
+    pub(crate) fn spans_fit(&self, spans: &[Span]) -> bool
         ensures { IsTrue result ↔ All (OfSpan (FitsShifted self.now.from self.now.to)) spans.now }
     {
         for span in spans {

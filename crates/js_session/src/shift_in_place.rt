@@ -27,7 +27,7 @@ impl Shift {
         *place = place.saturating_sub(self.from) + self.to;
     }
 
-    fn move_span(&self, span: &mut Span)
+    pub(crate) fn move_span(&self, span: &mut Span)
         requires { OfSpan (FitsShifted self.now.from self.now.to) span.old }
         ensures { span.new ≡ shifted_span self.now.from self.now.to span.old }
     {
@@ -35,7 +35,7 @@ impl Shift {
         self.move_place(&mut span.end);
     }
 
-    fn move_token(&self, token: &mut Token)
+    pub(crate) fn move_token(&self, token: &mut Token)
         requires start { FitsShifted self.now.from self.now.to token.old.start }
         requires end { FitsShifted self.now.from self.now.to token.old.end }
         requires ordered { token.old.start ≤ token.old.end }
@@ -64,7 +64,7 @@ impl Shift {
         }
     }
 
-    fn move_diagnostic(&self, diagnostic: &mut Diagnostic)
+    pub(crate) fn move_diagnostic(&self, diagnostic: &mut Diagnostic)
         requires { OfDiagnostic (FitsShifted self.now.from self.now.to) diagnostic.old }
         ensures { diagnostic.new ≡ shifted_diagnostic self.now.from self.now.to diagnostic.old }
     {
@@ -74,7 +74,7 @@ impl Shift {
         }
     }
 
-    fn move_comment(&self, comment: &mut Comment)
+    pub(crate) fn move_comment(&self, comment: &mut Comment)
         requires { OfComment (FitsShifted self.now.from self.now.to) comment.old }
         ensures { comment.new ≡ shifted_comment self.now.from self.now.to comment.old }
     {
@@ -109,7 +109,7 @@ impl Shift {
         }
     }
 
-    fn move_diagnostics(&self, alloc: Global, diagnostics: &mut DiagnosticList)
+    pub(crate) fn move_diagnostics(&self, alloc: Global, diagnostics: &mut DiagnosticList)
         requires { All (OfDiagnostic (FitsShifted self.now.from self.now.to)) diagnostics.old }
         ensures { diagnostics.new ≡ map (shifted_diagnostic self.now.from self.now.to) diagnostics.old }
     {
@@ -118,7 +118,7 @@ impl Shift {
         *diagnostics = DiagnosticList::from_vec(items);
     }
 
-    fn move_comments(&self, alloc: Global, comments: &mut CommentList)
+    pub(crate) fn move_comments(&self, alloc: Global, comments: &mut CommentList)
         requires { All (OfComment (FitsShifted self.now.from self.now.to)) comments.old }
         ensures { comments.new ≡ map (shifted_comment self.now.from self.now.to) comments.old }
     {
@@ -127,7 +127,7 @@ impl Shift {
         *comments = CommentList::from_vec(items);
     }
 
-    fn move_spans(&self, alloc: Global, spans: &mut SpanList)
+    pub(crate) fn move_spans(&self, alloc: Global, spans: &mut SpanList)
         requires { All (OfSpan (FitsShifted self.now.from self.now.to)) spans.old }
         ensures { spans.new ≡ map (shifted_span self.now.from self.now.to) spans.old }
     {

@@ -69,7 +69,7 @@ fn first_row(alloc: Global) -> Option<Row>
 
 fn moved_copy(alloc: Global) -> Option<Row> {
     let row = first_row(alloc)?;
-    Shift { from: 0, to: 5 }.row(alloc, &row).ok()
+    Shift { from: 0, to: 5 }.row(alloc, &row).ok()?
 }
 
 fn moved_in_its_place(alloc: Global) -> Option<Row> {
@@ -136,12 +136,11 @@ const STRETCH: Span = Span { start: 3, end: 6 };
 const MOVED: Span = Span { start: 8, end: 11 };
 
 #[test]
-fn places_are_moved(rt: HostRuntime) -> Result<(), Fail> {
+fn places_are_moved(rt: HostRuntime) {
     for (place, moved) in [(0, 7), (2, 7), (3, 8), (100, 105)] {
-        assert_eq!(rt; BY_FIVE.place(place)?, moved);
+        assert_eq!(rt; BY_FIVE.place(place), Some(moved));
     }
-    assert_eq!(rt; BY_FIVE.span(STRETCH)?, MOVED);
-    Ok(())
+    assert_eq!(rt; BY_FIVE.span(STRETCH), Some(MOVED));
 }
 
 // What is behind the last place of a `u32` is no place.
@@ -151,23 +150,22 @@ fn places_that_do_not_fit(rt: HostRuntime) {
         from: 0,
         to: u32::MAX,
     };
-    assert_eq!(rt; far.place(0).ok(), Some(u32::MAX));
-    assert_eq!(rt; far.place(1).ok(), None);
+    assert_eq!(rt; far.place(0), Some(u32::MAX));
+    assert_eq!(rt; far.place(1), None);
 }
 
 #[test]
-fn a_token_is_moved(rt: HostRuntime) -> Result<(), Fail> {
-    let token = BY_FIVE.token(Token::new(Kind::Let, STRETCH, true))?;
-    assert_eq!(rt; token, Token::new(Kind::Let, MOVED, true));
-    Ok(())
+fn a_token_is_moved(rt: HostRuntime) {
+    let token = BY_FIVE.token(Token::new(Kind::Let, STRETCH, true));
+    assert_eq!(rt; token, Some(Token::new(Kind::Let, MOVED, true)));
 }
 
 #[test]
 fn diagnostics_are_moved(rt: HostRuntime) -> Result<(), Fail> {
     let here = Diagnostic::UnexpectedEnd { span: STRETCH };
     let moved = Diagnostic::UnexpectedEnd { span: MOVED };
-    assert_eq!(rt; BY_FIVE.diagnostic(here)?, moved);
-    let list = BY_FIVE.diagnostics(rt.alloc(), &[here])?;
+    assert_eq!(rt; BY_FIVE.diagnostic(here), Some(moved));
+    let list = BY_FIVE.diagnostics(rt.alloc(), &[here])?.ok_or("no list")?;
     assert_eq!(rt; list.as_slice(), [moved].as_slice());
     Ok(())
 }
@@ -189,10 +187,10 @@ fn comment(span: Span, attached_to: u32) -> Comment {
 fn comments_are_moved(rt: HostRuntime) -> Result<(), Fail> {
     let here = comment(STRETCH, 9);
     let moved = comment(MOVED, 14);
-    assert_eq!(rt; BY_FIVE.comment(here)?, moved);
-    let list = BY_FIVE.comments(rt.alloc(), &[here])?;
+    assert_eq!(rt; BY_FIVE.comment(here), Some(moved));
+    let list = BY_FIVE.comments(rt.alloc(), &[here])?.ok_or("no list")?;
     assert_eq!(rt; list.as_slice(), [moved].as_slice());
-    let list = BY_FIVE.spans(rt.alloc(), &[STRETCH])?;
+    let list = BY_FIVE.spans(rt.alloc(), &[STRETCH])?.ok_or("no list")?;
     assert_eq!(rt; list.as_slice(), [MOVED].as_slice());
     Ok(())
 }
