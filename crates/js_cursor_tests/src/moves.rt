@@ -45,12 +45,11 @@ fn spans(cursor: &mut TestCursor<'_>) -> Result<Option<(Span, Span)>, AllocError
 }
 
 /// Whether the tokens behind a name are a `=>`, one on its line, and a `=>` with a name behind it.
-fn tokens_ahead(cursor: &mut TestCursor<'_>) -> (bool, bool, bool) {
-    (
-        cursor.lookahead(IsNext(Kind::Arrow)),
-        cursor.lookahead(IsNextOnSameLine(Kind::Arrow)),
-        cursor.lookahead(AreNext(Kind::Arrow, Kind::Ident)),
-    )
+fn tokens_ahead(cursor: &mut TestCursor<'_>) -> Result<(bool, bool, bool), AllocError> {
+    let is_next = cursor.lookahead(IsNext(Kind::Arrow))?;
+    let is_on_line = cursor.lookahead(IsNextOnSameLine(Kind::Arrow))?;
+    let are_next = cursor.lookahead(AreNext(Kind::Arrow, Kind::Ident))?;
+    Ok((is_next, is_on_line, are_next))
 }
 
 #[test]
@@ -59,7 +58,7 @@ fn places_and_tokens_ahead(rt: HostRuntime) -> Result<(), Fail> {
     let first = Span { start: 0, end: 1 };
     let last = Span { start: 5, end: 9 };
     assert_eq!(rt; spans(&mut cursor)?, Some((first, last)));
-    assert_eq!(rt; tokens_ahead(&mut cursor), (true, false, true));
+    assert_eq!(rt; tokens_ahead(&mut cursor)?, (true, false, true));
     Ok(())
 }
 

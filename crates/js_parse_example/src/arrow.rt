@@ -1,6 +1,6 @@
 //! Arrow functions (ECMA-262 15.3), whose parameters are names.
 
-ghost use Rattle.std.specs.Prelude.{◌≡◌, ◌≤◌, true};
+ghost use Rattle.std.specs.Prelude.{◌≡◌, ◌≤◌, true, IfOk};
 ghost use Rattle.js_lexer.specs.Places.{KeepsPlaces};
 ghost use Rattle.js_cursor.specs.Checkpoint.{GoesOnFrom};
 ghost use Rattle.js_parse_example.specs.Arrow.{IsAtArrow};
@@ -61,19 +61,20 @@ fn is_at_arrow<C: LexerConfig + Drop>(cursor: &Cursor<'_, C>) -> bool
 #[derive(Clone, Copy)]
 struct IsArrowHead(Global);
 
-impl<C: LexerConfig + Drop> Predicate<C, bool> for IsArrowHead {
-    ghost gives = { λ head before answer after. answer ≡ true → IsAtArrow after };
+impl<C: LexerConfig + Drop> Predicate<C, Result<bool, AllocError>> for IsArrowHead {
+    ghost gives = { λ head before answer after. IfOk answer (λ is_head. is_head ≡ true → IsAtArrow after) };
 
-    fn test(&self, cursor: &mut Cursor<'_, C>) -> bool {
+    fn test(&self, cursor: &mut Cursor<'_, C>) -> Result<bool, AllocError> {
         match pass_parameters(cursor, self.0) {
-            Ok(()) => is_at_arrow(cursor),
-            Err(_) => false,
+            Ok(()) => Ok(is_at_arrow(cursor)),
+            Err(CursorFault::Stuck { .. }) => Ok(false),
+            Err(CursorFault::Memory) => Err(AllocError),
         }
     }
 }
 
 /// Whether an arrow function stands here.
-pub fn is_arrow(cursor: &mut Tokens<'_>, alloc: Global) -> bool
+pub fn is_arrow(cursor: &mut Tokens<'_>, alloc: Global) -> Result<bool, AllocError>
     ensures onward { cursor.old.token.start ≤ cursor.new.token.start }
 {
     if cursor.at(Kind::LParen) {
@@ -82,7 +83,7 @@ pub fn is_arrow(cursor: &mut Tokens<'_>, alloc: Global) -> bool
     if cursor.cur_kind().is_identifier() {
         return cursor.lookahead(IsNextOnSameLine(Kind::Arrow));
     }
-    false
+    Ok(false)
 }
 
 /// Parses names up to the `)` behind them.

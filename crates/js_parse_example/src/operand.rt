@@ -97,7 +97,7 @@ pub fn begin(cursor: &mut Tokens<'_>, trees: &mut Trees<'_>, least: u8) -> Resul
     if least > ASSIGNMENT {
         return begin_operand(cursor);
     }
-    if !is_arrow(cursor, trees.alloc()) {
+    if !is_arrow(cursor, trees.alloc())? {
         return begin_operand(cursor);
     }
     arrow_head(cursor, trees)?;
