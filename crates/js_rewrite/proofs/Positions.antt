@@ -1,14 +1,16 @@
 -- What is known where a test passes nowhere in a list.
-use Rattle.std.proofs.Common.{◌≡◌, ◌+◌, ◌≤◌, Bool, true, false, not, ◌==◌, List, [], ◌∷◌, length, refl}
-use Rattle.std.proofs.Common.{arith, Some, None, cond}
-use Rattle.std.specs.Prelude.{nat_lt}
+use Rattle.std.proofs.Common.{◌≡◌, ℕ, ◌+◌, ◌≤◌, Bool, true, false, not, ◌==◌, List, [], ◌∷◌, length, refl}
+use Rattle.std.proofs.Common.{zero, suc, ◌∙◌, ap, arith, Some, None, cond}
+use Rattle.std.specs.Prelude.{nat_lt, slice_get}
 use Rattle.std.specs.List.{AllByRecursion, list_all, position, position_or_len, prefix_len}
 use Rattle.std.proofs.lemmas.Bool.{eqb-true}
 use Rattle.std.proofs.lemmas.Bool.Decides.{nat_tests}
 use Rattle.js_text.specs.declared.source_type.SourceType.{SourceType}
 use Rattle.js_session.specs.declared.command.Command.{Command}
 use Rattle.js_session.specs.declared.row.Row.{Row}
-use Rattle.js_session.specs.Effects.{is_lasting}
+use Rattle.js_session.specs.Effects.{Effect, closes, closes_mark, effect_of, is_lasting, lasts}
+use Rattle.js_session.specs.Effects.Effect.{reads, peeks, re_lexes, opens, rewinds, commits}
+use Rattle.js_session.specs.Faults.{HasMarks}
 use Rattle.std.proofs.lemmas.Bool.{and_parts}
 use Rattle.js_rewrite.specs.Faults.{first_bad, first_diagnosed, may_rewrite}
 
@@ -59,6 +61,28 @@ all_last t commands e = each commands (all_may t commands e)
     each (c ∷ cs) f =
         let both = and_parts (may_rewrite t c) (list_all (may_rewrite t) cs) f in
         rw (and_parts (is_lasting c) _ both.0).0 (each cs both.1)
+
+-- what gives a row which stays closes no mark
+stays_open : (e : Effect) → lasts e ≡ true → closes_mark e ≡ true → ⊥
+stays_open (reads goal) e f = cc
+stays_open (peeks goal) e f = cc
+stays_open (re_lexes goal) e f = cc
+stays_open opens e f = cc
+stays_open rewinds e f = cc
+stays_open commits e f = cc
+
+-- and no command closes a mark
+pub none_closes : (t : SourceType) (commands : List Command) → first_bad t commands ≡ None → HasMarks commands
+none_closes t commands e i h = each commands (all_last t commands e) i h.command h.here h.is_close
+  where
+    each : (cs : List Command) → list_all is_lasting cs ≡ true → (i : ℕ) (c : Command) → slice_get cs i ≡ Some c
+        → closes c ≡ true → ⊥
+    each [] f i c here closed = cc
+    each (d ∷ ds) f zero c here closed =
+        let same : d ≡ c = cc in
+        stays_open (effect_of d) (and_parts (is_lasting d) (list_all is_lasting ds) f).0 (ap closes same ∙ closed)
+    each (d ∷ ds) f (suc i) c here closed =
+        each ds (and_parts (is_lasting d) (list_all is_lasting ds) f).1 i c here closed
 
 no_length : {X : Type 0} (xs : List X) → (length xs == 0) ≡ true → xs ≡ []
 no_length [] e = refl

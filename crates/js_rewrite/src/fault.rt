@@ -4,7 +4,9 @@ ghost use Rattle.std.specs.Prelude.{◌≡◌, List, ℕ};
 ghost use Rattle.js_text.specs.declared.source_type.SourceType.{SourceType};
 ghost use Rattle.js_session.specs.declared.command.Command.{Command};
 ghost use Rattle.js_session.specs.Faults.{SourceCause};
+ghost use Rattle.js_session.specs.declared.fault.LexFault.{LexFault};
 ghost use Rattle.js_rewrite.specs.Faults.{RewriteCause};
+ghost use Rattle.js_rewrite.specs.declared.fault.RewriteFault.{RewriteFault};
 
 use js_session::LexFault;
 
@@ -33,5 +35,16 @@ pub fn fault_of(fault: LexFault) -> RewriteFault
         LexFault::Overlong => RewriteFault::Overlong,
         LexFault::NotUtf8(at) => RewriteFault::NotUtf8(at),
         LexFault::NoMark(_) | LexFault::Memory => RewriteFault::Memory,
+    }
+}
+
+/// The fault of a source that can be read, with commands of which none closes a mark: nothing but memory is wanting.
+pub(crate) fn lack_of_memory(fault: LexFault) -> RewriteFault
+    requires { fault ≡ LexFault.Memory }
+    ensures { result ≡ RewriteFault.Memory }
+{
+    match fault {
+        LexFault::Memory => RewriteFault::Memory,
+        LexFault::Overlong | LexFault::NotUtf8(_) | LexFault::NoMark(_) => unreachable!(),
     }
 }

@@ -9,4 +9,4 @@ mod sources;
 pub use commands::first_bad;
 pub use diagnosed::first_diagnosed;
 pub use fault::{RewriteFault, fault_of};
-pub use sources::{check, clean_report, report};
+pub use sources::{check, clean_report};

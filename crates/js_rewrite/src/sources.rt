@@ -8,10 +8,10 @@ ghost use Rattle.js_rewrite.specs.declared.fault.RewriteFault.{RewriteFault};
 
 use crate::commands::first_bad;
 use crate::diagnosed::first_diagnosed;
-use crate::fault::{RewriteFault, fault_of};
+use crate::fault::{RewriteFault, fault_of, lack_of_memory};
 use js_session::{Command, Report, lex_session, utf8_text};
 use js_text::SourceType;
-use std::alloc::{AllocError, Global};
+use std::alloc::Global;
 
 /// The source as a text, where it and the commands are ones to write anew.
 pub fn check<'a>(
@@ -33,21 +33,6 @@ pub fn check<'a>(
     }
 }
 
-/// The report of the commands over the source, with no tokens collected.
-pub fn report(
-    alloc: Global,
-    source: &[u8],
-    source_type: SourceType,
-    commands: &[Command],
-) -> Result<Report, AllocError>
-    ensures { IfOk result (ReportOf source.now source_type false commands.now) }
-{
-    match lex_session(alloc, source, source_type, false, commands) {
-        Ok(report) => Ok(report),
-        Err(_) => Err(AllocError),
-    }
-}
-
 /// The report of a source and commands that were tested, where no row has a diagnostic.
 pub fn clean_report(
     alloc: Global,
@@ -62,9 +47,9 @@ pub fn clean_report(
     ensures cause { IfErr result (λ fault. (fault ≡ RewriteFault.Memory)
         ⊎ RewriteCause source.now source_type commands.now fault) }
 {
-    let report = match report(alloc, source, source_type, commands) {
+    let report = match lex_session(alloc, source, source_type, false, commands) {
         Ok(report) => report,
-        Err(_) => return Err(RewriteFault::Memory),
+        Err(fault) => return Err(lack_of_memory(fault)),
     };
     match first_diagnosed(report.rows.as_slice()) {
         Some(index) => Err(RewriteFault::Diagnosed(index)),

@@ -10,8 +10,8 @@ ghost use Rattle.js_rewrite.specs.declared.fault.RewriteFault.{RewriteFault};
 ghost use Rattle.js_squeeze.specs.SqueezeText.{squeeze_text};
 
 use crate::squeezed_text::squeeze_text;
-use js_rewrite::{RewriteFault, check, clean_report, report};
-use js_session::{Command, Report};
+use js_rewrite::{RewriteFault, check, clean_report};
+use js_session::{Command, Report, lex_session};
 use js_text::{SourceText, SourceType};
 use std::alloc::{AllocError, Global};
 
@@ -45,7 +45,12 @@ fn squeeze_by(
         before.rows.as_slice(),
         before.tokens.as_slice(),
     )?;
-    let after = report(alloc, text.as_str().as_bytes(), source_type, commands)?;
+    let squeezed = text.as_str().as_bytes();
+    let after = match lex_session(alloc, squeezed, source_type, false, commands) {
+        Ok(after) => after,
+        // A gap is no shorter than what stands in its place, so what is left can be read as the source could.
+        Err(_) => return Err(AllocError),
+    };
     Ok(Squeezed {
         text,
         before,

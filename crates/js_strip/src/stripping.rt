@@ -8,8 +8,8 @@ ghost use Rattle.js_strip.specs.StripText.{StandInOrder, strip_text};
 ghost use Rattle.js_rewrite.specs.declared.fault.RewriteFault.{RewriteFault};
 
 use crate::without_comments::strip_text;
-use js_rewrite::{RewriteFault, check, clean_report, report};
-use js_session::{Command, Report};
+use js_rewrite::{RewriteFault, check, clean_report};
+use js_session::{Command, Report, lex_session};
 use js_text::{SourceText, SourceType};
 use std::alloc::{AllocError, Global};
 
@@ -38,7 +38,12 @@ fn strip_text_of(
     ensures after { IfOk result (λ s. ReportOf s.text source_type false commands.now s.after) }
 {
     let stripped = strip_text(alloc, text, before.comments.as_slice())?;
-    let after = report(alloc, stripped.as_str().as_bytes(), source_type, commands)?;
+    let source = stripped.as_str().as_bytes();
+    let after = match lex_session(alloc, source, source_type, false, commands) {
+        Ok(after) => after,
+        // A comment is no shorter than what stands in its place, so what is left can be read as the text could.
+        Err(_) => return Err(AllocError),
+    };
     Ok(Stripped {
         text: stripped,
         before,

@@ -1,10 +1,9 @@
 //! The reports of sources that may be written anew.
 
-use js_rewrite::{RewriteFault, check, clean_report, first_bad, first_diagnosed, report};
-use js_session::Command;
+use js_rewrite::{RewriteFault, check, clean_report, first_bad, first_diagnosed};
+use js_session::{Command, LexFault, lex_session};
 use js_text::SourceType;
-use std::alloc::{AllocError, Global};
-use std::test::Fail;
+use std::alloc::Global;
 
 const N: Command = Command::Next;
 
@@ -41,16 +40,15 @@ fn diagnosed(
     alloc: Global,
     source: &[u8],
     commands: &[Command],
-) -> Result<(usize, Option<usize>), AllocError> {
-    let report = report(alloc, source, MODULE, commands)?;
+) -> Result<(usize, Option<usize>), LexFault> {
+    let report = lex_session(alloc, source, MODULE, false, commands)?;
     let first = first_diagnosed(report.rows.as_slice());
     Ok((report.rows.len(), first))
 }
 
 #[test]
-fn reports_with_diagnostics(rt: HostRuntime) -> Result<(), Fail> {
+fn reports_with_diagnostics(rt: HostRuntime) {
     assert_eq!(rt; first_bad(MODULE, &[N, N]), None);
-    assert_eq!(rt; diagnosed(rt.alloc(), b"a 1x", &[N])?, (2, Some(1)));
-    assert_eq!(rt; diagnosed(rt.alloc(), b"a b", &[N])?, (2, None));
-    Ok(())
+    assert_eq!(rt; diagnosed(rt.alloc(), b"a 1x", &[N]), Ok((2, Some(1))));
+    assert_eq!(rt; diagnosed(rt.alloc(), b"a b", &[N]), Ok((2, None)));
 }
