@@ -284,3 +284,14 @@ fn values_of_rows(rt: HostRuntime) -> Result<(), Fail> {
     }
     Ok(())
 }
+
+#[test]
+fn texts_in_boxes(rt: HostRuntime) -> Result<(), Fail> {
+    let mut builder = JSStrBuilder::new_in(rt.alloc());
+    builder.push('a')?;
+    let text = builder.into_js_str();
+    let boxed = BoxedJSStr::copy_of(rt.alloc(), &text)?;
+    let copied = boxed.copy(rt.alloc())?;
+    assert_eq!(rt; copied.units(), [0x61].as_slice());
+    Ok(())
+}
