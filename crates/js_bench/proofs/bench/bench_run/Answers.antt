@@ -1,4 +1,4 @@
-use Rattle.std.proofs.Common.{ap, Ok, refl, ◌∙◌}
+use Rattle.std.proofs.Common.{ap, Ok, ◌∙◌}
 use Rattle.js_bench.specs.Words.{bench_line_of}
 use Rattle.js_bench.proofs.bench.bench_run.Goals as goal
 
