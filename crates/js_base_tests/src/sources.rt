@@ -1,6 +1,6 @@
 //! Sources and places in them, and the search for bytes.
 
-use js_source::{SafeByteMatchTable, Source};
+use js_source::{FourBytes, SafeByteMatchTable, Source};
 
 const TEXT: &str = "aé\"";
 
@@ -79,8 +79,17 @@ fn finds_bytes(rt: HostRuntime) {
         let found = place_found(SafeByteMatchTable::new(entries(first, last)));
         assert_eq!(rt; found, Some(place), "from {first} to {last}");
     }
-    assert_eq!(rt;
-        place_found(SafeByteMatchTable::of_three(b'"', 0xC3, b'b')),
-        Some(31)
-    );
+}
+
+#[test]
+fn finds_one_of_four(rt: HostRuntime) {
+    let four = FourBytes {
+        first: b'"',
+        second: 0xC3,
+        third: b'b',
+        fourth: b'b',
+    };
+    let mut source = Source::new(LONG);
+    assert_eq!(rt; source.advance_to_one_of(four), Some(0xC3));
+    assert_eq!(rt; source.offset(), 31);
 }

@@ -13,6 +13,5 @@ pub mod ReadingSteps
 pub mod ReLexSteps
 pub mod SpellingSteps
 pub mod SpeltSteps
-pub mod TableFacts
 pub mod TriviaSteps
 pub mod WholeSteps

@@ -104,7 +104,7 @@ impl Reader<'_> {
         if !advance_if_sequence(&mut self.source, opening_sequence(kind)) {
             return Ok(false);
         }
-        skip_line(&mut self.source, &self.tables.line);
+        skip_line(&mut self.source);
         let end = self.source.offset();
         found
             .trivia
@@ -200,7 +200,7 @@ impl Reader<'_> {
         if !advance_if_sequence(&mut self.source, b"/*") {
             return Ok(false);
         }
-        match skip_block(&mut self.source, &self.tables.block, false) {
+        match skip_block(&mut self.source, false) {
             Skipped::Piece { line_has_ended } => {
                 let end = self.source.offset();
                 let kind = block_kind(line_has_ended);

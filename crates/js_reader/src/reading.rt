@@ -112,7 +112,7 @@ impl Reader<'_> {
         ensures unescaped { IfOk result (λ lexeme. lexeme.escaped ≡ false) }
         ensures err { OnErr result (ReadsInPart self.old errors.old self.new errors.new) }
     {
-        let recovered = recover(&mut self.source, &self.tables.line, self.line_has_ended);
+        let recovered = recover(&mut self.source, self.line_has_ended);
         errors.push(recovered.diagnostic)?;
         Ok(Lexeme {
             kind: recovered.kind,
@@ -491,7 +491,7 @@ impl Reader<'_> {
         if !advance_if_sequence(&mut self.source, b"#!") {
             return None;
         }
-        skip_line(&mut self.source, &self.tables.line);
+        skip_line(&mut self.source);
         let span = Span::new(0, self.source.offset());
         Some(Token::new(Kind::HashbangComment, span, self.line_has_ended))
     }

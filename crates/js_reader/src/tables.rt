@@ -1,12 +1,10 @@
-//! Tables of bytes: the ASCII characters of a class, and where a search through a comment stops.
+//! Tables of bytes: the ASCII characters of a class.
 
-ghost use Rattle.std.specs.Prelude.{◌≡◌, false};
 ghost use Rattle.js_text.specs.Characters.{is_identifier_part, is_identifier_start};
 ghost use Rattle.js_source.specs.Runs.{TellsClass};
-ghost use Rattle.js_spell.specs.Comments.{StopsAtLineEnds, StopsInBlocks, stopping_bytes};
 ghost use Rattle.js_reader.specs.Tables.{is_blank, is_symbol};
 
-use js_source::{SafeByteMatchTable, of_each_byte};
+use js_source::of_each_byte;
 use js_spell::name_parts;
 
 /// Of ASCII characters, `is_identifier_start` of the grammar.
@@ -69,10 +67,6 @@ pub fn symbols() -> &'static [bool; 256]
 /// The tables of bytes that a reading looks in.
 #[derive(Drop)]
 pub struct ByteTables {
-    /// Stops at every line terminator.
-    pub line: SafeByteMatchTable,
-    /// Stops at `*` too.
-    pub block: SafeByteMatchTable,
     /// The ASCII characters that begin names. The tables stand here, and not where they are made, since a loop over a
     /// table in a static takes its address anew at every few bytes.
     pub starts: [bool; 256],
@@ -82,34 +76,16 @@ pub struct ByteTables {
     pub blanks: [bool; 256],
     /// The ASCII characters that begin no piece of a gap.
     pub symbols: [bool; 256],
-    ghost line_ends: { StopsAtLineEnds line },
-    ghost block_ends: { StopsInBlocks block },
     ghost name_starts: { TellsClass is_identifier_start starts },
     ghost name_parts: { TellsClass is_identifier_part parts },
     ghost gap_blanks: { TellsClass is_blank blanks },
     ghost gap_ends: { TellsClass is_symbol symbols },
 }
 
-/// The first bytes of the line terminators, LF, CR and that of U+2028 and U+2029, and with them `*` where it is wanted.
-fn bytes_to_stop_at(star: bool) -> [bool; 256]
-    ensures { result ≡ stopping_bytes star }
-{
-    let mut bytes = [false; 256];
-    bytes[0x0A] = true;
-    bytes[0x0D] = true;
-    bytes[0x2A] = star;
-    bytes[0xE2] = true;
-    bytes
-}
-
 impl ByteTables {
-    /// All tables. Both tables of a search are safe, so their construction cannot fail.
+    /// All tables.
     pub fn new() -> ByteTables {
-        let line = SafeByteMatchTable::of_three(0x0A, 0x0D, 0xE2).unwrap();
-        let block = SafeByteMatchTable::new(bytes_to_stop_at(true)).unwrap();
         ByteTables {
-            line,
-            block,
             starts: *starts(),
             parts: *name_parts(),
             blanks: *blanks(),

@@ -2,6 +2,7 @@
 use Rattle.std.proofs.Common.{◌≡◌, ℕ, ◌<◌, Bool, true, false, ◌||◌, ◌==◌, List, [], ◌∷◌, length, refl, sym, ◌∙◌, ap}
 use Rattle.std.proofs.Common.{subst, arith, Option}
 use Rattle.std.specs.Prelude.{codes, if◌then◌else◌}
+use Rattle.std.specs.Char.{encode_utf8}
 use Rattle.std.specs.List.{list_any}
 use Rattle.std.specs.Option.{option_map}
 use Rattle.std.proofs.lemmas.Bool.{eqb-true}
@@ -9,12 +10,37 @@ use Rattle.js_text.specs.Characters.{is_line_terminator, from_first}
 use Rattle.js_text.proofs.TextLemmas.{length-from_first}
 use Rattle.js_source.specs.Source.{At, rest, Reads, BeginsWith, StepsPast}
 use Rattle.js_source.specs.Search.{matches_char}
-use Rattle.js_source.proofs.Skips.{from_first-from_first}
+use Rattle.js_source.proofs.Skips.{from_first-from_first, line_terminator_matches}
 use Rattle.js_grammar.specs.Gap.{is_prefix, Cut, cut-cons, cut_behind}
-use Rattle.js_spell.specs.Comments.{StopsInBlocks, ReadsCut}
+use Rattle.js_source.specs.Search.{four_bytes, is_safe}
+use Rattle.js_spell.specs.Comments.{block_bytes, line_bytes, ReadsCut}
 use Rattle.js_spell.specs.declared.skipped.Skipped.{Skipped}
 use Rattle.js_spell.specs.declared.skipped.Skipped.TheVariants.{Piece, Nothing}
 use Rattle.js_spell.proofs.SequenceSteps.{behind}
+
+-- a search with the table stops at every line terminator
+abbrev pub StopsAtLineEnds : List Bool → Type 0
+StopsAtLineEnds table = (c : ℕ) → is_line_terminator c ≡ true → matches_char table c ≡ true
+
+-- and at every character of a block comment that matters
+abbrev pub StopsInBlocks : List Bool → Type 0
+StopsInBlocks table = StopsAtLineEnds table × (matches_char table 42 ≡ true)
+
+pub line_stops : StopsAtLineEnds (four_bytes line_bytes)
+line_stops = line_terminator_matches (four_bytes line_bytes) refl refl refl
+
+star_matches : matches_char (four_bytes block_bytes) 42 ≡ true
+unfolding encode_utf8
+star_matches = refl
+
+pub block_stops : StopsInBlocks (four_bytes block_bytes)
+block_stops = (line_terminator_matches (four_bytes block_bytes) refl refl refl, star_matches)
+
+pub line_is_safe : is_safe (four_bytes line_bytes) ≡ true
+line_is_safe = refl
+
+pub block_is_safe : is_safe (four_bytes block_bytes) ≡ true
+block_is_safe = refl
 
 -- a search for a character goes on from where a coarser search has stopped
 abbrev pub Searched : (ℕ → Bool) → List Bool → At → At → At → Type 0

@@ -9,13 +9,12 @@ ghost use Rattle.js_grammar.specs.Quoted.{begins_quoted};
 ghost use Rattle.js_grammar.specs.Recovery.{recovered};
 ghost use Rattle.js_grammar.specs.Spelling.{begins_named};
 ghost use Rattle.js_source.specs.Source.{rest};
-ghost use Rattle.js_spell.specs.Comments.{StopsAtLineEnds};
 ghost use Rattle.js_spell.specs.Recovery.{Recovers};
 
 use crate::comment::skip_line;
 use crate::sequence::advance_if_sequence;
 use js_kind::Kind;
-use js_source::{SafeByteMatchTable, Source};
+use js_source::Source;
 use js_text::{Diagnostic, Span, either};
 
 /// A token without a spelling, from where the reading began up to where the source stands, and what is reported.
@@ -27,13 +26,12 @@ pub struct Recovered {
 }
 
 /// Goes to the end, and tells whether a line terminator stands on the way.
-fn skip_to_end(source: &mut Source<'_>, line: &SafeByteMatchTable) -> bool
-    requires { StopsAtLineEnds line.now }
+fn skip_to_end(source: &mut Source<'_>) -> bool
     ensures end { source.new ≡ record source.old { place = length source.old.text } }
     ensures nothing { rest source.new ≡ [] }
     ensures line_end { result ≡ list_any is_line_terminator (rest source.old) }
 {
-    skip_line(source, line);
+    skip_line(source);
     let found = !source.is_eof();
     source.advance_to_end();
     found
@@ -72,12 +70,7 @@ fn recover_character(source: &mut Source<'_>, line_has_ended: bool) -> Recovered
 
 /// Reads on where nothing is spelled and no number, no string and no template begins, and tells what is to be reported.
 #[inline(never)]
-pub fn recover(
-    source: &mut Source<'_>,
-    line: &SafeByteMatchTable,
-    line_has_ended: bool,
-) -> Recovered
-    requires line { StopsAtLineEnds line.now }
+pub fn recover(source: &mut Source<'_>, line_has_ended: bool) -> Recovered
     requires some { IsSome (recovered (rest source.old)) }
     requires no_named { begins begins_named (rest source.old) ≡ false }
     requires no_number { begins_number (rest source.old) ≡ false }
@@ -86,7 +79,7 @@ pub fn recover(
 {
     let start = source.offset();
     if advance_if_sequence(source, b"/*") {
-        let has_line_end = skip_to_end(source, line);
+        let has_line_end = skip_to_end(source);
         let span = Span::new(start, source.offset());
         return Recovered {
             kind: Kind::Eof,

@@ -1,14 +1,20 @@
 use Rattle.std.proofs.Common.{◌∙◌, ◌<◌, ◌||◌, sym, ap, subst, Bool, length}
 use Rattle.js_source.specs.Source.{At, rest}
-use Rattle.js_spell.proofs.CommentSteps.{Cuts, block_found, block_ends, block_passes, search_shorter}
+use Rattle.js_source.specs.Search.{four_bytes}
+use Rattle.js_spell.specs.Comments.{block_bytes}
+use Rattle.js_spell.proofs.CommentSteps.{Cuts, block_found, block_ends, block_is_safe, block_passes, block_stops}
+use Rattle.js_spell.proofs.CommentSteps.{search_shorter}
 use Rattle.js_spell.proofs.SequenceSteps.{behind}
 use Rattle.js_spell.proofs.comment.skip_block.Goals as goal
 
+pub advance_to_match-requires : goal.advance_to_match-requires
+advance_to_match-requires c = rw c.block_bytes.ensures block_is_safe
+
 pub returns-then-advance_if_block_end-clause-cut : goal.returns-then-advance_if_block_end-clause-cut
 returns-then-advance_if_block_end-clause-cut c =
-    block_found c.args.table.now c.args.line_has_ended c.loop-c.has_ended c.args.source.now c.loop-c.source
+    block_found (four_bytes block_bytes) c.args.line_has_ended c.loop-c.has_ended c.args.source.now c.loop-c.source
     c.advance_to_match.new.source c.next_char.new.self c.advance_if_block_end.new.source c.in-Some.c
-    c.requires c.loop-c.invariant.1 c.advance_to_match.ensures.rest c.in-Some.ensures.some c.next_char.ensures.past
+    block_stops c.loop-c.invariant.1 (rw c.block_bytes.ensures at c.advance_to_match.ensures.rest) c.in-Some.ensures.some c.next_char.ensures.past
     c.if-advance_if_block_end.ensures.0 c.if-advance_if_block_end.ensures.1
 
 pub loop-c-smaller : goal.loop-c-smaller
@@ -24,9 +30,9 @@ loop-c-preserved c =
     c.next_char.ensures.past in
     let line_has_ended = c.either-has_ended.ensures ∙ ap (λ b. c.loop-c.has_ended || b) c.is_line_terminator.ensures in
     let passed =
-    block_passes c.args.table.now c.args.line_has_ended c.loop-c.has_ended c.args.source.now c.loop-c.source
+    block_passes (four_bytes block_bytes) c.args.line_has_ended c.loop-c.has_ended c.args.source.now c.loop-c.source
     c.advance_to_match.new.source c.next_char.new.self c.in-Some.c
-    c.requires c.loop-c.invariant.1 c.advance_to_match.ensures.rest c.in-Some.ensures.some c.next_char.ensures.past
+    block_stops c.loop-c.invariant.1 (rw c.block_bytes.ensures at c.advance_to_match.ensures.rest) c.in-Some.ensures.some c.next_char.ensures.past
     c.if-advance_if_block_end.ensures.0 in (
       ap (λ s. s.text) c.if-advance_if_block_end.ensures.1 ∙ after.0 ∙ c.advance_to_match.ensures.text
           ∙ c.loop-c.invariant.0,
@@ -38,6 +44,6 @@ loop-c-preserved c =
 
 pub returns-clause-cut : goal.returns-clause-cut
 returns-clause-cut c =
-    block_ends c.args.table.now c.args.line_has_ended c.loop-c.has_ended c.args.source.now c.loop-c.source
+    block_ends (four_bytes block_bytes) c.args.line_has_ended c.loop-c.has_ended c.args.source.now c.loop-c.source
     c.advance_to_match.new.source c.advance_to_match.new.source
-    c.requires c.loop-c.invariant.1 c.advance_to_match.ensures.rest c.in_default.ensures.none
+    block_stops c.loop-c.invariant.1 (rw c.block_bytes.ensures at c.advance_to_match.ensures.rest) c.in_default.ensures.none

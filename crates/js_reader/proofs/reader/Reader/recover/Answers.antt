@@ -9,7 +9,6 @@ use Rattle.js_reader.proofs.reader.Reader.recover.Goals as goal
 pub recover-recovered-requires : goal.recover-recovered-requires
 recover-recovered-requires c =
     record {
-      line = c.args.self.now.tables.line_ends;
       some =
           recovers_some c.args.self.now.source_type c.args.self.now.line_has_ended
           (rest c.args.self.now.source) c.requires.gap c.requires.nothing;
