@@ -1,9 +1,12 @@
 //! Braces, and what tokens do to those that are open.
 
-ghost use Rattle.std.specs.Prelude.{◌≡◌};
-ghost use Rattle.js_auto.specs.Braces.{effect_of};
+ghost use Rattle.std.specs.Prelude.{◌≡◌, [], ◌∷◌, drop, OnErr, OnOk};
+ghost use Rattle.js_auto.specs.Braces.{after_effect, effect_of, is_in_substitution, open_behind, without_block};
 
 use js_kind::Kind;
+use js_text::ItemList;
+use std::alloc::{AllocError, Global};
+use std::marker::Model;
 
 /// What a brace opens.
 #[derive(Clone, Copy, PartialEq, Eq, Debug)]
@@ -37,5 +40,91 @@ pub(crate) fn effect_of(kind: Kind) -> BraceEffect
         Kind::RCurly => BraceEffect::ClosesBlock,
         Kind::TemplateTail => BraceEffect::ClosesAny,
         _ => BraceEffect::Leaves,
+    }
+}
+
+/// The braces that are open, in the order in which they were opened; contracts see the last one first.
+#[derive(Drop)]
+pub(crate) struct OpenBraces {
+    stack: ItemList<Brace>,
+}
+
+impl Model for OpenBraces {
+    ghost use Rattle.std.specs.Prelude.{List, reverse};
+    ghost use Rattle.js_auto.specs.declared.brace.Brace.{Brace};
+
+    ghost Value = { List Brace };
+
+    ghost view = { λ b. reverse b.stack };
+}
+
+impl OpenBraces {
+    /// None is open. It takes no memory yet.
+    pub fn new(alloc: Global) -> OpenBraces
+        ensures { result ≡ [] }
+    {
+        OpenBraces {
+            stack: ItemList::new_in(alloc),
+        }
+    }
+
+    /// Whether the brace that was opened last is that of a substitution in a template.
+    pub fn is_in_substitution(&self) -> bool
+        ensures { result ≡ is_in_substitution self.now }
+    {
+        match self.stack.as_slice().last() {
+            Some(Brace::Template) => true,
+            _ => false,
+        }
+    }
+
+    /// Closes the brace that was opened last, if one is open.
+    fn close_any(&mut self)
+        ensures { self.new ≡ drop 1 self.old }
+    {
+        self.stack.pop();
+    }
+
+    /// Closes the brace that was opened last, if it is one of a block.
+    fn close_block(&mut self)
+        ensures { self.new ≡ without_block self.old }
+    {
+        if !self.is_in_substitution() {
+            self.close_any();
+        }
+    }
+
+    /// Opens a brace.
+    fn open(&mut self, brace: Brace) -> Result<(), AllocError>
+        ensures ok { OnOk result (self.new ≡ brace ∷ self.old) }
+        ensures err { OnErr result (self.new ≡ self.old) }
+    {
+        self.stack.push(brace)
+    }
+
+    /// Takes up what a token does to the braces.
+    fn pass(&mut self, kind: Kind) -> Result<(), AllocError>
+        ensures ok { OnOk result (self.new ≡ after_effect (effect_of kind) self.old) }
+        ensures err { OnErr result (self.new ≡ self.old) }
+    {
+        match effect_of(kind) {
+            BraceEffect::Opens(brace) => self.open(brace)?,
+            BraceEffect::ClosesBlock => self.close_block(),
+            BraceEffect::ClosesAny => self.close_any(),
+            BraceEffect::Leaves => {}
+        }
+        Ok(())
+    }
+
+    /// Takes up what a last token does to the braces, if there is one.
+    #[inline(never)]
+    pub fn pass_last(&mut self, last: Option<Kind>) -> Result<(), AllocError>
+        ensures ok { OnOk result (self.new ≡ open_behind last self.old) }
+        ensures err { OnErr result (self.new ≡ self.old) }
+    {
+        match last {
+            Some(kind) => self.pass(kind),
+            None => Ok(()),
+        }
     }
 }

@@ -1,21 +1,19 @@
 //! The choice of goals, token by token.
 
-ghost use Rattle.std.specs.Prelude.{◌≡◌, List, [], ◌∷◌, ◌++◌, drop, OnOk, OnErr, Some};
+ghost use Rattle.std.specs.Prelude.{◌≡◌, List, [], ◌∷◌, ◌++◌, OnOk, OnErr, Some};
 ghost use Rattle.std.specs.Prelude.{IfSome, true};
 ghost use Rattle.js_text.specs.Lists.{with_last};
 ghost use Rattle.js_kind.specs.Kinds.{is_one_of};
 ghost use Rattle.js_kind.specs.TokenParts.{TokenParts};
 ghost use Rattle.js_grammar.specs.ReLexed.{again_kinds};
-ghost use Rattle.js_auto.specs.Braces.{effect_of, after_effect, open_behind, without_block, is_in_substitution};
 ghost use Rattle.js_auto.specs.Choice.{begins_expression, choice, chooser_of, ends_only_jsx, ends_operand};
 ghost use Rattle.js_auto.specs.Choice.{choice_behind, ends_substitution};
 
-use crate::brace::{Brace, BraceEffect, effect_of};
+use crate::brace::OpenBraces;
 use crate::notable::is_notable;
 use js_grammar::Goal;
 use js_kind::{Kind, Token};
 use js_session::Command;
-use js_text::ItemList;
 use js_trivia::can_end_expression;
 use std::alloc::{AllocError, Global};
 use std::marker::Model;
@@ -28,8 +26,9 @@ use std::marker::Model;
 /// was opened last.
 #[derive(Drop)]
 pub struct GoalChooser {
-    /// The braces that are open before the last token, in the order in which they were opened.
-    stack: ItemList<Brace>,
+    /// The braces that are open before the last token. Slow steps are handed these alone, so that the rest of a chooser
+    /// can stay in registers.
+    braces: OpenBraces,
     /// The kind of the token before the last one, and `Eof`, with which no operand ends, where there is none.
     before: Kind,
     last: Option<Kind>,
@@ -39,13 +38,13 @@ pub struct GoalChooser {
 }
 
 impl Model for GoalChooser {
-    ghost use Rattle.std.specs.Prelude.{◌≡◌, reverse};
+    ghost use Rattle.std.specs.Prelude.{◌≡◌};
     ghost use Rattle.js_auto.specs.Choice.{Chooser};
     ghost use Rattle.js_auto.specs.Notable.{is_notable};
 
     ghost Value = { Chooser };
 
-    ghost view = { λ c. record { stack = reverse c.stack; before = c.before; last = c.last } };
+    ghost view = { λ c. record { stack = c.braces; before = c.before; last = c.last } };
 
     ghost invariant = { λ c. c.is_last_notable ≡ is_notable c.last };
 }
@@ -72,76 +71,39 @@ fn begins_expression(before: Kind, kind: Kind) -> bool
     Goal::RegularExpression.reads_again(kind) && !ends_operand(before)
 }
 
+/// Whether a token, where these braces are open before it, ends the substitution of a template.
+fn ends_substitution(braces: &OpenBraces, kind: Kind) -> bool
+    ensures { result ≡ ends_substitution braces.now kind }
+{
+    Goal::TemplateTail.reads_again(kind) && braces.is_in_substitution()
+}
+
+/// The command behind a last token of the kind, where these braces are open before it and the one before is of that kind.
+#[inline(never)]
+fn command_behind(braces: &OpenBraces, before: Kind, last: Kind) -> Option<Command>
+    ensures { result ≡ choice_behind braces.now before (Some last) }
+{
+    if last.is_eof() {
+        None
+    } else if ends_substitution(braces, last) {
+        Some(Command::TemplateTail)
+    } else if begins_expression(before, last) {
+        Some(Command::Regex)
+    } else {
+        Some(Command::Next)
+    }
+}
+
 impl GoalChooser {
     /// A chooser that was told no token yet. It takes no memory yet.
     pub fn new(alloc: Global) -> GoalChooser
         ensures { result ≡ chooser_of [] }
     {
         GoalChooser {
-            stack: ItemList::new_in(alloc),
+            braces: OpenBraces::new(alloc),
             before: Kind::Eof,
             last: None,
             is_last_notable: false,
-        }
-    }
-
-    /// Whether the brace that was opened last before the last token is that of a substitution in a template.
-    fn is_in_substitution(&self) -> bool
-        ensures { result ≡ is_in_substitution self.now.stack }
-    {
-        match self.stack.as_slice().last() {
-            Some(Brace::Template) => true,
-            _ => false,
-        }
-    }
-
-    /// Closes the brace that was opened last, if one is open.
-    fn close_any(&mut self)
-        ensures { self.new ≡ record self.old { stack = drop 1 self.old.stack } }
-    {
-        self.stack.pop();
-    }
-
-    /// Closes the brace that was opened last, if it is one of a block.
-    fn close_block(&mut self)
-        ensures { self.new ≡ record self.old { stack = without_block self.old.stack } }
-    {
-        if !self.is_in_substitution() {
-            self.close_any();
-        }
-    }
-
-    /// Opens a brace.
-    fn open_brace(&mut self, brace: Brace) -> Result<(), AllocError>
-        ensures ok { OnOk result (self.new ≡ record self.old { stack = brace ∷ self.old.stack }) }
-        ensures err { OnErr result (self.new ≡ self.old) }
-    {
-        self.stack.push(brace)
-    }
-
-    /// Takes up what a token does to the braces.
-    fn pass(&mut self, kind: Kind) -> Result<(), AllocError>
-        ensures ok { OnOk result (self.new ≡ record self.old { stack = after_effect (effect_of kind) self.old.stack }) }
-        ensures err { OnErr result (self.new ≡ self.old) }
-    {
-        match effect_of(kind) {
-            BraceEffect::Opens(brace) => self.open_brace(brace)?,
-            BraceEffect::ClosesBlock => self.close_block(),
-            BraceEffect::ClosesAny => self.close_any(),
-            BraceEffect::Leaves => {}
-        }
-        Ok(())
-    }
-
-    /// Takes up what the last token does to the braces, if there is one.
-    #[inline(never)]
-    fn pass_last(&mut self) -> Result<(), AllocError>
-        ensures ok { OnOk result (self.new ≡ record self.old { stack = open_behind self.old.last self.old.stack }) }
-        ensures err { OnErr result (self.new ≡ self.old) }
-    {
-        match self.last {
-            Some(kind) => self.pass(kind),
-            None => Ok(()),
         }
     }
 
@@ -154,7 +116,7 @@ impl GoalChooser {
         ensures err { OnErr result (self.new ≡ self.old) }
     {
         if self.is_last_notable {
-            self.pass_last()?;
+            self.braces.pass_last(self.last)?;
         }
         let kind = token.kind();
         self.before = self.last.unwrap_or(Kind::Eof);
@@ -175,29 +137,6 @@ impl GoalChooser {
         }
     }
 
-    /// Whether a token, behind those before the last one, ends the substitution of a template.
-    fn ends_substitution(&self, kind: Kind) -> bool
-        ensures { result ≡ ends_substitution self.now.stack kind }
-    {
-        Goal::TemplateTail.reads_again(kind) && self.is_in_substitution()
-    }
-
-    /// The command behind the last token, which is of this kind.
-    #[inline(never)]
-    fn command_behind(&self, last: Kind) -> Option<Command>
-        ensures { result ≡ choice_behind self.now.stack self.now.before (Some last) }
-    {
-        if last.is_eof() {
-            None
-        } else if self.ends_substitution(last) {
-            Some(Command::TemplateTail)
-        } else if begins_expression(self.before, last) {
-            Some(Command::Regex)
-        } else {
-            Some(Command::Next)
-        }
-    }
-
     /// The command that comes next: `Command::Regex` or `Command::TemplateTail` where the last token is to be read
     /// again, else `Command::Next`. None behind the end of the source.
     #[inline(always)]
@@ -214,6 +153,6 @@ impl GoalChooser {
         let Some(last) = self.last else {
             return Some(Command::Next);
         };
-        self.command_behind(last)
+        command_behind(&self.braces, self.before, last)
     }
 }

@@ -1,42 +1,39 @@
 -- Texts whose units stand for themselves.
-use Rattle.std.proofs.Common.{◌≡◌, ℕ, ◌<◌, Bool, true, false, cond, List, [], ◌∷◌, ◌++◌, codes, refl, ap, ◌∙◌, append-nil}
-use Rattle.std.proofs.Common.{arith}
-use Rattle.std.proofs.lemmas.Bool.{and_parts, lt-ltb}
-use Rattle.std.proofs.lemmas.Bool.Decides.{nat_tests}
-use Rattle.std.proofs.lemmas.Str.{chars-IsAscii}
-use Rattle.std.proofs.lemmas.Str.Ascii.{IsAscii-nil, IsAscii-cons}
+use Rattle.std.proofs.Common.{◌≡◌, ℕ, ◌<◌, Bool, true, false, cond, List, [], ◌∷◌, ◌++◌, codes, refl, sym, ap, ◌∙◌}
+use Rattle.std.proofs.Common.{append-nil, arith}
+use Rattle.std.proofs.lemmas.Bool.{lt-ltb}
+use Rattle.std.proofs.lemmas.Str.{encode_ascii, encodes-chars}
 use Rattle.std.specs.Char.Escape.{encode_utf16}
-use Rattle.std.specs.List.{flat_map, list_all}
-use Rattle.std.specs.Str.{IsAscii}
+use Rattle.std.specs.List.{flat_map}
+use Rattle.std.specs.Str.{IsUtf8, chars, encode_utf8_all}
+use Rattle.js_source.specs.Runs.{IsRun, TellsClass}
 use Rattle.js_lex_tool.specs.Units.{is_printed_as_itself, four_digits, unit_text, all_units_text, units_text, text_in_units}
-
--- a unit that stands for itself is an ASCII one
-below_128 : (u : ℕ) → is_printed_as_itself u ≡ true → u < 128
-below_128 u h = grind (arith, nat_tests)
-
-ascii : (text : List ℕ) → list_all is_printed_as_itself text ≡ true → IsAscii text
-ascii [] h = IsAscii-nil
-ascii (u ∷ us) h =
-    let both = and_parts (is_printed_as_itself u) (list_all is_printed_as_itself us) h in
-    IsAscii-cons u us (below_128 u both.0) (ascii us both.1)
 
 -- a character has one unit, where that is below 2 ^ 16
 one_unit : (c : ℕ) → c < 0x10000 → encode_utf16 c ≡ c ∷ []
 one_unit c h = rw (lt-ltb c 0x10000 h) refl
 
-character_itself : (c : ℕ) → is_printed_as_itself c ≡ true → units_text c ≡ c ∷ []
-character_itself c h =
-    let small : c < 128 = below_128 c h in
-    ap all_units_text (one_unit c (omega arith))
+-- an ASCII character that stands for itself
+character_itself : (c : ℕ) → c < 128 → is_printed_as_itself c ≡ true → units_text c ≡ c ∷ []
+character_itself c small h =
+    ap all_units_text (one_unit c (omega (arith, small)))
     ∙ append-nil (unit_text c)
     ∙ ap (λ (t : Bool). cond t (c ∷ []) (codes "\\u" ++ four_digits false c)) h
 
-each_itself : (text : List ℕ) → list_all is_printed_as_itself text ≡ true → flat_map units_text text ≡ text
-each_itself [] h = refl
-each_itself (c ∷ cs) h =
-    let both = and_parts (is_printed_as_itself c) (list_all is_printed_as_itself cs) h in
-    ap (λ us. us ++ flat_map units_text cs) (character_itself c both.0) ∙ ap (λ us. c ∷ us) (each_itself cs both.1)
+module _ (table : List Bool) (tells : TellsClass is_printed_as_itself table) where
+  each_itself : (run : List ℕ) → IsRun table run → flat_map units_text run ≡ run
+  each_itself [] all = refl
+  each_itself (c ∷ cs) all =
+      ap (λ us. us ++ flat_map units_text cs) (character_itself c all.0 (sym (tells.tells c all.0) ∙ all.1))
+      ∙ ap (λ us. c ∷ us) (each_itself cs all.2)
 
--- A text whose bytes all stand for themselves is written as it is.
-pub text_itself : (text : List ℕ) → list_all is_printed_as_itself text ≡ true → text_in_units text ≡ text
-text_itself text h = ap (flat_map units_text) (chars-IsAscii text (ascii text h)) ∙ each_itself text h
+  bytes_of : (run : List ℕ) → IsRun table run → encode_utf8_all run ≡ run
+  bytes_of [] all = refl
+  bytes_of (c ∷ cs) all =
+      ap (λ bs. bs ++ encode_utf8_all cs) (encode_ascii c all.0) ∙ ap (λ bs. c ∷ bs) (bytes_of cs all.2)
+
+  -- A text whose characters all stand for themselves is written as it is.
+  pub text_itself : (text run : List ℕ) → IsUtf8 text → chars text ≡ run → IsRun table run → text_in_units text ≡ text
+  text_itself text run u e all =
+      ap (flat_map units_text) e ∙ each_itself run all ∙ sym (bytes_of run all) ∙ sym (ap encode_utf8_all e)
+      ∙ encodes-chars text u

@@ -1,10 +1,12 @@
 //! Characters and UTF-16 units, as a report prints them.
 
 ghost use Rattle.std.specs.Prelude.{◌≡◌, ◌<◌, ◌++◌, true, false, OnOk, codes, string_bytes};
+ghost use Rattle.js_source.specs.Runs.{TellsClass};
 ghost use Rattle.js_lex_tool.specs.Units.{is_printed_as_itself, four_digits, unit_text, units_text, text_in_units};
 ghost use Rattle.js_lex_tool.specs.Units.{number_text};
 ghost use Rattle.js_lex_tool.specs.Units.{all_units_text};
 
+use js_source::{Source, of_each_byte};
 use std::alloc::AllocError;
 use std::fmt::Write;
 
@@ -42,17 +44,34 @@ pub fn push_units(text: &mut String, units: &[u16]) -> Result<(), AllocError>
     Ok(())
 }
 
-/// Whether all of a text stands for itself.
+/// From a space to `~`, but for `\`.
+macro_rules! stands_for_itself {
+    ($byte:literal) => {
+        b' ' <= $byte && $byte <= b'~' && $byte != b'\\'
+    };
+}
+
+/// The bytes that stand for themselves.
+static THEMSELVES: [bool; 256] = of_each_byte!(stands_for_itself);
+
+/// The table of the bytes that stand for themselves.
+#[inline(always)]
+fn themselves() -> &'static [bool; 256]
+    ensures { TellsClass is_printed_as_itself result.now }
+{
+    &THEMSELVES
+}
+
+/// Whether all of a text stands for itself; false also for one of more than `u32::MAX` bytes.
 pub fn is_plain(value: &str) -> bool
     ensures { result ≡ true → text_in_units value.now ≡ value.now }
 {
-    let bytes = value.as_bytes();
-    for byte in bytes {
-        if !is_printed_as_itself(u16::from(*byte)) {
-            return false;
-        }
+    if value.len() > u32::MAX as usize {
+        return false;
     }
-    true
+    let mut source = Source::new(value);
+    source.pass_ascii(themselves());
+    source.is_eof()
 }
 
 fn push_character(text: &mut String, c: char) -> Result<(), AllocError>

@@ -84,7 +84,7 @@ two_bytes = (refl, refl)
 
 module _ (old mid new : At) (inside : Bool) (h : IsPlaced old) (g : IsPlaced new)
     (takes : TakesSequence (codes "/*") old true mid) (text : new.text ≡ mid.text)
-    (cuts : ReadsCut false (cut_behind (codes "*/") (rest mid)) new (Skips inside)) where
+    (cuts : ReadsCut (cut_behind (codes "*/") (rest mid)) new (Skips inside)) where
   pub block_front : (front : List ℕ) × (cuts.0.front ≡ front ++ codes "*/")
   block_front = front_of (rest mid) cuts.0 cuts.1
 
@@ -117,7 +117,7 @@ mark_has_no_line_end cs = refl
 pub block_skipped : (old : Reader) (before : FindingsBuilder) (mid : At) (new : Reader) (trivia : Trivia)
     (inside : Bool)
     → IsPlaced old.source → IsPlaced new.source → TakesSequence (codes "/*") old.source true mid
-    → new.source.text ≡ mid.text → ReadsCut false (cut_behind (codes "*/") (rest mid)) new.source (Skips inside)
+    → new.source.text ≡ mid.text → ReadsCut (cut_behind (codes "*/") (rest mid)) new.source (Skips inside)
     → new.source_type ≡ old.source_type
     → new.line_has_ended ≡ (old.line_has_ended || inside)
     → trivia

@@ -200,7 +200,7 @@ impl Reader<'_> {
         if !advance_if_sequence(&mut self.source, b"/*") {
             return Ok(false);
         }
-        match skip_block(&mut self.source, false) {
+        match skip_block(&mut self.source) {
             Skipped::Piece { line_has_ended } => {
                 let end = self.source.offset();
                 let kind = block_kind(line_has_ended);

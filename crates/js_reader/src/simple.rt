@@ -225,11 +225,11 @@ pub fn read_simple_symbol(source: &mut Source<'_>, b: u8) -> Option<Kind>
         → IfSome result (SpellsFor r line_has_ended source.old source.new) }
     ensures text { source.new.text ≡ source.old.text }
 {
-    let mut behind = source.here();
     if let Some(kind) = read_punctuator(source) {
         return Some(kind);
     }
     // A value is read from a copy, whose place can stay in a register.
+    let mut behind = source.here();
     let kind = read_value(&mut behind, b);
     *source = behind;
     kind

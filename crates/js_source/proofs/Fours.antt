@@ -71,7 +71,7 @@ pub none_passed : (four : FourBytes) (text : List ℕ) (from : ℕ) → from ≤
 none_passed four text from within =
     record { onward = omega arith; within = within; before = λ k low high. absurd (omega arith) }
 
-not_true : (x : Bool) → (x ≡ true → ⊥) → x ≡ false
+pub not_true : (x : Bool) → (x ≡ true → ⊥) → x ≡ false
 not_true true h = absurd (h refl)
 not_true false h = refl
 

@@ -18,7 +18,7 @@ pub struct FourBytes {
 impl FourBytes {
     /// Whether the byte is one of them.
     #[inline(always)]
-    fn has(self, b: u8) -> bool
+    pub(crate) fn has(self, b: u8) -> bool
         ensures { result ≡ is_one_of self b }
     {
         b == self.first || b == self.second || b == self.third || b == self.fourth
@@ -26,7 +26,7 @@ impl FourBytes {
 
     /// Tells where in the block from a place on one of them stands, a bit for each byte.
     #[inline(always)]
-    fn marks(self, bytes: &[u8], at: usize) -> u64
+    pub(crate) fn marks(self, bytes: &[u8], at: usize) -> u64
         requires { at + LANES ≤ length bytes.now }
         ensures marked { (k : ℕ) → k < LANES → is_one_of self (slice_index bytes.now (at + k)) ≡ true
             → bit_at result k ≡ 1 }
@@ -76,7 +76,7 @@ impl FourBytes {
 
 /// The place of the lowest bit that is set.
 #[inline(always)]
-fn first_mark(marks: u64) -> usize
+pub(crate) fn first_mark(marks: u64) -> usize
     requires { marks ≢ 0 }
     ensures set { bit_at marks result ≡ 1 }
     ensures below { (k : ℕ) → k < result → bit_at marks k ≡ 0 }

@@ -1,6 +1,6 @@
 //! Blocks of bytes, lane by lane.
 
-ghost use Rattle.std.specs.Prelude.{◌≡◌, ◌↔◌, ℕ, ◌+◌, ◌≤◌, ◌==◌, if◌then◌else◌, length, slice_index, bit_or};
+ghost use Rattle.std.specs.Prelude.{◌≡◌, ◌↔◌, ℕ, ◌+◌, ◌≤◌, ◌==◌, if◌then◌else◌, length, slice_index, bit_and, bit_or};
 ghost use Rattle.std.specs.Int.{bit_at};
 ghost use Rattle.memchr.specs.Lanes.{HasLanes};
 
@@ -33,6 +33,13 @@ pub(crate) fn either(a: u8x32, b: u8x32) -> u8x32
     ensures { HasLanes result (λ k. bit_or (slice_index a k) (slice_index b k)) }
 {
     a | b
+}
+
+#[inline(always)]
+pub(crate) fn both(a: u8x32, b: u8x32) -> u8x32
+    ensures { HasLanes result (λ k. bit_and (slice_index a k) (slice_index b k)) }
+{
+    a & b
 }
 
 /// Bit k is the top bit of lane k.

@@ -1,46 +1,36 @@
 -- The steps of a search through a comment.
-use Rattle.std.proofs.Common.{◌≡◌, ℕ, ◌<◌, Bool, true, false, ◌||◌, ◌==◌, List, [], ◌∷◌, length, refl, sym, ◌∙◌, ap}
-use Rattle.std.proofs.Common.{subst, arith, Option}
+use Rattle.std.proofs.Common.{◌≡◌, ℕ, ◌-◌, ◌<◌, Bool, true, false, ◌&&◌, ◌||◌, not, ◌==◌, List, [], ◌∷◌, ◌++◌, length, drop}
+use Rattle.std.proofs.Common.{refl, sym, ◌∙◌, ap, arith, Some, None, slice_range, length-drop}
 use Rattle.std.specs.Prelude.{codes, if◌then◌else◌}
-use Rattle.std.specs.Char.{encode_utf8}
+use Rattle.std.specs.Str.{all_scalars, chars, encode_utf8_all}
+use lib.Utf8.{scalar}
 use Rattle.std.specs.List.{list_any}
 use Rattle.std.specs.Option.{option_map}
-use Rattle.std.proofs.lemmas.Bool.{eqb-true}
-use Rattle.js_text.specs.Characters.{is_line_terminator, from_first}
+use Rattle.std.proofs.lemmas.Bool.{and_parts}
+use Rattle.std.proofs.lemmas.List.{length-take}
+use Rattle.std.proofs.lemmas.Str.{chars-encodes, scalars-chars}
+use Rattle.js_text.specs.Characters.{from_first, from_place, is_line_terminator}
 use Rattle.js_text.proofs.TextLemmas.{length-from_first}
-use Rattle.js_source.specs.Source.{At, rest, Reads, BeginsWith, StepsPast}
+use Rattle.js_source.specs.Pairs.{before_pair, begins_pair, from_pair}
+use Rattle.js_source.specs.Source.{At, rest, BeginsWith, IsPlaced, SpellsBetween, StepsPast}
+use Rattle.js_source.proofs.Places.{rest_utf8}
 use Rattle.js_source.specs.Search.{matches_char}
 use Rattle.js_source.proofs.Skips.{from_first-from_first, line_terminator_matches}
-use Rattle.js_grammar.specs.Gap.{is_prefix, Cut, cut-cons, cut_behind}
+use Rattle.js_grammar.specs.Gap.{is_prefix, cut-cons, cut_behind}
 use Rattle.js_source.specs.Search.{four_bytes, is_safe}
-use Rattle.js_spell.specs.Comments.{block_bytes, line_bytes, ReadsCut}
-use Rattle.js_spell.specs.declared.skipped.Skipped.{Skipped}
-use Rattle.js_spell.specs.declared.skipped.Skipped.TheVariants.{Piece, Nothing}
+use Rattle.js_spell.specs.Comments.{block_end, line_bytes, ReadsCut}
+use Rattle.js_spell.specs.declared.skipped.Skipped.TheVariants.{Piece}
 use Rattle.js_spell.proofs.SequenceSteps.{behind}
 
 -- a search with the table stops at every line terminator
 abbrev pub StopsAtLineEnds : List Bool → Type 0
 StopsAtLineEnds table = (c : ℕ) → is_line_terminator c ≡ true → matches_char table c ≡ true
 
--- and at every character of a block comment that matters
-abbrev pub StopsInBlocks : List Bool → Type 0
-StopsInBlocks table = StopsAtLineEnds table × (matches_char table 42 ≡ true)
-
 pub line_stops : StopsAtLineEnds (four_bytes line_bytes)
 line_stops = line_terminator_matches (four_bytes line_bytes) refl refl refl
 
-star_matches : matches_char (four_bytes block_bytes) 42 ≡ true
-unfolding encode_utf8
-star_matches = refl
-
-pub block_stops : StopsInBlocks (four_bytes block_bytes)
-block_stops = (line_terminator_matches (four_bytes block_bytes) refl refl refl, star_matches)
-
 pub line_is_safe : is_safe (four_bytes line_bytes) ≡ true
 line_is_safe = refl
-
-pub block_is_safe : is_safe (four_bytes block_bytes) ≡ true
-block_is_safe = refl
 
 -- a search for a character goes on from where a coarser search has stopped
 abbrev pub Searched : (ℕ → Bool) → List Bool → At → At → At → Type 0
@@ -85,115 +75,138 @@ search_shorter q old mid new c e begins past =
     let after = behind c mid new begins past in
     omega (arith, ap length after.1, ap length e, length-from_first q (rest old))
 
-or_assoc : (a b c : Bool) → ((a || b) || c) ≡ (a || (b || c))
-or_assoc true b c = refl
-or_assoc false b c = refl
+-- the characters that a search passes over end no line
+none_of_others : (p q : ℕ → Bool) → ((c : ℕ) → p c ≡ true → q c ≡ true) → (cs : List ℕ) → list_any q cs ≡ false
+    → list_any p cs ≡ false
+none_of_others p q stops [] h = refl
+none_of_others p q stops (c ∷ cs) h = by_tests (p c) (q c) refl refl (none_of_others p q stops cs) h
+  where
+    by_tests : (x y : Bool) → p c ≡ x → q c ≡ y → (list_any q cs ≡ false → list_any p cs ≡ false)
+        → (y || list_any q cs) ≡ false → (x || list_any p cs) ≡ false
+    by_tests true true e f more k = absurd (cc)
+    by_tests true false e f more k = absurd (let both : true ≡ false = sym (stops c e) ∙ f in cc)
+    by_tests false true e f more k = absurd (cc)
+    by_tests false false e f more k = more k
 
-or_false : (a : Bool) → (a || false) ≡ a
-or_false true = refl
-or_false false = refl
+and_true : (b : Bool) → (b && true) ≡ b
+and_true true = refl
+and_true false = refl
 
-reads_cut-cons : (line_had_ended : Bool) (c : ℕ) (found : Option Cut) (new : At) (answer : Skipped)
-    → ReadsCut (line_had_ended || is_line_terminator c) found new answer
-    → ReadsCut line_had_ended (option_map (cut-cons c) found) new answer
-reads_cut-cons line_had_ended c found new Nothing h = ap (option_map (cut-cons c)) h
-reads_cut-cons line_had_ended c found new (Piece line_has_ended) h = (
-  cut-cons c h.0,
-  ap (option_map (cut-cons c)) h.1,
-  sym (or_assoc line_had_ended (is_line_terminator c) (list_any is_line_terminator h.0.front)) ∙ h.2,
-  h.3,
+-- the end of a block comment is a pair of ASCII bytes
+prefix_is_pair : (cs : List ℕ) → is_prefix (codes "*/") cs ≡ begins_pair block_end cs
+prefix_is_pair [] = refl
+prefix_is_pair (c ∷ []) = refl
+prefix_is_pair (c ∷ d ∷ ds) = ap (λ b. (c == 42) && b) (and_true (d == 47))
+
+-- where there is none, nothing ends the comment
+pub no_cut : (cs : List ℕ) → from_pair block_end cs ≡ [] → cut_behind (codes "*/") cs ≡ None
+no_cut [] e = refl
+no_cut (c ∷ cs) e = by_test (begins_pair block_end (c ∷ cs)) (prefix_is_pair (c ∷ cs)) (no_cut cs) e
+  where
+    by_test : (b : Bool) → is_prefix (codes "*/") (c ∷ cs) ≡ b
+        → (from_pair block_end cs ≡ [] → cut_behind (codes "*/") cs ≡ None)
+        → (if b then c ∷ cs else from_pair block_end cs) ≡ [] → cut_behind (codes "*/") (c ∷ cs) ≡ None
+    by_test true f more k = absurd (cc)
+    by_test false f more k = rw f (ap (option_map (cut-cons c)) (more k))
+
+-- the comment ends behind the first pair
+pub cut_at_pair : (cs r : List ℕ) → from_pair block_end cs ≡ 42 ∷ 47 ∷ r
+    → cut_behind (codes "*/") cs ≡ Some (record { front = before_pair block_end cs ++ codes "*/"; rest = r })
+cut_at_pair [] r e = absurd (cc)
+cut_at_pair (c ∷ cs) r e = by_test (begins_pair block_end (c ∷ cs)) (prefix_is_pair (c ∷ cs)) (cut_at_pair cs r) e
+  where
+    by_test : (b : Bool) → is_prefix (codes "*/") (c ∷ cs) ≡ b
+        → (from_pair block_end cs ≡ 42 ∷ 47 ∷ r → cut_behind (codes "*/") cs
+        ≡ Some (record { front = before_pair block_end cs ++ codes "*/"; rest = r }))
+        → (if b then c ∷ cs else from_pair block_end cs) ≡ 42 ∷ 47 ∷ r
+        → cut_behind (codes "*/") (c ∷ cs)
+        ≡ Some (record { front = (if b then [] else c ∷ before_pair block_end cs) ++ codes "*/"; rest = r })
+    by_test true f more k = rw f (ap (λ xs. Some (record { front = codes "*/"; rest = xs })) (ap (drop 2) k))
+    by_test false f more k = rw f (ap (option_map (cut-cons c)) (more k))
+
+-- no line ends in the mark
+ends_in_front : (cs : List ℕ) → list_any is_line_terminator (cs ++ codes "*/") ≡ list_any is_line_terminator cs
+unfolding is_line_terminator
+ends_in_front [] = refl
+ends_in_front (c ∷ cs) = ap (λ b. is_line_terminator c || b) (ends_in_front cs)
+
+-- The first pair is found, and whether a line has ended before it is known.
+pub block_found : (old new : At) (line_has_ended : Bool)
+    → from_pair block_end (rest old) ≡ 42 ∷ 47 ∷ rest new
+    → list_any is_line_terminator (before_pair block_end (rest old)) ≡ line_has_ended
+    → ReadsCut (cut_behind (codes "*/") (rest old)) new (Piece line_has_ended)
+block_found old new line_has_ended e ends = (
+  record { front = before_pair block_end (rest old) ++ codes "*/"; rest = rest new },
+  cut_at_pair (rest old) (rest new) e,
+  ends_in_front (before_pair block_end (rest old)) ∙ ends,
+  refl,
 )
 
--- a character that does not begin the end of the comment
-pub cut_passes : (line_has_ended : Bool) (c : ℕ) (cs : List ℕ) (new : At) (answer : Skipped)
-    → is_prefix (codes "*/") (c ∷ cs) ≡ false
-    → ReadsCut (line_has_ended || is_line_terminator c) (cut_behind (codes "*/") cs) new answer
-    → ReadsCut line_has_ended (cut_behind (codes "*/") (c ∷ cs)) new answer
-cut_passes line_has_ended c cs new answer e h =
-    rw e (reads_cut-cons line_has_ended c (cut_behind (codes "*/") cs) new answer h)
+-- a search that met none of the bytes of line terminators has met no line terminator
+pub no_line_end : (cs : List ℕ) → list_any (matches_char (four_bytes line_bytes)) cs ≡ false
+    → list_any is_line_terminator cs ≡ false
+no_line_end = none_of_others is_line_terminator (matches_char (four_bytes line_bytes)) line_stops
 
-no_line_end : (b : Bool) (line_has_ended : Bool) → b ≡ false → (line_has_ended || b) ≡ line_has_ended
-no_line_end b line_has_ended e = rw e (or_false line_has_ended)
-
-not_matched : (table : List Bool) → StopsInBlocks table → (c : ℕ) → matches_char table c ≡ false
-    → (is_line_terminator c ≡ false) × ((c == 42) ≡ false)
-not_matched table stops c e = (no_end (is_line_terminator c) refl, no_star (c == 42) refl)
+-- the comment, and what follows it
+cut_whole : (cs r : List ℕ) → from_pair block_end cs ≡ 42 ∷ 47 ∷ r
+    → cs ≡ (before_pair block_end cs ++ codes "*/") ++ r
+cut_whole [] r e = absurd (cc)
+cut_whole (c ∷ cs) r e = by_test (begins_pair block_end (c ∷ cs)) (cut_whole cs r) e
   where
-    no_end : (b : Bool) → is_line_terminator c ≡ b → b ≡ false
-    no_end true t = absurd (let both : true ≡ false = sym (stops.0 c t) ∙ e in cc)
-    no_end false t = refl
+    by_test : (b : Bool)
+        → (from_pair block_end cs ≡ 42 ∷ 47 ∷ r → cs ≡ (before_pair block_end cs ++ codes "*/") ++ r)
+        → (if b then c ∷ cs else from_pair block_end cs) ≡ 42 ∷ 47 ∷ r
+        → c ∷ cs ≡ ((if b then [] else c ∷ before_pair block_end cs) ++ codes "*/") ++ r
+    by_test true more k = k
+    by_test false more k = ap (λ xs. c ∷ xs) (more k)
 
-    no_star : (b : Bool) → (c == 42) ≡ b → b ≡ false
-    no_star true t =
-        absurd (let both : true ≡ false = sym stops.1 ∙ ap (matches_char table) (sym (eqb-true c 42 t)) ∙ e in cc)
-    no_star false t = refl
+scalars_of_front : (xs ys : List ℕ) → all_scalars (xs ++ ys) ≡ true → all_scalars xs ≡ true
+scalars_of_front [] ys h = refl
+scalars_of_front (x ∷ xs) ys h =
+    let both = and_parts (scalar x) (all_scalars (xs ++ ys)) h in
+    rw (both.0, scalars_of_front xs ys both.1) refl
 
--- the characters that a search passes over neither end the comment nor a line
-pub cut_skips : (table : List Bool) → StopsInBlocks table
-    → (line_has_ended : Bool) (cs : List ℕ) (new : At) (answer : Skipped)
-    → ReadsCut line_has_ended (cut_behind (codes "*/") (from_first (matches_char table) cs)) new answer
-    → ReadsCut line_has_ended (cut_behind (codes "*/") cs) new answer
-cut_skips table stops line_has_ended [] new answer h = h
-cut_skips table stops line_has_ended (c ∷ cs) new answer h =
-    by_test (matches_char table c) refl (λ k. cut_skips table stops line_has_ended cs new answer k) h
+-- The characters of the comment, from its text.
+pub comment_characters : (old new : At) (text : List ℕ) → IsPlaced old → new.text ≡ old.text
+    → from_pair block_end (rest old) ≡ 42 ∷ 47 ∷ rest new → SpellsBetween old.text old.place new.place text
+    → list_any is_line_terminator (chars text) ≡ list_any is_line_terminator (before_pair block_end (rest old))
+comment_characters old new text h same e spells =
+    let front = before_pair block_end (rest old) ++ codes "*/" in
+    let whole : rest old ≡ front ++ rest new = cut_whole (rest old) (rest new) e in
+    let bytes : text ≡ encode_utf8_all front =
+    spells front (whole ∙ ap (λ t. front ++ from_place t new.place) same) in
+    let scalars = scalars_of_front front (rest new) (sym (ap all_scalars whole) ∙ scalars-chars _ (rest_utf8 old h)) in
+    ap (λ t. list_any is_line_terminator (chars t)) bytes
+    ∙ ap (list_any is_line_terminator) (chars-encodes front scalars)
+    ∙ ends_in_front (before_pair block_end (rest old))
+
+pub short_between : (text : List ℕ) (from to n : ℕ) → length text < n → length (slice_range text from to) < n
+short_between text from to n h =
+    omega (arith, length-take (to - from) (drop from text), length-drop from text)
+
+-- no line ends where there is no first line end, and else one does
+none_ended : (cs : List ℕ) → from_first is_line_terminator cs ≡ [] → false ≡ list_any is_line_terminator cs
+none_ended [] e = refl
+none_ended (c ∷ cs) e = by_test (is_line_terminator c) (none_ended cs) e
   where
-    by_test : (b : Bool) → matches_char table c ≡ b
-        → (ReadsCut line_has_ended (cut_behind (codes "*/") (from_first (matches_char table) cs)) new answer
-        → ReadsCut line_has_ended (cut_behind (codes "*/") cs) new answer)
-        → ReadsCut line_has_ended
-        (cut_behind (codes "*/") (if b then c ∷ cs else from_first (matches_char table) cs)) new answer
-        → ReadsCut line_has_ended (cut_behind (codes "*/") (c ∷ cs)) new answer
-    by_test true e more k = k
-    by_test false e more k =
-        let other = not_matched table stops c e in
-        let here : is_prefix (codes "*/") (c ∷ cs) ≡ false = rw other.1 refl in
-        cut_passes line_has_ended c cs new answer here
-        (subst (λ b. ReadsCut b (cut_behind (codes "*/") cs) new answer)
-        (sym (no_line_end (is_line_terminator c) line_has_ended other.0)) (more k))
+    by_test : (b : Bool) → (from_first is_line_terminator cs ≡ [] → false ≡ list_any is_line_terminator cs)
+        → (if b then c ∷ cs else from_first is_line_terminator cs) ≡ []
+        → false ≡ (b || list_any is_line_terminator cs)
+    by_test true more k = absurd (cc)
+    by_test false more k = more k
 
--- the state of the search, and what it comes to
-abbrev pub Cuts : Bool → At → Bool → At → Type 0
-Cuts line_had_ended start line_has_ended old = (new : At) (answer : Skipped)
-    → ReadsCut line_has_ended (cut_behind (codes "*/") (rest old)) new answer
-    → ReadsCut line_had_ended (cut_behind (codes "*/") (rest start)) new answer
+some_ended : (cs : List ℕ) → (from_first is_line_terminator cs ≡ [] → ⊥) → true ≡ list_any is_line_terminator cs
+some_ended [] e = absurd (e refl)
+some_ended (c ∷ cs) e = by_test (is_line_terminator c) (some_ended cs) e
+  where
+    by_test : (b : Bool)
+        → ((from_first is_line_terminator cs ≡ [] → ⊥) → true ≡ list_any is_line_terminator cs)
+        → ((if b then c ∷ cs else from_first is_line_terminator cs) ≡ [] → ⊥)
+        → true ≡ (b || list_any is_line_terminator cs)
+    by_test true more k = refl
+    by_test false more k = more k
 
-pub block_passes : (table : List Bool) (line_had_ended line_has_ended : Bool) (start old mid new : At) (c : ℕ)
-    → StopsInBlocks table
-    → Cuts line_had_ended start line_has_ended old → rest mid ≡ from_first (matches_char table) (rest old)
-    → BeginsWith c (rest mid) → StepsPast mid new → is_prefix (codes "*/") (c ∷ rest new) ≡ false
-    → Cuts line_had_ended start (line_has_ended || is_line_terminator c) new
-block_passes table line_had_ended line_has_ended start old mid new c stops inv e begins past other later answer h =
-    let after = behind c mid new begins past in
-    inv later answer (cut_skips table stops line_has_ended (rest old) later answer
-    (subst (λ xs. ReadsCut line_has_ended (cut_behind (codes "*/") xs) later answer) (sym after.1 ∙ e)
-    (cut_passes line_has_ended c (rest new) later answer other h)))
-
-pub block_ends : (table : List Bool) (line_had_ended line_has_ended : Bool) (start old mid new : At)
-    → StopsInBlocks table
-    → Cuts line_had_ended start line_has_ended old → rest mid ≡ from_first (matches_char table) (rest old)
-    → rest mid ≡ [] → ReadsCut line_had_ended (cut_behind (codes "*/") (rest start)) new Nothing
-block_ends table line_had_ended line_has_ended start old mid new stops inv e none =
-    inv new Nothing
-    (cut_skips table stops line_has_ended (rest old) new Nothing (ap (cut_behind (codes "*/")) (sym e ∙ none)))
-
-mark_is_no_line_end : (line_has_ended : Bool)
-    → (line_has_ended || list_any is_line_terminator (codes "*/")) ≡ line_has_ended
-unfolding is_line_terminator
-mark_is_no_line_end line_has_ended = or_false line_has_ended
-
-found_cut : (line_has_ended : Bool) (r : List ℕ) (new : At) → r ≡ rest new
-    → ReadsCut line_has_ended (cut_behind (codes "*/") (42 ∷ 47 ∷ r)) new (Piece line_has_ended)
-found_cut line_has_ended r new e =
-    (record { front = codes "*/"; rest = r }, refl, mark_is_no_line_end line_has_ended, e)
-
-pub block_found : (table : List Bool) (line_had_ended line_has_ended : Bool) (start old mid a new : At) (c : ℕ)
-    → StopsInBlocks table
-    → Cuts line_had_ended start line_has_ended old → rest mid ≡ from_first (matches_char table) (rest old)
-    → BeginsWith c (rest mid) → StepsPast mid a → c ≡ 42 → Reads a new 47
-    → ReadsCut line_had_ended (cut_behind (codes "*/") (rest start)) new (Piece line_has_ended)
-block_found table line_had_ended line_has_ended start old mid a new c stops inv e begins past star reads =
-    let after = behind c mid a begins past in
-    let whole : rest mid ≡ 42 ∷ 47 ∷ rest new = after.1 ∙ ap (λ x. x ∷ rest a) star ∙ ap (λ xs. 42 ∷ xs) reads.here in
-    inv new (Piece line_has_ended) (cut_skips table stops line_has_ended (rest old) new (Piece line_has_ended)
-    (subst (λ xs. ReadsCut line_has_ended (cut_behind (codes "*/") xs) new (Piece line_has_ended)) (sym whole ∙ e)
-    (found_cut line_has_ended (rest new) new refl)))
+pub ends_line : (cs : List ℕ) (at_end : Bool) → (at_end ≡ true → from_first is_line_terminator cs ≡ [])
+    → (at_end ≡ false → from_first is_line_terminator cs ≡ [] → ⊥) → not at_end ≡ list_any is_line_terminator cs
+ends_line cs true ended going = none_ended cs (ended refl)
+ends_line cs false ended going = some_ended cs (going refl)

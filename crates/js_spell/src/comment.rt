@@ -1,16 +1,17 @@
 //! The insides of comments, searched for the few characters that matter (ECMA-262 12.4).
 
-ghost use Rattle.std.specs.Prelude.{◌≡◌, ◌≤◌, true, false, [], ◌∷◌, IfNone, IfSome, MatchBool, codes};
-ghost use Rattle.js_text.specs.Ascii.{asterisk, slash};
+ghost use Rattle.std.specs.Prelude.{◌≡◌, ◌≤◌, ◌<◌, ◌^◌, true, [], length, IfNone, IfSome, codes};
+ghost use Rattle.std.specs.List.{list_any};
+ghost use Rattle.std.specs.Str.{chars};
 ghost use Rattle.js_text.specs.Characters.{from_first, is_line_terminator};
-ghost use Rattle.js_grammar.specs.Gap.{is_prefix, cut_behind};
-ghost use Rattle.js_source.specs.Source.{rest, BeginsWith, Reads};
+ghost use Rattle.js_grammar.specs.Gap.{cut_behind};
+ghost use Rattle.js_source.specs.Source.{rest, BeginsWith};
 ghost use Rattle.js_source.specs.Search.{four_bytes, is_safe, matches_char};
-ghost use Rattle.js_spell.specs.Comments.{block_bytes, line_bytes, ReadsCut};
+ghost use Rattle.js_spell.specs.Comments.{block_end, line_bytes, ReadsCut};
 
 use crate::skipped::Skipped;
-use js_source::{FourBytes, Source};
-use js_text::{either, is_line_terminator};
+use js_source::{BytePair, FourBytes, Source};
+use js_text::is_line_terminator;
 
 /// The first bytes of the line terminators: LF, CR, and that of U+2028 and U+2029.
 #[inline(always)]
@@ -25,14 +26,14 @@ fn line_bytes() -> FourBytes
     }
 }
 
-/// The same, and `*`.
+/// The mark that ends a block comment.
 #[inline(always)]
-fn block_bytes() -> FourBytes
-    ensures { result ≡ block_bytes }
+fn block_end() -> BytePair
+    ensures { result ≡ block_end }
 {
-    FourBytes {
-        fourth: b'*',
-        ..line_bytes()
+    BytePair {
+        first: b'*',
+        second: b'/',
     }
 }
 
@@ -67,32 +68,27 @@ pub fn skip_line(source: &mut Source<'_>)
     }
 }
 
-/// Takes the `/` that ends a block comment, where the character before it was a `*`.
-fn advance_if_block_end(source: &mut Source<'_>, c: char) -> bool
-    ensures { MatchBool result ((c ≡ asterisk) × Reads source.old source.new slash)
-        ((is_prefix (codes "*/") (c ∷ rest source.old) ≡ false) × (source.new ≡ source.old)) }
+/// Whether a line ends in the text.
+#[inline(never)]
+fn has_line_end(text: &str) -> bool
+    requires { length text.now < 2 ^ 32 }
+    ensures { result ≡ list_any is_line_terminator (chars text.now) }
 {
-    if c == '*' {
-        source.advance_if_ascii_eq(b'/')
-    } else {
-        false
-    }
+    let mut source = Source::new(text);
+    skip_line(&mut source);
+    !source.is_eof()
 }
 
-/// Goes behind the next `*/`, if there is one; `line_has_ended` tells whether a line has ended before.
-pub fn skip_block(source: &mut Source<'_>, line_has_ended: bool) -> Skipped
+/// Goes behind the next `*/`, if there is one, and tells whether a line has ended before.
+pub fn skip_block(source: &mut Source<'_>) -> Skipped
     ensures text { source.new.text ≡ source.old.text }
-    ensures cut { ReadsCut line_has_ended (cut_behind (codes "*/") (rest source.old)) source.new result }
+    ensures cut { ReadsCut (cut_behind (codes "*/") (rest source.old)) source.new result }
 {
-    let mut has_ended = line_has_ended;
-    while let Some(c) = advance_to_match(source, block_bytes()) {
-        source.next_char();
-        if advance_if_block_end(source, c) {
-            return Skipped::Piece {
-                line_has_ended: has_ended,
-            };
-        }
-        has_ended = either(has_ended, is_line_terminator(c));
+    let start = source.position();
+    match source.advance_behind_pair(block_end(), line_bytes()) {
+        Some(is_clean) => Skipped::Piece {
+            line_has_ended: !is_clean && has_line_end(source.str_from_pos_to_current(start)),
+        },
+        None => Skipped::Nothing,
     }
-    Skipped::Nothing
 }

@@ -125,8 +125,8 @@ pub(crate) fn skip_parts(source: &mut Source<'_>)
     ensures onward { source.old.place ≤ source.new.place }
     ensures placed { IsPlaced source.new }
 {
-    while let Some(_c) = pass_parts(source) {
-        source.next_char();
+    while let Some(c) = pass_parts(source) {
+        source.pass_char(c);
     }
 }
 

@@ -26,6 +26,7 @@ use std::alloc::{AllocError, Global};
 use std::marker::Model;
 
 /// The class of a comment of a text.
+#[inline(always)]
 fn class_in(source_text: &str, kind: CommentKind, span: Span) -> CommentContent
     requires { IsPlacedIn source_text.now kind span }
     ensures { result ≡ class_in_text source_text.now kind span }
@@ -285,6 +286,7 @@ impl TriviaBuilder {
     }
 
     /// Adds a comment after those that wait, and attaches them if it is a trailing line comment.
+    #[inline(always)]
     fn push_comment(
         &mut self,
         start: u32,
@@ -341,6 +343,7 @@ impl TriviaBuilder {
     }
 
     /// Adds a comment, or counts it for the range of its class where it is held already.
+    #[inline(always)]
     fn add_comment(
         &mut self,
         start: u32,
@@ -369,6 +372,7 @@ impl TriviaBuilder {
 
     /// Adds a comment that ends before the next line end. One that starts at or before the last one is not added, but
     /// counts for the range of its class where it is held already.
+    #[inline(always)]
     pub fn add_line_comment(
         &mut self,
         start: u32,
@@ -388,6 +392,7 @@ impl TriviaBuilder {
 
     /// Adds a comment `/* .. */`. One that starts at or before the last one is not added, but counts for the range of
     /// its class where it is held already.
+    #[inline(always)]
     pub fn add_block_comment(
         &mut self,
         start: u32,

@@ -1,49 +1,40 @@
-use Rattle.std.proofs.Common.{◌∙◌, ◌<◌, ◌||◌, sym, ap, subst, Bool, length}
-use Rattle.js_source.specs.Source.{At, rest}
-use Rattle.js_source.specs.Search.{four_bytes}
-use Rattle.js_spell.specs.Comments.{block_bytes}
-use Rattle.js_spell.proofs.CommentSteps.{Cuts, block_found, block_ends, block_is_safe, block_passes, block_stops}
-use Rattle.js_spell.proofs.CommentSteps.{search_shorter}
-use Rattle.js_spell.proofs.SequenceSteps.{behind}
+use Rattle.std.proofs.Common.{◌≡◌, ◌<◌, ◌^◌, ◌∷◌, not, length, sym, ◌∙◌, ap, subst}
+use Rattle.std.specs.List.{list_any}
+use Rattle.js_text.specs.Characters.{is_line_terminator}
+use Rattle.js_source.specs.Pairs.{before_pair, from_pair}
+use Rattle.js_source.specs.Source.{rest, SpellsBetween}
+use Rattle.js_spell.specs.Comments.{block_end}
+use Rattle.js_spell.proofs.CommentSteps.{block_found, comment_characters, no_cut, no_line_end, short_between}
 use Rattle.js_spell.proofs.comment.skip_block.Goals as goal
 
-pub advance_to_match-requires : goal.advance_to_match-requires
-advance_to_match-requires c = rw c.block_bytes.ensures block_is_safe
+pub has_line_end-requires : goal.has_line_end-requires
+has_line_end-requires c =
+    rw c.str_from_pos_to_current.ensures.bytes (short_between _ _ _ (2 ^ 32) c.advance_behind_pair.ensures.placed.short)
 
-pub returns-then-advance_if_block_end-clause-cut : goal.returns-then-advance_if_block_end-clause-cut
-returns-then-advance_if_block_end-clause-cut c =
-    block_found (four_bytes block_bytes) c.args.line_has_ended c.loop-c.has_ended c.args.source.now c.loop-c.source
-    c.advance_to_match.new.source c.next_char.new.self c.advance_if_block_end.new.source c.in-Some.c
-    block_stops c.loop-c.invariant.1 (rw c.block_bytes.ensures at c.advance_to_match.ensures.rest) c.in-Some.ensures.some c.next_char.ensures.past
-    c.if-advance_if_block_end.ensures.0 c.if-advance_if_block_end.ensures.1
+pub returns-then-not-is_clean-clause-cut : goal.returns-then-not-is_clean-clause-cut
+returns-then-not-is_clean-clause-cut c =
+    let old = c.args.source.now in
+    let new = c.advance_behind_pair.new.self in
+    let text = c.str_from_pos_to_current.result.now in
+    let found : from_pair block_end (rest old) ≡ 42 ∷ 47 ∷ rest new = rw c.block_end.ensures at c.in-Some.ensures.some in
+    let spells : SpellsBetween old.text old.place new.place text =
+    subst (λ p. SpellsBetween old.text p new.place text) c.position-start.ensures.place
+    (subst (λ t. SpellsBetween t c.position-start.result new.place text) c.advance_behind_pair.ensures.text
+    c.str_from_pos_to_current.ensures.characters) in
+    block_found old new c.has_line_end.result found
+    (sym (comment_characters old new text c.position-start.ensures.placed c.advance_behind_pair.ensures.text found spells)
+    ∙ sym c.has_line_end.ensures)
 
-pub loop-c-smaller : goal.loop-c-smaller
-loop-c-smaller c =
-    subst (λ (s : At). length (rest s) < length (rest c.loop-c.source)) (sym c.if-advance_if_block_end.ensures.1)
-    (search_shorter _ c.loop-c.source c.advance_to_match.new.source c.next_char.new.self c.in-Some.c
-    c.advance_to_match.ensures.rest c.in-Some.ensures.some c.next_char.ensures.past)
+pub returns-else-not-is_clean-clause-cut : goal.returns-else-not-is_clean-clause-cut
+returns-else-not-is_clean-clause-cut c =
+    let old = c.args.source.now in
+    let new = c.advance_behind_pair.new.self in
+    let found : from_pair block_end (rest old) ≡ 42 ∷ 47 ∷ rest new = rw c.block_end.ensures at c.in-Some.ensures.some in
+    let clean = rw (c.block_end.ensures, c.line_bytes.ensures) at c.in-Some.ensures.clean in
+    block_found old new (not c.in-Some.is_clean) found
+    (no_line_end (before_pair block_end (rest old)) (clean c.if-not-is_clean.false)
+    ∙ sym (ap not c.if-not-is_clean.false))
 
-pub loop-c-preserved : goal.loop-c-preserved
-loop-c-preserved c =
-    let after =
-    behind c.in-Some.c c.advance_to_match.new.source c.next_char.new.self c.in-Some.ensures.some
-    c.next_char.ensures.past in
-    let line_has_ended = c.either-has_ended.ensures ∙ ap (λ b. c.loop-c.has_ended || b) c.is_line_terminator.ensures in
-    let passed =
-    block_passes (four_bytes block_bytes) c.args.line_has_ended c.loop-c.has_ended c.args.source.now c.loop-c.source
-    c.advance_to_match.new.source c.next_char.new.self c.in-Some.c
-    block_stops c.loop-c.invariant.1 (rw c.block_bytes.ensures at c.advance_to_match.ensures.rest) c.in-Some.ensures.some c.next_char.ensures.past
-    c.if-advance_if_block_end.ensures.0 in (
-      ap (λ s. s.text) c.if-advance_if_block_end.ensures.1 ∙ after.0 ∙ c.advance_to_match.ensures.text
-          ∙ c.loop-c.invariant.0,
-      subst (λ (s : At). Cuts c.args.line_has_ended c.args.source.now c.either-has_ended.result s)
-          (sym c.if-advance_if_block_end.ensures.1)
-          (subst (λ (b : Bool). Cuts c.args.line_has_ended c.args.source.now b c.next_char.new.self)
-          (sym line_has_ended) passed),
-    )
-
-pub returns-clause-cut : goal.returns-clause-cut
-returns-clause-cut c =
-    block_ends (four_bytes block_bytes) c.args.line_has_ended c.loop-c.has_ended c.args.source.now c.loop-c.source
-    c.advance_to_match.new.source c.advance_to_match.new.source
-    block_stops c.loop-c.invariant.1 (rw c.block_bytes.ensures at c.advance_to_match.ensures.rest) c.in_default.ensures.none
+pub returns-in-None-clause-cut : goal.returns-in-None-clause-cut
+returns-in-None-clause-cut c =
+    no_cut (rest c.args.source.now) (rw c.block_end.ensures at c.in-None.ensures.none)

@@ -1,5 +1,5 @@
 use Rattle.std.proofs.Common.{◌≡◌, sym, ◌∙◌, ap, subst, true, Some}
-use Rattle.std.specs.Prelude.{reverse, IfSome}
+use Rattle.std.specs.Prelude.{IfSome}
 use Rattle.js_kind.specs.Kinds.{is_one_of}
 use Rattle.js_grammar.specs.ReLexed.{again_kinds}
 use Rattle.js_grammar.specs.declared.goal.Goal.TheVariants.{RegularExpression}
@@ -12,7 +12,7 @@ pub returns-then-not-self-clause-choice : goal.returns-then-not-self-clause-choi
 returns-then-not-self-clause-choice c =
     let old = c.self.inside in
     let plain = sym c.self.invariant ∙ c.if-not-self.true in
-    λ tokens told. sym (reads_on (reverse old.stack) old.before old.last plain)
+    λ tokens told. sym (reads_on (old.braces) old.before old.last plain)
     ∙ ap (λ (s : Chooser). choice_behind s.stack s.before s.last) (c.self.view_is ∙ told)
 
 pub returns-clause-part : goal.returns-clause-part

@@ -1,5 +1,4 @@
 use Rattle.std.proofs.Common.{◌≡◌, sym, ◌∙◌, ap}
-use Rattle.std.specs.Prelude.{reverse}
 use Rattle.js_auto.specs.Braces.{open_behind}
 use Rattle.js_auto.specs.Choice.{Chooser}
 use Rattle.js_auto.specs.Notable.{is_notable}
@@ -21,5 +20,5 @@ returns-clause-ok c =
     in λ tokens told.
     rw c.unwrap_or-self-inside.ensures
     (told_on tokens c.args.token.now old
-    (record { stack = reverse now.stack; before = now.before; last = now.last }) c.kind-kind.result told
+    (record { stack = now.braces; before = now.before; last = now.last }) c.kind-kind.result told
     (c.self-2.view_is ∙ passed) c.kind-kind.ensures)
