@@ -17,7 +17,7 @@ use Rattle.js_session.proofs.LiveLemmas.{last_or-push, last_or-with_last}
 use Rattle.js_auto.specs.declared.brace.Brace.{Brace}
 use Rattle.js_auto.specs.Braces.{effect_of, after_effect, braces, braces_from, open_behind}
 use Rattle.js_auto.specs.Choice.{Chooser, begins_expression, but_last, choice_behind, chooser_of}
-use Rattle.js_auto.specs.Choice.{ends_substitution, kind_before, last_kind}
+use Rattle.js_auto.specs.Choice.{ends_substitution, kept_last, kind_before, last_kind}
 
 braces-push : (stack : List Brace) (tokens : List TokenParts) (t : TokenParts)
     → braces_from stack (tokens ++ t ∷ []) ≡ after_effect (effect_of t.kind) (braces_from stack tokens)
@@ -84,6 +84,16 @@ chooser-with_last_none (t ∷ ts) x none =
     let some : is_some (last_kind (t ∷ ts)) ≡ true =
     ap (λ o. is_some (option_map (λ (y : TokenParts). y.kind) o)) (ends t ts).is_last in
     absurd (let no : true ≡ false = sym some ∙ none in cc)
+
+-- the kind that is kept of a last token is `Eof` where there is none
+pub kept_or_eof : (has_last : Bool) (last : Kind) → (has_last ≡ false → last ≡ Eof)
+    → last ≡ unwrap_or (kept_last has_last last) Eof
+kept_or_eof true last none = refl
+kept_or_eof false last none = none refl
+
+pub kept_some : (has_last : Bool) (last : Kind) → is_some (kept_last has_last last) ≡ has_last
+kept_some true last = refl
+kept_some false last = refl
 
 -- what a chooser keeps that was told one token more
 pub told_on : (tokens : List TokenParts) (t : TokenParts) (old new : Chooser) (kind : Kind) → old ≡ chooser_of tokens

@@ -69,3 +69,7 @@ pub record Chooser : Type 0 where
 abbrev pub chooser_of : List TokenParts → Chooser
 chooser_of tokens =
     record { stack = braces (but_last tokens); before = kind_before tokens; last = last_kind tokens }
+
+-- the last one, where it is known whether there is one
+abbrev pub kept_last : Bool → Kind → Option Kind
+kept_last has_last last = if has_last then Some last else None

@@ -116,15 +116,18 @@ impl OpenBraces {
         Ok(())
     }
 
-    /// Takes up what a last token does to the braces, if there is one.
+    /// The braces that are open behind a last token, if there is one. Where there is no memory for them, they are as
+    /// before.
     #[inline(never)]
-    pub fn pass_last(&mut self, last: Option<Kind>) -> Result<(), AllocError>
-        ensures ok { OnOk result (self.new ≡ open_behind last self.old) }
-        ensures err { OnErr result (self.new ≡ self.old) }
+    pub fn behind(self, last: Option<Kind>) -> (OpenBraces, Result<(), AllocError>)
+        ensures ok { OnOk result.1 (result.0 ≡ open_behind last self) }
+        ensures err { OnErr result.1 (result.0 ≡ self) }
     {
-        match last {
-            Some(kind) => self.pass(kind),
+        let mut braces = self;
+        let passed = match last {
+            Some(kind) => braces.pass(kind),
             None => Ok(()),
-        }
+        };
+        (braces, passed)
     }
 }

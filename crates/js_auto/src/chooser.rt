@@ -7,7 +7,9 @@ ghost use Rattle.js_kind.specs.Kinds.{is_one_of};
 ghost use Rattle.js_kind.specs.TokenParts.{TokenParts};
 ghost use Rattle.js_grammar.specs.ReLexed.{again_kinds};
 ghost use Rattle.js_auto.specs.Choice.{begins_expression, choice, chooser_of, ends_only_jsx, ends_operand};
-ghost use Rattle.js_auto.specs.Choice.{choice_behind, ends_substitution};
+ghost use Rattle.js_auto.specs.Braces.{is_in_substitution, open_behind};
+ghost use Rattle.js_auto.specs.Choice.{choice_behind};
+ghost use Rattle.js_auto.specs.declared.brace.Brace.{Brace};
 
 use crate::brace::OpenBraces;
 use crate::notable::is_notable;
@@ -26,27 +28,31 @@ use std::marker::Model;
 /// was opened last.
 #[derive(Drop)]
 pub struct GoalChooser {
-    /// The braces that are open before the last token. Slow steps are handed these alone, so that the rest of a chooser
-    /// can stay in registers.
+    /// The braces that are open before the last token.
     braces: OpenBraces,
+    alloc: Global,
     /// The kind of the token before the last one, and `Eof`, with which no operand ends, where there is none.
     before: Kind,
-    last: Option<Kind>,
+    /// The kind of the last token, and `Eof` where there is none.
+    last: Kind,
+    has_last: bool,
     /// Whether the last token may change the braces, be read again, or be the end of the source. A step behind any
     /// other token looks at nothing else.
     is_last_notable: bool,
 }
 
 impl Model for GoalChooser {
-    ghost use Rattle.std.specs.Prelude.{◌≡◌};
-    ghost use Rattle.js_auto.specs.Choice.{Chooser};
+    ghost use Rattle.std.specs.Prelude.{◌≡◌, false};
+    ghost use Rattle.js_kind.specs.declared.kind.Kind.TheVariants.{Eof};
+    ghost use Rattle.js_auto.specs.Choice.{Chooser, kept_last};
     ghost use Rattle.js_auto.specs.Notable.{is_notable};
 
     ghost Value = { Chooser };
 
-    ghost view = { λ c. record { stack = c.braces; before = c.before; last = c.last } };
+    ghost view = { λ c. record { stack = c.braces; before = c.before; last = kept_last c.has_last c.last } };
 
-    ghost invariant = { λ c. c.is_last_notable ≡ is_notable c.last };
+    ghost invariant = { λ c. (c.is_last_notable ≡ is_notable (kept_last c.has_last c.last))
+        × (c.has_last ≡ false → c.last ≡ Eof) };
 }
 
 /// Whether an operand may end with the token, though not where JSX is told from operators.
@@ -71,21 +77,17 @@ fn begins_expression(before: Kind, kind: Kind) -> bool
     Goal::RegularExpression.reads_again(kind) && !ends_operand(before)
 }
 
-/// Whether a token, where these braces are open before it, ends the substitution of a template.
-fn ends_substitution(braces: &OpenBraces, kind: Kind) -> bool
-    ensures { result ≡ ends_substitution braces.now kind }
-{
-    Goal::TemplateTail.reads_again(kind) && braces.is_in_substitution()
-}
 
-/// The command behind a last token of the kind, where these braces are open before it and the one before is of that kind.
+/// The command behind a last token of the kind, where the one before is of that kind; whether it stands in the substitution
+/// of a template.
 #[inline(never)]
-fn command_behind(braces: &OpenBraces, before: Kind, last: Kind) -> Option<Command>
-    ensures { result ≡ choice_behind braces.now before (Some last) }
+fn command_behind(in_template: bool, before: Kind, last: Kind) -> Option<Command>
+    ensures { (stack : List Brace) → in_template ≡ is_in_substitution stack
+        → result ≡ choice_behind stack before (Some last) }
 {
     if last.is_eof() {
         None
-    } else if ends_substitution(braces, last) {
+    } else if Goal::TemplateTail.reads_again(last) && in_template {
         Some(Command::TemplateTail)
     } else if begins_expression(before, last) {
         Some(Command::Regex)
@@ -101,10 +103,33 @@ impl GoalChooser {
     {
         GoalChooser {
             braces: OpenBraces::new(alloc),
+            alloc,
             before: Kind::Eof,
-            last: None,
+            last: Kind::Eof,
+            has_last: false,
             is_last_notable: false,
         }
+    }
+
+    /// The kind of the last token, if there is one.
+    #[inline(always)]
+    fn last(&self) -> Option<Kind>
+        ensures { result ≡ self.now.last }
+    {
+        if self.has_last { Some(self.last) } else { None }
+    }
+
+    /// Takes up what the last token does to the braces, if there is one. They are handed over and taken back, so that
+    /// what else is kept can stay in registers.
+    #[inline(always)]
+    fn pass_last(&mut self) -> Result<(), AllocError>
+        ensures ok { OnOk result (self.new ≡ record self.old { stack = open_behind self.old.last self.old.stack }) }
+        ensures err { OnErr result (self.new ≡ self.old) }
+    {
+        let before = std::mem::replace(&mut self.braces, OpenBraces::new(self.alloc));
+        let (braces, passed) = before.behind(self.last());
+        self.braces = braces;
+        passed
     }
 
     /// Takes notice of a token that was read behind the last one. Where there is no memory for an open brace, the
@@ -116,11 +141,12 @@ impl GoalChooser {
         ensures err { OnErr result (self.new ≡ self.old) }
     {
         if self.is_last_notable {
-            self.braces.pass_last(self.last)?;
+            self.pass_last()?;
         }
         let kind = token.kind();
-        self.before = self.last.unwrap_or(Kind::Eof);
-        self.last = Some(kind);
+        self.before = self.last;
+        self.last = kind;
+        self.has_last = true;
         self.is_last_notable = is_notable(kind);
         Ok(())
     }
@@ -130,9 +156,9 @@ impl GoalChooser {
         ensures { (tokens : List TokenParts) → self.old ≡ chooser_of tokens
             → self.new ≡ chooser_of (with_last tokens token.now) }
     {
-        if self.last.is_some() {
+        if self.has_last {
             let kind = token.kind();
-            self.last = Some(kind);
+            self.last = kind;
             self.is_last_notable = is_notable(kind);
         }
     }
@@ -150,9 +176,9 @@ impl GoalChooser {
         if !self.is_last_notable {
             return Some(Command::Next);
         }
-        let Some(last) = self.last else {
+        let Some(last) = self.last() else {
             return Some(Command::Next);
         };
-        command_behind(&self.braces, self.before, last)
+        command_behind(self.braces.is_in_substitution(), self.before, last)
     }
 }

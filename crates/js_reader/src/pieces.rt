@@ -187,6 +187,7 @@ impl Reader<'_> {
     }
 
     /// Reads a comment that begins with `/*`, where one stands here and ends.
+    #[inline(always)]
     fn skip_block_comment(&mut self, found: &mut FindingsBuilder) -> Result<bool, AllocError>
         requires placed { IsPlaced self.old.source }
         requires next { BeginsWith slash (rest self.old.source) }

@@ -336,6 +336,7 @@ fn class_by_words(content: &str, text: &[u8]) -> CommentContent
 }
 
 /// What a comment tells tools, by its text without the marks of the comment.
+#[inline(always)]
 pub fn classify(content: &str, is_block: bool) -> CommentContent
     ensures { result ≡ class_of is_block content.now }
 {
