@@ -77,9 +77,8 @@ fn begins_expression(before: Kind, kind: Kind) -> bool
     Goal::RegularExpression.reads_again(kind) && !ends_operand(before)
 }
 
-
-/// The command behind a last token of the kind, where the one before is of that kind; whether it stands in the substitution
-/// of a template.
+/// The command behind a last token of the kind, where the one before is of that kind; it is told whether the last one
+/// stands in the substitution of a template.
 #[inline(never)]
 fn command_behind(in_template: bool, before: Kind, last: Kind) -> Option<Command>
     ensures { (stack : List Brace) → in_template ≡ is_in_substitution stack

@@ -1,6 +1,6 @@
 //! Sources and places in them, and the search for bytes.
 
-use js_source::{FourBytes, SafeByteMatchTable, Source};
+use js_source::{BytePair, FourBytes, SafeByteMatchTable, Source};
 
 const TEXT: &str = "aé\"";
 
@@ -25,6 +25,42 @@ static PLACES: [(u8, u8, u32); 4] = [
 ];
 
 const LONG: &str = "aaaaaaaaaaaaaaaaaaaaaaaaaaaaaaaé\"";
+
+/// Where the first `*/` of a text ends, and whether none of LF, CR and the byte 0xE2 stands before it.
+static PAIRS: [(&str, Option<(u32, bool)>); 7] = [
+    ("*/", Some((2, true))),
+    ("*a/ é*/\n", Some((8, true))),
+    ("a\n*/", Some((4, false))),
+    ("*\u{2028}*/", Some((6, false))),
+    (
+        "0123456789012345678901234567890*/ where a block ends",
+        Some((33, true)),
+    ),
+    (
+        "0123456789*/\n behind it a line ends, in the same block",
+        Some((12, true)),
+    ),
+    ("* /", None),
+];
+
+fn pair_found(text: &str) -> Option<(u32, bool)> {
+    if text.len() > u32::MAX as usize {
+        return None;
+    }
+    let mut source = Source::new(text);
+    let pair = BytePair {
+        first: b'*',
+        second: b'/',
+    };
+    let four = FourBytes {
+        first: b'\n',
+        second: b'\r',
+        third: 0xE2,
+        fourth: 0xE2,
+    };
+    let is_clean = source.advance_behind_pair(pair, four)?;
+    Some((source.offset(), is_clean))
+}
 
 fn entries(first: u8, last: u8) -> [bool; 256] {
     let mut entries = [false; 256];
@@ -92,4 +128,20 @@ fn finds_one_of_four(rt: HostRuntime) {
     let mut source = Source::new(LONG);
     assert_eq!(rt; source.advance_to_one_of(four), Some(0xC3));
     assert_eq!(rt; source.offset(), 31);
+}
+
+#[test]
+fn finds_a_pair(rt: HostRuntime) {
+    for (text, found) in PAIRS {
+        assert_eq!(rt; pair_found(text), found, "in {text}");
+    }
+}
+
+#[test]
+fn passes_a_known_character(rt: HostRuntime) {
+    let mut source = Source::new("é\"");
+    if let Some(c) = source.peek_char() {
+        source.pass_char(c);
+    }
+    assert_eq!(rt; source.offset(), 2);
 }

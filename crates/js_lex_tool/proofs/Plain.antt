@@ -7,7 +7,8 @@ use Rattle.std.specs.Char.Escape.{encode_utf16}
 use Rattle.std.specs.List.{flat_map}
 use Rattle.std.specs.Str.{IsUtf8, chars, encode_utf8_all}
 use Rattle.js_source.specs.Runs.{IsRun, TellsClass}
-use Rattle.js_lex_tool.specs.Units.{is_printed_as_itself, four_digits, unit_text, all_units_text, units_text, text_in_units}
+use Rattle.js_lex_tool.specs.Units.{is_printed_as_itself, four_digits, unit_text, all_units_text, units_text}
+use Rattle.js_lex_tool.specs.Units.{text_in_units}
 
 -- a character has one unit, where that is below 2 ^ 16
 one_unit : (c : ℕ) → c < 0x10000 → encode_utf16 c ≡ c ∷ []

@@ -2,13 +2,13 @@
 use Rattle.std.specs.Int.{bit_at}
 use Rattle.std.specs.Char.{encode_utf8, len_utf8}
 use Rattle.std.specs.List.{list_any}
-use Rattle.std.proofs.Common.{◌≡◌, ℕ, zero, suc, ◌+◌, ◌-◌, ◌<◌, ◌≤◌, Bool, true, false, ◌&&◌, ◌||◌, ◌==◌, ltb, List, [], ◌∷◌}
-use Rattle.std.proofs.Common.{length, drop, get_or, refl, sym, ◌∙◌, ap, subst, arith, MatchBool, if◌then◌else◌}
+use Rattle.std.proofs.Common.{◌≡◌, ℕ, zero, suc, ◌+◌, ◌-◌, ◌<◌, ◌≤◌, Bool, true, false, ◌&&◌, ◌==◌, ltb, List}
+use Rattle.std.proofs.Common.{[], ◌∷◌, length, drop, get_or, refl, sym, ◌∙◌, ap, subst, arith, MatchBool}
 use Rattle.std.proofs.lemmas.Bool.{and_parts, eq-eqb, eqb-true, ltb-true, ltb-false}
 use Rattle.std.proofs.lemmas.Str.{length-encode}
 use Rattle.js_text.specs.Characters.{begins, from_place}
 use Rattle.js_source.specs.Pairs.{begins_pair, from_pair, before_pair, IsPairAt, PassesPairs, HasNoPair}
-use Rattle.js_source.specs.Search.{is_one_of, four_bytes, matches_at, matches_char, PassesOthers}
+use Rattle.js_source.specs.Search.{is_one_of, four_bytes, matches_at, matches_char}
 use Rattle.js_source.specs.Source.{At, rest, IsPlaced, HasFirstByte}
 use Rattle.js_source.specs.declared.four.FourBytes.{FourBytes}
 use Rattle.js_source.specs.declared.pair.BytePair.{BytePair}

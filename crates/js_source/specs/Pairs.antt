@@ -1,6 +1,6 @@
 -- Two bytes side by side, and what a search for them passes over.
-use Rattle.std.specs.Prelude.{◌≡◌, ℕ, ◌+◌, ◌<◌, ◌≤◌, Bool, true, false, List, [], ◌∷◌, ◌&&◌, ◌==◌, drop, length, slice_index}
-use Rattle.std.specs.Prelude.{if◌then◌else◌}
+use Rattle.std.specs.Prelude.{◌≡◌, ℕ, ◌+◌, ◌<◌, ◌≤◌, Bool, true, false, List, [], ◌∷◌, ◌&&◌, ◌==◌, drop, length}
+use Rattle.std.specs.Prelude.{if◌then◌else◌, slice_index}
 use Rattle.js_text.specs.Characters.{begins}
 use Rattle.js_source.specs.declared.four.FourBytes.{FourBytes}
 use Rattle.js_source.specs.declared.pair.BytePair.{BytePair}

@@ -38,7 +38,8 @@ impl FourBytes {
         top_bits(either(before, behind))
     }
 
-    /// Goes from a place past bytes that are none of them: up to the first that is, or to where less than a block is left.
+    /// Goes from a place past bytes that are none of them: up to the first that is, or to where less than a block is
+    /// left.
     #[inline(always)]
     fn pass_others(self, bytes: &[u8], from: usize) -> usize
         requires { from ≤ length bytes.now }

@@ -86,7 +86,8 @@ impl BytePair {
         Passed { at, is_clean }
     }
 
-    /// The place of the first pair from a place on, if there is one, and whether none of the four bytes stands before it.
+    /// The place of the first pair from a place on, if there is one, and whether none of the four bytes stands before
+    /// it.
     #[inline(always)]
     pub(crate) fn find(self, bytes: &[u8], from: usize, four: FourBytes) -> Option<(usize, bool)>
         requires { from ≤ length bytes.now }

@@ -1,4 +1,4 @@
-use Rattle.std.proofs.Common.{◌≡◌, Bool, true, false, List, [], ℕ, ◌↔◌, IsTrue, sym, ◌∙◌, ap}
+use Rattle.std.proofs.Common.{◌≡◌, true, false, sym, ◌∙◌, ap}
 use Rattle.std.specs.Str.{chars}
 use Rattle.js_text.specs.Characters.{from_first, is_line_terminator}
 use Rattle.js_source.specs.Source.{rest}

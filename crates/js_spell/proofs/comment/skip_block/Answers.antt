@@ -1,6 +1,4 @@
-use Rattle.std.proofs.Common.{◌≡◌, ◌<◌, ◌^◌, ◌∷◌, not, length, sym, ◌∙◌, ap, subst}
-use Rattle.std.specs.List.{list_any}
-use Rattle.js_text.specs.Characters.{is_line_terminator}
+use Rattle.std.proofs.Common.{◌≡◌, ◌^◌, ◌∷◌, not, sym, ◌∙◌, ap, subst}
 use Rattle.js_source.specs.Pairs.{before_pair, from_pair}
 use Rattle.js_source.specs.Source.{rest, SpellsBetween}
 use Rattle.js_spell.specs.Comments.{block_end}
@@ -16,20 +14,22 @@ returns-then-not-is_clean-clause-cut c =
     let old = c.args.source.now in
     let new = c.advance_behind_pair.new.self in
     let text = c.str_from_pos_to_current.result.now in
-    let found : from_pair block_end (rest old) ≡ 42 ∷ 47 ∷ rest new = rw c.block_end.ensures at c.in-Some.ensures.some in
+    let found : from_pair block_end (rest old) ≡ 42 ∷ 47 ∷ rest new =
+    rw c.block_end.ensures at c.in-Some.ensures.some in
     let spells : SpellsBetween old.text old.place new.place text =
     subst (λ p. SpellsBetween old.text p new.place text) c.position-start.ensures.place
     (subst (λ t. SpellsBetween t c.position-start.result new.place text) c.advance_behind_pair.ensures.text
     c.str_from_pos_to_current.ensures.characters) in
     block_found old new c.has_line_end.result found
-    (sym (comment_characters old new text c.position-start.ensures.placed c.advance_behind_pair.ensures.text found spells)
-    ∙ sym c.has_line_end.ensures)
+    (sym (comment_characters old new text c.position-start.ensures.placed c.advance_behind_pair.ensures.text found
+    spells) ∙ sym c.has_line_end.ensures)
 
 pub returns-else-not-is_clean-clause-cut : goal.returns-else-not-is_clean-clause-cut
 returns-else-not-is_clean-clause-cut c =
     let old = c.args.source.now in
     let new = c.advance_behind_pair.new.self in
-    let found : from_pair block_end (rest old) ≡ 42 ∷ 47 ∷ rest new = rw c.block_end.ensures at c.in-Some.ensures.some in
+    let found : from_pair block_end (rest old) ≡ 42 ∷ 47 ∷ rest new =
+    rw c.block_end.ensures at c.in-Some.ensures.some in
     let clean = rw (c.block_end.ensures, c.line_bytes.ensures) at c.in-Some.ensures.clean in
     block_found old new (not c.in-Some.is_clean) found
     (no_line_end (before_pair block_end (rest old)) (clean c.if-not-is_clean.false)
