@@ -5,6 +5,8 @@
 #[cfg(test)]
 mod kinds;
 #[cfg(test)]
+mod offset_maps;
+#[cfg(test)]
 mod places;
 #[cfg(test)]
 mod sources;

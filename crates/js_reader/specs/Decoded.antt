@@ -1,7 +1,6 @@
 -- The decoded values that a lexer keeps, and the texts of tokens.
-use Rattle.std.specs.Prelude.{◌≡◌, ℕ, ◌≤◌, Bool, true, false, List, [], nat_eq, Option, Some, None, slice_range}
+use Rattle.std.specs.Prelude.{◌≡◌, ℕ, ◌≤◌, Bool, true, false, List, [], Option, Some, None, slice_range}
 use Rattle.std.specs.Prelude.{if◌then◌else◌}
-use Rattle.std.specs.Map.{lookup}
 use Rattle.std.specs.Str.{IsCharBoundary, chars}
 use Rattle.js_text.specs.Characters.{from_place}
 use Rattle.js_text.specs.JsStr.{units_of}
@@ -15,12 +14,9 @@ use Rattle.js_kind.specs.Kinds.{is_template_kind}
 use Rattle.js_kind.specs.TokenParts.{TokenParts}
 use Rattle.js_kind.specs.declared.kind.Kind.{Kind}
 use Rattle.js_source.specs.Source.{At, rest}
+pub use Rattle.js_source.specs.Offsets.{Placed, value_of, Holds}
 use Rattle.js_spell.specs.declared.spelt.SpeltValue.{SpeltValue}
 use Rattle.js_spell.specs.declared.spelt.SpeltValue.TheVariants.{Unescaped, Bad, Decoded}
-
--- values, with the places where their tokens start
-abbrev pub Placed : Type 0 → Type 0
-Placed A = List (ℕ × A)
 
 -- Decoded values: of names and strings, in UTF-16 units, and of parts of templates, where a bad escape leaves no units.
 pub record Values : Type 0 where
@@ -29,14 +25,6 @@ pub record Values : Type 0 where
 
 abbrev pub no_values : Values
 no_values = record { strings = []; templates = [] }
-
--- the value of the token that starts there, if there is one
-abbrev pub value_of : {A : Type 0} → Placed A → ℕ → Option A
-value_of values start = lookup (nat_eq start) values
-
--- the value is kept of the token that starts there, and all others as before
-abbrev pub Holds : {A : Type 0} → ℕ → A → Placed A → Placed A → Type 0
-Holds start value old new = (at : ℕ) → value_of new at ≡ (if nat_eq at start then Some value else value_of old at)
 
 -- the value of a name or a string is kept
 pub record HoldsString (start : ℕ) (units : List ℕ) (old new : Values) : Type 0 where

@@ -3,18 +3,18 @@
 ghost use Rattle.std.specs.Prelude.{◌≡◌, Some, None, IfNone, IfSome, OnOk, OnErr};
 ghost use Rattle.js_reader.specs.Decoded.{no_values, value_of, HoldsString, HoldsTemplate};
 
+use js_source::OffsetMap;
 use js_text::JSStr;
 use std::alloc::{AllocError, Global};
-use std::collections::HashMap;
 use std::marker::Model;
 
 /// The values of tokens whose spellings have escapes, by the offsets where the tokens start.
 #[derive(Drop)]
 pub struct DecodedValues {
     /// Of names and strings.
-    strings: HashMap<u32, JSStr>,
+    strings: OffsetMap<JSStr>,
     /// Of parts of templates, without a value where an escape stands for nothing.
-    templates: HashMap<u32, Option<JSStr>>,
+    templates: OffsetMap<Option<JSStr>>,
 }
 
 impl Model for DecodedValues {
@@ -22,7 +22,7 @@ impl Model for DecodedValues {
 
     ghost Value = { Values };
 
-    ghost view = { λ d. record { strings = d.strings.entries; templates = d.templates.entries } };
+    ghost view = { λ d. record { strings = d.strings; templates = d.templates } };
 }
 
 impl DecodedValues {
@@ -31,8 +31,8 @@ impl DecodedValues {
         ensures { result ≡ no_values }
     {
         DecodedValues {
-            strings: HashMap::new(alloc),
-            templates: HashMap::new(alloc),
+            strings: OffsetMap::new_in(alloc),
+            templates: OffsetMap::new_in(alloc),
         }
     }
 
@@ -42,7 +42,7 @@ impl DecodedValues {
         ensures none { IfNone result (value_of self.now.strings start ≡ None) }
         ensures some { IfSome result (λ value. value_of self.now.strings start ≡ Some value.now) }
     {
-        self.strings.get(&start)
+        self.strings.get(start)
     }
 
     /// The value of the part of a template that starts at the offset.
@@ -51,7 +51,7 @@ impl DecodedValues {
         ensures none { IfNone result (value_of self.now.templates start ≡ None) }
         ensures some { IfSome result (λ value. value_of self.now.templates start ≡ Some value.now) }
     {
-        self.templates.get(&start)
+        self.templates.get(start)
     }
 
     /// Keeps the value of the name or the string that starts at the offset.
@@ -60,8 +60,7 @@ impl DecodedValues {
         ensures ok { OnOk result (HoldsString start value self.old self.new) }
         ensures err { OnErr result (self.new ≡ self.old) }
     {
-        self.strings.insert(start, value)?;
-        Ok(())
+        self.strings.insert(start, value)
     }
 
     /// Keeps the value of the part of a template that starts at the offset.
@@ -70,7 +69,6 @@ impl DecodedValues {
         ensures ok { OnOk result (HoldsTemplate start value self.old self.new) }
         ensures err { OnErr result (self.new ≡ self.old) }
     {
-        self.templates.insert(start, value)?;
-        Ok(())
+        self.templates.insert(start, value)
     }
 }
