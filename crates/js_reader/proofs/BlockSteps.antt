@@ -24,7 +24,6 @@ use Rattle.js_spell.specs.Sequences.{TakesSequence}
 use Rattle.js_reader.specs.Reader.{SkipsSome}
 use Rattle.js_reader.specs.declared.findings_builder.FindingsBuilder.{FindingsBuilder}
 use Rattle.js_reader.specs.declared.reader.Reader.{Reader}
-use Rattle.js_spell.specs.declared.skipped.Skipped.TheVariants.{Piece as Skips}
 use Rattle.js_reader.proofs.CommentTexts.{IsMarked, found_is}
 use Rattle.js_reader.proofs.GapSteps.{IsBehindPiece, on_to, some_skipped}
 use Rattle.js_reader.proofs.TriviaSteps.{adds_items}
@@ -84,7 +83,7 @@ two_bytes = (refl, refl)
 
 module _ (old mid new : At) (inside : Bool) (h : IsPlaced old) (g : IsPlaced new)
     (takes : TakesSequence (codes "/*") old true mid) (text : new.text ≡ mid.text)
-    (cuts : ReadsCut (cut_behind (codes "*/") (rest mid)) new (Skips inside)) where
+    (cuts : ReadsCut (cut_behind (codes "*/") (rest mid)) new (Some inside)) where
   pub block_front : (front : List ℕ) × (cuts.0.front ≡ front ++ codes "*/")
   block_front = front_of (rest mid) cuts.0 cuts.1
 
@@ -117,7 +116,7 @@ mark_has_no_line_end cs = refl
 pub block_skipped : (old : Reader) (before : FindingsBuilder) (mid : At) (new : Reader) (trivia : Trivia)
     (inside : Bool)
     → IsPlaced old.source → IsPlaced new.source → TakesSequence (codes "/*") old.source true mid
-    → new.source.text ≡ mid.text → ReadsCut (cut_behind (codes "*/") (rest mid)) new.source (Skips inside)
+    → new.source.text ≡ mid.text → ReadsCut (cut_behind (codes "*/") (rest mid)) new.source (Some inside)
     → new.source_type ≡ old.source_type
     → new.line_has_ended ≡ (old.line_has_ended || inside)
     → trivia

@@ -16,7 +16,7 @@ ghost use Rattle.js_reader.specs.Reader.{SkipsPiece, SkipsSome, SkipsOpenedLine,
 
 use crate::findings_builder::FindingsBuilder;
 use crate::reader::Reader;
-use js_spell::{Skipped, advance_if_sequence, skip_block, skip_line};
+use js_spell::{advance_if_sequence, skip_block, skip_line};
 use js_text::{
     CommentKind, Diagnostic, DiagnosticList, SourceType, Span, either, is_irregular_whitespace,
 };
@@ -202,7 +202,7 @@ impl Reader<'_> {
             return Ok(false);
         }
         match skip_block(&mut self.source) {
-            Skipped::Piece { line_has_ended } => {
+            Some(line_has_ended) => {
                 let end = self.source.offset();
                 let kind = block_kind(line_has_ended);
                 found
@@ -211,7 +211,7 @@ impl Reader<'_> {
                 self.line_has_ended = either(self.line_has_ended, line_has_ended);
                 Ok(true)
             }
-            Skipped::Nothing => {
+            None => {
                 self.source.set_position(position);
                 Ok(false)
             }

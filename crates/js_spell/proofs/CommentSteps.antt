@@ -19,7 +19,6 @@ use Rattle.js_source.proofs.Skips.{from_first-from_first, line_terminator_matche
 use Rattle.js_grammar.specs.Gap.{is_prefix, cut-cons, cut_behind}
 use Rattle.js_source.specs.Search.{four_bytes, is_safe}
 use Rattle.js_spell.specs.Comments.{block_end, line_bytes, ReadsCut}
-use Rattle.js_spell.specs.declared.skipped.Skipped.TheVariants.{Piece}
 use Rattle.js_spell.proofs.SequenceSteps.{behind}
 
 -- a search with the table stops at every line terminator
@@ -134,7 +133,7 @@ ends_in_front (c ∷ cs) = ap (λ b. is_line_terminator c || b) (ends_in_front c
 pub block_found : (old new : At) (line_has_ended : Bool)
     → from_pair block_end (rest old) ≡ 42 ∷ 47 ∷ rest new
     → list_any is_line_terminator (before_pair block_end (rest old)) ≡ line_has_ended
-    → ReadsCut (cut_behind (codes "*/") (rest old)) new (Piece line_has_ended)
+    → ReadsCut (cut_behind (codes "*/") (rest old)) new (Some line_has_ended)
 block_found old new line_has_ended e ends = (
   record { front = before_pair block_end (rest old) ++ codes "*/"; rest = rest new },
   cut_at_pair (rest old) (rest new) e,

@@ -9,7 +9,6 @@ ghost use Rattle.js_source.specs.Source.{rest, BeginsWith};
 ghost use Rattle.js_source.specs.Search.{four_bytes, is_safe, matches_char};
 ghost use Rattle.js_spell.specs.Comments.{block_end, line_bytes, ReadsCut};
 
-use crate::skipped::Skipped;
 use js_source::{BytePair, FourBytes, Source};
 use js_text::is_line_terminator;
 
@@ -80,15 +79,11 @@ fn has_line_end(text: &str) -> bool
 }
 
 /// Goes behind the next `*/`, if there is one, and tells whether a line has ended before.
-pub fn skip_block(source: &mut Source<'_>) -> Skipped
+pub fn skip_block(source: &mut Source<'_>) -> Option<bool>
     ensures text { source.new.text ≡ source.old.text }
     ensures cut { ReadsCut (cut_behind (codes "*/") (rest source.old)) source.new result }
 {
     let start = source.position();
-    match source.advance_behind_pair(block_end(), line_bytes()) {
-        Some(is_clean) => Skipped::Piece {
-            line_has_ended: !is_clean && has_line_end(source.str_from_pos_to_current(start)),
-        },
-        None => Skipped::Nothing,
-    }
+    let is_clean = source.advance_behind_pair(block_end(), line_bytes())?;
+    Some(!is_clean && has_line_end(source.str_from_pos_to_current(start)))
 }

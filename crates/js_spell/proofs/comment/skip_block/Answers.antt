@@ -15,7 +15,7 @@ returns-then-not-is_clean-clause-cut c =
     let new = c.advance_behind_pair.new.self in
     let text = c.str_from_pos_to_current.result.now in
     let found : from_pair block_end (rest old) ≡ 42 ∷ 47 ∷ rest new =
-    rw c.block_end.ensures at c.in-Some.ensures.some in
+    rw c.block_end.ensures at c.in_ok-is_clean.ensures.some in
     let spells : SpellsBetween old.text old.place new.place text =
     subst (λ p. SpellsBetween old.text p new.place text) c.position-start.ensures.place
     (subst (λ t. SpellsBetween t c.position-start.result new.place text) c.advance_behind_pair.ensures.text
@@ -29,12 +29,13 @@ returns-else-not-is_clean-clause-cut c =
     let old = c.args.source.now in
     let new = c.advance_behind_pair.new.self in
     let found : from_pair block_end (rest old) ≡ 42 ∷ 47 ∷ rest new =
-    rw c.block_end.ensures at c.in-Some.ensures.some in
-    let clean = rw (c.block_end.ensures, c.line_bytes.ensures) at c.in-Some.ensures.clean in
-    block_found old new (not c.in-Some.is_clean) found
+    rw c.block_end.ensures at c.in_ok-is_clean.ensures.some in
+    let clean = rw (c.block_end.ensures, c.line_bytes.ensures) at c.in_ok-is_clean.ensures.clean in
+    block_found old new (not c.in_ok-is_clean.is_clean) found
     (no_line_end (before_pair block_end (rest old)) (clean c.if-not-is_clean.false)
     ∙ sym (ap not c.if-not-is_clean.false))
 
-pub returns-in-None-clause-cut : goal.returns-in-None-clause-cut
-returns-in-None-clause-cut c =
-    no_cut (rest c.args.source.now) (rw c.block_end.ensures at c.in-None.ensures.none)
+pub returns-in_err-is_clean-clause-cut : goal.returns-in_err-is_clean-clause-cut
+returns-in_err-is_clean-clause-cut c =
+    rw c.from_residual.ensures
+    (no_cut (rest c.args.source.now) (rw c.block_end.ensures at c.in_err-is_clean.ensures.none))

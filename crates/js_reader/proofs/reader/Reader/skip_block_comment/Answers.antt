@@ -23,29 +23,29 @@ add_block_comment-requires-clause-placed c =
     rw (same, c.offset-start.ensures.place, c.offset-end.ensures.place, c.block_kind-kind.ensures)
     (placed_in _ _ _ _ _ _ _
     (block_marked c.args.self.now.source c.advance_if_sequence.new.source c.skip_block.new.source
-    c.in-Piece.line_has_ended c.requires.placed c.offset-end.ensures.placed takes c.skip_block.ensures.text
-    c.in-Piece.ensures.cut))
+    c.in-Some.line_has_ended c.requires.placed c.offset-end.ensures.placed takes c.skip_block.ensures.text
+    c.in-Some.ensures.cut))
 
-pub returns-in_err-add_block_comment-in-Piece-clause-grown : goal.returns-in_err-add_block_comment-in-Piece-clause-grown
-returns-in_err-add_block_comment-in-Piece-clause-grown c =
-    grows_by c.args.found.now _ [] c.in_err-add_block_comment-in-Piece.ensures.err
+pub returns-in_err-add_block_comment-in-Some-clause-grown : goal.returns-in_err-add_block_comment-in-Some-clause-grown
+returns-in_err-add_block_comment-in-Some-clause-grown c =
+    grows_by c.args.found.now _ [] c.in_err-add_block_comment-in-Some.ensures.err
 
-pub returns-in_ok-add_block_comment-in-Piece-clause-ok : goal.returns-in_ok-add_block_comment-in-Piece-clause-ok
-returns-in_ok-add_block_comment-in-Piece-clause-ok c =
+pub returns-in_ok-add_block_comment-in-Some-clause-ok : goal.returns-in_ok-add_block_comment-in-Some-clause-ok
+returns-in_ok-add_block_comment-in-Some-clause-ok c =
     let takes = c.if-not-advance_if_sequence.ensures in
     let same = c.whole.ensures.text ∙ c.skip_block.ensures.text ∙ takes.0 in
-    block_skipped c.args.self.now c.args.found.now c.advance_if_sequence.new.source _ _ c.in-Piece.line_has_ended
-    c.requires.placed c.offset-end.ensures.placed takes c.skip_block.ensures.text c.in-Piece.ensures.cut refl
+    block_skipped c.args.self.now c.args.found.now c.advance_if_sequence.new.source _ _ c.in-Some.line_has_ended
+    c.requires.placed c.offset-end.ensures.placed takes c.skip_block.ensures.text c.in-Some.ensures.cut refl
     c.either-self.ensures
     (rw (same, c.offset-start.ensures.place, c.offset-end.ensures.place, c.block_kind-kind.ensures)
-    at c.in_ok-add_block_comment-in-Piece.ensures.ok)
+    at c.in_ok-add_block_comment-in-Some.ensures.ok)
 
-pub returns-in_ok-add_block_comment-in-Piece-clause-grown : goal.returns-in_ok-add_block_comment-in-Piece-clause-grown
-returns-in_ok-add_block_comment-in-Piece-clause-grown c =
-    grows_by c.args.found.now _ (comment _ ∷ []) c.in_ok-add_block_comment-in-Piece.ensures.ok
+pub returns-in_ok-add_block_comment-in-Some-clause-grown : goal.returns-in_ok-add_block_comment-in-Some-clause-grown
+returns-in_ok-add_block_comment-in-Some-clause-grown c =
+    grows_by c.args.found.now _ (comment _ ∷ []) c.in_ok-add_block_comment-in-Some.ensures.ok
 
-pub returns-in-Nothing-clause-ok : goal.returns-in-Nothing-clause-ok
-returns-in-Nothing-clause-ok c =
+pub returns-in-None-clause-ok : goal.returns-in-None-clause-ok
+returns-in-None-clause-ok c =
     let takes = c.if-not-advance_if_sequence.ensures in (
       record {
         source =
@@ -54,8 +54,8 @@ returns-in-Nothing-clause-ok c =
         stays = record { source_type = refl; line_has_ended = refl };
       },
       refl,
-      no_block_end c.args.self.now c.advance_if_sequence.new.source takes c.in-Nothing.ensures.cut,
+      no_block_end c.args.self.now c.advance_if_sequence.new.source takes c.in-None.ensures.cut,
     )
 
-pub returns-in-Nothing-clause-grown : goal.returns-in-Nothing-clause-grown
-returns-in-Nothing-clause-grown c = grows_none c.args.found.now
+pub returns-in-None-clause-grown : goal.returns-in-None-clause-grown
+returns-in-None-clause-grown c = grows_none c.args.found.now
