@@ -9,14 +9,14 @@ use Rattle.js_text.specs.Lists.{with_last}
 use Rattle.js_grammar.specs.declared.goal.Goal.{Goal}
 use Rattle.js_grammar.specs.Goals.{GoalReads}
 use Rattle.js_grammar.specs.Outcome.{Outcome}
-use Rattle.js_grammar.specs.declared.goal.Goal.TheVariants.{Next as NextGoal}
+use Rattle.js_grammar.specs.declared.goal.Goal.TheVariants.{First, Next as NextGoal}
 use Rattle.js_lexer.specs.Lexer.{LexerState, IsRestored, CanRewind, GoesOnFrom, IsOnPlaces, after_outcome}
-use Rattle.js_lexer.specs.Lexer.{checkpoint_of, token_or_default, put_back, after_re_lex}
+use Rattle.js_lexer.specs.Lexer.{checkpoint_of, fresh, token_or_default, put_back, after_re_lex}
 use Rattle.js_session.specs.declared.command.Command.{Command}
 use Rattle.js_session.specs.declared.command.Command.TheVariants.{Peek, Mark, Rewind, Commit}
 use Rattle.js_session.specs.declared.mark.SessionMark.{SessionMark}
 use Rattle.js_session.specs.declared.row.Row.{Row}
-use Rattle.js_session.specs.Live.{Live, with_outcome, with_re_lexed, outcome_of, last_live, after_mark}
+use Rattle.js_session.specs.Live.{Live, nothing_live, with_outcome, with_re_lexed, outcome_of, last_live, after_mark}
 use Rattle.js_session.specs.Effects.{effect_of}
 use Rattle.js_session.specs.Effects.Effect.{reads, re_lexes}
 use Rattle.js_session.proofs.AgainLemmas.{fits_some, re_lexed_collected, from_any_place}
@@ -26,7 +26,7 @@ use Rattle.js_grammar.specs.ReLexed.{fits}
 use Rattle.js_session.specs.Report.{LiesOnPlaces, IsRow, IsOfEffect}
 use Rattle.js_session.specs.RowReader.{RowReaderState, AddsLive, AddsPeek, IsUndone, IsMarkOf, GoesToMark}
 use Rattle.js_session.specs.RowReader.{ReadsRowAgain, AddsAgain, AddsNotTaken, not_taken}
-use Rattle.js_session.specs.Session.{SessionState, AddsRow, LieOnPlaces, after_command}
+use Rattle.js_session.specs.Session.{SessionState, AddsRow, Begins, LieOnPlaces, after_command}
 use Rattle.js_session.proofs.LexerLemmas.{goes_on-restored, goes_on-alike, goes_on-trans, alike-restored, alike-sym}
 use Rattle.js_session.proofs.LexerLemmas.{can_rewind-on, restored-refl}
 use Rattle.js_session.proofs.LiveLemmas.{same_live, replaced, read_behind, read_again_behind, all-push, IsReplaced}
@@ -101,6 +101,37 @@ order_added goal command old new marks h a =
     (all-push (LiesOnPlaces text) old.rows a.row h.rows_lie a.reads.places))
     (subst (AllByRecursion (IsOnPlaces text)) (sym a.tokens)
     (all-push (IsOnPlaces text) old.tokens a.row.token h.tokens_lie a.reads.places.token))
+
+-- A first row was read by a lexer that had read nothing, and added.
+pub first_added : (text : List ℕ) (t : SourceType) (collects : Bool) (old new : RowReaderState)
+    → old ≡ record { lexer = fresh text t collects; rows = []; tokens = [] } → AddsLive First None old new
+    → Begins text t collects (seen new [] 0)
+first_added text t collects old new e a =
+    on (subst (λ o. AddsLive First None o new) e a)
+  where
+    start : RowReaderState
+    start = record { lexer = fresh text t collects; rows = []; tokens = [] }
+
+    alike : IsAlike (lexer_behind text t collects nothing_live) start.lexer
+    alike = record {
+      text = refl;
+      source_type = refl;
+      collects = refl;
+      place = refl;
+      last = refl;
+      tokens = refl;
+      findings = refl;
+    }
+
+    on : AddsLive First None start new → Begins text t collects (seen new [] 0)
+    on b =
+        let after = added_restored First None start new b in
+        let live = live_added First None start new b in
+        record {
+          row = b.row;
+          is_row = read_is_row First None start.lexer new.lexer nothing_live b.row alike b.reads (λ is. is);
+          after = rw (after.text, after.source_type, after.collects, b.rows, live) refl;
+        }
 
 pub on_adds_row : (goal : Goal) (command : Command) (old new : RowReaderState) (ms : List SessionMark) (spare : ℕ)
     → effect_of command ≡ reads goal → IsInOrder old (reverse ms) → AddsLive goal (Some command) old new
