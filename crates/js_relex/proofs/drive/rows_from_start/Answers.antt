@@ -1,4 +1,5 @@
-use Rattle.std.proofs.Common.{◌-◌, [], ap, sym, subst, true, length}
+use Rattle.std.proofs.Common.{◌-◌, ◌∙◌, [], ap, sym, subst, true, length}
+use mathlib.Core.Bool.{false≢true}
 use Rattle.js_session.specs.Session.{SessionState}
 use Rattle.js_session.specs.declared.report.Report.{Report}
 use Rattle.js_relex.specs.Joined.{Joins}
@@ -35,7 +36,7 @@ returns-in_err-joined-clause-broken g c =
     let yes =
     (c.is_joined.ensures [] b.row (ap (λ (s : SessionState). s.rows) b.after)).1
     (subst (λ cs. Joins j (length j.commands - length cs) b.row) (sym c.commands-commands.ensures) joins) in
-    let no = c.if-is_joined.false in absurd (cc))
+    absurd (false≢true (sym c.if-is_joined.false ∙ yes)))
     (subst
     (λ cs. StepsBroken j cs c.in-Ok.session c.step_until_joined.new.session c.begin.new.steps
     c.step_until_joined.new.steps)
@@ -53,7 +54,7 @@ returns-clause-rows g c =
     let yes =
     (c.is_joined.ensures [] b.row (ap (λ (s : SessionState). s.rows) b.after)).1
     (subst (λ cs. Joins j (length j.commands - length cs) b.row) (sym c.commands-commands.ensures) joins) in
-    let no = c.if-is_joined.false in absurd (cc))
+    absurd (false≢true (sym c.if-is_joined.false ∙ yes)))
     (subst
     (λ cs. StepsUntil j cs c.in-Ok.session c.step_until_joined.new.session c.begin.new.steps
     c.step_until_joined.new.steps c.in_ok-joined.joined)
