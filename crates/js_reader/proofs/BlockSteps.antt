@@ -1,6 +1,6 @@
 -- The steps of comments `/* .. */`.
-use Rattle.std.proofs.Common.{◌≡◌, ℕ, Bool, true, false, ◌||◌, ◌==◌, List, [], ◌∷◌, ◌++◌, length, drop, refl, sym, ◌∙◌}
-use Rattle.std.proofs.Common.{ap, subst, append_assoc, Option, Some, None, ◌&&◌}
+use Rattle.std.proofs.Common.{◌≡◌, ℕ, ◌-◌, Bool, true, false, not, ◌||◌, ◌==◌, List, [], ◌∷◌, ◌++◌, length, drop, refl}
+use Rattle.std.proofs.Common.{sym, ◌∙◌, arith, ap, subst, append_assoc, Option, Some, None, ◌&&◌}
 use lib.Utf8
 use Rattle.std.specs.Prelude.{codes, if◌then◌else◌, IfSome}
 use Rattle.std.specs.List.{list_any}
@@ -18,13 +18,13 @@ use Rattle.js_grammar.proofs.GapLemmas.{cuts}
 use Rattle.js_grammar.proofs.PieceLemmas.{piece-block_comment, piece-slash}
 use Rattle.js_source.specs.Source.{At, rest, IsPlaced, BeginsWith}
 use Rattle.js_source.proofs.Places.{begins_with}
-use Rattle.js_trivia.specs.Trivia.{Trivia, add_comment, found_in}
-use Rattle.js_spell.specs.Comments.{ReadsCut}
+use Rattle.js_trivia.specs.Trivia.{Trivia, add_comment, found_in, is_licensed_in}
+use Rattle.js_spell.specs.Comments.{HasNoAt, ReadsCut}
 use Rattle.js_spell.specs.Sequences.{TakesSequence}
 use Rattle.js_reader.specs.Reader.{SkipsSome}
 use Rattle.js_reader.specs.declared.findings_builder.FindingsBuilder.{FindingsBuilder}
 use Rattle.js_reader.specs.declared.reader.Reader.{Reader}
-use Rattle.js_reader.proofs.CommentTexts.{IsMarked, found_is}
+use Rattle.js_reader.proofs.CommentTexts.{IsMarked, found_is, unlicensed}
 use Rattle.js_reader.proofs.GapSteps.{IsBehindPiece, on_to, some_skipped}
 use Rattle.js_reader.proofs.TriviaSteps.{adds_items}
 
@@ -77,13 +77,18 @@ front_of cs cut e = subst (EndsInMark (codes "*/")) e (ends_in_mark (codes "*/")
 parts_of : (cs : List ℕ) (cut : Cut) → cut_behind (codes "*/") cs ≡ Some cut → cs ≡ cut.front ++ cut.rest
 parts_of cs cut e = subst (λ (found : Option Cut). IfSome found (λ k. cs ≡ k.front ++ k.rest)) e (cuts (codes "*/") cs)
 
+not_not : (b : Bool) → not b ≡ false → b ≡ true
+not_not true e = refl
+not_not false e = absurd (cc)
+
 two_bytes : (length (lib.Utf8.encodes (codes "/*")) ≡ 2) × (length (lib.Utf8.encodes (codes "*/")) ≡ 2)
 unfolding lib.Utf8.encode
 two_bytes = (refl, refl)
 
-module _ (old mid new : At) (inside : Bool) (h : IsPlaced old) (g : IsPlaced new)
+module _ (old mid new : At) (inside is_plain : Bool) (h : IsPlaced old) (g : IsPlaced new)
     (takes : TakesSequence (codes "/*") old true mid) (text : new.text ≡ mid.text)
-    (cuts : ReadsCut (cut_behind (codes "*/") (rest mid)) new (Some inside)) where
+    (cuts : ReadsCut (cut_behind (codes "*/") (rest mid)) new
+    (Some (record { line_has_ended = inside; is_plain = is_plain }))) where
   pub block_front : (front : List ℕ) × (cuts.0.front ≡ front ++ codes "*/")
   block_front = front_of (rest mid) cuts.0 cuts.1
 
@@ -107,6 +112,13 @@ module _ (old mid new : At) (inside : Bool) (h : IsPlaced old) (g : IsPlaced new
         closing_characters = sym (closes_with_two inside);
       }
 
+  pub block_unlicensed : (is_plain ≡ true → HasNoAt mid.text mid.place (new.place - 2)) → not is_plain ≡ false
+      → is_licensed_in old.text (kind_by inside) (record { start = old.place; end = new.place }) ≡ false
+  block_unlicensed plain e =
+      unlicensed (kind_by inside) old mid new.place (codes "/*") h takes
+      (two_bytes.0 ∙ sym (opens_with_two inside))
+      (λ k low high. plain (not_not is_plain e) k low (omega (arith, high, closes_with_two inside)))
+
 -- no line ends in the mark of a block comment
 mark_has_no_line_end : (cs : List ℕ) → list_any is_line_terminator (codes "/*" ++ cs) ≡ list_any is_line_terminator cs
 unfolding is_line_terminator
@@ -114,9 +126,11 @@ mark_has_no_line_end cs = refl
 
 -- a block comment that ends
 pub block_skipped : (old : Reader) (before : FindingsBuilder) (mid : At) (new : Reader) (trivia : Trivia)
-    (inside : Bool)
+    (inside is_plain : Bool)
     → IsPlaced old.source → IsPlaced new.source → TakesSequence (codes "/*") old.source true mid
-    → new.source.text ≡ mid.text → ReadsCut (cut_behind (codes "*/") (rest mid)) new.source (Some inside)
+    → new.source.text ≡ mid.text
+    → ReadsCut (cut_behind (codes "*/") (rest mid)) new.source
+    (Some (record { line_has_ended = inside; is_plain = is_plain }))
     → new.source_type ≡ old.source_type
     → new.line_has_ended ≡ (old.line_has_ended || inside)
     → trivia
@@ -124,11 +138,11 @@ pub block_skipped : (old : Reader) (before : FindingsBuilder) (mid : At) (new : 
     (found_in old.source.text (kind_by inside) (record { start = old.source.place; end = new.source.place }))
     before.trivia
     → SkipsSome old before new (record before { trivia = trivia })
-block_skipped old before mid new trivia inside h g takes text cuts source_type line_has_ended told =
+block_skipped old before mid new trivia inside is_plain h g takes text cuts source_type line_has_ended told =
     let after : FindingsBuilder = record before { trivia = trivia } in
     let cut = cuts.0 in
-    let marked = block_marked old.source mid new.source inside h g takes text cuts in
-    let front = block_front old.source mid new.source inside h g takes text cuts in
+    let marked = block_marked old.source mid new.source inside is_plain h g takes text cuts in
+    let front = block_front old.source mid new.source inside is_plain h g takes text cuts in
     let x : Piece = record {
       kind = multi_line_comment;
       text = codes "/*" ++ cut.front;

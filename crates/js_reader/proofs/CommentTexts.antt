@@ -1,8 +1,8 @@
 -- Where comments lie in a text, and what stands between their marks.
-use Rattle.std.proofs.Common.{◌≡◌, ℕ, ◌+◌, ◌-◌, true, not, List, ◌++◌, length, take, drop, refl, sym}
+use Rattle.std.proofs.Common.{◌≡◌, ℕ, ◌+◌, ◌-◌, true, false, not, List, ◌++◌, length, take, drop, refl, sym}
 use Rattle.std.proofs.Common.{◌∙◌, ap, subst, arith, length-append, append_assoc}
 use lib.Utf8
-use Rattle.std.specs.Prelude.{slice_range}
+use Rattle.std.specs.Prelude.{slice_index, slice_range}
 use Rattle.std.specs.Str.{IsCharBoundary, IsUtf8, encode_utf8_all}
 use Rattle.std.proofs.lemmas.Str.{encodes-append}
 use Rattle.std.proofs.lemmas.List.{drop-drop}
@@ -17,7 +17,11 @@ use Rattle.js_grammar.specs.CommentClasses.{class_of}
 use Rattle.js_grammar.specs.Gap.{Piece}
 use Rattle.js_grammar.specs.GapItems.{found_at}
 use Rattle.js_grammar.specs.PieceItems.{content_characters, found_comment, piece_length}
-use Rattle.js_trivia.specs.Trivia.{IsPlacedIn, found_in}
+use Rattle.js_source.specs.Source.{At, IsPlaced}
+use Rattle.js_spell.specs.Comments.{HasNoAt}
+use Rattle.js_spell.specs.Sequences.{TakesSequence}
+use Rattle.js_trivia.specs.Trivia.{IsPlacedIn, found_in, is_licensed_in}
+use Rattle.js_trivia.proofs.Licences.{none_between}
 use Rattle.js_reader.specs.Gaps.{opening_sequence}
 
 -- the mark of a line comment
@@ -149,3 +153,17 @@ module _ (text : List ℕ) (kind : CommentKind) (p q : ℕ) (mark inside close :
       ∙ ap (λ xs. found_at (record { start = p; end = p + piece_length x }) kind
       (class_of (not (is_line_kind kind)) (encode_utf8_all xs)))
       (sym characters ∙ ap (content_characters kind) (sym e))
+
+-- a comment without `@` between its marks holds no licence
+pub unlicensed : (kind : CommentKind) (old mid : At) (to : ℕ) (mark : List ℕ) → IsPlaced old
+    → TakesSequence mark old true mid → length (encode_utf8_all mark) ≡ opening_length kind
+    → HasNoAt mid.text mid.place (to - closing_length kind)
+    → is_licensed_in old.text kind (record { start = old.place; end = to }) ≡ false
+unlicensed kind old mid to mark h takes size none =
+    let behind : mid.place ≡ old.place + opening_length kind =
+    place_past old.text old.place mid.place mark h.utf8 h.boundary
+    (subst (λ (t : List ℕ). IsCharBoundary t mid.place) takes.0 takes.3.boundary)
+    (takes.1 ∙ ap (λ t. mark ++ from_place t mid.place) takes.0)
+    ∙ ap (λ n. old.place + n) size in
+    none_between old.text (old.place + opening_length kind) (to - closing_length kind)
+    (λ k low high at. none k (omega (arith, low, behind)) high (ap (λ t. slice_index t k) takes.0 ∙ at))

@@ -19,13 +19,14 @@ use Rattle.js_grammar.proofs.PieceLemmas.{piece-angle, piece-minus, piece-line_c
 use Rattle.js_grammar.proofs.Tests.{prefix_of}
 use Rattle.js_source.specs.Source.{At, rest, IsPlaced, BeginsWith}
 use Rattle.js_source.proofs.Places.{begins_with}
-use Rattle.js_trivia.specs.Trivia.{Trivia, add_comment, found_in}
+use Rattle.js_trivia.specs.Trivia.{Trivia, add_comment, found_in, is_licensed_in}
+use Rattle.js_spell.specs.Comments.{HasNoAt}
 use Rattle.js_reader.specs.Gaps.{opening_sequence, piece_kind, is_html, IsAtLineEnd}
 use Rattle.js_spell.specs.Sequences.{TakesSequence}
 use Rattle.js_reader.specs.Reader.{IsBehindLine, IsOnlyPiece, SkipsSome, SkipsEndOfLine}
 use Rattle.js_reader.specs.declared.findings_builder.FindingsBuilder.{FindingsBuilder}
 use Rattle.js_reader.specs.declared.reader.Reader.{Reader}
-use Rattle.js_reader.proofs.CommentTexts.{IsMarked, line_mark, placed_in, found_is}
+use Rattle.js_reader.proofs.CommentTexts.{IsMarked, line_mark, placed_in, found_is, unlicensed}
 use Rattle.js_reader.proofs.GapSteps.{IsBehindPiece, piece_leads, piece_shorter, on_to}
 use Rattle.js_reader.proofs.TriviaSteps.{adds_piece, silently_added}
 
@@ -67,6 +68,14 @@ module _ (kind : CommentKind) (line : is_line_kind kind ≡ true) (old mid new :
 
   pub line_left : rest new ≡ from_first is_line_terminator (rest old)
   line_left = left ∙ sym (ap (from_first is_line_terminator) takes.1 ∙ (line_mark kind line).from (rest mid))
+
+  pub line_unlicensed : (is_plain : Bool) → (is_plain ≡ true → HasNoAt mid.text mid.place new.place)
+      → not is_plain ≡ false → is_licensed_in old.text kind (record { start = old.place; end = new.place }) ≡ false
+  line_unlicensed true plain e =
+      let mark = line_mark kind line in
+      unlicensed kind old mid new.place (opening_sequence kind) h takes mark.bytes
+      (λ k low high. plain refl k low (omega (arith, high, mark.unclosed)))
+  line_unlicensed false plain e = absurd (cc)
 
 -- what is told of a line comment
 pub behind_line : (kind : CommentKind) → is_line_kind kind ≡ true → (old : Reader) (before : FindingsBuilder)

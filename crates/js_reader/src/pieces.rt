@@ -104,11 +104,12 @@ impl Reader<'_> {
         if !advance_if_sequence(&mut self.source, opening_sequence(kind)) {
             return Ok(false);
         }
-        skip_line(&mut self.source);
+        let is_plain = skip_line(&mut self.source);
         let end = self.source.offset();
+        let text = self.source.whole();
         found
             .trivia
-            .add_line_comment(start, end, kind, self.source.whole())?;
+            .add_searched_comment(start, end, kind, text, !is_plain)?;
         Ok(true)
     }
 
@@ -121,12 +122,9 @@ impl Reader<'_> {
         ensures placed { IsPlaced self.new.source }
         ensures grown { Grows found.old found.new }
     {
-        match self.source.next_char() {
-            Some(_) => {
-                self.line_has_ended = true;
-                found.trivia.handle_newline();
-            }
-            None => {}
+        if let Some(_) = self.source.next_char() {
+            self.line_has_ended = true;
+            found.trivia.handle_newline();
         }
     }
 
@@ -202,13 +200,14 @@ impl Reader<'_> {
             return Ok(false);
         }
         match skip_block(&mut self.source) {
-            Some(line_has_ended) => {
+            Some(block) => {
                 let end = self.source.offset();
-                let kind = block_kind(line_has_ended);
+                let kind = block_kind(block.line_has_ended);
+                let text = self.source.whole();
                 found
                     .trivia
-                    .add_block_comment(start, end, kind, self.source.whole())?;
-                self.line_has_ended = either(self.line_has_ended, line_has_ended);
+                    .add_searched_comment(start, end, kind, text, !block.is_plain)?;
+                self.line_has_ended = either(self.line_has_ended, block.line_has_ended);
                 Ok(true)
             }
             None => {

@@ -1,6 +1,6 @@
 -- Tables of four bytes, and the search for these in blocks.
 use Rattle.std.proofs.Common.{◌≡◌, ℕ, ◌+◌, ◌-◌, ◌<◌, ◌≤◌, Bool, true, false, ◌||◌, ◌==◌, List, length}
-use Rattle.std.proofs.Common.{get_or, refl, ◌∙◌, ap, arith, ltb, subst}
+use Rattle.std.proofs.Common.{get_or, refl, sym, ◌∙◌, ap, arith, ltb, subst}
 use Rattle.std.specs.Int.{bit_at}
 use Rattle.std.specs.List.{slice_set}
 use Rattle.std.specs.Prelude.{replicate}
@@ -65,6 +65,15 @@ four_length four = rw (length-set, length-set, length-set, length-set) refl
 
 pub is_safe_table : (four : FourBytes) → is_safe (four_bytes four) ≡ true → IsSafeTable (four_bytes four)
 is_safe_table four safe = record { entries = four_length four; safe = safe }
+
+-- the bytes that a search in that table passes are none of them
+pub others_passed : (four : FourBytes) (text : List ℕ) (from to : ℕ) → HasFour four (four_bytes four)
+    → FindsFirst (four_bytes four) text from to → PassesOthers four text from to
+others_passed four text from to has found = record {
+  onward = found.onward;
+  within = found.within;
+  before = λ k low high. sym (has _) ∙ found.before k low high;
+}
 
 -- no byte is passed yet
 pub none_passed : (four : FourBytes) (text : List ℕ) (from : ℕ) → from ≤ length text → PassesOthers four text from from

@@ -8,7 +8,7 @@ use Rattle.std.proofs.lemmas.Bool.{and_parts, eq-eqb, eqb-true, ltb-true, ltb-fa
 use Rattle.std.proofs.lemmas.Str.{length-encode}
 use Rattle.js_text.specs.Characters.{begins, from_place}
 use Rattle.js_source.specs.Pairs.{begins_pair, from_pair, before_pair, IsPairAt, PassesPairs, HasNoPair}
-use Rattle.js_source.specs.Search.{is_one_of, four_bytes, matches_at, matches_char}
+use Rattle.js_source.specs.Search.{is_one_of, four_bytes, matches_at, matches_char, PassesOthers}
 use Rattle.js_source.specs.Source.{At, rest, IsPlaced, HasFirstByte}
 use Rattle.js_source.specs.declared.four.FourBytes.{FourBytes}
 use Rattle.js_source.specs.declared.pair.BytePair.{BytePair}
@@ -45,6 +45,15 @@ pub clean_block : (four : FourBytes) (text : List ℕ) (at to marks : ℕ) (unse
     → unset ≡ true → (k : ℕ) → at ≤ k → k < at + to → is_one_of four (get_or text k 0) ≡ false
 clean_block four text at to marks true marked none short e = block_passed four text at to marks marked none short
 clean_block four text at to marks false marked none short e = absurd (cc)
+
+-- where it is clean, none of the others stands before the place, two bytes before where the search ends
+pub others_before : (pair : BytePair) (four : FourBytes) (text : List ℕ) (from at : ℕ) (is_clean : Bool)
+    → PassesPairs pair four text from at is_clean → is_clean ≡ true → PassesOthers four text from (at + 2 - 2)
+others_before pair four text from at is_clean p is = record {
+  onward = omega (arith, p.onward);
+  within = omega (arith, p.within);
+  before = λ k low high. p.clean is k low (omega (arith, high));
+}
 
 pub passed_on : (pair : BytePair) (four : FourBytes) (text : List ℕ) (from at to : ℕ) (was is : Bool)
     → PassesPairs pair four text from at was → at ≤ to → to ≤ length text

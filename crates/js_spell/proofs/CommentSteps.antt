@@ -1,6 +1,6 @@
 -- The steps of a search through a comment.
 use Rattle.std.proofs.Common.{◌≡◌, ℕ, ◌-◌, ◌<◌, Bool, true, false, ◌&&◌, ◌||◌, not, ◌==◌, List, [], ◌∷◌, ◌++◌, length}
-use Rattle.std.proofs.Common.{drop, refl, sym, ◌∙◌, ap, arith, Some, None, slice_range, length-drop}
+use Rattle.std.proofs.Common.{drop, refl, sym, ◌∙◌, ap, subst, arith, Some, None, slice_range, length-drop}
 use Rattle.std.specs.Prelude.{codes, if◌then◌else◌}
 use Rattle.std.specs.Str.{all_scalars, chars, encode_utf8_all}
 use lib.Utf8.{scalar}
@@ -17,8 +17,8 @@ use Rattle.js_source.proofs.Places.{rest_utf8}
 use Rattle.js_source.specs.Search.{matches_char}
 use Rattle.js_source.proofs.Skips.{from_first-from_first, line_terminator_matches}
 use Rattle.js_grammar.specs.Gap.{is_prefix, cut-cons, cut_behind}
-use Rattle.js_source.specs.Search.{four_bytes, is_safe}
-use Rattle.js_spell.specs.Comments.{block_end, line_bytes, ReadsCut}
+use Rattle.js_source.specs.Search.{four_bytes, is_one_of, PassesOthers}
+use Rattle.js_spell.specs.Comments.{block_end, line_bytes, HasNoAt, ReadsCut}
 use Rattle.js_spell.proofs.SequenceSteps.{behind}
 
 -- a search with the table stops at every line terminator
@@ -27,9 +27,6 @@ StopsAtLineEnds table = (c : ℕ) → is_line_terminator c ≡ true → matches_
 
 pub line_stops : StopsAtLineEnds (four_bytes line_bytes)
 line_stops = line_terminator_matches (four_bytes line_bytes) refl refl refl
-
-pub line_is_safe : is_safe (four_bytes line_bytes) ≡ true
-line_is_safe = refl
 
 -- a search for a character goes on from where a coarser search has stopped
 abbrev pub Searched : (ℕ → Bool) → List Bool → At → At → At → Type 0
@@ -73,6 +70,13 @@ pub search_shorter : (q : ℕ → Bool) (old mid new : At) (c : ℕ) → rest mi
 search_shorter q old mid new c e begins past =
     let after = behind c mid new begins past in
     omega (arith, ap length after.1, ap length e, length-from_first q (rest old))
+
+-- a search that has met none of the bytes, from its start on, has met no `@`
+pub no_at : (start old : At) (to : ℕ) → old ≡ start → PassesOthers line_bytes old.text old.place to
+    → HasNoAt start.text start.place to
+no_at start old to same p =
+    subst (λ s. HasNoAt s.text s.place to) same
+    (λ k low high at. let both : true ≡ false = sym (ap (is_one_of line_bytes) at) ∙ p.before k low high in cc)
 
 -- the characters that a search passes over end no line
 none_of_others : (p q : ℕ → Bool) → ((c : ℕ) → p c ≡ true → q c ≡ true) → (cs : List ℕ) → list_any q cs ≡ false
@@ -130,11 +134,12 @@ ends_in_front [] = refl
 ends_in_front (c ∷ cs) = ap (λ b. is_line_terminator c || b) (ends_in_front cs)
 
 -- The first pair is found, and whether a line has ended before it is known.
-pub block_found : (old new : At) (line_has_ended : Bool)
+pub block_found : (old new : At) (line_has_ended is_plain : Bool)
     → from_pair block_end (rest old) ≡ 42 ∷ 47 ∷ rest new
     → list_any is_line_terminator (before_pair block_end (rest old)) ≡ line_has_ended
-    → ReadsCut (cut_behind (codes "*/") (rest old)) new (Some line_has_ended)
-block_found old new line_has_ended e ends = (
+    → ReadsCut (cut_behind (codes "*/") (rest old)) new
+    (Some (record { line_has_ended = line_has_ended; is_plain = is_plain }))
+block_found old new line_has_ended is_plain e ends = (
   record { front = before_pair block_end (rest old) ++ codes "*/"; rest = rest new },
   cut_at_pair (rest old) (rest new) e,
   ends_in_front (before_pair block_end (rest old)) ∙ ends,

@@ -23,7 +23,7 @@ mod unicode_escape;
 mod unseparated_number;
 
 pub use angle::read_right_angle;
-pub use comment::{skip_block, skip_line};
+pub use comment::{BlockEnd, skip_block, skip_line};
 pub use escape::read_escape;
 pub use jsx::{read_jsx_child, read_jsx_identifier, read_jsx_string};
 pub use name::{

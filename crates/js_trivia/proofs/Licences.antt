@@ -1,8 +1,9 @@
 -- A search for licences goes from one `@` to the next.
-use Rattle.std.proofs.Common.{◌≡◌, ℕ, zero, suc, ◌<◌, ◌≤◌, Bool, true, false, List, [], ◌∷◌, length, drop, take, refl}
-use Rattle.std.proofs.Common.{sym, ◌∙◌, arith, get_or, None, Some, length-take}
+use Rattle.std.proofs.Common.{◌≡◌, ℕ, zero, suc, ◌+◌, ◌-◌, ◌<◌, ◌≤◌, Bool, true, false, List, [], ◌∷◌, length, drop}
+use Rattle.std.proofs.Common.{take, refl, sym, ◌∙◌, arith, get_or, None, Some, length-take}
 use Rattle.std.specs.Prelude.{◌==◌, ◌&&◌, ◌||◌, codes}
-use Rattle.std.specs.List.{list_any}
+use Rattle.std.specs.List.{list_any, slice_range}
+use Rattle.std.proofs.lemmas.List.{get_or-drop, get_or-take}
 use Rattle.std.proofs.lemmas.Bool.{eqb-true, eq-eqb}
 use lib.Pointwise.{pointwise}
 use Rattle.memchr.specs.Find.{IsFirstByte, is_byte}
@@ -38,16 +39,31 @@ pub at_first : (text : List ℕ) (k : ℕ) → IsFirstByte (is_byte 64) text (So
     ≡ is_licensed text
 at_first text k h = sym (without_ats k text (λ i lt. not_true _ (h.0.before i (omega arith) lt)))
 
+nothing_left : (n : ℕ) (xs : List ℕ) → length xs ≤ n → is_licensed (drop n xs) ≡ false
+nothing_left zero [] le = refl
+nothing_left zero (x ∷ xs) le = absurd (omega arith)
+nothing_left (suc n) [] le = refl
+nothing_left (suc n) (x ∷ xs) le = nothing_left n xs (omega arith)
+
 pub at_none : (text : List ℕ) → IsFirstByte (is_byte 64) text None → is_licensed text ≡ false
 at_none text h =
     without_ats (length text) text (λ i lt. not_true _ (h i (omega arith) lt))
     ∙ nothing_left (length text) text (omega arith)
+
+-- the same between two places
+pub none_between : (text : List ℕ) (from to : ℕ) → ((k : ℕ) → from ≤ k → k < to → get_or text k 0 ≡ 64 → ⊥)
+    → is_licensed (slice_range text from to) ≡ false
+none_between text from to none =
+    let part = slice_range text from to in
+    without_ats (length part) part
+    (λ i lt. not_true _ (λ is. none (from + i) (omega arith)
+    (omega (arith, lt, length-take (to - from) (drop from text)))
+    (same i (omega (arith, lt, length-take (to - from) (drop from text))) ∙ eqb-true _ 64 is)))
+    ∙ nothing_left (length part) part (omega arith)
   where
-    nothing_left : (n : ℕ) (xs : List ℕ) → length xs ≤ n → is_licensed (drop n xs) ≡ false
-    nothing_left zero [] le = refl
-    nothing_left zero (x ∷ xs) le = absurd (omega arith)
-    nothing_left (suc n) [] le = refl
-    nothing_left (suc n) (x ∷ xs) le = nothing_left n xs (omega arith)
+    same : (i : ℕ) → i < to - from → get_or text (from + i) 0 ≡ get_or (slice_range text from to) i 0
+    same i lt =
+        sym (get_or-drop from text i 0) ∙ sym (get_or-take (to - from) (drop from text) i 0 lt)
 
 or_none : (a b : Bool) → (a || b) ≡ false → (a ≡ false) × (b ≡ false)
 or_none true b h = absurd cc

@@ -1,5 +1,5 @@
 -- Ranges of annotations are ranges of comments that are held.
-use Rattle.std.proofs.Common.{◌≡◌, ℕ, ◌+◌, ◌-◌, ◌≤◌, ◌<◌, List, [], ◌∷◌, ◌++◌, length, take, drop, Option, Some, None}
+use Rattle.std.proofs.Common.{◌≡◌, ℕ, ◌+◌, ◌≤◌, ◌<◌, List, [], ◌∷◌, ◌++◌, length, take, drop, Option, Some, None}
 use Rattle.std.proofs.Common.{sym, ap, subst, arith, length-append, length-drop}
 use Rattle.std.proofs.Common.{suc, Bool, true, false}
 use Rattle.std.specs.List.{position_from}

@@ -14,7 +14,7 @@ use Rattle.js_grammar.specs.GapItems.{no_token}
 use Rattle.std.specs.Str.{IsCharBoundary}
 use Rattle.js_text.specs.Comment.{is_line_kind, HoldsMarks, content_span}
 use Rattle.js_text.specs.declared.comment.CommentKind.{CommentKind}
-use Rattle.js_grammar.specs.CommentClasses.{class_of}
+use Rattle.js_grammar.specs.CommentClasses.{class_of, is_licensed}
 use Rattle.js_grammar.specs.Attach.{attach}
 use Rattle.js_trivia.specs.Attachment.{Attachment, after_comment, after_newline, after_token, between_gaps}
 
@@ -109,6 +109,12 @@ abbrev pub class_in_text : List ℕ → CommentKind → Span → CommentContent
 class_in_text text kind span =
     let content = content_span kind span in
     class_of (not (is_line_kind kind)) (slice_range text content.start content.end)
+
+-- `@license` or `@preserve` stands in a comment of the text
+abbrev pub is_licensed_in : List ℕ → CommentKind → Span → Bool
+is_licensed_in text kind span =
+    let content = content_span kind span in
+    is_licensed (slice_range text content.start content.end)
 
 -- a comment of the text
 abbrev pub found_in : List ℕ → CommentKind → Span → Found

@@ -112,6 +112,15 @@ fn is_licensed(content: &[u8]) -> bool
     rest.len() >= 8 && is_licensed_anywhere(rest)
 }
 
+/// The same of a content of which it may be known that neither stands in it.
+#[inline(always)]
+fn is_licensed_if(content: &[u8], may_be_licensed: bool) -> bool
+    requires { may_be_licensed ≡ false → is_licensed content.now ≡ false }
+    ensures { result ≡ is_licensed content.now }
+{
+    may_be_licensed && is_licensed(content)
+}
+
 /// Whether the byte is SP, TAB, LF, FF or CR.
 #[tactic(auto, unfolding(js_grammar::specs::CommentClasses::is_blank))]
 fn is_blank(b: u8) -> bool
@@ -228,12 +237,13 @@ fn has_stars_alone(content: &[u8]) -> bool
 }
 
 /// The class of a block comment that begins with a further `*`.
-fn documentation_class(content: &[u8]) -> CommentContent
+fn documentation_class(content: &[u8], may_be_licensed: bool) -> CommentContent
+    requires { may_be_licensed ≡ false → is_licensed content.now ≡ false }
     ensures { result ≡ documentation_class content.now }
 {
     if has_stars_alone(content) {
         CommentContent::None
-    } else if is_licensed(content) {
+    } else if is_licensed_if(content, may_be_licensed) {
         CommentContent::JsdocLegal
     } else {
         CommentContent::Jsdoc
@@ -315,10 +325,11 @@ fn begins_no_word(b: u8) -> bool
 }
 
 /// The class of a comment that no mark and no word begins.
-fn licensed_class(content: &[u8]) -> CommentContent
+fn licensed_class(content: &[u8], may_be_licensed: bool) -> CommentContent
+    requires { may_be_licensed ≡ false → is_licensed content.now ≡ false }
     ensures { result ≡ (if is_licensed content.now then CommentContent.Legal else CommentContent.None) }
 {
-    if is_licensed(content) {
+    if is_licensed_if(content, may_be_licensed) {
         CommentContent::Legal
     } else {
         CommentContent::None
@@ -326,18 +337,23 @@ fn licensed_class(content: &[u8]) -> CommentContent
 }
 
 /// The class by the text behind the blanks in front; most comments are told by its first byte.
-fn class_by_words(content: &str, text: &[u8]) -> CommentContent
+fn class_by_words(content: &str, text: &[u8], may_be_licensed: bool) -> CommentContent
+    requires { may_be_licensed ≡ false → is_licensed content.now ≡ false }
     ensures { result ≡ worded_class content.now text.now }
 {
     match text {
-        [first, ..] if begins_no_word(*first) => licensed_class(content.as_bytes()),
+        [first, ..] if begins_no_word(*first) => {
+            licensed_class(content.as_bytes(), may_be_licensed)
+        }
         _ => worded_class(content, text),
     }
 }
 
-/// What a comment tells tools, by its text without the marks of the comment.
+/// What a comment tells tools, by its text without the marks of the comment, of which it may be known that neither
+/// `@license` nor `@preserve` stands in it.
 #[inline(always)]
-pub fn classify(content: &str, is_block: bool) -> CommentContent
+pub(crate) fn classify_if(content: &str, is_block: bool, may_be_licensed: bool) -> CommentContent
+    requires { may_be_licensed ≡ false → is_licensed content.now ≡ false }
     ensures { result ≡ class_of is_block content.now }
 {
     let bytes = content.as_bytes();
@@ -346,8 +362,15 @@ pub fn classify(content: &str, is_block: bool) -> CommentContent
     } else if begins_with(bytes, b"!") {
         CommentContent::Legal
     } else if is_block && begins_with(bytes, b"*") {
-        documentation_class(bytes)
+        documentation_class(bytes, may_be_licensed)
     } else {
-        class_by_words(content, without_blanks(bytes))
+        class_by_words(content, without_blanks(bytes), may_be_licensed)
     }
+}
+
+/// What a comment tells tools, by its text without the marks of the comment.
+pub fn classify(content: &str, is_block: bool) -> CommentContent
+    ensures { result ≡ class_of is_block content.now }
+{
+    classify_if(content, is_block, true)
 }

@@ -9,10 +9,10 @@ ghost use Rattle.js_trivia.specs.Marks.{IsRangeOf, mark_range, pure_applied, no_
 ghost use Rattle.js_trivia.specs.Trivia.{Trivia, no_trivia, held, IsNew, push_comment, note_class, add_comment};
 ghost use Rattle.js_trivia.specs.Trivia.{add_irregular, handle_newline, handle_token, lengths_of, cut_to, IsPlacedIn};
 ghost use Rattle.js_trivia.specs.Trivia.{class_in_text, found_in, CanCutBack, without_ranges, IsRangeUpTo};
-ghost use Rattle.js_trivia.specs.Trivia.{AreRangesUpTo};
+ghost use Rattle.js_trivia.specs.Trivia.{is_licensed_in, AreRangesUpTo};
 
 use crate::attaching::{attach_each_pending, attach_pending, mark_last_pending};
-use crate::classes::{classify, stays_leading};
+use crate::classes::{classify_if, stays_leading};
 use crate::kinds::keeps_line_comment_leading;
 use crate::lengths::TriviaLengths;
 use crate::marks::{mark_no_side_effects_within, mark_pure_within};
@@ -25,15 +25,22 @@ use js_text::{
 use std::alloc::{AllocError, Global};
 use std::marker::Model;
 
-/// The class of a comment of a text.
+/// The class of a comment of a text, of which it may be known that neither `@license` nor `@preserve` stands in it.
 #[inline(always)]
-fn class_in(source_text: &str, kind: CommentKind, span: Span) -> CommentContent
-    requires { IsPlacedIn source_text.now kind span }
+fn class_in(
+    source_text: &str,
+    kind: CommentKind,
+    span: Span,
+    may_be_licensed: bool,
+) -> CommentContent
+    requires placed { IsPlacedIn source_text.now kind span }
+    requires licensed { may_be_licensed ≡ false → is_licensed_in source_text.now kind span ≡ false }
     ensures { result ≡ class_in_text source_text.now kind span }
 {
     let start = span.start + kind.opening_length();
     let end = span.end - kind.closing_length();
-    classify(&source_text[start as usize..end as usize], !kind.is_line())
+    let content = &source_text[start as usize..end as usize];
+    classify_if(content, !kind.is_line(), may_be_licensed)
 }
 
 /// Whether there is neither range.
@@ -386,8 +393,7 @@ impl TriviaBuilder {
             ≡ add_comment (found_in source_text.now kind (record { start = start; end = end })) self.old) }
         ensures err { OnErr result (self.new ≡ self.old) }
     {
-        let content = class_in(source_text, kind, Span { start, end });
-        self.add_comment(start, end, kind, content)
+        self.add_searched_comment(start, end, kind, source_text, true)
     }
 
     /// Adds a comment `/* .. */`. One that starts at or before the last one is not added, but counts for the range of
@@ -406,7 +412,28 @@ impl TriviaBuilder {
             ≡ add_comment (found_in source_text.now kind (record { start = start; end = end })) self.old) }
         ensures err { OnErr result (self.new ≡ self.old) }
     {
-        let content = class_in(source_text, kind, Span { start, end });
+        self.add_searched_comment(start, end, kind, source_text, true)
+    }
+
+    /// Adds a comment of any kind, as the two above do. Where its reader knows that neither `@license` nor `@preserve`
+    /// stands in it, it is not searched for them.
+    #[inline(always)]
+    pub fn add_searched_comment(
+        &mut self,
+        start: u32,
+        end: u32,
+        kind: CommentKind,
+        source_text: &str,
+        may_be_licensed: bool,
+    ) -> Result<(), AllocError>
+        requires placed { IsPlacedIn source_text.now kind (record { start = start; end = end }) }
+        requires licensed { may_be_licensed ≡ false
+            → is_licensed_in source_text.now kind (record { start = start; end = end }) ≡ false }
+        ensures ok { OnOk result (self.new
+            ≡ add_comment (found_in source_text.now kind (record { start = start; end = end })) self.old) }
+        ensures err { OnErr result (self.new ≡ self.old) }
+    {
+        let content = class_in(source_text, kind, Span { start, end }, may_be_licensed);
         self.add_comment(start, end, kind, content)
     }
 

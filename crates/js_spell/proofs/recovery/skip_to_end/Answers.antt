@@ -5,5 +5,5 @@ use Rattle.js_spell.proofs.recovery.skip_to_end.Goals as goal
 
 pub returns-clause-line_end : goal.returns-clause-line_end
 returns-clause-line_end c =
-    line_end_found is_line_terminator c.is_eof-found.result (rest c.skip_line.new.source)
-    (rest c.args.source.now) c.is_eof-found.ensures.characters c.skip_line.ensures.rest
+    line_end_found is_line_terminator c.is_eof-found.result (rest c.skip_line-found.new.source)
+    (rest c.args.source.now) c.is_eof-found.ensures.characters c.skip_line-found.ensures.rest

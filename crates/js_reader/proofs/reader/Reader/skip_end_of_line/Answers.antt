@@ -12,9 +12,10 @@ returns-in-Some-clause-ends c =
 pub returns-in-Some-clause-grown : goal.returns-in-Some-clause-grown
 returns-in-Some-clause-grown c = grows_by c.args.found.now _ (line_end ∷ []) c.handle_newline.ensures
 
-pub returns-in-None-clause-ends : goal.returns-in-None-clause-ends
-returns-in-None-clause-ends c =
-    end_of_text c.args.self.now c.args.found.now c.next_char.new.self c.in-None.ensures.none.1 c.in-None.ensures.none.0
+pub returns-in_default-clause-ends : goal.returns-in_default-clause-ends
+returns-in_default-clause-ends c =
+    end_of_text c.args.self.now c.args.found.now c.next_char.new.self c.in_default.ensures.none.1
+    c.in_default.ensures.none.0
 
-pub returns-in-None-clause-grown : goal.returns-in-None-clause-grown
-returns-in-None-clause-grown c = grows_none c.args.found.now
+pub returns-in_default-clause-grown : goal.returns-in_default-clause-grown
+returns-in_default-clause-grown c = grows_none c.args.found.now

@@ -2,7 +2,7 @@ use Rattle.std.proofs.Common.{arith, refl}
 use Rattle.js_text.specs.Characters.{from_place}
 use Rattle.js_source.specs.Source.{At}
 use Rattle.js_source.proofs.Fours.{has_four}
-use Rattle.js_source.proofs.Pairs.{IsFirstPair, first_pair, no_pair}
+use Rattle.js_source.proofs.Pairs.{IsFirstPair, first_pair, no_pair, others_before}
 use Rattle.js_source.proofs.source.Source.advance_behind_pair.Goals as goal
 
 pub returns-in_err-at-clause-none : goal.returns-in_err-at-clause-none
@@ -29,6 +29,11 @@ returns-clause-some c = rw (← c.self.view_is) (found c).from
 
 pub returns-clause-clean : goal.returns-clause-clean
 returns-clause-clean c = rw (← c.self.view_is) (found c).clean
+
+pub returns-clause-others : goal.returns-clause-others
+returns-clause-others c =
+    let passes = rw c.as_bytes.ensures.value at c.in_ok-at.ensures.passes in
+    rw (← c.self.view_is) (λ is. others_before _ _ _ _ _ _ passes is)
 
 pub returns-clause-placed : goal.returns-clause-placed
 returns-clause-placed c = (found c).placed

@@ -1,4 +1,5 @@
-use Rattle.js_source.proofs.Fours.{is_safe_table}
+use Rattle.std.proofs.Common.{arith}
+use Rattle.js_source.proofs.Fours.{has_four, is_safe_table, others_passed}
 use Rattle.js_source.proofs.RunSteps.{next_byte}
 use Rattle.js_source.proofs.Stops.{stops_from}
 use Rattle.js_source.proofs.source.Source.advance_to_one_of.Goals as goal
@@ -20,6 +21,13 @@ returns-clause-rest c =
     rw (← c.self.view_is)
     (stops_from _ _ _ _ (is_safe_table c.args.four c.requires) c.self.invariant.utf8 c.self.invariant.short
     c.self.invariant.boundary found).1
+
+pub returns-clause-others : goal.returns-clause-others
+returns-clause-others c =
+    let found = rw c.as_bytes.ensures.value at c.find-to.ensures.first in
+    rw (← c.self.view_is)
+    (others_passed c.args.four _ _ _
+    (has_four c.args.four (omega arith) (omega arith) (omega arith) (omega arith)) found)
 
 pub returns-clause-none : goal.returns-clause-none
 returns-clause-none c =
