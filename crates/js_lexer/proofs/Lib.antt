@@ -8,6 +8,7 @@ pub mod MarkLaws
 pub mod PlaceLaws
 pub mod ReadAgain
 pub mod ReadingLaws
+pub mod Settled
 pub mod Sparse
 pub mod SpelledTokens
 pub mod TakenAgain

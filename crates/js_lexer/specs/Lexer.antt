@@ -108,6 +108,12 @@ resumed text t collects token = record (fresh text t collects) {
   free = reserved_places collects (length text) - length (collected collects token);
 }
 
+-- A token was read, and no annotation is known to stand before it.
+pub record IsSettled (l : LexerState) : Type 0 where
+  pub has_read : is_none l.last ≡ false
+  pub no_pure : l.pure_comments ≡ None
+  pub no_without_side_effects : l.no_side_effects_comments ≡ None
+
 -- the place of a lexer in its text
 abbrev pub here : LexerState → At
 here l = record { text = l.text; place = l.place }

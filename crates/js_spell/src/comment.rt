@@ -51,6 +51,7 @@ fn advance_to_match(source: &mut Source<'_>) -> Option<char>
 }
 
 /// Goes to the next line terminator, or to the end of the text, and answers true only if there is no `@` before.
+#[inline(always)]
 pub fn skip_line(source: &mut Source<'_>) -> bool
     ensures text { source.new.text ≡ source.old.text }
     ensures rest { rest source.new ≡ from_first is_line_terminator (rest source.old) }

@@ -11,7 +11,7 @@ pub record IsInOrder (processed : ℕ) (comments : List Comment) (spans : List S
   pub spans_ascend : AscendFrom 0 (span_starts spans)
 
 -- No comment waits, no line end came since the last token, and no range is held.
-pub record IsSettled (processed : ℕ) (comments : List Comment) (saw_newline saw_newline_for_comment : Bool)
+pub record AreSettled (processed : ℕ) (comments : List Comment) (saw_newline saw_newline_for_comment : Bool)
     (pure_comments no_side_effects_comments : Option CommentRange) : Type 0 where
   pub all_attached : processed ≡ length comments
   pub saw_none : saw_newline ≡ false

@@ -163,6 +163,15 @@ call (irregular span) s = add_irregular span s
 call line_end s = handle_newline s
 call (comment found) s = add_comment found s
 
+-- Nothing is kept but the lists and the last token: no comment waits, no line end came since the last token, and no range
+-- is held. Such a builder was told a token.
+pub record IsSettled (s : Trivia) : Type 0 where
+  pub none_waits : s.attachment.pending ≡ []
+  pub saw_none : s.attachment.saw_newline ≡ false
+  pub saw_none_for_comment : s.attachment.saw_newline_for_comment ≡ false
+  pub no_pure : s.pure_comments ≡ None
+  pub no_without_side_effects : s.no_side_effects_comments ≡ None
+
 -- the calls for the events of a gap, in their order
 abbrev pub calls : List Item → Trivia → Trivia
 calls [] s = s

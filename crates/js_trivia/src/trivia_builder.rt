@@ -9,7 +9,7 @@ ghost use Rattle.js_trivia.specs.Marks.{IsRangeOf, mark_range, pure_applied, no_
 ghost use Rattle.js_trivia.specs.Trivia.{Trivia, no_trivia, held, IsNew, push_comment, note_class, add_comment};
 ghost use Rattle.js_trivia.specs.Trivia.{add_irregular, handle_newline, handle_token, lengths_of, cut_to, IsPlacedIn};
 ghost use Rattle.js_trivia.specs.Trivia.{class_in_text, found_in, CanCutBack, without_ranges, IsRangeUpTo};
-ghost use Rattle.js_trivia.specs.Trivia.{is_licensed_in, AreRangesUpTo};
+ghost use Rattle.js_trivia.specs.Trivia.{is_licensed_in, AreRangesUpTo, IsSettled};
 
 use crate::attaching::{attach_each_pending, attach_pending, mark_last_pending};
 use crate::classes::{classify_if, stays_leading};
@@ -94,7 +94,7 @@ pub struct TriviaBuilder {
 impl Model for TriviaBuilder {
     ghost use Rattle.std.specs.Prelude.{◌≡◌, true, take, drop, length};
     ghost use Rattle.js_trivia.specs.Trivia.{Trivia, AreRangesUpTo};
-    ghost use Rattle.js_trivia.specs.Builder.{IsInOrder, IsSettled};
+    ghost use Rattle.js_trivia.specs.Builder.{IsInOrder, AreSettled};
 
     ghost Value = { Trivia };
 
@@ -112,7 +112,7 @@ impl Model for TriviaBuilder {
     } };
 
     ghost invariant = { λ b. IsInOrder b.processed b.comments.items b.irregular_whitespaces.items
-        × (b.settled ≡ true → IsSettled b.processed b.comments.items b.saw_newline b.saw_newline_for_comment
+        × (b.settled ≡ true → AreSettled b.processed b.comments.items b.saw_newline b.saw_newline_for_comment
         b.pure_comments b.no_side_effects_comments)
         × AreRangesUpTo (length b.comments.items) b.pure_comments b.no_side_effects_comments };
 }
@@ -279,6 +279,23 @@ impl TriviaBuilder {
         if !self.settled {
             self.settle(token);
         }
+        self.previous = token;
+    }
+
+    /// Only if nothing is kept but the lists and the last token.
+    #[inline(always)]
+    pub fn is_settled(&self) -> bool
+        ensures { result ≡ true → IsSettled self.now }
+    {
+        self.settled
+    }
+
+    /// Takes notice of a token before which there was nothing to tell of, where nothing is kept but the last token.
+    #[inline(always)]
+    pub fn handle_token_settled(&mut self, token: Token)
+        requires { IsSettled self.old }
+        ensures { self.new ≡ handle_token token (without_ranges self.old) }
+    {
         self.previous = token;
     }
 

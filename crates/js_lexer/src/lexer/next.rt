@@ -7,7 +7,7 @@ ghost use Rattle.js_source.specs.Source.{IsPlaced, rest};
 ghost use Rattle.js_reader.specs.Decoded.{Keeps, KeepsValues, HasValue};
 ghost use Rattle.js_reader.specs.Simple.{MeetsByte, PassesSimpleGap, ReadsSimpleToken, SpellsSimply};
 ghost use Rattle.js_lexer.specs.Places.{ReadsInPlaces};
-ghost use Rattle.js_lexer.specs.Lexer.{here, ReadsNext, ReadsToken, IsRestored, with_token};
+ghost use Rattle.js_lexer.specs.Lexer.{here, ReadsNext, ReadsToken, IsRestored, IsSettled, with_token};
 ghost use Rattle.js_reader.specs.Reader.{ReadsInPart, ReadsTokenHere};
 
 use super::{Lexer, collect, start_behind_reports, take_token};
@@ -54,8 +54,12 @@ impl<'a, C: LexerConfig + Drop> Lexer<'a, C> {
         ensures kept { Keeps self.old.decoded self.new.decoded }
         ensures places { ReadsInPlaces self.old self.new }
     {
+        // Most tokens come behind another one, and behind no annotation: then nothing is kept of that but itself.
+        if !self.found.trivia.is_settled() {
+            return self.read_behind_any_gap();
+        }
         let mut source = self.reader.source.here();
-        let mut line_has_ended = !self.has_read;
+        let mut line_has_ended = false;
         match pass_simple_gap(&mut source, &self.reader.tables, &mut line_has_ended) {
             GapEnd::Name(b) => self.read_name_here(source, line_has_ended, b),
             GapEnd::Symbol(b) => self.read_symbol_here(source, line_has_ended, b),
@@ -71,6 +75,7 @@ impl<'a, C: LexerConfig + Drop> Lexer<'a, C> {
         line_has_ended: bool,
         b: u8,
     ) -> Result<Token, AllocError>
+        requires settled { IsSettled self.old }
         requires meets { MeetsByte b (here self.old) (is_none self.old.last) source line_has_ended }
         requires begun { is_identifier_start b ≡ true }
         ensures ok { IfOk result (λ token. ReadsToken Goal.Next self.old token self.new) }
@@ -93,7 +98,8 @@ impl<'a, C: LexerConfig + Drop> Lexer<'a, C> {
         line_has_ended: bool,
         b: u8,
     ) -> Result<Token, AllocError>
-        requires { MeetsByte b (here self.old) (is_none self.old.last) source line_has_ended }
+        requires settled { IsSettled self.old }
+        requires meets { MeetsByte b (here self.old) (is_none self.old.last) source line_has_ended }
         ensures ok { IfOk result (λ token. ReadsToken Goal.Next self.old token self.new) }
         ensures err { OnErr result (IsRestored self.old self.new) }
         ensures kept { Keeps self.old.decoded self.new.decoded }
@@ -115,6 +121,7 @@ impl<'a, C: LexerConfig + Drop> Lexer<'a, C> {
         kind: Kind,
         line_has_ended: bool,
     ) -> Result<Token, AllocError>
+        requires settled { IsSettled self.old }
         requires gap { PassesSimpleGap (here self.old) (is_none self.old.last) source line_has_ended }
         requires spells { SpellsSimply line_has_ended source behind kind }
         ensures ok { IfOk result (λ token. ReadsToken Goal.Next self.old token self.new) }
@@ -132,7 +139,8 @@ impl<'a, C: LexerConfig + Drop> Lexer<'a, C> {
     /// Takes a token that was read behind a simple gap.
     #[inline(always)]
     fn take_simple(&mut self, source: Source<'a>, token: Token) -> Result<(), AllocError>
-        requires { ReadsSimpleToken (here self.old) (is_none self.old.last) token source }
+        requires settled { IsSettled self.old }
+        requires reads { ReadsSimpleToken (here self.old) (is_none self.old.last) token source }
         ensures ok { OnOk result (ReadsToken Goal.Next self.old token self.new) }
         ensures err { OnErr result (IsRestored self.old self.new) }
         ensures kept { Keeps self.old.decoded self.new.decoded }
@@ -140,7 +148,7 @@ impl<'a, C: LexerConfig + Drop> Lexer<'a, C> {
     {
         collect(&mut self.tokens, self.config.tokens(), &token)?;
         self.reader.source.set_position(source.position());
-        take_token(&mut self.found.trivia, &mut self.has_read, token, true);
+        self.found.trivia.handle_token_settled(token);
         Ok(())
     }
 

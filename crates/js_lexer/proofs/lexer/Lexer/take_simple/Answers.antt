@@ -10,23 +10,30 @@ use Rattle.js_reader.specs.Simple.{ends_told, moved}
 use Rattle.js_reader.proofs.DecodedSteps.{keeps_same, no_value}
 use Rattle.js_lexer.proofs.LexerSteps.{state_of, reader_is, between_is, first_token, sound_after, reads_token}
 use Rattle.js_reader.proofs.SimpleReadings.{behind_simple_gap, ends_forgotten, moved_on, plain_text}
+use Rattle.js_lexer.proofs.Settled.{has_read, reads_read, settled_builder}
 use Rattle.js_lexer.proofs.Sparse.{count_collected, reads_in_places}
 use Rattle.js_lexer.proofs.lexer.Lexer.take_simple.Goals as goal
 
 pub set_position-requires : goal.set_position-requires
 set_position-requires g c =
     let r = c.self.inside.reader in
-    let p = rw (← c.self.view_is) at c.requires in
+    let p = rw (← c.self.view_is) at c.requires.reads in
     let text = plain_text r c.self.inside.found _ _ c.args.token c.args.source p in
     subst (λ t. IsCharBoundary t c.position.result) text
     (subst (λ n. IsCharBoundary c.args.source.text n) (sym c.position.ensures.place)
     c.position.ensures.placed.boundary)
 
+pub handle_token_settled-requires : goal.handle_token_settled-requires
+handle_token_settled-requires g c =
+    let settled = rw (← c.self.view_is) at c.requires.settled in
+    settled_builder _ _ c.self.inside.found.trivia c.self.inside.decoded c.self.invariant settled.has_read
+    settled.no_pure settled.no_without_side_effects
+
 pub invariant_of-self-2 : goal.invariant_of-self-2
 invariant_of-self-2 g c =
     let r = c.self.inside.reader in
     let last = last_read c.self.inside.has_read c.self.inside.found.trivia.attachment.previous in
-    let p = rw (← c.self.view_is) at c.requires in
+    let p = rw (← c.self.view_is) at c.requires.reads in
     let cleared = without_ranges c.self.inside.found.trivia in
     let before = record c.self.inside.found { trivia = cleared } in
     let new = moved r c.args.source p.line_has_ended in
@@ -35,24 +42,26 @@ invariant_of-self-2 g c =
     let at =
     moved_on r.source c.set_position.new.self c.args.source c.position.result c.set_position.ensures
     c.position.ensures.place (plain_text r before _ _ c.args.token c.args.source p) in
-    rw c.take_token.ensures.read
+    let settled = rw (← c.self.view_is) at c.requires.settled in
+    let read = has_read c.self.inside.has_read c.self.inside.found.trivia.attachment.previous settled.has_read in
+    rw read
     (subst
     (λ (a : At).
-    IsSound a (Some c.take_token.new.trivia.attachment.previous) c.take_token.new.trivia c.self.inside.decoded)
+    IsSound a (Some c.handle_token_settled.new.self.attachment.previous) c.handle_token_settled.new.self c.self.inside.decoded)
     (sym at)
     (sound_after Next (state_of r c.self.inside.found last c.self.inside.decoded) (moved r r.source (is_none last))
-    before c.args.token new (ends_told p.gap.ends before) c.take_token.new.trivia c.self.inside.decoded
+    before c.args.token new (ends_told p.gap.ends before) c.handle_token_settled.new.self c.self.inside.decoded
     (p.here r before.errors).placed.utf8 c.self.invariant.are_values
     (reader_is Next r c.self.inside.found last c.self.inside.decoded (is_none last) cleared c.self.invariant refl)
     (behind_simple_gap last r r.source (is_none last) p.mid p.line_has_ended before c.args.token new before.errors
     (first_token last) p.gap (p.here r before.errors))
-    (c.take_token.ensures.last ∙ ends_forgotten p.gap.ends cleared c.args.token none)))
+    (c.handle_token_settled.ensures ∙ ends_forgotten p.gap.ends cleared c.args.token none)))
 
 pub returns-clause-ok : goal.returns-clause-ok
 returns-clause-ok g c =
     let r = c.self.inside.reader in
     let last = last_read c.self.inside.has_read c.self.inside.found.trivia.attachment.previous in
-    let p = rw (← c.self.view_is) at c.requires in
+    let p = rw (← c.self.view_is) at c.requires.reads in
     let cleared = without_ranges c.self.inside.found.trivia in
     let before = record c.self.inside.found { trivia = cleared } in
     let new = moved r c.args.source p.line_has_ended in
@@ -63,8 +72,12 @@ returns-clause-ok g c =
     let at =
     moved_on r.source c.set_position.new.self c.args.source c.position.result c.set_position.ensures
     c.position.ensures.place (plain_text r before _ _ c.args.token c.args.source p) in
-    rw (← c.self.view_is, tokens, at, c.take_token.ensures.read)
-    (reads_token _ _ (moved r r.source (is_none last)) before new (ends_told p.gap.ends before) c.take_token.new.trivia
+    let settled = rw (← c.self.view_is) at c.requires.settled in
+    let read = has_read c.self.inside.has_read c.self.inside.found.trivia.attachment.previous settled.has_read in
+    rw (← c.self.view_is, tokens, at)
+    (reads_read _ c.args.token _ (record r { source = c.args.source })
+    (record c.self.inside.found { trivia = c.handle_token_settled.new.self }) _ _ c.self.inside.decoded read
+    (reads_token _ _ (moved r r.source (is_none last)) before new (ends_told p.gap.ends before) c.handle_token_settled.new.self
     Next c.args.token c.self.inside.decoded p.gap.from.utf8 p.gap.from.boundary
     record {
       source = refl;
@@ -75,9 +88,9 @@ returns-clause-ok g c =
     }
     (behind_simple_gap last r r.source (is_none last) p.mid p.line_has_ended before c.args.token new before.errors
     (first_token last) p.gap (p.here r before.errors))
-    (c.take_token.ensures.last ∙ ends_forgotten p.gap.ends cleared c.args.token none)
+    (c.handle_token_settled.ensures ∙ ends_forgotten p.gap.ends cleared c.args.token none)
     (same.kept c.self.invariant.are_values)
-    (no_value r.source.text c.self.inside.decoded c.args.token p.escaped) refl)
+    (no_value r.source.text c.self.inside.decoded c.args.token p.escaped) refl))
 
 pub returns-clause-places : goal.returns-clause-places
 returns-clause-places g c =

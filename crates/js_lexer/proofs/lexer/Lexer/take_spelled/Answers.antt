@@ -16,8 +16,8 @@ new-token-requires g c =
     (simple_onward c.args.line_has_ended c.args.source c.args.behind c.args.kind c.self.inside.reader
     c.position.ensures.placed c.offset.ensures.placed c.requires.spells)
 
-pub take_simple-requires : goal.take_simple-requires
-take_simple-requires g c =
+pub take_simple-requires-clause-reads : goal.take_simple-requires-clause-reads
+take_simple-requires-clause-reads g c =
     let lexeme = simple_lexeme c.args.kind c.args.line_has_ended in
     simple_token _ c.args.source c.args.behind _ c.args.line_has_ended c.args.kind c.new-token.result
     c.requires.gap c.requires.spells c.offset.ensures.placed
