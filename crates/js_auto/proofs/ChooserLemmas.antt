@@ -16,7 +16,7 @@ use Rattle.js_session.specs.declared.command.Command.TheVariants.{Next, Regex, T
 use Rattle.js_session.proofs.LiveLemmas.{last_or-push, last_or-with_last}
 use Rattle.js_auto.specs.declared.brace.Brace.{Brace}
 use Rattle.js_auto.specs.Braces.{effect_of, after_effect, braces, braces_from, open_behind}
-use Rattle.js_auto.specs.Choice.{Chooser, begins_expression, but_last, choice_behind, chooser_of}
+use Rattle.js_auto.specs.Choice.{Chooser, begins_expression, but_last, choice_behind, chooser_behind, chooser_of}
 use Rattle.js_auto.specs.Choice.{ends_substitution, kept_last, kind_before, last_kind}
 
 braces-push : (stack : List Brace) (tokens : List TokenParts) (t : TokenParts)
@@ -57,11 +57,11 @@ braces_behind_last (t ∷ ts) =
 pub chooser-push : (tokens : List TokenParts) (t : TokenParts)
     → chooser_of (tokens ++ t ∷ [])
     ≡ record {
-      stack = open_behind (last_kind tokens) (braces (but_last tokens));
+      stack = braces tokens;
       before = unwrap_or (last_kind tokens) Eof;
       last = Some t.kind;
     }
-chooser-push tokens t = rw (but_last-push tokens t, last_kind-push tokens t, braces_behind_last tokens) refl
+chooser-push tokens t = rw (but_last-push tokens t, last_kind-push tokens t) refl
 
 but_last-with_last : (tokens : List TokenParts) (x : TokenParts) → but_last (with_last tokens x) ≡ but_last tokens
 but_last-with_last [] x = refl
@@ -95,13 +95,16 @@ pub kept_some : (has_last : Bool) (last : Kind) → is_some (kept_last has_last 
 kept_some true last = refl
 kept_some false last = refl
 
--- what a chooser keeps that was told one token more
-pub told_on : (tokens : List TokenParts) (t : TokenParts) (old new : Chooser) (kind : Kind) → old ≡ chooser_of tokens
-    → new ≡ record old { stack = open_behind old.last old.stack } → kind ≡ t.kind
-    → record { stack = new.stack; before = unwrap_or new.last Eof; last = Some kind }
+-- what a chooser keeps that has passed the last token
+pub passed : (tokens : List TokenParts) (old : Chooser) → old ≡ chooser_of tokens
+    → record old { stack = open_behind old.last old.stack } ≡ chooser_behind tokens
+passed tokens old told = rw (told, braces_behind_last tokens) refl
+
+-- and what it keeps once it is told one token more
+pub told_on : (tokens : List TokenParts) (t : TokenParts) (old : Chooser) → old ≡ chooser_behind tokens
+    → record { stack = old.stack; before = unwrap_or old.last Eof; last = Some t.kind }
     ≡ chooser_of (tokens ++ t ∷ [])
-told_on tokens t old new kind told after is =
-    rw (after, told, is, chooser-push tokens t) refl
+told_on tokens t old told = rw (told, chooser-push tokens t) refl
 
 abbrev with_kind : Kind → Chooser → Chooser
 with_kind kind c = record c { last = Some kind }

@@ -70,6 +70,10 @@ abbrev pub chooser_of : List TokenParts → Chooser
 chooser_of tokens =
     record { stack = braces (but_last tokens); before = kind_before tokens; last = last_kind tokens }
 
+-- the same once the last token is passed: the braces are those that are open behind it
+abbrev pub chooser_behind : List TokenParts → Chooser
+chooser_behind tokens = record { stack = braces tokens; before = kind_before tokens; last = last_kind tokens }
+
 -- the last one, where it is known whether there is one
 abbrev pub kept_last : Bool → Kind → Option Kind
 kept_last has_last last = if has_last then Some last else None

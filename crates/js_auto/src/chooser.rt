@@ -8,7 +8,7 @@ ghost use Rattle.js_kind.specs.TokenParts.{TokenParts};
 ghost use Rattle.js_grammar.specs.ReLexed.{again_kinds};
 ghost use Rattle.js_auto.specs.Choice.{begins_expression, choice, chooser_of, ends_only_jsx, ends_operand};
 ghost use Rattle.js_auto.specs.Braces.{is_in_substitution, open_behind};
-ghost use Rattle.js_auto.specs.Choice.{choice_behind};
+ghost use Rattle.js_auto.specs.Choice.{choice_behind, chooser_behind};
 ghost use Rattle.js_auto.specs.declared.brace.Brace.{Brace};
 
 use crate::brace::OpenBraces;
@@ -131,22 +131,42 @@ impl GoalChooser {
         passed
     }
 
-    /// Takes notice of a token that was read behind the last one. Where there is no memory for an open brace, the
-    /// chooser stays as it was.
+    /// Takes up what the last token does to the braces, if there is one, as the next one is to be read behind it:
+    /// `read_passed` takes notice of that then. Where there is no memory for an open brace, the chooser stays as it was.
+    #[inline(always)]
+    pub fn pass(&mut self) -> Result<(), AllocError>
+        ensures ok { (tokens : List TokenParts) → self.old ≡ chooser_of tokens
+            → OnOk result (self.new ≡ chooser_behind tokens) }
+        ensures err { OnErr result (self.new ≡ self.old) }
+    {
+        if self.is_last_notable {
+            self.pass_last()?;
+        }
+        Ok(())
+    }
+
+    /// Takes notice of a token that was read behind the last one, which was passed. It takes no memory.
+    #[inline(always)]
+    pub fn read_passed(&mut self, token: &Token)
+        ensures { (tokens : List TokenParts) → self.old ≡ chooser_behind tokens
+            → self.new ≡ chooser_of (tokens ++ token.now ∷ []) }
+    {
+        let kind = token.kind();
+        self.before = self.last;
+        self.last = kind;
+        self.has_last = true;
+        self.is_last_notable = is_notable(kind);
+    }
+
+    /// Does both, where nothing comes between.
     #[inline(always)]
     pub fn read(&mut self, token: &Token) -> Result<(), AllocError>
         ensures ok { (tokens : List TokenParts) → self.old ≡ chooser_of tokens
             → OnOk result (self.new ≡ chooser_of (tokens ++ token.now ∷ [])) }
         ensures err { OnErr result (self.new ≡ self.old) }
     {
-        if self.is_last_notable {
-            self.pass_last()?;
-        }
-        let kind = token.kind();
-        self.before = self.last;
-        self.last = kind;
-        self.has_last = true;
-        self.is_last_notable = is_notable(kind);
+        self.pass()?;
+        self.read_passed(token);
         Ok(())
     }
 

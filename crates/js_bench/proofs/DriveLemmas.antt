@@ -88,7 +88,7 @@ drives_seen r spare c u in_order told = record {
 }
 
 -- A token that was read on.
-step_next : (old new : LexerState) (c d : Chooser) (token : TokenParts) → ReadsToken NextGoal old token new
+pub step_next : (old new : LexerState) (c d : Chooser) (token : TokenParts) → ReadsToken NextGoal old token new
     → ((tokens : List TokenParts) → c ≡ chooser_of tokens → d ≡ chooser_of (tokens ++ token ∷ []))
     → MakesStep Next 1 old c new d
 step_next old new c d token r told s h =
@@ -213,14 +213,6 @@ no_other c l chooser to no_next no_regex no_tail = by_choice (chosen_by to.sessi
     by_choice (reads is _) = no_next is
     by_choice (reads_expression is _ _ _) = no_regex is
     by_choice (reads_part is _ _ _) = no_tail is
-
--- a token that was read on, where the chooser was told it
-pub told_next : {T E : Type 0} (result : Result T E) (old new : LexerState) (c d : Chooser) (token : TokenParts)
-    → ReadsToken NextGoal old token new
-    → ((tokens : List TokenParts) → c ≡ chooser_of tokens → OnOk result (d ≡ chooser_of (tokens ++ token ∷ [])))
-    → OnOk result (MakesStep Next 1 old c new d)
-told_next (Ok x) old new c d token r told = step_next old new c d token r told
-told_next (Err e) old new c d token r told = tt
 
 -- a token that was read again, as a regular expression
 pub step_expression : (old new : LexerState) (c d : Chooser) (found : RegexToken) → DrivesTo Regex old c

@@ -30,8 +30,11 @@ fn read_next<C: LexerConfig + Drop>(
     requires { DrivesTo Command.Next lexer.old chooser.old }
     ensures { OnOk result (MakesStep Command.Next 1 lexer.old chooser.old lexer.new chooser.new) }
 {
+    // The last token is passed first: what the loop has just asked of it is still known then.
+    chooser.pass()?;
     let token = lexer.next_token()?;
-    chooser.read(&token)
+    chooser.read_passed(&token);
+    Ok(())
 }
 
 /// Reads the last token again, as a regular expression.
