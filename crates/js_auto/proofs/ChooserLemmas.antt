@@ -106,15 +106,14 @@ pub told_on : (tokens : List TokenParts) (t : TokenParts) (old : Chooser) → ol
     ≡ chooser_of (tokens ++ t ∷ [])
 told_on tokens t old told = rw (told, chooser-push tokens t) refl
 
-abbrev with_kind : Kind → Chooser → Chooser
+abbrev pub with_kind : Kind → Chooser → Chooser
 with_kind kind c = record c { last = Some kind }
 
 -- and one that was told a token in the place of the last one
-pub told_again : (tokens : List TokenParts) (t : TokenParts) (old : Chooser) (kind : Kind) → old ≡ chooser_of tokens
-    → IsSome old.last → kind ≡ t.kind → record old { last = Some kind } ≡ chooser_of (with_last tokens t)
-told_again tokens t old kind told some is =
-    ap (with_kind kind) told ∙ ap (λ k. with_kind k (chooser_of tokens)) is
-    ∙ sym (chooser-with_last tokens t (subst (λ c. IsSome c.last) told some))
+pub told_again : (tokens : List TokenParts) (t : TokenParts) (old : Chooser) → old ≡ chooser_of tokens
+    → IsSome old.last → with_kind t.kind old ≡ chooser_of (with_last tokens t)
+told_again tokens t old told some =
+    ap (with_kind t.kind) told ∙ sym (chooser-with_last tokens t (subst (λ c. IsSome c.last) told some))
 
 -- Behind which last token a part of a template is read, and behind which one a regular expression.
 pub part_behind : (stack : List Brace) (before : Kind) (kind : Kind)

@@ -1,5 +1,5 @@
 -- What the table of notable kinds tells, and what is known behind a last token of another kind.
-use Rattle.std.proofs.Common.{◌≡◌, ◌==◌, Bool, false, List, ◌∷◌, map, refl, sym, ◌∙◌, ap, Option, Some, None}
+use Rattle.std.proofs.Common.{◌≡◌, ◌==◌, Bool, true, false, List, ◌∷◌, map, refl, sym, ◌∙◌, ap, Option, Some, None}
 use Rattle.std.specs.Option.{option_map}
 use Rattle.std.specs.Prelude.{slice_get, slice_index_or}
 use Rattle.std.proofs.lemmas.Bool.{or_parts}
@@ -16,7 +16,7 @@ use Rattle.js_session.specs.declared.command.Command.TheVariants.{Next}
 use Rattle.js_auto.specs.declared.brace.Brace.{Brace}
 use Rattle.js_auto.specs.declared.brace.BraceEffect.TheVariants.{Leaves}
 use Rattle.js_auto.specs.Braces.{after_effect, effect_of, open_behind}
-use Rattle.js_auto.specs.Choice.{Chooser, choice_behind}
+use Rattle.js_auto.specs.Choice.{Chooser, choice_behind, kept_last}
 use Rattle.js_auto.specs.Notable.{TellsNotable, is_notable, notable_kinds}
 
 -- What a test tells of a kind stands at its number in the list of what it tells of all.
@@ -89,6 +89,12 @@ reads_behind : (stack : List Brace) (before : Kind) (kind : Kind) → IsUnnotabl
     → choice_behind stack before (Some kind) ≡ Some Next
 unfolding is_eof
 reads_behind stack before kind is = rw (is.eof, is.right_curly, is.again) refl
+
+-- A last token that may be none is not notable where its kind is not.
+pub kept_plain : (has_last : Bool) (kind : Kind) → is_one_of notable_kinds kind ≡ false
+    → is_notable (kept_last has_last kind) ≡ false
+kept_plain true kind plain = plain
+kept_plain false kind plain = refl
 
 -- Behind such a token the next one is read.
 pub reads_on : (stack : List Brace) (before : Kind) (last : Option Kind) → is_notable last ≡ false

@@ -31,28 +31,28 @@ pub struct GoalChooser {
     /// The braces that are open before the last token.
     braces: OpenBraces,
     alloc: Global,
-    /// The kind of the token before the last one, and `Eof`, with which no operand ends, where there is none.
-    before: Kind,
-    /// The kind of the last token, and `Eof` where there is none.
-    last: Kind,
+    /// The token before the last one, and the default one, of kind `Eof`, with which no operand ends, where there is
+    /// none.
+    before: Token,
+    /// The last token, and the default one where there is none.
+    last: Token,
     has_last: bool,
-    /// Whether the last token may change the braces, be read again, or be the end of the source. A step behind any
-    /// other token looks at nothing else.
-    is_last_notable: bool,
 }
 
 impl Model for GoalChooser {
     ghost use Rattle.std.specs.Prelude.{◌≡◌, false};
     ghost use Rattle.js_kind.specs.declared.kind.Kind.TheVariants.{Eof};
     ghost use Rattle.js_auto.specs.Choice.{Chooser, kept_last};
-    ghost use Rattle.js_auto.specs.Notable.{is_notable};
 
     ghost Value = { Chooser };
 
-    ghost view = { λ c. record { stack = c.braces; before = c.before; last = kept_last c.has_last c.last } };
+    ghost view = { λ c. record {
+      stack = c.braces;
+      before = c.before.kind;
+      last = kept_last c.has_last c.last.kind;
+    } };
 
-    ghost invariant = { λ c. (c.is_last_notable ≡ is_notable (kept_last c.has_last c.last))
-        × (c.has_last ≡ false → c.last ≡ Eof) };
+    ghost invariant = { λ c. c.has_last ≡ false → c.last.kind ≡ Eof };
 }
 
 /// Whether an operand may end with the token, though not where JSX is told from operators.
@@ -103,10 +103,9 @@ impl GoalChooser {
         GoalChooser {
             braces: OpenBraces::new(alloc),
             alloc,
-            before: Kind::Eof,
-            last: Kind::Eof,
+            before: Token::default(),
+            last: Token::default(),
             has_last: false,
-            is_last_notable: false,
         }
     }
 
@@ -115,7 +114,11 @@ impl GoalChooser {
     fn last(&self) -> Option<Kind>
         ensures { result ≡ self.now.last }
     {
-        if self.has_last { Some(self.last) } else { None }
+        if self.has_last {
+            Some(self.last.kind())
+        } else {
+            None
+        }
     }
 
     /// Takes up what the last token does to the braces, if there is one. They are handed over and taken back, so that
@@ -132,14 +135,15 @@ impl GoalChooser {
     }
 
     /// Takes up what the last token does to the braces, if there is one, as the next one is to be read behind it:
-    /// `read_passed` takes notice of that then. Where there is no memory for an open brace, the chooser stays as it was.
+    /// `read_passed` takes notice of that then. Where there is no memory for an open brace, the chooser stays as it
+    /// was.
     #[inline(always)]
     pub fn pass(&mut self) -> Result<(), AllocError>
         ensures ok { (tokens : List TokenParts) → self.old ≡ chooser_of tokens
             → OnOk result (self.new ≡ chooser_behind tokens) }
         ensures err { OnErr result (self.new ≡ self.old) }
     {
-        if self.is_last_notable {
+        if is_notable(&self.last) {
             self.pass_last()?;
         }
         Ok(())
@@ -151,11 +155,9 @@ impl GoalChooser {
         ensures { (tokens : List TokenParts) → self.old ≡ chooser_behind tokens
             → self.new ≡ chooser_of (tokens ++ token.now ∷ []) }
     {
-        let kind = token.kind();
         self.before = self.last;
-        self.last = kind;
+        self.last = *token;
         self.has_last = true;
-        self.is_last_notable = is_notable(kind);
     }
 
     /// Does both, where nothing comes between.
@@ -176,9 +178,7 @@ impl GoalChooser {
             → self.new ≡ chooser_of (with_last tokens token.now) }
     {
         if self.has_last {
-            let kind = token.kind();
-            self.last = kind;
-            self.is_last_notable = is_notable(kind);
+            self.last = *token;
         }
     }
 
@@ -192,12 +192,13 @@ impl GoalChooser {
         ensures expression { result ≡ Some Command.Regex → IfSome self.now.last (λ kind.
             is_one_of (again_kinds Goal.RegularExpression) kind ≡ true) }
     {
-        if !self.is_last_notable {
+        // Few tokens change what comes next.
+        if !is_notable(&self.last) {
             return Some(Command::Next);
         }
         let Some(last) = self.last() else {
             return Some(Command::Next);
         };
-        command_behind(self.braces.is_in_substitution(), self.before, last)
+        command_behind(self.braces.is_in_substitution(), self.before.kind(), last)
     }
 }

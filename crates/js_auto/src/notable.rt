@@ -4,7 +4,7 @@ ghost use Rattle.std.specs.Prelude.{◌≡◌};
 ghost use Rattle.js_kind.specs.Kinds.{is_one_of};
 ghost use Rattle.js_auto.specs.Notable.{TellsNotable, notable_kinds};
 
-use js_kind::Kind;
+use js_kind::{Kind, Token};
 use js_source::of_each_byte;
 
 /// Whether it is the number of a notable kind.
@@ -31,11 +31,10 @@ fn notable() -> &'static [bool; 256]
     &NOTABLE
 }
 
-/// Whether a token of the kind opens or closes a brace, or another command than `Command::Next` may come behind it. Few
-/// do.
+/// Whether the token opens or closes a brace, or another command than `Command::Next` may come behind it. Few do.
 #[inline(always)]
-pub(crate) fn is_notable(kind: Kind) -> bool
-    ensures { result ≡ is_one_of notable_kinds kind }
+pub(crate) fn is_notable(token: &Token) -> bool
+    ensures { result ≡ is_one_of notable_kinds token.now.kind }
 {
-    notable()[kind.number() as usize]
+    notable()[token.kind_number() as usize]
 }

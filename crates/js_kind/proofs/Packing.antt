@@ -171,6 +171,10 @@ places_in n t h =
     let P : ℕ → Type 0 = λ a. Places a t.start t.end (number t.kind) (flag t.is_on_new_line) (flag t.escaped) (flag t.has_separator) in
     subst P h.is (places t h.start h.end)
 
+-- The number of the kind stands at its place.
+pub number_at : (n : ℕ) (t : TokenParts) → IsOf n t → n / 2 ^ 64 % 2 ^ 8 ≡ number t.kind
+number_at n t h = (places_in n t h).kind_at
+
 -- Another start, end, kind or flag in the place of the one that was.
 pub with_start : (t : TokenParts) (n m start : ℕ) → IsOf n t → start < 2 ^ 32 → Replaces 32 0 n start m
     → Holds m (record t { start = start })

@@ -1,6 +1,7 @@
 //! Tokens.
 
 ghost use Rattle.std.specs.Prelude.{◌≡◌, ◌≤◌, ◌↔◌, IsTrue, true, false};
+ghost use Rattle.js_kind.specs.Kinds.{number};
 ghost use Rattle.js_kind.specs.TokenParts.{default_parts};
 
 use crate::kind::Kind;
@@ -104,6 +105,13 @@ impl Token {
         ensures { result ≡ self.now.kind }
     {
         Kind::from_number(last_byte(self.bits >> KIND))
+    }
+
+    /// The number of what it is, for tables by kinds.
+    pub fn kind_number(&self) -> u8
+        ensures { result ≡ number self.now.kind }
+    {
+        last_byte(self.bits >> KIND)
     }
 
     /// Whether a line has ended between the token before it and it, or it is the first.

@@ -9,7 +9,7 @@ use crate::kind::Kind;
 /// A word of the table, or an empty place: `Ident`, with the key 0 and the length 0.
 pub(crate) struct Word {
     pub(crate) key: u64,
-    pub(crate) length: usize,
+    pub(crate) length: u8,
     pub(crate) kind: Kind,
 }
 

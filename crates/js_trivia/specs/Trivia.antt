@@ -163,8 +163,8 @@ call (irregular span) s = add_irregular span s
 call line_end s = handle_newline s
 call (comment found) s = add_comment found s
 
--- Nothing is kept but the lists and the last token: no comment waits, no line end came since the last token, and no range
--- is held. Such a builder was told a token.
+-- Nothing is kept but the lists and the last token: no comment waits, no line end came since the last token, and no
+-- range is held. Such a builder was told a token.
 pub record IsSettled (s : Trivia) : Type 0 where
   pub none_waits : s.attachment.pending ≡ []
   pub saw_none : s.attachment.saw_newline ≡ false

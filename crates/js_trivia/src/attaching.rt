@@ -114,13 +114,13 @@ pub(crate) fn attach_each_pending(
     comments: &mut [Comment],
     processed: usize,
     previous: &Token,
-    token: &Token,
+    token: Token,
 )
     requires { processed ≤ length comments.old }
-    ensures attached { comments.new ≡ attached_from processed (attach_alone previous.now token.now) comments.old }
+    ensures attached { comments.new ≡ attached_from processed (attach_alone previous.now token) comments.old }
     ensures starts { comment_starts comments.new ≡ comment_starts comments.old }
 {
-    attach_each(&mut comments[processed..], previous, token);
+    attach_each(&mut comments[processed..], previous, &token);
 }
 
 /// Marks the last comment that waits as followed by a line end, and tells whether it may be trailing.

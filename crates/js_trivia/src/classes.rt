@@ -337,6 +337,7 @@ fn licensed_class(content: &[u8], may_be_licensed: bool) -> CommentContent
 }
 
 /// The class by the text behind the blanks in front; most comments are told by its first byte.
+#[inline(always)]
 fn class_by_words(content: &str, text: &[u8], may_be_licensed: bool) -> CommentContent
     requires { may_be_licensed ≡ false → is_licensed content.now ≡ false }
     ensures { result ≡ worded_class content.now text.now }

@@ -61,6 +61,7 @@ fn continues_expression(kind: Kind) -> bool
 
 /// Whether a line comment after the token belongs to what follows.
 #[tactic(auto, unfolding(js_grammar::specs::TokensAround::keeps_line_comment_leading))]
+#[inline(always)]
 pub(crate) fn keeps_line_comment_leading(kind: Kind) -> bool
     ensures { result ≡ keeps_line_comment_leading kind }
 {

@@ -262,7 +262,7 @@ impl TriviaBuilder {
     {
         let len = self.comments.len();
         if self.processed < len {
-            attach_each_pending(&mut self.comments, self.processed, &self.previous, &token);
+            attach_each_pending(&mut self.comments, self.processed, &self.previous, token);
             self.processed = len;
         }
         self.saw_newline = false;
@@ -348,6 +348,7 @@ impl TriviaBuilder {
     }
 
     /// Notes the comment at an index in the range of its class, if it has one.
+    #[inline(always)]
     fn note_class(&mut self, content: CommentContent, index: u32)
         requires fits { index < 2 ^ 32 - 1 }
         requires held { index < length (held self.old.attachment) }

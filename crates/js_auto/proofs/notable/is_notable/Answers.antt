@@ -4,4 +4,5 @@ use Rattle.js_auto.proofs.notable.is_notable.Goals as goal
 
 pub returns : goal.returns
 returns c =
-    ap (λ n. slice_index_or c.notable.result.now n false) c.number.ensures ∙ c.notable.ensures.tells c.args.kind
+    ap (λ n. slice_index_or c.notable.result.now n false) c.kind_number.ensures
+    ∙ c.notable.ensures.tells c.args.token.now.kind

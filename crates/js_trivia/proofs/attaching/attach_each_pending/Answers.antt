@@ -6,4 +6,4 @@ use Rattle.js_trivia.proofs.attaching.attach_each_pending.Goals as goal
 pub returns-clause-starts : goal.returns-clause-starts
 returns-clause-starts c =
     starts_put_mid c.args.processed c.args.comments.now c.attach_each.new.comments c.requires
-    (ap comment_starts c.attach_each.ensures ∙ starts_attached_alone c.args.previous.now c.args.token.now _)
+    (ap comment_starts c.attach_each.ensures ∙ starts_attached_alone c.args.previous.now c.args.token _)

@@ -9,13 +9,13 @@ returns-then-self c =
     let old = c.self.inside in
     λ tokens told. rw c.if-self.true
     (told_again tokens c.args.token.now
-    (record { stack = old.braces; before = old.before; last = kept_last old.has_last old.last }) c.kind-kind.result
-    (c.self.view_is ∙ told) (kept_some old.has_last old.last ∙ c.if-self.true) c.kind-kind.ensures)
+    (record { stack = old.braces; before = old.before.kind; last = kept_last old.has_last old.last.kind })
+    (c.self.view_is ∙ told) (kept_some old.has_last old.last.kind ∙ c.if-self.true))
 
 pub returns-else-self : goal.returns-else-self
 returns-else-self c =
     let old = c.self.inside in
     λ tokens told. told
     ∙ sym (chooser-with_last_none tokens c.args.token.now
-    (sym (ap (λ (s : Chooser). is_some s.last) (c.self.view_is ∙ told)) ∙ kept_some old.has_last old.last
+    (sym (ap (λ (s : Chooser). is_some s.last) (c.self.view_is ∙ told)) ∙ kept_some old.has_last old.last.kind
     ∙ c.if-self.false))

@@ -47,7 +47,8 @@ invariant_of-self-2 g c =
     rw read
     (subst
     (λ (a : At).
-    IsSound a (Some c.handle_token_settled.new.self.attachment.previous) c.handle_token_settled.new.self c.self.inside.decoded)
+    IsSound a (Some c.handle_token_settled.new.self.attachment.previous) c.handle_token_settled.new.self
+    c.self.inside.decoded)
     (sym at)
     (sound_after Next (state_of r c.self.inside.found last c.self.inside.decoded) (moved r r.source (is_none last))
     before c.args.token new (ends_told p.gap.ends before) c.handle_token_settled.new.self c.self.inside.decoded
@@ -77,7 +78,8 @@ returns-clause-ok g c =
     rw (← c.self.view_is, tokens, at)
     (reads_read _ c.args.token _ (record r { source = c.args.source })
     (record c.self.inside.found { trivia = c.handle_token_settled.new.self }) _ _ c.self.inside.decoded read
-    (reads_token _ _ (moved r r.source (is_none last)) before new (ends_told p.gap.ends before) c.handle_token_settled.new.self
+    (reads_token _ _ (moved r r.source (is_none last)) before new (ends_told p.gap.ends before)
+    c.handle_token_settled.new.self
     Next c.args.token c.self.inside.decoded p.gap.from.utf8 p.gap.from.boundary
     record {
       source = refl;
