@@ -1,9 +1,9 @@
 -- A lexer that is driven makes the steps of a session.
 use Rattle.std.proofs.Common.{◌≡◌, ℕ, add-zero, true, List, [], ◌∷◌, ◌++◌, length, refl, sym, ◌∙◌, ap, subst}
-use Rattle.std.proofs.Common.{Option, Some, None, Result, Ok, Err}
+use Rattle.std.proofs.Common.{Option, Some, None}
 use Rattle.std.proofs.lemmas.List.{length-append}
 use Rattle.std.specs.List.{AllByRecursion, last_or}
-use Rattle.std.specs.Prelude.{MatchBool, OnOk}
+use Rattle.std.specs.Prelude.{MatchBool}
 use Rattle.std.specs.Str.{IsUtf8}
 use Rattle.js_text.specs.Lists.{with_last}
 use Rattle.js_text.specs.declared.reg_exp_flags.RegexInfo.{RegexInfo}
