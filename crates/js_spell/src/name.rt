@@ -401,69 +401,56 @@ pub fn read_name(
     Ok(spelt)
 }
 
-/// The place of the first character that is no part of a name.
+/// The place of the first character that is no part of a name, if that is no `\`.
 #[inline(never)]
-fn end_of_parts(source: Source<'_>) -> SourcePosition
+fn end_without_escape(source: Source<'_>) -> Option<SourcePosition>
     requires { IsPlaced source }
-    ensures rest { from_place source.entry.text result ≡ from_first is_no_part (rest source.entry) }
-    ensures onward { source.entry.place ≤ result }
-    ensures boundary { IsCharBoundary source.entry.text result }
+    ensures none { IfNone result
+        (begins (λ c. c == backslash) (from_first is_no_part (rest source.entry)) ≡ true) }
+    ensures rest { IfSome result (λ end. from_place source.entry.text end
+        ≡ from_first is_no_part (rest source.entry)) }
+    ensures plain { IfSome result (λ end. begins (λ c. c == backslash) (from_place source.entry.text end) ≡ false) }
+    ensures onward { IfSome result (λ end. source.entry.place ≤ end) }
+    ensures boundary { IfSome result (IsCharBoundary source.entry.text) }
 {
     let mut source = source;
     skip_parts(&mut source);
-    source.position()
-}
-
-/// Goes to the first character that is no part of a name, and gives the byte that is next; the usual way has ASCII
-/// characters alone.
-#[inline(always)]
-fn pass_to_end(source: &mut Source<'_>, parts: &[bool; 256]) -> Option<u8>
-    requires placed { IsPlaced source.old }
-    requires parts { TellsClass is_identifier_part parts.now }
-    ensures text { source.new.text ≡ source.old.text }
-    ensures rest { rest source.new ≡ from_first is_no_part (rest source.old) }
-    ensures none { IfNone result (rest source.new ≡ []) }
-    ensures some { IfSome result (λ b. HasFirstByte b (rest source.new)) }
-    ensures onward { source.old.place ≤ source.new.place }
-    ensures placed { IsPlaced source.new }
-{
-    let b = source.pass_ascii(parts)?;
-    if b < 128 {
-        return Some(b);
+    if begins_ascii(&source, b'\\') {
+        return None;
     }
-    let end = end_of_parts(source.here());
-    source.set_position(end);
-    source.peek_byte()
+    Some(source.position())
 }
 
-/// Passes the characters of the name that begins with the ASCII character `b`, up to its first escape or its end, and
-/// gives the byte that is next.
+/// Passes the characters of the name that begins with the ASCII character `b`, up to its end, and tells whether no escape
+/// stands in it; most names have ASCII characters alone, and end before a character that stands before `\`.
 #[inline(always)]
-fn pass_unescaped_from(source: &mut Source<'_>, parts: &[bool; 256], b: u8) -> Option<u8>
+fn pass_name(source: &mut Source<'_>, parts: &[bool; 256], b: u8) -> bool
+    requires placed { IsPlaced source.old }
     requires parts { TellsClass is_identifier_part parts.now }
     requires ascii { b < 128 }
     requires next { HasFirstByte b (rest source.old) }
     requires begun { begins_name (rest source.old) ≡ true }
     requires unescaped { b ≡ backslash → ⊥ }
-    ensures passes { PassesUnescaped source.old Later source.new }
-    ensures rest { rest source.new ≡ from_first is_no_part (drop 1 (rest source.old)) }
-    ensures none { IfNone result (rest source.new ≡ []) }
-    ensures some { IfSome result (λ b. HasFirstByte b (rest source.new)) }
+    ensures passes { result ≡ true → PassesUnescaped source.old Later source.new }
+    ensures ends { result ≡ true → begins (λ c. c == backslash) (rest source.new) ≡ false }
+    ensures none { result ≡ false → MeetsEscape (rest source.old) }
+    ensures text { source.new.text ≡ source.old.text }
     ensures onward { source.old.place ≤ source.new.place }
     ensures placed { IsPlaced source.new }
 {
     source.next_ascii(b);
-    pass_to_end(source, parts)
-}
-
-/// Whether the byte that is next is the `\` of an escape.
-#[inline(always)]
-fn is_backslash(next: Option<u8>) -> bool
-    ensures { (text : List ℕ) → MatchOption next (text ≡ []) (λ b. HasFirstByte b text)
-        → result ≡ begins (λ c. c == backslash) text }
-{
-    match next {
-        Some(b) => b == b'\\',
+    let next = match source.pass_ascii(parts) {
+        Some(next) => next,
+        None => return true,
+    };
+    if next < b'\\' {
+        return true;
+    }
+    match end_without_escape(source.here()) {
+        Some(end) => {
+            source.set_position(end);
+            true
+        }
         None => false,
     }
 }
@@ -486,8 +473,7 @@ pub fn read_unescaped_name_by(source: &mut Source<'_>, parts: &[bool; 256], b: u
     ensures placed { IsPlaced source.new }
 {
     let start = source.position();
-    let next = pass_unescaped_from(source, parts, b);
-    if is_backslash(next) {
+    if !pass_name(source, parts, b) {
         return None;
     }
     let from = source.offset_of(start) as usize;

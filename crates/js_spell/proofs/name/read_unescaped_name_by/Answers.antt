@@ -1,39 +1,25 @@
-use Rattle.std.proofs.Common.{◌≡◌, refl, sym, ◌∙◌, ap, subst, false, inr, ◌==◌}
+use Rattle.std.proofs.Common.{◌≡◌, refl, sym, ◌∙◌, subst, false}
 use Rattle.std.specs.List.{slice_range}
 use Rattle.std.specs.Str.{IsCharBoundary}
 use Rattle.js_kind.specs.Keywords.{name_kind}
-use Rattle.js_text.specs.Ascii.{backslash}
-use Rattle.js_text.specs.Characters.{begins}
-use Rattle.js_source.specs.Source.{rest}
 use Rattle.js_source.proofs.Places.{between}
 use Rattle.js_spell.specs.declared.spelt.SpeltValue.TheVariants.{Unescaped}
 use Rattle.js_spell.specs.declared.name.Position.TheVariants.{Later}
-use Rattle.js_spell.proofs.ItemSteps.{match_option}
 use Rattle.js_spell.proofs.NameReadings.{unescaped_spelled}
 use Rattle.js_spell.proofs.name.read_unescaped_name_by.Goals as goal
 
 pub returns-clause-some : goal.returns-clause-some
 returns-clause-some c = λ errors token.
-    let passed = c.pass_unescaped_from-next.ensures in
+    let passed = c.if-not-pass_name.ensures in
     let old = c.args.source.now in
-    let new = c.pass_unescaped_from-next.new.source in
-    let told = c.is_backslash.ensures (rest new)
-    (match_option c.pass_unescaped_from-next.result _ _ passed.none passed.some) in
+    let new = c.pass_name.new.source in
     let begun : IsCharBoundary new.text old.place =
-    subst (λ text. IsCharBoundary text old.place) (sym passed.passes.goes_on.text) c.requires.placed.boundary in
+    subst (λ text. IsCharBoundary text old.place) (sym passed.text) c.requires.placed.boundary in
     let whole : c.as_bytes.result.now ≡ new.text = c.as_bytes.ensures.value ∙ c.whole.ensures.text in
     let from : c.offset_of-from.result ≡ old.place = c.offset_of-from.ensures ∙ c.position-start.ensures.place in
     let kind : c.match_keyword_between.result ≡ name_kind (slice_range new.text old.place new.place) =
     rw (← whole, ← from, ← c.offset-to.ensures.place) c.match_keyword_between.ensures in
     unescaped_spelled old new errors token (record token { escaped = false; has_separator = false }) Later
     (slice_range new.text old.place new.place) (record { kind = c.match_keyword_between.result; value = Unescaped })
-    passed.passes (sym told ∙ c.if-is_backslash.false)
+    (passed.passes refl) (passed.ends refl)
     (between new.text old.place new.place passed.placed.utf8 passed.onward begun passed.placed.boundary) refl kind refl
-
-pub returns-then-is_backslash-clause-none : goal.returns-then-is_backslash-clause-none
-returns-then-is_backslash-clause-none c =
-    let passed = c.pass_unescaped_from-next.ensures in
-    let told = c.is_backslash.ensures (rest c.pass_unescaped_from-next.new.source)
-    (match_option c.pass_unescaped_from-next.result _ _ passed.none passed.some) in
-    inr
-    (ap (begins (λ c. c == backslash)) (sym passed.rest) ∙ sym told ∙ c.if-is_backslash.true)
