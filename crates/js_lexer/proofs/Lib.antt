@@ -5,6 +5,7 @@ pub mod GoesOn
 pub mod LexerSteps
 pub mod ListSteps
 pub mod MarkLaws
+pub mod NoHashbang
 pub mod PlaceLaws
 pub mod ReadAgain
 pub mod ReadingLaws

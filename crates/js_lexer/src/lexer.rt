@@ -1,6 +1,6 @@
 //! The lexer: a source, the last token, and the lists that its readings fill.
 
-ghost use Rattle.std.specs.Prelude.{◌≡◌, ◌≤◌, ◌^◌, ◌↔◌, true, List, [], length, drop, Option, None, IsTrue, IfOk};
+ghost use Rattle.std.specs.Prelude.{◌≡◌, ◌≤◌, ◌^◌, ◌↔◌, true, false, List, [], length, drop, Option, None, IsTrue, IfOk};
 ghost use Rattle.std.specs.Prelude.{OnOk, OnErr, if◌then◌else◌, ◌<◌};
 ghost use Rattle.std.specs.List.{last_or};
 ghost use Rattle.std.specs.Str.{IsCharBoundary, IsUtf8};
@@ -72,8 +72,23 @@ fn places_for_tokens(
     ReservedList::with_free(alloc, bytes + 1)
 }
 
-/// Collects the token, where tokens are collected and it is no hashbang comment. While a place is free it takes no
+/// Collects the token, which is no hashbang comment, where tokens are collected. While a place is free it takes no
 /// memory.
+#[inline(always)]
+fn collect_other(
+    tokens: &mut ReservedList<Token>,
+    collects: bool,
+    token: Token,
+) -> Result<(), AllocError>
+    requires { is_hashbang token.kind ≡ false }
+    ensures ok { OnOk result (tokens.new ≡ with_token collects token tokens.old) }
+    ensures err { OnErr result (tokens.new ≡ tokens.old) }
+    ensures full { OnErr result (tokens.old.free ≡ 0) }
+{
+    if collects { tokens.push(token) } else { Ok(()) }
+}
+
+/// Collects the token, where tokens are collected and it is no hashbang comment.
 fn collect(
     tokens: &mut ReservedList<Token>,
     collects: bool,
@@ -83,13 +98,10 @@ fn collect(
     ensures err { OnErr result (tokens.new ≡ tokens.old) }
     ensures full { OnErr result (tokens.old.free ≡ 0) }
 {
-    if !collects {
-        return Ok(());
-    }
     if is_hashbang(token.kind()) {
         return Ok(());
     }
-    tokens.push(*token)
+    collect_other(tokens, collects, *token)
 }
 
 /// Takes the token that was read as the last one; alone: before it the builder was told of nothing but line ends.

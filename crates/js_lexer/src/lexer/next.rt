@@ -1,16 +1,16 @@
 //! The reading of the next token: simple readings first, and behind them those of any form.
 
-ghost use Rattle.std.specs.Prelude.{◌≡◌, true, None, IfOk, OnOk, OnErr, is_none};
+ghost use Rattle.std.specs.Prelude.{◌≡◌, true, false, None, IfOk, OnOk, OnErr, is_none};
 ghost use Rattle.js_text.specs.Characters.{is_identifier_start};
 ghost use Rattle.js_grammar.specs.Gap.{whole_gap_piece};
 ghost use Rattle.js_source.specs.Source.{IsPlaced, rest};
 ghost use Rattle.js_reader.specs.Decoded.{Keeps, KeepsValues, HasValue};
 ghost use Rattle.js_reader.specs.Simple.{MeetsByte, PassesSimpleGap, ReadsSimpleToken, SpellsSimply};
 ghost use Rattle.js_lexer.specs.Places.{ReadsInPlaces};
-ghost use Rattle.js_lexer.specs.Lexer.{here, ReadsNext, ReadsToken, IsRestored, IsSettled, with_token};
+ghost use Rattle.js_lexer.specs.Lexer.{here, is_hashbang, ReadsNext, ReadsToken, IsRestored, IsSettled, with_token};
 ghost use Rattle.js_reader.specs.Reader.{ReadsInPart, ReadsTokenHere};
 
-use super::{Lexer, collect, start_behind_reports, take_token};
+use super::{Lexer, collect, collect_other, start_behind_reports, take_token};
 use js_grammar::Goal;
 use js_kind::{Kind, LexerConfig, Token};
 use js_places::ReservedList;
@@ -141,12 +141,13 @@ impl<'a, C: LexerConfig + Drop> Lexer<'a, C> {
     fn take_simple(&mut self, source: Source<'a>, token: Token) -> Result<(), AllocError>
         requires settled { IsSettled self.old }
         requires reads { ReadsSimpleToken (here self.old) (is_none self.old.last) token source }
+        requires other { is_hashbang token.kind ≡ false }
         ensures ok { OnOk result (ReadsToken Goal.Next self.old token self.new) }
         ensures err { OnErr result (IsRestored self.old self.new) }
         ensures kept { Keeps self.old.decoded self.new.decoded }
         ensures places { ReadsInPlaces self.old self.new }
     {
-        collect(&mut self.tokens, self.config.tokens(), &token)?;
+        collect_other(&mut self.tokens, self.config.tokens(), token)?;
         self.reader.source.set_position(source.position());
         self.found.trivia.handle_token_settled(token);
         Ok(())

@@ -68,7 +68,7 @@ returns-clause-ok g c =
     let new = moved r c.args.source p.line_has_ended in
     let none : c.self.inside.found.trivia.attachment.pending ≡ [] =
     ap (λ (a : Attachment). a.pending) c.self.invariant.attachment in
-    let tokens = rw c.tokens.ensures at c.in_ok-collect.ensures.ok in
+    let tokens = rw c.tokens.ensures at c.in_ok-collect_other.ensures.ok in
     let same = keeps_same r.source.text c.self.inside.decoded c.self.inside.decoded refl in
     let at =
     moved_on r.source c.set_position.new.self c.args.source c.position.result c.set_position.ensures
@@ -96,7 +96,7 @@ returns-clause-ok g c =
 
 pub returns-clause-places : goal.returns-clause-places
 returns-clause-places g c =
-    let tokens = rw c.tokens.ensures at c.in_ok-collect.ensures.ok in
+    let tokens = rw c.tokens.ensures at c.in_ok-collect_other.ensures.ok in
     let count = count_collected _ c.args.token c.self.inside.tokens _ tokens in
     reads_in_places Next c.args.token c.args.self.now _ refl (rw (← c.self.view_is) c.self.invariant.behind)
     (returns-clause-ok g c) (rw (← c.self.view_is) count)

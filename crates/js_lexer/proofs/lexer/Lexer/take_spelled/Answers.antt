@@ -2,6 +2,8 @@ use Rattle.std.proofs.Common.{◌∙◌, ap}
 use Rattle.js_reader.specs.Reader.{simple_lexeme}
 use Rattle.js_reader.specs.Reader.{lexeme_token}
 use Rattle.js_reader.proofs.SimpleReadings.{simple_token, simple_onward}
+use Rattle.js_lexer.specs.Lexer.{is_hashbang}
+use Rattle.js_lexer.proofs.NoHashbang.{simply_other}
 use Rattle.js_lexer.proofs.lexer.Lexer.take_spelled.Goals as goal
 
 pub new-span-requires : goal.new-span-requires
@@ -24,3 +26,8 @@ take_simple-requires-clause-reads g c =
     (c.new-token.ensures ∙ ap (λ s. lexeme_token s.start s.end lexeme) c.new-span.ensures
     ∙ ap (λ n. lexeme_token n c.offset.result lexeme) (c.offset_of-start.ensures ∙ c.position.ensures.place)
     ∙ ap (λ n. lexeme_token c.args.source.place n lexeme) c.offset.ensures.place)
+
+pub take_simple-requires-clause-other : goal.take_simple-requires-clause-other
+take_simple-requires-clause-other g c =
+    ap (λ t. is_hashbang t.kind) c.new-token.ensures
+    ∙ simply_other c.args.line_has_ended c.args.source c.args.behind c.args.kind c.self.inside.reader c.requires.spells
