@@ -11,12 +11,12 @@ pub fn advance_if_sequence(source: &mut Source<'_>, sequence: &[u8]) -> bool
     requires { All (λ b. b < 128) sequence.now }
     ensures { TakesSequence sequence.now source.old result source.new }
 {
-    let start = source.position();
+    let mut behind = source.here();
     for b in sequence {
-        if !source.advance_if_ascii_eq(*b) {
-            source.set_position(start);
+        if !behind.advance_if_ascii_eq(*b) {
             return false;
         }
     }
+    *source = behind;
     true
 }

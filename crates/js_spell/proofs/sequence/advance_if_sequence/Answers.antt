@@ -14,9 +14,7 @@ returns-then-not-advance_if_ascii_eq c =
     let front = take i mark in
     let split : front ++ (get_or mark i 0 ∷ drop (suc i) mark) ≡ mark =
     ap (λ xs. front ++ xs) (sym (drop-cons mark i 0 c.loop-b-test.true)) ∙ take-append-drop i mark in
-    let none : is_prefix mark (front ++ rest c.loop-b.source) ≡ false =
-    subst (λ (m : List ℕ). is_prefix m (front ++ rest c.loop-b.source) ≡ false) split
-    (no_prefix front (get_or mark i 0) (drop (suc i) mark) (rest c.loop-b.source) other.0) in (
-      ap (is_prefix mark) c.loop-b.invariant.1 ∙ none,
-      c.set_position.ensures ∙ rw (other.1, c.loop-b.invariant.0, c.position-start.ensures.place) refl,
-    )
+    let none : is_prefix mark (front ++ rest c.loop-b.behind) ≡ false =
+    subst (λ (m : List ℕ). is_prefix m (front ++ rest c.loop-b.behind) ≡ false) split
+    (no_prefix front (get_or mark i 0) (drop (suc i) mark) (rest c.loop-b.behind) other.0) in
+    (ap (is_prefix mark) c.loop-b.invariant.1 ∙ none, refl)
