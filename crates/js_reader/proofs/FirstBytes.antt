@@ -1,6 +1,5 @@
 -- The characters that one byte tells.
-use Rattle.std.proofs.Common.{◌≡◌, ℕ, ◌<◌, Bool, true, false, not, refl, sym, ◌∙◌, ap, arith, ◌==◌, nat_le}
-use Rattle.std.specs.Prelude.{MatchBool}
+use Rattle.std.proofs.Common.{◌≡◌, ℕ, ◌<◌, true, false, refl, arith, nat_le}
 use Rattle.std.proofs.lemmas.Bool.{ne_eqb}
 use Rattle.js_text.specs.Characters.{is_white_space, is_irregular_whitespace, is_line_terminator}
 use Rattle.js_reader.specs.Gaps.{BeginsNoPiece}
@@ -57,12 +56,3 @@ begins_none b low high slash angle minus =
       no_angle = angle;
       no_minus = minus;
     }
-
-pub tells_none : (b : ℕ) → 32 < b → b < 128 → (b ≡ 47 → ⊥) → (b ≡ 60 → ⊥)
-    → MatchBool (not (b == 45)) (BeginsNoPiece b) (Unit {0})
-tells_none b low high slash angle = by_test (b == 45) refl
-  where
-    by_test : (x : Bool) → (b == 45) ≡ x → MatchBool (not x) (BeginsNoPiece b) (Unit {0})
-    by_test true t = tt
-    by_test false t =
-        begins_none b low high slash angle (λ e. let both : false ≡ true = sym t ∙ ap (λ n. n == 45) e in cc)

@@ -25,7 +25,7 @@ use Rattle.js_grammar.proofs.Flags.{punctuator_unflagged}
 use Rattle.js_grammar.proofs.GapLemmas.{none_behind, unreported}
 use Rattle.js_grammar.proofs.NumberClasses.{all_below, below}
 use Rattle.js_grammar.proofs.PieceLemmas.{piece-other, piece-minus, piece-angle}
-use Rattle.js_source.specs.Runs.{HasAscii, PassesRun, TellsClass, place_of}
+use Rattle.js_source.specs.Runs.{PassesRun, TellsClass, place_of}
 use Rattle.js_source.specs.Source.{At, rest, Reads, IsPlaced, HasFirstByte, HasFirstTwoBytes}
 use Rattle.js_source.specs.Search.{matches_at}
 use Rattle.js_spell.specs.Name.{SpellsUnescapedName, SpellsUnescapedPrivateName}
@@ -44,7 +44,7 @@ use Rattle.js_reader.specs.declared.findings_builder.FindingsBuilder.{FindingsBu
 use Rattle.js_reader.specs.declared.reader.Reader.{Reader}
 use Rattle.js_reader.proofs.GapSteps.{blanks_lead, line_feed_skipped, no_gap_left}
 use Rattle.js_reader.proofs.FirstBytes.{begins_none}
-use Rattle.js_reader.proofs.PartSteps.{is_start, mark_begins_none}
+use Rattle.js_reader.proofs.PartSteps.{is_start, mark_none, small_of}
 use Rattle.js_reader.proofs.NumberSteps.{digit_begins}
 use Rattle.js_reader.proofs.ReadingSteps.{lexeme_spelled, lexeme_onward}
 use Rattle.js_reader.proofs.ReadingSteps.{goal_behind, token_behind}
@@ -81,14 +81,6 @@ run_of_one table now next b small has here text onward g = record {
   all = (small, has, tt);
   here = here ∙ ap (λ t. b ∷ rest (place_of t next.place)) text;
 }
-
--- the bytes of a table of ASCII characters are such
-small_of : (table : List Bool) (b : ℕ) → HasAscii table → matches_at table b ≡ true → b < 128
-small_of table b ascii is = by_test (nat_le 128 b) refl
-  where
-    by_test : (x : Bool) → nat_le 128 b ≡ x → b < 128
-    by_test true e = absurd (let both : true ≡ false = sym is ∙ ascii b (leb-true 128 b e) in cc)
-    by_test false e = leb-false 128 b e
 
 pub blank_is_ascii : (table : List Bool) (b : ℕ) → TellsClass is_blank table → matches_at table b ≡ true → b < 128
 blank_is_ascii table b tells is = small_of table b tells.ascii is
@@ -181,9 +173,7 @@ byte_met b start now had has s ends next =
 -- what the table of symbols tells
 pub mark_ends : (table : List Bool) (b : ℕ) (ended : Bool) (cs : List ℕ) → TellsClass is_symbol table
     → matches_at table b ≡ true → HasFirstByte b cs → EndsGapInAscii b ended cs
-mark_ends table b ended cs tells is first =
-    let small = small_of table b tells.ascii is in
-    no_piece_ends b ended cs first (mark_begins_none b small (sym (tells.tells b small) ∙ is))
+mark_ends table b ended cs tells is first = no_piece_ends b ended cs first (mark_none table b tells is)
 
 -- what the table of the starts of names tells
 pub starts_name : (table : List Bool) (b : ℕ) → TellsClass is_identifier_start table → matches_at table b ≡ true

@@ -11,7 +11,7 @@ ghost use Rattle.js_source.specs.Runs.{PassesRun, TellsClass};
 ghost use Rattle.js_reader.specs.Found.{Grows};
 ghost use Rattle.js_reader.specs.Gaps.{BeginsNoPiece, IsNext};
 ghost use Rattle.js_reader.specs.Reader.{SkipsPiece, SkipsGap, SkipsWholeGap, SkipsReported, MovesOn};
-ghost use Rattle.js_reader.specs.Tables.{is_blank};
+ghost use Rattle.js_reader.specs.Tables.{is_blank, is_symbol};
 
 use crate::findings_builder::FindingsBuilder;
 use crate::reader::Reader;
@@ -21,22 +21,11 @@ use std::alloc::AllocError;
 
 /// Whether the byte is a character that begins no piece; false where one may begin.
 #[inline(always)]
-pub fn begins_no_piece(b: u8) -> bool
+pub fn begins_no_piece(symbols: &[bool; 256], b: u8) -> bool
+    requires { TellsClass is_symbol symbols.now }
     ensures { MatchBool result (BeginsNoPiece b) (Unit {0}) }
 {
-    if b <= b' ' {
-        return false;
-    }
-    if b >= 128 {
-        return false;
-    }
-    if b == b'/' {
-        return false;
-    }
-    if b == b'<' {
-        return false;
-    }
-    b != b'-'
+    symbols[b as usize]
 }
 
 /// Skips TABs and SPs, and tells the byte behind them.
@@ -104,22 +93,17 @@ impl Reader<'_> {
         }
     }
 
-    /// Skips the piece of a gap that begins here, and tells whether one does; `next` is the next byte.
+    /// Skips the piece of a gap that begins here, and tells whether one does.
     #[inline(always)]
-    fn skip_piece(
-        &mut self,
-        found: &mut FindingsBuilder,
-        next: Option<u8>,
-    ) -> Result<bool, AllocError>
+    fn skip_piece(&mut self, found: &mut FindingsBuilder) -> Result<bool, AllocError>
         requires placed { IsPlaced self.old.source }
-        requires next { IsNext next (rest self.old.source) }
         ensures ok { IfOk result (λ skipped. SkipsPiece self.old found.old skipped self.new found.new) }
         ensures grown { Grows found.old found.new }
         ensures err { OnErr result (MovesOn self.old self.new) }
     {
-        match next {
+        match self.source.peek_byte() {
             None => Ok(false),
-            Some(b) if begins_no_piece(b) => Ok(false),
+            Some(b) if begins_no_piece(&self.tables.symbols, b) => Ok(false),
             Some(b'\n') => {
                 self.skip_line_feed(found);
                 Ok(true)
@@ -138,9 +122,9 @@ impl Reader<'_> {
         ensures grown { Grows found.old found.new }
         ensures err { OnErr result (MovesOn self.old self.new) }
     {
-        let mut next = skip_blanks(&mut self.source, &self.tables.blanks);
-        while self.skip_piece(found, next)? {
-            next = skip_blanks(&mut self.source, &self.tables.blanks);
+        skip_blanks(&mut self.source, &self.tables.blanks);
+        while self.skip_piece(found)? {
+            skip_blanks(&mut self.source, &self.tables.blanks);
         }
         Ok(())
     }

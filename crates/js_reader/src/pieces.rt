@@ -8,7 +8,7 @@ ghost use Rattle.js_text.specs.Comment.{is_line_kind, opening_length};
 ghost use Rattle.js_grammar.specs.Gap.{is_prefix};
 ghost use Rattle.js_grammar.specs.Outcome.{html_deferred};
 ghost use Rattle.js_grammar.specs.PieceItems.{is_separator, listed_if};
-ghost use Rattle.js_source.specs.Source.{rest, BeginsWith, IsPlaced};
+ghost use Rattle.js_source.specs.Source.{rest, BeginsWith, HasFirstByte, IsPlaced};
 ghost use Rattle.js_trivia.specs.Trivia.{calls};
 ghost use Rattle.js_reader.specs.Found.{Grows};
 ghost use Rattle.js_reader.specs.Gaps.{opening_sequence, is_html, IsAtLineEnd};
@@ -132,11 +132,11 @@ impl Reader<'_> {
     #[inline(always)]
     pub fn skip_line_feed(&mut self, found: &mut FindingsBuilder)
         requires placed { IsPlaced self.old.source }
-        requires next { BeginsWith line_feed (rest self.old.source) }
+        requires next { HasFirstByte line_feed (rest self.old.source) }
         ensures skips { SkipsSome self.old found.old self.new found.new }
         ensures grown { Grows found.old found.new }
     {
-        self.source.next_char();
+        self.source.next_ascii(b'\n');
         self.line_has_ended = true;
         found.trivia.handle_newline();
     }

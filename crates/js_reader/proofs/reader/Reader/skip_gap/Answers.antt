@@ -6,17 +6,16 @@ use Rattle.js_reader.proofs.reader.Reader.skip_gap.Goals as goal
 
 pub loop-self-init : goal.loop-self-init
 loop-self-init c =
-    let blanks = c.skip_blanks-next.ensures in
+    let blanks = c.skip_blanks.ensures in
     record {
-      is_next = blanks.next;
       placed = blanks.placed;
       text = blanks.text;
       source_type = refl;
       leads =
-          leads_to c.args.self.now (record c.args.self.now { source = c.skip_blanks-next.new.source }) _
+          leads_to c.args.self.now (record c.args.self.now { source = c.skip_blanks.new.source }) _
           c.args.found.now c.args.found.now
           (blanks_lead c.args.self.now.tables.blanks c.args.self.now.tables.gap_blanks c.args.self.now
-          c.skip_blanks-next.new.source c.args.found.now c.requires blanks.placed blanks.text blanks.run)
+          c.skip_blanks.new.source c.args.found.now c.requires blanks.placed blanks.text blanks.run)
           (record { source = refl; stays = record { source_type = refl; line_has_ended = refl } });
       grown = grows_none c.args.found.now;
     }
@@ -32,16 +31,15 @@ loop-self-preserved c =
     let some =
     subst (λ (b : Bool). SkipsPiece c.loop-self.self c.loop-self.found b c.skip_piece.new.self c.skip_piece.new.found)
     c.if-branch.true c.in_ok-skip_piece.ensures.ok in
-    let blanks = c.skip_blanks-next-in-loop-self.ensures in
+    let blanks = c.skip_blanks-in-loop-self.ensures in
     let passes =
     leads_to c.skip_piece.new.self
-    (record c.skip_piece.new.self { source = c.skip_blanks-next-in-loop-self.new.source }) _
+    (record c.skip_piece.new.self { source = c.skip_blanks-in-loop-self.new.source }) _
     c.skip_piece.new.found c.skip_piece.new.found
     (blanks_lead c.skip_piece.new.self.tables.blanks c.skip_piece.new.self.tables.gap_blanks c.skip_piece.new.self
-    c.skip_blanks-next-in-loop-self.new.source c.skip_piece.new.found some.placed blanks.placed blanks.text blanks.run)
+    c.skip_blanks-in-loop-self.new.source c.skip_piece.new.found some.placed blanks.placed blanks.text blanks.run)
     (record { source = refl; stays = record { source_type = refl; line_has_ended = refl } }) in
     record {
-      is_next = blanks.next;
       placed = blanks.placed;
       text = blanks.text ∙ some.text ∙ inv.text;
       source_type = some.source_type ∙ inv.source_type;

@@ -1,13 +1,11 @@
 use Rattle.std.proofs.Common.{◌≡◌, false, length}
 use Rattle.js_source.specs.Source.{rest, IsPlaced}
 use Rattle.js_reader.specs.Found.{Grows}
-use Rattle.js_reader.specs.Gaps.{IsNext}
 use Rattle.js_reader.specs.Reader.{Leads}
 use Rattle.js_reader.proofs.reader.Reader.skip_gap.Given as goal
 
 abbrev pub invariant-loop-self : goal.invariant-loop-self
 invariant-loop-self l = record {
-  is_next : IsNext l.next (rest l.self.source);
   placed : IsPlaced l.self.source;
   text : l.self.source.text ≡ l.fn.self.source.text;
   source_type : l.self.source_type ≡ l.fn.self.source_type;
