@@ -12,7 +12,7 @@ use Rattle.js_kind.proofs.NameKinds.{name_kind-is_identifier_name}
 use Rattle.js_grammar.specs.Goals.{ReadsHere}
 use Rattle.js_grammar.specs.Goals.ReadsHere.{spelled as spelled_here, recovers}
 use Rattle.js_grammar.specs.Name.{decoded}
-use Rattle.js_grammar.specs.Punctuators.{Punctuator, punctuators, IsIn}
+use Rattle.js_grammar.specs.Punctuators.{Punctuator, punctuators}
 use Rattle.js_grammar.specs.Reading.{Reading}
 use Rattle.js_grammar.specs.Spelling.{Spelling}
 use Rattle.js_grammar.specs.Spelling.Spelling.{name, private_name, punctuator, number, string, template}
@@ -23,7 +23,7 @@ use Rattle.js_grammar.proofs.Clean.{none_moved, recovery_reports}
 use Rattle.js_grammar.proofs.NumberKinds.{number_kind}
 use Rattle.js_grammar.proofs.PunctuatorLemmas.{passes_at}
 use Rattle.js_source.specs.Source.{At}
-use Rattle.js_reader.specs.Simple.{SpellsSimply, moved}
+use Rattle.js_reader.specs.Simple.{SpellsSimply}
 use Rattle.js_reader.specs.declared.reader.Reader.{Reader}
 use Rattle.js_lexer.specs.Lexer.{is_hashbang}
 
@@ -37,7 +37,7 @@ other_class p kind none is = by_flag (is_hashbang kind) refl
         let same : kind ≡ HashbangComment = number_injective kind HashbangComment (eqb-true _ _ e) in
         absurd (let no : true ≡ false = sym is ∙ ap p same ∙ none in cc)
 
-hashbang_is_no_name : is_identifier_name HashbangComment ≡ false
+pub hashbang_is_no_name : is_identifier_name HashbangComment ≡ false
 unfolding is_identifier_name
 hashbang_is_no_name = refl
 

@@ -1,5 +1,5 @@
 -- A lexer that was told a token, and of nothing else that its builder of trivia keeps.
-use Rattle.std.proofs.Common.{◌≡◌, Bool, true, false, refl, sym, ◌∙◌, ap, subst, Option, None}
+use Rattle.std.proofs.Common.{◌≡◌, ℕ, Bool, true, false, refl, sym, ◌∙◌, ap, subst, Option, None}
 use Rattle.std.specs.Prelude.{is_none}
 use Rattle.js_places.specs.Reserved.{Reserved}
 use Rattle.js_kind.specs.TokenParts.{TokenParts}
@@ -8,6 +8,7 @@ use Rattle.js_source.specs.Source.{At}
 use Rattle.js_trivia.specs.Attachment.{Attachment}
 use Rattle.js_trivia.specs.Trivia.{Trivia, IsSettled as IsSettledBuilder}
 use Rattle.js_reader.specs.Decoded.{Values}
+use Rattle.js_reader.specs.Simple.{MeetsByte}
 use Rattle.js_reader.specs.declared.findings_builder.FindingsBuilder.{FindingsBuilder}
 use Rattle.js_reader.specs.declared.reader.Reader.{Reader}
 use Rattle.js_lexer.specs.Lexer.{LexerState, IsSettled, IsSound, ReadsToken, last_read, lexer_of}
@@ -27,6 +28,15 @@ settled_lexer collects r found read tokens decoded h s = record {
   no_pure = s.no_pure;
   no_without_side_effects = s.no_without_side_effects;
 }
+
+-- the byte that a simple gap has ended at, passed by a copy of the source
+pub meets_if_settled : (b : ℕ) (here copied : At) (last : Option TokenParts) (trivia : Trivia) (decoded : Values)
+    (source : At) (line_has_ended : Bool) → IsSound here last trivia decoded → IsSettledBuilder trivia
+    → copied ≡ here → MeetsByte b copied false source line_has_ended
+    → MeetsByte b here (is_none last) source line_has_ended
+meets_if_settled b here copied last trivia decoded source line_has_ended h s same meets =
+    subst (λ had. MeetsByte b here had source line_has_ended) (sym (read_if_settled here last trivia decoded h s))
+    (subst (λ (a : At). MeetsByte b a false source line_has_ended) same meets)
 
 -- and where one was read, and no range is held, the builder is settled
 pub settled_builder : (here : At) (last : Option TokenParts) (trivia : Trivia) (decoded : Values)

@@ -46,6 +46,7 @@ use Rattle.js_grammar.proofs.SpellingClasses.{SpelledName}
 use Rattle.js_grammar.proofs.StringBegins.{string_is_escaped, string_has_own_units}
 use Rattle.js_grammar.proofs.StringLaws.{string_begins}
 use Rattle.js_grammar.proofs.Values.{goal_reads_value}
+use Rattle.js_lexer.proofs.NoHashbang.{hashbang_is_no_name}
 use Rattle.js_lexer.specs.Laws.{IsNameOfWord, IsStringOfItems, units_of_items}
 use Rattle.js_lexer.specs.Lexer.{LexerState, ReadsToken}
 
@@ -59,10 +60,6 @@ private_is_no_name = refl
 string_is_no_name : is_identifier_name Str ≡ false
 unfolding is_identifier_name
 string_is_no_name = refl
-
-hashbang_is_no_name : is_identifier_name HashbangComment ≡ false
-unfolding is_identifier_name
-hashbang_is_no_name = refl
 
 template_is_no_name : (xs ys : List ℕ) (kind : Kind) → IsTemplatePart xs ys kind → is_identifier_name kind ≡ false
 unfolding is_identifier_name

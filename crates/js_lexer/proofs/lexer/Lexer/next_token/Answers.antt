@@ -1,7 +1,5 @@
-use Rattle.std.proofs.Common.{false, refl, sym, subst}
-use Rattle.js_source.specs.Source.{At}
-use Rattle.js_reader.specs.Simple.{MeetsByte}
-use Rattle.js_lexer.proofs.Settled.{read_if_settled, settled_lexer}
+use Rattle.std.proofs.Common.{refl}
+use Rattle.js_lexer.proofs.Settled.{meets_if_settled, settled_lexer}
 use Rattle.js_lexer.proofs.lexer.Lexer.next_token.Goals as goal
 
 pub read_name_here-requires-clause-settled : goal.read_name_here-requires-clause-settled
@@ -12,15 +10,10 @@ read_name_here-requires-clause-settled g c =
 
 pub read_name_here-requires-clause-meets : goal.read_name_here-requires-clause-meets
 read_name_here-requires-clause-meets g c =
-    let r = c.self.inside.reader in
-    let gap = c.pass_simple_gap.new in
-    let read =
-    read_if_settled r.source _ c.self.inside.found.trivia c.self.inside.decoded c.self.invariant
-    (c.if-not-is_settled.ensures refl) in
     rw (← c.self.view_is)
-    (subst (λ had. MeetsByte c.in-Name.b r.source had gap.source gap.line_has_ended) (sym read)
-    (subst (λ (a : At). MeetsByte c.in-Name.b a false gap.source gap.line_has_ended) c.here-source.ensures.same
-    c.in-Name.ensures.0))
+    (meets_if_settled c.in-Name.b c.self.inside.reader.source _ _ c.self.inside.found.trivia c.self.inside.decoded
+    c.pass_simple_gap.new.source c.pass_simple_gap.new.line_has_ended c.self.invariant
+    (c.if-not-is_settled.ensures refl) c.here-source.ensures.same c.in-Name.ensures.0)
 
 pub read_symbol_here-requires-clause-settled : goal.read_symbol_here-requires-clause-settled
 read_symbol_here-requires-clause-settled g c =
@@ -30,12 +23,7 @@ read_symbol_here-requires-clause-settled g c =
 
 pub read_symbol_here-requires-clause-meets : goal.read_symbol_here-requires-clause-meets
 read_symbol_here-requires-clause-meets g c =
-    let r = c.self.inside.reader in
-    let gap = c.pass_simple_gap.new in
-    let read =
-    read_if_settled r.source _ c.self.inside.found.trivia c.self.inside.decoded c.self.invariant
-    (c.if-not-is_settled.ensures refl) in
     rw (← c.self.view_is)
-    (subst (λ had. MeetsByte c.in-Symbol.b r.source had gap.source gap.line_has_ended) (sym read)
-    (subst (λ (a : At). MeetsByte c.in-Symbol.b a false gap.source gap.line_has_ended) c.here-source.ensures.same
-    c.in-Symbol.ensures))
+    (meets_if_settled c.in-Symbol.b c.self.inside.reader.source _ _ c.self.inside.found.trivia c.self.inside.decoded
+    c.pass_simple_gap.new.source c.pass_simple_gap.new.line_has_ended c.self.invariant
+    (c.if-not-is_settled.ensures refl) c.here-source.ensures.same c.in-Symbol.ensures)
