@@ -118,6 +118,7 @@ impl OpenBraces {
 
     /// The braces that are open behind a last token, if there is one. Where there is no memory for them, they are as
     /// before.
+    #[cold]
     #[inline(never)]
     pub fn behind(self, last: Option<Kind>) -> (OpenBraces, Result<(), AllocError>)
         ensures ok { OnOk result.1 (result.0 ≡ open_behind last self) }

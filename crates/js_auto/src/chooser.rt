@@ -79,6 +79,7 @@ fn begins_expression(before: Kind, kind: Kind) -> bool
 
 /// The command behind a last token of the kind, where the one before is of that kind; it is told whether the last one
 /// stands in the substitution of a template.
+#[cold]
 #[inline(never)]
 fn command_behind(in_template: bool, before: Kind, last: Kind) -> Option<Command>
     ensures { (stack : List Brace) → in_template ≡ is_in_substitution stack
