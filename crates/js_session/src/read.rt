@@ -149,6 +149,7 @@ fn findings_since<C: LexerConfig + Drop>(
 }
 
 /// The row of a token that was just read from the place, where the checkpoint was made.
+#[inline(always)]
 fn row_of<C: LexerConfig + Drop>(
     lexer: &Lexer<'_, C>,
     alloc: Global,
