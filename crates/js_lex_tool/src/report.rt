@@ -28,27 +28,27 @@ use std::fmt::Write;
 /// A value that is no longer is written with its row.
 const SHORT: usize = 60;
 
-/// Puts the flags that hold, or a dash.
+/// Puts a blank, and the flags that hold or a dash.
 #[inline(always)]
 fn put_flags(line: &mut Line, token: &Token)
-    requires { 3 ≤ line.old.room }
-    ensures text { line.new.text
-        ≡ flags_text token.now.is_on_new_line token.now.escaped token.now.has_separator ++ line.old.text }
-    ensures room { line.old.room ≤ line.new.room + 3 }
+    requires { 4 ≤ line.old.room }
+    ensures text { line.new.text ≡ codes " "
+        ++ flags_text token.now.is_on_new_line token.now.escaped token.now.has_separator ++ line.old.text }
+    ensures room { line.old.room ≤ line.new.room + 4 }
 {
     match (
         token.is_on_new_line(),
         token.escaped(),
         token.has_separator(),
     ) {
-        (false, false, false) => line.put_text("-"),
-        (true, false, false) => line.put_text("n"),
-        (false, true, false) => line.put_text("e"),
-        (false, false, true) => line.put_text("s"),
-        (true, true, false) => line.put_text("ne"),
-        (true, false, true) => line.put_text("ns"),
-        (false, true, true) => line.put_text("es"),
-        (true, true, true) => line.put_text("nes"),
+        (false, false, false) => line.put_text(" -"),
+        (true, false, false) => line.put_text(" n"),
+        (false, true, false) => line.put_text(" e"),
+        (false, false, true) => line.put_text(" s"),
+        (true, true, false) => line.put_text(" ne"),
+        (true, false, true) => line.put_text(" ns"),
+        (false, true, true) => line.put_text(" es"),
+        (true, true, true) => line.put_text(" nes"),
     }
 }
 
@@ -62,16 +62,20 @@ fn step_name(command: Option<Command>) -> &'static str
     }
 }
 
-/// Puts the name of a step. That of `next` is the most common one.
+/// Puts the name of a step, between blanks. That of `next` is the most common one.
 #[inline(always)]
 fn put_step(line: &mut Line, command: Option<Command>)
-    requires { 9 ≤ line.old.room }
-    ensures text { line.new.text ≡ step_name command ++ line.old.text }
-    ensures room { line.old.room ≤ line.new.room + 9 }
+    requires { 11 ≤ line.old.room }
+    ensures text { line.new.text ≡ codes " " ++ step_name command ++ codes " " ++ line.old.text }
+    ensures room { line.old.room ≤ line.new.room + 11 }
 {
     match command {
-        Some(Command::Next) => line.put_text("next"),
-        _ => line.put_text(step_name(command)),
+        Some(Command::Next) => line.put_text(" next "),
+        _ => {
+            line.put_text(" ");
+            line.put_text(step_name(command));
+            line.put_text(" ");
+        }
     }
 }
 
@@ -88,16 +92,17 @@ fn bit(holds: bool) -> &'static str
     if holds { "1" } else { "0" }
 }
 
+/// Puts a blank, and 1 where it holds, else 0.
 #[inline(always)]
 fn put_bit(line: &mut Line, holds: bool)
-    requires { 1 ≤ line.old.room }
-    ensures text { line.new.text ≡ bit_text holds ++ line.old.text }
-    ensures room { line.old.room ≡ line.new.room + 1 }
+    requires { 2 ≤ line.old.room }
+    ensures text { line.new.text ≡ codes " " ++ bit_text holds ++ line.old.text }
+    ensures room { line.old.room ≡ line.new.room + 2 }
 {
     if holds {
-        line.put_text("1")
+        line.put_text(" 1")
     } else {
-        line.put_text("0")
+        line.put_text(" 0")
     }
 }
 
@@ -108,7 +113,6 @@ fn put_token(line: &mut Line, token: &Token)
     ensures room { line.old.room ≤ line.new.room + 69 }
 {
     put_flags(line, token);
-    line.put_text(" ");
     line.put_number(u64::from(token.end()));
     line.put_text("..");
     line.put_number(u64::from(token.start()));
@@ -123,11 +127,8 @@ fn put_head(line: &mut Line, index: usize, row: &Row)
 {
     line.put_text(" ");
     put_bit(line, row.taken);
-    line.put_text(" ");
     line.put_number(u64::from(row.place));
-    line.put_text(" ");
     put_step(line, row.command);
-    line.put_text(" ");
     line.put_number(index as u64);
     line.put_text("row ");
 }
@@ -428,9 +429,7 @@ fn put_comment_rest(line: &mut Line, comment: &Comment)
     line.put_text(comment_content(comment.content));
     line.put_text(" ");
     put_bit(line, comment.followed);
-    line.put_text(" ");
     put_bit(line, comment.preceded);
-    line.put_text(" ");
     line.put_number(u64::from(comment.attached_to));
     line.put_text(" ");
 }
