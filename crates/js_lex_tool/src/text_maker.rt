@@ -1,7 +1,6 @@
 //! Programs that make one text of their input.
 
 ghost use Rattle.std.specs.Prelude.{◌≡◌, ◌≤◌, ℕ, List, Option, Ok, None, length, string_bytes, IfOk};
-ghost use Rattle.js_lex_tool.specs.Outside.{InTime};
 ghost use Rattle.js_lex_tool.specs.Run.{most_bytes};
 ghost use Rattle.js_lex_tool.specs.Status.{number};
 ghost use Rattle.js_lex_tool.specs.Status.Status.{Usage};

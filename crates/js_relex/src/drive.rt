@@ -7,7 +7,7 @@ ghost use Rattle.std.specs.List.{list_all};
 ghost use Rattle.js_text.specs.declared.source_type.SourceType.{SourceType};
 ghost use Rattle.js_session.specs.Effects.{is_lasting};
 ghost use Rattle.js_session.specs.Live.{State};
-ghost use Rattle.js_session.specs.Report.{AreRows, ReportOf, Run};
+ghost use Rattle.js_session.specs.Report.{ReportOf};
 ghost use Rattle.js_session.specs.Session.{MayResume, RunsFrom, state_behind};
 ghost use Rattle.js_session.specs.declared.row.Row.{Row};
 ghost use Rattle.js_relex.specs.Joined.{Joins};

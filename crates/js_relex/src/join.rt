@@ -1,6 +1,6 @@
 //! The row at which the rows of an edited text join the old ones.
 
-ghost use Rattle.std.specs.Prelude.{◌≡◌, ◌↔◌, ◌≤◌, ◌+◌, ◌-◌, IsTrue, length, drop};
+ghost use Rattle.std.specs.Prelude.{◌≡◌, ◌↔◌, ◌≤◌, ◌+◌, ◌-◌, IsTrue, length};
 ghost use Rattle.js_session.specs.Shifted.{shifted};
 ghost use Rattle.js_relex.specs.Joined.{IsCommonEnd, IsMovedToken, Joins, at_start};
 

@@ -3,7 +3,7 @@
 ghost use Rattle.std.specs.Prelude.{◌≡◌, ◌+◌, ◌≤◌, ◌↔◌, ◌∷◌, List, IsTrue, Some, None, length, map};
 ghost use Rattle.js_session.specs.declared.row.Row.{Row};
 ghost use Rattle.js_relex.specs.Kept.{IsKept, IsKeptBehind};
-ghost use Rattle.js_relex.specs.Outlines.{AreOutlined, outline_of};
+ghost use Rattle.js_relex.specs.Outlines.{AreOutlined};
 
 use crate::outline::RowOutline;
 use crate::outlined::OutlinedReport;

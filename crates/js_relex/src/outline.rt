@@ -1,7 +1,7 @@
 //! What an edit asks of a row that stays, apart from the row: the outlines of all rows stand close together in memory.
 
-ghost use Rattle.std.specs.Prelude.{◌≡◌, ◌↔◌, ◌≤◌, ◌++◌, IfOk, IsTrue, OnOk, map};
-ghost use Rattle.js_session.specs.Shifted.{shifted, shifted_row};
+ghost use Rattle.std.specs.Prelude.{◌≡◌, ◌++◌, IfOk, OnOk, map};
+ghost use Rattle.js_session.specs.Shifted.{shifted};
 ghost use Rattle.js_relex.specs.Outlines.{has_found, outline_of, shifted_outline};
 
 use js_session::{Row, Shift};

@@ -1,7 +1,7 @@
 //! Reading a name or a private name, good or at fault (ECMA-262 12.7).
 
 ghost use Rattle.std.specs.Prelude.{◌≡◌, ◌+◌, ◌≤◌, ◌<◌, ◌==◌, ◌++◌, [], length, Bool, true, IfOk, IfSome, IfNone, OnOk};
-ghost use Rattle.std.specs.Prelude.{OnErr, MatchBool, MatchOption, string_bytes, drop, false, ◌⊎◌, List, ℕ};
+ghost use Rattle.std.specs.Prelude.{OnErr, MatchBool, string_bytes, false, ◌⊎◌, ℕ};
 ghost use Rattle.std.specs.Char.Utf16.{is_low_surrogate};
 ghost use Rattle.std.specs.Str.{chars, IsCharBoundary};
 ghost use Rattle.js_text.specs.Ascii.{backslash};

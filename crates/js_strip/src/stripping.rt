@@ -1,6 +1,6 @@
 //! Sources that are stripped.
 
-ghost use Rattle.std.specs.Prelude.{◌≡◌, ◌⊎◌, false, Err, IfOk, OnOk, IfErr, IsOk, None};
+ghost use Rattle.std.specs.Prelude.{◌≡◌, ◌⊎◌, false, Err, IfOk, OnOk, IfErr, IsOk};
 ghost use Rattle.js_session.specs.Report.{ReportOf};
 ghost use Rattle.js_rewrite.specs.Faults.{RewriteCause};
 ghost use Rattle.js_session.specs.SameRows.{SameRows};
