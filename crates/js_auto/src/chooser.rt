@@ -12,7 +12,7 @@ ghost use Rattle.js_auto.specs.Choice.{choice_behind, chooser_behind};
 ghost use Rattle.js_auto.specs.declared.brace.Brace.{Brace};
 
 use crate::brace::OpenBraces;
-use crate::notable::is_notable;
+use crate::notable::NotableKinds;
 use js_grammar::Goal;
 use js_kind::{Kind, Token};
 use js_session::Command;
@@ -30,6 +30,7 @@ use std::marker::Model;
 pub struct GoalChooser {
     /// The braces that are open before the last token.
     braces: OpenBraces,
+    kinds: NotableKinds,
     alloc: Global,
     /// The token before the last one, and the default one, of kind `Eof`, with which no operand ends, where there is
     /// none.
@@ -103,6 +104,7 @@ impl GoalChooser {
     {
         GoalChooser {
             braces: OpenBraces::new(alloc),
+            kinds: NotableKinds::new(),
             alloc,
             before: Token::default(),
             last: Token::default(),
@@ -144,7 +146,7 @@ impl GoalChooser {
             → OnOk result (self.new ≡ chooser_behind tokens) }
         ensures err { OnErr result (self.new ≡ self.old) }
     {
-        if is_notable(&self.last) {
+        if self.kinds.is_notable(&self.last) {
             self.pass_last()?;
         }
         Ok(())
@@ -194,7 +196,7 @@ impl GoalChooser {
             is_one_of (again_kinds Goal.RegularExpression) kind ≡ true) }
     {
         // Few tokens change what comes next.
-        if !is_notable(&self.last) {
+        if !self.kinds.is_notable(&self.last) {
             return Some(Command::Next);
         }
         let Some(last) = self.last() else {

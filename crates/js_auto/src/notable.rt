@@ -24,17 +24,30 @@ macro_rules! is_notable {
 static NOTABLE: [bool; 256] = of_each_byte!(is_notable);
 
 /// The table of notable kinds. It has an entry for each `u8`, and so needs no test of the number.
-#[inline(always)]
 fn notable() -> &'static [bool; 256]
     ensures { TellsNotable result.now }
 {
     &NOTABLE
 }
 
-/// Whether the token opens or closes a brace, or another command than `Command::Next` may come behind it. Few do.
-#[inline(always)]
-pub(crate) fn is_notable(token: &Token) -> bool
-    ensures { result ≡ is_one_of notable_kinds token.now.kind }
-{
-    notable()[token.kind_number() as usize]
+/// The notable kinds. Who asks for each token holds the table: the address of a static is taken anew each time.
+#[derive(Drop)]
+pub(crate) struct NotableKinds {
+    table: [bool; 256],
+    ghost told: { TellsNotable table },
+}
+
+impl NotableKinds {
+    /// All of them.
+    pub fn new() -> NotableKinds {
+        NotableKinds { table: *notable() }
+    }
+
+    /// Whether the token opens or closes a brace, or another command than `Command::Next` may come behind it. Few do.
+    #[inline(always)]
+    pub fn is_notable(&self, token: &Token) -> bool
+        ensures { result ≡ is_one_of notable_kinds token.now.kind }
+    {
+        self.table[token.kind_number() as usize]
+    }
 }

@@ -1,8 +1,0 @@
-use Rattle.std.proofs.Common.{false, ◌∙◌, ap}
-use Rattle.std.specs.Prelude.{slice_index_or}
-use Rattle.js_auto.proofs.notable.is_notable.Goals as goal
-
-pub returns : goal.returns
-returns c =
-    ap (λ n. slice_index_or c.notable.result.now n false) c.kind_number.ensures
-    ∙ c.notable.ensures.tells c.args.token.now.kind
