@@ -176,23 +176,6 @@ goes_on_without_fatal_error old now g = record {
 pub expecting_goes_on : (kind : Kind) (c : CursorState) → GoesOnFrom c (expecting kind c)
 expecting_goes_on kind c = goes_on_either (is_at kind c) c c _ (goes_on-refl c) (fatal_error_goes_on _ c)
 
--- what is expected goes on, be it there or not
-pub expect_goes_on : (kind : Kind) (old new : CursorState) (r : Result (Unit {0}) AllocError)
-    → OnOk r (Advances kind (expecting kind old) new) → OnErr r (IsAsBefore (expecting kind old) new)
-    → GoesOnFrom old new
-expect_goes_on kind old new (Ok u) ok err =
-    goes_on-trans old (expecting kind old) new (expecting_goes_on kind old)
-    (advances_goes_on kind (expecting kind old) new ok)
-expect_goes_on kind old new (Err e) ok err =
-    goes_on-trans old (expecting kind old) new (expecting_goes_on kind old)
-    (as_before_goes_on (expecting kind old) new err)
-
--- and so does an advance, whatever it answers
-pub advance_goes_on : (kind : Kind) (old new : CursorState) (r : Result (Unit {0}) AllocError)
-    → OnOk r (Advances kind old new) → OnErr r (IsAsBefore old new) → GoesOnFrom old new
-advance_goes_on kind old new (Ok u) ok err = advances_goes_on kind old new ok
-advance_goes_on kind old new (Err e) ok err = as_before_goes_on old new err
-
 -- an error that is reported, or for which there is no memory
 pub reported_goes_on : (error : CursorDiagnostic) (old new : CursorState) (r : Result (Unit {0}) AllocError)
     → OnOk r (new ≡ with_error error old) → OnErr r (new ≡ old) → GoesOnFrom old new

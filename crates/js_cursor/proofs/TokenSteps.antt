@@ -77,18 +77,6 @@ on_again goal text old new before token previous again on r =
       previous = subst (λ (t : TokenParts). previous ≤ t.start) (sym r.token_is) (omega (arith, start, on.previous));
     }
 
--- a lexer that is as it was stands on its token
-pub on_restored : (text : List ℕ) (old new : LexerState) (token : TokenParts) (previous : ℕ)
-    → IsOnToken text old token previous → IsRestored old new → IsOnToken text new token previous
-on_restored text old new token previous on r = record {
-  text_is = r.text ∙ on.text_is;
-  last = r.last ∙ on.last;
-  some_text = on.some_text;
-  ordered = on.ordered;
-  is_read = omega (arith, r.place, on.is_read);
-  previous = on.previous;
-}
-
 -- a lexer at the same place, with the same last token, stands on it
 pub on_same : (text : List ℕ) (old new : LexerState) (token : TokenParts) (previous : ℕ)
     → IsOnToken text old token previous → new.text ≡ old.text → new.last ≡ old.last → new.place ≡ old.place

@@ -2,8 +2,7 @@
 use Rattle.std.proofs.Common.{◌≡◌, ℕ, ◌≤◌, Bool, true, false, ◌==◌, List, [], ◌∷◌, ◌++◌, length, drop}
 use Rattle.std.proofs.Common.{refl, sym, ◌∙◌, ap, subst, arith, append_assoc, length-append, Some, None, inl, inr}
 use Rattle.std.specs.Prelude.{codes, if◌then◌else◌}
-use Rattle.std.specs.List.{list_all}
-use Rattle.std.proofs.lemmas.Bool.{and_parts, eqb-true}
+use Rattle.std.proofs.lemmas.Bool.{eqb-true}
 use Rattle.std.proofs.lemmas.List.{append_cancel_right}
 use Rattle.unicode_ident.proofs.Computing.{unicode_ident}
 use Rattle.js_text.specs.Ascii.{hyphen_minus, less_than_sign}
@@ -15,34 +14,32 @@ use Rattle.js_text.specs.declared.comment.CommentKind.TheVariants.{Line, SingleL
 use Rattle.js_text.specs.declared.comment.CommentKind.TheVariants.{HtmlClose}
 use Rattle.js_text.specs.declared.diagnostic.Diagnostic.TheVariants.{UnexpectedJsxEnd}
 use Rattle.js_text.specs.declared.source_type.SourceType.{SourceType}
-use Rattle.js_kind.specs.Kinds.{kind_text}
 use Rattle.js_kind.specs.declared.kind.Kind.{Kind}
 use Rattle.js_kind.specs.declared.kind.Kind.TheVariants.{Eof, JSXText, LAngle, LCurly, Str}
-use Rattle.js_grammar.specs.Angle.{angle_reading, punctuator_reading}
 use Rattle.js_grammar.specs.Gap.{Piece, is_prefix, piece}
-use Rattle.js_grammar.specs.Jsx.{begins_child, ends_jsx_name, ends_jsx_text, jsx_child_reading, jsx_name_reading}
-use Rattle.js_grammar.specs.Jsx.{jsx_name_up_to, jsx_string_before, jsx_string_reading, jsx_text_before}
+use Rattle.js_grammar.specs.Jsx.{begins_child, ends_jsx_name, ends_jsx_text, jsx_child_reading}
+use Rattle.js_grammar.specs.Jsx.{jsx_string_before, jsx_string_reading, jsx_text_before}
 use Rattle.js_grammar.specs.Jsx.{jsx_text_reading, reported}
 use Rattle.js_grammar.specs.NumberReads.{empty_span}
-use Rattle.js_grammar.specs.Reading.{Reading, before_rest, read_up_to, size_of}
+use Rattle.js_grammar.specs.Reading.{Reading, read_up_to, size_of}
 use Rattle.js_grammar.specs.StringItems.{is_quote, item_reports, string_text}
 use Rattle.js_grammar.specs.Template.{IsPart, template_items, template_part_reading}
 use Rattle.js_grammar.specs.TokenText.{unescaped_value}
 use Rattle.js_grammar.specs.UnicodeEscape.{left_curly_bracket}
 use Rattle.js_grammar.proofs.Ahead.{BeginAlike, nothing_before}
 use Rattle.js_grammar.proofs.EscapeCases.{first_is}
-use Rattle.js_grammar.proofs.GoalsAhead.{ReadsSame, jsx_child_local, none_same, punctuator_same, same_taken, up_to_same}
+use Rattle.js_grammar.proofs.GoalsAhead.{up_to_same}
 use Rattle.js_grammar.proofs.NumberItems.{true_or_false}
 use Rattle.js_grammar.proofs.PieceLemmas.{piece-angle}
 use Rattle.js_grammar.proofs.StringLaws.{not_empty, template_cut}
 use Rattle.js_grammar.proofs.StringSteps.{part_unterminated, part_with_substitution, part_with_tail}
 use Rattle.js_grammar.proofs.TemplateLaws.{substitution_is_read, tail_is_read, part_here}
-use Rattle.js_grammar.proofs.Tests.{prefix_is, prefix_of}
+use Rattle.js_grammar.proofs.Tests.{prefix_is}
 use Rattle.js_grammar.proofs.QuotedAnywhere.{part_anywhere}
 use Rattle.js_grammar.specs.Blanks.{stand_in}
 use Rattle.js_grammar.specs.Blanks.{kind_of}
-use Rattle.js_grammar.proofs.Without.{Without, comment_begins, dropped, has_no_blank, kept, kept_all}
-use Rattle.js_grammar.proofs.Without.{FailsMarks, begins_comment, mark_fails, no_close, prefix_from, same}
+use Rattle.js_grammar.proofs.Without.{Without, comment_begins, dropped, kept}
+use Rattle.js_grammar.proofs.Without.{FailsMarks, begins_comment, mark_fails, no_close, same}
 use Rattle.js_grammar.proofs.Without.{true_is_not_false}
 
 -- A part of a template that a mark ends, by its items.
@@ -125,38 +122,6 @@ part_stays substitute tail opening xs ys zs clean left =
 pub false_when : (a b : Bool) → (b ≡ true → a ≡ true) → a ≡ false → b ≡ false
 false_when a true h e = absurd (let no : true ≡ false = sym (h refl) ∙ e in cc)
 false_when a false h e = refl
-
--- An angle.
-pub angle_stays : (t : SourceType) (kinds : List Kind) (xs ys zs : List ℕ)
-    → list_all (λ k. has_no_blank (kind_text k)) kinds ≡ true → Without t ys zs
-    → ReadsSame ys zs (angle_reading kinds (xs ++ ys)) (angle_reading kinds (xs ++ zs))
-angle_stays t [] xs ys zs plain w r found left = none_same ys zs None r found left
-angle_stays t (k ∷ ks) xs ys zs plain w r found left =
-    let plains = and_parts (has_no_blank (kind_text k)) (list_all (λ k. has_no_blank (kind_text k)) ks) plain in
-    by_mark plains.0 (angle_stays t ks xs ys zs plains.1 w) (is_prefix (kind_text k) (xs ++ ys)) refl found
-  where
-    by_mark : has_no_blank (kind_text k) ≡ true
-        → ReadsSame ys zs (angle_reading ks (xs ++ ys)) (angle_reading ks (xs ++ zs)) → (b : Bool)
-        → is_prefix (kind_text k) (xs ++ ys) ≡ b
-        → (if b then Some (punctuator_reading k (xs ++ ys)) else angle_reading ks (xs ++ ys)) ≡ Some r
-        → (if is_prefix (kind_text k) (xs ++ zs) then Some (punctuator_reading k (xs ++ zs))
-        else angle_reading ks (xs ++ zs)) ≡ Some (record r { rest = zs })
-    by_mark no_blank later true is f =
-        let read : punctuator_reading k (xs ++ ys) ≡ r = cc in
-        let behind : drop (length (kind_text k)) (xs ++ ys) ≡ ys = ap (λ (x : Reading). x.rest) read ∙ left in
-        let front : xs ≡ kind_text k =
-        append_cancel_right xs (kind_text k) ys
-        (prefix_is (kind_text k) (xs ++ ys) is ∙ ap (λ t. kind_text k ++ t) behind) in
-        let there : is_prefix (kind_text k) (xs ++ zs) ≡ true =
-        ap (λ t. is_prefix (kind_text k) (t ++ zs)) front ∙ prefix_of (kind_text k) zs in
-        rw there
-        (ap Some
-        (punctuator_same (kind_text k) k xs ys zs is behind ∙ ap (λ (x : Reading). record x { rest = zs }) read))
-    by_mark no_blank later false is f =
-        let there : is_prefix (kind_text k) (xs ++ zs) ≡ false =
-        false_when (is_prefix (kind_text k) (xs ++ ys)) (is_prefix (kind_text k) (xs ++ zs))
-        (λ e. (prefix_from t (kind_text k) (xs ++ ys) (xs ++ zs) no_blank (kept_all t xs ys zs w) e).here) is in
-        rw there (later r f left)
 
 -- a test that both blanks pass
 abbrev pub PassesBlanks : (ℕ → Bool) → Type 0
@@ -241,46 +206,6 @@ name_blanks = (refl, refl)
 pub hyphen_goes_on : ends_jsx_name hyphen_minus ≡ false
 unfolding is_identifier_part unicode_ident
 hyphen_goes_on = refl
-
-pub jsx_name_stays : (t : SourceType) (part xs ys zs : List ℕ) → Without t ys zs
-    → ReadsSame ys zs (jsx_name_reading part (xs ++ ys)) (jsx_name_reading part (xs ++ zs))
-jsx_name_stays t part [] ys zs w r found left = by_hyphen (begins (λ c. c == hyphen_minus) ys) refl found
-  where
-    by_hyphen : (b : Bool) → begins (λ c. c == hyphen_minus) ys ≡ b
-        → (if b then Some (jsx_name_up_to part ys (from_first ends_jsx_name ys)) else None) ≡ Some r
-        → jsx_name_reading part zs ≡ Some (record r { rest = zs })
-    by_hyphen true is f =
-        let read : jsx_name_up_to part ys (from_first ends_jsx_name ys) ≡ r = cc in
-        let behind : from_first ends_jsx_name ys ≡ ys = ap (λ (x : Reading). x.rest) read ∙ left in
-        let hyphen = first_is hyphen_minus ys is in
-        let stops : from_first ends_jsx_name (hyphen_minus ∷ drop 1 ys) ≡ hyphen_minus ∷ drop 1 ys =
-        subst (λ h. from_first ends_jsx_name h ≡ h) hyphen behind in
-        true_is_not_false (ends_jsx_name hyphen_minus) (whole_first ends_jsx_name hyphen_minus (drop 1 ys) stops)
-        hyphen_goes_on
-    by_hyphen false is f = absurd (let no : None ≡ Some r = f in cc)
-jsx_name_stays t part (x ∷ xs) ys zs w r found left = by_hyphen (x == hyphen_minus) found
-  where
-    up_to : jsx_name_up_to part (x ∷ xs ++ zs) zs ≡ record (jsx_name_up_to part (x ∷ xs ++ ys) ys) { rest = zs }
-    up_to =
-        let taken : before_rest (part ++ (x ∷ xs ++ zs)) zs ≡ before_rest (part ++ (x ∷ xs ++ ys)) ys =
-        ap (λ t. before_rest t zs) (sym (append_assoc part (x ∷ xs) zs)) ∙ sym (same_taken (part ++ x ∷ xs) ys zs)
-        ∙ ap (λ t. before_rest t ys) (append_assoc part (x ∷ xs) ys) in
-        rw taken refl
-
-    by_hyphen : (b : Bool)
-        → (if b then Some (jsx_name_up_to part (x ∷ (xs ++ ys)) (from_first ends_jsx_name (x ∷ (xs ++ ys)))) else None)
-        ≡ Some r
-        → (if b then Some (jsx_name_up_to part (x ∷ (xs ++ zs)) (from_first ends_jsx_name (x ∷ (xs ++ zs)))) else None)
-        ≡ Some (record r { rest = zs })
-    by_hyphen true f =
-        let read : jsx_name_up_to part (x ∷ (xs ++ ys)) (from_first ends_jsx_name (x ∷ (xs ++ ys))) ≡ r = cc in
-        let here : from_first ends_jsx_name (x ∷ (xs ++ ys)) ≡ ys = ap (λ (x : Reading). x.rest) read ∙ left in
-        let there =
-        stops_both ends_jsx_name (x ∷ xs) ys zs (stops_there t ends_jsx_name name_blanks ys zs w) here in
-        ap (λ rest. Some (jsx_name_up_to part (x ∷ (xs ++ zs)) rest)) there.from ∙ ap Some up_to
-        ∙ ap (λ rest. Some (record (jsx_name_up_to part (x ∷ (xs ++ ys)) rest) { rest = zs })) (sym here)
-        ∙ ap (λ (x : Reading). Some (record x { rest = zs })) read
-    by_hyphen false f = absurd (let no : None ≡ Some r = f in cc)
 
 -- The first character that passes, and what is left behind it.
 first_behind : (p : ℕ → Bool) (xs ys zs : List ℕ) (d : ℕ) → from_first p (xs ++ ys) ≡ d ∷ ys
@@ -433,14 +358,3 @@ child_before (x ∷ xs) ys zs cs e clean left = by_mark (x == less_than_sign) (x
     by_mark false true f g = mark_stays LCurly x xs ys zs g
     by_mark false false f g =
         no_text_before (x ∷ (xs ++ ys)) (from_first ends_jsx_text (x ∷ (xs ++ ys))) cs (g ∙ e) f
-
-pub child_stays : (t : SourceType) (xs ys zs : List ℕ) → is_module t ≡ true → Without t ys zs
-    → (jsx_child_reading (xs ++ ys)).diagnostics ≡ [] → (jsx_child_reading (xs ++ ys)).rest ≡ ys → ChildStays xs ys zs
-child_stays t xs ys zs module_is same clean left =
-    ap (λ (h : List ℕ). record (jsx_child_reading (xs ++ ys)) { rest = h }) left
-child_stays t xs ys zs module_is (kept c {ys = ys'} {zs = zs'} w) clean left =
-    jsx_child_local xs (c ∷ ys') (c ∷ zs')
-    (record { first = c; rest = ys'; other = zs'; here = refl; there = refl }) left
-child_stays t xs ys zs module_is (dropped ended x kind here is w) clean left =
-    let slash = module_begins t ended ys x kind module_is here is in
-    child_before xs ys zs slash.0 slash.1 clean left

@@ -260,22 +260,6 @@ spelled_stays t ended xs ys zs kind r w l (end_of_source none nothing kind_is) r
     subst (λ h. ReadsHere t ended (xs ++ h) (record r { rest = h })) (sym empty)
     (subst (λ h. ReadsHere t ended (xs ++ ys) (record r { rest = h })) left reads)
 
--- What is read without a fault, and ends before these characters, is read the same before others, where comments of
--- them are replaced.
-pub clean_stays : (t : SourceType) (ended : Bool) (here ys zs : List ℕ) (r : Reading) → Without t ys zs
-    → ReadsHere t ended here r → r.diagnostics ≡ [] → r.rest ≡ ys
-    → (xs : List ℕ) × (here ≡ xs ++ ys) × StaysRead t ended xs zs r
-clean_stays t ended here ys zs r w (spelled xs l is) clean left =
-    let text : here ≡ xs ++ ys = l.here ∙ ap (λ z. xs ++ z) left in
-    let reads : ReadsHere t ended (xs ++ ys) r =
-    subst (λ h. ReadsHere t ended h r) text (spelled xs l is) in
-    let longest : LongestSpelling t ended (xs ++ ys) xs ys r.kind =
-    subst (λ h. LongestSpelling t ended h xs ys r.kind) text
-    (subst (λ z. LongestSpelling t ended here xs z r.kind) left l) in
-    (xs, text, spelled_stays t ended xs ys zs r.kind r w longest longest.spelling reads left)
-clean_stays t ended here ys zs r w (recovers nothing found) clean left =
-    absurd (recovery_reports t ended here r nothing found clean)
-
 -- Only the end of a source is spelled by nothing.
 spelled_by_nothing : (t : SourceType) (ended : Bool) (xs ys : List ℕ) (kind : Kind) → Spelling t ended xs ys kind
     → xs ≡ [] → ys ≡ []

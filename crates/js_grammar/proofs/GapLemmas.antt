@@ -136,16 +136,6 @@ pub all_pieces-nil : (step : Bool → List ℕ → Option Piece) (line_has_ended
     → step line_has_ended cs ≡ None → AllPieces step line_has_ended cs [] line_has_ended cs
 all_pieces-nil step line_has_ended cs h = record { pieces_are = (refl, refl); longest = h }
 
--- a piece before a longest gap
-pub longest_gap-cons : (t : SourceType) (line_has_ended : Bool) (cs : List ℕ) (x : Piece) (e : Bool) (r : List ℕ)
-    → piece t line_has_ended cs ≡ Some x → LongestGap t x.line_has_ended x.rest e r → LongestGap t line_has_ended cs e r
-longest_gap-cons t line_has_ended cs x e r h g =
-    record { pieces = x ∷ g.pieces; all = all_pieces-cons (piece t) line_has_ended cs x g.pieces e r h g.all }
-
-pub longest_gap-nil : (t : SourceType) (line_has_ended : Bool) (cs : List ℕ) → piece t line_has_ended cs ≡ None
-    → LongestGap t line_has_ended cs line_has_ended cs
-longest_gap-nil t line_has_ended cs h = record { pieces = []; all = all_pieces-nil (piece t) line_has_ended cs h }
-
 -- Where no reported comment stands, the piece of a whole gap is that of any gap.
 pub unreported : (t : SourceType) (line_has_ended : Bool) (cs : List ℕ) → is_reported t line_has_ended cs ≡ false
     → whole_gap_piece t line_has_ended cs ≡ piece t line_has_ended cs
@@ -163,7 +153,3 @@ none_if false x y e = (refl, e)
 pub none_behind : (t : SourceType) (line_has_ended : Bool) (cs : List ℕ) → whole_gap_piece t line_has_ended cs ≡ None
     → (is_reported t line_has_ended cs ≡ false) × (piece t line_has_ended cs ≡ None)
 none_behind t line_has_ended cs e = none_if (is_reported t line_has_ended cs) _ (piece t line_has_ended cs) e
-
-pub not_reported_behind : (t : SourceType) (line_has_ended : Bool) (cs : List ℕ) (xs : List Piece) (e : Bool)
-    (r : List ℕ) → WholeGap t line_has_ended cs xs e r → is_reported t e r ≡ false
-not_reported_behind t line_has_ended cs xs e r g = (none_behind t e r g.longest).0

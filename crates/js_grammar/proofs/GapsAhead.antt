@@ -373,14 +373,6 @@ pieces_local t line_had_ended xs ys zs us (p ∷ ps) line_has_ended alike agree 
         ))
     first (c ∷ cs) ws rest is = whole_piece_local t line_had_ended c cs ws ys zs alike agree p is rest
 
--- the same characters
-pub texts_same : (xs ys : List Piece) → SamePieces xs ys → piece_texts ys ≡ piece_texts xs
-texts_same [] [] same = refl
-texts_same [] (y ∷ ys) same = absurd same
-texts_same (x ∷ xs) [] same = absurd same
-texts_same (x ∷ xs) (y ∷ ys) same =
-    ap (λ (p : Piece). p.text ++ piece_texts ys) same.0 ∙ ap (λ ts. x.text ++ ts) (texts_same xs ys same.1)
-
 -- and the same findings
 diagnostics_same : (place : ℕ) (xs ys : List Piece) → SamePieces xs ys
     → gap_diagnostics place ys ≡ gap_diagnostics place xs

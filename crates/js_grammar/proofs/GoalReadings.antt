@@ -476,9 +476,3 @@ jsx_name_is_read part (c ∷ cs) =
         (is_taken text (jsx_name_up_to part (c ∷ cs) rest) (part ++ took.characters) refl
         (ap (λ t. part ++ t) took.here ∙ sym (append_assoc part took.characters rest))
         (λ _ none. took.some (none_behind part took.characters none)))
-
-pub jsx_name_kind : (part text : List ℕ) (read : Reading) → jsx_name_reading part text ≡ Some read → read.kind ≡ Ident
-jsx_name_kind part text read e =
-    subst (λ (found : Option Reading). IfSome found (λ r. r.kind ≡ Ident)) e
-    (by_choice (λ (found : Option Reading). IfSome found (λ r. r.kind ≡ Ident)) (begins (λ c. c == hyphen_minus) text) _
-    None (λ _. refl) (λ _. tt))

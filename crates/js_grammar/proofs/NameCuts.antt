@@ -251,18 +251,6 @@ escapes_of_cut allowed text (item ∷ items) rest cut =
     ∙ ap (λ b. b || has_escape (items_text items)) (item_takes allowed text item cut.0).escape
     ∙ ap (λ b. item.is_escape || b) more
 
-pub ordinary_items : (allowed : ℕ → Bool) (text : List ℕ) (items : List NameItem) (rest : List ℕ)
-    → CutsInto allowed text items rest → list_any (λ item. item.is_escape) items ≡ false
-    → (has_fault items ≡ false) × (items_value items ≡ items_text items)
-ordinary_items allowed text [] rest cut none = (refl, refl)
-ordinary_items allowed text (item ∷ items) rest cut none =
-    let both = or_false item.is_escape (list_any (λ item. item.is_escape) items) none in
-    let takes = item_takes allowed text item cut.0 in
-    let more = ordinary_items is_identifier_part (drop (length item.text) text) items rest cut.1 both.1 in (
-      rw (takes.whole both.0) more.0,
-      ap (λ xs. xs ++ items_value items) (takes.plain both.0) ∙ ap (λ xs. item.text ++ xs) more.1,
-    )
-
 -- What is reported of items without a fault, and of others.
 pub nothing_reported : (place : ℕ) (items : List NameItem) → has_fault items ≡ false → items_report place items ≡ []
 nothing_reported place [] good = refl

@@ -8,7 +8,6 @@ use Rattle.std.proofs.lemmas.Bool.{eqb-true}
 use Rattle.std.proofs.lemmas.List.{append_cancel_right, append-nil, length-append}
 use Rattle.std.specs.Str.{encode_utf8_all}
 use Rattle.js_text.specs.Ascii.{backslash, number_sign}
-use Rattle.js_text.specs.declared.value.RowValue.TheVariants.{Slice}
 use Rattle.js_kind.specs.Keywords.{name_kind}
 use Rattle.js_kind.specs.declared.kind.Kind.TheVariants.{PrivateIdentifier}
 use Rattle.js_text.specs.Characters.{begins, before_first, from_first, is_identifier_start, is_identifier_part}
@@ -17,12 +16,11 @@ use Rattle.js_grammar.specs.Name.{has_escape, decoded, begins_name, continues_na
 use Rattle.js_grammar.specs.Name.{contains_escape, private_name_of}
 use Rattle.js_grammar.specs.Reading.{Reading, before_rest}
 use Rattle.js_grammar.specs.Name.{items_report, is_no_part, ordinary_item, escape_item}
-use Rattle.js_grammar.proofs.NameCuts.{name_of, items_cut, cut_items, cut_text, read_of_cut, private_of_cut, no_item}
+use Rattle.js_grammar.proofs.NameCuts.{items_cut, cut_items, cut_text, read_of_cut, private_of_cut, no_item}
 use Rattle.js_grammar.proofs.NameCuts.{nothing_continues}
-use Rattle.js_grammar.proofs.NameCuts.{cut_anywhere, none_behind, escapes_of_cut, ordinary_items, nothing_reported}
+use Rattle.js_grammar.proofs.NameCuts.{cut_anywhere, none_behind, escapes_of_cut, nothing_reported}
 use Rattle.js_grammar.proofs.NameCuts.{reports_nothing}
 use Rattle.js_grammar.proofs.NameItems.{backslash_is_no_name, item_takes}
-use Rattle.js_grammar.proofs.NameLemmas.{parts_end}
 use Rattle.js_grammar.proofs.NumberItems.{true_or_false}
 
 -- what is read of a name without a fault
@@ -206,28 +204,6 @@ pub same_rest : (cs : List ℕ)
 unfolding private_name_of items_reading
 same_rest cs = refl
 
--- Only a name with an escape has a fault.
-pub name_has_fault_only_escaped : (place : ℕ) (text : List ℕ)
-    → items_report place (name_items is_identifier_start text) ≢ []
-    → contains_escape (name_items is_identifier_start text) ≡ true
-name_has_fault_only_escaped place text faults =
-    let items = name_items is_identifier_start text in
-    let found = items_cut is_identifier_start text in
-    elim (true_or_false (contains_escape items)) [
-      | inl some ↦ some
-      | inr none ↦ (
-          let plain = ordinary_items is_identifier_start text items found.rest found.cut none in
-          absurd (faults (nothing_reported place items plain.0)))
-    ]
-
--- A name without escapes stands for itself.
-pub unescaped_decoded : (xs : List ℕ) → IsName xs → has_escape xs ≡ false → decoded xs ≡ xs
-unescaped_decoded xs is none =
-    let items = name_items is_identifier_start xs in
-    let found = items_cut is_identifier_start xs in
-    let escapes = sym (escapes_of_cut is_identifier_start xs items found.rest found.cut) ∙ ap has_escape is.whole in
-    (ordinary_items is_identifier_start xs items found.rest found.cut (escapes ∙ none)).1 ∙ is.whole
-
 class_differs : (allowed : ℕ → Bool) (c : ℕ) → allowed backslash ≡ false → allowed c ≡ true
     → (c == backslash) ≡ false
 class_differs allowed c none is =
@@ -276,55 +252,3 @@ pub ended : (text : List ℕ) → begins is_identifier_part text ≡ false → b
     → name_item is_identifier_part text ≡ None
 ended [] no_part no_mark = refl
 ended (c ∷ cs) no_part no_mark = rw (no_mark, no_part) refl
-
--- what is read of a name that has no escape
-abbrev pub unescaped_name_reading : List ℕ → List ℕ → Reading
-unescaped_name_reading xs rest = record {
-  taken = xs;
-  rest = rest;
-  kind = name_kind (encode_utf8_all xs);
-  line_ended = false;
-  escaped = false;
-  has_separator = false;
-  value = Slice (record { start = 0; end = length (encode_utf8_all xs) });
-  regex = None;
-  diagnostics = [];
-}
-
-of_unescaped_items : (items : List NameItem) (xs rest : List ℕ) → items_text items ≡ xs → items_value items ≡ xs
-    → contains_escape items ≡ false → has_fault items ≡ false → name_of items rest ≡ unescaped_name_reading xs rest
-of_unescaped_items items xs rest text value escapes good =
-    rw (text, value, escapes, nothing_reported 0 items good) refl
-
--- A name of characters that stand for themselves.
-pub record UnescapedName (c : ℕ) (cs : List ℕ) : Type 0 where
-  pub read : name_reading (c ∷ cs)
-      ≡ unescaped_name_reading (c ∷ before_first is_no_part cs) (from_first is_no_part cs)
-  pub name : BeginsWithName (c ∷ cs) (c ∷ before_first is_no_part cs) (from_first is_no_part cs)
-  pub value : decoded (c ∷ before_first is_no_part cs) ≡ c ∷ before_first is_no_part cs
-
-pub plain_name : (c : ℕ) (cs : List ℕ) → is_identifier_start c ≡ true
-    → begins (λ d. d == backslash) (from_first is_no_part cs) ≡ false
-    → UnescapedName c cs
-plain_name c cs is end =
-    let parts = before_first is_no_part cs in
-    let rest = from_first is_no_part cs in
-    let items = map ordinary_item (c ∷ parts) in
-    let last : CutsInto is_identifier_part rest [] rest = (ended rest (parts_end cs) end, refl) in
-    let cut : CutsInto is_identifier_start (c ∷ cs) items rest = (
-      ordinary_here is_identifier_start c cs backslash_is_no_name.0 is,
-      subst (λ xs. CutsInto is_identifier_part cs xs rest) (append-nil (map ordinary_item parts))
-          (ordinary_parts cs [] rest last),
-    ) in
-    let values = ordinary_values (c ∷ parts) in
-    let begun = name_of_cut (c ∷ cs) items rest cut (λ none. cc) values.good in
-    let name : BeginsWithName (c ∷ cs) (c ∷ parts) rest =
-    subst (λ xs. BeginsWithName (c ∷ cs) xs rest) values.text begun in
-    record {
-      read = read_of_cut (c ∷ cs) items rest cut
-          ∙ of_unescaped_items items (c ∷ parts) rest values.text values.value values.escapes values.good;
-      name = name;
-      value = unescaped_decoded (c ∷ parts) name.name
-          (sym (ap has_escape values.text)
-          ∙ escapes_of_cut is_identifier_start (c ∷ cs) items rest cut ∙ values.escapes);
-    }

@@ -17,14 +17,6 @@ parts (u ∷ us) vs all end =
     let is : is_identifier_part u ≡ true = all.0 in
     (rw is (ap (λ x. u ∷ x) ih.0), rw is ih.1)
 
-pub parts_all : (cs : List ℕ) → AllByRecursion (λ d. IsTrue (is_identifier_part d)) (before_first is_no_part cs)
-parts_all [] = tt
-parts_all (c ∷ cs) =
-    let ih = parts_all cs in
-    let family : Bool → Type 0 = λ b. is_identifier_part c ≡ b
-    → AllByRecursion (λ d. IsTrue (is_identifier_part d)) (cond (not b) [] (c ∷ before_first is_no_part cs)) in
-    elim (is_identifier_part c) as family [ true ↦ λ e. (e, ih) | false ↦ λ e. tt ] refl
-
 pub parts_end : (cs : List ℕ) → begins is_identifier_part (from_first is_no_part cs) ≡ false
 parts_end [] = refl
 parts_end (c ∷ cs) =

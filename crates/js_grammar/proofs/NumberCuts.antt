@@ -146,9 +146,6 @@ point_cut fs es ys f e end =
     record
     { text = ap (λ text. full_stop ∷ text) cut.text; rest = cut.rest; kind_is = refl; whole_ones = cut.whole_ones }
 
-point_mark : (text : List ℕ) → begins (λ c. c == full_stop) (full_stop ∷ text) ≡ true
-point_mark text = refl
-
 -- behind the digits before a point: nothing, a point, or an exponent
 pub nothing_cut : (ys : List ℕ) → EndsNumber ys → begins (λ c. c == full_stop) ys ≡ false
     → Cuts (behind_digits ys) [] ys Decimal

@@ -57,20 +57,10 @@ pub piece-minus : (t : SourceType) (line_has_ended : Bool) (cs : List ℕ)
 unfolding is_white_space is_irregular_whitespace is_line_terminator
 piece-minus t line_has_ended cs = refl
 
--- a line comment leaves what is left from the next line terminator on, whatever characters of a mark stand before it
-pub from_first-slash : (cs : List ℕ) → from_first is_line_terminator (47 ∷ cs) ≡ from_first is_line_terminator cs
-unfolding is_line_terminator
-from_first-slash cs = refl
-
 pub from_first-html_open : (cs : List ℕ)
     → from_first is_line_terminator (codes "<!--" ++ cs) ≡ from_first is_line_terminator cs
 unfolding is_line_terminator
 from_first-html_open cs = refl
-
-pub from_first-html_close : (cs : List ℕ)
-    → from_first is_line_terminator (codes "-->" ++ cs) ≡ from_first is_line_terminator cs
-unfolding is_line_terminator
-from_first-html_close cs = refl
 
 pub from_first-hashbang : (cs : List ℕ)
     → from_first is_line_terminator (codes "#!" ++ cs) ≡ from_first is_line_terminator cs

@@ -1,40 +1,37 @@
 -- The values of what is read of strings and templates.
 use Rattle.std.proofs.Common.{None, drop}
 use Rattle.std.specs.Prelude.{if◌then◌else◌}
-use Rattle.std.proofs.Common.{◌≡◌, ℕ, Bool, true, false, ◌==◌, List, [], ◌∷◌, ◌++◌, refl}
+use Rattle.std.proofs.Common.{◌≡◌, ℕ, Bool, true, false, ◌==◌, List, ◌∷◌, ◌++◌, refl}
 use Rattle.std.proofs.Common.{sym, ◌∙◌}
 use Rattle.std.proofs.Common.{ap, inl, inr}
 use Rattle.std.specs.Prelude.{codes}
-use Rattle.std.proofs.lemmas.Bool.{eqb-true, or_right}
+use Rattle.std.proofs.lemmas.Bool.{or_right}
 use Rattle.js_text.specs.Ascii.{grave_accent}
 use Rattle.js_text.specs.Characters.{begins}
 use Rattle.js_kind.specs.declared.kind.Kind.{Kind}
 use Rattle.js_kind.specs.declared.kind.Kind.TheVariants.{NoSubstitutionTemplate, Str, TemplateHead, Undetermined}
 use Rattle.js_grammar.specs.Gap.{is_prefix}
-use Rattle.std.specs.Prelude.{unwrap_or}
 use Rattle.js_kind.specs.Kinds.{is_identifier_name, is_string_kind, is_template_kind}
 use Rattle.js_text.specs.declared.value.RowValue.{RowValue}
 use Rattle.js_text.specs.declared.value.RowValue.TheVariants.{Nothing, Units}
 use Rattle.js_grammar.specs.Quoted.{quoted_reading, units_in}
 use Rattle.js_grammar.specs.Reading.{Reading, size_of}
 use Rattle.js_grammar.specs.TokenText.{is_named, is_private_name, is_quoted, is_valued, unescaped_value, text_slice}
-use Rattle.js_grammar.specs.Values.{decoded_units, template_units, template_row_value}
+use Rattle.js_grammar.specs.Values.{template_units, template_row_value}
 use Rattle.js_grammar.specs.StringItems.{string_units}
 use Rattle.js_grammar.specs.StringItems.{StringItem, StringItems, string_of_items, IsString, is_quote, string_items}
 use Rattle.js_grammar.specs.StringItems.{string_reading, row_value}
 use Rattle.js_grammar.specs.StringItems.{contains_escape, quoted_value}
 use Rattle.js_grammar.specs.StringItems.{contains_bad_escape}
 use Rattle.js_grammar.specs.StringItems.StringValue.{units}
-use Rattle.js_grammar.specs.Template.{IsTemplatePart, part_of_items, template_items, template_part_reading}
+use Rattle.js_grammar.specs.Template.{part_of_items, template_items, template_part_reading}
 use Rattle.js_grammar.specs.Template.{template_value}
 use Rattle.js_grammar.specs.Template.{terminated_part}
 use Rattle.js_grammar.proofs.NumberItems.{true_or_false}
-use Rattle.js_grammar.proofs.StringBegins.{template_is_quoted, template_read_as}
 use Rattle.js_grammar.proofs.StringLaws.{good_string, string_here, string_is_read}
 use Rattle.js_grammar.proofs.StringSteps.{string_terminated, string_unterminated, part_with_tail}
 use Rattle.js_grammar.proofs.StringSteps.{part_with_substitution, part_unterminated, template_value_bad}
 use Rattle.js_grammar.proofs.StringSteps.{template_value_good}
-use Rattle.js_grammar.proofs.TemplateLaws.{good_part}
 
 -- what is escaped has units of its own, if they are good
 escaped_units : (b : Bool) (value slice : RowValue) → units_in slice ≡ None
@@ -71,23 +68,6 @@ same_units a b c d p q text =
 -- what is read where a good string begins
 pub string_read_at : (xs ys : List ℕ) (is : IsString xs ys) → quoted_reading (xs ++ ys) ≡ good_string xs is.items ys
 string_read_at xs ys is = ap quoted_reading (string_here xs ys is) ∙ rw is.is_quote (string_is_read xs ys is)
-
--- and where a template does
-pub template_read_at : (xs ys : List ℕ) (kind : Kind) → IsTemplatePart xs ys kind
-    → (items : List StringItem) × (quoted_reading (xs ++ ys) ≡ good_part kind xs items ys)
-template_read_at xs ys kind is = by_text (xs ++ ys) refl
-  where
-    by_text : (text : List ℕ) → xs ++ ys ≡ text
-        → (items : List StringItem) × (quoted_reading text ≡ good_part kind xs items ys)
-    by_text [] e =
-        absurd (let no : true ≡ false = sym (template_is_quoted xs ys kind is)
-        ∙ ap (begins (λ c. c == grave_accent)) e in cc)
-    by_text (c ∷ cs) e =
-        let grave : c ≡ grave_accent =
-        eqb-true c grave_accent (ap (begins (λ d. d == grave_accent)) (sym e) ∙ template_is_quoted xs ys kind is) in
-        let read =
-        template_read_as cs xs ys kind (record { here = ap (λ d. d ∷ cs) (sym grave) ∙ sym e; part = is }) in
-        (read.items, ap (λ d. quoted_reading (d ∷ cs)) grave ∙ read.read)
 
 -- what holds of each kind that may be read holds of the kind of what was read
 pub part_kind_is : (P : Kind → Type 0) (substitute tail : Kind) → P substitute → P tail → P Undetermined
@@ -168,11 +148,6 @@ part_flags substitute tail text found =
             | inr other ↦ rw (part_unterminated substitute tail text found none other) (refl, refl, refl)
           ]
     ]
-
-terminated_value : (b : Bool) (us : List ℕ) (kind : Kind) (size : ℕ) → is_quoted kind ≡ true → b ≡ false
-    → quoted_value b (units us) kind size ≡ unescaped_value kind 0 size
-terminated_value b us kind size is e =
-    ap (λ b. quoted_value b (units us) kind size) e ∙ sym (quoted_unescaped_value kind 0 size is)
 
 pub string_value_is : (quote : ℕ) (text : List ℕ) → HasQuotedValue (string_reading quote text)
 string_value_is quote text =
@@ -266,15 +241,6 @@ part_is_template substitute tail first last opening text escaped =
                 absurd (cc))
           ]
     ]
-
--- the units of a string that begins the text
-pub string_stands : (quote : ℕ) (behind here us : List ℕ) → here ≡ quote ∷ behind → begins is_quote here ≡ true
-    → (string_reading quote behind).value ≡ Units us → us ≡ decoded_units here
-string_stands quote behind here us e begun value =
-    let is : is_quote quote ≡ true = ap (begins is_quote) (sym e) ∙ begun in
-    let read : quoted_reading here ≡ string_reading quote behind = ap quoted_reading e ∙ rw is refl in
-    let same : (quoted_reading here).value ≡ Units us = ap (λ (r : Reading). r.value) read ∙ value in
-    sym (rw begun (ap (λ v. unwrap_or (units_in v) []) same))
 
 -- and the value of a template, or of a part of one behind another mark
 pub part_stands : (substitute tail : Kind) (opening : ℕ) (behind here : List ℕ) → here ≡ opening ∷ behind

@@ -17,14 +17,6 @@ taken_is text xs rest e =
     let n : length text - length rest ≡ length xs = omega (arith, ap length e, length-append xs rest) in
     ap (λ n. take n text) n ∙ ap (take (length xs)) e ∙ take-append_seam xs rest
 
--- and then the text is what was taken and what is left
-pub taken_here : (text xs rest : List ℕ) → text ≡ xs ++ rest → text ≡ before_rest text rest ++ rest
-taken_here text xs rest e = e ∙ ap (λ ys. ys ++ rest) (sym (taken_is text xs rest e))
-
--- where nothing is left, all was taken
-pub taken_all : (text : List ℕ) → before_rest text [] ≡ text
-taken_all text = taken_is text text [] (sym (append-nil text))
-
 -- a choice of two, for each of which it is known
 pub by_choice : {A : Type 0} (P : A → Type 0) (b : Bool) (x y : A) → (b ≡ true → P x) → (b ≡ false → P y)
     → P (if b then x else y)

@@ -10,7 +10,6 @@ use Rattle.std.proofs.lemmas.List.Folds.{list_any-append}
 use Rattle.std.specs.Char.Escape.{encode_utf16}
 use Rattle.js_text.specs.JsStr.{units_of}
 use Rattle.js_grammar.specs.StringItems.{StringItems, string_units, IsString}
-use Rattle.js_grammar.proofs.StringSteps.{carriage_return_escaped}
 use Rattle.unicode_ident.proofs.Computing.{unicode_ident}
 use Rattle.js_text.specs.Ascii.{quotation_mark, apostrophe, grave_accent, backslash, carriage_return, line_feed}
 use Rattle.js_text.specs.Characters.{begins, is_identifier_start}
@@ -19,7 +18,7 @@ use Rattle.js_kind.specs.Digits.{is_digit_of}
 use Rattle.js_grammar.specs.Number.{begins_number}
 use Rattle.js_grammar.specs.Punctuators.{NoPunctuator}
 use Rattle.js_grammar.specs.StringItems.{StringItem, is_quote, ends_string, ordinary_item, escape, string_item}
-use Rattle.js_grammar.specs.StringItems.{items_up_to, is_good, are_good}
+use Rattle.js_grammar.specs.StringItems.{items_up_to}
 use Rattle.js_grammar.specs.StringItems.{string_items, string_text, contains_escape}
 use Rattle.js_grammar.specs.Template.{template_item, template_items, ends_part, carriage_return_item}
 use Rattle.js_grammar.specs.Gap.{is_prefix}
@@ -341,32 +340,6 @@ string_own_units quote text item e =
     string_item_is HasOwnUnits (λ cs. escaped_has_none (escape false cs) (escape_is_one false cs).escaped)
     own_units_of_plain quote text item e
 
-template_own_units : (text : List ℕ) (item : StringItem) → template_item text ≡ Some item → HasOwnUnits item
-template_own_units [] item e = absurd (cc)
-template_own_units (c ∷ cs) item e =
-    elim (true_or_false (c == backslash)) [
-      | inl is ↦ (
-          let at : template_item (backslash ∷ cs) ≡ Some item =
-          ap (λ d. template_item (d ∷ cs)) (sym (eqb-true c backslash is)) ∙ e in
-          found_as HasOwnUnits (escape true cs) item _
-          (escaped_has_none (escape true cs) (escape_is_one true cs).escaped) refl at)
-      | inr other ↦
-          elim (true_or_false (ends_part (c ∷ cs))) [
-            | inl ends ↦ not_found _ item (template_ends c cs other ends) e
-            | inr on ↦
-                elim (true_or_false (c == carriage_return)) [
-                  | inl is ↦ (
-                      let at : template_item (carriage_return ∷ cs) ≡ Some item =
-                      ap (λ d. template_item (d ∷ cs)) (sym (eqb-true c carriage_return is)) ∙ e in
-                      found_as HasOwnUnits (carriage_return_item cs) item _
-                      (escaped_has_none (carriage_return_item cs) (carriage_return_escaped cs)) refl at)
-                  | inr cr ↦
-                      found_as HasOwnUnits (ordinary_item c cs) item _ (own_units_of_plain c cs)
-                      (template_plain c cs other on cr) e
-                ]
-          ]
-    ]
-
 or_false_both : (a b : Bool) → (a || b) ≡ false → (a ≡ false) × (b ≡ false)
 or_false_both true b e = absurd (cc)
 or_false_both false b e = (refl, e)
@@ -392,37 +365,3 @@ own_units step by (suc most) text e =
 pub string_has_own_units : (quote : ℕ) (text : List ℕ) → contains_escape (string_items quote text).items ≡ false
     → string_units (string_items quote text).items ≡ units_of (string_text (string_items quote text).items)
 string_has_own_units quote text e = own_units (string_item quote) (string_own_units quote) (length text) text e
-
--- And so are those of a part of a template.
-pub template_has_own_units : (text : List ℕ) → contains_escape (template_items text).items ≡ false
-    → string_units (template_items text).items ≡ units_of (string_text (template_items text).items)
-template_has_own_units text e = own_units template_item template_own_units (length text) text e
-
--- items that are not escaped have no fault
-abbrev IsGoodUnescaped : StringItem → Type 0
-IsGoodUnescaped item = item.is_escaped ≡ false → is_good item.fault ≡ true
-
-good_unescaped : (quote : ℕ) (text : List ℕ) (item : StringItem) → string_item quote text ≡ Some item
-    → IsGoodUnescaped item
-good_unescaped quote text item e =
-    string_item_is IsGoodUnescaped
-    (λ cs is. absurd (let no : true ≡ false = sym (escape_is_one false cs).escaped ∙ is in cc)) (λ c cs is. refl) quote
-    text item e
-
-unescaped_up_to : (quote : ℕ) (most : ℕ) (text : List ℕ)
-    → contains_escape (items_up_to (string_item quote) most text).items ≡ false
-    → are_good (items_up_to (string_item quote) most text).items ≡ true
-unescaped_up_to quote zero text e = refl
-unescaped_up_to quote (suc most) text e =
-    elim (none_or_some (string_item quote text)) [
-      | inl is ↦ rw is refl
-      | inr (item, is) ↦ (
-          let more = items_up_to (string_item quote) most item.rest in
-          let both = or_false_both item.is_escaped (contains_escape more.items) (rw is at e) in
-          rw (is, good_unescaped quote text item is both.0) (unescaped_up_to quote most item.rest both.1))
-    ]
-
--- So a string without an escape has no fault in it.
-pub unescaped_is_good : (quote : ℕ) (text : List ℕ) → contains_escape (string_items quote text).items ≡ false
-    → are_good (string_items quote text).items ≡ true
-unescaped_is_good quote text e = unescaped_up_to quote (length text) text e

@@ -22,10 +22,6 @@ pub below_digit : (radix c : ℕ) → is_digit_of radix c ≡ true → digit_val
 unfolding is_digit_of
 below_digit radix c e = ltb-true (digit_value c) radix e
 
-pub no_digit_above : (radix c : ℕ) → radix ≤ digit_value c → is_digit_of radix c ≡ false
-unfolding is_digit_of
-no_digit_above radix c h = grind (arith, nat_tests)
-
 -- digits, and no further one where more may be taken
 pub digits_taken : (radix most : ℕ) (xs ys : List ℕ) → AllDigits radix xs → length xs ≤ most
     → (length xs < most → begins (is_digit_of radix) ys ≡ false)

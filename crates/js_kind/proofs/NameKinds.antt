@@ -6,7 +6,7 @@ use Rattle.std.specs.List.{list_all}
 use Rattle.std.proofs.lemmas.Slice.Eq.{bytes_eq-Decides}
 use Rattle.std.specs.Str.{bytes_eq}
 use Rattle.js_kind.specs.declared.kind.Kind.{Kind}
-use Rattle.js_kind.specs.declared.kind.Kind.TheVariants.{Ident, Eof}
+use Rattle.js_kind.specs.declared.kind.Kind.TheVariants.{Ident}
 use Rattle.js_kind.specs.Kinds.{number, is_one_of, is_word, keywords, kind_text}
 use Rattle.js_kind.specs.Kinds.{is_name_kind, is_identifier_name, is_number_kind}
 use Rattle.js_kind.specs.Keywords.{name_kind, kind_in, IsKindOfName}
@@ -105,9 +105,3 @@ names_are_no_numbers = refl
 pub identifier_name-is_no_number : (kind : Kind) → is_identifier_name kind ≡ true → is_number_kind kind ≡ false
 identifier_name-is_no_number kind name =
     not-true (is_number_kind kind) (name_passes is_no_number kind names_are_no_numbers name)
-
--- A kind of identifier names is not `Eof`.
-pub identifier_name-is_not_end : (kind : Kind) → is_identifier_name kind ≡ true → kind ≢ Eof
-unfolding is_identifier_name
-identifier_name-is_not_end kind name end =
-    both_ways (is_identifier_name Eof) refl (sym (ap is_identifier_name end) ∙ name)

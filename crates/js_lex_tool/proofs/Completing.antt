@@ -107,17 +107,6 @@ runs_task words task input input_new output output_new outcome is runs =
       complete = completes task input input_new output output_new outcome runs;
     })
 
--- The words ask for nothing that there is.
-pub refuses_words : (input : InputState) (output : OutputState)
-    → RunsTool None input input output output (without_run 2)
-refuses_words input output = record {
-  known = inr (inl refl);
-  usage = record { fails = λ _. refl; passes = λ h. absurd (omega (arith, h)) };
-  unread = λ _. (refl, refl, refl);
-  runs = tt;
-  complete = λ can. absurd can;
-}
-
 -- there was no memory for what the words ask for
 task_out : (task : Task) (input : InputState) (output : OutputState)
     → RunsTask task input input output output (without_run 1)

@@ -1,8 +1,8 @@
 -- How many commands at the end of two lists are the same.
-use Rattle.std.proofs.Common.{◌≡◌, ℕ, suc, ◌+◌, ◌-◌, ◌<◌, ◌≤◌, List, [], ◌∷◌, length}
+use Rattle.std.proofs.Common.{◌≡◌, ℕ, suc, ◌+◌, ◌-◌, ◌<◌, ◌≤◌, List, ◌∷◌, length}
 use Rattle.std.proofs.Common.{drop, sym, ◌∙◌, ap, arith, get_or}
 use Rattle.std.proofs.Common.{inl, inr}
-use Rattle.std.proofs.Math.Seq.{drop-cons, drop-length}
+use Rattle.std.proofs.Math.Seq.{drop-cons}
 use Rattle.std.proofs.lemmas.Bool.{cases_lt}
 use Rattle.std.proofs.lemmas.List.{drop-drop}
 use Rattle.js_session.specs.declared.command.Command.{Command}
@@ -37,16 +37,6 @@ cons_end xs n d some =
     ∙ drop-cons xs (length xs - 1 - n) d (omega (arith, some))
     ∙ ap (λ k. get_or xs (length xs - 1 - n) d ∷ drop k xs) next
 
-pub none_yet : (old new : List Command) → EndsAlike old new 0
-none_yet old new = record {
-  in_old = omega arith;
-  in_new = omega arith;
-  same = none new ∙ sym (none old);
-}
-  where
-    none : (xs : List Command) → drop (length xs - 0) xs ≡ []
-    none xs = let whole : length xs - 0 ≡ length xs = omega arith in ap (λ k. drop k xs) whole ∙ drop-length xs
-
 pub one_more : (old new : List Command) (n : ℕ) (d e : Command) → n < length old → n < length new
     → get_or old (length old - 1 - n) d ≡ get_or new (length new - 1 - n) e → EndsAlike old new n
     → EndsAlike old new (n + 1)
@@ -55,16 +45,6 @@ one_more old new n d e in_old in_new equal h = record {
   in_new = omega (arith, in_new);
   same =
       cons_end new n e in_new ∙ (λ j. sym equal j ∷ h.same j) ∙ sym (cons_end old n d in_old);
-}
-
--- All of one list are at the end of the other.
-pub all_of_one : (old new : List Command) (n : ℕ) → EndsAlike old new n
-    → ((k : ℕ) → k ≤ length old → k ≤ length new → k ≤ n) → IsCommonEnd old new n
-all_of_one old new n h all = record {
-  in_old = h.in_old;
-  in_new = h.in_new;
-  same = λ k less. fewer old new k n less h;
-  no_more = λ k o m e. all k o m;
 }
 
 heads : (x y : Command) (xs ys : List Command) → x ∷ xs ≡ y ∷ ys → x ≡ y

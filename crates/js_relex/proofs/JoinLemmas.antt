@@ -2,30 +2,9 @@
 use Rattle.std.proofs.Common.{◌≡◌, ℕ, ◌+◌, ◌-◌, ◌<◌, ◌≤◌, List, length, drop, sym, ◌∙◌, ap, subst, arith, get_or}
 use Rattle.std.proofs.lemmas.List.{length-drop}
 use Rattle.std.proofs.lemmas.Option.{get_or_from_slice_get, slice_get-get_or, slice_get_within}
-use Rattle.js_kind.specs.TokenParts.{TokenParts}
 use Rattle.js_session.specs.declared.command.Command.{Command}
 use Rattle.js_session.specs.declared.row.Row.{Row}
-use Rattle.js_session.specs.Shifted.{shifted, shifted_token}
-use Rattle.js_relex.specs.Joined.{IsCommonEnd, IsMovedToken, JoiningState, Joins, at_start}
-
-pub is_moved_token : (from to : ℕ) (old new : TokenParts) → from ≤ old.start → to ≤ new.start
-    → new.start ≡ shifted from to old.start → new.end ≡ shifted from to old.end → at_start old ≡ at_start new
-    → IsMovedToken from to old new
-is_moved_token from to old new behind_old behind_new start end alike = record {
-  behind_old = behind_old;
-  behind_new = behind_new;
-  same = λ j. record {
-    start = start j;
-    end = end j;
-    kind = sym (ap (λ (t : TokenParts). t.kind) alike) j;
-    is_on_new_line = sym (ap (λ (t : TokenParts). t.is_on_new_line) alike) j;
-    escaped = sym (ap (λ (t : TokenParts). t.escaped) alike) j;
-    has_separator = sym (ap (λ (t : TokenParts). t.has_separator) alike) j;
-  };
-}
-
-pub alike_token : (from to : ℕ) (old new : TokenParts) → new ≡ shifted_token from to old → at_start old ≡ at_start new
-alike_token from to old new same = sym (ap at_start same)
+use Rattle.js_relex.specs.Joined.{IsCommonEnd, IsMovedToken, JoiningState, Joins}
 
 -- The index of the old row behind which so many commands are left.
 old_index_is : (old new : List Command) (old_index left : ℕ) → old_index ≤ length old → left ≤ length new

@@ -14,9 +14,6 @@ use Rattle.js_relex.proofs.LiveRows.{live-append}
 abbrev pub GoesBehind : Report → List Row → Report → Type 0
 GoesBehind a rows b = GoesLive a (live_behind (report_live a) rows) b
 
-pub goes_none : (r : Report) → GoesBehind r [] r
-goes_none r = record { live_is = refl; rows_are = refl; collected = refl }
-
 pub goes_both : (a b c : Report) (rows more : List Row) → GoesBehind a rows b → GoesBehind b more c
     → GoesBehind a (rows ++ more) c
 goes_both a b c rows more h k = record {

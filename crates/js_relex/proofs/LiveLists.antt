@@ -32,12 +32,6 @@ use Rattle.js_relex.proofs.LiveRows.{live-append}
 abbrev behind_row : Effect → Row → Live → Live
 behind_row effect row live = (after_row effect row (record { now = live; marks = [] })).now
 
-joined_live-assoc : (a b c : Live) → joined_live (joined_live a b) c ≡ joined_live a (joined_live b c)
-joined_live-assoc a b c =
-    same_live (joined_live (joined_live a b) c) (joined_live a (joined_live b c))
-    (append_assoc a.tokens b.tokens c.tokens)
-    (joined-assoc a.findings b.findings c.findings)
-
 abbrev one : Bool → ℕ
 one b = if b then 1 else 0
 
@@ -270,14 +264,6 @@ first_readings_are (row ∷ rows) commands (suc n) e =
     let here = sum_by-cons (λ (r : Row). one (is_reading r.command)) row (take n rows) in
     let more = readings_answer rows commands n rest in
     omega (arith, reads, here, more)
-
--- The first row reads, and so rows start anew.
-pub first_starts : (rows : List Row) (commands : List Command)
-    → map (λ (row : Row). row.command) rows ≡ None ∷ map Some commands → StartsAnew rows
-first_starts [] commands e = tt
-first_starts (row ∷ rows) commands e =
-    let first : row.command ≡ None = cc in
-    ap is_reading first
 
 -- The lengths at a place, by the commands.
 pub lengths_at_place : (rows : List Row) (commands : List Command) (place : ℕ) → AllByRecursion Lasts rows

@@ -1,7 +1,7 @@
 -- A session that makes steps up to the first row that joins the old ones.
-use Rattle.std.proofs.Common.{◌≡◌, ℕ, ◌+◌, ◌-◌, ◌<◌, ◌≤◌, true, false, List}
+use Rattle.std.proofs.Common.{◌≡◌, ℕ, ◌+◌, ◌-◌, ◌<◌, ◌≤◌, true, List}
 use Rattle.std.proofs.Common.{[], ◌∷◌, ◌++◌, length, take, refl, sym}
-use Rattle.std.proofs.Common.{◌∙◌, ap, subst, arith, inl, inr, get_or, Some, None, append-nil, append_assoc}
+use Rattle.std.proofs.Common.{◌∙◌, ap, subst, arith, inl, inr, get_or, Some, None, append_assoc}
 use Rattle.std.specs.List.{list_all}
 use Rattle.std.proofs.lemmas.List.{length-append}
 use Rattle.js_session.specs.declared.command.Command.{Command}
@@ -9,7 +9,7 @@ use Rattle.js_session.specs.declared.row.Row.{Row}
 use Rattle.js_session.specs.Effects.{is_lasting}
 use Rattle.js_session.specs.Session.{AddsRow, RunsFrom, SessionState}
 use Rattle.js_relex.specs.Joined.{FirstFrom, JoiningState, Joins}
-use Rattle.js_relex.specs.Joining.{Stepped, StepsBroken, StepsUntil, index_behind}
+use Rattle.js_relex.specs.Joining.{Stepped, StepsUntil, index_behind}
 use Rattle.js_relex.proofs.FirstLemmas.{behind_none}
 use Rattle.js_relex.proofs.Lasting.{lasting_at, runs_more}
 
@@ -19,18 +19,6 @@ pub record SteppedTo (j : JoiningState) (commands : List Command) (old new : Ses
   pub count_is : length rows ≡ index
   pub stepped : Stepped commands old new rows
   pub none : FirstFrom (Joins j) (index_behind j commands) rows None
-
-pub no_step : (j : JoiningState) (commands : List Command) (s : SessionState) → SteppedTo j commands s s 0
-no_step j commands s = record {
-  rows = [];
-  count_is = refl;
-  stepped = record {
-    rows_are = sym (append-nil s.rows);
-    few = omega arith;
-    runs = λ text t collects start before h. h;
-  };
-  none = refl;
-}
 
 count_more : (rows : List Row) (row : Row) → length (rows ++ row ∷ []) ≡ length rows + 1
 count_more rows row = length-append rows (row ∷ [])
@@ -112,31 +100,3 @@ one_more_step j commands old mid new index d lasting last some h a = record {
 
     stepped : Stepped commands old new (h.rows ++ a.row ∷ [])
     stepped = stepped_more commands old mid new h.rows index d lasting h.count_is some h.stepped a
-
--- All steps were made.
-pub all_steps_made : (j : JoiningState) (commands : List Command) (old new : SessionState) (index before now : ℕ)
-    → index ≤ length commands → length commands ≤ index → now ≡ before + index → SteppedTo j commands old new index
-    → StepsUntil j commands old new before now false
-all_steps_made j commands old new index before now within all ticks h =
-    let count = h.count_is in
-    record {
-      rows = h.rows;
-      stepped = h.stepped;
-      first = h.none;
-      all = λ no. omega (arith, within, all, count);
-      ticks = omega (arith, ticks, count);
-    }
-
--- One step more broke off.
-pub step_broke_off : (j : JoiningState) (commands : List Command) (old mid new : SessionState)
-    (index before mid_now now : ℕ) → index < length commands → mid_now ≡ before + index → now ≤ mid_now + 1
-    → new ≡ mid → SteppedTo j commands old mid index → StepsBroken j commands old new before now
-step_broke_off j commands old mid new index before mid_now now some ticks more same h =
-    let count = h.count_is in
-    record {
-      rows = h.rows;
-      stepped = subst (λ s. Stepped commands old s h.rows) (sym same) h.stepped;
-      none = h.none;
-      some_left = omega (arith, some, count);
-      ticks = omega (arith, ticks, more, count);
-    }

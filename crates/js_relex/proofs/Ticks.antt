@@ -140,16 +140,6 @@ module _ (old : DocState) (start end : ℕ) (new : List ℕ) (p : PreparedState)
             omega (arith, equal, count, behind, kept);
       }
 
--- The counter has risen from another number on.
-pub relexes_from : (old : DocState) (start end : ℕ) (new : List ℕ) (commands : List Command) (n before now : ℕ)
-    (d : DocState) → now ≡ before + n → Relexes old start end new commands 0 n d
-    → Relexes old start end new commands before now d
-relexes_from old start end new commands n before now d rises h = record {
-  document = h.document;
-  spares = h.spares;
-  ticks = let ticks = h.ticks in omega (arith, rises, ticks);
-}
-
 -- how many rows stand behind the one that joins the old ones, where so many before it do not
 few_behind : (j : JoiningState) (index : ℕ) (rows : List Row) (all : List Row) (joined : Option ℕ)
     → FirstFrom (Joins j) index rows joined → index + length rows ≡ length all → index < length all

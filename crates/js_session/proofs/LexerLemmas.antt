@@ -81,19 +81,6 @@ alike-sym a b h = record {
   findings = sym h.findings;
 }
 
-pub restored-trans : (a b c : LexerState) → IsRestored a b → IsRestored b c → IsRestored a c
-restored-trans a b c h g = record {
-  text = g.text ∙ h.text;
-  source_type = g.source_type ∙ h.source_type;
-  collects = g.collects ∙ h.collects;
-  place = g.place ∙ h.place;
-  last = g.last ∙ h.last;
-  tokens = g.tokens ∙ h.tokens;
-  findings = g.findings ∙ h.findings;
-  pure_comments = g.pure_comments ∙ h.pure_comments;
-  no_side_effects_comments = g.no_side_effects_comments ∙ h.no_side_effects_comments;
-}
-
 -- what was found is no less than what had been found before
 pub within-after : (old new more : Findings) → new ≡ joined old more → AreWithin (lengths_of old) new
 within-after old new more e =
@@ -112,19 +99,6 @@ restored-refl l =
       pure_comments = refl;
       no_side_effects_comments = refl;
     }
-
-pub restored-sym : (a b : LexerState) → IsRestored a b → IsRestored b a
-restored-sym a b h = record {
-  text = sym h.text;
-  source_type = sym h.source_type;
-  collects = sym h.collects;
-  place = sym h.place;
-  last = sym h.last;
-  tokens = sym h.tokens;
-  findings = sym h.findings;
-  pure_comments = sym h.pure_comments;
-  no_side_effects_comments = sym h.no_side_effects_comments;
-}
 
 -- what holds anyway holds where there is an error
 pub on_err : {T E P : Type 0} (r : Result T E) → P → OnErr r P

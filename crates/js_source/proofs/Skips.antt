@@ -3,7 +3,6 @@ use Rattle.std.specs.Char.{encode_utf8}
 use Rattle.std.proofs.Common.{◌≡◌, ℕ, Bool, true, false, ◌==◌, ◌||◌, subst, if◌then◌else◌, List, [], ◌∷◌, ◌++◌, refl}
 use Rattle.std.proofs.Common.{sym, ap, ◌∙◌}
 use Rattle.std.proofs.lemmas.Bool.{eqb-true}
-use Rattle.js_text.proofs.TextLemmas.{before_from}
 use Rattle.js_text.specs.Characters.{from_place, from_first, before_first, is_line_terminator}
 use Rattle.js_source.specs.Search.{matches_at, matches_char}
 
@@ -36,32 +35,9 @@ module _ (p q : ℕ → Bool) (stops : (c : ℕ) → p c ≡ true → q c ≡ tr
       by_test true e more = refl
       by_test false e more = rw (no_earlier c e) (ap (λ x. c ∷ x) more)
 
--- a reader that looks for the first character that passes p finds it from the place to on, where a search from the
--- place from on gave to
-pub skips_to : (p : ℕ → Bool) (table : List Bool) (text : List ℕ) (from to : ℕ)
-    → ((c : ℕ) → p c ≡ true → matches_char table c ≡ true)
-    → from_place text to ≡ from_first (matches_char table) (from_place text from)
-    → from_first p (from_place text from) ≡ from_first p (from_place text to)
-skips_to p table text from to stops e =
-    from_first-from_first p (matches_char table) stops (from_place text from) ∙ sym (ap (from_first p) e)
-
 -- the characters that such a search passes over
 abbrev pub skipped : List Bool → List ℕ → ℕ → List ℕ
 skipped table text from = before_first (matches_char table) (from_place text from)
-
-pub skips_over : (table : List Bool) (text : List ℕ) (from to : ℕ)
-    → from_place text to ≡ from_first (matches_char table) (from_place text from)
-    → from_place text from ≡ skipped table text from ++ from_place text to
-skips_over table text from to e =
-    sym (before_from (matches_char table) (from_place text from)) ∙ sym (ap (λ xs. skipped table text from ++ xs) e)
-
-pub skips_before : (p : ℕ → Bool) (table : List Bool) (text : List ℕ) (from to : ℕ)
-    → ((c : ℕ) → p c ≡ true → matches_char table c ≡ true)
-    → from_place text to ≡ from_first (matches_char table) (from_place text from)
-    → before_first p (from_place text from) ≡ skipped table text from ++ before_first p (from_place text to)
-skips_before p table text from to stops e =
-    before_first-from_first_of p (matches_char table) stops (from_place text from)
-    ∙ sym (ap (λ xs. skipped table text from ++ before_first p xs) e)
 
 either_way : (x y : Bool) (P : Type 0) → (x || y) ≡ true → (x ≡ true → P) → (y ≡ true → P) → P
 either_way true y P e f g = f refl

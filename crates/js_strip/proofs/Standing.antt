@@ -78,14 +78,6 @@ between_append text step p q e [] ys h stand = between_from text step p q e ys h
 between_append text step p q e (x ∷ xs) ys h stand =
     (h.0, h.1, between_append text step x.span.end q e xs ys h.2 stand)
 
-pub between_ordered : (text : List ℕ) (step : Step) (p e : ℕ) (comments : List Comment)
-    → StandBetween text step p comments e → p ≤ e
-between_ordered text step p e [] stand = stand
-between_ordered text step p e (c ∷ cs) stand =
-    let later = between_ordered text step c.span.end e cs stand.2 in
-    let ordered = stand.1.ordered in
-    omega (arith, stand.0, ordered, later)
-
 -- so they stand in order
 pub in_order : (text : List ℕ) (step : Step) (p e : ℕ) (comments : List Comment)
     → StandBetween text step p comments e → StandInOrder text p comments

@@ -1,6 +1,6 @@
 -- A text without its comments, from a place on.
 use Rattle.std.proofs.Common.{◌≡◌, ℕ, ◌+◌, ◌-◌, ◌≤◌, List, [], ◌∷◌, ◌++◌, length, take, drop, sym, ◌∙◌, ap}
-use Rattle.std.proofs.Common.{arith, append_assoc, subst}
+use Rattle.std.proofs.Common.{arith, append_assoc}
 use Rattle.std.specs.Prelude.{slice_range}
 use Rattle.std.specs.Str.{IsCharBoundary, IsUtf8}
 use Rattle.std.proofs.lemmas.Str.{IsCharBoundary-start}
@@ -64,21 +64,3 @@ pub so_far_start : (text : List ℕ) (comments : List Comment) → IsUtf8 text �
     → StrippedSoFar text comments comments 0 []
 so_far_start text comments u stand =
     record { whole = sym (stripped_whole text comments stand); stand = stand; at = IsCharBoundary-start text u }
-
--- one comment more
-pub so_far_next : (text : List ℕ) (comments left more : List Comment) (place : ℕ) (written new : List ℕ) (c : Comment)
-    → left ≡ c ∷ more
-    → new ≡ (written ++ slice_range text place c.span.start) ++ stand_in c.kind ∷ []
-    → StrippedSoFar text comments left place written → StrippedSoFar text comments more c.span.end new
-so_far_next text comments left more place written new c here e s =
-    let stand : StandInOrder text place (c ∷ more) = subst (StandInOrder text place) here s.stand in
-    let rest = stripped_from text c.span.end more in
-    let part = slice_range text place c.span.start in
-    record {
-      whole =
-          ap (λ t. t ++ rest) e ∙ append_assoc (written ++ part) (stand_in c.kind ∷ []) rest
-          ∙ append_assoc written part (stand_in c.kind ∷ rest)
-          ∙ ap (λ l. written ++ stripped_from text place l) (sym here) ∙ s.whole;
-      stand = stand.1;
-      at = stand.0.ends;
-    }
