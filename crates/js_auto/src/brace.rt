@@ -9,7 +9,7 @@ use std::alloc::{AllocError, Global};
 use std::marker::Model;
 
 /// What a brace opens.
-#[derive(Clone, Copy, PartialEq, Eq, Debug)]
+#[derive(Clone, Copy)]
 pub(crate) enum Brace {
     /// A block, an object or another thing between `{` and `}`.
     Block,
@@ -18,7 +18,7 @@ pub(crate) enum Brace {
 }
 
 /// What a token does to the braces that are open.
-#[derive(Clone, Copy, PartialEq, Eq, Debug)]
+#[derive(Clone, Copy)]
 pub(crate) enum BraceEffect {
     /// Opens one.
     Opens(Brace),

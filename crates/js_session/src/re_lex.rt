@@ -13,7 +13,7 @@ use js_text::RegexInfo;
 use std::alloc::AllocError;
 
 /// A token that was read again, with what is known of it as a regular expression.
-#[derive(Clone, Copy, Debug)]
+#[derive(Clone, Copy)]
 pub(crate) struct ReadAgain {
     pub token: Token,
     pub regex: Option<RegexInfo>,
