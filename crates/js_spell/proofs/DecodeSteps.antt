@@ -18,19 +18,19 @@ use Rattle.js_text.specs.Characters.{begins}
 use Rattle.js_text.specs.declared.diagnostic.Diagnostic.{Diagnostic}
 use Rattle.js_text.specs.declared.diagnostic.Diagnostic.TheVariants.{UnterminatedString}
 use Rattle.js_kind.specs.Digits.{is_digit_of}
-use Rattle.js_grammar.specs.StringItems.{StringItem, line_continuation, digits_escape}
+use Rattle.js_grammar.specs.StringItems.{StringItem, line_continuation}
 use Rattle.js_grammar.specs.StringItems.{octal_escape, digit_in_template, further_octal_digits, octal_digits}
 use Rattle.js_grammar.specs.Number.{digit_zero}
 use Rattle.js_grammar.specs.StringItems.{character_escape, single_character, digit_escape, escape, stretch}
 use Rattle.js_grammar.specs.StringItems.{is_bad_escape, fault_reports}
-use Rattle.js_grammar.specs.UnicodeEscape.{UnicodeEscape, last_code_point}
+use Rattle.js_grammar.specs.UnicodeEscape.{last_code_point}
 use Rattle.js_grammar.proofs.EscapeCases.{continuation_of_two, continuation_of_one, nonzero_in_template, zero_and_digit}
 use Rattle.js_grammar.proofs.EscapeCases.{zero_alone, octal_escape_is, digit_escape_in_template, digit_escape_octal}
 use Rattle.js_grammar.proofs.EscapeCases.{digit_escape_itself, escape_at_end, escape_is_one}
 use Rattle.js_grammar.proofs.Tests.{and_false}
 use Rattle.js_grammar.proofs.UnicodeEscapes.{digits_taken, behind, below_digit}
 use Rattle.js_source.specs.Source.{At, rest, Reads, IsPlaced}
-use Rattle.js_spell.specs.Escape.{TakesDigit, TakesDigits, ReadsUnicodeEscape, ReadsEscapeOf, ReadsEscape}
+use Rattle.js_spell.specs.Escape.{TakesDigit, TakesDigits, ReadsEscapeOf, ReadsEscape}
 use Rattle.js_spell.specs.Escape.{escaped_units, escaped_fault}
 use Rattle.js_spell.specs.declared.escape.Escaped.{Escaped}
 use Rattle.js_spell.specs.declared.escape.Escaped.TheVariants.{Nothing, CodePoint, Bad}
@@ -69,19 +69,6 @@ other_continues c at other =
     let alone = ap (λ b. b && begins (λ d. d == line_feed) (rest at)) (ne_eqb c carriage_return other) in
     rw (continuation_of_one c (rest at) alone)
     (record { text = refl; left = refl; units = refl; fault = refl; small = tt })
-
--- an escape by digits
-pub code_point_read : (letter : ℕ) (digits : UnicodeEscape) (old new : At) (c : ℕ)
-    → ReadsUnicodeEscape digits old new (Some c) → c ≤ last_code_point
-    → ReadsEscapeOf (digits_escape letter digits) old new (CodePoint c)
-code_point_read letter digits old new c read small =
-    rw read.code_point_is
-    (record { text = read.text; left = read.left; units = refl; fault = refl; small = small })
-
-pub no_code_point_read : (letter : ℕ) (digits : UnicodeEscape) (old new : At) → ReadsUnicodeEscape digits old new None
-    → ReadsEscapeOf (digits_escape letter digits) old new Bad
-no_code_point_read letter digits old new read =
-    rw read.code_point_is (record { text = read.text; left = read.left; units = refl; fault = refl; small = tt })
 
 -- an octal escape
 octal_value_small : (c : ℕ) (old new : At) (count value : ℕ) → TakesDigits 8 (c ∷ []) old new count value → count ≤ 2

@@ -97,9 +97,6 @@ stays_past old new c cs here e past onward =
       fewer = omega (arith, ap length here, ap length step.1);
     }
 
-pub passes_none : (within : Within) (s : At) → PassesParts within s s
-passes_none within s = record { stays = stays s; left = refl }
-
 pub passes_then : (within : Within) (a b c : At) → PassesParts within a b → PassesParts within b c
     → PassesParts within a c
 passes_then within a b c h g = record { stays = stays_then a b c h.stays g.stays; left = h.left ∙ g.left }
@@ -293,13 +290,6 @@ class_breaks old new passed e = (
       (not_at_end right_square_bracket (rest new) marks_in_line.2 e),
   broken_here old new passed.stays e,
 )
-
-pub body_closes : (old new : At) → PassesParts Body old new → begins (λ c. c == slash) (rest new) ≡ true
-    → PassesBody old new true
-body_closes old new passed closed =
-    let here = first_is slash (rest new) closed in
-    let none : behind_body_character (rest new) ≡ None = ap behind_body_character here in
-    (passed.left ∙ no_part behind_body_character (rest new) none, closed, passed.stays)
 
 pub body_breaks_at_backslash : (old mid new : At) → PassesParts Body old mid → PassesBackslash mid new false
     → PassesBody old new false

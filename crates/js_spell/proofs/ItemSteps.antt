@@ -5,7 +5,7 @@ use Rattle.std.proofs.Common.{append_assoc, Result, Ok, Err, length-append}
 use Rattle.std.specs.Prelude.{MatchBool, MatchOption, IfNone, IfSome, OnOk}
 use Rattle.std.specs.Str.{encode_utf8_all, chars}
 use Rattle.std.proofs.Math.Utf8.{scalars}
-use Rattle.std.proofs.lemmas.Bool.{eqb-true, eq-eqb}
+use Rattle.std.proofs.lemmas.Bool.{eqb-true}
 use Rattle.std.proofs.lemmas.List.{append-nil}
 use Rattle.std.proofs.lemmas.List.Folds.{list_any-append}
 use Rattle.std.proofs.lemmas.Str.{chars-encodes, scalars-chars, IsUtf8-drop}
@@ -291,22 +291,6 @@ line_end_read b start old mid new us vs reports h g next past lf added =
         (line_end_item (carriage_return ∷ []) (rest mid)) h g (ap (λ a. a.text) same ∙ text)
         (found ∙ ap Some one) (ap rest (sym same)) added (sym (append-nil reports)) refl
 
--- what a mark says
-pub mark_at_end : (literal : Literal) (text : List ℕ) → text ≡ [] → StopIs literal End text
-mark_at_end DoubleQuoted text e = ap (escape_here DoubleQuoted) e
-mark_at_end SingleQuoted text e = ap (escape_here SingleQuoted) e
-mark_at_end Template text e = ap (escape_here Template) e
-
-pub mark_escape : (b : ℕ) (text : List ℕ) → b ≡ backslash → HasFirstByte b text
-    → begins (λ c. c == backslash) text ≡ true
-mark_escape b [] e first = absurd first
-mark_escape b (c ∷ cs) e first = eq-eqb c backslash (first.0 (omega (arith, e)) ∙ e)
-
-pub mark_return : (literal : Literal) (b : ℕ) (text : List ℕ) → in_template literal ≡ true → b ≡ carriage_return
-    → HasFirstByte b text → StopIs literal CarriageReturn text
-mark_return literal b [] t e first = absurd first
-mark_return literal b (c ∷ cs) t e first = (t, eq-eqb c carriage_return (first.0 (omega (arith, e)) ∙ e))
-
 differs : (b c d : ℕ) (cs : List ℕ) → d < 128 → b ≢ d → HasFirstByte b (c ∷ cs) → (c == d) ≡ false
 differs b c d cs low other first =
     elim (true_or_false (c == d)) [
@@ -316,22 +300,6 @@ differs b c d cs low other first =
           absurd (other (sym byte ∙ same)))
       | inr none ↦ none
     ]
-
-pub mark_other : (literal : Literal) (b : ℕ) (text : List ℕ) → b ≢ backslash → b ≢ carriage_return
-    → HasFirstByte b text → StopIs literal End text
-mark_other literal b [] slash cr first = absurd first
-mark_other literal b (c ∷ cs) slash cr first =
-    rw (differs b c backslash cs (omega arith) slash first, differs b c carriage_return cs (omega arith) cr first)
-    (nothing (in_template literal))
-  where
-    nothing : (a : Bool) → (a && false) ≡ false
-    nothing true = refl
-    nothing false = refl
-
-pub mark_string : (literal : Literal) (b : ℕ) (text : List ℕ) → b ≢ backslash → in_template literal ≡ false
-    → HasFirstByte b text → StopIs literal End text
-mark_string literal b [] slash t first = absurd first
-mark_string literal b (c ∷ cs) slash t first = rw (differs b c backslash cs (omega arith) slash first, t) refl
 
 pub mark_not_end : (literal : Literal) (mark : Stop) (text : List ℕ) → StopIs literal mark text
     → is_end mark ≡ false → escape_here literal text ≡ true

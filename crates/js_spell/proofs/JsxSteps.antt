@@ -171,12 +171,6 @@ no_part_begins (c ∷ cs) =
           ap (begins is_identifier_part) (from_first-found is_no_part c cs no_part) ∙ none)
     ]
 
--- nor a `-`, the name ends
-pub name_ends : (text : List ℕ) → begins is_identifier_part text ≡ false → begins (λ c. c == hyphen_minus) text ≡ false
-    → from_first ends_jsx_name text ≡ text
-name_ends [] a b = refl
-name_ends (c ∷ cs) a b = rw (a, b) refl
-
 hyphen_goes_on : (c : ℕ) → (c == hyphen_minus) ≡ true → ends_jsx_name c ≡ false
 hyphen_goes_on c e = rw e (or_true (is_identifier_part c))
   where

@@ -27,7 +27,7 @@ use Rattle.js_source.specs.Source.{At, rest, IsPlaced, StepsPast, Reads, HasFirs
 use Rattle.js_grammar.specs.Name.{NameItem, NameFault, CutsInto, items_text, items_value, items_report, item_report}
 use Rattle.js_grammar.specs.Name.{fault_report, ordinary_item, is_no_part, name_item, escape_item, name_reading}
 use Rattle.js_grammar.specs.Name.{begins_name, contains_escape, items_reading, name_items, name_value}
-use Rattle.js_grammar.specs.Name.{no_private_name, private_name_of, unnamed}
+use Rattle.js_grammar.specs.Name.{private_name_of}
 use Rattle.js_grammar.specs.Reading.{Reading, moved_diagnostics, place_behind, reported_at}
 use Rattle.js_grammar.proofs.Moved.{items_report_moved, moved_twice}
 use Rattle.js_grammar.proofs.NameCuts.{name_of, read_of_cut, nothing_reported, items_cut, cut_items}
@@ -538,22 +538,6 @@ pub private_broken : (old new : At) (before after : List Diagnostic) → begins_
     → BreaksOff (reported_at start (behind_sign (rest old))) old new before after
 private_broken old new before after begun broken start at =
     rw (private_told start old.place (rest old) begun at) broken
-
--- a `#` that no name follows
-pub unnamed_spelled : (old mid new : At) (before after : List Diagnostic) (was now : TokenParts) (kind : Kind)
-    → begins_name (rest old) ≡ false → ReportsNoName old before after kind → new.text ≡ old.text → rest new ≡ []
-    → now ≡ record was { escaped = false; has_separator = false }
-    → (start : ℕ) → start + 1 ≡ old.place
-    → Spells (behind_sign (rest old)) start old new before after was now (record { kind = kind; value = Unescaped })
-unnamed_spelled old mid new before after was now kind none reported text end flags start at =
-    let read : behind_sign (rest old) ≡ unnamed kind (number_sign ∷ rest old) reported.report =
-    ap (λ b. if b then private_name_of (name_items is_identifier_start (rest old)) (number_sign ∷ rest old)
-    else no_private_name (number_sign ∷ rest old) (rest old)) none ∙ reported.read in
-    rw read (record {
-      read = record { text = text; kind_is = refl; left = sym end; reports = reported.reports start at };
-      value = refl;
-      flags = flags;
-    })
 
 -- where a character of the class is next, a name begins
 pub start_begins : (b : ℕ) (cs : List ℕ) → b < 128 → HasFirstByte b cs → is_identifier_start b ≡ true

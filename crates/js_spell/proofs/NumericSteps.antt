@@ -1,13 +1,13 @@
 -- The steps of reading a number.
 use Rattle.std.proofs.Common.{◌≡◌, ℕ, ◌<◌, ◌≤◌, Bool, true, false, ◌||◌, ◌==◌, ltb, List, [], ◌∷◌, ◌++◌}
-use Rattle.std.proofs.Common.{length, drop, length-append, refl, sym, ◌∙◌, ap, subst, arith, inl, inr}
+use Rattle.std.proofs.Common.{length, drop, refl, sym, ◌∙◌, ap, subst, arith, inl, inr}
 use Rattle.std.proofs.Common.{append_assoc, add-zero}
 use Rattle.std.proofs.lemmas.List.{append-nil}
 use Rattle.std.specs.List.{list_any}
 use Rattle.std.specs.Prelude.{codes, IfOk, Result, Ok, Err}
 use Rattle.std.proofs.lemmas.Bool.{ltb-true, ltb-false, eqb-true}
 use Rattle.std.proofs.lemmas.Bool.Decides.{nat_tests}
-use Rattle.js_text.specs.Ascii.{full_stop, low_line, plus_sign, hyphen_minus}
+use Rattle.js_text.specs.Ascii.{full_stop, low_line}
 use Rattle.js_text.specs.Characters.{begins, from_place}
 use Rattle.js_source.specs.Source.{At, rest, HasFirstByte, Reads, IsPlaced}
 use Rattle.js_text.proofs.TextLemmas.{place_past}
@@ -16,7 +16,7 @@ use Rattle.std.specs.Str.{IsCharBoundary}
 use Rattle.js_grammar.specs.Reading.{place_behind}
 use Rattle.js_grammar.proofs.Reported.{place_behind-append}
 use Rattle.js_kind.specs.declared.kind.Kind.{Kind}
-use Rattle.js_kind.specs.declared.kind.Kind.TheVariants.{PositiveExponential, NegativeExponential, Float, DecimalBigInt}
+use Rattle.js_kind.specs.declared.kind.Kind.TheVariants.{Float, DecimalBigInt}
 use Rattle.js_kind.specs.declared.kind.Kind.TheVariants as variant
 use Rattle.js_grammar.specs.Number.Sign.{no_sign, plus, minus}
 use Rattle.js_grammar.proofs.NumberSteps.{run_there, run_missing, integer_zero, integer_run, suffix_there}
@@ -195,15 +195,6 @@ module _ (radix : ℕ) (table : List Bool) (old mid : At) (small : radix ≤ 16)
     separator = with_separator;
   }
 
--- groups of digits, one after the other
-pub groups_begin : (radix : ℕ) (old : At) (flag : Bool) → PassesGroups radix old Separator old flag flag
-groups_begin radix old flag =
-    record { text = refl; characters = []; here = refl; item = refl; separator = or_none flag }
-  where
-    or_none : (b : Bool) → b ≡ (b || false)
-    or_none true = refl
-    or_none false = refl
-
 prepend_behind : (passed : Passed) (radix : ℕ) (xs ys left : List ℕ)
     → prepend xs (item_behind passed radix ys left) ≡ item_behind passed radix (xs ++ ys) left
 prepend_behind Whole radix xs ys left = refl
@@ -244,26 +235,8 @@ or_false : (b : Bool) → b ≡ (b || false)
 or_false true = refl
 or_false false = refl
 
-pub flag_kept : (b : Bool) → b ≡ (b || passed_separator Whole)
-flag_kept b = or_false b
-
 pub flag_set : (b : Bool) → true ≡ (b || passed_separator Separator)
 flag_set b = or_true b
-
--- each separator takes the source on
-pub separator_shortens : (radix : ℕ) (old new : At) → PassesDigits radix old Separator new
-    → length (rest new) < length (rest old)
-separator_shortens radix old new digits =
-    omega (
-      arith,
-      ap length digits.here,
-      length-append digits.characters (rest new),
-      some digits.characters digits.separator,
-    )
-  where
-    some : (xs : List ℕ) → contains_separator xs ≡ true → 0 < length xs
-    some [] e = absurd (cc)
-    some (x ∷ xs) e = omega arith
 
 -- a place behind characters that were passed
 pub leads_to : (old new : At) (xs : List ℕ) → IsPlaced old → IsPlaced new → new.text ≡ old.text
@@ -352,39 +325,6 @@ pub no_mark : (cs : List ℕ) → begins (λ c. c == 101) cs ≡ false → begin
     → begins is_exponent_indicator cs ≡ false
 no_mark [] small large = refl
 no_mark (c ∷ cs) small large = no_mark_one c small large
-
--- its sign
-pub sign_minus : (old new : At) → Reads old new hyphen_minus → TakesSign old new NegativeExponential
-sign_minus old new read =
-    let sign : sign_of (rest old) ≡ minus = ap sign_of read.here in
-    record {
-      text = read.text;
-      here = rw sign read.here;
-      left = rw sign (ap (drop 1) read.here);
-      kind_is = ap sign_kind sign;
-    }
-
-sign_first : (cs : List ℕ) → begins (λ c. c == hyphen_minus) cs ≡ false → begins (λ c. c == plus_sign) cs ≡ false
-    → sign_of cs ≡ no_sign
-sign_first [] h p = refl
-sign_first (c ∷ cs) h p = rw (h, p) refl
-
-pub sign_plus : (old new : At) → Reads old new plus_sign → TakesSign old new PositiveExponential
-sign_plus old new read =
-    let sign : sign_of (rest old) ≡ plus = ap sign_of read.here in
-    record {
-      text = read.text;
-      here = rw sign read.here;
-      left = rw sign (ap (drop 1) read.here);
-      kind_is = ap sign_kind sign;
-    }
-
-pub sign_none : (old : At) → begins (λ c. c == hyphen_minus) (rest old) ≡ false
-    → begins (λ c. c == plus_sign) (rest old) ≡ false
-    → TakesSign old old PositiveExponential
-sign_none old h p =
-    let sign = sign_first (rest old) h p in
-    record { text = refl; here = rw sign refl; left = rw sign refl; kind_is = ap sign_kind sign }
 
 -- items, one behind the other
 items_text-append : (xs ys : List Item) → items_text (xs ++ ys) ≡ items_text xs ++ items_text ys

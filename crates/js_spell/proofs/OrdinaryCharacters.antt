@@ -142,9 +142,6 @@ plain_run literal table (x ∷ xs) left tells run =
     (ordinary_one literal x (xs ++ left) (ordinary_character literal x (xs ++ left) on))
     (plain_run literal table xs left tells run.2)
 
-pub passes_nothing : (literal : Literal) (at : At) → PassesCharacters literal at at
-passes_nothing literal at = record { text = refl; ordinary = ordinary_nothing literal (rest at) }
-
 pub passes_then : (literal : Literal) (old mid new : At) → PassesCharacters literal old mid
     → PassesCharacters literal mid new → PassesCharacters literal old new
 passes_then literal old mid new first second = record {

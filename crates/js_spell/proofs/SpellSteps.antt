@@ -78,18 +78,6 @@ next_left None old new (none, same) some =
     (ap (λ a. a.text) same, ap (drop 1) none ∙ sym none ∙ ap rest (sym same))
 next_left (Some c) old new none some = (some.text, ap (drop 1) some.here)
 
-pub reports_missing : (found : Option ℕ) (start : ℕ) (old mid new : At) (before after : List Diagnostic) → mid ≡ old
-    → IfNone found ((rest mid ≡ []) × (new ≡ mid)) → IfSome found (Reads mid new)
-    → after ≡ before ++ (UnterminatedString (stretch start new.place) ∷ [])
-    → Unterminated start old new before after
-reports_missing found start old mid new before after same none some reported =
-    let left = next_left found mid new none some in
-    record {
-      text = left.0 ∙ ap (λ a. a.text) same;
-      left = ap (λ a. drop 1 (rest a)) (sym same) ∙ left.1;
-      reports = reported;
-    }
-
 -- what is reported of items behind a mark of one byte
 items_at : (t : Bool) (start : ℕ) (items : List StringItem)
     → item_reports t start (start + 1) items ≡ moved_diagnostics start (item_reports t 0 1 items)

@@ -7,7 +7,7 @@ ghost use Rattle.js_spell.specs.Numeric.{radix_of_digits};
 use js_source::of_each_byte;
 
 /// The digits of a radix.
-#[derive(Clone, Copy, Debug)]
+#[derive(Clone, Copy)]
 pub(crate) enum Digits {
     Binary,
     Octal,

@@ -19,7 +19,7 @@ use js_text::{Diagnostic, DiagnosticList, JSStrBuilder, Span, is_line_terminator
 use std::alloc::AllocError;
 
 /// What an escape stands for.
-#[derive(Clone, Copy, Debug)]
+#[derive(Clone, Copy)]
 pub(crate) enum Escaped {
     /// For no unit.
     Nothing,

@@ -19,7 +19,7 @@ ghost use Rattle.js_source.specs.Runs.{place_of};
 ghost use Rattle.js_spell.specs.declared.ordinary.Literal.TheVariants.{Template};
 
 use crate::escape::read_escape;
-use crate::ordinary::{Literal, pass_characters};
+use crate::ordinary::{Literal, pass_characters, pass_to_mark};
 use crate::spelt::SpeltValue;
 use js_kind::Token;
 use js_source::{Source, SourcePosition};
@@ -104,7 +104,7 @@ fn read_carriage_return(source: &mut Source<'_>, text: &mut JSStrBuilder) -> Res
 }
 
 /// What stands where no character stands for itself.
-#[derive(Clone, Copy, Debug)]
+#[derive(Clone, Copy)]
 enum Stop {
     /// The `\` of an escape.
     Escape,
@@ -269,7 +269,7 @@ pub(crate) fn read_value(
     ensures placed { IsPlaced source.new }
 {
     let from = source.position();
-    let next = pass_characters(source, literal);
+    let next = pass_to_mark(source, literal);
     if find_stop(literal, next).is_end() {
         return Ok(SpeltValue::Unescaped);
     }

@@ -48,7 +48,7 @@ pub fn read_jsx_identifier(source: &mut Source<'_>) -> bool
 }
 
 /// What the text of JSX stands in.
-#[derive(Clone, Copy, Debug)]
+#[derive(Clone, Copy)]
 enum Text {
     /// A child of a tag.
     Child,

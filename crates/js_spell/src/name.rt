@@ -43,7 +43,7 @@ const MORE_BYTES: usize = 16;
 const LAST_LOW_SURROGATE: u32 = 0xDFFF;
 
 /// Where in a name an item stands.
-#[derive(Clone, Copy, Debug)]
+#[derive(Clone, Copy)]
 enum Position {
     /// It begins the name.
     First,
@@ -64,7 +64,7 @@ impl Position {
 }
 
 /// What an escape in a name came to.
-#[derive(Clone, Copy, Debug)]
+#[derive(Clone, Copy)]
 enum Decoding {
     /// It stands for the character.
     Character(char),

@@ -26,7 +26,7 @@ use js_text::{Diagnostic, DiagnosticList, Span, is_identifier_start};
 use std::alloc::{AllocError, Global};
 
 /// What passing digits came to.
-#[derive(Clone, Copy, Debug)]
+#[derive(Clone, Copy)]
 enum Passed {
     /// Digits alone, and no separator follows them.
     Whole,
@@ -37,7 +37,7 @@ enum Passed {
 }
 
 /// A prefix, which names the base of a number.
-#[derive(Clone, Copy, Debug)]
+#[derive(Clone, Copy)]
 pub(crate) enum Prefix {
     Binary,
     Octal,
@@ -352,7 +352,7 @@ fn read_behind_prefix(
 }
 
 /// How a number without a leading point begins.
-#[derive(Clone, Copy, Debug)]
+#[derive(Clone, Copy)]
 pub(crate) enum Lead {
     /// With a prefix.
     Prefix(Prefix),
@@ -467,7 +467,7 @@ fn read_bad_end(source: &mut Source<'_>, errors: &mut DiagnosticList) -> Result<
 }
 
 /// The kind of a number, and whether a separator was read in it.
-#[derive(Clone, Copy, Debug)]
+#[derive(Clone, Copy)]
 struct Numeral {
     kind: Kind,
     has_separator: bool,

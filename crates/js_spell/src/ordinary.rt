@@ -13,7 +13,7 @@ ghost use Rattle.js_spell.specs.Strings.{in_template, ordinary_here, stops, Pass
 use js_source::{Source, SourcePosition, of_each_byte};
 
 /// What the characters stand in.
-#[derive(Clone, Copy, Debug)]
+#[derive(Clone, Copy)]
 pub(crate) enum Literal {
     /// A string between double quotes.
     DoubleQuoted,

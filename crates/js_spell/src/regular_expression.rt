@@ -24,7 +24,7 @@ use js_text::{
 use std::alloc::AllocError;
 
 /// What the characters stand in.
-#[derive(Clone, Copy, Debug)]
+#[derive(Clone, Copy)]
 enum Within {
     /// The body of a regular expression, outside a class.
     Body,
@@ -33,7 +33,7 @@ enum Within {
 }
 
 /// What stands where no character stands for itself.
-#[derive(Clone, Copy, Debug)]
+#[derive(Clone, Copy)]
 enum Stop {
     /// A `\`.
     Backslash,

@@ -18,7 +18,7 @@ use js_text::DiagnosticList;
 use std::alloc::{AllocError, Global};
 
 /// What ends a part of a template.
-#[derive(Clone, Copy, Debug)]
+#[derive(Clone, Copy)]
 enum PartEnd {
     /// A backquote.
     Tail,
