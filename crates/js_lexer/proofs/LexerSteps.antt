@@ -11,7 +11,7 @@ use Rattle.js_text.specs.Lists.{with_last}
 use Rattle.js_kind.specs.TokenParts.{TokenParts}
 use Rattle.js_grammar.specs.GapItems.{token_before}
 use Rattle.js_grammar.specs.Goals.{GoalReads, line_has_ended_behind}
-use Rattle.js_grammar.specs.Outcome.{Findings, Outcome, lengths_of, cut_to, joined}
+use Rattle.js_grammar.specs.Outcome.{Findings, lengths_of, cut_to, joined}
 use Rattle.js_grammar.specs.declared.goal.Goal.{Goal}
 use Rattle.js_grammar.specs.declared.goal.Goal.TheVariants.{TemplateTail}
 use Rattle.js_grammar.proofs.AgainKinds.{again_is_re_lexed, only_one}
@@ -32,7 +32,7 @@ use Rattle.js_reader.specs.Found.{findings_in, lists_added}
 use Rattle.js_lexer.specs.Lexer.{LexerState, IsOnPlaces, IsSound, IsRestored, collected, ReadsOutcome, ReadsToken}
 use Rattle.js_lexer.specs.Lexer.{Checkpoint, checkpoint_of, checkpoint_with_errors_of, put_back, put_errors_back}
 use Rattle.js_lexer.specs.Lexer.{rewound, BeginsAlike, GoesOnFrom, with_diagnostics, with_comments}
-use Rattle.js_lexer.specs.Lexer.{LexesAgain, after_re_lex, last_read, token_or_default, range_before, trivia_before}
+use Rattle.js_lexer.specs.Lexer.{LexesAgain, last_read, token_or_default, range_before, trivia_before}
 use Rattle.js_reader.specs.Reader.{ReadsGoal, ReadsWithGap, ReadsWithoutGap, AddsGap, MovesOn}
 use Rattle.js_reader.specs.declared.findings_builder.FindingsBuilder.{FindingsBuilder}
 use Rattle.js_reader.specs.declared.reader.Reader.{Reader}
@@ -519,17 +519,6 @@ pub begins_alike-replaced : (collects : Bool) (ts : List TokenParts) (t : TokenP
     → BeginsAlike ts (if collects then with_last ts t else ts)
 begins_alike-replaced true ts t = begins_alike-with_last ts t
 begins_alike-replaced false ts t = subst (BeginsAlike ts) (append-nil ts) (begins_alike-append ts [])
-
--- a re-lex leads on
-pub goes_on-re_lexed : (l : LexerState) (o : Outcome) → GoesOnFrom l (after_re_lex l o)
-goes_on-re_lexed l o = record {
-  text = refl;
-  source_type = refl;
-  collects = refl;
-  tokens = begins_alike-replaced l.collects l.tokens o.token;
-  findings = o.findings;
-  goes_on = refl;
-}
 
 -- and so does a lexer that read a token again
 pub re_lexing_goes_on : (goal : Goal) (old new : LexerState) (token : TokenParts) → LexesAgain goal old token new

@@ -12,7 +12,7 @@ ghost use Rattle.js_grammar.specs.TokenText.{text_start, text_end};
 ghost use Rattle.js_grammar.specs.Reads.{is_onward};
 ghost use Rattle.js_kind.specs.TokenParts.{TokenParts};
 ghost use Rattle.js_source.specs.Source.{IsPlaced};
-ghost use Rattle.js_trivia.specs.Trivia.{handle_token, without_ranges, AreRangesUpTo};
+ghost use Rattle.js_trivia.specs.Trivia.{handle_token, AreRangesUpTo};
 ghost use Rattle.js_reader.specs.Decoded.{Keeps, KeepsValues, HasValue, value_of, GivesDecoded, GivesPart, GivesText};
 ghost use Rattle.js_reader.specs.Decoded.{GivesTemplate, GivesStretch};
 ghost use Rattle.js_reader.specs.Found.{Grows, found_lengths};
@@ -104,17 +104,13 @@ fn collect(
     collect_other(tokens, collects, *token)
 }
 
-/// Takes the token that was read as the last one; alone: before it the builder was told of nothing but line ends.
+/// Takes the token that was read as the last one.
 #[inline(always)]
-fn take_token(trivia: &mut TriviaBuilder, has_read: &mut bool, token: Token, alone: bool)
-    ensures last { trivia.new ≡ handle_token token (if alone then without_ranges trivia.old else trivia.old) }
+fn take_token(trivia: &mut TriviaBuilder, has_read: &mut bool, token: Token)
+    ensures last { trivia.new ≡ handle_token token trivia.old }
     ensures read { has_read.new ≡ true }
 {
-    if alone {
-        trivia.handle_token_alone(token);
-    } else {
-        trivia.handle_token(token);
-    }
+    trivia.handle_token(token);
     *has_read = true;
 }
 
@@ -351,7 +347,7 @@ impl<'a, C: LexerConfig + Drop> Lexer<'a, C> {
         );
         match read {
             Ok(token) => {
-                take_token(&mut self.found.trivia, &mut self.has_read, token, false);
+                take_token(&mut self.found.trivia, &mut self.has_read, token);
                 Ok(token)
             }
             Err(error) => {

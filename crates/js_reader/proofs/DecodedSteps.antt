@@ -22,12 +22,6 @@ keeps_same text old new same = record {
   are_values = λ are. subst (AreValues text) (sym same) are;
 }
 
-pub keeps_more : (a b c : Values) → Keeps a b → Keeps b c → Keeps a c
-keeps_more a b c f g = record {
-  strings = λ start units e. g.strings start units (f.strings start units e);
-  templates = λ start units e. g.templates start units (f.templates start units e);
-}
-
 -- what holds where the value of a token is added
 record IsHeld (A : Type 0) (told : List ℕ → A) (text : List ℕ) (old new : Placed A) : Type 0 where
   kept : KeepsPlaced A old new

@@ -8,14 +8,6 @@ pub space_is_white : is_white_space 32 ≡ true
 unfolding is_white_space is_irregular_whitespace
 space_is_white = refl
 
-pub line_feed_is_dark : is_white_space 10 ≡ false
-unfolding is_white_space is_irregular_whitespace
-line_feed_is_dark = refl
-
-pub line_feed_ends : is_line_terminator 10 ≡ true
-unfolding is_line_terminator
-line_feed_ends = refl
-
 dark : (c : ℕ) → 32 < c → c < 128 → is_white_space c ≡ false
 unfolding is_white_space is_irregular_whitespace
 dark c low high =

@@ -213,13 +213,6 @@ html_reports MultiLineBlock e old = absurd (cc)
 html_reports HtmlOpen e old = refl
 html_reports HtmlClose e old = refl
 
-pub html_is_line : (kind : CommentKind) → is_html kind ≡ true → is_line_kind kind ≡ true
-html_is_line Line e = absurd (cc)
-html_is_line SingleLineBlock e = absurd (cc)
-html_is_line MultiLineBlock e = absurd (cc)
-html_is_line HtmlOpen e = refl
-html_is_line HtmlClose e = refl
-
 pub html_piece : (kind : CommentKind) → is_html kind ≡ true → (old : Reader) (before : FindingsBuilder) (new : Reader)
     (after more : FindingsBuilder) → IsPlaced old.source → IsPlaced new.source → IsBehindLine kind old before new after
     → IsOnlyPiece kind old
@@ -239,12 +232,6 @@ html_piece kind html old before new after more h g line only more_is =
     ∙ ap (λ b. if b then Some (line_comment (piece_kind kind) old.line_has_ended (rest old.source)) else None) begins)
     (html_items kind html) (html_ends kind html) (html_silent kind html)
     (more_is ∙ ap (λ ds. record after { deferred = after.deferred ++ ds }) (html_reports kind html old))
-
-pub no_html : (kind : CommentKind) (old : Reader) → IsOnlyPiece kind old
-    → is_prefix (opening_sequence kind) (rest old.source) ≡ false
-    → piece old.source_type old.line_has_ended (rest old.source) ≡ None
-no_html kind old only e =
-    only ∙ ap (λ b. if b then Some (line_comment (piece_kind kind) old.line_has_ended (rest old.source)) else None) e
 
 first_alone : (a : Bool) (x : Option Piece) → (if a && true then x else None) ≡ (if a then x else None)
 first_alone true x = refl

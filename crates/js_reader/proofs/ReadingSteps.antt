@@ -1,5 +1,5 @@
 -- The steps of a reading.
-use Rattle.std.proofs.Common.{◌≡◌, ℕ, ◌≤◌, Bool, true, false, List, [], ◌∷◌, ◌++◌, zero, suc, refl, sym, ◌∙◌, ap}
+use Rattle.std.proofs.Common.{◌≡◌, ℕ, ◌≤◌, Bool, true, false, List, [], ◌∷◌, ◌++◌, refl, sym, ◌∙◌, ap}
 use Rattle.std.proofs.Common.{◌+◌, ◌<◌, ◌&&◌, length, length-append, drop, arith, add-zero}
 use Rattle.std.proofs.Common.{subst, append_assoc, append-nil, Option, Some, None}
 use Rattle.std.specs.Prelude.{codes, is_some, IfOk, IsSome, OnErr, Result}
@@ -284,18 +284,6 @@ begins_at_start : (text : List ℕ) (place : ℕ) → place ≡ 0
     → begins_hashbang First text place ≡ is_prefix (codes "#!") (from_place text 0)
 begins_at_start text place e = rw e refl
 
-pub no_hashbang_inside : (old : At) → (old.place ≡ 0 → ⊥) → begins_hashbang First old.text old.place ≡ false
-no_hashbang_inside old inside = at old.place inside
-  where
-    at : (place : ℕ) → (place ≡ 0 → ⊥) → begins_hashbang First old.text place ≡ false
-    at zero inside = absurd (inside refl)
-    at (suc place) inside = refl
-
-pub no_hashbang_mark : (old : At) → old.place ≡ 0 → is_prefix (codes "#!") (rest old) ≡ false
-    → begins_hashbang First old.text old.place ≡ false
-no_hashbang_mark old start e =
-    begins_at_start old.text old.place start ∙ ap (λ p. is_prefix (codes "#!") (from_place old.text p)) (sym start) ∙ e
-
 pub hashbang_read : (old new : Reader) (mid : At) (token : TokenParts) (end : ℕ) → old.source.place ≡ 0
     → IsPlaced new.source → StaysWithin old new → TakesSequence (codes "#!") old.source true mid
     → new.source.text ≡ mid.text → rest new.source ≡ from_first is_line_terminator (rest mid) → end ≡ new.source.place
@@ -467,10 +455,6 @@ goal_answers goal old mid before new after r same plain none h =
     (λ token b previous line_has_ended. goal_behind goal previous old before token new after plain none
     (behind_from previous old mid before token new after same
     (b previous (line_has_ended ∙ sym same.stays.line_has_ended)))) h
-
-pub goal_fails : (old mid new : Reader) (r : Result TokenParts AllocError) → IsUnmoved old mid
-    → OnErr r (MovesOn mid new) → OnErr r (MovesOn old new)
-goal_fails old mid new r same h = on_err_weaker r (moves_on_from old mid new same) h
 
 -- a token before a place where a line has ended or not
 pub some_token_before : (line_has_ended : Bool)

@@ -115,7 +115,36 @@ pub next_part_valued : (behind : List ℕ)
 next_part_valued behind =
     part_is_valued TemplateMiddle TemplateTail part_kinds.middle part_kinds.tail right_curly_bracket behind refl
 
--- what was read where the reader stood
+-- What was read where the reader stood, and in which no line ends.
+lexeme_read : {reading : Reading} {mid : At} {start : ℕ} {before after : List Diagnostic} {was now : TokenParts}
+    {spelt : Spelt} (old new : Reader)
+    → ReadsHere old.source_type old.line_has_ended (rest old.source) reading → reading.line_ended ≡ false
+    → start ≡ old.source.place → mid.text ≡ old.source.text
+    → Spells reading start mid new.source before after was now spelt → new.source_type ≡ old.source_type
+    → ReadsLexeme old before
+    (record {
+      kind = spelt.kind;
+      is_on_new_line = old.line_has_ended;
+      escaped = now.escaped;
+      has_separator = now.has_separator;
+    }) new after
+lexeme_read {reading} {before} old new here line at text spells source_type = record {
+  text = spells.read.text ∙ text;
+  source_type = source_type;
+  reading = reading;
+  here = here;
+  behind = spells.read.left;
+  lexeme_is =
+      rw (
+        line,
+        spells.read.kind_is,
+        ap (λ t. t.escaped) spells.flags,
+        ap (λ t. t.has_separator) spells.flags,
+      ) refl;
+  errors = spells.read.reports ∙ ap (λ n. before ++ reported_at n reading) at;
+}
+
+-- a name, a string or a part of a template
 pub lexeme_as : {template : Bool} {reading : Reading} {mid : At} {start : ℕ} {before after : List Diagnostic}
     {was now : TokenParts} {spelt : Spelt} (old new : Reader) → IsReadHere template old reading
     → start ≡ old.source.place → mid.text ≡ old.source.text
@@ -125,18 +154,10 @@ pub lexeme_as : {template : Bool} {reading : Reading} {mid : At} {start : ℕ} {
       kind = spelt.kind;
       is_on_new_line = old.line_has_ended;
       escaped = now.escaped;
-      has_separator = false;
+      has_separator = now.has_separator;
     }) new after
-lexeme_as {reading} {before} {now} {spelt} old new here at text spells source_type = record {
-  text = spells.read.text ∙ text;
-  source_type = source_type;
-  reading = reading;
-  here = here.reads;
-  behind = spells.read.left;
-  lexeme_is =
-      rw (here.valued.line, here.valued.separator, spells.read.kind_is, ap (λ t. t.escaped) spells.flags) refl;
-  errors = spells.read.reports ∙ ap (λ n. before ++ reported_at n reading) at;
-}
+lexeme_as old new here at text spells source_type =
+    lexeme_read old new here.reads here.valued.line at text spells source_type
 
 -- and a number
 pub lexeme_of_number : {start : ℕ} {before after : List Diagnostic} {was now : TokenParts} {spelt : Spelt}
@@ -151,23 +172,9 @@ pub lexeme_of_number : {start : ℕ} {before after : List Diagnostic} {was now :
       escaped = now.escaped;
       has_separator = now.has_separator;
     }) new after
-lexeme_of_number {before} {now} {spelt} old new begun at spells source_type =
-    let reading = number_reading (rest old.source) in
-    record {
-      text = spells.read.text;
-      source_type = source_type;
-      reading = reading;
-      here = number_reads_here old.source_type old.line_has_ended (rest old.source) begun;
-      behind = spells.read.left;
-      lexeme_is =
-          rw (
-            (number_flags (rest old.source)).0,
-            spells.read.kind_is,
-            ap (λ t. t.escaped) spells.flags,
-            ap (λ t. t.has_separator) spells.flags,
-          ) refl;
-      errors = spells.read.reports ∙ ap (λ n. before ++ reported_at n reading) at;
-    }
+lexeme_of_number old new begun at spells source_type =
+    lexeme_read old new (number_reads_here old.source_type old.line_has_ended (rest old.source) begun)
+    (number_flags (rest old.source)).0 at refl spells source_type
 
 -- The reader has moved on where a reading broke off, or where its value could not be kept.
 pub broke_off : {told : List Diagnostic} {mid : At} {before after : List Diagnostic} (old new : Reader)

@@ -174,12 +174,6 @@ pub stays : (old new : Reader) → new.source.text ≡ old.source.text → new.s
     → MovesOn old new
 stays old new text source_type = record { text = text; source_type = source_type }
 
--- so has one that has gone further
-pub moves_further : (old mid new : Reader) → mid.source.text ≡ old.source.text → mid.source_type ≡ old.source_type
-    → MovesOn mid new → MovesOn old new
-moves_further old mid new text source_type m =
-    record { text = m.text ∙ text; source_type = m.source_type ∙ source_type }
-
 -- a longest gap behind which no reported comment stands is the whole gap
 pub whole_at_once : (old new : Reader) (before after : FindingsBuilder) → SkipsGap false old before new after
     → is_reported new.source_type new.line_has_ended (rest new.source) ≡ false
@@ -222,35 +216,6 @@ so_far old mid new before found after h s r g grown =
       no_piece = r.1;
       placed = g;
       grown = grows_on before found after s.grown grown;
-    }
-
--- and there no reported comment stands
-pub whole_here : (old mid new : Reader) (before found after : FindingsBuilder) → SkipsSoFar old before mid found
-    → SkipsReported mid found false new after → SkipsWholeGap old before new after
-whole_here old mid new before found after s r =
-    let same = r.0 in
-    let pieces_are =
-    subst
-    (λ b. Pieces (whole_gap_piece old.source_type) old.line_has_ended (rest old.source) s.skips.pieces b
-    (rest new.source)) (sym same.stays.line_has_ended)
-    (subst
-    (λ (a : At). Pieces (whole_gap_piece old.source_type) old.line_has_ended
-    (rest old.source) s.skips.pieces mid.line_has_ended (rest a)) (sym same.source) s.skips.pieces_are) in
-    record {
-      skips = record {
-        text = ap (λ a. a.text) same.source ∙ s.skips.text;
-        source_type = same.stays.source_type ∙ s.skips.source_type;
-        pieces = s.skips.pieces;
-        pieces_are = pieces_are;
-        adds =
-            subst (λ f. AddsPieces false old.source_type old.source.place s.skips.pieces before f) (sym r.1)
-            s.skips.adds;
-      };
-      longest =
-          ap (λ t. whole_gap_piece t new.line_has_ended (rest new.source)) same.stays.source_type
-          ∙ ap (λ b. whole_gap_piece mid.source_type b (rest new.source)) same.stays.line_has_ended
-          ∙ ap (λ a. whole_gap_piece mid.source_type mid.line_has_ended (rest a)) same.source
-          ∙ unreported mid.source_type mid.line_has_ended (rest mid.source) r.2 ∙ s.no_piece;
     }
 
 -- where no piece of any gap begins, it matters not what stands right before

@@ -1,6 +1,5 @@
 -- What the steps of a gap do to the source, and to what is found in it.
-use Rattle.std.specs.Prelude.{◌≡◌, ℕ, ◌<◌, Bool, true, false, not, List, [], codes, Option, IfNone}
-use Rattle.std.specs.Prelude.{IfSome}
+use Rattle.std.specs.Prelude.{◌≡◌, ℕ, ◌<◌, Bool, true, false, not, List, codes}
 use Rattle.js_text.specs.Ascii.{slash, less_than_sign, hyphen_minus}
 use Rattle.js_text.specs.Characters.{begins, is_white_space, is_line_terminator}
 use Rattle.js_text.specs.declared.comment.CommentKind.{CommentKind}
@@ -13,7 +12,6 @@ use Rattle.js_grammar.specs.Outcome.{gap_deferred, gap_diagnostics}
 use Rattle.js_grammar.specs.PieceItems.{items_from}
 use Rattle.js_reader.specs.Found.{gap_added}
 use Rattle.js_reader.specs.declared.findings_builder.FindingsBuilder.{FindingsBuilder}
-use Rattle.js_source.specs.Source.{HasFirstByte}
 
 -- the byte is an ASCII character that begins no piece of a gap
 pub record BeginsNoPiece (b : ℕ) : Type 0 where
@@ -23,11 +21,6 @@ pub record BeginsNoPiece (b : ℕ) : Type 0 where
   pub no_slash : b ≡ slash → ⊥
   pub no_angle : b ≡ less_than_sign → ⊥
   pub no_minus : b ≡ hyphen_minus → ⊥
-
--- the next byte, if there is one
-pub record IsNext (next : Option ℕ) (here : List ℕ) : Type 0 where
-  pub none : IfNone next (here ≡ [])
-  pub some : IfSome next (λ b. HasFirstByte b here)
 
 -- the mark that a comment of the kind begins with
 abbrev pub opening_sequence : CommentKind → List ℕ

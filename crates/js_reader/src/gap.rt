@@ -9,7 +9,7 @@ ghost use Rattle.js_grammar.specs.Gap.{piece, is_reported};
 ghost use Rattle.js_source.specs.Source.{rest, BeginsWith, IsPlaced};
 ghost use Rattle.js_source.specs.Runs.{PassesRun, TellsClass};
 ghost use Rattle.js_reader.specs.Found.{Grows};
-ghost use Rattle.js_reader.specs.Gaps.{BeginsNoPiece, IsNext};
+ghost use Rattle.js_reader.specs.Gaps.{BeginsNoPiece};
 ghost use Rattle.js_reader.specs.Reader.{SkipsPiece, SkipsGap, SkipsWholeGap, SkipsReported, MovesOn};
 ghost use Rattle.js_reader.specs.Tables.{is_blank, is_symbol};
 
@@ -28,17 +28,16 @@ pub fn begins_no_piece(symbols: &[bool; 256], b: u8) -> bool
     symbols[b as usize]
 }
 
-/// Skips TABs and SPs, and tells the byte behind them.
+/// Skips TABs and SPs.
 #[inline(always)]
-pub fn skip_blanks(source: &mut Source<'_>, table: &[bool; 256]) -> Option<u8>
+pub fn skip_blanks(source: &mut Source<'_>, table: &[bool; 256])
     requires { TellsClass is_blank table.now }
-    ensures next { IsNext result (rest source.new) }
     ensures text { source.new.text ≡ source.old.text }
     ensures run { PassesRun table.now source.old.text source.old.place source.new.place }
     ensures fewer { length (rest source.new) ≤ length (rest source.old) }
     ensures placed { IsPlaced source.new }
 {
-    source.pass_ascii(table)
+    source.pass_ascii(table);
 }
 
 /// Whether the next byte alone shows that no reported comment stands here.

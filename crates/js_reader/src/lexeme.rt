@@ -6,7 +6,7 @@ use js_kind::{Kind, Token};
 use js_text::Span;
 
 /// The kind and the flags of what was read, from the end of a gap up to where the source stands.
-#[derive(Clone, Copy, PartialEq, Eq, Debug)]
+#[derive(Clone, Copy)]
 pub struct Lexeme {
     pub kind: Kind,
     pub is_on_new_line: bool,

@@ -13,7 +13,7 @@ ghost use Rattle.js_grammar.specs.Number.{begins_number};
 ghost use Rattle.js_grammar.specs.Punctuators.{NoPunctuator};
 ghost use Rattle.js_grammar.specs.Reads.{is_onward};
 ghost use Rattle.js_grammar.specs.StringItems.{is_quote};
-ghost use Rattle.js_kind.specs.TokenParts.{TokenParts};
+ghost use Rattle.js_kind.specs.TokenParts.{TokenParts, default_parts};
 ghost use Rattle.js_source.specs.Runs.{TellsClass};
 ghost use Rattle.js_source.specs.Source.{rest, IsPlaced, BeginsWith};
 ghost use Rattle.js_reader.specs.Decoded.{HasValue, HasValueHere, KeepsValues, KeepsSpelt, KeepsPart};
@@ -102,6 +102,34 @@ impl Reader<'_> {
         }
     }
 
+    /// A token that starts here, of which no more is known.
+    #[inline(always)]
+    fn token_here(&self) -> Token
+        ensures { result ≡ record default_parts { start = self.now.source.place } }
+    {
+        let mut token = Token::default();
+        token.set_start(self.source.offset());
+        token
+    }
+
+    /// What was read, with the flags that the reading has set in the token.
+    #[inline(always)]
+    fn lexeme_of(&self, kind: Kind, token: &Token) -> Lexeme
+        ensures { result ≡ record {
+          kind = kind;
+          is_on_new_line = self.now.line_has_ended;
+          escaped = token.now.escaped;
+          has_separator = token.now.has_separator;
+        } }
+    {
+        Lexeme {
+            kind,
+            is_on_new_line: self.line_has_ended,
+            escaped: token.escaped(),
+            has_separator: token.has_separator(),
+        }
+    }
+
     /// Reads on where nothing is spelled, and reports it.
     #[inline(never)]
     fn recover(&mut self, errors: &mut DiagnosticList) -> Result<Lexeme, AllocError>
@@ -143,15 +171,9 @@ impl Reader<'_> {
         ensures unescaped { IfOk result (λ lexeme. lexeme.escaped ≡ false) }
         ensures err { OnErr result (ReadsInPart self.old errors.old self.new errors.new) }
     {
-        let mut token = Token::default();
-        token.set_start(self.source.offset());
+        let mut token = self.token_here();
         let spelt = read_number(self.alloc, &mut self.source, errors, &mut token)?;
-        Ok(Lexeme {
-            kind: spelt.kind,
-            is_on_new_line: self.line_has_ended,
-            escaped: token.escaped(),
-            has_separator: token.has_separator(),
-        })
+        Ok(self.lexeme_of(spelt.kind, &token))
     }
 
     /// Whether a `#` is next.
@@ -190,18 +212,11 @@ impl Reader<'_> {
         ensures kept { KeepsValues self.old.source.text decoded.old decoded.new }
         ensures err { OnErr result (ReadsInPart self.old errors.old self.new errors.new) }
     {
-        let mut token = Token::default();
-        let start = self.source.offset();
-        token.set_start(start);
-        let spelt = read_string(self.alloc, &mut self.source, errors, &mut token)?;
-        let Spelt { kind, value } = spelt;
+        let mut token = self.token_here();
+        let start = token.start();
+        let Spelt { kind, value } = read_string(self.alloc, &mut self.source, errors, &mut token)?;
         keep_value(decoded, start, value)?;
-        Ok(Lexeme {
-            kind,
-            is_on_new_line: self.line_has_ended,
-            escaped: token.escaped(),
-            has_separator: false,
-        })
+        Ok(self.lexeme_of(kind, &token))
     }
 
     /// Whether a backquote is next.
@@ -230,11 +245,10 @@ impl Reader<'_> {
         ensures kept { KeepsValues self.old.source.text decoded.old decoded.new }
         ensures err { OnErr result (ReadsInPart self.old errors.old self.new errors.new) }
     {
-        let mut token = Token::default();
-        let start = self.source.offset();
-        token.set_start(start);
+        let mut token = self.token_here();
+        let start = token.start();
         self.source.next_char();
-        let spelt = read_template_part(
+        let Spelt { kind, value } = read_template_part(
             self.alloc,
             &mut self.source,
             errors,
@@ -242,46 +256,49 @@ impl Reader<'_> {
             Kind::TemplateHead,
             Kind::NoSubstitutionTemplate,
         )?;
-        let Spelt { kind, value } = spelt;
         keep_part(decoded, start, value)?;
-        Ok(Lexeme {
-            kind,
-            is_on_new_line: self.line_has_ended,
-            escaped: token.escaped(),
-            has_separator: false,
-        })
+        Ok(self.lexeme_of(kind, &token))
     }
 
-    /// Reads a number, a private name, a string or a template, or reads on where nothing is spelled.
+    /// Reads the number that begins here, or reads on where nothing is spelled.
     #[inline(always)]
-    fn read_other(
-        &mut self,
-        errors: &mut DiagnosticList,
-        decoded: &mut DecodedValues,
-    ) -> Result<Lexeme, AllocError>
+    fn read_other(&mut self, errors: &mut DiagnosticList) -> Result<Lexeme, AllocError>
         requires gap { whole_gap_piece self.old.source_type self.old.line_has_ended (rest self.old.source) ≡ None }
         requires placed { IsPlaced self.old.source }
         requires some { rest self.old.source ≢ [] }
         requires no_name { begins_name (rest self.old.source) ≡ false }
+        requires no_private_name { begins (λ c. c == number_sign) (rest self.old.source) ≡ false }
+        requires no_string { begins is_quote (rest self.old.source) ≡ false }
+        requires no_template { begins (λ c. c == grave_accent) (rest self.old.source) ≡ false }
         requires no_punctuator { NoPunctuator self.old.source_type self.old.line_has_ended (rest self.old.source) }
         ensures ok { IfOk result (λ lexeme. ReadsLexeme self.old errors.old lexeme self.new errors.new) }
-        ensures value { IfOk result (λ lexeme. HasValueHere self.old.source decoded.new lexeme.kind lexeme.escaped) }
-        ensures kept { KeepsValues self.old.source.text decoded.old decoded.new }
+        ensures unescaped { IfOk result (λ lexeme. lexeme.escaped ≡ false) }
         ensures err { OnErr result (ReadsInPart self.old errors.old self.new errors.new) }
     {
         if self.begins_number() {
             return self.read_number(errors);
         }
-        if self.begins_private_name() {
-            return self.read_private_name(errors, decoded);
-        }
-        if self.begins_string() {
-            return self.read_string(errors, decoded);
-        }
-        if self.begins_template() {
-            return self.read_template(errors, decoded);
-        }
         self.recover(errors)
+    }
+
+    /// Reads a punctuator or a number, or reads on where nothing is spelled.
+    #[inline(always)]
+    fn read_symbol(&mut self, errors: &mut DiagnosticList) -> Result<Lexeme, AllocError>
+        requires gap { whole_gap_piece self.old.source_type self.old.line_has_ended (rest self.old.source) ≡ None }
+        requires placed { IsPlaced self.old.source }
+        requires some { rest self.old.source ≢ [] }
+        requires no_name { begins_name (rest self.old.source) ≡ false }
+        requires no_private_name { begins (λ c. c == number_sign) (rest self.old.source) ≡ false }
+        requires no_string { begins is_quote (rest self.old.source) ≡ false }
+        requires no_template { begins (λ c. c == grave_accent) (rest self.old.source) ≡ false }
+        ensures ok { IfOk result (λ lexeme. ReadsLexeme self.old errors.old lexeme self.new errors.new) }
+        ensures unescaped { IfOk result (λ lexeme. lexeme.escaped ≡ false) }
+        ensures err { OnErr result (ReadsInPart self.old errors.old self.new errors.new) }
+    {
+        match read_punctuator(&mut self.source) {
+            Some(kind) => Ok(self.lexeme(kind)),
+            None => self.read_other(errors),
+        }
     }
 
     /// Reads what stands behind a gap, where no name begins.
@@ -300,10 +317,16 @@ impl Reader<'_> {
         ensures kept { KeepsValues self.old.source.text decoded.old decoded.new }
         ensures err { OnErr result (ReadsInPart self.old errors.old self.new errors.new) }
     {
-        match read_punctuator(&mut self.source) {
-            Some(kind) => Ok(self.lexeme(kind)),
-            None => self.read_other(errors, decoded),
+        if self.begins_string() {
+            return self.read_string(errors, decoded);
         }
+        if self.begins_template() {
+            return self.read_template(errors, decoded);
+        }
+        if self.begins_private_name() {
+            return self.read_private_name(errors, decoded);
+        }
+        self.read_symbol(errors)
     }
 
     /// Reads the name that begins here, good or at fault, and keeps its value where it has an escape.
@@ -320,18 +343,11 @@ impl Reader<'_> {
         ensures kept { KeepsValues self.old.source.text decoded.old decoded.new }
         ensures err { OnErr result (ReadsInPart self.old errors.old self.new errors.new) }
     {
-        let mut token = Token::default();
-        let start = self.source.offset();
-        token.set_start(start);
-        let spelt = read_name(self.alloc, &mut self.source, errors, &mut token)?;
-        let Spelt { kind, value } = spelt;
+        let mut token = self.token_here();
+        let start = token.start();
+        let Spelt { kind, value } = read_name(self.alloc, &mut self.source, errors, &mut token)?;
         keep_value(decoded, start, value)?;
-        Ok(Lexeme {
-            kind,
-            is_on_new_line: self.line_has_ended,
-            escaped: token.escaped(),
-            has_separator: false,
-        })
+        Ok(self.lexeme_of(kind, &token))
     }
 
     /// Reads the private name that begins here, good or at fault, and keeps its value where it has an escape.
@@ -348,19 +364,17 @@ impl Reader<'_> {
         ensures kept { KeepsValues self.old.source.text decoded.old decoded.new }
         ensures err { OnErr result (ReadsInPart self.old errors.old self.new errors.new) }
     {
-        let mut token = Token::default();
-        let start = self.source.offset();
-        token.set_start(start);
+        let mut token = self.token_here();
+        let start = token.start();
         self.source.next_char();
-        let spelt = read_private_name(self.alloc, &mut self.source, errors, &mut token)?;
-        let Spelt { kind, value } = spelt;
+        let Spelt { kind, value } = read_private_name(
+            self.alloc,
+            &mut self.source,
+            errors,
+            &mut token,
+        )?;
         keep_value(decoded, start, value)?;
-        Ok(Lexeme {
-            kind,
-            is_on_new_line: self.line_has_ended,
-            escaped: token.escaped(),
-            has_separator: false,
-        })
+        Ok(self.lexeme_of(kind, &token))
     }
 
     /// Reads what stands behind a gap, whatever it begins with.
@@ -432,9 +446,10 @@ impl Reader<'_> {
         Ok(lexeme.token(span))
     }
 
-    /// Reads the token that stands here, where no gap does, if it is one that needs the source alone.
+    /// Reads the token that stands here, where no gap does, if it is one that needs the source alone, and that was not
+    /// tried before.
     #[inline(always)]
-    fn read_simple(&mut self) -> Option<Token>
+    fn read_simple(&mut self, was_tried: bool) -> Option<Token>
         requires gap { whole_gap_piece self.old.source_type self.old.line_has_ended (rest self.old.source) ≡ None }
         requires placed { IsPlaced self.old.source }
         ensures some { (errors : List Diagnostic)
@@ -442,6 +457,9 @@ impl Reader<'_> {
         ensures escaped { IfSome result (λ token. token.escaped ≡ false) }
         ensures none { IfNone result (self.new ≡ self.old) }
     {
+        if was_tried {
+            return None;
+        }
         let start = self.source.offset();
         let b = self.source.peek_byte()?;
         if b >= 128 {
@@ -474,7 +492,8 @@ impl Reader<'_> {
         self.skip_whole_gap(found)?;
         // The source is between characters, as everywhere.
         let _place = self.source.position();
-        match self.read_simple() {
+        // Behind a gap with nothing to tell of, `next_token` of a lexer has tried that.
+        match self.read_simple(found.trivia.is_settled()) {
             Some(token) => Ok(token),
             None => self.read_here(&mut found.errors, decoded),
         }

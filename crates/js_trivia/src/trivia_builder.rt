@@ -271,17 +271,6 @@ impl TriviaBuilder {
         self.settled = are_none(self.pure_comments, self.no_side_effects_comments);
     }
 
-    /// Takes notice of a token before which there was nothing to tell of: the ranges of annotations are forgotten.
-    #[inline(always)]
-    pub fn handle_token_alone(&mut self, token: Token)
-        ensures { self.new ≡ handle_token token (without_ranges self.old) }
-    {
-        if !self.settled {
-            self.settle(token);
-        }
-        self.previous = token;
-    }
-
     /// Only if nothing is kept but the lists and the last token.
     #[inline(always)]
     pub fn is_settled(&self) -> bool
@@ -297,16 +286,6 @@ impl TriviaBuilder {
         ensures { self.new ≡ handle_token token (without_ranges self.old) }
     {
         self.previous = token;
-    }
-
-    /// Takes notice of such a token where a range may be held, or a comment may wait.
-    #[inline(never)]
-    fn settle(&mut self, token: Token)
-        ensures { self.new ≡ handle_token token (without_ranges self.old) }
-    {
-        self.clear_pure_comments();
-        self.clear_no_side_effects_comments();
-        self.handle_token(token);
     }
 
     /// Adds a comment after those that wait, and attaches them if it is a trailing line comment.

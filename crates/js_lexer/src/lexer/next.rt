@@ -1,49 +1,19 @@
 //! The reading of the next token: simple readings first, and behind them those of any form.
 
-ghost use Rattle.std.specs.Prelude.{◌≡◌, true, false, None, IfOk, OnOk, OnErr, is_none};
+ghost use Rattle.std.specs.Prelude.{◌≡◌, true, false, IfOk, OnOk, OnErr, is_none};
 ghost use Rattle.js_text.specs.Characters.{is_identifier_start};
-ghost use Rattle.js_grammar.specs.Gap.{whole_gap_piece};
-ghost use Rattle.js_source.specs.Source.{IsPlaced, rest};
-ghost use Rattle.js_reader.specs.Decoded.{Keeps, KeepsValues, HasValue};
+ghost use Rattle.js_reader.specs.Decoded.{Keeps};
 ghost use Rattle.js_reader.specs.Simple.{MeetsByte, PassesSimpleGap, ReadsSimpleToken, SpellsSimply};
 ghost use Rattle.js_lexer.specs.Places.{ReadsInPlaces};
-ghost use Rattle.js_lexer.specs.Lexer.{here, is_hashbang, ReadsNext, ReadsToken, IsRestored, IsSettled, with_token};
-ghost use Rattle.js_reader.specs.Reader.{ReadsInPart, ReadsTokenHere};
+ghost use Rattle.js_lexer.specs.Lexer.{here, is_hashbang, ReadsNext, ReadsToken, IsRestored, IsSettled};
 
-use super::{Lexer, collect, collect_other, start_behind_reports, take_token};
+use super::{Lexer, collect_other};
 use js_grammar::Goal;
 use js_kind::{Kind, LexerConfig, Token};
-use js_places::ReservedList;
-use js_reader::{
-    DecodedValues, GapEnd, Reader, pass_simple_gap, read_simple_name, read_simple_symbol,
-};
+use js_reader::{GapEnd, pass_simple_gap, read_simple_name, read_simple_symbol};
 use js_source::Source;
-use js_text::{DiagnosticList, Span};
+use js_text::Span;
 use std::alloc::AllocError;
-
-/// Reads the token that stands here, where no gap does, and collects it. Where it cannot allocate, the reader may have
-/// moved on and reported.
-fn read_here_and_collect(
-    reader: &mut Reader<'_>,
-    errors: &mut DiagnosticList,
-    decoded: &mut DecodedValues,
-    tokens: &mut ReservedList<Token>,
-    collects: bool,
-) -> Result<Token, AllocError>
-    requires gap { whole_gap_piece reader.old.source_type reader.old.line_has_ended (rest reader.old.source) ≡ None }
-    requires placed { IsPlaced reader.old.source }
-    ensures ok { IfOk result (λ token. ReadsTokenHere reader.old errors.old token reader.new errors.new) }
-    ensures tokens { IfOk result (λ token. tokens.new ≡ with_token collects token tokens.old) }
-    ensures placed { OnOk result (IsPlaced reader.new.source) }
-    ensures value { IfOk result (λ token. HasValue reader.old.source.text decoded.new token) }
-    ensures kept { KeepsValues reader.old.source.text decoded.old decoded.new }
-    ensures err { OnErr result (ReadsInPart reader.old errors.old reader.new errors.new) }
-    ensures same { OnErr result (tokens.new ≡ tokens.old) }
-{
-    let token = reader.read_here(errors, decoded)?;
-    collect(tokens, collects, &token)?;
-    Ok(token)
-}
 
 impl<'a, C: LexerConfig + Drop> Lexer<'a, C> {
     /// Reads the next token.
@@ -56,14 +26,14 @@ impl<'a, C: LexerConfig + Drop> Lexer<'a, C> {
     {
         // Most tokens come behind another one, and behind no annotation: then nothing is kept of that but itself.
         if !self.found.trivia.is_settled() {
-            return self.read_behind_any_gap();
+            return self.read_of_any_form();
         }
         let mut source = self.reader.source.here();
         let mut line_has_ended = false;
         match pass_simple_gap(&mut source, &self.reader.tables, &mut line_has_ended) {
             GapEnd::Name(b) => self.read_name_here(source, line_has_ended, b),
             GapEnd::Symbol(b) => self.read_symbol_here(source, line_has_ended, b),
-            GapEnd::Other => self.read_behind_any_gap(),
+            GapEnd::Other => self.read_of_any_form(),
         }
     }
 
@@ -86,7 +56,7 @@ impl<'a, C: LexerConfig + Drop> Lexer<'a, C> {
         let mut behind = source.here();
         match read_simple_name(&mut behind, &self.reader.tables.parts, b) {
             Some(kind) => self.take_spelled(source, behind, kind, line_has_ended),
-            None => self.read_any_here(source, line_has_ended),
+            None => self.read_of_any_form(),
         }
     }
 
@@ -108,7 +78,7 @@ impl<'a, C: LexerConfig + Drop> Lexer<'a, C> {
         let mut behind = source.here();
         match read_simple_symbol(&mut behind, b) {
             Some(kind) => self.take_spelled(source, behind, kind, line_has_ended),
-            None => self.read_any_here(source, line_has_ended),
+            None => self.read_of_any_form(),
         }
     }
 
@@ -153,38 +123,21 @@ impl<'a, C: LexerConfig + Drop> Lexer<'a, C> {
         Ok(())
     }
 
-    /// Reads the next token, of any form, where a simple gap stands before it.
+    /// Reads the next token, of any form, behind a gap of any form.
     #[inline(always)]
-    fn read_any_here(
-        &mut self,
-        source: Source<'a>,
-        line_has_ended: bool,
-    ) -> Result<Token, AllocError>
-        requires { PassesSimpleGap (here self.old) (is_none self.old.last) source line_has_ended }
+    fn read_of_any_form(&mut self) -> Result<Token, AllocError>
         ensures ok { IfOk result (λ token. ReadsToken Goal.Next self.old token self.new) }
         ensures err { OnErr result (IsRestored self.old self.new) }
         ensures kept { Keeps self.old.decoded self.new.decoded }
         ensures places { ReadsInPlaces self.old self.new }
     {
-        self.read_here(source, line_has_ended)?;
+        self.read_next()?;
         Ok(self.found.trivia.previous_token())
     }
 
-    /// Reads the next token behind a gap of any form.
-    #[inline(always)]
-    fn read_behind_any_gap(&mut self) -> Result<Token, AllocError>
-        ensures ok { IfOk result (λ token. ReadsToken Goal.Next self.old token self.new) }
-        ensures err { OnErr result (IsRestored self.old self.new) }
-        ensures kept { Keeps self.old.decoded self.new.decoded }
-        ensures places { ReadsInPlaces self.old self.new }
-    {
-        self.read_with_any_gap()?;
-        Ok(self.found.trivia.previous_token())
-    }
-
-    /// Reads the next token behind a gap of any form, which the builder of trivia has then as the last one.
+    /// Reads the next token in the same way; the builder of trivia has it then as the last one.
     #[inline(never)]
-    fn read_with_any_gap(&mut self) -> Result<(), AllocError>
+    fn read_next(&mut self) -> Result<(), AllocError>
         ensures ok { OnOk result (ReadsNext self.old self.new) }
         ensures err { OnErr result (IsRestored self.old self.new) }
         ensures kept { Keeps self.old.decoded self.new.decoded }
@@ -192,39 +145,5 @@ impl<'a, C: LexerConfig + Drop> Lexer<'a, C> {
     {
         self.read(Goal::Next)?;
         Ok(())
-    }
-
-    /// Reads the next token, of any form, where a simple gap stands before it. The builder of trivia has it then as the
-    /// last one.
-    #[inline(never)]
-    fn read_here(&mut self, source: Source<'a>, line_has_ended: bool) -> Result<(), AllocError>
-        requires { PassesSimpleGap (here self.old) (is_none self.old.last) source line_has_ended }
-        ensures ok { OnOk result (ReadsNext self.old self.new) }
-        ensures err { OnErr result (IsRestored self.old self.new) }
-        ensures kept { Keeps self.old.decoded self.new.decoded }
-        ensures places { ReadsInPlaces self.old self.new }
-    {
-        let position = self.reader.source.position();
-        let reported = self.found.errors.len();
-        self.reader.source = source;
-        self.reader.line_has_ended = line_has_ended;
-        let read = read_here_and_collect(
-            &mut self.reader,
-            &mut self.found.errors,
-            &mut self.decoded,
-            &mut self.tokens,
-            self.config.tokens(),
-        );
-        match read {
-            Ok(token) => {
-                take_token(&mut self.found.trivia, &mut self.has_read, token, true);
-                Ok(())
-            }
-            Err(error) => {
-                let start = start_behind_reports(position, reported, &self.found);
-                start.go_back(&mut self.reader.source, &mut self.found);
-                Err(error)
-            }
-        }
     }
 }

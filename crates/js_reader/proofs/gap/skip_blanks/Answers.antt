@@ -5,6 +5,3 @@ pub returns-clause-fewer : goal.returns-clause-fewer
 returns-clause-fewer c =
     run_fewer c.args.table.now c.args.source.now c.pass_ascii.new.self c.pass_ascii.ensures.text
     c.pass_ascii.ensures.run
-
-pub returns-clause-next : goal.returns-clause-next
-returns-clause-next c = record { none = c.pass_ascii.ensures.none; some = c.pass_ascii.ensures.some }

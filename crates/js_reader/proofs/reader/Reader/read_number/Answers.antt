@@ -6,12 +6,12 @@ use Rattle.js_reader.proofs.reader.Reader.read_number.Goals as goal
 
 pub returns-clause-ok : goal.returns-clause-ok
 returns-clause-ok c =
-    rw (c.escaped.ensures, c.has_separator.ensures)
+    rw c.lexeme_of.ensures
     (lexeme_of_number c.args.self.now
     (record c.args.self.now { source = c.read_number.new.source })
     c.requires.begun refl c.in_ok-spelt.ensures.ok refl)
 
 pub returns-clause-unescaped : goal.returns-clause-unescaped
 returns-clause-unescaped c =
-    c.escaped.ensures ∙ ap (λ t. t.escaped) c.in_ok-spelt.ensures.ok.flags
+    ap (λ l. l.escaped) c.lexeme_of.ensures ∙ ap (λ t. t.escaped) c.in_ok-spelt.ensures.ok.flags
     ∙ (number_flags (rest c.args.self.now.source)).1

@@ -1,4 +1,4 @@
-use Rattle.std.proofs.Common.{arith, refl}
+use Rattle.std.proofs.Common.{◌∙◌, ap, arith, refl}
 use Rattle.js_text.specs.Ascii.{number_sign}
 use Rattle.std.proofs.lemmas.Result.{err_from_is_err_and}
 use Rattle.js_reader.proofs.SpeltSteps.{behind_mark, broke_off, lexeme_as, private_here, takes_sign, value_kept}
@@ -12,35 +12,37 @@ returns-clause-ok c =
     let reads = takes_sign old.source mid c.requires.begun c.next_char.ensures.past in
     let behind = behind_mark number_sign old.source mid (omega arith) c.requires.placed c.next_char.ensures.placed
     reads in
-    rw c.escaped.ensures
+    rw c.lexeme_of.ensures
     (lexeme_as old (record old { source = c.read_private_name.new.source })
-    (private_here old mid reads) refl reads.text (c.in_ok-spelt.ensures.ok old.source.place behind) refl)
+    (private_here old mid reads) refl reads.text (c.in_ok-kind.ensures.ok old.source.place behind) refl)
 
 pub returns-clause-kept : goal.returns-clause-kept
 returns-clause-kept c =
+    let at = c.start-start.ensures ∙ ap (λ t. t.start) c.token_here-token.ensures in
     let old = c.args.self.now in
     let mid = c.next_char.new.self in
     let reads = takes_sign old.source mid c.requires.begun c.next_char.ensures.past in
     let behind = behind_mark number_sign old.source mid (omega arith) c.requires.placed c.next_char.ensures.placed
     reads in
-    (value_kept old.source c.args.decoded.now c.keep_value.new.decoded c.offset-start.result
-    (private_here old mid reads).valued c.offset-start.ensures.place
-    (c.in_ok-spelt.ensures.ok old.source.place behind) c.in_ok-keep_value.ensures.ok).kept
+    (value_kept old.source c.args.decoded.now c.keep_value.new.decoded c.start-start.result
+    (private_here old mid reads).valued at
+    (c.in_ok-kind.ensures.ok old.source.place behind) c.in_ok-keep_value.ensures.ok).kept
 
 pub returns-clause-value : goal.returns-clause-value
 returns-clause-value c =
+    let at = c.start-start.ensures ∙ ap (λ t. t.start) c.token_here-token.ensures in
     let old = c.args.self.now in
     let mid = c.next_char.new.self in
     let reads = takes_sign old.source mid c.requires.begun c.next_char.ensures.past in
     let behind = behind_mark number_sign old.source mid (omega arith) c.requires.placed c.next_char.ensures.placed
     reads in
-    rw c.escaped.ensures
-    (value_kept old.source c.args.decoded.now c.keep_value.new.decoded c.offset-start.result
-    (private_here old mid reads).valued c.offset-start.ensures.place
-    (c.in_ok-spelt.ensures.ok old.source.place behind) c.in_ok-keep_value.ensures.ok).has_value
+    rw c.lexeme_of.ensures
+    (value_kept old.source c.args.decoded.now c.keep_value.new.decoded c.start-start.result
+    (private_here old mid reads).valued at
+    (c.in_ok-kind.ensures.ok old.source.place behind) c.in_ok-keep_value.ensures.ok).has_value
 
-pub returns-in_err-spelt-clause-err : goal.returns-in_err-spelt-clause-err
-returns-in_err-spelt-clause-err c =
+pub returns-in_err-kind-clause-err : goal.returns-in_err-kind-clause-err
+returns-in_err-kind-clause-err c =
     let old = c.args.self.now in
     let mid = c.next_char.new.self in
     let reads = takes_sign old.source mid c.requires.begun c.next_char.ensures.past in
@@ -49,7 +51,7 @@ returns-in_err-spelt-clause-err c =
     let p = err_from_is_err_and c.from_residual.result c.from_residual.ensures.1 in
     rw p.1
     (broke_off old (record old { source = c.read_private_name.new.source })
-    (c.in_err-spelt.ensures.err old.source.place behind) reads.text refl)
+    (c.in_err-kind.ensures.err old.source.place behind) reads.text refl)
 
 pub returns-in_err-keep_value-clause-err : goal.returns-in_err-keep_value-clause-err
 returns-in_err-keep_value-clause-err c =
@@ -61,4 +63,4 @@ returns-in_err-keep_value-clause-err c =
     let p = err_from_is_err_and c.from_residual-in_err-keep_value.result c.from_residual-in_err-keep_value.ensures.1 in
     rw p.1
     (was_spelt old (record old { source = c.read_private_name.new.source })
-    (c.in_ok-spelt.ensures.ok old.source.place behind) reads.text refl)
+    (c.in_ok-kind.ensures.ok old.source.place behind) reads.text refl)

@@ -10,7 +10,7 @@ read_template_part-requires-clause-start c =
     let old = c.args.self.now in
     let mid = c.next_char.new.self in
     let reads = takes_backquote old.source mid c.requires.begun c.next_char.ensures.past in
-    ap (λ t. t.start + 1) c.set_start.ensures ∙ ap (λ n. n + 1) c.offset-start.ensures.place
+    ap (λ t. t.start + 1) c.token_here-token.ensures
     ∙ behind_mark grave_accent old.source mid (omega arith) c.requires.placed c.next_char.ensures.placed reads
 
 pub returns-clause-ok : goal.returns-clause-ok
@@ -18,40 +18,42 @@ returns-clause-ok c =
     let old = c.args.self.now in
     let mid = c.next_char.new.self in
     let reads = takes_backquote old.source mid c.requires.begun c.next_char.ensures.past in
-    rw c.escaped.ensures
+    rw c.lexeme_of.ensures
     (lexeme_as old (record old { source = c.read_template_part.new.source })
     (template_here old mid reads)
-    (ap (λ t. t.start) c.set_start.ensures ∙ c.offset-start.ensures.place) reads.text
-    (c.in_ok-spelt.ensures.ok grave_accent) refl)
+    (ap (λ t. t.start) c.token_here-token.ensures) reads.text
+    (c.in_ok-kind.ensures.ok grave_accent) refl)
 
 pub returns-clause-kept : goal.returns-clause-kept
 returns-clause-kept c =
+    let at = c.start-start.ensures ∙ ap (λ t. t.start) c.token_here-token.ensures in
     let old = c.args.self.now in
     let mid = c.next_char.new.self in
     let reads = takes_backquote old.source mid c.requires.begun c.next_char.ensures.past in
-    (value_kept old.source c.args.decoded.now c.keep_part.new.decoded c.offset-start.result
-    (template_here old mid reads).valued c.offset-start.ensures.place (c.in_ok-spelt.ensures.ok grave_accent)
+    (value_kept old.source c.args.decoded.now c.keep_part.new.decoded c.start-start.result
+    (template_here old mid reads).valued at (c.in_ok-kind.ensures.ok grave_accent)
     c.in_ok-keep_part.ensures.ok).kept
 
 pub returns-clause-value : goal.returns-clause-value
 returns-clause-value c =
+    let at = c.start-start.ensures ∙ ap (λ t. t.start) c.token_here-token.ensures in
     let old = c.args.self.now in
     let mid = c.next_char.new.self in
     let reads = takes_backquote old.source mid c.requires.begun c.next_char.ensures.past in
-    rw c.escaped.ensures
-    (value_kept old.source c.args.decoded.now c.keep_part.new.decoded c.offset-start.result
-    (template_here old mid reads).valued c.offset-start.ensures.place (c.in_ok-spelt.ensures.ok grave_accent)
+    rw c.lexeme_of.ensures
+    (value_kept old.source c.args.decoded.now c.keep_part.new.decoded c.start-start.result
+    (template_here old mid reads).valued at (c.in_ok-kind.ensures.ok grave_accent)
     c.in_ok-keep_part.ensures.ok).has_value
 
-pub returns-in_err-spelt-clause-err : goal.returns-in_err-spelt-clause-err
-returns-in_err-spelt-clause-err c =
+pub returns-in_err-kind-clause-err : goal.returns-in_err-kind-clause-err
+returns-in_err-kind-clause-err c =
     let old = c.args.self.now in
     let mid = c.next_char.new.self in
     let reads = takes_backquote old.source mid c.requires.begun c.next_char.ensures.past in
     let p = err_from_is_err_and c.from_residual.result c.from_residual.ensures.1 in
     rw p.1
     (broke_off old (record old { source = c.read_template_part.new.source })
-    (c.in_err-spelt.ensures.err grave_accent) reads.text refl)
+    (c.in_err-kind.ensures.err grave_accent) reads.text refl)
 
 pub returns-in_err-keep_part-clause-err : goal.returns-in_err-keep_part-clause-err
 returns-in_err-keep_part-clause-err c =
@@ -61,4 +63,4 @@ returns-in_err-keep_part-clause-err c =
     let p = err_from_is_err_and c.from_residual-in_err-keep_part.result c.from_residual-in_err-keep_part.ensures.1 in
     rw p.1
     (was_spelt old (record old { source = c.read_template_part.new.source })
-    (c.in_ok-spelt.ensures.ok grave_accent) reads.text refl)
+    (c.in_ok-kind.ensures.ok grave_accent) reads.text refl)
