@@ -5,17 +5,23 @@ use Rattle.std.proofs.Math.ListN.{get_or-map, replicate}
 use Rattle.std.specs.Prelude.{Some, slice_get}
 use Rattle.std.specs.Option.{option_map}
 use denote.Enum.Bare.{tag_one}
+use denote.Enum.Declared.{tag_of}
 use Rattle.js_kind.specs.contracts.kind.Kind.{the_type}
 use Rattle.js_kind.specs.declared.kind.Kind.{Kind}
 use Rattle.js_kind.specs.declared.kind.Kind.TheVariants as variant
 use Rattle.js_kind.specs.declared.kind.TheConstants.Kind.{VARIANTS}
 use Rattle.js_kind.specs.declared.kind_rows.Row.{Row}
-use Rattle.js_kind.specs.declared.kind_rows.TheConstants.{COUNT}
+use Rattle.js_kind.specs.KindRows.{kind_count}
 use Rattle.js_kind.specs.Kinds.{number, names_of, row_of, HasEachRow}
+
+-- The code's enum has each kind at the place of its number.
+pub tag_is_number : (kind : Kind) → tag_of the_type kind ≡ number kind
+tag_is_number variant.Eof = refl
+tag_is_number _ = refl
 
 -- Two kinds of one number are one kind.
 pub number_injective : (j k : Kind) → number j ≡ number k → j ≡ k
-number_injective = tag_one the_type tt
+number_injective j k same = tag_one the_type tt j k (tag_is_number j ∙ same ∙ sym (tag_is_number k))
 
 -- Each kind stands at its number.
 pub kind_at_number : (kind : Kind) → slice_get VARIANTS (number kind) ≡ Some kind
@@ -31,7 +37,8 @@ filled (k ∷ ks) n zero d = refl
 filled (k ∷ ks) n (suc i) d = filled ks n i d
 
 -- A table of the rows of all kinds has each at the place of its number.
-pub has_each_row : (rows : List Row) → length rows ≡ COUNT → map row_of rows ≡ map names_of VARIANTS → HasEachRow rows
+pub has_each_row : (rows : List Row) → length rows ≡ kind_count → map row_of rows ≡ map names_of VARIANTS
+    → HasEachRow rows
 has_each_row rows count all = record {
   count = count;
   at_number = λ kind.

@@ -1,23 +1,20 @@
 -- The numbers, names, texts and classes of kinds.
 use Rattle.std.specs.Prelude.{◌≡◌, ℕ, Bool, List, [], ◌∷◌, Some, length, map, slice_get, ◌==◌, ◌&&◌, ◌||◌, not}
 use Rattle.std.specs.List.{filter, list_any}
-use denote.Enum.Declared.{tag_of}
-use Rattle.js_kind.specs.contracts.kind.Kind.{the_type}
 use Rattle.js_kind.specs.declared.kind.Kind.{Kind}
 use Rattle.js_kind.specs.declared.kind.Kind.TheVariants as variant
 use Rattle.js_kind.specs.declared.kind.TheConstants.Kind.{VARIANTS}
 use Rattle.js_kind.specs.declared.kind_rows.Row.{Row}
-use Rattle.js_kind.specs.declared.kind_rows.TheConstants.{COUNT}
-use Rattle.js_kind.specs.KindRows.{KindClass, class_number, kind_row, reserved_word, contextual_word, typescript_word}
-use Rattle.js_kind.specs.KindRows.{strict_word, literal_word, number_literal, template_part}
+use Rattle.js_kind.specs.KindRows.{KindClass, class_number, kind_row, kind_count, reserved_word, contextual_word}
+use Rattle.js_kind.specs.KindRows.{typescript_word, strict_word, literal_word, number_literal, template_part}
 
--- the number of a kind: its place among all kinds, from 0 on
+-- the number of a kind
 abbrev pub number : Kind → ℕ
-number = tag_of the_type
+number kind = (kind_row kind).number
 
 -- the list has each kind, at the place of its number, and no other item
 abbrev pub ListsByNumber : List Kind → Type 0
-ListsByNumber kinds = (length kinds ≡ COUNT) × ((kind : Kind) → slice_get kinds (number kind) ≡ Some kind)
+ListsByNumber kinds = (length kinds ≡ kind_count) × ((kind : Kind) → slice_get kinds (number kind) ≡ Some kind)
 
 -- the name of a kind
 abbrev pub kind_name : Kind → List ℕ
@@ -37,7 +34,7 @@ row_of row = (row.name.now, row.text.now)
 
 -- the table has the name and the text of each kind, at the place of its number
 pub record HasEachRow (rows : List Row) : Type 0 where
-  pub count : length rows ≡ COUNT
+  pub count : length rows ≡ kind_count
   pub at_number : (kind : Kind) → slice_get (map row_of rows) (number kind) ≡ Some (names_of kind)
 
 -- the kind is this one

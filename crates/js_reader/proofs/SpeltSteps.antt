@@ -34,7 +34,7 @@ use Rattle.js_spell.specs.Breaks.{BreaksOff}
 use Rattle.js_spell.specs.Spells.{Spells, spelt_value}
 use Rattle.js_spell.specs.declared.spelt.Spelt.{Spelt}
 use Rattle.js_spell.specs.declared.spelt.SpeltValue.{SpeltValue}
-use Rattle.js_spell.specs.declared.spelt.SpeltValue.TheVariants.{Unescaped}
+use Rattle.js_spell.specs.declared.spelt.SpeltValue.TheVariants.{Plain}
 use Rattle.js_reader.specs.Decoded.{Values, KeepsSpelt, KeepsPart, KeepsValues, HasValueHere, HoldsTemplate}
 use Rattle.js_reader.specs.Reader.{ReadsInPart, ReadsLexeme}
 use Rattle.js_reader.specs.declared.reader.Reader.{Reader}
@@ -204,13 +204,13 @@ abbrev pub KeepsAs : Bool → ℕ → SpeltValue → Values → Values → Type 
 KeepsAs true start value old new = KeepsPart start value old new
 KeepsAs false start value old new = KeepsSpelt start value old new
 
-unchanged : (template : Bool) (start : ℕ) (old new : Values) → KeepsAs template start Unescaped old new → new ≡ old
+unchanged : (template : Bool) (start : ℕ) (old new : Values) → KeepsAs template start Plain old new → new ≡ old
 unchanged true start old new e = e
 unchanged false start old new e = e
 
 -- the value of a token as it stands in the source
-unescaped_is_unescaped : (kind : Kind) (size : ℕ) → spelt_value (unescaped_value kind 0 size) ≡ Unescaped
-unescaped_is_unescaped kind size = by_choice (λ v. spelt_value v ≡ Unescaped) (is_valued kind) _ _ (λ _. refl)
+unescaped_is_unescaped : (kind : Kind) (size : ℕ) → spelt_value (unescaped_value kind 0 size) ≡ Plain
+unescaped_is_unescaped kind size = by_choice (λ v. spelt_value v ≡ Plain) (is_valued kind) _ _ (λ _. refl)
     (λ _. refl)
 
 part_held : (start : ℕ) (o : Option (List ℕ)) (old new : Values)

@@ -16,7 +16,7 @@ use Rattle.js_kind.specs.declared.kind.Kind.{Kind}
 use Rattle.js_source.specs.Source.{At, rest}
 pub use Rattle.js_source.specs.Offsets.{Placed, value_of, Holds}
 use Rattle.js_spell.specs.declared.spelt.SpeltValue.{SpeltValue}
-use Rattle.js_spell.specs.declared.spelt.SpeltValue.TheVariants.{Unescaped, Bad, Decoded}
+use Rattle.js_spell.specs.declared.spelt.SpeltValue.TheVariants.{Plain, Bad, Decoded}
 
 -- Decoded values: of names and strings, in UTF-16 units, and of parts of templates, where a bad escape leaves no units.
 pub record Values : Type 0 where
@@ -38,13 +38,13 @@ pub record HoldsTemplate (start : ℕ) (units : Option (List ℕ)) (old new : Va
 
 -- the value that was spelt is kept of the name or the string that starts there, where it was decoded
 abbrev pub KeepsSpelt : ℕ → SpeltValue → Values → Values → Type 0
-KeepsSpelt start Unescaped old new = new ≡ old
+KeepsSpelt start Plain old new = new ≡ old
 KeepsSpelt start Bad old new = new ≡ old
 KeepsSpelt start (Decoded units) old new = HoldsString start units old new
 
 -- the value that was spelt is kept of the part of a template that starts there, where it is no stretch of the source
 abbrev pub KeepsPart : ℕ → SpeltValue → Values → Values → Type 0
-KeepsPart start Unescaped old new = new ≡ old
+KeepsPart start Plain old new = new ≡ old
 KeepsPart start Bad old new = HoldsTemplate start None old new
 KeepsPart start (Decoded units) old new = HoldsTemplate start (Some units) old new
 

@@ -62,7 +62,7 @@ fn keep_value(decoded: &mut DecodedValues, start: u32, value: SpeltValue) -> Res
     ensures err { OnErr result (decoded.new ≡ decoded.old) }
 {
     match value {
-        SpeltValue::Unescaped | SpeltValue::Bad => Ok(()),
+        SpeltValue::Plain | SpeltValue::Bad => Ok(()),
         SpeltValue::Decoded(units) => decoded.insert(start, units),
     }
 }
@@ -77,7 +77,7 @@ pub fn keep_part(
     ensures err { OnErr result (decoded.new ≡ decoded.old) }
 {
     match value {
-        SpeltValue::Unescaped => Ok(()),
+        SpeltValue::Plain => Ok(()),
         SpeltValue::Decoded(units) => decoded.insert_template(start, Some(units)),
         SpeltValue::Bad => decoded.insert_template(start, None),
     }

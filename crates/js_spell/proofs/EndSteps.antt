@@ -14,7 +14,7 @@ use Rattle.js_grammar.specs.Number.{Item}
 use Rattle.js_grammar.proofs.Moved.{missing_digits_moved, number_end_moved}
 use Rattle.js_kind.specs.TokenParts.{TokenParts}
 use Rattle.js_spell.specs.Spells.{Spells, spelt_value}
-use Rattle.js_spell.specs.declared.spelt.SpeltValue.TheVariants.{Unescaped}
+use Rattle.js_spell.specs.declared.spelt.SpeltValue.TheVariants.{Plain}
 use Rattle.std.proofs.lemmas.List.{map-append}
 use Rattle.std.proofs.Common.{add-zero}
 use Rattle.js_grammar.proofs.NumberItems.{true_or_false}
@@ -137,7 +137,7 @@ bad_number_read old mid new before during after g kind h k cut end =
 pub number_spells : (old new : At) (before after : List Diagnostic) (was now : TokenParts) (kind : Kind) (g : Bool)
     → ReadsNumber old new before after kind g → now ≡ record was { escaped = false; has_separator = g }
     → Spells (number_reading (rest old)) old.place old new before after was now
-    (record { kind = kind; value = Unescaped })
+    (record { kind = kind; value = Plain })
 number_spells old new before after was now kind g reads flags =
     let none = number_flags (rest old) in
     record {

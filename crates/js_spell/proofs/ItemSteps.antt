@@ -38,7 +38,7 @@ use Rattle.js_spell.specs.declared.items.Stop.TheVariants.{Escape, CarriageRetur
 use Rattle.js_spell.specs.declared.ordinary.Literal.{Literal}
 use Rattle.js_spell.specs.declared.ordinary.Literal.TheVariants.{DoubleQuoted, SingleQuoted, Template}
 use Rattle.js_spell.specs.declared.spelt.SpeltValue.{SpeltValue}
-use Rattle.js_spell.specs.declared.spelt.SpeltValue.TheVariants.{Unescaped}
+use Rattle.js_spell.specs.declared.spelt.SpeltValue.TheVariants.{Plain}
 use Rattle.js_spell.proofs.BreakSteps.{broken_behind}
 use Rattle.js_spell.proofs.NumericSteps.{leads_to}
 use Rattle.js_spell.proofs.OrdinaryCharacters.{heads_of, escape_item_here, no_item_here, escaped_item_here}
@@ -321,7 +321,7 @@ mark_end literal End text is e = is
 pub plain_value_read : (literal : Literal) (start : ℕ) (old new : At) (reports : List Diagnostic)
     → PassesCharacters literal old new → ordinary_here literal (rest new) ≡ false
     → escape_here literal (rest new) ≡ false
-    → ReadsValue literal start old new reports reports Unescaped
+    → ReadsValue literal start old new reports reports Plain
 plain_value_read literal start old new reports plain none end =
     let nothing = no_items_here (item_of literal) (rest new) (no_item_here literal (rest new) none end) in
     let items = plain.ordinary.items in

@@ -48,7 +48,7 @@ use Rattle.js_spell.specs.declared.name.Decoding.TheVariants.{Character, NotAllo
 use Rattle.js_spell.specs.declared.name.Position.{Position}
 use Rattle.js_spell.specs.declared.name.Position.TheVariants.{First, Later}
 use Rattle.js_spell.specs.declared.spelt.Spelt.{Spelt}
-use Rattle.js_spell.specs.declared.spelt.SpeltValue.TheVariants.{Unescaped, Decoded}
+use Rattle.js_spell.specs.declared.spelt.SpeltValue.TheVariants.{Plain, Decoded}
 use Rattle.js_spell.proofs.NumericSteps.{leads_to}
 use Rattle.js_kind.specs.declared.kind.Kind.{Kind}
 use Rattle.js_kind.specs.declared.kind.Kind.TheVariants.{PrivateIdentifier}
@@ -350,7 +350,7 @@ read_is old new items goes end =
 
 -- where the value of a name is
 name_value_told : (b : Bool) (vs : List ℕ) (start end : ℕ)
-    → spelt_value (name_value b vs start end) ≡ (if b then Decoded (units_of vs) else Unescaped)
+    → spelt_value (name_value b vs start end) ≡ (if b then Decoded (units_of vs) else Plain)
 name_value_told true vs start end = refl
 name_value_told false vs start end = refl
 
@@ -359,7 +359,7 @@ items_spelled : (old new : At) (before after : List Diagnostic) (was now : Token
     (items : List NameItem) → new.text ≡ old.text → name_reading (rest old) ≡ name_of items (rest new)
     → after ≡ before ++ items_report old.place items
     → spelt.kind ≡ name_kind (encode_utf8_all (items_value items))
-    → spelt.value ≡ (if contains_escape items then Decoded (units_of (items_value items)) else Unescaped)
+    → spelt.value ≡ (if contains_escape items then Decoded (units_of (items_value items)) else Plain)
     → now ≡ record was { escaped = contains_escape items; has_separator = false }
     → Spells (name_reading (rest old)) old.place old new before after was now spelt
 items_spelled old new before after was now spelt items text read reports kind value flags =
@@ -385,7 +385,7 @@ pub unescaped_spelled : (old new : At) (errors : List Diagnostic) (was now : Tok
     → PassesUnescaped old to new → begins (λ c. c == backslash) (rest new) ≡ false
     → ((xs : List ℕ) → from_place new.text old.place ≡ xs ++ rest new → plain ≡ encode_utf8_all xs)
     → now ≡ record was { escaped = false; has_separator = false }
-    → spelt.kind ≡ name_kind plain → spelt.value ≡ Unescaped
+    → spelt.kind ≡ name_kind plain → spelt.value ≡ Plain
     → Spells (name_reading (rest old)) old.place old new errors errors was now spelt
 unescaped_spelled old new errors was now First plain spelt passes none spells flags kind value =
     let no : true ≡ false = sym (passes.escape refl) ∙ none in absurd (cc)
@@ -400,7 +400,7 @@ unescaped_spelled old new errors was now Later plain spelt passes none spells fl
     (read_is old new items passes.goes_on (ended (rest new) passes.stops none))
     (sym (append-nil errors) ∙ ap (λ ds. errors ++ ds) (sym (nothing_reported old.place items values.good)))
     (kind ∙ ap name_kind (spells xs whole) ∙ ap (λ vs. name_kind (encode_utf8_all vs)) (sym values.value))
-    (value ∙ ap (λ b. if b then Decoded (units_of (items_value items)) else Unescaped) (sym values.escapes))
+    (value ∙ ap (λ b. if b then Decoded (units_of (items_value items)) else Plain) (sym values.escapes))
     (flags ∙ ap (λ b. record was { escaped = b; has_separator = false }) (sym values.escapes))
 
 -- and one with escapes
@@ -427,7 +427,7 @@ escaped_spelled old mid new before after was now to plain spelt h k passes spell
     (read_is old new read.items read.goes_on decodes.read.end) read.reports
     (decodes.kind ∙ ap name_kind read.value)
     (decodes.value ∙ ap (λ ys. Decoded (units_of ys)) (sym same)
-    ∙ ap (λ b. if b then Decoded (units_of characters) else Unescaped) (sym read.escapes))
+    ∙ ap (λ b. if b then Decoded (units_of characters) else Plain) (sym read.escapes))
     (flags ∙ ap (λ b. record was { escaped = b; has_separator = false }) (sym read.escapes))
 
 -- A name broke off, behind its beginning without one.
@@ -572,4 +572,4 @@ pub unescaped_private : (old new : At) (kind : Kind) → begins_name (rest old) 
     → SpellsUnescapedPrivateName old new PrivateIdentifier
 unescaped_private old new kind begun spells start at errors token =
     private_spelled old new errors errors token (record token { escaped = false; has_separator = false })
-    (record { kind = kind; value = Unescaped }) begun (spells errors token) start at
+    (record { kind = kind; value = Plain }) begun (spells errors token) start at

@@ -41,7 +41,7 @@ use Rattle.js_spell.specs.declared.ordinary.Literal.{Literal}
 use Rattle.js_spell.specs.declared.ordinary.Literal.TheVariants.{DoubleQuoted, SingleQuoted, Template}
 use Rattle.js_spell.specs.declared.spelt.Spelt.{Spelt}
 use Rattle.js_spell.specs.declared.spelt.SpeltValue.{SpeltValue}
-use Rattle.js_spell.specs.declared.spelt.SpeltValue.TheVariants.{Unescaped}
+use Rattle.js_spell.specs.declared.spelt.SpeltValue.TheVariants.{Plain}
 use Rattle.js_spell.specs.declared.template.PartEnd.TheVariants.{Tail, Substitution, Missing}
 use Rattle.js_spell.proofs.NumericSteps.{leads_to}
 use Rattle.js_spell.proofs.BreakSteps.{broken_before, broken_later}
@@ -156,7 +156,7 @@ pub open_spells : (whole : List ℕ) (t : Bool) (start : ℕ) (old mid here new 
     → between ≡ before ++ item_reports t start mid.place items
     → Unterminated start here new between after
     → now ≡ record was { escaped = false; has_separator = false }
-    → spelt ≡ record { kind = Undetermined; value = Unescaped }
+    → spelt ≡ record { kind = Undetermined; value = Plain }
     → Spells (unterminated t whole (record { items = items; rest = rest here })) start old new before after was now
     spelt
 open_spells whole t start old mid here new before between after was now spelt items h g text text_here at is reported
@@ -333,7 +333,7 @@ pub string_open : (start : ℕ) (old mid here new : At) (before between after : 
     → ReadsValue literal start mid here before between value → quote ≡ quote_of literal
     → EndsString quote start here new between after false
     → now ≡ record was { escaped = false; has_separator = false }
-    → spelt ≡ record { kind = Undetermined; value = Unescaped }
+    → spelt ≡ record { kind = Undetermined; value = Plain }
     → Spells (quoted_reading (rest old)) start old new before after was now spelt
 string_open start old mid here new before between after was now spelt literal value quote h g n e taken read is_quote
     (none, missing) flags parts =
@@ -450,7 +450,7 @@ pub part_open : (substitute tail : Kind) (opening start : ℕ) (old here new : A
     → IsPlaced old → IsPlaced new → start + 1 ≡ old.place → ReadsValue Template start old here before between value
     → EndsPart start here new between after Missing
     → now ≡ record was { escaped = false; has_separator = false }
-    → spelt ≡ record { kind = Undetermined; value = Unescaped }
+    → spelt ≡ record { kind = Undetermined; value = Plain }
     → Spells (template_part_reading substitute tail (opening ∷ rest old)) start old new before after was now spelt
 part_open substitute tail opening start old here new before between after was now spelt value h g e read
     (none, not_begun, missing) flags parts =
@@ -483,14 +483,14 @@ pub unescaped_string : (quote b : ℕ) (old mid here new : At) (errors : List Di
     → quote_of literal ≡ quote → Reads old mid quote → PassesCharacters literal mid here
     → ordinary_here literal (rest here) ≡ false → b ≡ quote → Reads here new b
     → Spells (quoted_reading (rest old)) old.place old new errors errors token
-    (record token { escaped = false; has_separator = false }) (record { kind = Str; value = Unescaped })
+    (record token { escaped = false; has_separator = false }) (record { kind = Str; value = Plain })
 unescaped_string quote b old mid here new errors token literal h g string is taken passes all same closing =
     let end : Reads here new quote = subst (λ q. Reads here new q) same closing in
     let none : escape_here literal (rest here) ≡ false =
     ap (escape_here literal) (end.here ∙ ap (λ q. q ∷ rest new) (sym is)) ∙ quote_is_no_escape literal (rest new) in
     string_closed old.place old mid here new errors errors errors token
     (record token { escaped = false; has_separator = false })
-    (record { kind = Str; value = Unescaped }) literal Unescaped quote
+    (record { kind = Str; value = Plain }) literal Plain quote
     h g refl (record { string = string; read = subst (λ q. Reads old mid q) (sym is) taken })
     (plain_value_read literal old.place mid here errors passes all none) (sym is) (end, refl) refl refl
 
@@ -500,12 +500,12 @@ pub plain_tail : (substitute tail : Kind) (b opening start : ℕ) (old here new 
     → ordinary_here Template (rest here) ≡ false
     → b ≡ grave_accent → Reads here new b
     → Spells (template_part_reading substitute tail (opening ∷ rest old)) start old new errors errors token
-    (record token { escaped = false; has_separator = false }) (record { kind = tail; value = Unescaped })
+    (record token { escaped = false; has_separator = false }) (record { kind = tail; value = Plain })
 plain_tail substitute tail b opening start old here new errors token at passes all same closing =
     let end : Reads here new grave_accent = subst (λ q. Reads here new q) same closing in
     let none : escape_here Template (rest here) ≡ false = ap (escape_here Template) end.here in
     part_closed substitute tail opening start old here new errors errors errors token
-    (record token { escaped = false; has_separator = false }) (record { kind = tail; value = Unescaped }) Unescaped at
+    (record token { escaped = false; has_separator = false }) (record { kind = tail; value = Plain }) Plain at
     (plain_value_read Template start old here errors passes all none) (end, refl) refl refl
 
 -- what is next where `${` is
@@ -530,12 +530,12 @@ pub plain_substitution : (substitute tail : Kind) (opening start : ℕ) (found :
     → IfNone found ((length (rest here) < 2) × (new ≡ here))
     → IfSome found (λ pair. ReadsTwo here new (slice_index pair 0) (slice_index pair 1))
     → Spells (template_part_reading substitute tail (opening ∷ rest old)) start old new errors errors token
-    (record token { escaped = false; has_separator = false }) (record { kind = substitute; value = Unescaped })
+    (record token { escaped = false; has_separator = false }) (record { kind = substitute; value = Plain })
 plain_substitution substitute tail opening start found old here new errors token at passes all begun none some =
     let first = begins_mark (rest here) begun in
     let left = two_left found here new begun none some in
     part_substituted substitute tail opening start old here new errors errors errors token
     (record token { escaped = false; has_separator = false })
-    (record { kind = substitute; value = Unescaped }) Unescaped at
+    (record { kind = substitute; value = Plain }) Plain at
     (plain_value_read Template start old here errors passes all first.1)
     (first.0, begun, left.0, left.1, refl) refl refl

@@ -28,7 +28,7 @@ use Rattle.js_spell.specs.Numeric.{ReadsCut, MayGoOn, FollowsInteger, TakesExpon
 use Rattle.js_spell.specs.Numeric.{HasPrefix, base_of_prefix}
 use Rattle.js_spell.specs.declared.numeric.Prefix.{Prefix}
 use Rattle.js_spell.specs.declared.numeric.Passed.TheVariants.{Whole}
-use Rattle.js_spell.specs.declared.spelt.SpeltValue.TheVariants.{Unescaped}
+use Rattle.js_spell.specs.declared.spelt.SpeltValue.TheVariants.{Plain}
 use Rattle.js_spell.proofs.EndSteps.{good_number_read, number_spells}
 use Rattle.js_spell.specs.Spells.{Spells}
 use Rattle.js_grammar.specs.NumberReads.{number_reading}
@@ -256,7 +256,7 @@ pub unseparated_number : (old new : At) (errors : List Diagnostic) (token : Toke
     → ReadsCut old new errors errors false false kind (number_items (rest old))
     → begins may_not_follow_number (rest new) ≡ false
     → Spells (number_reading (rest old)) old.place old new errors errors token
-    (record token { escaped = false; has_separator = false }) (record { kind = kind; value = Unescaped })
+    (record token { escaped = false; has_separator = false }) (record { kind = kind; value = Plain })
 unseparated_number old new errors token kind cut ends =
     number_spells old new errors errors token (record token { escaped = false; has_separator = false }) kind false
     (good_number_read old new new errors errors errors false kind cut (ends, refl, refl)) refl

@@ -9,7 +9,7 @@ use Rattle.js_grammar.specs.Reading.{Reading, reported_at}
 use Rattle.js_source.specs.Source.{At, rest}
 use Rattle.js_spell.specs.declared.spelt.Spelt.{Spelt}
 use Rattle.js_spell.specs.declared.spelt.SpeltValue.{SpeltValue}
-use Rattle.js_spell.specs.declared.spelt.SpeltValue.TheVariants.{Unescaped, Decoded, Bad}
+use Rattle.js_spell.specs.declared.spelt.SpeltValue.TheVariants.{Plain, Decoded, Bad}
 
 -- This was read of a token of the kind that begins at the start, up to the new place: what is reported of it was added.
 pub record ReadsAs (reading : Reading) (start : ℕ) (old new : At) (before after : List Diagnostic) (kind : Kind)
@@ -21,8 +21,8 @@ pub record ReadsAs (reading : Reading) (start : ℕ) (old new : At) (before afte
 
 -- where the value of a token is: in the source, as it stands there, or elsewhere
 abbrev pub spelt_value : RowValue → SpeltValue
-spelt_value Nothing = Unescaped
-spelt_value (Slice span) = Unescaped
+spelt_value Nothing = Plain
+spelt_value (Slice span) = Plain
 spelt_value (Units units) = Decoded units
 spelt_value BadValue = Bad
 
@@ -38,4 +38,4 @@ pub record Spells (reading : Reading) (start : ℕ) (old new : At) (before after
 abbrev pub SpellsSimply : Reading → ℕ → At → At → Kind → Type 0
 SpellsSimply reading start old new kind =
     (errors : List Diagnostic) (token : TokenParts) → Spells reading start old new errors errors token
-    (record token { escaped = false; has_separator = false }) (record { kind = kind; value = Unescaped })
+    (record token { escaped = false; has_separator = false }) (record { kind = kind; value = Plain })

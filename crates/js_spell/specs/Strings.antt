@@ -26,7 +26,7 @@ use Rattle.js_spell.specs.declared.template.PartEnd.{PartEnd}
 use Rattle.js_spell.specs.declared.template.PartEnd.TheVariants.{Tail, Substitution, Missing}
 use Rattle.js_spell.specs.Spells.{SpellsSimply}
 use Rattle.js_spell.specs.declared.spelt.SpeltValue.{SpeltValue}
-use Rattle.js_spell.specs.declared.spelt.SpeltValue.TheVariants.{Unescaped, Decoded, Bad}
+use Rattle.js_spell.specs.declared.spelt.SpeltValue.TheVariants.{Plain, Decoded, Bad}
 
 abbrev pub in_template : Literal → Bool
 in_template DoubleQuoted = false
@@ -122,8 +122,8 @@ items_told literal start at =
 
 -- where the value is, by the escaped flag of its token
 abbrev pub told_value : Bool → StringValue → SpeltValue
-told_value false value = Unescaped
-told_value true no_value = Unescaped
+told_value false value = Plain
+told_value true no_value = Plain
 told_value true (units us) = Decoded us
 told_value true bad_value = Bad
 
@@ -151,7 +151,7 @@ EndsString quote start old new before after false =
 
 -- the value is no stretch of the source
 abbrev pub is_elsewhere : SpeltValue → Bool
-is_elsewhere Unescaped = false
+is_elsewhere Plain = false
 is_elsewhere (Decoded text) = true
 is_elsewhere Bad = true
 

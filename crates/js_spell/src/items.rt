@@ -271,7 +271,7 @@ pub(crate) fn read_value(
     let from = source.position();
     let next = pass_to_mark(source, literal);
     if find_stop(literal, next).is_end() {
-        return Ok(SpeltValue::Unescaped);
+        return Ok(SpeltValue::Plain);
     }
     read_decoded(alloc, source, literal, from, errors, token)
 }

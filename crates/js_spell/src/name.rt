@@ -392,7 +392,7 @@ pub fn read_name(
         token.set_has_separator(false);
         return Ok(Spelt {
             kind: Kind::match_keyword(front),
-            value: SpeltValue::Unescaped,
+            value: SpeltValue::Plain,
         });
     }
     let spelt = read_escaped_name(alloc, source, errors, position, front)?;
@@ -596,6 +596,6 @@ pub fn read_private_name(
     token.set_has_separator(false);
     Ok(Spelt {
         kind,
-        value: SpeltValue::Unescaped,
+        value: SpeltValue::Plain,
     })
 }

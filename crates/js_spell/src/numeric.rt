@@ -519,6 +519,6 @@ pub fn read_number(
     token.set_has_separator(numeral.has_separator);
     Ok(Spelt {
         kind: numeral.kind,
-        value: SpeltValue::Unescaped,
+        value: SpeltValue::Plain,
     })
 }

@@ -17,7 +17,7 @@ pub struct Spelt {
 #[derive(Drop)]
 pub enum SpeltValue {
     /// It is a stretch of the source, as it stands.
-    Unescaped,
+    Plain,
     /// It is this text, since escapes stand in the spelling, or a CR in that of a template.
     Decoded(JSStr),
     /// It is none: a template has an escape that stands for nothing.
@@ -30,7 +30,7 @@ impl SpeltValue {
         ensures { result ≡ is_elsewhere self.now }
     {
         match self {
-            SpeltValue::Unescaped => false,
+            SpeltValue::Plain => false,
             SpeltValue::Decoded(_) | SpeltValue::Bad => true,
         }
     }

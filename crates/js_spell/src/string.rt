@@ -92,7 +92,7 @@ pub fn read_string(
     if is_closed {
         return Ok(spell(token, Kind::Str, value));
     }
-    Ok(spell(token, Kind::Undetermined, SpeltValue::Unescaped))
+    Ok(spell(token, Kind::Undetermined, SpeltValue::Plain))
 }
 
 /// The string that a quote begins.

@@ -79,7 +79,7 @@ pub fn read_template_part(
     match end_part(source, errors, token.start())? {
         PartEnd::Tail => Ok(spell(token, tail, value)),
         PartEnd::Substitution => Ok(spell(token, substitute, value)),
-        PartEnd::Missing => Ok(spell(token, Kind::Undetermined, SpeltValue::Unescaped)),
+        PartEnd::Missing => Ok(spell(token, Kind::Undetermined, SpeltValue::Plain)),
     }
 }
 

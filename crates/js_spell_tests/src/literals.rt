@@ -138,7 +138,7 @@ fn read_units(rt: HostRuntime, text: &str) -> Result<Option<JSStr>, AllocError>
     match read_literal(rt, text)? {
         Some(literal) => match literal.spelt.value {
             SpeltValue::Decoded(value) => Ok(Some(value)),
-            SpeltValue::Unescaped | SpeltValue::Bad => Ok(None),
+            SpeltValue::Plain | SpeltValue::Bad => Ok(None),
         },
         None => Ok(None),
     }

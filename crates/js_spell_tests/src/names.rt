@@ -31,7 +31,7 @@ static PRIVATE_NAMES: [(&str, Kind, u32, Option<&str>, usize); 5] = [
 
 fn has_value(alloc: Global, spelt: &Spelt, wanted: Option<&str>) -> Result<bool, AllocError> {
     match (&spelt.value, wanted) {
-        (SpeltValue::Unescaped, None) => Ok(true),
+        (SpeltValue::Plain, None) => Ok(true),
         (SpeltValue::Decoded(units), Some(text)) => match units.to_text(alloc)? {
             Some(decoded) => Ok(decoded.as_str() == text),
             None => Ok(false),

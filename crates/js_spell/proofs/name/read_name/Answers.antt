@@ -1,6 +1,6 @@
 use Rattle.std.proofs.Common.{refl, sym, ap, ◌∙◌, false}
 use Rattle.js_kind.specs.TokenParts.{TokenParts}
-use Rattle.js_spell.specs.declared.spelt.SpeltValue.TheVariants.{Unescaped}
+use Rattle.js_spell.specs.declared.spelt.SpeltValue.TheVariants.{Plain}
 use Rattle.js_spell.proofs.BreakSteps.{on_err}
 use Rattle.js_spell.proofs.NameReadings.{name_broken, unescaped_spelled, escaped_spelled}
 use Rattle.js_spell.proofs.name.read_name.Goals as goal
@@ -9,7 +9,7 @@ pub returns-then-not-begins_ascii-clause-ok : goal.returns-then-not-begins_ascii
 returns-then-not-begins_ascii-clause-ok c =
     unescaped_spelled c.args.source.now c.pass_unescaped-position.new.source c.args.errors.now c.args.token.now
     c.set_has_separator.new.self c.pass_unescaped-position.result c.str_from_pos_to_current-front.result.now
-    (record { kind = c.match_keyword.result; value = Unescaped }) c.pass_unescaped-position.ensures.passes
+    (record { kind = c.match_keyword.result; value = Plain }) c.pass_unescaped-position.ensures.passes
     (sym c.begins_ascii.ensures ∙ c.if-not-begins_ascii.true)
     (rw c.position-start.ensures.place at c.str_from_pos_to_current-front.ensures.characters)
     (c.set_has_separator.ensures ∙ ap (λ (t : TokenParts). record t { has_separator = false }) c.set_escaped.ensures)

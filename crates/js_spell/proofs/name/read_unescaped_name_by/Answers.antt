@@ -3,7 +3,7 @@ use Rattle.std.specs.List.{slice_range}
 use Rattle.std.specs.Str.{IsCharBoundary}
 use Rattle.js_kind.specs.Keywords.{name_kind}
 use Rattle.js_source.proofs.Places.{between}
-use Rattle.js_spell.specs.declared.spelt.SpeltValue.TheVariants.{Unescaped}
+use Rattle.js_spell.specs.declared.spelt.SpeltValue.TheVariants.{Plain}
 use Rattle.js_spell.specs.declared.name.Position.TheVariants.{Later}
 use Rattle.js_spell.proofs.NameReadings.{unescaped_spelled}
 use Rattle.js_spell.proofs.name.read_unescaped_name_by.Goals as goal
@@ -20,6 +20,6 @@ returns-clause-some c = λ errors token.
     let kind : c.match_keyword_between.result ≡ name_kind (slice_range new.text old.place new.place) =
     rw (← whole, ← from, ← c.offset-to.ensures.place) c.match_keyword_between.ensures in
     unescaped_spelled old new errors token (record token { escaped = false; has_separator = false }) Later
-    (slice_range new.text old.place new.place) (record { kind = c.match_keyword_between.result; value = Unescaped })
+    (slice_range new.text old.place new.place) (record { kind = c.match_keyword_between.result; value = Plain })
     (passed.passes refl) (passed.ends refl)
     (between new.text old.place new.place passed.placed.utf8 passed.onward begun passed.placed.boundary) refl kind refl
