@@ -59,9 +59,7 @@ fn a_lexer_goes_on(rt: HostRuntime) -> Result<(), Fail> {
 
 /// Reads two tokens, and tells how many comments, stretches of irregular white space and diagnostics were found for the
 /// second.
-fn find_behind(
-    lexer: &mut Lexer<'_, TokensLexerConfig>,
-) -> Result<(usize, usize, usize), Fail> {
+fn find_behind(lexer: &mut Lexer<'_, TokensLexerConfig>) -> Result<(usize, usize, usize), Fail> {
     next(lexer)?;
     let checkpoint = lexer.checkpoint();
     next(lexer)?;
