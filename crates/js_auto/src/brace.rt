@@ -59,7 +59,7 @@ impl Model for OpenBraces {
 }
 
 impl OpenBraces {
-    /// None is open. It takes no memory yet.
+    /// None is open. It needs no memory yet.
     pub fn new(alloc: Global) -> OpenBraces
         ensures { result ≡ [] }
     {

@@ -98,7 +98,7 @@ fn command_behind(in_template: bool, before: Kind, last: Kind) -> Option<Command
 }
 
 impl GoalChooser {
-    /// A chooser that was told no token yet. It takes no memory yet.
+    /// A chooser that was told no token yet. It needs no memory yet.
     pub fn new(alloc: Global) -> GoalChooser
         ensures { result ≡ chooser_of [] }
     {
@@ -152,7 +152,7 @@ impl GoalChooser {
         Ok(())
     }
 
-    /// Takes notice of a token that was read behind the last one, which was passed. It takes no memory.
+    /// Takes notice of a token that was read behind the last one, which was passed. It succeeds without memory.
     #[inline(always)]
     pub fn read_passed(&mut self, token: &Token)
         ensures { (tokens : List TokenParts) → self.old ≡ chooser_behind tokens

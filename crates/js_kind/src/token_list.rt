@@ -26,7 +26,7 @@ impl Model for TokenList {
 }
 
 impl TokenList {
-    /// A list of no tokens. It takes no memory yet.
+    /// A list of no tokens. It needs no memory yet.
     pub fn new_in(alloc: Global) -> TokenList
         ensures { result ≡ [] }
     {

@@ -128,7 +128,7 @@ fn token_record(before: usize, row: &Row) -> Result<JsToken, AllocError>
 }
 
 impl TokenLists {
-    /// No tokens. They take no memory yet.
+    /// No tokens. They need no memory yet.
     fn new_in(alloc: Global) -> TokenLists
         ensures { result ≡ token_lists [] }
     {

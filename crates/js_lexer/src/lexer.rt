@@ -589,7 +589,7 @@ impl<'a, C: LexerConfig + Drop> Lexer<'a, C> {
           no_side_effects_comments = None;
         } }
     {
-        self.found.trivia.take_comments(self.reader.alloc)
+        self.found.trivia.take_comments()
     }
 
     /// Hands out the irregular white space that was read, and leaves none.
@@ -597,9 +597,7 @@ impl<'a, C: LexerConfig + Drop> Lexer<'a, C> {
         ensures spans { result ≡ self.old.findings.irregular }
         ensures after { self.new ≡ record self.old { findings = record self.old.findings { irregular = [] } } }
     {
-        self.found
-            .trivia
-            .take_irregular_whitespaces(self.reader.alloc)
+        self.found.trivia.take_irregular_whitespaces()
     }
 
     /// Hands out what was warned of, and leaves nothing.
@@ -682,15 +680,11 @@ impl<'a, C: LexerConfig + Drop> Lexer<'a, C> {
     }
 
     /// Copies of what was found since the checkpoint.
-    pub fn findings_since(
-        &self,
-        alloc: Global,
-        checkpoint: &LexerCheckpoint,
-    ) -> Result<Findings, AllocError>
+    pub fn findings_since(&self, checkpoint: &LexerCheckpoint) -> Result<Findings, AllocError>
         requires { AreWithin checkpoint.now.lengths self.now.findings }
         ensures { IfOk result (λ found. found ≡ found_since checkpoint.now.lengths self.now.findings) }
     {
-        self.found.since(alloc, &checkpoint.start.found)
+        self.found.since(self.reader.alloc, &checkpoint.start.found)
     }
 
     /// Whether the lexer may go back to the checkpoint: its places are places of this text, in order, its last token

@@ -59,17 +59,14 @@ fn a_lexer_goes_on(rt: HostRuntime) -> Result<(), Fail> {
 
 /// Reads two tokens, and tells how many comments, stretches of irregular white space and diagnostics were found for the
 /// second.
-fn find_behind(
-    alloc: Global,
-    lexer: &mut Lexer<'_, TokensLexerConfig>,
-) -> Result<(usize, usize, usize), Fail> {
+fn find_behind(lexer: &mut Lexer<'_, TokensLexerConfig>) -> Result<(usize, usize, usize), Fail> {
     next(lexer)?;
     let checkpoint = lexer.checkpoint();
     next(lexer)?;
     if !lexer.can_rewind(&checkpoint) {
         return Err(Fail::from("no way back"));
     }
-    let found = lexer.findings_since(alloc, &checkpoint)?;
+    let found = lexer.findings_since(&checkpoint)?;
     Ok((
         found.comments.len(),
         found.irregular.len(),
@@ -83,7 +80,7 @@ fn what_was_found(rt: HostRuntime) -> Result<(), Fail> {
     match Lexer::new(rt.alloc(), source, SourceType::Module, TokensLexerConfig) {
         Ok(lexer) => {
             let mut lexer = lexer;
-            assert_eq!(rt; find_behind(rt.alloc(), &mut lexer)?, (2, 1, 1));
+            assert_eq!(rt; find_behind(&mut lexer)?, (2, 1, 1));
         }
         Err(_) => return Err(Fail::from("no lexer")),
     }

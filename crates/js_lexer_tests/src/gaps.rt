@@ -69,7 +69,7 @@ pub fn tell_gaps<C: LexerConfig + Drop>(
 }
 
 /// A source type, a source, and what is found in its gaps.
-static FOUND: [(SourceType, &str, &str); 32] = [
+static FOUND: [(SourceType, &str, &str); 33] = [
     (SourceType::Module, "\u{A0}a", "irregular 0..2;"),
     (
         SourceType::Module,
@@ -80,6 +80,11 @@ static FOUND: [(SourceType, &str, &str); 32] = [
         SourceType::Module,
         "a /*\u{A0}*/ b",
         "2..8 SingleLineBlock Leading 9 0 0 None;",
+    ),
+    (
+        SourceType::Module,
+        "a /*c*/ |> b",
+        "2..7 SingleLineBlock Trailing 1 0 0 None;",
     ),
     (
         SourceType::Module,

@@ -30,7 +30,7 @@ pub fn tell_tokens<C: LexerConfig + Drop>(
 }
 
 /// A source type, a source, its tokens and what is reported.
-static READINGS: [(SourceType, &str, &str); 54] = [
+static READINGS: [(SourceType, &str, &str); 58] = [
     (SourceType::Module, "", "Eof 0..0 n;"),
     (SourceType::Module, "\u{A0}a", "Ident 2..3 n;Eof 3..3;"),
     (
@@ -57,6 +57,26 @@ static READINGS: [(SourceType, &str, &str); 54] = [
         SourceType::Module,
         "`a",
         "Undetermined 0..2 n;Eof 2..2;UnterminatedString 0..2;",
+    ),
+    (
+        SourceType::Module,
+        "a|>match",
+        "Ident 0..1 n;PipeGt 1..3;Match 3..8;Eof 8..8;",
+    ),
+    (
+        SourceType::Module,
+        "a|>=b",
+        "Ident 0..1 n;PipeGt 1..3;Eq 3..4;Ident 4..5;Eof 5..5;",
+    ),
+    (
+        SourceType::Module,
+        "a||>b",
+        "Ident 0..1 n;Pipe2 1..3;RAngle 3..4;Ident 4..5;Eof 5..5;",
+    ),
+    (
+        SourceType::Module,
+        "a /*c*/ |> b",
+        "Ident 0..1 n;PipeGt 8..10;Ident 11..12;Eof 12..12;",
     ),
     (
         SourceType::Module,

@@ -42,7 +42,7 @@ impl<T, A: Allocator> Model for Deed<T, A> {
     ghost also_owns = { λ d. deed_owns (A.dealloc_token d.alloc) T.row d.at d.len };
 }
 
-/// A row of no places, which takes no memory.
+/// A row of no places, which needs no memory.
 pub(crate) fn hollow<T, A: Allocator>(_alloc: &A) -> (Slots<T>, Base<T>, Deed<T, A>)
     ensures { (slots_len result.0 ≡ 0)
         × (result.1.ptr ≡ slots_ptr result.0)

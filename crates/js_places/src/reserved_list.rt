@@ -8,7 +8,7 @@ use crate::block::Block;
 use std::alloc::{AllocError, Global};
 use std::marker::Model;
 
-/// A growing list with places behind it that are reserved: adding an item takes no memory while one is free.
+/// A growing list with places behind it that are reserved: adding an item succeeds without memory while one is free.
 pub struct ReservedList<T> {
     /// The items lie in its first places.
     block: Block<T>,
@@ -36,7 +36,7 @@ impl<T> Model for ReservedList<T> {
 }
 
 impl<T> ReservedList<T> {
-    /// A list of no items and no places. It takes no memory yet.
+    /// A list of no items and no places. It needs no memory yet.
     pub fn new_in(alloc: Global) -> ReservedList<T>
         ensures items { result.items ≡ [] }
         ensures free { result.free ≡ 0 }

@@ -26,7 +26,7 @@ impl Model for DecodedValues {
 }
 
 impl DecodedValues {
-    /// No values. It takes no memory yet.
+    /// No values. It needs no memory yet.
     pub fn new_in(alloc: Global) -> DecodedValues
         ensures { result ≡ no_values }
     {

@@ -36,7 +36,7 @@ impl Model for Findings {
 }
 
 impl Findings {
-    /// Nothing is found. It takes no memory.
+    /// Nothing is found. It needs no memory.
     pub fn new_in(alloc: Global) -> Findings
         ensures { result ≡ no_findings }
     {

@@ -30,7 +30,7 @@ pub struct FindingsLengths {
 }
 
 impl FindingsBuilder {
-    /// Nothing is found yet. It takes no memory.
+    /// Nothing is found yet. It needs no memory.
     pub fn new_in(alloc: Global) -> FindingsBuilder
         ensures { result ≡ record { errors = []; deferred = []; trivia = no_trivia; warnings = [] } }
     {

@@ -128,7 +128,7 @@ pub(crate) fn patch_of(
     }
 }
 
-/// Puts the items in the place of as many from the start on. It takes no memory.
+/// Puts the items in the place of as many from the start on. It succeeds without memory.
 pub(crate) fn overwrite<T: Copy + Drop>(
     alloc: Global,
     list: &mut ItemList<T>,
@@ -164,7 +164,7 @@ pub(crate) fn patched_tokens(
 }
 
 /// Puts what the other report has found in the place of as much from these lengths on, and the tokens in the place of
-/// all. It takes no memory.
+/// all. It succeeds without memory.
 pub(crate) fn overwrite_live(
     alloc: Global,
     report: &mut Report,

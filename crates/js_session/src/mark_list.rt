@@ -8,7 +8,7 @@ use js_places::ReservedList;
 use std::alloc::{AllocError, Global};
 use std::marker::Model;
 
-/// A list of marks with places behind it that are reserved: adding a mark takes one of them, and no memory.
+/// A list of marks with places behind it that are reserved: a mark takes one of them, and is added without memory too.
 #[derive(Drop)]
 pub(crate) struct MarkList {
     /// Each place that is in use holds a mark.
@@ -30,7 +30,7 @@ impl Model for MarkList {
 }
 
 impl MarkList {
-    /// A list of no marks and no places. It takes no memory yet.
+    /// A list of no marks and no places. It needs no memory yet.
     pub fn new_in(alloc: Global) -> MarkList
         ensures items { result.items ≡ [] }
         ensures free { result.free ≡ 0 }

@@ -143,7 +143,7 @@ fn findings_since<C: LexerConfig + Drop>(
     if lexer.has_found_nothing_since(before) {
         return Ok(RowFindings::nothing());
     }
-    let found = lexer.findings_since(alloc, before)?;
+    let found = lexer.findings_since(before)?;
     let findings = RowFindings::new(alloc, found)?;
     Ok(findings)
 }

@@ -26,7 +26,7 @@ impl Model for RowList {
 }
 
 impl RowList {
-    /// A list of no rows. It takes no memory yet.
+    /// A list of no rows. It needs no memory yet.
     pub fn new_in(alloc: Global) -> RowList
         ensures { result ≡ [] }
     {

@@ -182,7 +182,7 @@ impl<'a, C: LexerConfig + Drop> Session<'a, C> {
         self.marks.reserve(more)
     }
 
-    /// Marks what is live, in a place that is free. It takes no memory.
+    /// Marks what is live, in a place that is free. It succeeds without memory.
     pub fn mark(&mut self)
         requires { 0 < self.old.spare }
         ensures { self.new ≡ after_command Command.Mark self.old }

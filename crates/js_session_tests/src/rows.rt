@@ -200,10 +200,11 @@ fn faults_of_whole_sources(rt: HostRuntime) {
 }
 
 /// Sources, the text of their first row, and whether it was decoded.
-static TEXTS: [(&str, &str, bool); 6] = [
+static TEXTS: [(&str, &str, bool); 7] = [
     ("l\\u0065t", "let", true),
     ("#a\\u0062", "ab", true),
     ("#ab", "ab", false),
+    ("match", "match", false),
     ("\\uD800", "", true),
     ("'ab'", "ab", false),
     ("`a\\x62${", "ab", true),

@@ -60,7 +60,7 @@ fn search<V>(ordered: &[(u32, V)], offset: u32) -> Option<usize>
 }
 
 impl<V> OffsetMap<V> {
-    /// A map of no values. It takes no memory yet.
+    /// A map of no values. It needs no memory yet.
     pub fn new_in(alloc: Global) -> OffsetMap<V>
         ensures { result ≡ [] }
     {

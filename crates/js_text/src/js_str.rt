@@ -105,7 +105,7 @@ impl Model for JSStrBuilder {
 }
 
 impl JSStrBuilder {
-    /// A text of no units. It takes no memory yet.
+    /// A text of no units. It needs no memory yet.
     pub fn new_in(alloc: Global) -> JSStrBuilder
         ensures { result ≡ [] }
     {

@@ -35,7 +35,7 @@ impl<T> Model for ItemList<T> {
 }
 
 impl<T> ItemList<T> {
-    /// A list of no items. It takes no memory yet.
+    /// A list of no items. It needs no memory yet.
     pub fn new_in(alloc: Global) -> ItemList<T>
         ensures { result ≡ [] }
     {

@@ -20,7 +20,7 @@ impl Model for SourceText {
 }
 
 impl SourceText {
-    /// An empty text. It takes no memory yet.
+    /// An empty text. It needs no memory yet.
     pub fn new_in(alloc: Global) -> SourceText
         ensures { result ≡ [] }
     {

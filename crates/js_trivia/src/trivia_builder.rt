@@ -143,7 +143,7 @@ impl TriviaBuilder {
     }
 
     /// Hands out the comments, and leaves none, and no range of them, between two gaps.
-    pub fn take_comments(&mut self, alloc: Global) -> CommentList
+    pub fn take_comments(&mut self) -> CommentList
         requires { self.old.attachment.pending ≡ [] }
         ensures comments { result ≡ self.old.attachment.attached }
         ensures after { self.new ≡ without_ranges (record self.old {
@@ -153,15 +153,17 @@ impl TriviaBuilder {
         self.processed = 0;
         self.pure_comments = None;
         self.no_side_effects_comments = None;
-        CommentList::from_vec(std::mem::replace(&mut self.comments, Vec::new(alloc)))
+        let none = Vec::new(*self.comments.allocator());
+        CommentList::from_vec(std::mem::replace(&mut self.comments, none))
     }
 
     /// Hands out the irregular white space that is listed, and leaves none.
-    pub fn take_irregular_whitespaces(&mut self, alloc: Global) -> SpanList
+    pub fn take_irregular_whitespaces(&mut self) -> SpanList
         ensures spans { result ≡ self.old.irregular_whitespaces }
         ensures after { self.new ≡ record self.old { irregular_whitespaces = [] } }
     {
-        SpanList::from_vec(std::mem::replace(&mut self.irregular_whitespaces, Vec::new(alloc)))
+        let none = Vec::new(*self.irregular_whitespaces.allocator());
+        SpanList::from_vec(std::mem::replace(&mut self.irregular_whitespaces, none))
     }
 
     /// The irregular white space that is listed, in the order of the text.
