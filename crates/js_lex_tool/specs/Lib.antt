@@ -10,6 +10,7 @@ pub mod Program
 pub mod ReportText
 pub mod Run
 pub mod Status
+pub mod Stop
 pub mod TextRun
 pub mod Units
 pub mod Words
