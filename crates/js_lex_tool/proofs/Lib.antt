@@ -8,4 +8,5 @@ pub mod Held
 pub mod Lines
 pub mod Pieces
 pub mod Plain
+pub mod Rooms
 pub mod Stars

@@ -7,9 +7,11 @@ pub mod Line
 pub mod Memory
 pub mod Outside
 pub mod Program
+pub mod Reads
 pub mod ReportText
 pub mod Run
 pub mod Status
+pub mod Stop
 pub mod TextRun
 pub mod Units
 pub mod Words

@@ -74,6 +74,17 @@ left_after left Failed = left
 abbrev pub after_read : SureSource → InAnswer → SureSource
 after_read s answer = source_after_call (record s { left = left_after s.left answer }) (is_last_read answer)
 
+-- What a read with this room answers of an input that never fails, and what it leaves.
+pub record GivesSurely (s : SureSource) (room : ℕ) (answer : InAnswer) (now : SureSource) : Type 0 where
+  pub answers : answer ≡ sure_read s room
+  pub leaves : now ≡ after_read s answer
+
+-- What a read with this room answers of an input, and what it leaves.
+pub record Gives (s : MemorySource) (room : ℕ) (answer : InAnswer) (now : MemorySource) : Type 0 where
+  pub answers : answer ≡ read_answer s room
+  pub leaves : now.input ≡ after_read s.input answer
+  pub counts : now.calls ≡ after_call s.calls
+
 -- An output in memory that never fails: the bytes written, how many of them were flushed, the most that a write takes,
 -- and how far its calls have come.
 pub record SureSink : Type 0 where

@@ -17,6 +17,7 @@ mod report;
 mod report_out;
 pub mod status;
 mod std_streams;
+mod stop;
 pub mod system;
 mod text_maker;
 mod tool;
@@ -35,6 +36,7 @@ pub use read_all::{MOST_BYTES, ReadFault, read_to_end};
 pub use report::report_text;
 pub use status::{StatusLine, line_for, status_line};
 pub use std_streams::{StdIn, StdOut};
+pub use stop::end_lex;
 pub use text_maker::{TextMaker, text_run};
 pub use tool::{Ran, ToolOutcome, lex_tool_run, lex_tool_run_sure};
 pub use words::{

@@ -1,8 +1,7 @@
 //! Inputs over bytes in memory.
 
 ghost use Rattle.std.specs.Prelude.{◌≡◌, ◌≤◌, ◌<◌, length, take, Some, min};
-ghost use Rattle.js_lex_tool.specs.Memory.{no_calls, after_call, read_answer, sure_read, after_read, sure_input};
-ghost use Rattle.js_lex_tool.specs.Memory.{memory_input, source_after_call};
+ghost use Rattle.js_lex_tool.specs.Memory.{Gives, GivesSurely, memory_input, no_calls, source_after_call, sure_input};
 ghost use Rattle.js_lex_tool.specs.Outside.{TakesAtMost, TakesBytes, CountsRead, MovesOn, is_last_read};
 
 use crate::calls::FailingCalls;
@@ -62,14 +61,15 @@ fn copy_front(bytes: &[u8], piece: usize, buf: &mut [u8]) -> usize
 impl ByteIn for SureIn<'_> {
     ghost state = { sure_input };
 
+    ghost read_gives = { GivesSurely };
+
     fn read(&mut self, buf: &mut [u8]) -> InAnswer
         requires { 0 < length buf.old }
         ensures bound { TakesAtMost result (length buf.old) }
         ensures bytes { TakesBytes result (Some self.old.left) (Some self.new.left) buf.new }
         ensures faults { CountsRead result 0 0 }
         ensures course { MovesOn (is_last_read result) (Some self.old.course) (Some self.new.course) }
-        ensures answer { result ≡ sure_read self.old (length buf.old) }
-        ensures after { self.new ≡ after_read self.old result }
+        ensures gives { GivesSurely self.old (length buf.old) result self.new }
     {
         if self.bytes.is_empty() {
             self.count_call(true);
@@ -121,15 +121,15 @@ impl<'b> MemoryIn<'b> {
 impl ByteIn for MemoryIn<'_> {
     ghost state = { memory_input };
 
+    ghost read_gives = { Gives };
+
     fn read(&mut self, buf: &mut [u8]) -> InAnswer
         requires { 0 < length buf.old }
         ensures bound { TakesAtMost result (length buf.old) }
         ensures bytes { TakesBytes result (Some self.old.input.left) (Some self.new.input.left) buf.new }
         ensures faults { CountsRead result self.old.calls.faults self.new.calls.faults }
         ensures course { MovesOn (is_last_read result) (Some self.old.input.course) (Some self.new.input.course) }
-        ensures answer { result ≡ read_answer self.old (length buf.old) }
-        ensures input { self.new.input ≡ after_read self.old.input result }
-        ensures calls { self.new.calls ≡ after_call self.old.calls }
+        ensures gives { Gives self.old (length buf.old) result self.new }
     {
         if self.calls.count_call() {
             self.input.count_call(true);

@@ -1,10 +1,11 @@
 //! Where bytes come from and where they go.
 
-ghost use Rattle.std.specs.Prelude.{◌≡◌, ◌<◌, length};
+ghost use Rattle.std.specs.Prelude.{◌≡◌, ◌<◌, ℕ, length, ⊤};
 ghost use Rattle.std.specs.Io.KnownBytes.{Keeps};
 ghost use Rattle.js_lex_tool.specs.Outside.{InputState, OutputState, TakesAtMost, TakesBytes, CountsRead, GivesAtMost};
 ghost use Rattle.js_lex_tool.specs.Outside.{GivesBytes, CountsWrite, Flushes, CountsFlush, MovesOn, course_after};
 ghost use Rattle.js_lex_tool.specs.Outside.{is_last_read, is_last_write, is_last_flush};
+ghost use Rattle.js_lex_tool.specs.declared.outside.InAnswer.{InAnswer};
 
 /// What a read answers: how many bytes it put at the buffer's front, that none is left, or that it failed.
 #[derive(Clone, Copy, PartialEq, Eq, Debug)]
@@ -58,13 +59,18 @@ impl Course {
 pub trait ByteIn {
     ghost state: { Self → InputState };
 
+    // The input before one call of `read`, the length of its buffer, its answer, and the input after it. What is generic
+    // over the trait knows this of the calls that it makes, and of no others.
+    ghost read_gives: { Self → ℕ → InAnswer → Self → Type 0 } = { λ _ _ _ _. ⊤ };
+
     /// Reads some bytes into a buffer that isn't empty. An answer other than `Took` leaves the bytes left as they were.
     fn read(&mut self, buf: &mut [u8]) -> InAnswer
         requires { 0 < length buf.old }
         ensures bound { TakesAtMost result (length buf.old) }
         ensures bytes { TakesBytes result (state self.old).left (state self.new).left buf.new }
         ensures faults { CountsRead result (state self.old).faults (state self.new).faults }
-        ensures course { MovesOn (is_last_read result) (state self.old).course (state self.new).course };
+        ensures course { MovesOn (is_last_read result) (state self.old).course (state self.new).course }
+        ensures gives { read_gives self.old (length buf.old) result self.new };
 }
 
 /// An output of bytes. It counts its calls that answer `Failed`, and no others.

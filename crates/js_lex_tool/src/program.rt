@@ -1,15 +1,12 @@
 //! The program `js_lex`.
 
 ghost use Rattle.std.specs.Process.{exit_status};
-ghost use Rattle.js_lex_tool.specs.Exit.{Tells};
 ghost use Rattle.js_lex_tool.specs.Program.{RunsWords};
-ghost use Rattle.js_lex_tool.specs.Status.{js_lex, js_lex_usage, line_for};
 
 use crate::arguments::{program_words, status_without_words};
-use crate::exit::end_program;
 use crate::outside::{ByteIn, ByteOut};
-use crate::status::{PROGRAM, USAGE_LINE};
 use crate::std_streams::{StdIn, StdOut};
+use crate::stop::end_lex;
 use crate::tool::lex_tool_run;
 use std::alloc::Global;
 use std::io;
@@ -30,7 +27,8 @@ fn program_status<I: ByteIn, O: ByteOut>(
     }
 }
 
-/// The program, from its words on: runs them, and ends with the status of the run. Its line is written to `errors`.
+/// The program, from its words on: runs them, and ends with the status of the run. Where that is not 0, a line that tells
+/// why is written to `errors`.
 pub fn lex_program<I: ByteIn, O: ByteOut, E: ByteOut>(
     alloc: Global,
     words: io::Result<Vec<String>>,
@@ -38,13 +36,11 @@ pub fn lex_program<I: ByteIn, O: ByteOut, E: ByteOut>(
     output: &mut O,
     errors: &mut E,
 ) -> ExitCode
-    ensures run { RunsWords words (I.state input.old) (I.state input.new) (O.state output.old) (O.state output.new)
+    ensures { RunsWords words (I.state input.old) (I.state input.new) (O.state output.old) (O.state output.new)
         (exit_status result) }
-    ensures line { Tells (line_for js_lex js_lex_usage (exit_status result))
-        (E.state errors.old) (E.state errors.new) }
 {
     let status = program_status(alloc, words, input, output);
-    end_program(PROGRAM, USAGE_LINE, status, errors)
+    end_lex(status, errors)
 }
 
 /// The program over what the system gives it: its arguments and its three streams.

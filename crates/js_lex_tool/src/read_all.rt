@@ -1,8 +1,9 @@
 //! Reading an input to its end.
 
-ghost use Rattle.std.specs.Prelude.{◌≡◌, ◌+◌, ◌-◌, ◌<◌, ◌≤◌, min, length, IfOk, OnOk, IsErrOf};
+ghost use Rattle.std.specs.Prelude.{◌≡◌, ◌+◌, ◌<◌, ◌≤◌, ℕ, length, IfOk, OnOk, IsErrOf};
 ghost use Rattle.std.specs.Io.KnownBytes.{Consumes, IsAtEnd};
 ghost use Rattle.js_lex_tool.specs.Outside.{Rises, Takes, InTime};
+ghost use Rattle.js_lex_tool.specs.Reads.{AskForRoom, room_after};
 
 use crate::outside::{ByteIn, InAnswer};
 use js_text::ByteList;
@@ -38,7 +39,7 @@ const BUFFER: usize = 4096;
 fn next_room(read: usize, most: usize) -> usize
     requires read { read ≤ most }
     requires most { most < usize.MAX }
-    ensures { result ≡ min 4096 (most + 1 - read) }
+    ensures { result ≡ room_after most read }
 {
     BUFFER.min(most + 1 - read)
 }
@@ -62,6 +63,8 @@ pub fn read_to_end<I: ByteIn>(
     ensures no_fault { (¬ (IsErrOf result ReadFault.Failed)) → (I.state input.new).faults ≡ (I.state input.old).faults }
     // No read comes after one that has found the end, nor after one that has failed.
     ensures in_time { InTime (I.state input.old).course (I.state input.new).course }
+    // Each read asks for 4,096 bytes, or for what is left of one more than `most`.
+    ensures room { (given : ℕ) × AskForRoom I.read_gives most input.old given input.new }
 {
     let mut source = ByteList::new_in(alloc);
     let mut buf = [0u8; BUFFER];

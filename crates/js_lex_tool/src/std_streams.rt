@@ -91,6 +91,8 @@ impl<R: SystemIn + Drop> StdIn<R> {
 impl<R: SystemIn + Drop> ByteIn for StdIn<R> {
     ghost state = { λ s. record { left = R.remaining s.reader; faults = s.faults; course = None } };
 
+    ghost read_gives = { λ s room answer t. R.read_gives s.reader room answer t.reader };
+
     fn read(&mut self, buf: &mut [u8]) -> InAnswer
         requires { 0 < length buf.old }
         ensures bound { TakesAtMost result (length buf.old) }

@@ -1,4 +1,4 @@
-//! The buffers that an input is handed, which no clause counts.
+//! The buffers that an input is handed, by their sizes: a clause speaks of these as a relation of the input's own.
 
 ghost use Rattle.std.specs.Prelude.{◌<◌, None};
 

@@ -2,7 +2,9 @@
 
 use crate::run::strings_of;
 use js_lex_tool::status::USAGE_LINE;
-use js_lex_tool::{SureIn, SureOut, end_program, lex_program, status_line, words_behind_name};
+use js_lex_tool::{
+    MemoryOut, SureIn, SureOut, end_lex, end_program, lex_program, line_for, status_line, words_behind_name,
+};
 use std::alloc::{AllocError, Global};
 use std::process::ExitCode;
 use std::test::Fail;
@@ -51,6 +53,38 @@ fn a_program_writes_its_line(rt: HostRuntime) -> Result<(), Fail> {
         assert_eq!(rt; errors.written(), line.as_bytes());
         assert_eq!(rt; code, ExitCode::from(*status));
     }
+    Ok(())
+}
+
+/// The line for a status of `js_lex`, with its line end; nothing, where there is none.
+fn line_of(alloc: Global, status: u8) -> Result<String, AllocError> {
+    match line_for("js_lex", USAGE_LINE, status) {
+        Some(line) => format!(in alloc; "{line}\n"),
+        None => Ok(String::new(alloc)),
+    }
+}
+
+// What a derive displays has no clause, so it is compared here: of each status, and of numbers that are none.
+#[test]
+fn what_is_derived_is_the_line(rt: HostRuntime) -> Result<(), Fail> {
+    for status in 0..=12 {
+        let mut errors = SureOut::new(rt.alloc(), 10);
+        let code = end_lex(status, &mut errors);
+        let line = line_of(rt.alloc(), status)?;
+        assert_eq!(rt; errors.written(), line.as_bytes(), "{status}");
+        assert_eq!(rt; code, ExitCode::from(status));
+    }
+    Ok(())
+}
+
+// No call comes behind one that has failed, so of four that would fail one does.
+#[test]
+fn a_line_breaks_off(rt: HostRuntime) -> Result<(), Fail> {
+    let mut errors = MemoryOut::new(rt.alloc(), 100, &[0, 1, 2, 3]);
+    let code = end_lex(3, &mut errors);
+    assert!(rt; errors.written().is_empty());
+    assert_eq!(rt; errors.faults(), 1);
+    assert_eq!(rt; code, ExitCode::from(3));
     Ok(())
 }
 
