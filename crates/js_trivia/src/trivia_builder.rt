@@ -19,8 +19,7 @@ use crate::marks::{mark_no_side_effects_within, mark_pure_within};
 use crate::order::{extend, find_comment, is_past_comments, is_past_spans, new_index};
 use js_kind::{Kind, Token};
 use js_text::{
-    Comment, CommentContent, CommentKind, CommentList, CommentPosition, CommentRange, Span,
-    SpanList,
+    Comment, CommentContent, CommentKind, CommentPosition, CommentRange, Span,
 };
 use std::alloc::{AllocError, Global};
 use std::marker::Model;
@@ -75,6 +74,7 @@ fn are_ranges_up_to(to: &TriviaLengths) -> bool
 /// which token they belong.
 #[derive(Drop)]
 pub struct TriviaBuilder {
+    alloc: Global,
     comments: Vec<Comment>,
     irregular_whitespaces: Vec<Span>,
     /// How many comments are attached.
@@ -123,6 +123,7 @@ impl TriviaBuilder {
         ensures { result ≡ no_trivia }
     {
         TriviaBuilder {
+            alloc,
             comments: Vec::new(alloc),
             irregular_whitespaces: Vec::new(alloc),
             processed: 0,
@@ -143,9 +144,9 @@ impl TriviaBuilder {
     }
 
     /// Hands out the comments, and leaves none, and no range of them, between two gaps.
-    pub fn take_comments(&mut self, alloc: Global) -> CommentList
+    pub fn take_comments(&mut self) -> Vec<Comment>
         requires { self.old.attachment.pending ≡ [] }
-        ensures comments { result ≡ self.old.attachment.attached }
+        ensures comments { result.items ≡ self.old.attachment.attached }
         ensures after { self.new ≡ without_ranges (record self.old {
           attachment = record self.old.attachment { attached = [] };
         }) }
@@ -153,15 +154,15 @@ impl TriviaBuilder {
         self.processed = 0;
         self.pure_comments = None;
         self.no_side_effects_comments = None;
-        CommentList::from_vec(std::mem::replace(&mut self.comments, Vec::new(alloc)))
+        std::mem::replace(&mut self.comments, Vec::new(self.alloc))
     }
 
     /// Hands out the irregular white space that is listed, and leaves none.
-    pub fn take_irregular_whitespaces(&mut self, alloc: Global) -> SpanList
-        ensures spans { result ≡ self.old.irregular_whitespaces }
+    pub fn take_irregular_whitespaces(&mut self) -> Vec<Span>
+        ensures spans { result.items ≡ self.old.irregular_whitespaces }
         ensures after { self.new ≡ record self.old { irregular_whitespaces = [] } }
     {
-        SpanList::from_vec(std::mem::replace(&mut self.irregular_whitespaces, Vec::new(alloc)))
+        std::mem::replace(&mut self.irregular_whitespaces, Vec::new(self.alloc))
     }
 
     /// The irregular white space that is listed, in the order of the text.
