@@ -2,7 +2,7 @@
 
 use bitflags::Flags;
 use js_text::{
-    BoxedJSStr, ByteList, Comment, CommentContent, CommentKind, CommentList, CommentPosition,
+    ByteList, Comment, CommentContent, CommentKind, CommentList, CommentPosition,
     Diagnostic, DiagnosticList, JSStrBuilder, RegExpFlags, RowValue, SourceText, Span, SpanList,
     is_identifier_part, is_identifier_start, is_irregular_whitespace, is_line_terminator,
     is_white_space,
@@ -277,21 +277,10 @@ fn lone_surrogates(rt: HostRuntime) -> Result<(), Fail> {
 fn values_of_rows(rt: HostRuntime) -> Result<(), Fail> {
     let mut builder = JSStrBuilder::with_capacity_in(rt.alloc(), 2)?;
     builder.push('a')?;
-    let value = RowValue::Units(BoxedJSStr::new(rt.alloc(), builder.into_js_str())?);
+    let value = RowValue::Units(builder.into_js_str());
     match value.copy(rt.alloc())? {
         RowValue::Units(copied) => assert_eq!(rt; copied.units(), [0x61].as_slice()),
         _ => return Err(Fail::from("no units")),
     }
-    Ok(())
-}
-
-#[test]
-fn texts_in_boxes(rt: HostRuntime) -> Result<(), Fail> {
-    let mut builder = JSStrBuilder::new_in(rt.alloc());
-    builder.push('a')?;
-    let text = builder.into_js_str();
-    let boxed = BoxedJSStr::copy_of(rt.alloc(), &text)?;
-    let copied = boxed.copy(rt.alloc())?;
-    assert_eq!(rt; copied.units(), [0x61].as_slice());
     Ok(())
 }

@@ -298,6 +298,16 @@ fn run_line<I: ByteIn, O: ByteOut>(
     }
 }
 
+/// The bytes of so many generated lines.
+fn generated_bytes(alloc: Global, lines: u32) -> Result<ByteList, AllocError>
+    requires some { 1 ≤ lines }
+    requires few { lines ≤ most_lines }
+    ensures { IfOk result (λ source. source ≡ generated lines) }
+{
+    let text = generated(alloc, lines)?;
+    ByteList::from_vec(alloc, text.into_bytes())
+}
+
 /// Runs a session over so many generated lines, and writes its summary.
 fn run_generated<O: ByteOut>(alloc: Global, lines: u32, output: &mut O) -> ToolOutcome
     requires some { 1 ≤ lines }
@@ -306,16 +316,16 @@ fn run_generated<O: ByteOut>(alloc: Global, lines: u32, output: &mut O) -> ToolO
     ensures answers { Answers lexes_lines (generated lines) (summary_of lines)
         (O.state output.old) (O.state output.new) result }
 {
-    let source = match generated(alloc, lines) {
+    let source = match generated_bytes(alloc, lines) {
         Ok(source) => source,
         Err(_) => return outcome_without_run(MEMORY),
     };
-    let (commands, report) = match run_all(alloc, source.as_bytes(), SourceType::Module, true) {
+    let (commands, report) = match run_all(alloc, source.as_slice(), SourceType::Module, true) {
         Ok(ran) => ran,
         Err(fault) => return outcome_without_run(status_of(fault)),
     };
     let ran = Ran {
-        source: ByteList::from_vec(source.into_bytes()),
+        source,
         source_type: SourceType::Module,
         tokens: true,
         commands,

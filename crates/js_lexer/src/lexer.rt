@@ -41,7 +41,7 @@ use js_places::ReservedList;
 use js_reader::{ByteTables, DecodedValues, Findings, FindingsBuilder, Reader, ReadingStart};
 use js_source::{Source, SourcePosition};
 use js_text::{
-    Comment, CommentList, Diagnostic, DiagnosticList, JsText, SourceType, Span, SpanList,
+    Comment, Diagnostic, DiagnosticList, JsText, SourceType, Span, SpanList,
     TemplateValue,
 };
 use js_trivia::TriviaBuilder;
@@ -581,8 +581,8 @@ impl<'a, C: LexerConfig + Drop> Lexer<'a, C> {
     }
 
     /// Hands out the comments that were read, and leaves none, and no range of them.
-    pub fn take_comments(&mut self) -> CommentList
-        ensures comments { result ≡ self.old.findings.comments }
+    pub fn take_comments(&mut self) -> Vec<Comment>
+        ensures comments { result.items ≡ self.old.findings.comments }
         ensures after { self.new ≡ record self.old {
           findings = record self.old.findings { comments = [] };
           pure_comments = None;
@@ -593,8 +593,8 @@ impl<'a, C: LexerConfig + Drop> Lexer<'a, C> {
     }
 
     /// Hands out the irregular white space that was read, and leaves none.
-    pub fn take_irregular_whitespaces(&mut self) -> SpanList
-        ensures spans { result ≡ self.old.findings.irregular }
+    pub fn take_irregular_whitespaces(&mut self) -> Vec<Span>
+        ensures spans { result.items ≡ self.old.findings.irregular }
         ensures after { self.new ≡ record self.old { findings = record self.old.findings { irregular = [] } } }
     {
         self.found.trivia.take_irregular_whitespaces()
@@ -607,24 +607,6 @@ impl<'a, C: LexerConfig + Drop> Lexer<'a, C> {
     {
         let alloc = self.reader.alloc;
         std::mem::replace(&mut self.found.warnings, SpanList::new_in(alloc))
-    }
-
-    /// Hands out what was found, and leaves nothing, and no range of comments.
-    pub fn take_findings(&mut self) -> Findings
-        ensures findings { result ≡ self.old.findings }
-        ensures after { self.new ≡ record self.old {
-          findings = no_findings;
-          pure_comments = None;
-          no_side_effects_comments = None;
-        } }
-    {
-        Findings {
-            diagnostics: self.take_errors(),
-            deferred: self.take_deferred_module_errors(),
-            comments: self.take_comments(),
-            irregular: self.take_irregular_whitespaces(),
-            warnings: self.take_warnings(),
-        }
     }
 
     /// The tokens that were collected.

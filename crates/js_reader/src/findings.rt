@@ -59,6 +59,5 @@ pub fn items_from<T: Copy + Drop>(
     requires { from ≤ length items.now }
     ensures { IfOk result (λ list. list ≡ drop from items.now) }
 {
-    let copies = Vec::from_slice(alloc, &items[from..])?;
-    Ok(ItemList::from_vec(copies))
+    ItemList::from_slice(alloc, &items[from..])
 }

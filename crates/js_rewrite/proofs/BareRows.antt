@@ -16,7 +16,7 @@ use Rattle.js_rewrite.proofs.LastTokens.{lasting_of}
 
 -- nothing is reported in a row, and no comment is found
 abbrev pub IsBare : Row → Type 0
-IsBare row = (row.findings.diagnostics ≡ []) × (row.findings.comments ≡ [])
+IsBare row = (row.diagnostics ≡ []) × (row.comments ≡ [])
 
 -- nothing is live of what is reported and of comments
 abbrev pub IsStill : State → Type 0
@@ -27,8 +27,8 @@ both_empty xs ys e f = ap (λ zs. zs ++ ys) e ∙ f
 
 still_behind : (effect : Effect) (row : Row) (s : State) → IsBare row → IsStill s → IsStill (after_row effect row s)
 still_behind (reads goal) row s bare still = (
-  both_empty s.now.findings.diagnostics row.findings.diagnostics still.0 bare.0,
-  both_empty s.now.findings.comments row.findings.comments still.1 bare.1,
+  both_empty s.now.findings.diagnostics row.diagnostics still.0 bare.0,
+  both_empty s.now.findings.comments row.comments still.1 bare.1,
 )
 still_behind (peeks goal) row s bare still = still
 still_behind (re_lexes goal) row s bare still = by_flag row.taken refl
@@ -36,8 +36,8 @@ still_behind (re_lexes goal) row s bare still = by_flag row.taken refl
     by_flag : (b : Bool) → row.taken ≡ b → IsStill (after_row (re_lexes goal) row s)
     by_flag true e =
         rw e (
-          both_empty s.now.findings.diagnostics row.findings.diagnostics still.0 bare.0,
-          both_empty s.now.findings.comments row.findings.comments still.1 bare.1,
+          both_empty s.now.findings.diagnostics row.diagnostics still.0 bare.0,
+          both_empty s.now.findings.comments row.comments still.1 bare.1,
         )
     by_flag false e = rw e still
 still_behind opens row s bare still = still

@@ -36,7 +36,7 @@ use Rattle.js_rewrite.specs.Faults.{may_rewrite}
 
 -- nothing is reported in a row
 abbrev pub IsQuiet : Row → Type 0
-IsQuiet row = row.findings.diagnostics ≡ []
+IsQuiet row = row.diagnostics ≡ []
 
 -- The effects of commands with which a source of the type is written anew.
 abbrev pub Rewrites : SourceType → Effect → Type 0

@@ -90,16 +90,16 @@ no_length (x ∷ xs) e = absurd (omega (arith, eqb-true (length (x ∷ xs)) 0 e)
 
 -- Where no row is the first with a diagnostic, none has one.
 pub all_quiet : (rows : List Row) → first_diagnosed rows ≡ None
-    → AllByRecursion (λ (row : Row). row.findings.diagnostics ≡ []) rows
+    → AllByRecursion (λ (row : Row). row.diagnostics ≡ []) rows
 all_quiet rows e =
-    each rows (all_twice (λ (row : Row). length row.findings.diagnostics == 0) rows
-    (none_passes (λ (row : Row). not (length row.findings.diagnostics == 0)) rows e))
+    each rows (all_twice (λ (row : Row). length row.diagnostics == 0) rows
+    (none_passes (λ (row : Row). not (length row.diagnostics == 0)) rows e))
   where
-    each : (rows : List Row) → list_all (λ (row : Row). length row.findings.diagnostics == 0) rows ≡ true
-        → AllByRecursion (λ (row : Row). row.findings.diagnostics ≡ []) rows
+    each : (rows : List Row) → list_all (λ (row : Row). length row.diagnostics == 0) rows ≡ true
+        → AllByRecursion (λ (row : Row). row.diagnostics ≡ []) rows
     each [] f = tt
     each (row ∷ rows) f =
         let both =
-        and_parts (length row.findings.diagnostics == 0)
-        (list_all (λ (row : Row). length row.findings.diagnostics == 0) rows) f in
-        (no_length row.findings.diagnostics both.0, each rows both.1)
+        and_parts (length row.diagnostics == 0)
+        (list_all (λ (row : Row). length row.diagnostics == 0) rows) f in
+        (no_length row.diagnostics both.0, each rows both.1)

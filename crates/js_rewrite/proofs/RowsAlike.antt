@@ -133,8 +133,8 @@ pub record Beside (text other : List ℕ) (t : SourceType) (s q : State) (token 
 pub record StepAlike (text other : List ℕ) (t : SourceType) (effect : Effect) (s q : State) (a b : Row) (zs : List ℕ)
     : Type 0 where
   pub same : SameRow text other a b
-  pub no_diagnostic : b.findings.diagnostics ≡ []
-  pub no_comment : b.findings.comments ≡ []
+  pub no_diagnostic : b.diagnostics ≡ []
+  pub no_comment : b.comments ≡ []
   pub next : Beside text other t (after_row effect a s) (after_row effect b q) a.token b.token zs
 
 -- where rows were read alike

@@ -44,7 +44,7 @@ first_bad t commands = position (λ command. not (may_rewrite t command)) comman
 
 -- the first row that has a diagnostic, if there is one
 abbrev pub first_diagnosed : List Row → Option ℕ
-first_diagnosed rows = position (λ (row : Row). not (length row.findings.diagnostics == 0)) rows
+first_diagnosed rows = position (λ (row : Row). not (length row.diagnostics == 0)) rows
 
 -- The row at the index is the first with a diagnostic, in the report of the source and the commands.
 pub record IsFirstDiagnosed (source : List ℕ) (t : SourceType) (commands : List Command) (index : ℕ) : Type 0 where

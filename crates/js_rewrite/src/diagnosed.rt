@@ -7,9 +7,9 @@ use js_session::Row;
 
 /// Whether the row has a diagnostic.
 fn has_diagnostic(row: &Row) -> bool
-    ensures { result ≡ not (length row.now.findings.diagnostics == 0) }
+    ensures { result ≡ not (length row.now.diagnostics == 0) }
 {
-    !row.findings.diagnostics().is_empty()
+    !row.diagnostics.is_empty()
 }
 
 /// The index of the first row that has a diagnostic, if there is one.

@@ -109,7 +109,11 @@ module _ (from to : ℕ) where
     token = token_on row.token j;
     value = value_on row.value j;
     regex = regex_on row.regex j;
-    findings = findings_on row.findings j;
+    diagnostics = diagnostics_on row.diagnostics j;
+    deferred = diagnostics_on row.deferred j;
+    comments = comments_on row.comments j;
+    irregular = spans_on row.irregular j;
+    warnings = spans_on row.warnings j;
   }
 
   rows_on : (rows : List Row) → map (shifted_row from to) (map (moved_row from) rows) ≡ map (moved_row to) rows

@@ -4,7 +4,6 @@ pub mod Live
 pub mod Marks
 pub mod Moved
 pub mod Report
-pub mod RowFindings
 pub mod RowReader
 pub mod SameRows
 pub mod Session

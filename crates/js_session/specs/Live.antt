@@ -13,7 +13,23 @@ use Rattle.js_session.specs.declared.row.Row.{Row}
 
 -- what a row has found
 abbrev pub row_findings : Row → Findings
-row_findings row = row.findings
+row_findings row = record {
+  diagnostics = row.diagnostics;
+  deferred = row.deferred;
+  comments = row.comments;
+  irregular = row.irregular;
+  warnings = row.warnings;
+}
+
+-- the row with other findings
+abbrev pub with_findings : Row → Findings → Row
+with_findings row found = record row {
+  diagnostics = found.diagnostics;
+  deferred = found.deferred;
+  comments = found.comments;
+  irregular = found.irregular;
+  warnings = found.warnings;
+}
 
 -- what the reading of a row gave
 abbrev pub outcome_of : Row → Outcome
@@ -28,7 +44,11 @@ row_of command place taken outcome = record {
   token = outcome.token;
   value = outcome.value;
   regex = outcome.regex;
-  findings = outcome.findings;
+  diagnostics = outcome.findings.diagnostics;
+  deferred = outcome.findings.deferred;
+  comments = outcome.findings.comments;
+  irregular = outcome.findings.irregular;
+  warnings = outcome.findings.warnings;
 }
 
 -- the live tokens, and what is live of what was found

@@ -88,7 +88,11 @@ shifted_row from to row = record {
   token = shifted_token from to row.token;
   value = shifted_value from to row.value;
   regex = option_map (shifted_regex from to) row.regex;
-  findings = shifted_findings from to row.findings;
+  diagnostics = map (shifted_diagnostic from to) row.diagnostics;
+  deferred = map (shifted_diagnostic from to) row.deferred;
+  comments = map (shifted_comment from to) row.comments;
+  irregular = map (shifted_span from to) row.irregular;
+  warnings = map (shifted_span from to) row.warnings;
 }
 
 -- P holds of both ends of a span.

@@ -18,12 +18,12 @@ use crate::command::Command;
 use crate::mark::SessionMark;
 use crate::re_lex::read_again;
 use crate::row::Row;
-use crate::row_findings::RowFindings;
 use crate::row_list::RowList;
 use js_grammar::Goal;
 use js_kind::{LexerConfig, Token, TokenList};
-use js_lexer::{Lexer, LexerCheckpoint, is_template, is_valued, text_span};
-use js_text::{BoxedJSStr, JsText, RegexInfo, RowValue, TemplateValue};
+use crate::rooms::TriviaRooms;
+use js_lexer::{Findings, Lexer, LexerCheckpoint, is_template, is_valued, text_span};
+use js_text::{JsText, RegexInfo, RowValue, TemplateValue};
 use std::alloc::{AllocError, Global};
 use std::marker::Model;
 
@@ -52,7 +52,7 @@ fn decoded_value<C: LexerConfig + Drop>(
     ensures { IfOk result (λ value. HoldsUnits (value_of lexer.now.decoded.strings token.now.start) value) }
 {
     match lexer.get_string(*token) {
-        Some(JsText::Decoded(text)) => Ok(RowValue::Units(BoxedJSStr::copy_of(alloc, text)?)),
+        Some(JsText::Decoded(text)) => Ok(RowValue::Units(text.copy(alloc)?)),
         _ => unreachable!(),
     }
 }
@@ -70,7 +70,7 @@ fn part_value<C: LexerConfig + Drop>(
 {
     match lexer.get_template_string(*token) {
         Some(TemplateValue::Text(JsText::Decoded(text))) => {
-            Ok(RowValue::Units(BoxedJSStr::copy_of(alloc, text)?))
+            Ok(RowValue::Units(text.copy(alloc)?))
         }
         Some(TemplateValue::Bad) => Ok(RowValue::Bad),
         _ => unreachable!(),
@@ -136,16 +136,14 @@ fn findings_since<C: LexerConfig + Drop>(
     lexer: &Lexer<'_, C>,
     alloc: Global,
     before: &LexerCheckpoint,
-) -> Result<RowFindings, AllocError>
+) -> Result<Findings, AllocError>
     requires { AreWithin before.now.lengths lexer.now.findings }
     ensures { IfOk result (λ found. found ≡ found_since before.now.lengths lexer.now.findings) }
 {
     if lexer.has_found_nothing_since(before) {
-        return Ok(RowFindings::nothing());
+        return Ok(Findings::new_in(alloc));
     }
-    let found = lexer.findings_since(before)?;
-    let findings = RowFindings::new(alloc, found)?;
-    Ok(findings)
+    lexer.findings_since(before)
 }
 
 /// The row of a token that was just read from the place, where the checkpoint was made.
@@ -221,22 +219,18 @@ fn read_row_again<C: LexerConfig + Drop>(
 }
 
 /// The row of a re-lex that is not taken: it holds the last token, and nothing else.
-fn not_taken<C: LexerConfig + Drop>(lexer: &Lexer<'_, C>, command: Option<Command>) -> Row
+fn not_taken<C: LexerConfig + Drop>(
+    lexer: &Lexer<'_, C>,
+    alloc: Global,
+    command: Option<Command>,
+) -> Row
     ensures row { result ≡ not_taken command lexer.now }
     ensures places { IsOnPlaces lexer.now.text (token_or_default lexer.now.last) }
 {
     let place = lexer.offset();
     let token = lexer.last_token();
-    let findings = RowFindings::nothing();
-    Row::new(
-        command,
-        place,
-        false,
-        token,
-        RowValue::Nothing,
-        None,
-        findings,
-    )
+    let found = Findings::new_in(alloc);
+    Row::new(command, place, false, token, RowValue::Nothing, None, found)
 }
 
 /// A lexer, the rows that were read from it, and the tokens that are live.
@@ -246,6 +240,7 @@ pub(crate) struct RowReader<'a, C: LexerConfig + Drop> {
     pub alloc: Global,
     pub rows: RowList,
     pub tokens: TokenList,
+    pub rooms: TriviaRooms,
 }
 
 impl<'a, C: LexerConfig + Drop> Model for RowReader<'a, C> {
@@ -258,15 +253,16 @@ impl<'a, C: LexerConfig + Drop> Model for RowReader<'a, C> {
 
 impl<'a, C: LexerConfig + Drop> RowReader<'a, C> {
     /// Nothing is read from the lexer yet.
-    pub fn new(alloc: Global, lexer: Lexer<'a, C>) -> RowReader<'a, C>
-        ensures { result ≡ record { lexer = lexer.entry; rows = []; tokens = [] } }
+    pub fn new(alloc: Global, lexer: Lexer<'a, C>) -> Result<RowReader<'a, C>, AllocError>
+        ensures { IfOk result (λ r. r ≡ record { lexer = lexer.entry; rows = []; tokens = [] }) }
     {
-        RowReader {
+        Ok(RowReader {
             lexer,
             alloc,
             rows: RowList::new_in(alloc),
             tokens: TokenList::new_in(alloc),
-        }
+            rooms: TriviaRooms::new(alloc)?,
+        })
     }
 
     /// Nothing is read from the lexer yet, and its last token is live.
@@ -277,7 +273,7 @@ impl<'a, C: LexerConfig + Drop> RowReader<'a, C> {
     ) -> Result<RowReader<'a, C>, AllocError>
         ensures { IfOk result (λ r. r ≡ record { lexer = lexer.entry; rows = []; tokens = token ∷ [] }) }
     {
-        let mut reader = RowReader::new(alloc, lexer);
+        let mut reader = RowReader::new(alloc, lexer)?;
         reader.tokens.push(token)?;
         Ok(reader)
     }
@@ -361,7 +357,7 @@ impl<'a, C: LexerConfig + Drop> RowReader<'a, C> {
                 Ok(())
             }
             None => {
-                let row = not_taken(&self.lexer, command);
+                let row = not_taken(&self.lexer, self.alloc, command);
                 self.rows.push(row)
             }
         }

@@ -7,9 +7,9 @@ ghost use Rattle.js_session.specs.Live.{row_of};
 ghost use Rattle.js_session.specs.Report.{IsSliceOnPlaces, text_of};
 
 use crate::command::Command;
-use crate::row_findings::RowFindings;
 use js_kind::Token;
-use js_text::{JsText, RegexInfo, RowValue};
+use js_lexer::Findings;
+use js_text::{CommentList, DiagnosticList, JsText, RegexInfo, RowValue, SpanList};
 use std::alloc::{AllocError, Global};
 
 /// What a step gave.
@@ -17,8 +17,16 @@ use std::alloc::{AllocError, Global};
 pub struct Row {
     pub token: Token,
     pub value: RowValue,
-    /// What the reading found beside its token.
-    pub findings: RowFindings,
+    /// What the reading reported.
+    pub diagnostics: DiagnosticList,
+    /// What it reported for the case that the source is a module.
+    pub deferred: DiagnosticList,
+    /// The comments of its gap.
+    pub comments: CommentList,
+    /// The irregular white space of its gap.
+    pub irregular: SpanList,
+    /// What the reading warned of.
+    pub warnings: SpanList,
     pub regex: Option<RegexInfo>,
     /// Where the lexer stood before the command, as an offset in bytes.
     pub place: u32,
@@ -37,15 +45,19 @@ impl Row {
         token: Token,
         value: RowValue,
         regex: Option<RegexInfo>,
-        findings: RowFindings,
+        found: Findings,
     ) -> Row
         ensures { result ≡ row_of command place taken
-            (record { token = token; value = value; regex = regex; findings = findings }) }
+            (record { token = token; value = value; regex = regex; findings = found }) }
     {
         Row {
             token,
             value,
-            findings,
+            diagnostics: found.diagnostics,
+            deferred: found.deferred,
+            comments: found.comments,
+            irregular: found.irregular,
+            warnings: found.warnings,
             regex,
             place,
             command,
@@ -64,7 +76,7 @@ impl Row {
                 let range = span.start as usize..span.end as usize;
                 Some(JsText::Source(&source[range]))
             }
-            RowValue::Units(text) => Some(JsText::Decoded(text.as_js_str())),
+            RowValue::Units(text) => Some(JsText::Decoded(text)),
         }
     }
 
@@ -72,16 +84,18 @@ impl Row {
     pub fn copy(&self, alloc: Global) -> Result<Row, AllocError>
         ensures { IfOk result (λ row. row ≡ self.now) }
     {
-        let value = self.value.copy(alloc)?;
-        let findings = self.findings.copy(alloc)?;
-        Ok(Row::new(
-            self.command,
-            self.place,
-            self.taken,
-            self.token,
-            value,
-            self.regex,
-            findings,
-        ))
+        Ok(Row {
+            token: self.token,
+            value: self.value.copy(alloc)?,
+            diagnostics: self.diagnostics.copy(alloc)?,
+            deferred: self.deferred.copy(alloc)?,
+            comments: self.comments.copy(alloc)?,
+            irregular: self.irregular.copy(alloc)?,
+            warnings: self.warnings.copy(alloc)?,
+            regex: self.regex,
+            place: self.place,
+            command: self.command,
+            taken: self.taken,
+        })
     }
 }

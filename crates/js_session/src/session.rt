@@ -71,7 +71,10 @@ impl<'a, C: LexerConfig + Drop> Session<'a, C> {
             Err(fault) => return Err(fault),
         };
         steps.tick();
-        let mut reader = RowReader::new(alloc, lexer);
+        let mut reader = match RowReader::new(alloc, lexer) {
+            Ok(reader) => reader,
+            Err(_) => return Err(NewFault::Memory),
+        };
         match reader.add_row(None, Goal::First, false) {
             Ok(()) => Ok(Session {
                 reader,
@@ -247,10 +250,11 @@ impl<'a, C: LexerConfig + Drop> Session<'a, C> {
             alloc: _,
             rows,
             tokens,
+            rooms,
         } = reader;
         let mut lexer = lexer;
         let collected = lexer.take_tokens();
-        let found = lexer.take_findings();
+        let found = rooms.take_findings(&mut lexer);
         Report::new(rows, tokens, collected, found)
     }
 }

@@ -122,7 +122,7 @@ impl Shift {
         }
         let mut moved = DiagnosticList::new_in(alloc);
         moved.extend_from_slice(diagnostics)?;
-        self.move_diagnostics(alloc, &mut moved);
+        self.move_diagnostics(&mut moved);
         Ok(Some(moved))
     }
 
@@ -141,7 +141,7 @@ impl Shift {
         }
         let mut moved = CommentList::new_in(alloc);
         moved.extend_from_slice(comments)?;
-        self.move_comments(alloc, &mut moved);
+        self.move_comments(&mut moved);
         Ok(Some(moved))
     }
 
@@ -156,7 +156,7 @@ impl Shift {
         }
         let mut moved = SpanList::new_in(alloc);
         moved.extend_from_slice(spans)?;
-        self.move_spans(alloc, &mut moved);
+        self.move_spans(&mut moved);
         Ok(Some(moved))
     }
 
@@ -171,7 +171,7 @@ impl Shift {
             return Ok(None);
         }
         let mut moved = row.copy(alloc)?;
-        self.move_row(alloc, &mut moved);
+        self.move_row(&mut moved);
         Ok(Some(moved))
     }
 }

@@ -2,11 +2,12 @@
 
 ghost use Rattle.std.specs.Prelude.{◌↔◌, IsTrue};
 ghost use Rattle.std.specs.List.{All};
+ghost use Rattle.js_session.specs.Live.{row_findings};
 ghost use Rattle.js_session.specs.Shifted.{FitsShifted, OfComment, OfDiagnostic, OfFindings, OfRegex, OfSpan};
+ghost use Rattle.js_session.specs.Live.{row_findings};
 ghost use Rattle.js_session.specs.Shifted.{OfValue, ShiftFits};
 
 use crate::row::Row;
-use crate::row_findings::RowFindings;
 use crate::shift::Shift;
 use js_text::{Comment, Diagnostic, RegexInfo, RowValue, Span};
 
@@ -92,14 +93,14 @@ impl Shift {
         true
     }
 
-    fn findings_fit(&self, found: &RowFindings) -> bool
-        ensures { IsTrue result ↔ OfFindings (FitsShifted self.now.from self.now.to) found.now }
+    fn findings_fit(&self, row: &Row) -> bool
+        ensures { IsTrue result ↔ OfFindings (FitsShifted self.now.from self.now.to) (row_findings row.now) }
     {
-        self.diagnostics_fit(found.diagnostics())
-            && self.diagnostics_fit(found.deferred())
-            && self.comments_fit(found.comments())
-            && self.spans_fit(found.irregular())
-            && self.spans_fit(found.warnings())
+        self.diagnostics_fit(row.diagnostics.as_slice())
+            && self.diagnostics_fit(row.deferred.as_slice())
+            && self.comments_fit(row.comments.as_slice())
+            && self.spans_fit(row.irregular.as_slice())
+            && self.spans_fit(row.warnings.as_slice())
     }
 
     /// Whether each place of the row is a `u32` once it is moved.
@@ -110,6 +111,6 @@ impl Shift {
             && self.span_fits(row.token.span())
             && self.value_fits(&row.value)
             && self.regex_fits(row.regex)
-            && self.findings_fit(&row.findings)
+            && self.findings_fit(row)
     }
 }

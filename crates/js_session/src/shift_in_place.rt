@@ -7,17 +7,14 @@ ghost use Rattle.js_session.specs.Shifted.{shifted, shifted_comment, shifted_dia
 ghost use Rattle.js_session.specs.Shifted.{shifted_findings, shifted_span, shifted_token, shifted_value};
 ghost use Rattle.js_session.specs.Shifted.{FitsShifted, OfComment, OfDiagnostic, OfFindings, OfRegex, OfSpan, OfValue};
 ghost use Rattle.js_session.specs.Shifted.{ShiftFits};
+ghost use Rattle.js_session.specs.Live.{row_findings, with_findings};
 
 use crate::row::Row;
-use crate::row_findings::{BoxedFindings, RowFindings};
 use crate::shift::{Shift, with_span};
 use js_kind::Token;
-use js_lexer::Findings;
 use js_text::{
     Comment, CommentList, Diagnostic, DiagnosticList, RegexInfo, RowValue, Span, SpanList,
 };
-use std::alloc::Global;
-use std::mem;
 
 impl Shift {
     fn move_place(&self, place: &mut u32)
@@ -109,61 +106,50 @@ impl Shift {
         }
     }
 
-    pub(crate) fn move_diagnostics(&self, alloc: Global, diagnostics: &mut DiagnosticList)
+    pub(crate) fn move_diagnostics(&self, diagnostics: &mut DiagnosticList)
         requires { All (OfDiagnostic (FitsShifted self.now.from self.now.to)) diagnostics.old }
         ensures { diagnostics.new ≡ map (shifted_diagnostic self.now.from self.now.to) diagnostics.old }
     {
-        let mut items = mem::replace(diagnostics, DiagnosticList::new_in(alloc)).into_vec();
-        self.move_each_diagnostic(&mut items);
-        *diagnostics = DiagnosticList::from_vec(items);
-    }
-
-    pub(crate) fn move_comments(&self, alloc: Global, comments: &mut CommentList)
-        requires { All (OfComment (FitsShifted self.now.from self.now.to)) comments.old }
-        ensures { comments.new ≡ map (shifted_comment self.now.from self.now.to) comments.old }
-    {
-        let mut items = mem::replace(comments, CommentList::new_in(alloc)).into_vec();
-        self.move_each_comment(&mut items);
-        *comments = CommentList::from_vec(items);
-    }
-
-    pub(crate) fn move_spans(&self, alloc: Global, spans: &mut SpanList)
-        requires { All (OfSpan (FitsShifted self.now.from self.now.to)) spans.old }
-        ensures { spans.new ≡ map (shifted_span self.now.from self.now.to) spans.old }
-    {
-        let mut items = mem::replace(spans, SpanList::new_in(alloc)).into_vec();
-        self.move_each_span(&mut items);
-        *spans = SpanList::from_vec(items);
-    }
-
-    fn move_findings(&self, alloc: Global, found: &mut Findings)
-        requires { OfFindings (FitsShifted self.now.from self.now.to) found.old }
-        ensures { found.new ≡ shifted_findings self.now.from self.now.to found.old }
-    {
-        self.move_diagnostics(alloc, &mut found.diagnostics);
-        self.move_diagnostics(alloc, &mut found.deferred);
-        self.move_comments(alloc, &mut found.comments);
-        self.move_spans(alloc, &mut found.irregular);
-        self.move_spans(alloc, &mut found.warnings);
-    }
-
-    fn move_row_findings(&self, alloc: Global, found: RowFindings) -> RowFindings
-        requires { OfFindings (FitsShifted self.now.from self.now.to) found }
-        ensures { result ≡ shifted_findings self.now.from self.now.to found }
-    {
-        match found.boxed {
-            BoxedFindings::Nothing => RowFindings::nothing(),
-            BoxedFindings::Lists(mut lists) => {
-                self.move_findings(alloc, lists.as_mut());
-                RowFindings {
-                    boxed: BoxedFindings::Lists(lists),
-                }
-            }
+        if let Some(mut items) = diagnostics.take_boxed() {
+            self.move_each_diagnostic(items.as_mut_slice());
+            diagnostics.put_boxed(items);
         }
     }
 
-    /// Moves the row in its place. It takes no memory: the allocator is for the empty lists that stand there meanwhile.
-    pub fn move_row(&self, alloc: Global, row: &mut Row)
+    pub(crate) fn move_comments(&self, comments: &mut CommentList)
+        requires { All (OfComment (FitsShifted self.now.from self.now.to)) comments.old }
+        ensures { comments.new ≡ map (shifted_comment self.now.from self.now.to) comments.old }
+    {
+        if let Some(mut items) = comments.take_boxed() {
+            self.move_each_comment(items.as_mut_slice());
+            comments.put_boxed(items);
+        }
+    }
+
+    pub(crate) fn move_spans(&self, spans: &mut SpanList)
+        requires { All (OfSpan (FitsShifted self.now.from self.now.to)) spans.old }
+        ensures { spans.new ≡ map (shifted_span self.now.from self.now.to) spans.old }
+    {
+        if let Some(mut items) = spans.take_boxed() {
+            self.move_each_span(items.as_mut_slice());
+            spans.put_boxed(items);
+        }
+    }
+
+    /// Moves what the row has found.
+    fn move_findings(&self, row: &mut Row)
+        requires { OfFindings (FitsShifted self.now.from self.now.to) (row_findings row.old) }
+        ensures { row.new ≡ with_findings row.old (shifted_findings self.now.from self.now.to (row_findings row.old)) }
+    {
+        self.move_diagnostics(&mut row.diagnostics);
+        self.move_diagnostics(&mut row.deferred);
+        self.move_comments(&mut row.comments);
+        self.move_spans(&mut row.irregular);
+        self.move_spans(&mut row.warnings);
+    }
+
+    /// Moves the row in its place. It takes no memory.
+    pub fn move_row(&self, row: &mut Row)
         requires fits { ShiftFits self.now.from self.now.to row.old }
         requires ordered { row.old.token.start ≤ row.old.token.end }
         ensures { row.new ≡ shifted_row self.now.from self.now.to row.old }
@@ -172,18 +158,17 @@ impl Shift {
         self.move_token(&mut row.token);
         self.move_value(&mut row.value);
         self.move_regex(&mut row.regex);
-        let found = mem::replace(&mut row.findings, RowFindings::nothing());
-        row.findings = self.move_row_findings(alloc, found);
+        self.move_findings(row);
     }
 
     /// Moves each row in its place.
-    pub(crate) fn move_each_row(&self, alloc: Global, rows: &mut [Row])
+    pub(crate) fn move_each_row(&self, rows: &mut [Row])
         requires fits { AllByRecursion (ShiftFits self.now.from self.now.to) rows.old }
         requires ordered { AllByRecursion (λ row. row.token.start ≤ row.token.end) rows.old }
         ensures { rows.new ≡ map (shifted_row self.now.from self.now.to) rows.old }
     {
         for row in rows.iter_mut() {
-            self.move_row(alloc, row);
+            self.move_row(row);
         }
     }
 }

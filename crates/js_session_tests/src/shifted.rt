@@ -21,7 +21,7 @@ fn source_rows(alloc: Global, source: &str, commands: &[Command]) -> Option<RowL
 }
 
 fn are_comments(row: &Row) -> bool {
-    match row.findings.comments() {
+    match row.comments.as_slice() {
         [comment] => comment.span == Span { start: 5, end: 10 } && comment.attached_to == 13,
         _ => false,
     }
@@ -30,9 +30,9 @@ fn are_comments(row: &Row) -> bool {
 fn are_spans(row: &Row) -> bool {
     let string = Span { start: 13, end: 15 };
     let html = Span { start: 5, end: 9 };
-    row.findings.diagnostics() == [Diagnostic::UnterminatedString { span: string }].as_slice()
-        && row.findings.deferred() == [Diagnostic::HtmlCommentInModule { span: html }].as_slice()
-        && row.findings.irregular() == [Span { start: 11, end: 13 }].as_slice()
+    row.diagnostics.as_slice() == [Diagnostic::UnterminatedString { span: string }].as_slice()
+        && row.deferred.as_slice() == [Diagnostic::HtmlCommentInModule { span: html }].as_slice()
+        && row.irregular.as_slice() == [Span { start: 11, end: 13 }].as_slice()
 }
 
 /// Whether it is the row of the source, five bytes further on.
@@ -74,7 +74,7 @@ fn moved_copy(alloc: Global) -> Option<Row> {
 
 fn moved_in_its_place(alloc: Global) -> Option<Row> {
     let mut row = first_row(alloc)?;
-    Shift { from: 0, to: 5 }.move_row(alloc, &mut row);
+    Shift { from: 0, to: 5 }.move_row(&mut row);
     Some(row)
 }
 
@@ -82,7 +82,7 @@ fn moved_in_a_list(alloc: Global) -> Option<RowList> {
     let row = first_row(alloc)?;
     let mut rows = RowList::new_in(alloc);
     rows.push(row).ok()?;
-    rows.shift_behind(alloc, 0, &Shift { from: 0, to: 5 });
+    rows.shift_behind(0, &Shift { from: 0, to: 5 });
     Some(rows)
 }
 

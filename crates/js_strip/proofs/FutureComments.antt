@@ -119,7 +119,7 @@ clean_onward text t JsxAttributeValue before place o u b on clean read =
 -- the comments of rows
 abbrev pub comments_of : List Row → List Comment
 comments_of [] = []
-comments_of (row ∷ rows) = row.findings.comments ++ comments_of rows
+comments_of (row ∷ rows) = row.comments ++ comments_of rows
 
 -- A character that passes a test stands at a place.
 pub record Passes (text : List ℕ) (test : ℕ → Bool) (p : ℕ) : Type 0 where

@@ -86,14 +86,14 @@ row_stands : (text : List ℕ) (t : SourceType) (effect : Effect) (row : Row) (s
     (comments : List Comment) → IsUtf8 text → Rewrites t effect → IsLast text s token → IsOnPlaces text row.token
     → row.place ≡ place_behind_last s.now → IsOfEffect text t s.now effect row → IsQuiet row
     → StandBetween text (piece t) row.token.end comments (length text)
-    → StandBetween text (piece t) token.end (row.findings.comments ++ comments) (length text)
+    → StandBetween text (piece t) token.end (row.comments ++ comments) (length text)
 row_stands text t (reads goal) row s token comments u on l lies at is quiet stand =
     let place : row.place ≡ token.end = at ∙ ap (λ l. (token_or_default l).end) l.last_is in
-    let here : StandBetween text (piece t) token.end row.findings.comments row.token.start =
-    subst (λ p. StandBetween text (piece t) p row.findings.comments row.token.start) place
+    let here : StandBetween text (piece t) token.end row.comments row.token.start =
+    subst (λ p. StandBetween text (piece t) p row.comments row.token.start) place
     (clean_onward text t goal (last_live s.now) row.place (outcome_of row) u
     (subst (IsCharBoundary text) (sym place) l.lies.end) on.0 quiet is.reads) in
-    between_append text (piece t) token.end row.token.start (length text) row.findings.comments comments here
+    between_append text (piece t) token.end row.token.start (length text) row.comments comments here
     (between_from text (piece t) row.token.start row.token.end (length text) comments lies.ordered stand)
 row_stands text t (peeks goal) row s token comments u on l lies at is quiet stand = absurd on
 row_stands text t opens row s token comments u on l lies at is quiet stand = absurd on
@@ -104,7 +104,7 @@ row_stands text t (re_lexes goal) row s token comments u on l lies at is quiet s
   where
     by_flag : (b : Bool) → fits text goal (token_or_default (last_live s.now)) ≡ b
         → MatchBool b (IsReLexed text t s.now goal row) (IsNotTaken s.now row)
-        → StandBetween text (piece t) token.end (row.findings.comments ++ comments) (length text)
+        → StandBetween text (piece t) token.end (row.comments ++ comments) (length text)
     by_flag true e is =
         let read : GoalReads text t goal (Some token) token.start (outcome_of row) =
         subst (λ l. GoalReads text t goal l (token_or_default l).start (outcome_of row)) l.last_is is.reads in
@@ -116,7 +116,7 @@ row_stands text t (re_lexes goal) row s token comments u on l lies at is quiet s
         quiet l.lies.end.0 stand)
     by_flag false e is =
         let same : row.token ≡ token = is.token ∙ ap token_or_default l.last_is in
-        let none : row.findings.comments ≡ [] = ap (λ f. f.comments) is.findings in
+        let none : row.comments ≡ [] = ap (λ f. f.comments) is.findings in
         subst (λ cs. StandBetween text (piece t) token.end (cs ++ comments) (length text)) (sym none)
         (subst (λ (x : TokenParts). StandBetween text (piece t) x.end comments (length text)) same stand)
 

@@ -51,7 +51,7 @@ use Rattle.js_grammar.proofs.Without.{Without, prefix_from, true_is_not_false}
 -- the comments of a row are those that are live more
 row_live : (text : List ℕ) (t : SourceType) (effect : Effect) (row : Row) (s : State) → Rewrites t effect
     → IsOfEffect text t s.now effect row
-    → (after_row effect row s).now.findings.comments ≡ s.now.findings.comments ++ row.findings.comments
+    → (after_row effect row s).now.findings.comments ≡ s.now.findings.comments ++ row.comments
 row_live text t (reads goal) row s on is = refl
 row_live text t (peeks goal) row s on is = absurd on
 row_live text t opens row s on is = absurd on
@@ -60,10 +60,10 @@ row_live text t commits row s on is = absurd on
 row_live text t (re_lexes goal) row s on is = by_flag (fits text goal (token_or_default (last_live s.now))) is
   where
     by_flag : (b : Bool) → MatchBool b (IsReLexed text t s.now goal row) (IsNotTaken s.now row)
-        → (after_row (re_lexes goal) row s).now.findings.comments ≡ s.now.findings.comments ++ row.findings.comments
+        → (after_row (re_lexes goal) row s).now.findings.comments ≡ s.now.findings.comments ++ row.comments
     by_flag true is = rw is.taken refl
     by_flag false is =
-        let none : row.findings.comments ≡ [] = ap (λ f. f.comments) is.findings in
+        let none : row.comments ≡ [] = ap (λ f. f.comments) is.findings in
         rw is.taken
         (sym (ap (λ cs. s.now.findings.comments ++ cs) none ∙ append-nil s.now.findings.comments))
 
@@ -85,7 +85,7 @@ rows_live text t s (c ∷ cs) (row ∷ rows) may run =
     ∙ rows_live text t (after_row (effect_of c) row s) cs rows both.1 here.1
     ∙ ap (λ cs. cs ++ comments_of rows)
     (row_live text t (effect_of c) row s (rewrites t c both.0) here.0.gives)
-    ∙ append_assoc s.now.findings.comments row.findings.comments (comments_of rows)
+    ∙ append_assoc s.now.findings.comments row.comments (comments_of rows)
 
 -- A hashbang begins the other text only where one begins the text.
 no_hashbang : (t : SourceType) (text other : List ℕ) → Without t (from_place text 0) (from_place other 0)
@@ -155,10 +155,10 @@ rows_same text other t commands (a ∷ xs) (b ∷ ys) u v may quiet stripped are
     let stand : StandBetween text (piece t) a.token.end more (length text) =
     rows_future text t (state_after_first a) commands xs a.token u may quiet.1 last are.1 in
     let here = clean_onward text t First None 0 (outcome_of a) u start refl quiet.0 read in
-    let whole : StandBetween text (piece t) 0 (a.findings.comments ++ more) (length text) =
-    between_append text (piece t) 0 a.token.start (length text) a.findings.comments more here
+    let whole : StandBetween text (piece t) 0 (a.comments ++ more) (length text) =
+    between_append text (piece t) 0 a.token.start (length text) a.comments more here
     (between_from text (piece t) a.token.start a.token.end (length text) more row.places.token.ordered stand) in
-    let begun : from_place other 0 ≡ chars (stripped_from text 0 (a.findings.comments ++ more)) =
+    let begun : from_place other 0 ≡ chars (stripped_from text 0 (a.comments ++ more)) =
     ap chars (stripped
     ∙ ap (stripped_from text 0) (rows_live text t (state_after_first a) commands xs may are.1)) in
     let zs = left_behind text a.token more in
@@ -173,7 +173,7 @@ rows_same text other t commands (a ∷ xs) (b ∷ ys) u v may quiet stripped are
     hashbang_stands
     (no_hashbang t text other
     (subst (Without t (from_place text 0)) (sym begun)
-    (without_from text t 0 (length text) (a.findings.comments ++ more) u start whole))) in
+    (without_from text t 0 (length text) (a.comments ++ more) u start whole))) in
     let one : g.outcome ≡ outcome_of b =
     goal_reads_unique other t First None 0 g.outcome (outcome_of b) v g.reads other_read in
     let alike = subst (ReadAlike text other zs (outcome_of a)) one g.alike in

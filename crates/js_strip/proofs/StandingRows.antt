@@ -69,8 +69,8 @@ behind_read : (text : List ℕ) (t : SourceType) (effect : Effect) (row : Row) (
     → StandBefore text t (after_row effect row s) row.token
 behind_read text t (reads goal) row s token u on lies at h is =
     let place : row.place ≡ token.end = at ∙ ap (λ l. (token_or_default l).end) h.last_is in
-    let here : StandBetween text (whole_gap_piece t) token.end row.findings.comments row.token.start =
-    subst (λ p. StandBetween text (whole_gap_piece t) p row.findings.comments row.token.start) place
+    let here : StandBetween text (whole_gap_piece t) token.end row.comments row.token.start =
+    subst (λ p. StandBetween text (whole_gap_piece t) p row.comments row.token.start) place
     (onward_stands text t goal (last_live s.now) row.place (outcome_of row) u
     (subst (IsCharBoundary text) (sym place) h.lies.end) on is.reads) in
     record {
@@ -78,7 +78,7 @@ behind_read text t (reads goal) row s token u on lies at h is =
       lies = lies;
       comments =
           between_append text (whole_gap_piece t) 0 token.end row.token.start s.now.findings.comments
-          row.findings.comments
+          row.comments
           (between_to text (whole_gap_piece t) 0 token.start token.end s.now.findings.comments h.lies.ordered
           h.comments) here;
     }
@@ -100,7 +100,7 @@ behind_read text t (re_lexes goal) row s token u off lies at h is =
           lies = lies;
           comments =
               between_append text (whole_gap_piece t) 0 token.start row.token.start s.now.findings.comments
-              row.findings.comments h.comments
+              row.comments h.comments
               (subst (λ cs. StandBetween text (whole_gap_piece t) token.start cs row.token.start) (sym there.no_comment)
               (omega (arith, there.start_is)));
         })
@@ -119,7 +119,7 @@ first_stands text t row u is = record {
   last_is = refl;
   lies = is.places.token;
   comments =
-      subst (λ p. StandBetween text (whole_gap_piece t) p row.findings.comments row.token.start) is.place
+      subst (λ p. StandBetween text (whole_gap_piece t) p row.comments row.token.start) is.place
       (onward_stands text t First None row.place (outcome_of row) u
       (subst (IsCharBoundary text) (sym is.place) (IsCharBoundary-start text u)) refl is.gives.reads);
 }

@@ -84,7 +84,7 @@ onward_gaps text other t JsxAttributeValue token there place q o more u b on no_
 -- A row that reads one token more, in each session.
 reads_alike : (text other : List ℕ) (t : SourceType) (goal : Goal) (s q : State) (token there : TokenParts) (a b : Row)
     (comments : List Comment) → IsUtf8 text → IsUtf8 other → Rewrites t (reads goal) → a.command ≡ b.command
-    → Beside text other t s q token there (left_behind text token (a.findings.comments ++ comments)) → IsQuiet a
+    → Beside text other t s q token there (left_behind text token (a.comments ++ comments)) → IsQuiet a
     → a.place ≡ place_behind_last s.now → b.place ≡ place_behind_last q.now
     → IsOnPlaces text a.token → IsOnPlaces other b.token
     → StandBetween text (piece t) a.token.end comments (length text)
@@ -103,7 +103,7 @@ reads_alike text other t goal s q token there a b comments u v on command h quie
     let gaps =
     onward_gaps text other t goal token there token.end there.end o comments u h.last.lies.end on.0 on.1 read quiet lies
     h.behind stand from_start (child read) in
-    read_step text other t goal s q token there a b (left_behind text token (a.findings.comments ++ comments)) zs u v
+    read_step text other t goal s q token there a b (left_behind text token (a.comments ++ comments)) zs u v
     on command h
     quiet at other_at lies other_lies is other_is gaps (child read) (chars (slice_range text a.token.start a.token.end))
     (chars_between text a.token.start a.token.end u lies.ordered lies.start lies.end)
@@ -115,7 +115,7 @@ reads_alike text other t goal s q token there a b comments u v on command h quie
     child read is_child =
         let found : GoalReads text t JsxChild (Some token) token.end (outcome_of a) =
         subst (λ g. GoalReads text t g (Some token) token.end (outcome_of a)) is_child read in
-        let none : a.findings.comments ≡ [] =
+        let none : a.comments ≡ [] =
         ap (λ (x : Outcome). x.findings.comments) found.outcome_is
         ∙ ap (λ (x : Outcome). x.findings.comments) found.reads.outcome_is in
         let start : a.token.start ≡ token.end =
@@ -127,16 +127,16 @@ reads_alike text other t goal s q token there a b comments u v on command h quie
 -- A row that reads the last token again, in each session.
 again_alike : (text other : List ℕ) (t : SourceType) (goal : Goal) (s q : State) (token there : TokenParts) (a b : Row)
     (comments : List Comment) → IsUtf8 text → IsUtf8 other → Rewrites t (re_lexes goal) → a.command ≡ b.command
-    → Beside text other t s q token there (left_behind text token (a.findings.comments ++ comments)) → IsQuiet a
+    → Beside text other t s q token there (left_behind text token (a.comments ++ comments)) → IsQuiet a
     → IsOnPlaces text a.token → IsLast text (after_row (re_lexes goal) a s) a.token
     → IsLast other (after_row (re_lexes goal) b q) b.token
-    → StandBetween text (piece t) token.end (a.findings.comments ++ comments) (length text)
+    → StandBetween text (piece t) token.end (a.comments ++ comments) (length text)
     → StandBetween text (piece t) a.token.end comments (length text)
     → IsOfEffect text t s.now (re_lexes goal) a → IsOfEffect other t q.now (re_lexes goal) b
     → StepAlike text other t (re_lexes goal) s q a b (left_behind text a.token comments)
 again_alike text other t goal s q token there a b comments u v on command h quiet lies last other_last from_token stand
     is other_is =
-    re_lex_step text other t goal s q token there a b (left_behind text token (a.findings.comments ++ comments))
+    re_lex_step text other t goal s q token there a b (left_behind text token (a.comments ++ comments))
     (left_behind text a.token comments) u v on command h quiet last other_last stands same_left is other_is
   where
     stands : a.taken ≡ true
@@ -161,20 +161,20 @@ again_alike text other t goal s q token there a b comments u v on command h quie
         stand begun
 
     same_left : a.taken ≡ false
-        → left_behind text token (a.findings.comments ++ comments) ≡ left_behind text a.token comments
+        → left_behind text token (a.comments ++ comments) ≡ left_behind text a.token comments
     same_left taken =
         let held = not_taken_is text t goal s a is taken in
         let same : a.token ≡ token = held.token ∙ ap token_or_default h.last.last_is in
-        let none : a.findings.comments ≡ [] = ap (λ f. f.comments) held.findings in
+        let none : a.comments ≡ [] = ap (λ f. f.comments) held.findings in
         ap (λ cs. chars (stripped_from text token.end (cs ++ comments))) none
         ∙ sym (ap (λ (x : TokenParts). chars (stripped_from text x.end comments)) same)
 
 effect_alike : (text other : List ℕ) (t : SourceType) (effect : Effect) (s q : State) (token there : TokenParts)
     (a b : Row) (comments : List Comment) → IsUtf8 text → IsUtf8 other → Rewrites t effect → a.command ≡ b.command
-    → Beside text other t s q token there (left_behind text token (a.findings.comments ++ comments)) → IsQuiet a
+    → Beside text other t s q token there (left_behind text token (a.comments ++ comments)) → IsQuiet a
     → a.place ≡ place_behind_last s.now → b.place ≡ place_behind_last q.now
     → IsOnPlaces text a.token → IsOnPlaces other b.token
-    → StandBetween text (piece t) token.end (a.findings.comments ++ comments) (length text)
+    → StandBetween text (piece t) token.end (a.comments ++ comments) (length text)
     → StandBetween text (piece t) a.token.end comments (length text)
     → IsOfEffect text t s.now effect a → IsOfEffect other t q.now effect b
     → StepAlike text other t effect s q a b (left_behind text a.token comments)

@@ -2,7 +2,6 @@
 #![tactic(auto)]
 
 mod boolean;
-mod boxed_js_str;
 mod characters;
 mod comment;
 mod comment_newlines;
@@ -17,7 +16,6 @@ mod span;
 mod value;
 
 pub use boolean::either;
-pub use boxed_js_str::BoxedJSStr;
 pub use characters::{
     is_identifier_part, is_identifier_start, is_irregular_whitespace, is_line_terminator,
     is_white_space,

@@ -2,7 +2,7 @@
 
 ghost use Rattle.std.specs.Prelude.{◌≡◌, IfOk};
 
-use crate::boxed_js_str::BoxedJSStr;
+use crate::js_str::JSStr;
 use crate::span::Span;
 use std::alloc::{AllocError, Global};
 
@@ -13,9 +13,8 @@ pub enum RowValue {
     Nothing,
     /// This stretch of the source, in bytes.
     Slice(Span),
-    /// These UTF-16 units, since the spelling has escapes, or a CR in a template. They stand in a box, so that a value
-    /// of another form has no room for them.
-    Units(BoxedJSStr),
+    /// These UTF-16 units, since the spelling has escapes, or a CR in a template.
+    Units(JSStr),
     /// A part of a template with an escape that stands for nothing.
     Bad,
 }

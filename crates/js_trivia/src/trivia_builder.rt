@@ -19,8 +19,7 @@ use crate::marks::{mark_no_side_effects_within, mark_pure_within};
 use crate::order::{extend, find_comment, is_past_comments, is_past_spans, new_index};
 use js_kind::{Kind, Token};
 use js_text::{
-    Comment, CommentContent, CommentKind, CommentList, CommentPosition, CommentRange, Span,
-    SpanList,
+    Comment, CommentContent, CommentKind, CommentPosition, CommentRange, Span,
 };
 use std::alloc::{AllocError, Global};
 use std::marker::Model;
@@ -143,9 +142,9 @@ impl TriviaBuilder {
     }
 
     /// Hands out the comments, and leaves none, and no range of them, between two gaps.
-    pub fn take_comments(&mut self) -> CommentList
+    pub fn take_comments(&mut self) -> Vec<Comment>
         requires { self.old.attachment.pending ≡ [] }
-        ensures comments { result ≡ self.old.attachment.attached }
+        ensures comments { result.items ≡ self.old.attachment.attached }
         ensures after { self.new ≡ without_ranges (record self.old {
           attachment = record self.old.attachment { attached = [] };
         }) }
@@ -154,16 +153,16 @@ impl TriviaBuilder {
         self.pure_comments = None;
         self.no_side_effects_comments = None;
         let none = Vec::new(*self.comments.allocator());
-        CommentList::from_vec(std::mem::replace(&mut self.comments, none))
+        std::mem::replace(&mut self.comments, none)
     }
 
     /// Hands out the irregular white space that is listed, and leaves none.
-    pub fn take_irregular_whitespaces(&mut self) -> SpanList
-        ensures spans { result ≡ self.old.irregular_whitespaces }
+    pub fn take_irregular_whitespaces(&mut self) -> Vec<Span>
+        ensures spans { result.items ≡ self.old.irregular_whitespaces }
         ensures after { self.new ≡ record self.old { irregular_whitespaces = [] } }
     {
         let none = Vec::new(*self.irregular_whitespaces.allocator());
-        SpanList::from_vec(std::mem::replace(&mut self.irregular_whitespaces, none))
+        std::mem::replace(&mut self.irregular_whitespaces, none)
     }
 
     /// The irregular white space that is listed, in the order of the text.
