@@ -1,6 +1,9 @@
-//! A value in a box, or none, in the room of a pointer.
+//! A boxed value, or none, in the room of one pointer.
 #![tactic(auto)]
 
+mod loose;
 mod optional_box;
 
+#[doc(hidden)]
+pub use loose::Loose;
 pub use optional_box::OptionalBox;

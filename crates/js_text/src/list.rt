@@ -37,7 +37,7 @@ impl<T> Model for ItemList<T> {
 
     ghost Value = { List T };
 
-    ghost view = { λ l. items_of l.items };
+    ghost view = { λ l. items_of l.items.value };
 }
 
 impl<T> ItemList<T> {
@@ -46,7 +46,7 @@ impl<T> ItemList<T> {
         ensures { result ≡ [] }
     {
         ItemList {
-            items: OptionalBox::none(),
+            items: OptionalBox::none(alloc),
             alloc,
         }
     }
@@ -56,7 +56,8 @@ impl<T> ItemList<T> {
         ensures items { MatchOption result (self.old ≡ []) (λ items. items.value.items ≡ self.old) }
         ensures after { self.new ≡ [] }
     {
-        mem::replace(&mut self.items, OptionalBox::none()).into_box()
+        let none = OptionalBox::none(self.alloc);
+        mem::replace(&mut self.items, none).into_box()
     }
 
     /// How many items there are.

@@ -1,0 +1,4 @@
+mod LooseValues
+mod Tokens
+mod Values
+mod Words
