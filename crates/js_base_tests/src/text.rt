@@ -2,8 +2,8 @@
 
 use bitflags::Flags;
 use js_text::{
-    ByteList, Comment, CommentContent, CommentKind, CommentList, CommentPosition,
-    Diagnostic, DiagnosticList, JSStrBuilder, RegExpFlags, RowValue, SourceText, Span, SpanList,
+    ByteList, Comment, CommentContent, CommentKind, CommentList, CommentPosition, Diagnostic,
+    DiagnosticList, JSStrBuilder, RegExpFlags, RowValue, SourceText, Span, SpanList,
     is_identifier_part, is_identifier_start, is_irregular_whitespace, is_line_terminator,
     is_white_space,
 };

@@ -41,8 +41,7 @@ use js_places::ReservedList;
 use js_reader::{ByteTables, DecodedValues, Findings, FindingsBuilder, Reader, ReadingStart};
 use js_source::{Source, SourcePosition};
 use js_text::{
-    Comment, Diagnostic, DiagnosticList, JsText, SourceType, Span, SpanList,
-    TemplateValue,
+    Comment, Diagnostic, DiagnosticList, JsText, SourceType, Span, SpanList, TemplateValue,
 };
 use js_trivia::TriviaBuilder;
 use std::alloc::{AllocError, Global};

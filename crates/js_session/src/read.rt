@@ -17,11 +17,11 @@ ghost use Rattle.js_session.specs.RowReader.{HoldsValue, IsMadeOf, ReadsRowIfFit
 use crate::command::Command;
 use crate::mark::SessionMark;
 use crate::re_lex::read_again;
+use crate::rooms::TriviaRooms;
 use crate::row::Row;
 use crate::row_list::RowList;
 use js_grammar::Goal;
 use js_kind::{LexerConfig, Token, TokenList};
-use crate::rooms::TriviaRooms;
 use js_lexer::{Findings, Lexer, LexerCheckpoint, is_template, is_valued, text_span};
 use js_text::{JsText, RegexInfo, RowValue, TemplateValue};
 use std::alloc::{AllocError, Global};

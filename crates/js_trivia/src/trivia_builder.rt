@@ -18,9 +18,7 @@ use crate::lengths::TriviaLengths;
 use crate::marks::{mark_no_side_effects_within, mark_pure_within};
 use crate::order::{extend, find_comment, is_past_comments, is_past_spans, new_index};
 use js_kind::{Kind, Token};
-use js_text::{
-    Comment, CommentContent, CommentKind, CommentPosition, CommentRange, Span,
-};
+use js_text::{Comment, CommentContent, CommentKind, CommentPosition, CommentRange, Span};
 use std::alloc::{AllocError, Global};
 use std::marker::Model;
 
