@@ -70,9 +70,10 @@ typedef struct JsSpan {
     uint32_t end;
 } JsSpan;
 
-/* The flags of a token. */
+/* The flags of a token. The first is that of the reading that gave it: a token that was read again, as a regular
+ * expression is from its `/` on, never has it, wherever it stands. */
 enum {
-    JS_TOKEN_ON_NEW_LINE = 1, /* a line has ended before it, or it is the first */
+    JS_TOKEN_ON_NEW_LINE = 1, /* a line has ended in the gap before it, or none was read before it */
     JS_TOKEN_ESCAPED = 2,     /* it has an escape in it, or a line end that its value changes */
     JS_TOKEN_SEPARATOR = 4,   /* it is a number with `_` between its digits */
     JS_TOKEN_BAD_FLAGS = 8    /* a flag of the regular expression is unknown or stands twice */

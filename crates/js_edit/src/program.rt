@@ -2,21 +2,16 @@
 
 ghost use Rattle.std.specs.Process.{exit_status};
 ghost use Rattle.js_lex_tool.specs.Exit.{Tells};
+ghost use Rattle.js_lex_tool.specs.Programs.{js_edit, js_edit_usage};
 ghost use Rattle.js_lex_tool.specs.Status.{line_for};
 ghost use Rattle.js_edit.specs.Run.{RunsWords};
 
 use crate::edit::edit_run;
+use js_lex_tool::programs::{EDIT, EDIT_USAGE};
 use js_lex_tool::{ByteIn, ByteOut, end_program, status_without_words};
 use std::alloc::Global;
 use std::io;
 use std::process::ExitCode;
-
-/// The name of the program.
-const PROGRAM: &str = "js_edit";
-
-/// What it prints where its arguments are not valid.
-const USAGE_LINE: &str =
-    "usage: js_edit module|script|unambiguous START END TEXT COMMAND[*N].. [-- COMMAND[*N]..]";
 
 /// The status of a run of these words, or of none for want of them.
 fn program_status<I: ByteIn, O: ByteOut>(
@@ -43,9 +38,9 @@ pub fn edit_program<I: ByteIn, O: ByteOut, E: ByteOut>(
 ) -> ExitCode
     ensures run { RunsWords words (I.state input.old) (I.state input.new) (O.state output.old) (O.state output.new)
         (exit_status result) }
-    ensures line { Tells (line_for PROGRAM.now USAGE_LINE.now (exit_status result))
+    ensures line { Tells (line_for js_edit js_edit_usage (exit_status result))
         (E.state errors.old) (E.state errors.new) }
 {
     let status = program_status(alloc, words, input, output);
-    end_program(PROGRAM, USAGE_LINE, status, errors)
+    end_program(EDIT, EDIT_USAGE, status, errors)
 }

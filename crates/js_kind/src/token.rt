@@ -114,7 +114,8 @@ impl Token {
         last_byte(self.bits >> KIND)
     }
 
-    /// Whether a line has ended between the token before it and it, or it is the first.
+    /// Whether the reading that gave it found that a line has ended in the gap before it, or inside it where it is a
+    /// comment without an end, or that no token was read before it. One that was read again is on no new line.
     pub fn is_on_new_line(&self) -> bool
         ensures { result ≡ self.now.is_on_new_line }
     {

@@ -7,6 +7,7 @@ pub mod Line
 pub mod Memory
 pub mod Outside
 pub mod Program
+pub mod Programs
 pub mod Reads
 pub mod ReportText
 pub mod Run

@@ -12,6 +12,7 @@ mod memory_in;
 mod memory_out;
 mod outside;
 mod program;
+pub mod programs;
 mod read_all;
 mod report;
 mod report_out;

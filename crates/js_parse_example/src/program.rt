@@ -3,6 +3,7 @@
 ghost use Rattle.std.specs.Prelude.{Some};
 ghost use Rattle.std.specs.Process.{exit_status};
 ghost use Rattle.js_lex_tool.specs.Exit.{Tells};
+ghost use Rattle.js_lex_tool.specs.Programs.{js_parse_example, js_parse_example_usage};
 ghost use Rattle.js_lex_tool.specs.Status.{line_for};
 ghost use Rattle.js_lex_tool.specs.TextRun.{RunsMaker};
 ghost use Rattle.js_parse_example.specs.declared.program.Parse.{Parse};
@@ -10,17 +11,12 @@ ghost use Rattle.js_parse_example.specs.declared.program.Parse.{Parse};
 use crate::parse::parse_text;
 use js_cursor::Cursor;
 use js_kind::RuntimeLexerConfig;
+use js_lex_tool::programs::{PARSE_EXAMPLE, PARSE_EXAMPLE_USAGE};
 use js_lex_tool::{ByteIn, ByteOut, TextMaker, end_program, text_run};
 use js_lexer::Lexer;
 use js_text::SourceType;
 use std::alloc::{AllocError, Global};
 use std::process::ExitCode;
-
-/// The name of the program.
-const PROGRAM: &str = "js_parse_example";
-
-/// What it is called with: nothing.
-const USAGE_LINE: &str = "usage: js_parse_example";
 
 /// What the program does with its input.
 #[derive(Clone, Copy)]
@@ -52,9 +48,9 @@ pub fn parse_program<I: ByteIn, O: ByteOut, E: ByteOut>(
 ) -> ExitCode
     ensures run { (p : Parse) × RunsMaker (λ (q : Parse) source text. Unit {0}) (Some p)
         (I.state input.old) (I.state input.new) (O.state output.old) (O.state output.new) (exit_status result) }
-    ensures line { Tells (line_for PROGRAM.now USAGE_LINE.now (exit_status result))
+    ensures line { Tells (line_for js_parse_example js_parse_example_usage (exit_status result))
         (E.state errors.old) (E.state errors.new) }
 {
     let status = text_run(alloc, Ok(Some(Parse {})), input, output);
-    end_program(PROGRAM, USAGE_LINE, status, errors)
+    end_program(PARSE_EXAMPLE, PARSE_EXAMPLE_USAGE, status, errors)
 }
