@@ -30,7 +30,7 @@ extern "C" {
 enum {
     JS_LEX_MODULE = 0,
     JS_LEX_SCRIPT = 1,
-    JS_LEX_UNAMBIGUOUS = 2 /* a module if it has an import or an export, else a script */
+    JS_LEX_UNAMBIGUOUS = 2 /* not settled: read as a script, with what a module may not have in `deferred` */
 };
 
 /* What a call answers. On any but JS_LEX_OK the lists are as before, and the counts are 0 but for `place`. */
@@ -75,7 +75,7 @@ typedef struct JsSpan {
 enum {
     JS_TOKEN_ON_NEW_LINE = 1, /* a line has ended in the gap before it, or none was read before it */
     JS_TOKEN_ESCAPED = 2,     /* it has an escape in it, or a line end that its value changes */
-    JS_TOKEN_SEPARATOR = 4,   /* it is a number with `_` between its digits */
+    JS_TOKEN_SEPARATOR = 4,   /* it is a number with a `_` right behind a digit */
     JS_TOKEN_BAD_FLAGS = 8    /* a flag of the regular expression is unknown or stands twice */
 };
 
@@ -94,7 +94,8 @@ enum {
 typedef struct JsToken {
     JsSpan span;          /* where it stands */
     JsSpan value;         /* where its value is, by `value_form`; 0 and 0 where it has none */
-    uint32_t pattern_end; /* of a regular expression the offset of the `/` behind its pattern, else 0 */
+    uint32_t pattern_end; /* of a regular expression the offset of the `/` behind its pattern, or the end of the source
+                             where none ends it; else 0 */
     uint8_t kind;         /* js_lex_kind_name names it */
     uint8_t flags;        /* a sum of JS_TOKEN_.. */
     uint8_t regex_flags;  /* of a regular expression its flags, else 0 */
@@ -145,7 +146,7 @@ typedef struct JsLists {
     size_t deferred_room;
     JsComment *comments;
     size_t comment_room;
-    JsSpan *irregular; /* white space other than TAB and SP */
+    JsSpan *irregular; /* white space other than TAB and SP, and U+2028 and U+2029, outside comments */
     size_t irregular_room;
     JsSpan *warnings; /* each `>` in the text of a child of JSX */
     size_t warning_room;
