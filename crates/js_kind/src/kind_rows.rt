@@ -268,7 +268,7 @@ impl Kind {
     }
 
     /// All kinds, in the order of their numbers.
-    pub const VARIANTS: [Kind; COUNT] = with_kinds!(kinds);
+    pub const VARIANTS: [Kind; 171] = with_kinds!(kinds);
 
     /// The name and the text of the kind.
     pub(crate) fn row(self) -> &'static Row

@@ -73,11 +73,11 @@ impl TokenList {
     }
 
     /// Adds a token at the end. Where there is no memory for it, the list stays as it was.
-    pub fn push(&mut self, token: Token) -> Result<(), AllocError>
-        ensures ok { OnOk result (self.new ≡ self.old ++ token ∷ []) }
+    pub fn push(&mut self, item: Token) -> Result<(), AllocError>
+        ensures ok { OnOk result (self.new ≡ self.old ++ item ∷ []) }
         ensures err { OnErr result (self.new ≡ self.old) }
     {
-        self.places.push(token)
+        self.places.push(item)
     }
 
     /// Takes the last token, if there is one.
