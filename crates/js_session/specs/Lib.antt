@@ -4,6 +4,7 @@ pub mod Live
 pub mod Marks
 pub mod Moved
 pub mod Report
+pub mod Restated
 pub mod RowFindings
 pub mod RowReader
 pub mod SameRows

@@ -101,14 +101,14 @@ impl RowList {
     }
 
     /// Moves each row from `index` on in its place; behind the last row there is none. It takes no memory.
-    pub fn shift_behind(&mut self, alloc: Global, index: usize, shift: &Shift)
+    pub fn shift_behind(&mut self, index: usize, shift: &Shift)
         requires fits { AllByRecursion (ShiftFits shift.now.from shift.now.to) (drop index self.old) }
         requires ordered { AllByRecursion (λ row. row.token.start ≤ row.token.end) (drop index self.old) }
         ensures { self.new ≡ take index self.old
             ++ map (shifted_row shift.now.from shift.now.to) (drop index self.old) }
     {
         if index < self.items.len() {
-            shift.move_each_row(alloc, &mut self.items[index..]);
+            shift.move_each_row(&mut self.items[index..]);
         }
     }
 

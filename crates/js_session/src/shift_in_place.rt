@@ -20,7 +20,8 @@ use std::alloc::Global;
 use std::mem;
 
 impl Shift {
-    fn move_place(&self, place: &mut u32)
+    /// Moves the place.
+    pub fn move_place(&self, place: &mut u32)
         requires { FitsShifted self.now.from self.now.to place.old }
         ensures { place.new ≡ shifted self.now.from self.now.to place.old }
     {
@@ -35,7 +36,8 @@ impl Shift {
         self.move_place(&mut span.end);
     }
 
-    pub(crate) fn move_token(&self, token: &mut Token)
+    /// Moves the token.
+    pub fn move_token(&self, token: &mut Token)
         requires start { FitsShifted self.now.from self.now.to token.old.start }
         requires end { FitsShifted self.now.from self.now.to token.old.end }
         requires ordered { token.old.start ≤ token.old.end }
@@ -147,13 +149,15 @@ impl Shift {
         self.move_spans(alloc, &mut found.warnings);
     }
 
-    fn move_row_findings(&self, alloc: Global, found: RowFindings) -> RowFindings
+    fn move_row_findings(&self, found: RowFindings) -> RowFindings
         requires { OfFindings (FitsShifted self.now.from self.now.to) found }
         ensures { result ≡ shifted_findings self.now.from self.now.to found }
     {
         match found.boxed {
             BoxedFindings::Nothing => RowFindings::nothing(),
             BoxedFindings::Lists(mut lists) => {
+                // It is for the empty lists that stand there meanwhile.
+                let alloc = *Box::allocator(&lists);
                 self.move_findings(alloc, lists.as_mut());
                 RowFindings {
                     boxed: BoxedFindings::Lists(lists),
@@ -162,8 +166,8 @@ impl Shift {
         }
     }
 
-    /// Moves the row in its place. It takes no memory: the allocator is for the empty lists that stand there meanwhile.
-    pub fn move_row(&self, alloc: Global, row: &mut Row)
+    /// Moves the row in its place. It takes no memory.
+    pub fn move_row(&self, row: &mut Row)
         requires fits { ShiftFits self.now.from self.now.to row.old }
         requires ordered { row.old.token.start ≤ row.old.token.end }
         ensures { row.new ≡ shifted_row self.now.from self.now.to row.old }
@@ -173,17 +177,17 @@ impl Shift {
         self.move_value(&mut row.value);
         self.move_regex(&mut row.regex);
         let found = mem::replace(&mut row.findings, RowFindings::nothing());
-        row.findings = self.move_row_findings(alloc, found);
+        row.findings = self.move_row_findings(found);
     }
 
     /// Moves each row in its place.
-    pub(crate) fn move_each_row(&self, alloc: Global, rows: &mut [Row])
+    pub(crate) fn move_each_row(&self, rows: &mut [Row])
         requires fits { AllByRecursion (ShiftFits self.now.from self.now.to) rows.old }
         requires ordered { AllByRecursion (λ row. row.token.start ≤ row.token.end) rows.old }
         ensures { rows.new ≡ map (shifted_row self.now.from self.now.to) rows.old }
     {
         for row in rows.iter_mut() {
-            self.move_row(alloc, row);
+            self.move_row(row);
         }
     }
 }

@@ -74,7 +74,7 @@ fn moved_copy(alloc: Global) -> Option<Row> {
 
 fn moved_in_its_place(alloc: Global) -> Option<Row> {
     let mut row = first_row(alloc)?;
-    Shift { from: 0, to: 5 }.move_row(alloc, &mut row);
+    Shift { from: 0, to: 5 }.move_row(&mut row);
     Some(row)
 }
 
@@ -82,7 +82,7 @@ fn moved_in_a_list(alloc: Global) -> Option<RowList> {
     let row = first_row(alloc)?;
     let mut rows = RowList::new_in(alloc);
     rows.push(row).ok()?;
-    rows.shift_behind(alloc, 0, &Shift { from: 0, to: 5 });
+    rows.shift_behind(0, &Shift { from: 0, to: 5 });
     Some(rows)
 }
 
