@@ -302,7 +302,7 @@ none_local t line_has_ended c cs ys zs agree no_comment =
     (λ _. some_none _ _) (λ none. none)))))))
 
 -- a piece of a whole gap takes something
-whole_takes : (t : SourceType) (line_has_ended : Bool) (cs : List ℕ) (x : Piece)
+pub whole_takes : (t : SourceType) (line_has_ended : Bool) (cs : List ℕ) (x : Piece)
     → whole_gap_piece t line_has_ended cs ≡ Some x → length x.rest < length cs
 whole_takes t line_has_ended cs x e = by_test (is_reported t line_has_ended cs) refl
   where

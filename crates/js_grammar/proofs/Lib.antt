@@ -49,6 +49,7 @@ pub mod NumberSpans
 pub mod NumberSteps
 pub mod NumberWhole
 pub mod NumbersAhead
+pub mod OutcomesWithin
 pub mod PieceLemmas
 pub mod Printable
 pub mod PunctuatorLemmas
@@ -57,6 +58,7 @@ pub mod QuotedAnywhere
 pub mod QuotedReadings
 pub mod QuotedValues
 pub mod ReadingLemmas
+pub mod ReadingsWithin
 pub mod ReadingsAhead
 pub mod Reported
 pub mod Spans

@@ -33,7 +33,7 @@ use Rattle.js_kind.specs.declared.kind.Kind.{Kind}
 use Rattle.js_kind.specs.declared.kind.Kind.TheVariants.{Eof, Decimal, DecimalBigInt, Float, Octal}
 
 -- The text is the characters of the items and what is left behind them, and their kind is none of names.
-record IsNumberCut (text : List ℕ) (number : Items) : Type 0 where
+pub record IsNumberCut (text : List ℕ) (number : Items) : Type 0 where
   pub here : text ≡ items_text number.items ++ number.rest
   pub unmarked : is_marked number.kind ≡ false
 
@@ -137,9 +137,12 @@ legacy_cut text =
           }))
     ]
 
--- The items reach so far, or to the end of the source where a digit is missing behind a prefix.
-abbrev Reaches : List ℕ → Items → Type 0
-Reaches text number = ((number.kind ≡ Eof) × (number.rest ≡ [])) ⊎ IsNumberCut text number
+-- The items reach so far, or to the end of the source where a digit is missing behind a prefix; the text begins with
+-- their characters.
+abbrev pub Reaches : List ℕ → Items → Type 0
+Reaches text number =
+    ((number.kind ≡ Eof) × (number.rest ≡ []) × ((left : List ℕ) × (text ≡ items_text number.items ++ left)))
+    ⊎ IsNumberCut text number
 
 prefixed_reaches : (c : ℕ) (cs : List ℕ) (base : Base) → base_of c ≡ Some base
     → Reaches (digit_zero ∷ c ∷ cs)
@@ -148,7 +151,16 @@ prefixed_reaches c cs base letter =
     let digits = run base.radix cs in
     let kinds = base_kinds c base letter in
     elim (true_or_false digits.lacks_digit) [
-      | inl broken ↦ rw (behind_prefix_broken base digits broken) (inl (refl, refl))
+      | inl broken ↦
+          rw (behind_prefix_broken base digits broken) (inl (
+            refl,
+            refl,
+            (
+              digits.rest,
+              ap (λ t. digit_zero ∷ c ∷ t)
+                  (run_text base.radix cs ∙ ap (λ xs. xs ++ digits.rest) (sym (append-nil digits.text))),
+            ),
+          ))
       | inr complete ↦ (
           let without = no_items base.kind digits.rest in
           let more = suffix_or base.big_kind without digits.rest in
@@ -171,7 +183,7 @@ zero_reaches None cs e =
       | inr none ↦ rw (zero_decimal (digit_zero ∷ cs) none) (inr (decimal_cut (digit_zero ∷ cs)))
     ]
 
-number_reaches : (text : List ℕ) → Reaches text (number_items text)
+pub number_reaches : (text : List ℕ) → Reaches text (number_items text)
 number_reaches [] =
     rw (number_decimal [] refl refl) (inr (decimal_cut []))
 number_reaches (c ∷ cs) =
@@ -226,7 +238,7 @@ number_characters here begun =
           rw (read_well here number well)
           (elim (number_reaches here) [
             | inl broken ↦
-                (record { leaves = inl broken; unmarked = ap is_marked broken.0 ∙ unnamed.4 })
+                (record { leaves = inl (broken.0, broken.1); unmarked = ap is_marked broken.0 ∙ unnamed.4 })
             | inr cut ↦ (record {
               leaves = inr (items_text number.items, some_characters here begun well cut, cut.here);
               unmarked = cut.unmarked;

@@ -32,7 +32,7 @@ last_replaced o t [] token = refl
 last_replaced o t (u ∷ us) token = last_replaced (Some t) u us token
 
 -- The last live token lies on the text behind a row, if it did before and the row's token does.
-lies_behind : (text : List ℕ) (effect : Effect) (row : Row) (s : State) → IsOnPlaces text row.token
+pub lies_behind : (text : List ℕ) (effect : Effect) (row : Row) (s : State) → IsOnPlaces text row.token
     → IfSome (last_live s.now) (IsOnPlaces text) → IfSome (last_live (after_row effect row s).now) (IsOnPlaces text)
 lies_behind text (reads goal) row s token last =
     subst (λ o. IfSome o (IsOnPlaces text)) (sym (last_or-push None s.now.tokens row.token)) token

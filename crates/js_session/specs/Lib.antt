@@ -4,6 +4,7 @@ pub mod Live
 pub mod Marks
 pub mod Moved
 pub mod Report
+pub mod Restated
 pub mod RowReader
 pub mod SameRows
 pub mod Session

@@ -165,6 +165,13 @@ pub fn a_run_lies_behind_its_front()
         → AllByRecursion (OfEachPlace (λ place. length before ≤ place)) rows }
 {}
 
+/// Each place of a run of steps, from where the last live token lies on the text, is one of the text or its end.
+pub fn a_run_lies_within_its_text()
+    ensures { (text : List ℕ) (t : SourceType) (s : State) (commands : List Command) (rows : List Row) → IsUtf8 text
+        → IfSome (last_live s.now) (IsOnPlaces text) → list_all is_step commands ≡ true → Run text t s commands rows
+        → AllByRecursion (OfEachPlace (λ place. place ≤ length text)) rows }
+{}
+
 /// A session may go on behind rows that stay.
 pub fn a_session_may_go_on_behind_rows_that_stay()
     ensures { (text : List ℕ) (t : SourceType) (commands : List Command) (first : Row) (rows : List Row)

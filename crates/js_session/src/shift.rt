@@ -107,6 +107,21 @@ impl Shift {
         Some(moved)
     }
 
+    /// Copies of the diagnostics, moved.
+    pub fn moved_diagnostics(
+        &self,
+        alloc: Global,
+        diagnostics: &[Diagnostic],
+    ) -> Result<DiagnosticList, AllocError>
+        requires { All (OfDiagnostic (FitsShifted self.now.from self.now.to)) diagnostics.now }
+        ensures { IfOk result (λ moved. moved ≡ map (shifted_diagnostic self.now.from self.now.to) diagnostics.now) }
+    {
+        let mut moved = DiagnosticList::new_in(alloc);
+        moved.extend_from_slice(diagnostics)?;
+        self.move_diagnostics(&mut moved);
+        Ok(moved)
+    }
+
     /// Copies of the diagnostics, moved. None where a place of one is no `u32` then.
     pub fn diagnostics(
         &self,
@@ -120,10 +135,23 @@ impl Shift {
         if !self.diagnostics_fit(diagnostics) {
             return Ok(None);
         }
-        let mut moved = DiagnosticList::new_in(alloc);
-        moved.extend_from_slice(diagnostics)?;
-        self.move_diagnostics(&mut moved);
+        let moved = self.moved_diagnostics(alloc, diagnostics)?;
         Ok(Some(moved))
+    }
+
+    /// Copies of the comments, moved.
+    pub fn moved_comments(
+        &self,
+        alloc: Global,
+        comments: &[Comment],
+    ) -> Result<CommentList, AllocError>
+        requires { All (OfComment (FitsShifted self.now.from self.now.to)) comments.now }
+        ensures { IfOk result (λ moved. moved ≡ map (shifted_comment self.now.from self.now.to) comments.now) }
+    {
+        let mut moved = CommentList::new_in(alloc);
+        moved.extend_from_slice(comments)?;
+        self.move_comments(&mut moved);
+        Ok(moved)
     }
 
     /// Copies of the comments, moved. None where a place of one is no `u32` then.
@@ -139,10 +167,19 @@ impl Shift {
         if !self.comments_fit(comments) {
             return Ok(None);
         }
-        let mut moved = CommentList::new_in(alloc);
-        moved.extend_from_slice(comments)?;
-        self.move_comments(&mut moved);
+        let moved = self.moved_comments(alloc, comments)?;
         Ok(Some(moved))
+    }
+
+    /// Copies of the spans, moved.
+    pub fn moved_spans(&self, alloc: Global, spans: &[Span]) -> Result<SpanList, AllocError>
+        requires { All (OfSpan (FitsShifted self.now.from self.now.to)) spans.now }
+        ensures { IfOk result (λ moved. moved ≡ map (shifted_span self.now.from self.now.to) spans.now) }
+    {
+        let mut moved = SpanList::new_in(alloc);
+        moved.extend_from_slice(spans)?;
+        self.move_spans(&mut moved);
+        Ok(moved)
     }
 
     /// Copies of the spans, moved. None where an end of one is no `u32` then.
@@ -154,10 +191,19 @@ impl Shift {
         if !self.spans_fit(spans) {
             return Ok(None);
         }
-        let mut moved = SpanList::new_in(alloc);
-        moved.extend_from_slice(spans)?;
-        self.move_spans(&mut moved);
+        let moved = self.moved_spans(alloc, spans)?;
         Ok(Some(moved))
+    }
+
+    /// A copy of the row, moved.
+    pub fn moved_row(&self, alloc: Global, row: &Row) -> Result<Row, AllocError>
+        requires fits { ShiftFits self.now.from self.now.to row.now }
+        requires ordered { row.now.token.start ≤ row.now.token.end }
+        ensures { IfOk result (λ moved. moved ≡ shifted_row self.now.from self.now.to row.now) }
+    {
+        let mut moved = row.copy(alloc)?;
+        self.move_row(&mut moved);
+        Ok(moved)
     }
 
     /// A copy of the row, moved. None where a place of it is no `u32` then.
@@ -170,8 +216,7 @@ impl Shift {
         if !self.fits(row) {
             return Ok(None);
         }
-        let mut moved = row.copy(alloc)?;
-        self.move_row(&mut moved);
+        let moved = self.moved_row(alloc, row)?;
         Ok(Some(moved))
     }
 }

@@ -17,7 +17,8 @@ use js_text::{
 };
 
 impl Shift {
-    fn move_place(&self, place: &mut u32)
+    /// Moves the place.
+    pub fn move_place(&self, place: &mut u32)
         requires { FitsShifted self.now.from self.now.to place.old }
         ensures { place.new ≡ shifted self.now.from self.now.to place.old }
     {
@@ -32,7 +33,8 @@ impl Shift {
         self.move_place(&mut span.end);
     }
 
-    pub(crate) fn move_token(&self, token: &mut Token)
+    /// Moves the token.
+    pub fn move_token(&self, token: &mut Token)
         requires start { FitsShifted self.now.from self.now.to token.old.start }
         requires end { FitsShifted self.now.from self.now.to token.old.end }
         requires ordered { token.old.start ≤ token.old.end }
