@@ -252,14 +252,18 @@ impl<'a, C: LexerConfig + Drop> Model for RowReader<'a, C> {
 }
 
 impl<'a, C: LexerConfig + Drop> RowReader<'a, C> {
-    /// Nothing is read from the lexer yet.
-    pub fn new(alloc: Global, lexer: Lexer<'a, C>) -> Result<RowReader<'a, C>, AllocError>
+    /// Nothing is read from the lexer yet. There is room for so many rows, where there is memory for it.
+    pub fn new(
+        alloc: Global,
+        lexer: Lexer<'a, C>,
+        rows: usize,
+    ) -> Result<RowReader<'a, C>, AllocError>
         ensures { IfOk result (λ r. r ≡ record { lexer = lexer.entry; rows = []; tokens = [] }) }
     {
         Ok(RowReader {
             lexer,
             alloc,
-            rows: RowList::new_in(alloc),
+            rows: RowList::with_room(alloc, rows),
             tokens: TokenList::new_in(alloc),
             rooms: TriviaRooms::new(alloc)?,
         })
@@ -273,7 +277,7 @@ impl<'a, C: LexerConfig + Drop> RowReader<'a, C> {
     ) -> Result<RowReader<'a, C>, AllocError>
         ensures { IfOk result (λ r. r ≡ record { lexer = lexer.entry; rows = []; tokens = token ∷ [] }) }
     {
-        let mut reader = RowReader::new(alloc, lexer)?;
+        let mut reader = RowReader::new(alloc, lexer, 0)?;
         reader.tokens.push(token)?;
         Ok(reader)
     }

@@ -35,6 +35,16 @@ impl RowList {
         }
     }
 
+    /// A list of no rows, with room for so many where there is memory for it.
+    pub(crate) fn with_room(alloc: Global, rows: usize) -> RowList
+        ensures { result ≡ [] }
+    {
+        match Vec::with_capacity(alloc, rows) {
+            Ok(items) => RowList { items },
+            Err(_) => RowList::new_in(alloc),
+        }
+    }
+
     /// The rows as a vector.
     pub fn into_vec(self) -> Vec<Row>
         ensures { result.items ≡ self }

@@ -23,6 +23,10 @@ use std::alloc::{AllocError, Global};
 use std::marker::Model;
 use std::sync::ledger::Ledger;
 
+/// A token of usual code takes some nine bytes with its gap: room is made for a row every so many bytes, so that rows are
+/// seldom copied while their list grows.
+const BYTES_OF_A_ROW: usize = 8;
+
 /// A session over a source text: its lexer, its rows, the live tokens, and the open marks, with places that are free
 /// for more.
 #[derive(Drop)]
@@ -71,7 +75,7 @@ impl<'a, C: LexerConfig + Drop> Session<'a, C> {
             Err(fault) => return Err(fault),
         };
         steps.tick();
-        let mut reader = match RowReader::new(alloc, lexer) {
+        let mut reader = match RowReader::new(alloc, lexer, text.len() / BYTES_OF_A_ROW) {
             Ok(reader) => reader,
             Err(_) => return Err(NewFault::Memory),
         };
