@@ -1,2 +1,3 @@
 pub mod Reserved
 pub mod Memory
+pub mod Places

@@ -1,10 +1,11 @@
 //! A block of memory, as a row of places that are empty or hold an item.
-ghost use Rattle.std.specs.Prelude.{◌≡◌, ℕ, ◌<◌, ◌≤◌, take, IfOk, ⊤};
+ghost use Rattle.std.specs.Prelude.{◌≡◌, ℕ, ◌<◌, ◌≤◌, take, replicate, false, IfOk, ⊤};
 ghost use Rattle.std.specs.Vec.Ownership.{FitsInBlock};
 ghost use Rattle.std.specs.Mem.Slots.{slots_items, slots_filled, slots_ptr, slots_len};
 ghost use Rattle.std.specs.Mem.Slots.Ownership.{Filled};
 ghost use denote.RawPtr.{Ptr, block_ptr, block_of, count_of};
 ghost use Rattle.js_places.specs.Memory.{deed_owns};
+ghost use Rattle.js_places.specs.Places.{IsEmptyFrom};
 
 use core::slots::Slots;
 use std::alloc::{AllocError, Allocator};
@@ -48,7 +49,8 @@ pub(crate) fn hollow<T, A: Allocator>(_alloc: &A) -> (Slots<T>, Base<T>, Deed<T,
         × (result.1.ptr ≡ slots_ptr result.0)
         × (result.2.at ≡ slots_ptr result.0)
         × (result.2.len ≡ 0)
-        × (result.2.alloc ≡ _alloc.now) }
+        × (result.2.alloc ≡ _alloc.now)
+        × (slots_filled result.0 ≡ replicate 0 false) }
 {
     let mut place = ();
     let ptr = &raw mut place as *mut T;
@@ -67,7 +69,8 @@ pub(crate) fn allocate<T, A: Allocator>(
         × (r.1.ptr ≡ slots_ptr r.0)
         × (r.2.at ≡ slots_ptr r.0)
         × (r.2.len ≡ len)
-        × (r.2.alloc ≡ alloc.now)) }
+        × (r.2.alloc ≡ alloc.now)
+        × (slots_filled r.0 ≡ replicate len false)) }
 {
     match alloc.allocate(len * size_of::<T>(), align_of::<T>()) {
         Ok(block) => {
@@ -79,9 +82,12 @@ pub(crate) fn allocate<T, A: Allocator>(
     }
 }
 
-/// Gives the block back. What its places hold is forgotten.
+/// Gives the block back. No place holds an item, since none would be dropped.
 pub(crate) fn deallocate<T, A: Allocator>(alloc: &A, row: Slots<T>, deed: Deed<T, A>)
-    requires { (deed.at ≡ slots_ptr row) × (deed.len ≡ slots_len row) × (deed.alloc ≡ alloc.now) }
+    requires { (deed.at ≡ slots_ptr row)
+        × (deed.len ≡ slots_len row)
+        × (deed.alloc ≡ alloc.now)
+        × IsEmptyFrom (slots_filled row) 0 }
 {
     let Deed { mark: _ } = deed;
     let (ptr, len) = unsafe { row.into_raw_parts() };

@@ -22,6 +22,7 @@ impl<T> Model for ReservedList<T> {
     ghost use Rattle.std.specs.Prelude.{◌≤◌, ◌-◌, take};
     ghost use Rattle.std.specs.Mem.Slots.{slots_items, slots_filled, slots_len};
     ghost use Rattle.std.specs.Mem.Slots.Ownership.{Filled};
+    ghost use Rattle.js_places.specs.Places.{IsEmptyFrom};
     ghost use Rattle.js_places.specs.Reserved.{Reserved};
 
     ghost Value = { Reserved T };
@@ -32,7 +33,10 @@ impl<T> Model for ReservedList<T> {
     } };
 
     ghost invariant = { λ l.
-        (l.used ≤ l.limit) × (l.limit ≤ slots_len l.block.row) × Filled (slots_filled l.block.row) 0 l.used };
+        (l.used ≤ l.limit)
+        × (l.limit ≤ slots_len l.block.row)
+        × Filled (slots_filled l.block.row) 0 l.used
+        × IsEmptyFrom (slots_filled l.block.row) l.used };
 }
 
 impl<T> ReservedList<T> {
@@ -94,7 +98,7 @@ impl<T> ReservedList<T> {
         ensures items { self.new.items ≡ self.old.items ++ item ∷ [] }
         ensures free { self.new.free + 1 ≡ self.old.free }
     {
-        self.block.row.put(self.used, item);
+        self.block.put(self.used, item);
         self.used += 1;
     }
 
@@ -116,7 +120,7 @@ impl<T> ReservedList<T> {
         if self.block.len() < next {
             self.block.grow(self.used, next)?;
         }
-        self.block.row.put(self.used, item);
+        self.block.put(self.used, item);
         self.used = next;
         self.limit = next;
         Ok(())
@@ -130,8 +134,8 @@ impl<T> ReservedList<T> {
         ensures { self.new ≡ record self.old { items = with_last self.old.items item } }
     {
         if let Some(last) = self.used.checked_sub(1) {
-            drop(self.block.row.take(last));
-            self.block.row.put(last, item);
+            drop(self.block.take(last));
+            self.block.put(last, item);
         }
     }
 
@@ -139,14 +143,14 @@ impl<T> ReservedList<T> {
     #[inline]
     pub fn truncate(&mut self, len: usize)
     where
-        T: Copy,
+        T: Drop,
         ensures { self.new ≡ record {
           items = take len self.old.items;
           free = self.old.free + (length self.old.items - len);
         } }
     {
-        if len < self.used {
-            self.used = len;
+        for _cut in 0..self.len().saturating_sub(len) {
+            drop(self.pop());
         }
     }
 
@@ -159,7 +163,7 @@ impl<T> ReservedList<T> {
     {
         let last = self.used.checked_sub(1)?;
         self.used = last;
-        Some(self.block.row.take(last))
+        Some(self.block.take(last))
     }
 
     /// Makes at least `more` places free. Where there is no memory for them, the list stays as it was.
@@ -209,12 +213,9 @@ impl<T> ReservedList<T> {
     }
 }
 
-// Behind the items lie at most some that `truncate` took back, which need no drop, since they are `Copy`.
 impl<T: Drop> Drop for ReservedList<T> {
     fn drop(mut self) {
-        for _item in 0..self.used {
-            drop(self.pop());
-        }
+        self.truncate(0);
         let ReservedList {
             block,
             used: _,

@@ -72,7 +72,7 @@ allocate_spec 𝓤 𝓛 𝓜 𝓡 wired T A L LA g d dd met md =
     let y : (walk_of 𝓛 En hs c).Ghost = ((κs, qs, bounds, a, (shr_vals a.0, (vint w64 n ∷ [], tt))), tt) in
     let Out = RS.the_row (Whole E Z) AE.the_row in let Post : Val → SProp 𝓤 = (walk_of 𝓛 En hs c).post y in
     let exits : (r : Out.Denot) (v : Val) → IfOk r (λ t. (t.0.len ≡ n) × (t.1.ptr ≡ t.0.ptr) × (t.2.at ≡ t.0.ptr) ×
-    (t.2.len ≡ n) × (t.2.alloc ≡ a.0.now))
+    (t.2.len ≡ n) × (t.2.alloc ≡ a.0.now) × (t.0.filled ≡ replicate n false))
     → ent 𝓤 (⋆ 𝓛 (‵ (Out.own_val r (v ∷ [])) ∷ ‵ (flft κ q) ∷ ‵ (flft κ₁ q₁) ∷ (‵ (flft κ₂ q₂) ⊛ ‵ ftrue) ∷ []))
     (Post v) = λ r v told.
     qed 𝓛 (‵ (Out.own_val r (v ∷ [])) ∷ ‵ (flft κ q) ∷ ‵ (flft κ₁ q₁) ∷ (‵ (flft κ₂ q₂) ⊛ ‵ ftrue) ∷ []) ∵
@@ -144,7 +144,14 @@ allocate_spec 𝓤 𝓛 𝓜 𝓡 wired T A L LA g d dd met md =
     use2 𝓛 (‵ ((Whole E Z).own_val w (got_val ∷ []))) (whole_made E Z 𝓛 b o n a.0.now r) $
     use1 𝓛 (‵ (Out.own_val (Ok w) (live 0 (vcons got_val vnil) ∷ []))) (ok_of 𝓛 (Whole E Z) AE.the_row w got_val) $
     returns ! (look_at ! 0 refl) $ free_all ! refl $ keep ! (0 ∷ 3 ∷ 1 ∷ 2 ∷ []) $
-    by ! (exits (Ok w) (live 0 (vcons got_val vnil)) (told.1, sym told.0, sym told.0, refl, refl))))))
+    by ! (exits (Ok w) (live 0 (vcons got_val vnil)) (
+      told.1,
+      sym told.0,
+      sym told.0,
+      refl,
+      refl,
+      told.3 ∙ ap (λ k. replicate k false) long,
+    ))))))
     (λ e.
     let none : Val = live 1 (vcons (vstruct vnil) vnil) in let Refusal : RattleType =
     Struct (Declared.shape AE.the_type) in

@@ -26,6 +26,7 @@ use types.Run.{bin, size_word, align_word, branches, skips}
 use Rattle.core.proofs.mem.Param.{elτ}
 use Rattle.core.proofs.slots.Places.{to_room}
 use Rattle.js_places.specs.Memory.{deed_owns}
+use Rattle.js_places.specs.Places.{IsEmptyFrom}
 use Rattle.core.proofs.alloc.Calls.{Al, token, Gives, at_gives, Gives-goes, Gives-Gives}
 use Rattle.core.proofs.slots.Leases.{P, args, uncapped, block_ty, block_size, block_align}
 use Rattle.core.proofs.slots.Opens.{row_val, row_had, row_made}
@@ -71,7 +72,7 @@ deallocate_spec 𝓤 𝓛 𝓜 𝓡 wired T A L LA g d dd met md =
     feq_i ! (List Val) (vunit ∷ []) (vunit ∷ []) refl $ move ! (2 ∷ 3 ∷ []) $ join ! $ move ! (2 ∷ 0 ∷ []) $ join ! $
     nothing ! $ nothing ! $ fjoin ! $ nothing ! $ nothing ! $ fjoin3 ! $ move ! (0 ∷ 2 ∷ []) $ join ! $
     move ! (1 ∷ 0 ∷ []) $ join ! $ nothing ! $ move ! (1 ∷ 0 ∷ []) $ done ! in
-    let Ok : Type 0 = (k.at ≡ h.ptr) × (k.len ≡ n) × (k.alloc ≡ a) in
+    let Ok : Type 0 = (k.at ≡ h.ptr) × (k.len ≡ n) × (k.alloc ≡ a) × IsEmptyFrom h.filled 0 in
     qed 𝓛 (((‵ (flft κ q) ⊛ ‵ (flft κ₁ q₁) ⊛ ‵ (flft κ₂ q₂) ⊛ ‵ ftrue) ⊛
     ‵ (owns (types_at En.signature.params y.0.0) y.0.3 vss)) ∷ (raw (fact 𝓤 (κ₁ ⊑ T.lives)) ⊛
     raw (fact 𝓤 (κ₂ ⊑ A.lives)) ⊛ raw (fact 𝓤 Ok)) ∷ []) ∵

@@ -71,6 +71,6 @@ hollow_spec 𝓤 𝓛 𝓜 𝓡 wired T A L LA g d dd met md =
     use2 𝓛 (‵ ((Whole E Z).own_val (made E Z r b zero zero a.0.now) (whole_val b zero zero ∷ [])))
     (whole_made E Z 𝓛 b zero zero a.0.now r) $
     suffices ! _ (ends_at 𝓛 En hs c y (whole_val b zero zero) (made E Z r b zero zero a.0.now) (tt, tt) (tt, tt)) $
-    let told = got.1 in says ! (told.1, sym told.0, sym told.0, refl, refl) $
+    let told = got.1 in says ! (told.1, sym told.0, sym told.0, refl, refl, told.3) $
     move ! (1 ∷ 3 ∷ []) $ join ! $ move ! (2 ∷ 0 ∷ []) $ join ! $ nothing ! $ nothing ! $ fjoin ! $
     move ! (1 ∷ 0 ∷ []) $ done !))))))
