@@ -3,7 +3,8 @@
 use crate::run::strings_of;
 use js_lex_tool::status::USAGE_LINE;
 use js_lex_tool::{
-    MemoryOut, SureIn, SureOut, end_lex, end_program, lex_program, line_for, status_line, words_behind_name,
+    MemoryOut, SureIn, SureOut, end_lex, end_program, lex_program, line_for, status_line,
+    words_behind_name,
 };
 use std::alloc::{AllocError, Global};
 use std::process::ExitCode;

@@ -25,10 +25,9 @@ pub loop-buf-preserved : goal.loop-buf-preserved
 loop-buf-preserved g c =
     let few : c.in-Took.count ≤ length c.read.new.buf = search rules in
     let same = bytes_behind (c.extend_from_slice.new.self) _ _ _ _ c.in_ok-extend_from_slice-in-Took.ensures.ok few in
-    let more = length_behind (c.extend_from_slice.new.self) _ _ (c.in-Took.count) same few in
-    (
+    let more = length_behind (c.extend_from_slice.new.self) _ _ (c.in-Took.count) same few in (
       subst (Consumes _ _) (sym same)
-      (Consumes-trans _ _ _ _ _ c.loop-buf.invariant.0 c.in-Took.ensures.bytes),
+          (Consumes-trans _ _ _ _ _ c.loop-buf.invariant.0 c.in-Took.ensures.bytes),
       search (rules, more),
       search rules,
       search rules,
