@@ -7,7 +7,7 @@ use Rattle.js_session.specs.Report.{ReportOf}
 use Rattle.js_session.specs.declared.command.Command.{Command}
 use Rattle.js_session.specs.declared.report.Report.{Report}
 use Rattle.js_auto.specs.Auto.{ReportOfChosen}
-use Rattle.js_lex_c.specs.Faults.{out_of_memory}
+use Rattle.js_lex_c.specs.Faults.{LacksMemory}
 use Rattle.js_lex_c.specs.Lists.{Answers, AreListsOf, Ends, Held, ListsOfChosen, ListsOfCommands, lists_of}
 use Rattle.js_lex_c.specs.declared.fault.Fault.{Fault}
 use Rattle.js_lex_c.specs.declared.fill.JsCounts.{JsCounts}
@@ -44,11 +44,11 @@ command_lists source t commands report lists h marks is = record {
 }
 
 -- What was found is what is answered.
-pub answers : (Are : ReportLists → Type 0) (Causes : Fault → Type 0) (found : Result ReportLists Fault) (answer : ℕ)
-    (old new : Held) (counts : JsCounts)
-    → MatchResult found Are (λ fault. (fault ≡ out_of_memory) ⊎ Causes fault) → Ends found answer old new counts
-    → Answers Are Causes answer old new counts
-answers Are Causes (Ok lists) answer old new counts is e =
+pub answers : (source_type : ℕ) (Are : ReportLists → Type 0) (Causes : Fault → Type 0)
+    (found : Result ReportLists Fault) (answer : ℕ) (old new : Held) (counts : JsCounts)
+    → MatchResult found Are (λ fault. LacksMemory source_type fault ⊎ Causes fault) → Ends found answer old new counts
+    → Answers source_type Are Causes answer old new counts
+answers source_type Are Causes (Ok lists) answer old new counts is e =
     inl (e.0, record { lists = lists; are = is; filled = e.1; counted = e.2 })
-answers Are Causes (Err fault) answer old new counts is e =
+answers source_type Are Causes (Err fault) answer old new counts is e =
     inr (record { fault = fault; cause = is; number = e.0; untouched = e.1; counted = e.2 })

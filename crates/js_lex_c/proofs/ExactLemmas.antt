@@ -1,5 +1,5 @@
 -- A call has one fault at most, so that each cause has its answer.
-use Rattle.std.proofs.Common.{◌≡◌, ◌⊎◌, ℕ, zero, suc, ◌<◌, List, [], ◌∷◌, length, map, get_or, refl, sym, ◌∙◌, ap}
+use Rattle.std.proofs.Common.{◌≡◌, ◌⊎◌, ℕ, zero, suc, ◌<◌, ◌≤◌, List, [], ◌∷◌, length, map, get_or, refl, sym, ◌∙◌, ap}
 use Rattle.std.proofs.Common.{subst, arith, inl, inr}
 use Rattle.std.proofs.lemmas.Bool.{cases_lt}
 use Rattle.std.proofs.lemmas.List.{length-map}
@@ -18,28 +18,39 @@ use Rattle.js_lex_c.specs.declared.gather.ReportLists.{ReportLists}
 use Rattle.js_lex_c.proofs.NumberLemmas.{command_below, source_type_below}
 
 -- What a call answers, where its causes exclude one another and exclude that it gives lists.
-exactly : (Are : ReportLists → Type 0) (Causes : Fault → Type 0) (answer : ℕ) (old new : Held) (counts : JsCounts)
-    → Answers Are Causes answer old new counts
+exactly : (number : ℕ) (Are : ReportLists → Type 0) (Causes : Fault → Type 0) (answer : ℕ) (old new : Held)
+    (counts : JsCounts) → Answers number Are Causes answer old new counts
     → ((lists : ReportLists) (fault : Fault) → Are lists → ¬ (Causes fault))
     → ((a b : Fault) → Causes a → Causes b → a ≡ b)
     → (fault : Fault) → Causes fault → (answer ≡ fault_number fault) ⊎ (answer ≡ 1)
-exactly Are Causes answer old new counts (inl given) none one fault cause =
+exactly number Are Causes answer old new counts (inl given) none one fault cause =
     absurd (none given.1.lists fault given.1.are cause)
-exactly Are Causes answer old new counts (inr refused) none one fault cause =
+exactly number Are Causes answer old new counts (inr refused) none one fault cause =
     elim refused.cause [
-      | inl memory ↦ inr (refused.number ∙ ap fault_number memory)
+      | inl lacks ↦ inr (refused.number ∙ ap fault_number lacks.memory)
       | inr found ↦ inl (refused.number ∙ ap fault_number (one refused.fault fault found cause))
     ]
 
 -- What it answers where there is no cause.
-completely : (Are : ReportLists → Type 0) (Causes : Fault → Type 0) (answer : ℕ) (old new : Held)
-    (counts : JsCounts) → Answers Are Causes answer old new counts → ((fault : Fault) → ¬ (Causes fault))
+completely : (number : ℕ) (Are : ReportLists → Type 0) (Causes : Fault → Type 0) (answer : ℕ) (old new : Held)
+    (counts : JsCounts) → Answers number Are Causes answer old new counts → ((fault : Fault) → ¬ (Causes fault))
     → (answer ≡ 0) ⊎ (answer ≡ 1)
-completely Are Causes answer old new counts (inl given) none = inl given.0
-completely Are Causes answer old new counts (inr refused) none =
+completely number Are Causes answer old new counts (inl given) none = inl given.0
+completely number Are Causes answer old new counts (inr refused) none =
     elim refused.cause [
-      | inl memory ↦ inr (refused.number ∙ ap fault_number memory)
+      | inl lacks ↦ inr (refused.number ∙ ap fault_number lacks.memory)
       | inr found ↦ absurd (none refused.fault found)
+    ]
+
+-- An unknown source type is answered by 13, where this is the only cause.
+unknown : (number : ℕ) (Are : ReportLists → Type 0) (Causes : Fault → Type 0) (answer : ℕ) (old new : Held)
+    (counts : JsCounts) → Answers number Are Causes answer old new counts → ((lists : ReportLists) → ¬ (Are lists))
+    → ((fault : Fault) → Causes fault → fault ≡ UnknownSourceType) → 3 ≤ number → answer ≡ 13
+unknown number Are Causes answer old new counts (inl given) none one past = absurd (none given.1.lists given.1.are)
+unknown number Are Causes answer old new counts (inr refused) none one past =
+    elim refused.cause [
+      | inl lacks ↦ absurd (omega (arith, lacks.known, past))
+      | inr found ↦ refused.number ∙ ap fault_number (one refused.fault found)
     ]
 
 auto_none : (source : List ℕ) (number : ℕ) (fault : Fault) → IsReadable source → number < 3
@@ -61,10 +72,10 @@ auto_one source number (Lex f) (Lex g) c d =
     ap Lex (cause_unique source [] f g (source_cause source [] f c.1) (source_cause source [] g d.1))
 
 pub auto_exactly : (source : List ℕ) (number answer : ℕ) (old new : Held) (counts : JsCounts)
-    → Answers (AutoLists source number) (AutoFaultCause source number) answer old new counts
+    → Answers number (AutoLists source number) (AutoFaultCause source number) answer old new counts
     → (fault : Fault) → AutoFaultCause source number fault → (answer ≡ fault_number fault) ⊎ (answer ≡ 1)
 auto_exactly source number answer old new counts a =
-    exactly (AutoLists source number) (AutoFaultCause source number) answer old new counts a
+    exactly number (AutoLists source number) (AutoFaultCause source number) answer old new counts a
     (λ lists fault are.
     let h = are.are_lists.chosen.report_is in
     auto_none source number fault (record { short = h.short; utf8 = h.utf8 })
@@ -72,11 +83,19 @@ auto_exactly source number answer old new counts a =
     (auto_one source number)
 
 pub auto_completely : (source : List ℕ) (number answer : ℕ) (old new : Held) (counts : JsCounts)
-    → Answers (AutoLists source number) (AutoFaultCause source number) answer old new counts
+    → Answers number (AutoLists source number) (AutoFaultCause source number) answer old new counts
     → IsReadable source → number < 3 → (answer ≡ 0) ⊎ (answer ≡ 1)
 auto_completely source number answer old new counts a h few =
-    completely (AutoLists source number) (AutoFaultCause source number) answer old new counts a
+    completely number (AutoLists source number) (AutoFaultCause source number) answer old new counts a
     (λ fault. auto_none source number fault h few)
+
+pub auto_unknown : (source : List ℕ) (number answer : ℕ) (old new : Held) (counts : JsCounts)
+    → Answers number (AutoLists source number) (AutoFaultCause source number) answer old new counts
+    → 3 ≤ number → answer ≡ 13
+auto_unknown source number answer old new counts a past =
+    unknown number (AutoLists source number) (AutoFaultCause source number) answer old new counts a
+    (λ lists are. omega (arith, are.type_is, source_type_below are.source_type, past))
+    (λ fault cause. auto_one source number fault UnknownSourceType cause past) past
 
 command_one : (a b : Command) → command_number a ≡ command_number b → a ≡ b
 command_one = tag_one command_type tt
@@ -149,10 +168,10 @@ steps_one source number numbers (Lex f) (Lex g) c d =
     (subst (λ cs. Cause source cs g) (same_commands numbers d.1.0 c.1.0 d.1.1 c.1.1) d.1.2))
 
 pub steps_exactly : (source : List ℕ) (number : ℕ) (numbers : List ℕ) (answer : ℕ) (old new : Held) (counts : JsCounts)
-    → Answers (StepLists source number numbers) (StepsFaultCause source number numbers) answer old new counts
+    → Answers number (StepLists source number numbers) (StepsFaultCause source number numbers) answer old new counts
     → (fault : Fault) → StepsFaultCause source number numbers fault → (answer ≡ fault_number fault) ⊎ (answer ≡ 1)
 steps_exactly source number numbers answer old new counts a =
-    exactly (StepLists source number numbers) (StepsFaultCause source number numbers) answer old new counts a
+    exactly number (StepLists source number numbers) (StepsFaultCause source number numbers) answer old new counts a
     (λ lists fault are.
     let h = are.are_lists.report_is in
     steps_none source number numbers are.commands fault (record { short = h.short; utf8 = h.utf8 })
@@ -161,9 +180,17 @@ steps_exactly source number numbers answer old new counts a =
 
 pub steps_completely : (source : List ℕ) (number : ℕ) (numbers : List ℕ) (answer : ℕ) (old new : Held)
     (counts : JsCounts)
-    → Answers (StepLists source number numbers) (StepsFaultCause source number numbers) answer old new counts
+    → Answers number (StepLists source number numbers) (StepsFaultCause source number numbers) answer old new counts
     → (commands : List Command) → IsReadable source → number < 3 → map command_number commands ≡ numbers
     → HasMarks commands → (answer ≡ 0) ⊎ (answer ≡ 1)
 steps_completely source number numbers answer old new counts a commands h few is marks =
-    completely (StepLists source number numbers) (StepsFaultCause source number numbers) answer old new counts a
+    completely number (StepLists source number numbers) (StepsFaultCause source number numbers) answer old new counts a
     (λ fault. steps_none source number numbers commands fault h few is marks)
+
+pub steps_unknown : (source : List ℕ) (number : ℕ) (numbers : List ℕ) (answer : ℕ) (old new : Held) (counts : JsCounts)
+    → Answers number (StepLists source number numbers) (StepsFaultCause source number numbers) answer old new counts
+    → 3 ≤ number → answer ≡ 13
+steps_unknown source number numbers answer old new counts a past =
+    unknown number (StepLists source number numbers) (StepsFaultCause source number numbers) answer old new counts a
+    (λ lists are. omega (arith, are.type_is, source_type_below are.source_type, past))
+    (λ fault cause. steps_one source number numbers fault UnknownSourceType cause past) past

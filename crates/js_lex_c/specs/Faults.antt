@@ -41,6 +41,11 @@ pub record FirstUnknown (numbers : List ℕ) (index : ℕ) : Type 0 where
   pub unknown : command_count ≤ slice_index numbers index
   pub earlier : (i : ℕ) → i < index → slice_index numbers i < command_count
 
+-- There was no memory, and the number is that of a source type: this is tested before memory is asked for.
+pub record LacksMemory (number : ℕ) (fault : Fault) : Type 0 where
+  pub memory : fault ≡ out_of_memory
+  pub known : number < source_type_count
+
 -- the cause of a fault of the numbers of commands
 abbrev pub CommandsFault : List ℕ → Fault → Type 0
 CommandsFault numbers UnknownSourceType = ⊥

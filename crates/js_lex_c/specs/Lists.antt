@@ -6,7 +6,7 @@ use Rattle.js_session.specs.Report.{ReportOf}
 use Rattle.js_session.specs.declared.command.Command.{Command}
 use Rattle.js_session.specs.declared.report.Report.{Report}
 use Rattle.js_auto.specs.Auto.{ReportOfChosen}
-use Rattle.js_lex_c.specs.Faults.{fault_number, fault_place, out_of_memory}
+use Rattle.js_lex_c.specs.Faults.{LacksMemory, fault_number, fault_place}
 use Rattle.js_lex_c.specs.Filled.{filled}
 use Rattle.js_lex_c.specs.LiveRows.{live_rows}
 use Rattle.js_lex_c.specs.Numbers.{command_number, source_type_number}
@@ -142,10 +142,11 @@ pub record Gives (Are : ReportLists → Type 0) (old new : Held) (counts : JsCou
   pub filled : AreFilled lists old new
   pub counted : counts ≡ counts_of lists
 
--- The call found a fault, which has its cause, and left the lists as they were.
-pub record Refuses (Cause : Fault → Type 0) (answer : ℕ) (old new : Held) (counts : JsCounts) : Type 0 where
+-- The call found a fault, which has its cause, or no memory, and left the lists as they were.
+pub record Refuses (source_type : ℕ) (Cause : Fault → Type 0) (answer : ℕ) (old new : Held) (counts : JsCounts)
+    : Type 0 where
   pub fault : Fault
-  pub cause : (fault ≡ out_of_memory) ⊎ Cause fault
+  pub cause : LacksMemory source_type fault ⊎ Cause fault
   pub number : answer ≡ fault_number fault
   pub untouched : new ≡ old
   pub counted : counts ≡ fault_counts fault
@@ -157,6 +158,6 @@ Ends (Err fault) answer old new counts =
     (answer ≡ fault_number fault) × (new ≡ old) × (counts ≡ fault_counts fault)
 
 -- The call answers 0 and gives such lists, or another number for a fault.
-abbrev pub Answers : (ReportLists → Type 0) → (Fault → Type 0) → ℕ → Held → Held → JsCounts → Type 0
-Answers Are Cause answer old new counts =
-    ((answer ≡ 0) × Gives Are old new counts) ⊎ Refuses Cause answer old new counts
+abbrev pub Answers : ℕ → (ReportLists → Type 0) → (Fault → Type 0) → ℕ → Held → Held → JsCounts → Type 0
+Answers source_type Are Cause answer old new counts =
+    ((answer ≡ 0) × Gives Are old new counts) ⊎ Refuses source_type Cause answer old new counts

@@ -1,6 +1,6 @@
 //! The calls that fill lists.
 
-ghost use Rattle.std.specs.Prelude.{◌≡◌, ◌⊎◌, ◌<◌, List, map};
+ghost use Rattle.std.specs.Prelude.{◌≡◌, ◌⊎◌, ◌<◌, ◌≤◌, List, map};
 ghost use Rattle.js_session.specs.Faults.{HasMarks, IsReadable};
 ghost use Rattle.js_session.specs.declared.command.Command.{Command};
 ghost use Rattle.js_lex_c.specs.Faults.{AutoFaultCause, StepsFaultCause, fault_number};
@@ -37,7 +37,8 @@ fn end(found: Result<ReportLists, Fault>, out: &mut JsLists<'_>, counts: &mut Js
 /// token more than the source has bytes always suffices.
 ///
 /// It answers 0; 1 without memory; 6 where the source is not UTF-8, whose longest beginning that is has
-/// `counts.place` bytes; 11 where it has 2^32 bytes or more; 13 for another source type. Then the lists are as before.
+/// `counts.place` bytes; 11 where it has 2^32 bytes or more; 13 for another source type, and then nothing else. Behind
+/// each but 0 the lists are as before.
 #[unsafe(no_mangle)]
 pub extern "C" fn js_lex_auto(
     alloc: Global,
@@ -46,9 +47,11 @@ pub extern "C" fn js_lex_auto(
     out: &mut JsLists<'_>,
     counts: &mut JsCounts,
 ) -> u32
-    ensures answer { Answers (AutoLists source.now source_type) (AutoFaultCause source.now source_type) result
-        (held out.old) (held out.new) counts.new }
+    ensures answer { Answers source_type (AutoLists source.now source_type) (AutoFaultCause source.now source_type)
+        result (held out.old) (held out.new) counts.new }
     ensures places { StayInPlace out.old out.new }
+    // The number of a source type is tested first, before memory is asked for.
+    ensures unknown { source_type_count ≤ source_type → result ≡ 13 }
     // Where a fault has its cause, or nothing is at fault, nothing but a lack of memory comes in the place of what is
     // answered.
     ensures exact { (fault : Fault) → AutoFaultCause source.now source_type fault
@@ -72,9 +75,10 @@ pub extern "C" fn js_lex_steps(
     out: &mut JsLists<'_>,
     counts: &mut JsCounts,
 ) -> u32
-    ensures answer { Answers (StepLists source.now source_type commands.now)
+    ensures answer { Answers source_type (StepLists source.now source_type commands.now)
         (StepsFaultCause source.now source_type commands.now) result (held out.old) (held out.new) counts.new }
     ensures places { StayInPlace out.old out.new }
+    ensures unknown { source_type_count ≤ source_type → result ≡ 13 }
     ensures exact { (fault : Fault) → StepsFaultCause source.now source_type commands.now fault
         → (result ≡ fault_number fault) ⊎ (result ≡ 1) }
     ensures complete { (list : List Command) → IsReadable source.now → source_type < source_type_count

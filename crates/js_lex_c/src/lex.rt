@@ -2,7 +2,7 @@
 
 ghost use Rattle.std.specs.Prelude.{◌≡◌, ◌⊎◌, MatchResult};
 ghost use Rattle.js_session.specs.Faults.{Cause, SourceCause};
-ghost use Rattle.js_lex_c.specs.Faults.{AutoFaultCause, StepsFaultCause, out_of_memory};
+ghost use Rattle.js_lex_c.specs.Faults.{AutoFaultCause, LacksMemory, StepsFaultCause};
 ghost use Rattle.js_lex_c.specs.Lists.{AutoLists, ListsOfChosen, ListsOfCommands, StepLists};
 
 use crate::fault::Fault;
@@ -57,7 +57,7 @@ pub(crate) fn auto_lists(
     source_type: u32,
 ) -> Result<ReportLists, Fault>
     ensures { MatchResult result (AutoLists source.now source_type)
-        (λ fault. (fault ≡ out_of_memory) ⊎ AutoFaultCause source.now source_type fault) }
+        (λ fault. LacksMemory source_type fault ⊎ AutoFaultCause source.now source_type fault) }
 {
     match source_type_of(source_type) {
         Some(known) => match lists_of_chosen(alloc, source, known) {
@@ -76,7 +76,7 @@ pub(crate) fn step_lists(
     commands: &[u8],
 ) -> Result<ReportLists, Fault>
     ensures { MatchResult result (StepLists source.now source_type commands.now)
-        (λ fault. (fault ≡ out_of_memory) ⊎ StepsFaultCause source.now source_type commands.now fault) }
+        (λ fault. LacksMemory source_type fault ⊎ StepsFaultCause source.now source_type commands.now fault) }
 {
     let Some(known) = source_type_of(source_type) else {
         return Err(Fault::UnknownSourceType);

@@ -31,9 +31,9 @@ pub struct JsToken {
     pub pattern_end: u32,
     /// The number of its kind.
     pub kind: u8,
-    /// A sum: 1 where a line has ended in the gap before it, or none was read before it, and it was not read again; 2
-    /// where it has an escape; 4 where it is a number with separators; 8 where a flag of a regular expression is unknown
-    /// or stands twice.
+    /// A sum: 1 where a line has ended in what its reading passed before it, or it is the first; 2 where it has an
+    /// escape; 4 where it is a number with separators; 8 where a flag of a regular expression is unknown or stands
+    /// twice. A token that was read again was read from its start on, and so has no 1.
     pub flags: u8,
     /// The flags of a regular expression, one bit each in the order of `gimsuydv`; of any other token 0.
     pub regex_flags: u8,

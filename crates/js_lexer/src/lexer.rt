@@ -624,7 +624,7 @@ impl<'a, C: LexerConfig + Drop> Lexer<'a, C> {
         TokenList::from_places(std::mem::replace(&mut self.tokens, ReservedList::new_in(alloc)))
     }
 
-    /// What `rewind` goes back to: places and lengths alone, so it takes no memory.
+    /// What `rewind` goes back to: places and lengths alone, so it succeeds without memory.
     pub fn checkpoint(&self) -> LexerCheckpoint
         ensures state { result ≡ checkpoint_of self.now }
         ensures open { CanRewind self.now result }

@@ -1,14 +1,15 @@
 use Rattle.js_lex_c.specs.Faults.{AutoFaultCause}
 use Rattle.js_lex_c.specs.Lists.{Answers, AutoLists, held}
 use Rattle.js_lex_c.proofs.AnswerLemmas.{answers}
-use Rattle.js_lex_c.proofs.ExactLemmas.{auto_completely, auto_exactly}
+use Rattle.js_lex_c.proofs.ExactLemmas.{auto_completely, auto_exactly, auto_unknown}
 use Rattle.js_lex_c.proofs.calls.js_lex_auto.Goals as goal
 
-answer : (c : goal.After-end) → Answers (AutoLists c.args.source.now c.args.source_type)
+answer : (c : goal.After-end) → Answers c.args.source_type (AutoLists c.args.source.now c.args.source_type)
     (AutoFaultCause c.args.source.now c.args.source_type) c.end.result (held c.args.out.now) (held c.end.new.out)
     c.end.new.counts
 answer c =
-    answers (AutoLists c.args.source.now c.args.source_type) (AutoFaultCause c.args.source.now c.args.source_type)
+    answers c.args.source_type (AutoLists c.args.source.now c.args.source_type)
+    (AutoFaultCause c.args.source.now c.args.source_type)
     c.auto_lists-found.result c.end.result (held c.args.out.now) (held c.end.new.out) c.end.new.counts
     c.auto_lists-found.ensures c.end.ensures.ends
 
@@ -23,4 +24,9 @@ returns-clause-exact c =
 pub returns-clause-complete : goal.returns-clause-complete
 returns-clause-complete c =
     auto_completely c.args.source.now c.args.source_type c.end.result (held c.args.out.now) (held c.end.new.out)
+    c.end.new.counts (answer c)
+
+pub returns-clause-unknown : goal.returns-clause-unknown
+returns-clause-unknown c =
+    auto_unknown c.args.source.now c.args.source_type c.end.result (held c.args.out.now) (held c.end.new.out)
     c.end.new.counts (answer c)

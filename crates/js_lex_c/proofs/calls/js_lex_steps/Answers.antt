@@ -1,14 +1,15 @@
 use Rattle.js_lex_c.specs.Faults.{StepsFaultCause}
 use Rattle.js_lex_c.specs.Lists.{Answers, StepLists, held}
 use Rattle.js_lex_c.proofs.AnswerLemmas.{answers}
-use Rattle.js_lex_c.proofs.ExactLemmas.{steps_completely, steps_exactly}
+use Rattle.js_lex_c.proofs.ExactLemmas.{steps_completely, steps_exactly, steps_unknown}
 use Rattle.js_lex_c.proofs.calls.js_lex_steps.Goals as goal
 
-answer : (c : goal.After-end) → Answers (StepLists c.args.source.now c.args.source_type c.args.commands.now)
+answer : (c : goal.After-end)
+    → Answers c.args.source_type (StepLists c.args.source.now c.args.source_type c.args.commands.now)
     (StepsFaultCause c.args.source.now c.args.source_type c.args.commands.now) c.end.result (held c.args.out.now)
     (held c.end.new.out) c.end.new.counts
 answer c =
-    answers (StepLists c.args.source.now c.args.source_type c.args.commands.now)
+    answers c.args.source_type (StepLists c.args.source.now c.args.source_type c.args.commands.now)
     (StepsFaultCause c.args.source.now c.args.source_type c.args.commands.now) c.step_lists-found.result c.end.result
     (held c.args.out.now) (held c.end.new.out) c.end.new.counts c.step_lists-found.ensures c.end.ensures.ends
 
@@ -23,4 +24,9 @@ returns-clause-exact c =
 pub returns-clause-complete : goal.returns-clause-complete
 returns-clause-complete c =
     steps_completely c.args.source.now c.args.source_type c.args.commands.now c.end.result (held c.args.out.now)
+    (held c.end.new.out) c.end.new.counts (answer c)
+
+pub returns-clause-unknown : goal.returns-clause-unknown
+returns-clause-unknown c =
+    steps_unknown c.args.source.now c.args.source_type c.args.commands.now c.end.result (held c.args.out.now)
     (held c.end.new.out) c.end.new.counts (answer c)
