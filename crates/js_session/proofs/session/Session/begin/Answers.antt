@@ -11,5 +11,5 @@ unread lexer = record { lexer = lexer; rows = []; tokens = [] }
 pub returns-in-Ok-add_row-clause-ok : goal.returns-in-Ok-add_row-clause-ok
 returns-in-Ok-add_row-clause-ok g c =
     rw (c.new_in.ensures.items, c.new_in.ensures.free)
-    (first_added c.args.text.now c.args.source_type (g.C.LexerConfig.collects c.args.config) c.new-reader.result
-    c.add_row.new.self (c.new-reader.ensures ∙ ap unread c.in-Ok.ensures.ok) c.in-Ok-add_row.ensures.ok)
+    (first_added c.args.text.now c.args.source_type (g.C.LexerConfig.collects c.args.config) c.in-Ok-new.reader
+    c.add_row.new.self (c.in-Ok-new.ensures ∙ ap unread c.in-Ok.ensures.ok) c.in-Ok-add_row.ensures.ok)
