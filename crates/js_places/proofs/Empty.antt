@@ -1,17 +1,11 @@
 -- Places that hold nothing, where items come or go.
-use Rattle.std.proofs.Common.{◌≡◌, ◌≢◌, ℕ, zero, suc, ◌+◌, ◌<◌, ◌≤◌, List, [], ◌∷◌, ◌++◌, length, take, refl, sym, ap}
-use Rattle.std.proofs.Common.{◌∙◌, arith, below_more, get_or-set_other, get_or-set_same}
+use Rattle.std.proofs.Common.{◌≡◌, ◌≢◌, ℕ, zero, suc, ◌+◌, ◌-◌, ◌<◌, ◌≤◌, List, [], ◌∷◌, ◌++◌, length, take, refl, sym, ap}
+use Rattle.std.proofs.Common.{◌∙◌, ⊎_elim, arith, below_more, get_or-set_other, get_or-set_same}
+use Rattle.std.proofs.lemmas.Bool.{cases_eq}
 use Rattle.std.proofs.lemmas.List.{take_more, take_more_set}
-use Rattle.std.proofs.Math.ListN.{replicate}
 use Rattle.std.specs.Prelude.{Bool, true, false, slice_index_or, slice_set}
 use Rattle.std.specs.Mem.Slots.Ownership.{Filled}
 use Rattle.js_places.specs.Places.{IsEmptyFrom}
-
--- New places are empty.
-pub new_are_empty : (n : ℕ) → IsEmptyFrom (replicate n false) 0
-new_are_empty zero k h = refl
-new_are_empty (suc n) zero h = refl
-new_are_empty (suc n) (suc k) h = new_are_empty n k (omega arith)
 
 -- A place that an item is taken from is empty.
 pub taken_is_empty : (fs : List Bool) (n : ℕ) → slice_index_or (slice_set fs n false) n false ≡ false
@@ -28,14 +22,19 @@ empty_behind (f ∷ fs) (suc n) none zero h = absurd (omega arith)
 empty_behind (f ∷ fs) (suc n) none (suc k) h =
     empty_behind fs n (λ j le. none (suc j) (omega arith)) k (omega arith)
 
--- Where an item is taken from a place, it and those behind it are empty, if those were.
-pub empty_from : (fs : List Bool) (n : ℕ) → IsEmptyFrom fs (n + 1) → IsEmptyFrom (slice_set fs n false) n
-empty_from [] n none k h = refl
-empty_from (f ∷ fs) zero none zero h = refl
-empty_from (f ∷ fs) zero none (suc k) h = none (suc k) (omega arith)
-empty_from (f ∷ fs) (suc n) none zero h = absurd (omega arith)
-empty_from (f ∷ fs) (suc n) none (suc k) h =
-    empty_from fs n (λ j le. none (suc j) (omega arith)) k (omega arith)
+-- Where the last item is taken, the places before it are filled, and no other.
+pub last_taken : (fs : List Bool) (left : ℕ) → 0 < left → Filled fs 0 left → IsEmptyFrom fs left
+    → Filled (slice_set fs (left - 1) false) 0 (left - 1) × IsEmptyFrom (slice_set fs (left - 1) false) (left - 1)
+last_taken fs left some full none = (
+  λ k low high. let ne : k ≢ left - 1 = omega (arith, high) in
+      get_or-set_other fs (left - 1) k false false ne ∙ full k low (omega (arith, high)),
+  λ k low. ⊎_elim
+      (λ (same : k ≡ left - 1).
+      ap (λ n. slice_index_or (slice_set fs (left - 1) false) n false) same ∙ taken_is_empty fs (left - 1))
+      (λ (ne : k ≢ left - 1).
+      get_or-set_other fs (left - 1) k false false ne ∙ none k (omega (arith, low, ne, some)))
+      (cases_eq k (left - 1)),
+)
 
 -- The first n of the items xs of a row were moved to the same places of another, whose items are ys. All first `count`
 -- places of the one were filled before, and none of the other.

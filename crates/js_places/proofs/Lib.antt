@@ -1,6 +1,5 @@
 pub mod Empty
 pub mod Items
-pub mod Kept
 pub mod Names
 pub mod Rows
 pub mod Values

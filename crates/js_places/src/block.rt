@@ -100,6 +100,22 @@ impl<T> Block<T> {
         self.row.take(at)
     }
 
+    /// Drops the items from the place `from` on. The first `count` places hold items, and no other.
+    #[inline]
+    pub(crate) fn cut(&mut self, from: usize, count: usize)
+    where
+        T: Drop,
+        requires filled { (count ≤ slots_len self.old.row) × Filled (slots_filled self.old.row) 0 count }
+        requires all { IsEmptyFrom (slots_filled self.old.row) count }
+        requires ordered { from ≤ count }
+        ensures items { slots_items self.new.row ≡ slots_items self.old.row }
+        ensures filled { Filled (slots_filled self.new.row) 0 from }
+        ensures all { IsEmptyFrom (slots_filled self.new.row) from }
+        ensures len { slots_len self.new.row ≡ slots_len self.old.row }
+    {
+        drop_behind(&mut self.row, from, count);
+    }
+
     /// Moves the first `count` items, which are all, to a block of at least `len` places, and of twice as many as now.
     /// Where there is no memory for it, all stays as it was.
     #[inline(never)]
@@ -149,5 +165,23 @@ fn move_items<T>(row: &mut Slots<T>, other: &mut Slots<T>, count: usize)
 {
     for at in 0..count {
         row.move_to(at, other, at);
+    }
+}
+
+/// Drops the items from the place `from` on. The first `count` places hold items, and no other.
+#[inline]
+fn drop_behind<T: Drop>(row: &mut Slots<T>, from: usize, count: usize)
+    requires filled { (count ≤ slots_len row.old) × Filled (slots_filled row.old) 0 count }
+    requires all { IsEmptyFrom (slots_filled row.old) count }
+    requires ordered { from ≤ count }
+    ensures items { slots_items row.new ≡ slots_items row.old }
+    ensures filled { Filled (slots_filled row.new) 0 from }
+    ensures all { IsEmptyFrom (slots_filled row.new) from }
+    ensures places { SamePlaces row.old row.new }
+{
+    let mut left = count;
+    while from < left {
+        left -= 1;
+        drop(row.take(left));
     }
 }

@@ -139,7 +139,7 @@ impl<T> ReservedList<T> {
         }
     }
 
-    /// Keeps the first `len` items; a shorter list stays as it is. The places of the others are free then.
+    /// Keeps the first `len` items, and drops the others, whose places are free then; a shorter list stays as it is.
     #[inline]
     pub fn truncate(&mut self, len: usize)
     where
@@ -149,9 +149,11 @@ impl<T> ReservedList<T> {
           free = self.old.free + (length self.old.items - len);
         } }
     {
-        for _cut in 0..self.len().saturating_sub(len) {
-            drop(self.pop());
+        if self.used <= len {
+            return;
         }
+        self.block.cut(len, self.used);
+        self.used = len;
     }
 
     /// Takes the last item, if there is one. Its place is free then.
