@@ -1,1 +1,3 @@
+pub mod Covering
+pub mod Stops
 pub mod TreeSteps

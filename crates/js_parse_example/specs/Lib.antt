@@ -1,2 +1,4 @@
 pub mod Arrow
+pub mod Covered
+pub mod Shown
 pub mod Trees

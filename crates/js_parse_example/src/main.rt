@@ -4,6 +4,7 @@
 
 mod arrow;
 mod brackets;
+mod cover;
 mod expression;
 mod fault;
 mod node;
