@@ -1,6 +1,7 @@
 pub mod AgainSteps
 pub mod CheckpointSteps
 pub mod FindingLaws
+pub mod GivenTexts
 pub mod GoesOn
 pub mod LexerSteps
 pub mod ListSteps

@@ -11,7 +11,7 @@ ghost use Rattle.js_grammar.specs.declared.goal.Goal.{Goal};
 ghost use Rattle.js_kind.specs.Kinds.{is_identifier_name};
 ghost use Rattle.js_kind.specs.TokenParts.{TokenParts};
 ghost use Rattle.js_trivia.specs.Marks.{IsRangeOf, marked_within};
-ghost use Rattle.js_lexer.specs.Laws.{IsNameOfWord, IsStringOfItems};
+ghost use Rattle.js_lexer.specs.Laws.{IsNameOfWord, IsStringOfItems, KeepsTexts, GivesValue};
 ghost use Rattle.js_lexer.specs.Lexer.{LexerState, ReadsToken, LexesAgain, Peeks, GoesOnFrom, Checkpoint, CanRewind};
 ghost use Rattle.js_lexer.specs.Lexer.{with_comments};
 ghost use Rattle.js_lexer.specs.Places.{AreCalls, IsBeforeEnd};
@@ -46,6 +46,17 @@ pub fn a_string_has_the_units_of_its_items()
     ensures { (goal : Goal) (old new : LexerState) (token : TokenParts) → IsUtf8 old.text → is_plain goal ≡ true
         → (read : ReadsToken goal old token new) → read.outcome.findings.diagnostics ≡ []
         → token.kind ≡ Kind.Str → IsStringOfItems old.text read.outcome }
+{}
+
+/// What `get_string`, `get_js_string` and `get_template_string` answer for a token that was read, read again or peeked
+/// at is the value of its reading, whatever was read, read again, peeked at or taken back since: no value is lost.
+pub fn a_text_is_the_value_of_its_reading()
+    ensures read { (goal : Goal) (old new later : LexerState) (token : TokenParts) → IsUtf8 old.text
+        → (read : ReadsToken goal old token new) → KeepsTexts new later → GivesValue later token read.outcome.value }
+    ensures again { (goal : Goal) (old new later : LexerState) (token : TokenParts) → IsUtf8 old.text
+        → (read : LexesAgain goal old token new) → KeepsTexts new later → GivesValue later token read.outcome.value }
+    ensures peek { (old new later : LexerState) (token : TokenParts) → IsUtf8 old.text
+        → (peek : Peeks old token new) → KeepsTexts new later → GivesValue later token peek.outcome.value }
 {}
 
 /// A lexer that reads, or reads its last token again, goes on from where it was.

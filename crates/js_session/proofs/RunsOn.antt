@@ -14,7 +14,7 @@ use Rattle.js_session.specs.Report.{IsRow, Run, AreRows, HasMark, LiesOnPlaces, 
 use Rattle.js_session.specs.Report.{all_collected}
 use Rattle.js_kind.specs.TokenParts.{TokenParts}
 use Rattle.js_session.specs.Session.{SessionState, Begins, AddsRow, Follows, HasRun, HasRunFrom, RunsFrom}
-use Rattle.js_session.specs.Session.{after_command, report_of, resumed}
+use Rattle.js_session.specs.Session.{after_command, report_of, resumed, state_behind}
 use Rattle.js_session.proofs.RunLemmas.{run_step, run_mark, state_step, state_mark}
 
 -- What answers more commands from the state behind some, answers all from the state before them.
@@ -110,21 +110,34 @@ run_resumed text t collects token = record {
 }
 
 -- the same, whatever number of places for marks is free
+runs_reserved : (text : List ℕ) (t : SourceType) (collects : Bool) (start : State) (before : List Row)
+    (commands : List Command) (s : SessionState) (spare : ℕ) → RunsFrom text t collects start before commands s
+    → RunsFrom text t collects start before commands (record s { spare = spare })
+runs_reserved text t collects start before commands s spare h = record {
+  text_is = h.text_is;
+  type_is = h.type_is;
+  collects_is = h.collects_is;
+  rows = h.rows;
+  rows_are = h.rows_are;
+  answers = h.answers;
+  state = h.state;
+}
+
 pub run_reserved : (text : List ℕ) (t : SourceType) (collects : Bool) (commands : List Command) (s : SessionState)
     (spare : ℕ) → HasRun text t collects commands s → HasRun text t collects commands (record s { spare = spare })
 run_reserved text t collects commands s spare h = record {
   first = h.first;
   is_first = h.is_first;
-  runs = record {
-    text_is = h.runs.text_is;
-    type_is = h.runs.type_is;
-    collects_is = h.runs.collects_is;
-    rows = h.runs.rows;
-    rows_are = h.runs.rows_are;
-    answers = h.runs.answers;
-    state = h.runs.state;
-  };
+  runs =
+      runs_reserved text t collects (state_after_first h.first) (h.first ∷ []) commands s spare
+      h.runs;
 }
+
+pub run_reserved_from : (text : List ℕ) (t : SourceType) (collects : Bool) (token : TokenParts)
+    (commands : List Command) (s : SessionState) (spare : ℕ) → HasRunFrom text t collects token commands s
+    → HasRunFrom text t collects token commands (record s { spare = spare })
+run_reserved_from text t collects token commands s spare h =
+    runs_reserved text t collects (state_behind token) [] commands s spare h
 
 -- one step more
 run_adds : (text : List ℕ) (t : SourceType) (collects : Bool) (start : State) (before : List Row)

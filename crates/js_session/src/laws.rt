@@ -54,12 +54,15 @@ pub fn a_session_begins_with_no_command()
         → HasRun text t collects [] s }
 {}
 
-/// A session that has run commands has run the same ones whatever number of places for marks is free, as after more
-/// were reserved.
+/// A session that has run commands, from its start or from behind a token, has run the same ones whatever number of
+/// places for marks is free, as after more were reserved.
 pub fn reserving_marks_is_no_command()
-    ensures { (text : List ℕ) (t : SourceType) (collects : Bool) (commands : List Command) (s : SessionState)
-        (spare : ℕ) → HasRun text t collects commands s
+    ensures from_start { (text : List ℕ) (t : SourceType) (collects : Bool) (commands : List Command)
+        (s : SessionState) (spare : ℕ) → HasRun text t collects commands s
         → HasRun text t collects commands (record s { spare = spare }) }
+    ensures from_token { (text : List ℕ) (t : SourceType) (collects : Bool) (token : TokenParts)
+        (commands : List Command) (s : SessionState) (spare : ℕ) → HasRunFrom text t collects token commands s
+        → HasRunFrom text t collects token commands (record s { spare = spare }) }
 {}
 
 /// A session that follows a command has run one more.

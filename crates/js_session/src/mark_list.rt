@@ -1,7 +1,7 @@
 //! The open marks of a session.
 
 ghost use Rattle.std.specs.Prelude.{◌≡◌, ◌<◌, ◌≤◌, ◌+◌, ◌↔◌, [], ◌∷◌, ◌++◌, length, IsSome, OnOk, OnErr};
-ghost use Rattle.std.specs.Prelude.{option_to_list};
+ghost use Rattle.std.specs.Prelude.{max, option_to_list};
 
 use crate::mark::SessionMark;
 use js_places::ReservedList;
@@ -59,6 +59,7 @@ impl MarkList {
         ensures items { self.new.items ≡ self.old.items }
         ensures ok { OnOk result (more ≤ self.new.free) }
         ensures free { self.old.free ≤ self.new.free }
+        ensures exact { OnOk result (self.new.free ≡ max self.old.free more) }
         ensures err { OnErr result (self.new ≡ self.old) }
     {
         self.places.reserve(more)

@@ -1,6 +1,6 @@
 //! Sessions.
 
-ghost use Rattle.std.specs.Prelude.{◌≡◌, ◌≤◌, ◌<◌, ◌+◌, ◌^◌, ◌↔◌, true, length, IfOk, OnOk, OnErr};
+ghost use Rattle.std.specs.Prelude.{◌≡◌, ◌≤◌, ◌<◌, ◌+◌, ◌^◌, ◌↔◌, true, length, max, IfOk, OnOk, OnErr};
 ghost use Rattle.std.specs.List.{AllByRecursion};
 ghost use Rattle.js_lexer.specs.Lexer.{IsOnPlaces};
 ghost use Rattle.js_session.specs.Effects.{effect_of, is_step};
@@ -178,11 +178,12 @@ impl<'a, C: LexerConfig + Drop> Session<'a, C> {
         }
     }
 
-    /// Makes at least `more` places for marks free, and changes nothing else. Where there is no memory for them, all is
-    /// as before, the free places too.
+    /// Makes at least `more` places for marks free: just those that are wanting, and changes nothing else. Where there
+    /// is no memory for them, all is as before, the free places too.
     pub fn reserve_marks(&mut self, more: usize) -> Result<(), AllocError>
         ensures ok { OnOk result (more ≤ self.new.spare) }
         ensures keeps { self.old.spare ≤ self.new.spare }
+        ensures exact { OnOk result (self.new.spare ≡ max self.old.spare more) }
         ensures rest { self.new ≡ record self.old { spare = self.new.spare } }
         ensures err { OnErr result (self.new ≡ self.old) }
     {

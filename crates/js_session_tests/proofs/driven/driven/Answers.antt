@@ -11,8 +11,8 @@ returns g c =
     let begun = c.a_session_begins_with_no_command.ensures text Module false c.in-Ok.session c.in-Ok.ensures.ok in
     let reserved =
     subst (HasRun text Module false []) (sym c.in_ok-reserve_marks.ensures.rest)
-    (c.reserving_marks_is_no_command.ensures text Module false [] c.in-Ok.session c.reserve_marks.new.self.spare
-    begun) in
+    (c.reserving_marks_is_no_command.ensures.from_start text Module false [] c.in-Ok.session
+    c.reserve_marks.new.self.spare begun) in
     let follow = c.each_call_is_one_command_more.ensures text Module false in
     let marked =
     follow [] Mark c.reserve_marks.new.self c.mark.new.self reserved (λ closes. absurd cc) c.mark.ensures in
