@@ -8,7 +8,7 @@ use Rattle.std.specs.List.{AllByRecursion, list_all}
 use Rattle.std.specs.Str.{IsCharBoundary, IsUtf8}
 use Rattle.std.proofs.Math.Seq.{drop-length}
 use Rattle.std.proofs.lemmas.Bool.{and_parts, cases_lt}
-use Rattle.std.proofs.lemmas.List.{length-drop, length-take-le, take-append-drop}
+use Rattle.std.proofs.lemmas.List.{length-append, length-drop, length-take-le, take-append-drop}
 use Rattle.std.proofs.lemmas.Option.{slice_get_within}
 use Rattle.std.proofs.lemmas.Str.{IsUtf8-drop}
 use Rattle.js_text.specs.declared.source_type.SourceType.{SourceType}
@@ -19,10 +19,11 @@ use Rattle.js_session.specs.Effects.{effect_of, is_lasting}
 use Rattle.js_session.specs.Live.{State, after_row, state_after_first}
 use Rattle.js_session.specs.Report.{AreRows, Run}
 use Rattle.js_session.specs.Session.{MayResume}
-use Rattle.js_session.specs.Shifted.{shifted_row}
-use Rattle.js_session.proofs.LastingRuns.{lasting_steps}
-use Rattle.js_session.proofs.ShiftedRows.{run_stays}
-use Rattle.js_relex.specs.Documents.{DocState, IsDocument, IsInOrder, joining}
+use Rattle.js_session.specs.Shifted.{FitsShifted, OfEachPlace, ShiftFits, shifted_row}
+use Rattle.js_session.proofs.LastingRuns.{all_steps, lasting_steps}
+use Rattle.js_session.proofs.RowsWithin.{rows_weaker, rows_within}
+use Rattle.js_session.proofs.ShiftedRows.{run_lies_behind, run_stays}
+use Rattle.js_relex.specs.Documents.{DocState, IsDocument, IsInOrder, MayMove, joining}
 use Rattle.js_relex.specs.Joined.{FirstFrom, JoiningState, Joins}
 use Rattle.js_relex.specs.Joining.{PreparedState, Prepares, joined_at, old_rows_behind, taken_over}
 use Rattle.js_relex.specs.Kept.{IsKept, IsKeptBehind}
@@ -93,6 +94,22 @@ edit_stays text end t commands rows token u boundary lasting behind on =
     (subst (λ x. MayResume x token) (sym whole) on.behind.may).lies on.behind.last_is lasting
     (subst (λ x. Run x t on.state commands rows) (sym whole) on.run))
 
+-- The rows behind an edit have each of their places behind it.
+edit_before : (text : List ℕ) (end : ℕ) (t : SourceType) (commands : List Command) (rows : List Row)
+    (token : TokenParts) → IsUtf8 text → IsCharBoundary text end
+    → list_all is_lasting commands ≡ true → end ≤ token.start → RunsOnFrom text t commands rows token
+    → AllByRecursion (OfEachPlace (λ place. end ≤ place)) rows
+edit_before text end t commands rows token u boundary lasting behind on =
+    let before = take end text in
+    let rest = drop end text in
+    let whole : before ++ rest ≡ text = take-append-drop end text in
+    let from : length before ≡ end = length-take-le end text boundary.0 in
+    subst (λ n. AllByRecursion (OfEachPlace (λ place. n ≤ place)) rows) from
+    (run_lies_behind before rest t token on.state commands rows (IsUtf8-drop text end u boundary)
+    (subst IsUtf8 (sym whole) u) (subst (λ n. n ≤ token.start) (sym from) behind)
+    (subst (λ x. MayResume x token) (sym whole) on.behind.may).lies on.behind.last_is lasting
+    (subst (λ x. Run x t on.state commands rows) (sym whole) on.run))
+
 module _ (old : DocState) (start end : ℕ) (new : List ℕ) (p : PreparedState)
     (doc : IsDocument old.text old.source_type old.commands old.report) (h : Prepares old start end new p) where
   abbrev j : JoiningState
@@ -104,8 +121,34 @@ module _ (old : DocState) (start end : ℕ) (new : List ℕ) (p : PreparedState)
   pub all_in_order : AllByRecursion IsInOrder old.report.rows
   all_in_order = rows_in_order old.text old.source_type old.commands old.report.rows doc.lasting doc.report_is.rows
 
-  pub behind_in_order : AllByRecursion IsInOrder (old_rows_behind j behind)
-  behind_in_order = all_dropped IsInOrder (length old.report.rows - behind) old.report.rows all_in_order
+  -- so many bytes has the edited text
+  edited_length : length old.text - end + (start + length new) ≡ length p.text
+  edited_length =
+      let text = ap length h.text_is in
+      let all = length-append (take start old.text ++ new) (drop end old.text) in
+      let both = length-append (take start old.text) new in
+      let front = length-take-le start old.text h.edit.starts.0 in
+      let rest = length-drop end old.text in
+      omega (arith, text, all, both, front, rest)
+
+  -- Each place of the old rows is a `u32` once it is moved.
+  all_fit : AllByRecursion (ShiftFits j.from j.to) old.report.rows
+  all_fit =
+      rows_weaker (λ place. place ≤ length old.text) (FitsShifted j.from j.to)
+      (λ place inside. let count = edited_length in let short = h.short in omega (arith, inside, count, short))
+      old.report.rows
+      (rows_within old.text old.source_type old.commands old.report.rows doc.report_is.utf8
+      (all_steps old.commands doc.lasting) doc.report_is.rows)
+
+  all_may_move : (rows : List Row) → AllByRecursion IsInOrder rows → AllByRecursion (ShiftFits j.from j.to) rows
+      → AllByRecursion (MayMove j.from j.to) rows
+  all_may_move [] h k = tt
+  all_may_move (row ∷ rows) h k = (record { ordered = h.0; fits = k.0 }, all_may_move rows h.1 k.1)
+
+  pub behind_may_move : AllByRecursion (MayMove j.from j.to) (old_rows_behind j behind)
+  behind_may_move =
+      all_dropped (MayMove j.from j.to) (length old.report.rows - behind) old.report.rows
+      (all_may_move old.report.rows all_in_order all_fit)
 
   -- the old row that is joined
   record IsJoined : Type 0 where
@@ -188,3 +231,27 @@ module _ (old : DocState) (start end : ℕ) (new : List ℕ) (p : PreparedState)
           (drop_lasting joined.index old.commands doc.lasting) joined.starts_behind
           (old_runs_on old.text old.source_type old.commands old.report.rows joined.index joined.row doc.lasting
           joined.fits doc.report_is.rows joined.is_there)))
+
+  -- The rows that are taken over have each of their places behind the edit.
+  pub behind_edit : AllByRecursion (OfEachPlace (λ place. end ≤ place)) (old_rows_behind j behind)
+  behind_edit = by_joined p.joined refl
+    where
+      by_joined : (b : Bool) → p.joined ≡ b
+          → AllByRecursion (OfEachPlace (λ place. end ≤ place)) (old_rows_behind j behind)
+      by_joined false absent =
+          let all = h.reads.all absent in
+          let none : behind ≡ 0 = omega (arith, all) in
+          let whole : length old.report.rows - 0 ≡ length old.report.rows = omega arith in
+          let empty : old_rows_behind j behind ≡ [] =
+          ap (old_rows_behind j) none ∙ ap (λ n. drop n old.report.rows) whole ∙ drop-length old.report.rows in
+          subst (AllByRecursion (OfEachPlace (λ place. end ≤ place))) (sym empty) tt
+      by_joined true present =
+          let joined = joined_old present in
+          let rest = joined.rest in
+          let at : suc joined.index ≡ length old.report.rows - behind = omega (arith, rest) in
+          subst (λ n. AllByRecursion (OfEachPlace (λ place. end ≤ place)) (drop n old.report.rows)) at
+          (edit_before old.text end old.source_type (drop joined.index old.commands)
+          (drop (suc joined.index) old.report.rows) joined.row.token doc.report_is.utf8 h.edit.ends
+          (drop_lasting joined.index old.commands doc.lasting) joined.starts_behind
+          (old_runs_on old.text old.source_type old.commands old.report.rows joined.index joined.row doc.lasting
+          joined.fits doc.report_is.rows joined.is_there))

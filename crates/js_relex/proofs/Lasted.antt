@@ -4,9 +4,9 @@ use Rattle.std.specs.Prelude.{MatchBool}
 use Rattle.std.specs.List.{AllByRecursion, list_all}
 use Rattle.std.proofs.lemmas.Bool.{and_parts}
 use Rattle.js_text.specs.declared.source_type.SourceType.{SourceType}
-use Rattle.js_grammar.specs.Outcome.{no_findings}
-use Rattle.js_grammar.specs.ReLexed.{fits}
-use Rattle.js_lexer.specs.Lexer.{token_or_default}
+use Rattle.js_session.specs.Restated.{no_findings}
+use Rattle.js_session.specs.Restated.{fits}
+use Rattle.js_session.specs.Restated.{token_or_default}
 use Rattle.js_session.specs.declared.command.Command.{Command}
 use Rattle.js_session.specs.declared.report.Report.{Report}
 use Rattle.js_session.specs.declared.row.Row.{Row}

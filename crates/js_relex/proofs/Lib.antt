@@ -23,4 +23,5 @@ pub mod ReadRows
 pub mod Relexed
 pub mod SplitRuns
 pub mod StepLemmas
+pub mod TakenOver
 pub mod Ticks

@@ -9,8 +9,8 @@ use Rattle.std.proofs.lemmas.List.Sums.{sum_by-cons}
 use Rattle.std.proofs.lemmas.List.{drop-take, length-take, take-append-drop, take-take}
 use Rattle.js_text.specs.Lists.{with_last}
 use Rattle.js_kind.specs.TokenParts.{TokenParts}
-use Rattle.js_grammar.specs.Outcome.{Findings, joined, no_findings}
-use Rattle.js_lexer.proofs.FindingLaws.{joined-assoc, joined-none}
+use Rattle.js_session.specs.Restated.{Findings, joined, no_findings}
+use Rattle.js_session.proofs.Restated.{joined-assoc, joined-none}
 use Rattle.js_session.specs.declared.command.Command.{Command}
 use Rattle.js_session.specs.declared.row.Row.{Row}
 use Rattle.js_session.specs.Effects.{Effect, lasts, row_effect}

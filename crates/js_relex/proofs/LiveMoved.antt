@@ -1,19 +1,21 @@
--- What rows make live, where they are moved, and that live tokens lie in order where rows do.
+-- What rows make live, where they are moved, and that it may be moved where the rows may.
 use Rattle.std.proofs.Common.{◌≡◌, ℕ, Bool, true, false, List, [], ◌∷◌, ◌++◌, map, refl, sym, ◌∙◌, ap}
 use Rattle.std.specs.Prelude.{if◌then◌else◌}
 use Rattle.std.specs.List.{AllByRecursion}
 use Rattle.std.proofs.lemmas.List.{map-append}
+use Rattle.std.proofs.lemmas.List.Elements.{All-append, All-nil}
 use Rattle.js_text.specs.Lists.{with_last}
-use Rattle.js_kind.specs.TokenParts.{TokenParts}
-use Rattle.js_grammar.specs.Outcome.{joined}
+use Rattle.js_session.specs.Restated.{Findings, joined}
 use Rattle.js_session.specs.declared.row.Row.{Row}
 use Rattle.js_session.specs.Effects.{Effect, row_effect}
 use Rattle.js_session.specs.Effects.Effect.{reads, peeks, re_lexes, opens, rewinds, commits}
-use Rattle.js_session.specs.Live.{Live, State, after_row, outcome_of, row_findings, with_outcome, with_re_lexed}
+use Rattle.js_session.specs.Live.{Live, State, after_row, nothing_live, outcome_of, row_findings, with_outcome}
+use Rattle.js_session.specs.Live.{with_re_lexed}
+use Rattle.js_session.specs.Shifted.{FitsShifted, OfComment, OfDiagnostic, OfFindings, OfSpan}
 use Rattle.js_session.specs.Shifted.{shifted_comment, shifted_diagnostic, shifted_row, shifted_span, shifted_token}
 use Rattle.js_session.proofs.LiveLemmas.{same_live}
-use Rattle.js_relex.specs.Documents.{IsInOrder, live_behind}
-use Rattle.js_relex.specs.LiveLists.{HasOrder, shifted_live}
+use Rattle.js_relex.specs.Documents.{MayMove, live_behind}
+use Rattle.js_relex.specs.LiveLists.{LiveMayMove, TokenMayMove, shifted_live}
 
 module _ {A B : Type 0} (f : A → B) where
   map_last : (xs : List A) (y : A) → with_last (map f xs) (f y) ≡ map f (with_last xs y)
@@ -73,37 +75,72 @@ module _ (from to : ℕ) where
       ap (λ l. live_behind l (map moved rows)) (row_moved live (row_effect row.command) row)
       ∙ moved_behind (after_row (row_effect row.command) row (record { now = live; marks = [] })).now rows
 
-order_push : (ts : List TokenParts) (t : TokenParts) → AllByRecursion HasOrder ts → HasOrder t
-    → AllByRecursion HasOrder (ts ++ t ∷ [])
-order_push [] t h o = (o, tt)
-order_push (x ∷ xs) t h o = (h.0, order_push xs t h.1 o)
+module _ {A : Type 0} (P : A → Type 0) where
+  all_push : (xs : List A) (y : A) → AllByRecursion P xs → P y → AllByRecursion P (xs ++ y ∷ [])
+  all_push [] y h k = (k, tt)
+  all_push (x ∷ xs) y h k = (h.0, all_push xs y h.1 k)
 
-order_last : (ts : List TokenParts) (t : TokenParts) → AllByRecursion HasOrder ts → HasOrder t
-    → AllByRecursion HasOrder (with_last ts t)
-order_last [] t h o = tt
-order_last (x ∷ []) t h o = (o, tt)
-order_last (x ∷ y ∷ ys) t h o = (h.0, order_last (y ∷ ys) t h.1 o)
+  all_last : (xs : List A) (y : A) → AllByRecursion P xs → P y → AllByRecursion P (with_last xs y)
+  all_last [] y h k = tt
+  all_last (x ∷ []) y h k = (k, tt)
+  all_last (x ∷ z ∷ zs) y h k = (h.0, all_last (z ∷ zs) y h.1 k)
 
-order_row : (live : Live) (effect : Effect) (row : Row) → AllByRecursion HasOrder live.tokens → IsInOrder row
-    → AllByRecursion HasOrder (after_row effect row (record { now = live; marks = [] })).now.tokens
-order_row live (reads goal) row h o = order_push live.tokens row.token h o
-order_row live (re_lexes goal) row h o = by_taken row.taken
-  where
-    by_taken : (taken : Bool)
-        → AllByRecursion HasOrder (if◌then◌else◌ {A = State} taken
-        (record { now = with_re_lexed live (outcome_of row); marks = [] })
-        (record { now = live; marks = [] })).now.tokens
-    by_taken true = order_last live.tokens row.token h o
-    by_taken false = h
-order_row live (peeks goal) row h o = h
-order_row live opens row h o = h
-order_row live rewinds row h o = h
-order_row live commits row h o = h
+found_both : (P : ℕ → Type 0) (a b : Findings) → OfFindings P a → OfFindings P b → OfFindings P (joined a b)
+found_both P a b h k = record {
+  diagnostics = All-append (OfDiagnostic P) a.diagnostics b.diagnostics h.diagnostics k.diagnostics;
+  deferred = All-append (OfDiagnostic P) a.deferred b.deferred h.deferred k.deferred;
+  comments = All-append (OfComment P) a.comments b.comments h.comments k.comments;
+  irregular = All-append (OfSpan P) a.irregular b.irregular h.irregular k.irregular;
+  warnings = All-append (OfSpan P) a.warnings b.warnings h.warnings k.warnings;
+}
 
--- Live tokens lie in order where rows do.
-pub tokens_in_order : (live : Live) (rows : List Row) → AllByRecursion HasOrder live.tokens
-    → AllByRecursion IsInOrder rows → AllByRecursion HasOrder (live_behind live rows).tokens
-tokens_in_order live [] h o = h
-tokens_in_order live (row ∷ rows) h o =
-    tokens_in_order (after_row (row_effect row.command) row (record { now = live; marks = [] })).now rows
-    (order_row live (row_effect row.command) row h o.0) o.1
+module _ (from to : ℕ) where
+  token_may_move : (row : Row) → MayMove from to row → TokenMayMove from to row.token
+  token_may_move row h = record { ordered = h.ordered; start = h.fits.start; end = h.fits.end }
+
+  found_more : (live : Live) (row : Row) → LiveMayMove from to live → MayMove from to row
+      → OfFindings (FitsShifted from to) (joined live.findings (row_findings row))
+  found_more live row h m = found_both (FitsShifted from to) live.findings (row_findings row) h.found m.fits.found
+
+  row_may_move : (live : Live) (effect : Effect) (row : Row) → LiveMayMove from to live → MayMove from to row
+      → LiveMayMove from to (after_row effect row (record { now = live; marks = [] })).now
+  row_may_move live (reads goal) row h m = record {
+    tokens = all_push (TokenMayMove from to) live.tokens row.token h.tokens (token_may_move row m);
+    found = found_more live row h m;
+  }
+  row_may_move live (re_lexes goal) row h m = by_taken row.taken
+    where
+      by_taken : (taken : Bool)
+          → LiveMayMove from to (if◌then◌else◌ {A = State} taken
+          (record { now = with_re_lexed live (outcome_of row); marks = [] })
+          (record { now = live; marks = [] })).now
+      by_taken true = record {
+        tokens = all_last (TokenMayMove from to) live.tokens row.token h.tokens (token_may_move row m);
+        found = found_more live row h m;
+      }
+      by_taken false = h
+  row_may_move live (peeks goal) row h m = h
+  row_may_move live opens row h m = h
+  row_may_move live rewinds row h m = h
+  row_may_move live commits row h m = h
+
+  behind_may_move : (live : Live) (rows : List Row) → LiveMayMove from to live
+      → AllByRecursion (MayMove from to) rows → LiveMayMove from to (live_behind live rows)
+  behind_may_move live [] h m = h
+  behind_may_move live (row ∷ rows) h m =
+      behind_may_move (after_row (row_effect row.command) row (record { now = live; marks = [] })).now rows
+      (row_may_move live (row_effect row.command) row h m.0) m.1
+
+  -- What rows make live may be moved where the rows may.
+  pub live_may_move : (rows : List Row) → AllByRecursion (MayMove from to) rows
+      → LiveMayMove from to (live_behind nothing_live rows)
+  live_may_move rows m = behind_may_move nothing_live rows (record {
+    tokens = tt;
+    found = record {
+      diagnostics = All-nil (OfDiagnostic (FitsShifted from to));
+      deferred = All-nil (OfDiagnostic (FitsShifted from to));
+      comments = All-nil (OfComment (FitsShifted from to));
+      irregular = All-nil (OfSpan (FitsShifted from to));
+      warnings = All-nil (OfSpan (FitsShifted from to));
+    };
+  }) m

@@ -4,20 +4,20 @@ use Rattle.std.proofs.Common.{◌∙◌, ap, subst, arith}
 use Rattle.std.specs.Prelude.{◌^◌}
 use Rattle.std.specs.List.{AllByRecursion}
 use Rattle.std.proofs.lemmas.List.{drop-drop, map-append, take-append-drop}
-use Rattle.js_grammar.specs.Outcome.{no_findings}
+use Rattle.js_session.specs.Restated.{no_findings}
 use Rattle.js_session.specs.declared.command.Command.{Command}
 use Rattle.js_session.specs.declared.report.Report.{Report}
 use Rattle.js_session.specs.declared.row.Row.{Row}
 use Rattle.js_session.specs.Live.{Live, nothing_live, report_live, report_with, row_findings}
 use Rattle.js_session.specs.Shifted.{shifted_comment, shifted_diagnostic, shifted_row, shifted_span}
-use Rattle.js_relex.specs.Documents.{GoesLive, IsInOrder, live_behind}
-use Rattle.js_relex.specs.LiveLists.{AreWithin, HasLasted, HasOrder, Lasts, StartsAnew, first_readings, joined_live}
+use Rattle.js_relex.specs.Documents.{GoesLive, MayMove, live_behind}
+use Rattle.js_relex.specs.LiveLists.{AreWithin, HasLasted, Lasts, LiveMayMove, StartsAnew, first_readings, joined_live}
 use Rattle.js_relex.specs.LiveLists.{live_from, live_lengths, live_up_to, more_lengths, row_readings, shifted_live}
 use Rattle.js_relex.specs.declared.live.LiveLengths.{LiveLengths}
 use Rattle.js_relex.proofs.LiveInPlace.{GoesBehind, all_dropped, goes_both, live_report}
 use Rattle.js_relex.proofs.LiveLists.{from_rest, lengths_at_place, lengths_further_on, place_within, split_live}
 use Rattle.js_relex.proofs.LiveLists.{starts_anew, take_further, tokens_few, up_to_front}
-use Rattle.js_relex.proofs.LiveMoved.{moved_behind, tokens_in_order}
+use Rattle.js_relex.proofs.LiveMoved.{live_may_move, moved_behind}
 use Rattle.js_relex.proofs.LiveRows.{live-append}
 
 -- The lengths at a place, as they are counted from the start.
@@ -107,16 +107,16 @@ module _ (old : Report) (lasted : AllByRecursion Lasts old.rows)
         (subst (λ rs. GoesBehind none rs b) (take_further old.rows place end ordered)
         (goes_both none a b front (take (end - place) (drop place old.rows)) first next))
 
-    -- Live tokens from the place on lie in order, where the rows from one before it do.
-    pub order_from : (start : ℕ) → start ≤ place → AllByRecursion IsInOrder (drop start old.rows)
-        → AllByRecursion HasOrder (drop lengths.tokens old.tokens)
-    order_from start ordered h =
+    -- What is live from the place on may be moved, where the rows from one before it may.
+    pub move_from : (from to start : ℕ) → start ≤ place → AllByRecursion (MayMove from to) (drop start old.rows)
+        → LiveMayMove from to (live_from lengths (report_live old))
+    move_from from to start ordered h =
         let whole : start + (place - start) ≡ place = omega (arith, ordered) in
-        let rows : AllByRecursion IsInOrder (drop place old.rows) =
-        subst (AllByRecursion IsInOrder) (drop-drop (place - start) start old.rows ∙ ap (λ k. drop k old.rows) whole)
-        (all_dropped IsInOrder (place - start) (drop start old.rows) h) in
-        subst (AllByRecursion HasOrder) (sym (ap (λ (l : Live). l.tokens) from_place))
-        (tokens_in_order nothing_live (drop place old.rows) tt rows)
+        let rows : AllByRecursion (MayMove from to) (drop place old.rows) =
+        subst (AllByRecursion (MayMove from to))
+        (drop-drop (place - start) start old.rows ∙ ap (λ k. drop k old.rows) whole)
+        (all_dropped (MayMove from to) (place - start) (drop start old.rows) h) in
+        subst (LiveMayMove from to) (sym from_place) (live_may_move from to (drop place old.rows) rows)
 
     -- The lists from the place on, moved, are what the rows from there on make live, moved.
     pub moved_from : (from to start : ℕ) (a b c : Report) (rows : List Row) → start ≤ place → rows ≡ old.rows

@@ -1,12 +1,14 @@
 -- Outlines of rows: one by one, and of rows that are moved.
 use Rattle.std.proofs.Common.{◌≡◌, ℕ, zero, suc, ◌+◌, ◌<◌, ◌≤◌, not, ◌&&◌, ◌==◌, List, [], ◌∷◌, length, map}
 use Rattle.std.proofs.Common.{Option, Some, refl, sym, ◌∙◌, ap, subst, arith, get_or, ◌-◌, ◌++◌, take, drop}
+use Rattle.std.specs.List.{AllByRecursion}
 use Rattle.std.proofs.lemmas.List.{drop-map, length-map, map-append, take-map}
 use Rattle.js_session.specs.declared.command.Command.{Command}
 use Rattle.js_session.specs.declared.row.Row.{Row}
 use Rattle.js_session.specs.Shifted.{shifted_comment, shifted_diagnostic, shifted_row, shifted_span}
+use Rattle.js_relex.specs.Documents.{MayMove}
 use Rattle.js_relex.specs.Kept.{MayStay}
-use Rattle.js_relex.specs.Outlines.{AreOutlined, outline_of, shifted_outline}
+use Rattle.js_relex.specs.Outlines.{AreOutlined, OutlineFits, outline_of, shifted_outline}
 use Rattle.js_relex.specs.declared.outline.RowOutline.{RowOutline}
 
 -- there are as many outlines as rows
@@ -79,6 +81,23 @@ pub outlines_moved : (from to : ℕ) (rows : List Row)
     → map (shifted_outline from to) (map outline_of rows) ≡ map outline_of (map (shifted_row from to) rows)
 outlines_moved from to [] = refl
 outlines_moved from to (row ∷ rows) = λ i. outline_moved from to row i ∷ outlines_moved from to rows i
+
+-- The outlines of rows that may be moved fit where these go.
+pub outlines_fit : (from to : ℕ) (behind : ℕ) (rows : List Row) (outlines : List RowOutline)
+    → outlines ≡ map outline_of rows → AllByRecursion (MayMove from to) (drop (length rows - behind) rows)
+    → AllByRecursion (OutlineFits from to) (drop (length outlines - behind) outlines)
+outlines_fit from to behind rows outlines are h =
+    subst (λ os. AllByRecursion (OutlineFits from to) (drop (length os - behind) os)) (sym are)
+    (subst (AllByRecursion (OutlineFits from to))
+    (sym
+    (ap (λ n. drop (n - behind) (map outline_of rows)) (length-map rows outline_of)
+    ∙ drop-map outline_of (length rows - behind) rows))
+    (each (drop (length rows - behind) rows) h))
+  where
+    each : (rows : List Row) → AllByRecursion (MayMove from to) rows
+        → AllByRecursion (OutlineFits from to) (map outline_of rows)
+    each [] h = tt
+    each (row ∷ rows) h = (h.0.fits.end, each rows h.1)
 
 -- The outlines of rows that were replaced.
 pub outlines_replaced : (from to kept behind : ℕ) (rows read new : List Row) (olds outlines : List RowOutline)

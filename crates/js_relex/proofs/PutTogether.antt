@@ -6,11 +6,11 @@ use Rattle.js_session.specs.declared.report.Report.{Report}
 use Rattle.js_session.specs.declared.row.Row.{Row}
 use Rattle.js_session.specs.Live.{nothing_live, report_with}
 use Rattle.js_session.specs.Shifted.{shifted_row}
-use Rattle.js_relex.specs.Documents.{AddsRows, DocState, IsDocument, IsGathered, IsInOrder, joining}
+use Rattle.js_relex.specs.Documents.{AddsRows, DocState, IsDocument, IsGathered, MayMove, joining}
 use Rattle.js_relex.specs.Joined.{JoiningState}
-use Rattle.js_relex.specs.Joining.{PreparedState, Prepares, all_rows, taken_over}
+use Rattle.js_relex.specs.Joining.{PreparedState, Prepares, all_rows, old_rows_behind, taken_over}
 use Rattle.js_relex.specs.LiveLists.{Lasts}
-use Rattle.js_relex.proofs.InPlace.{behind_in_order, kept_before, stay_behind}
+use Rattle.js_relex.proofs.InPlace.{behind_may_move, kept_before, stay_behind}
 use Rattle.js_relex.proofs.KeptRows.{take_lasting}
 use Rattle.js_relex.proofs.Lasted.{rows_last}
 use Rattle.js_relex.proofs.LiveInPlace.{all_dropped}
@@ -32,17 +32,23 @@ module _ (old : DocState) (start end : ℕ) (new : List ℕ) (p : PreparedState)
       let count = ap length rows_are in
       omega (arith, less, count, behind_is)
 
-  -- they lie in order
-  pub last_in_order : AllByRecursion IsInOrder
-      (take (length rows - (length rows - behind)) (drop (length rows - behind) rows))
-  last_in_order =
-      subst (AllByRecursion IsInOrder) (sym (rest_of rows (length rows - behind)))
-      (subst (λ n. AllByRecursion IsInOrder (drop (length rows - n) rows)) (sym behind_is)
-      (subst (λ rs. AllByRecursion IsInOrder (drop (length rs - taken_over j p.kept p.rows) rs)) (sym rows_are)
-      (behind_in_order old start end new p doc h)))
+  -- they may be moved
+  pub last_may_move : (from to : ℕ) → from ≡ j.from → to ≡ j.to
+      → AllByRecursion (MayMove from to) (drop (length rows - behind) rows)
+  last_may_move from to from_is to_is =
+      let here : drop (length rows - behind) rows
+      ≡ drop (length old.report.rows - taken_over j p.kept p.rows) old.report.rows =
+      (λ i. drop (length (rows_are i) - behind_is i) (rows_are i)) in
+      subst (λ rs. AllByRecursion (MayMove from to) rs) (sym here)
+      (subst (λ n. AllByRecursion (MayMove n to) (old_rows_behind j (taken_over j p.kept p.rows))) (sym from_is)
+      (subst (λ n. AllByRecursion (MayMove j.from n) (old_rows_behind j (taken_over j p.kept p.rows))) (sym to_is)
+      (behind_may_move old start end new p doc h)))
 
-  pub order_behind : AllByRecursion IsInOrder (drop (length rows - behind) rows)
-  order_behind = subst (AllByRecursion IsInOrder) (rest_of rows (length rows - behind)) last_in_order
+  pub rest_may_move : (from to : ℕ) → from ≡ j.from → to ≡ j.to → AllByRecursion (MayMove from to)
+      (take (length rows - (length rows - behind)) (drop (length rows - behind) rows))
+  rest_may_move from to from_is to_is =
+      subst (AllByRecursion (MayMove from to)) (sym (rest_of rows (length rows - behind)))
+      (last_may_move from to from_is to_is)
 
   -- no row that is kept is one of them
   pub few_kept : (kept : ℕ) → kept ≡ p.kept → kept + behind ≤ length rows

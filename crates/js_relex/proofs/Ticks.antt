@@ -10,7 +10,7 @@ use Rattle.js_session.specs.declared.row.Row.{Row}
 use Rattle.js_session.specs.Report.{AreRows, ReportOf}
 use Rattle.js_session.specs.Shifted.{shifted_row}
 use Rattle.js_session.proofs.Unique.{rows_unique}
-use Rattle.js_relex.specs.Documents.{DocState, IsDocument, IsGathered, Relexes, Spares, TicksAtMost}
+use Rattle.js_relex.specs.Documents.{DocState, IsDocument, IsGathered, Relexes, Spares, TakesOver, TicksAtMost}
 use Rattle.js_relex.specs.Documents.{edited, joining, rows_taken_over}
 use Rattle.js_relex.specs.Joined.{FirstFrom, JoiningState, Joins}
 use Rattle.js_relex.specs.Joining.{BreaksEdited, PreparedState, Prepares, all_rows, joined_at, old_rows_behind}
@@ -19,6 +19,7 @@ use Rattle.js_relex.specs.Kept.{IsKept}
 use Rattle.js_relex.proofs.FirstLemmas.{first_of_more, found_behind, found_there, one_first}
 use Rattle.js_relex.proofs.JoinedRows.{rows_of_edit}
 use Rattle.js_relex.proofs.NewRows.{gathered_report}
+use Rattle.js_relex.proofs.TakenOver.{takes_over}
 
 -- behind the kept rows
 pub behind_kept : (j : JoiningState) (kept : ℕ) (rows : List Row) → kept ≤ length j.rows
@@ -133,6 +134,11 @@ module _ (old : DocState) (start end : ℕ) (new : List ℕ) (p : PreparedState)
             subst (λ n. Spares old start end new p.commands d.report.rows n d.joined) (sym kept)
             (subst (λ o. Spares old start end new p.commands d.report.rows p.kept o) (sym joins)
             (subst (λ rs. Spares old start end new p.commands rs p.kept joined) (sym rows) spares));
+        takes_over =
+            subst (λ n. TakesOver old start end new d.report.rows n d.joined) (sym kept)
+            (subst (λ o. TakesOver old start end new d.report.rows p.kept o) (sym joins)
+            (subst (λ rs. TakesOver old start end new rs p.kept joined) (sym rows)
+            (takes_over old start end new p doc h)));
         ticks =
             let equal = exact 0 (length p.rows) (omega arith) in
             let count = ap length rows in

@@ -1,7 +1,7 @@
 -- Documents, and what an edit makes of one.
 use Rattle.std.specs.Prelude.{◌≡◌, ℕ, ◌<◌, ◌≤◌, ◌+◌, ◌^◌, true, false, List, [], ◌∷◌, ◌++◌, length, take, drop}
-use Rattle.std.specs.Prelude.{◌-◌, suc, slice_get, Option, Some, None}
-use Rattle.std.specs.List.{list_all}
+use Rattle.std.specs.Prelude.{◌-◌, suc, slice_get, map, Option, Some, None}
+use Rattle.std.specs.List.{AllByRecursion, list_all}
 use Rattle.std.specs.Str.{IsCharBoundary}
 use Rattle.js_text.specs.declared.source_type.SourceType.{SourceType}
 use Rattle.js_session.specs.declared.command.Command.{Command}
@@ -10,6 +10,7 @@ use Rattle.js_session.specs.declared.row.Row.{Row}
 use Rattle.js_session.specs.Effects.{is_lasting, row_effect}
 use Rattle.js_session.specs.Live.{Live, after_row, nothing_live, report_live}
 use Rattle.js_session.specs.Report.{AreRows, ReportOf}
+use Rattle.js_session.specs.Shifted.{OfEachPlace, ShiftFits, shifted_row}
 use Rattle.js_relex.specs.Joined.{FirstFrom, JoiningState, Joins}
 use Rattle.js_relex.specs.Kept.{IsKept}
 use Rattle.js_relex.specs.declared.fault.RelexFault.{RelexFault}
@@ -70,6 +71,11 @@ pub record GoesLive (old : Report) (live : Live) (new : Report) : Type 0 where
 abbrev pub IsInOrder : Row → Type 0
 IsInOrder row = row.token.start ≤ row.token.end
 
+-- The row may be moved: its token lies in order, and each of its places is a `u32` once it is shifted.
+pub record MayMove (from to : ℕ) (row : Row) : Type 0 where
+  pub ordered : IsInOrder row
+  pub fits : ShiftFits from to row
+
 -- A report has these rows more, with what is live behind them.
 pub record AddsRows (old : Report) (rows : List Row) (new : Report) : Type 0 where
   pub rows_are : new.rows ≡ old.rows ++ rows
@@ -110,12 +116,35 @@ pub record Spares (old : DocState) (start end : ℕ) (new : List ℕ) (commands 
   pub kept_is : IsKept start old.report.rows commands kept
   pub joined_is : FirstFrom (Joins (joining old start end new commands)) kept (drop kept rows) joined
 
+-- the rows behind the one at which the old rows are joined
+abbrev pub rows_behind_joined : Option ℕ → List Row → List Row
+rows_behind_joined None rows = []
+rows_behind_joined (Some index) rows = drop (suc index) rows
+
+-- so many of the last rows
+abbrev pub last_rows : ℕ → List Row → List Row
+last_rows count rows = drop (length rows - count) rows
+
+-- The rows of an edited text that stand for old rows: the first ones are the first old rows, index by index. Those behind
+-- the row at which the old rows are joined are as many last old rows, in order; each place of these is behind the edit,
+-- and moved from its end in the old text to its end in the new one.
+pub record TakesOver (old : DocState) (start end : ℕ) (new : List ℕ) (rows : List Row) (kept : ℕ) (joined : Option ℕ)
+    : Type 0 where
+  pub front : take kept rows ≡ take kept old.report.rows
+  pub few_front : kept ≤ length old.report.rows
+  pub behind : rows_behind_joined joined rows
+      ≡ map (shifted_row end (start + length new)) (last_rows (rows_taken_over joined rows) old.report.rows)
+  pub few_behind : rows_taken_over joined rows ≤ length old.report.rows
+  pub behind_edit : AllByRecursion (OfEachPlace (λ place. end ≤ place))
+      (last_rows (rows_taken_over joined rows) old.report.rows)
+
 -- A document of an edited text: so many of the old rows were kept, at this row it joined the old one, and the counter
 -- rose by the number of the rows that are neither kept nor behind that row.
 pub record Relexes (old : DocState) (start end : ℕ) (new : List ℕ) (commands : List Command) (before now : ℕ)
     (d : DocState) : Type 0 where
   pub document : IsDocumentOf (edited old.text start end new) old.source_type commands d
   pub spares : Spares old start end new commands d.report.rows d.kept d.joined
+  pub takes_over : TakesOver old start end new d.report.rows d.kept d.joined
   pub ticks : now + d.kept + rows_taken_over d.joined d.report.rows ≡ before + length d.report.rows
 
 -- The counter rose by no more than the rows of the commands, without those that are kept, and without those behind the

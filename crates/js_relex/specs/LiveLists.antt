@@ -3,14 +3,15 @@ use Rattle.std.specs.Prelude.{◌≡◌, ℕ, zero, suc, ◌+◌, ◌≤◌, Boo
 use Rattle.std.specs.Prelude.{take, drop, Option, Some, None, count_by, sum_by}
 use Rattle.std.specs.List.{AllByRecursion}
 use Rattle.js_kind.specs.TokenParts.{TokenParts}
-use Rattle.js_grammar.specs.Outcome.{joined, no_findings}
+use Rattle.js_session.specs.Restated.{joined, no_findings}
 use Rattle.js_session.specs.declared.command.Command.{Command}
 use Rattle.js_session.specs.declared.report.Report.{Report}
 use Rattle.js_session.specs.declared.row.Row.{Row}
 use Rattle.js_session.specs.Effects.{Effect, lasts, row_effect}
 use Rattle.js_session.specs.Effects.Effect.{reads, peeks, re_lexes, opens, rewinds, commits}
 use Rattle.js_session.specs.Live.{Live, nothing_live, report_live, row_findings}
-use Rattle.js_session.specs.Shifted.{shifted_comment, shifted_diagnostic, shifted_span, shifted_token}
+use Rattle.js_session.specs.Shifted.{FitsShifted, OfFindings, shifted_comment, shifted_diagnostic, shifted_span}
+use Rattle.js_session.specs.Shifted.{shifted_token}
 use Rattle.js_relex.specs.Documents.{live_behind}
 use Rattle.js_relex.specs.declared.live.FoundList.{FoundList}
 use Rattle.js_relex.specs.declared.live.FoundList.TheVariants.{Diagnostics, Deferred, Comments, Irregular, Warnings}
@@ -165,6 +166,13 @@ shifted_live from to live = record {
   };
 }
 
--- the token starts at its end or before it
-abbrev pub HasOrder : TokenParts → Type 0
-HasOrder token = token.start ≤ token.end
+-- The token may be moved: it starts at its end or before it, and both are `u32` once they are shifted.
+pub record TokenMayMove (from to : ℕ) (token : TokenParts) : Type 0 where
+  pub ordered : token.start ≤ token.end
+  pub start : FitsShifted from to token.start
+  pub end : FitsShifted from to token.end
+
+-- What is live may be moved.
+pub record LiveMayMove (from to : ℕ) (live : Live) : Type 0 where
+  pub tokens : AllByRecursion (TokenMayMove from to) live.tokens
+  pub found : OfFindings (FitsShifted from to) live.findings

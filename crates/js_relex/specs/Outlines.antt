@@ -2,7 +2,7 @@
 use Rattle.std.specs.Prelude.{◌≡◌, Bool, not, ◌&&◌, ◌==◌, List, ℕ, length, map, Option}
 use Rattle.js_session.specs.declared.command.Command.{Command}
 use Rattle.js_session.specs.declared.row.Row.{Row}
-use Rattle.js_session.specs.Shifted.{shifted}
+use Rattle.js_session.specs.Shifted.{FitsShifted, shifted}
 use Rattle.js_relex.specs.declared.outline.RowOutline.{RowOutline}
 
 -- the row has an item in one of its lists
@@ -15,6 +15,10 @@ has_found row =
 -- where the row's token ends, and whether it has found anything
 abbrev pub outline_of : Row → RowOutline
 outline_of row = record { end = row.token.end; has_found = has_found row }
+
+-- The place where the row ends is a `u32` once it is shifted.
+abbrev pub OutlineFits : ℕ → ℕ → RowOutline → Type 0
+OutlineFits from to outline = FitsShifted from to outline.end
 
 abbrev pub shifted_outline : ℕ → ℕ → RowOutline → RowOutline
 shifted_outline from to outline = record outline { end = shifted from to outline.end }

@@ -1,12 +1,12 @@
 //! Rows gathered into a report, with what is live behind them.
 
-ghost use Rattle.std.specs.Prelude.{◌≡◌, ◌≤◌, ◌+◌, ◌-◌, ◌↔◌, [], ◌∷◌, ◌++◌, length, take, drop, map};
-ghost use Rattle.std.specs.Prelude.{IfOk, IsTrue, OnErr, OnOk};
+ghost use Rattle.std.specs.Prelude.{◌≡◌, ◌≤◌, ◌+◌, ◌-◌, [], ◌∷◌, ◌++◌, length, take, drop, map};
+ghost use Rattle.std.specs.Prelude.{IfOk, OnErr, OnOk};
 ghost use Rattle.std.specs.List.{AllByRecursion};
 ghost use Rattle.js_session.specs.Live.{nothing_live, outcome_of, report_live, report_with, with_outcome};
 ghost use Rattle.js_session.specs.Live.{with_re_lexed};
-ghost use Rattle.js_session.specs.Shifted.{ShiftFits, shifted_row};
-ghost use Rattle.js_relex.specs.Documents.{AddsRows, GoesLive, IsInOrder, live_behind};
+ghost use Rattle.js_session.specs.Shifted.{shifted_row};
+ghost use Rattle.js_relex.specs.Documents.{AddsRows, GoesLive, MayMove, live_behind};
 
 use js_kind::TokenList;
 use js_session::{Command, Report, Row, RowList, Shift};
@@ -108,16 +108,12 @@ pub(crate) fn add_rows(report: &mut Report, rows: RowList) -> Result<(), AllocEr
     Ok(())
 }
 
-/// A copy of the row, moved. Nothing is said here of the text that it is moved to, so a row with a place that is no
-/// `u32` then is answered as lack of memory.
+/// A copy of the row, moved.
 fn moved_row(alloc: Global, shift: &Shift, row: &Row) -> Result<Row, AllocError>
-    requires { IsInOrder row.now }
+    requires { MayMove shift.now.from shift.now.to row.now }
     ensures { IfOk result (λ new. new ≡ shifted_row shift.now.from shift.now.to row.now) }
 {
-    match shift.row(alloc, row)? {
-        Some(moved) => Ok(moved),
-        None => Err(AllocError),
-    }
+    shift.moved_row(alloc, row)
 }
 
 /// Adds copies of the rows, moved.
@@ -127,7 +123,7 @@ pub(crate) fn add_moved_copies(
     rows: &[Row],
     shift: &Shift,
 ) -> Result<(), AllocError>
-    requires { AllByRecursion IsInOrder rows.now }
+    requires { AllByRecursion (MayMove shift.now.from shift.now.to) rows.now }
     ensures { OnOk result
         (AddsRows report.old (map (shifted_row shift.now.from shift.now.to) rows.now) report.new) }
 {
@@ -155,7 +151,7 @@ pub(crate) fn add_moved_live_rows(
     rows: &[Row],
     shift: &Shift,
 ) -> Result<(), AllocError>
-    requires { AllByRecursion IsInOrder rows.now }
+    requires { AllByRecursion (MayMove shift.now.from shift.now.to) rows.now }
     ensures { OnOk result (GoesLive report.old
         (live_behind (report_live report.old) (map (shifted_row shift.now.from shift.now.to) rows.now)) report.new) }
 {
@@ -166,22 +162,9 @@ pub(crate) fn add_moved_live_rows(
     Ok(())
 }
 
-/// Whether each place of each row is a `u32` once it is moved.
-fn all_fit(shift: &Shift, rows: &[Row]) -> bool
-    ensures { IsTrue result ↔ AllByRecursion (ShiftFits shift.now.from shift.now.to) rows.now }
-{
-    for row in rows {
-        if !shift.fits(row) {
-            return false;
-        }
-    }
-    true
-}
-
 /// Puts the rows that were read in the place of the old ones between the first and the last, and moves the last where
 /// they stand.
 pub(crate) fn replace_rows(
-    alloc: Global,
     rows: &mut RowList,
     kept: usize,
     read: RowList,
@@ -189,7 +172,7 @@ pub(crate) fn replace_rows(
     shift: &Shift,
 ) -> Result<(), AllocError>
     requires few { kept + behind ≤ length rows.old }
-    requires in_order { AllByRecursion IsInOrder (drop (length rows.old - behind) rows.old) }
+    requires may_move { AllByRecursion (MayMove shift.now.from shift.now.to) (drop (length rows.old - behind) rows.old) }
     requires stay { shift.now.from ≡ shift.now.to
         → map (shifted_row shift.now.from shift.now.to) (drop (length rows.old - behind) rows.old)
         ≡ drop (length rows.old - behind) rows.old }
@@ -201,11 +184,8 @@ pub(crate) fn replace_rows(
     if shift.from == shift.to {
         return rows.replace(kept, start, read);
     }
-    if !all_fit(shift, &rows.as_slice()[start..]) {
-        return Err(AllocError);
-    }
     let index = kept + read.len();
     rows.replace(kept, start, read)?;
-    rows.shift_behind(alloc, index, shift);
+    rows.shift_behind(index, shift);
     Ok(())
 }

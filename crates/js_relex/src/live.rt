@@ -2,14 +2,15 @@
 //! from those on that stay behind them.
 
 ghost use Rattle.std.specs.Prelude.{◌≡◌, ◌≤◌, ◌<◌, ◌+◌, ◌-◌, ◌^◌, ◌↔◌, ◌++◌, [], length, take, drop, map, IfOk, IsTrue, OnOk};
-ghost use Rattle.std.specs.List.{AllByRecursion};
+ghost use Rattle.std.specs.List.{All, AllByRecursion};
 ghost use Rattle.js_session.specs.Live.{nothing_live, report_live, report_with};
+ghost use Rattle.js_session.specs.Shifted.{FitsShifted, OfComment, OfDiagnostic, OfSpan};
 ghost use Rattle.js_session.specs.Shifted.{shifted_comment, shifted_diagnostic, shifted_row, shifted_span};
 ghost use Rattle.js_session.specs.Shifted.{shifted_token};
-ghost use Rattle.js_relex.specs.Documents.{GoesLive, IsInOrder, live_behind};
+ghost use Rattle.js_relex.specs.Documents.{GoesLive, MayMove, live_behind};
 ghost use Rattle.js_relex.specs.LiveLists.{AreWithin, HasLasted, Lasts, StartsAnew, count_readings, first_readings};
 ghost use Rattle.js_relex.specs.LiveLists.{found_length, is_reading, joined_live, live_from, live_lengths, live_up_to};
-ghost use Rattle.js_relex.specs.LiveLists.{HasOrder, more_lengths, row_readings, shifted_live, total_found};
+ghost use Rattle.js_relex.specs.LiveLists.{LiveMayMove, TokenMayMove, more_lengths, row_readings, shifted_live, total_found};
 ghost use Rattle.js_relex.specs.Outlines.{outline_of};
 
 use crate::gather::{add_live_rows, add_moved_live_rows, empty_report};
@@ -305,23 +306,24 @@ fn add_up_to(report: &mut Report, old: &Report, lengths: LiveLengths) -> Result<
     report.warnings.extend_from_slice(warnings)
 }
 
-/// The token, moved. One with a place that is no `u32` then is answered as lack of memory, as in a row.
-fn moved_token(shift: &Shift, token: Token) -> Result<Token, AllocError>
-    requires { HasOrder token }
-    ensures { IfOk result (λ new. new ≡ shifted_token shift.now.from shift.now.to token) }
+/// The token, moved.
+fn moved_token(shift: &Shift, token: Token) -> Token
+    requires { TokenMayMove shift.now.from shift.now.to token }
+    ensures { result ≡ shifted_token shift.now.from shift.now.to token }
 {
-    shift.token(token).ok_or(AllocError)
+    let mut moved = token;
+    shift.move_token(&mut moved);
+    moved
 }
 
 /// Adds copies of the tokens, moved.
 fn add_moved_tokens(list: &mut TokenList, tokens: &[Token], shift: &Shift) -> Result<(), AllocError>
-    requires { AllByRecursion HasOrder tokens.now }
+    requires { AllByRecursion (TokenMayMove shift.now.from shift.now.to) tokens.now }
     ensures { OnOk result
         (list.new ≡ list.old ++ map (shifted_token shift.now.from shift.now.to) tokens.now) }
 {
     for token in tokens {
-        let moved = moved_token(shift, *token)?;
-        list.push(moved)?;
+        list.push(moved_token(shift, *token))?;
     }
     Ok(())
 }
@@ -333,13 +335,12 @@ fn add_moved_diagnostics(
     diagnostics: &[Diagnostic],
     shift: &Shift,
 ) -> Result<(), AllocError>
+    requires { All (OfDiagnostic (FitsShifted shift.now.from shift.now.to)) diagnostics.now }
     ensures { OnOk result
         (list.new ≡ list.old ++ map (shifted_diagnostic shift.now.from shift.now.to) diagnostics.now) }
 {
-    match shift.diagnostics(alloc, diagnostics)? {
-        Some(moved) => list.extend_from_slice(moved.as_slice()),
-        None => Err(AllocError),
-    }
+    let moved = shift.moved_diagnostics(alloc, diagnostics)?;
+    list.extend_from_slice(moved.as_slice())
 }
 
 /// Adds copies of the comments, moved.
@@ -349,13 +350,12 @@ fn add_moved_comments(
     comments: &[Comment],
     shift: &Shift,
 ) -> Result<(), AllocError>
+    requires { All (OfComment (FitsShifted shift.now.from shift.now.to)) comments.now }
     ensures { OnOk result
         (list.new ≡ list.old ++ map (shifted_comment shift.now.from shift.now.to) comments.now) }
 {
-    match shift.comments(alloc, comments)? {
-        Some(moved) => list.extend_from_slice(moved.as_slice()),
-        None => Err(AllocError),
-    }
+    let moved = shift.moved_comments(alloc, comments)?;
+    list.extend_from_slice(moved.as_slice())
 }
 
 /// Adds copies of the spans, moved.
@@ -365,13 +365,12 @@ fn add_moved_spans(
     spans: &[Span],
     shift: &Shift,
 ) -> Result<(), AllocError>
+    requires { All (OfSpan (FitsShifted shift.now.from shift.now.to)) spans.now }
     ensures { OnOk result
         (list.new ≡ list.old ++ map (shifted_span shift.now.from shift.now.to) spans.now) }
 {
-    match shift.spans(alloc, spans)? {
-        Some(moved) => list.extend_from_slice(moved.as_slice()),
-        None => Err(AllocError),
-    }
+    let moved = shift.moved_spans(alloc, spans)?;
+    list.extend_from_slice(moved.as_slice())
 }
 
 /// Makes live what is live in the old report from these lengths on, moved.
@@ -383,7 +382,7 @@ fn add_moved_from(
     shift: &Shift,
 ) -> Result<(), AllocError>
     requires inside { AreWithin lengths (live_lengths (report_live old.now)) }
-    requires in_order { AllByRecursion HasOrder (drop lengths.tokens old.now.tokens) }
+    requires may_move { LiveMayMove shift.now.from shift.now.to (live_from lengths (report_live old.now)) }
     ensures { OnOk result (GoesLive report.old (joined_live (report_live report.old)
         (shifted_live shift.now.from shift.now.to (live_from lengths (report_live old.now)))) report.new) }
 {
@@ -440,7 +439,7 @@ fn add_moved_live(
     requires lengths { lengths ≡ live_lengths (live_behind nothing_live (take start old.now.rows)) }
     requires ordered { start ≤ place }
     requires inside { place ≤ length old.now.rows }
-    requires in_order { AllByRecursion IsInOrder (drop place old.now.rows) }
+    requires may_move { AllByRecursion (MayMove shift.now.from shift.now.to) (drop place old.now.rows) }
     ensures { OnOk result (GoesLive report.old (live_behind (report_live report.old)
         (map (shifted_row shift.now.from shift.now.to) (drop place old.now.rows))) report.new) }
 {
@@ -466,7 +465,8 @@ pub(crate) fn live_of(
 ) -> Result<Report, AllocError>
     requires lasted { HasLasted commands.now old.now }
     requires few { kept + behind ≤ length old.now.rows }
-    requires in_order { AllByRecursion IsInOrder (drop (length old.now.rows - behind) old.now.rows) }
+    requires may_move { AllByRecursion (MayMove shift.now.from shift.now.to)
+        (drop (length old.now.rows - behind) old.now.rows) }
     ensures { IfOk result (λ report. report ≡ report_with [] [] (live_behind nothing_live (take kept old.now.rows
         ++ read.now
         ++ map (shifted_row shift.now.from shift.now.to) (drop (length old.now.rows - behind) old.now.rows)))) }

@@ -1,8 +1,8 @@
 //! What an edit asks of a row that stays, apart from the row: the outlines of all rows stand close together in memory.
 
-ghost use Rattle.std.specs.Prelude.{◌≡◌, ◌++◌, IfOk, OnOk, map};
-ghost use Rattle.js_session.specs.Shifted.{shifted};
-ghost use Rattle.js_relex.specs.Outlines.{has_found, outline_of, shifted_outline};
+ghost use Rattle.std.specs.Prelude.{◌≡◌, ◌++◌, OnOk, map};
+ghost use Rattle.std.specs.List.{AllByRecursion};
+ghost use Rattle.js_relex.specs.Outlines.{OutlineFits, has_found, outline_of, shifted_outline};
 
 use js_session::{Row, Shift};
 use js_text::ItemList;
@@ -49,11 +49,14 @@ pub(crate) fn add_outlines(list: &mut OutlineList, rows: &[Row]) -> Result<(), A
     Ok(())
 }
 
-/// The place, moved. One that is no `u32` then is answered as lack of memory, as in a row.
-fn moved_place(shift: &Shift, place: u32) -> Result<u32, AllocError>
-    ensures { IfOk result (λ new. new ≡ shifted shift.now.from shift.now.to place) }
+/// The outline, moved.
+fn moved_outline(shift: &Shift, outline: RowOutline) -> RowOutline
+    requires { OutlineFits shift.now.from shift.now.to outline }
+    ensures { result ≡ shifted_outline shift.now.from shift.now.to outline }
 {
-    shift.place(place).ok_or(AllocError)
+    let mut moved = outline;
+    shift.move_place(&mut moved.end);
+    moved
 }
 
 /// Adds the outlines, moved.
@@ -62,12 +65,12 @@ pub(crate) fn add_moved_outlines(
     outlines: &[RowOutline],
     shift: &Shift,
 ) -> Result<(), AllocError>
+    requires { AllByRecursion (OutlineFits shift.now.from shift.now.to) outlines.now }
     ensures { OnOk result
         (list.new ≡ list.old ++ map (shifted_outline shift.now.from shift.now.to) outlines.now) }
 {
     for outline in outlines {
-        let end = moved_place(shift, outline.end)?;
-        list.push(RowOutline { end, ..*outline })?;
+        list.push(moved_outline(shift, *outline))?;
     }
     Ok(())
 }

@@ -4,9 +4,9 @@ ghost use Rattle.std.specs.Prelude.{◌≡◌, ◌≤◌, ◌+◌, ◌-◌, [], 
 ghost use Rattle.std.specs.List.{AllByRecursion};
 ghost use Rattle.js_session.specs.Live.{report_live};
 ghost use Rattle.js_session.specs.Shifted.{shifted_row};
-ghost use Rattle.js_relex.specs.Documents.{IsGathered, IsInOrder};
+ghost use Rattle.js_relex.specs.Documents.{IsGathered, MayMove};
 ghost use Rattle.js_relex.specs.LiveLists.{AreWithin, HasLasted, Lasts, lengths_past, live_lengths, overwritten_live};
-ghost use Rattle.js_relex.specs.Outlines.{outline_of, shifted_outline};
+ghost use Rattle.js_relex.specs.Outlines.{OutlineFits, outline_of, shifted_outline};
 
 use crate::gather::{replace_rows, with_rows};
 use crate::live::live_of;
@@ -45,7 +45,9 @@ fn replaced_outlines(
     behind: usize,
     shift: &Shift,
 ) -> Result<OutlineList, AllocError>
-    requires { kept + behind ≤ length outlines.now }
+    requires few { kept + behind ≤ length outlines.now }
+    requires fits { AllByRecursion (OutlineFits shift.now.from shift.now.to)
+        (drop (length outlines.now - behind) outlines.now) }
     ensures { IfOk result (λ new. new ≡ take kept outlines.now ++ map outline_of read.now
         ++ map (shifted_outline shift.now.from shift.now.to) (drop (length outlines.now - behind) outlines.now)) }
 {
@@ -100,7 +102,8 @@ impl OutlinedReport {
         shift: &Shift,
     ) -> Result<(), AllocError>
         requires few { kept + behind ≤ length self.old.rows }
-        requires in_order { AllByRecursion IsInOrder (drop (length self.old.rows - behind) self.old.rows) }
+        requires may_move { AllByRecursion (MayMove shift.now.from shift.now.to)
+            (drop (length self.old.rows - behind) self.old.rows) }
         requires stay { shift.now.from ≡ shift.now.to
             → map (shifted_row shift.now.from shift.now.to) (drop (length self.old.rows - behind) self.old.rows)
             ≡ drop (length self.old.rows - behind) self.old.rows }
@@ -118,7 +121,7 @@ impl OutlinedReport {
             behind,
             shift,
         )?;
-        replace_rows(alloc, &mut self.report.rows, kept, read, behind, shift)?;
+        replace_rows(&mut self.report.rows, kept, read, behind, shift)?;
         let rows = mem::replace(&mut self.report.rows, RowList::new_in(alloc));
         self.report = with_rows(live, rows);
         self.outlines = outlines;
@@ -168,7 +171,8 @@ impl OutlinedReport {
     ) -> Result<(), AllocError>
         requires lasted { HasLasted commands.now self.old }
         requires few { kept + behind ≤ length self.old.rows }
-        requires in_order { AllByRecursion IsInOrder (drop (length self.old.rows - behind) self.old.rows) }
+        requires may_move { AllByRecursion (MayMove shift.now.from shift.now.to)
+            (drop (length self.old.rows - behind) self.old.rows) }
         requires stay { shift.now.from ≡ shift.now.to
             → map (shifted_row shift.now.from shift.now.to) (drop (length self.old.rows - behind) self.old.rows)
             ≡ drop (length self.old.rows - behind) self.old.rows }
@@ -197,7 +201,8 @@ impl OutlinedReport {
         requires collected { self.old.collected ≡ [] }
         requires read_lasted { AllByRecursion Lasts read }
         requires few { kept + behind ≤ length self.old.rows }
-        requires in_order { AllByRecursion IsInOrder (drop (length self.old.rows - behind) self.old.rows) }
+        requires may_move { AllByRecursion (MayMove shift.now.from shift.now.to)
+            (drop (length self.old.rows - behind) self.old.rows) }
         requires stay { shift.now.from ≡ shift.now.to
             → map (shifted_row shift.now.from shift.now.to) (drop (length self.old.rows - behind) self.old.rows)
             ≡ drop (length self.old.rows - behind) self.old.rows }

@@ -4,3 +4,5 @@
 
 #[cfg(test)]
 mod edits;
+#[cfg(test)]
+mod reports;

@@ -1,11 +1,11 @@
 use Rattle.std.proofs.Common.{◌∙◌, ap, drop, subst, sym}
-use Rattle.std.specs.List.{AllByRecursion}
 use Rattle.std.specs.Prelude.{OnOk}
 use Rattle.js_session.specs.declared.report.Report.{Report}
 use Rattle.js_session.specs.Live.{report_live}
 use Rattle.js_relex.specs.Documents.{GoesLive}
-use Rattle.js_relex.specs.LiveLists.{AreWithin, HasOrder, StartsAnew, joined_live, live_from, live_lengths, shifted_live}
-use Rattle.js_relex.proofs.LiveParts.{moved_from, order_from, within_report}
+use Rattle.js_relex.specs.LiveLists.{AreWithin, LiveMayMove, StartsAnew, joined_live, live_from, live_lengths}
+use Rattle.js_relex.specs.LiveLists.{shifted_live}
+use Rattle.js_relex.proofs.LiveParts.{move_from, moved_from, within_report}
 use Rattle.js_relex.proofs.Outcomes.{ok_gives}
 use Rattle.js_relex.proofs.live.add_moved_live.Goals as goal
 
@@ -17,15 +17,17 @@ add_moved_from-requires-clause-inside c =
     (within_report c.args.old.now c.requires.lasted c.requires.live c.next_start-next.result
     c.lengths_further-lengths.result c.lengths_further-lengths.ensures)
 
-pub add_moved_from-requires-clause-in_order : goal.add_moved_from-requires-clause-in_order
-add_moved_from-requires-clause-in_order c =
+pub add_moved_from-requires-clause-may_move : goal.add_moved_from-requires-clause-may_move
+add_moved_from-requires-clause-may_move c =
     let rows_are = c.as_slice-rows.ensures ∙ ap (λ (r : Report). r.rows) c.report-old_report.ensures in
-    subst (λ (r : Report). AllByRecursion HasOrder (drop c.lengths_further-lengths.result.tokens r.tokens))
+    let from = c.args.shift.now.from in
+    let to = c.args.shift.now.to in
+    subst (λ (r : Report). LiveMayMove from to (live_from c.lengths_further-lengths.result (report_live r)))
     (sym c.report-old_report.ensures)
-    (order_from c.args.old.now c.requires.lasted c.requires.live c.next_start-next.result
+    (move_from c.args.old.now c.requires.lasted c.requires.live c.next_start-next.result
     c.lengths_further-lengths.result c.lengths_further-lengths.ensures
-    (subst (λ rs. StartsAnew (drop c.next_start-next.result rs)) rows_are c.next_start-next.ensures.anew)
-    c.args.place c.next_start-next.ensures.behind c.requires.in_order)
+    (subst (λ rs. StartsAnew (drop c.next_start-next.result rs)) rows_are c.next_start-next.ensures.anew) from to
+    c.args.place c.next_start-next.ensures.behind c.requires.may_move)
 
 pub returns : goal.returns
 returns c =

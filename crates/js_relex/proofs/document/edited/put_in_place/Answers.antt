@@ -4,7 +4,7 @@ use Rattle.js_relex.specs.Joining.{PreparedState}
 use Rattle.js_relex.specs.LiveLists.{HasLasted}
 use Rattle.js_relex.proofs.Lasted.{has_lasted}
 use Rattle.js_relex.proofs.NewRows.{none_collected}
-use Rattle.js_relex.proofs.PutTogether.{few_kept, gathered_in_place, order_behind, read_lasts, rows_stay}
+use Rattle.js_relex.proofs.PutTogether.{few_kept, gathered_in_place, last_may_move, read_lasts, rows_stay}
 use Rattle.js_relex.proofs.Relexed.{document_of}
 use Rattle.js_relex.proofs.Ticks.{is_document, made}
 use Rattle.js_relex.proofs.document.edited.put_in_place.Goals as goal
@@ -32,12 +32,13 @@ replace-requires-clause-few c =
     c.count_taken_over-behind.ensures c.prepared.inside.kept
     (ap (λ (x : PreparedState). x.kept) c.prepared.view_is)
 
-pub replace-requires-clause-in_order : goal.replace-requires-clause-in_order
-replace-requires-clause-in_order c =
-    order_behind c.args.old c.args.edit.now.start c.args.edit.now.end c.args.edit.now.text.now c.args.prepared
+pub replace-requires-clause-may_move : goal.replace-requires-clause-may_move
+replace-requires-clause-may_move c =
+    last_may_move c.args.old c.args.edit.now.start c.args.edit.now.end c.args.edit.now.text.now c.args.prepared
     (document_of c.args.old _ _ _ _ _ _ c.old.invariant c.old.view_is) c.requires c.old.inside.report.rows
     c.count_taken_over-behind.result (ap (λ (d : DocState). d.report.rows) c.old.view_is)
-    c.count_taken_over-behind.ensures
+    c.count_taken_over-behind.ensures c.shift_of-shift.result.from
+    c.shift_of-shift.result.to c.shift_of-shift.ensures.from c.shift_of-shift.ensures.to
 
 pub replace-requires-clause-stay : goal.replace-requires-clause-stay
 replace-requires-clause-stay c =

@@ -4,7 +4,7 @@ use Rattle.js_relex.specs.Documents.{DocState, IsDocument, IsGathered}
 use Rattle.js_relex.specs.Documents.{joining}
 use Rattle.js_relex.specs.Joining.{all_rows}
 use Rattle.js_relex.specs.Joining.{PreparedState}
-use Rattle.js_relex.proofs.PutTogether.{few_behind, gathers_all, last_in_order}
+use Rattle.js_relex.proofs.PutTogether.{few_behind, gathers_all, rest_may_move}
 use Rattle.js_relex.proofs.Relexed.{document_of}
 use Rattle.js_relex.proofs.Ticks.{is_document, made}
 use Rattle.js_relex.proofs.document.edited.put_together.Goals as goal
@@ -20,12 +20,13 @@ overflow_sub-rows c =
 
 pub add_moved_copies-requires : goal.add_moved_copies-requires
 add_moved_copies-requires c =
-    last_in_order c.args.old.now c.args.edit.now.start c.args.edit.now.end c.args.edit.now.text.now c.args.prepared
+    rest_may_move c.args.old.now c.args.edit.now.start c.args.edit.now.end c.args.edit.now.text.now c.args.prepared
     (document_of c.args.old.now _ _ _ _ _ _ c.old.invariant c.old.view_is) c.requires c.as_slice-rows.result.now
     c.count_taken_over-behind.result
     (c.as_slice-rows.ensures ∙ ap (λ (r : Report). r.rows) c.report.ensures
     ∙ ap (λ (d : DocState). d.report.rows) c.old.view_is)
-    c.count_taken_over-behind.ensures
+    c.count_taken_over-behind.ensures c.shift_of-shift.result.from
+    c.shift_of-shift.result.to c.shift_of-shift.ensures.from c.shift_of-shift.ensures.to
 
 pub invariant_of-result : goal.invariant_of-result
 invariant_of-result c =

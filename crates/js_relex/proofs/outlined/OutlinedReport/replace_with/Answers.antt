@@ -1,8 +1,19 @@
-use Rattle.std.proofs.Common.{◌∙◌, ◌-◌, ◌++◌, ap, drop, length, map, sym, take}
+use Rattle.std.proofs.Common.{◌∙◌, ◌-◌, ◌++◌, ap, drop, length, map, subst, sym, take}
+use Rattle.std.specs.List.{AllByRecursion}
 use Rattle.js_session.specs.declared.report.Report.{Report}
 use Rattle.js_session.specs.Shifted.{shifted_row}
-use Rattle.js_relex.proofs.OutlineLemmas.{outlines_replaced}
+use Rattle.js_relex.specs.Documents.{MayMove}
+use Rattle.js_relex.proofs.OutlineLemmas.{outlines_fit, outlines_replaced}
 use Rattle.js_relex.proofs.outlined.OutlinedReport.replace_with.Goals as goal
+
+pub replaced_outlines-requires-clause-fits : goal.replaced_outlines-requires-clause-fits
+replaced_outlines-requires-clause-fits c =
+    let from = c.args.shift.now.from in
+    let to = c.args.shift.now.to in
+    outlines_fit from to c.args.behind c.self.inside.report.rows c.as_slice.result.now
+    (c.as_slice.ensures ∙ c.self.invariant)
+    (subst (λ (r : Report). AllByRecursion (MayMove from to) (drop (length r.rows - c.args.behind) r.rows))
+    (sym c.self.view_is) c.requires.may_move)
 
 pub invariant_of-self-2 : goal.invariant_of-self-2
 invariant_of-self-2 c =
