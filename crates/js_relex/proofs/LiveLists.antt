@@ -160,15 +160,15 @@ lengths_behind live (row ∷ rows) lasted =
     ∙ same_lengths (more_lengths (live_lengths next) (row_readings rows) rows)
     (more_lengths (live_lengths live) (row_readings (row ∷ rows)) (row ∷ rows))
     (omega (arith, tokens, readings))
-    (longer Diagnostics live.findings.diagnostics row.findings.diagnostics next.findings.diagnostics refl
+    (longer Diagnostics live.findings.diagnostics row.diagnostics next.findings.diagnostics refl
     (ap (λ (f : Findings). f.diagnostics) found))
-    (longer Deferred live.findings.deferred row.findings.deferred next.findings.deferred refl
+    (longer Deferred live.findings.deferred row.deferred next.findings.deferred refl
     (ap (λ (f : Findings). f.deferred) found))
-    (longer Comments live.findings.comments row.findings.comments next.findings.comments refl
+    (longer Comments live.findings.comments row.comments next.findings.comments refl
     (ap (λ (f : Findings). f.comments) found))
-    (longer Irregular live.findings.irregular row.findings.irregular next.findings.irregular refl
+    (longer Irregular live.findings.irregular row.irregular next.findings.irregular refl
     (ap (λ (f : Findings). f.irregular) found))
-    (longer Warnings live.findings.warnings row.findings.warnings next.findings.warnings refl
+    (longer Warnings live.findings.warnings row.warnings next.findings.warnings refl
     (ap (λ (f : Findings). f.warnings) found))
   where
     longer : {A : Type 0} (list : FoundList) (before here all : List A) → length here ≡ found_length list row

@@ -36,11 +36,11 @@ module _ (from to : ℕ) where
   findings_moved live row =
       λ i. record {
         diagnostics =
-            sym (map-append (shifted_diagnostic from to) live.findings.diagnostics row.findings.diagnostics) i;
-        deferred = sym (map-append (shifted_diagnostic from to) live.findings.deferred row.findings.deferred) i;
-        comments = sym (map-append (shifted_comment from to) live.findings.comments row.findings.comments) i;
-        irregular = sym (map-append (shifted_span from to) live.findings.irregular row.findings.irregular) i;
-        warnings = sym (map-append (shifted_span from to) live.findings.warnings row.findings.warnings) i;
+            sym (map-append (shifted_diagnostic from to) live.findings.diagnostics row.diagnostics) i;
+        deferred = sym (map-append (shifted_diagnostic from to) live.findings.deferred row.deferred) i;
+        comments = sym (map-append (shifted_comment from to) live.findings.comments row.comments) i;
+        irregular = sym (map-append (shifted_span from to) live.findings.irregular row.irregular) i;
+        warnings = sym (map-append (shifted_span from to) live.findings.warnings row.warnings) i;
       }
 
   row_moved : (live : Live) (effect : Effect) (row : Row)

@@ -67,11 +67,11 @@ none_mapped f xs = ap (λ n. n == 0) (length-map xs f)
 outline_moved : (from to : ℕ) (row : Row)
     → shifted_outline from to (outline_of row) ≡ outline_of (shifted_row from to row)
 outline_moved from to row =
-    let diagnostics = none_mapped (shifted_diagnostic from to) row.findings.diagnostics in
-    let deferred = none_mapped (shifted_diagnostic from to) row.findings.deferred in
-    let comments = none_mapped (shifted_comment from to) row.findings.comments in
-    let irregular = none_mapped (shifted_span from to) row.findings.irregular in
-    let warnings = none_mapped (shifted_span from to) row.findings.warnings in
+    let diagnostics = none_mapped (shifted_diagnostic from to) row.diagnostics in
+    let deferred = none_mapped (shifted_diagnostic from to) row.deferred in
+    let comments = none_mapped (shifted_comment from to) row.comments in
+    let irregular = none_mapped (shifted_span from to) row.irregular in
+    let warnings = none_mapped (shifted_span from to) row.warnings in
     sym (λ i. record {
       end = (shifted_row from to row).token.end;
       has_found = not (diagnostics i && (deferred i && (comments i && (irregular i && warnings i))));

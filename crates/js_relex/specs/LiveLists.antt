@@ -61,11 +61,11 @@ pub record HasLasted (commands : List Command) (report : Report) : Type 0 where
 
 -- how many items the row has in the list
 abbrev pub found_length : FoundList → Row → ℕ
-found_length Diagnostics row = length row.findings.diagnostics
-found_length Deferred row = length row.findings.deferred
-found_length Comments row = length row.findings.comments
-found_length Irregular row = length row.findings.irregular
-found_length Warnings row = length row.findings.warnings
+found_length Diagnostics row = length row.diagnostics
+found_length Deferred row = length row.deferred
+found_length Comments row = length row.comments
+found_length Irregular row = length row.irregular
+found_length Warnings row = length row.warnings
 
 -- how many the rows have
 abbrev pub total_found : FoundList → List Row → ℕ

@@ -8,9 +8,9 @@ use Rattle.js_relex.specs.declared.outline.RowOutline.{RowOutline}
 -- the row has an item in one of its lists
 abbrev pub has_found : Row → Bool
 has_found row =
-    not (length row.findings.diagnostics == 0 && (length row.findings.deferred == 0
-    && (length row.findings.comments == 0 && (length row.findings.irregular == 0
-    && length row.findings.warnings == 0))))
+    not (length row.diagnostics == 0 && (length row.deferred == 0
+    && (length row.comments == 0 && (length row.irregular == 0
+    && length row.warnings == 0))))
 
 -- where the row's token ends, and whether it has found anything
 abbrev pub outline_of : Row → RowOutline

@@ -41,12 +41,15 @@ fn add_findings(report: &mut Report, row: &Row) -> Result<(), AllocError>
     ensures { OnOk result (GoesLive report.old (record (with_outcome (report_live report.old) (outcome_of row.now))
         { tokens = report.old.tokens }) report.new) }
 {
-    let found = &row.findings;
-    report.diagnostics.extend_from_slice(found.diagnostics())?;
-    report.deferred.extend_from_slice(found.deferred())?;
-    report.comments.extend_from_slice(found.comments())?;
-    report.irregular.extend_from_slice(found.irregular())?;
-    report.warnings.extend_from_slice(found.warnings())
+    report
+        .diagnostics
+        .extend_from_slice(row.diagnostics.as_slice())?;
+    report.deferred.extend_from_slice(row.deferred.as_slice())?;
+    report.comments.extend_from_slice(row.comments.as_slice())?;
+    report
+        .irregular
+        .extend_from_slice(row.irregular.as_slice())?;
+    report.warnings.extend_from_slice(row.warnings.as_slice())
 }
 
 /// Makes the row's token live behind the others, with what the row found.

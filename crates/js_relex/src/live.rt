@@ -85,11 +85,11 @@ fn found_length(list: FoundList, row: &Row) -> usize
     ensures { result ≡ found_length list row.now }
 {
     match list {
-        FoundList::Diagnostics => row.findings.diagnostics().len(),
-        FoundList::Deferred => row.findings.deferred().len(),
-        FoundList::Comments => row.findings.comments().len(),
-        FoundList::Irregular => row.findings.irregular().len(),
-        FoundList::Warnings => row.findings.warnings().len(),
+        FoundList::Diagnostics => row.diagnostics.len(),
+        FoundList::Deferred => row.deferred.len(),
+        FoundList::Comments => row.comments.len(),
+        FoundList::Irregular => row.irregular.len(),
+        FoundList::Warnings => row.warnings.len(),
     }
 }
 

@@ -22,11 +22,11 @@ pub(crate) type OutlineList = ItemList<RowOutline>;
 fn has_found(row: &Row) -> bool
     ensures { result ≡ has_found row.now }
 {
-    !(row.findings.diagnostics().is_empty()
-        && row.findings.deferred().is_empty()
-        && row.findings.comments().is_empty()
-        && row.findings.irregular().is_empty()
-        && row.findings.warnings().is_empty())
+    !(row.diagnostics.is_empty()
+        && row.deferred.is_empty()
+        && row.comments.is_empty()
+        && row.irregular.is_empty()
+        && row.warnings.is_empty())
 }
 
 /// The outline of the row.

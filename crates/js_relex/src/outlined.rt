@@ -51,7 +51,10 @@ fn replaced_outlines(
     ensures { IfOk result (λ new. new ≡ take kept outlines.now ++ map outline_of read.now
         ++ map (shifted_outline shift.now.from shift.now.to) (drop (length outlines.now - behind) outlines.now)) }
 {
-    let mut list = OutlineList::from_vec(Vec::with_capacity(alloc, kept + read.len() + behind)?);
+    let mut list = OutlineList::from_vec(
+        alloc,
+        Vec::with_capacity(alloc, kept + read.len() + behind)?,
+    )?;
     list.extend_from_slice(&outlines[..kept])?;
     add_outlines(&mut list, read)?;
     add_moved_outlines(&mut list, &outlines[outlines.len() - behind..], shift)?;
@@ -62,7 +65,7 @@ fn replaced_outlines(
 fn outlines_of(alloc: Global, rows: &[Row]) -> Result<OutlineList, AllocError>
     ensures { IfOk result (λ outlines. outlines ≡ map outline_of rows.now) }
 {
-    let mut outlines = OutlineList::from_vec(Vec::with_capacity(alloc, rows.len())?);
+    let mut outlines = OutlineList::from_vec(alloc, Vec::with_capacity(alloc, rows.len())?)?;
     add_outlines(&mut outlines, rows)?;
     Ok(outlines)
 }
@@ -153,8 +156,8 @@ impl OutlinedReport {
         let outlines = outlines_of(alloc, read.as_slice())?;
         let end = self.report.rows.len() - behind;
         self.report.rows.replace(kept, end, read)?;
-        overwrite_live(alloc, &mut self.report, tokens, &before, &middle);
-        overwrite(alloc, &mut self.outlines, kept, outlines.as_slice());
+        overwrite_live(&mut self.report, tokens, &before, &middle);
+        overwrite(&mut self.outlines, kept, outlines.as_slice());
         Ok(())
     }
 

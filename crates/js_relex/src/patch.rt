@@ -16,7 +16,6 @@ use js_kind::TokenList;
 use js_session::{Command, Report, Row, Shift};
 use js_text::ItemList;
 use std::alloc::{AllocError, Global};
-use std::mem;
 
 /// What is put in the place of as much from these lengths of the live lists on.
 #[derive(Drop)]
@@ -129,19 +128,15 @@ pub(crate) fn patch_of(
 }
 
 /// Puts the items in the place of as many from the start on. It succeeds without memory.
-pub(crate) fn overwrite<T: Copy + Drop>(
-    alloc: Global,
-    list: &mut ItemList<T>,
-    start: usize,
-    items: &[T],
-)
+pub(crate) fn overwrite<T: Copy + Drop>(list: &mut ItemList<T>, start: usize, items: &[T])
     requires { start + length items.now ≤ length list.old }
     ensures { list.new ≡ take start list.old ++ items.now ++ drop (start + length items.now) list.old }
 {
-    let mut vector = mem::replace(list, ItemList::new_in(alloc)).into_vec();
     let end = start + items.len();
-    vector.slice_mut(start..end).copy_from_slice(items);
-    *list = ItemList::from_vec(vector);
+    if let Some(mut held) = list.take_boxed() {
+        held.slice_mut(start..end).copy_from_slice(items);
+        list.put_boxed(held);
+    }
 }
 
 /// The tokens with others in the place of as many from the start on.
@@ -166,7 +161,6 @@ pub(crate) fn patched_tokens(
 /// Puts what the other report has found in the place of as much from these lengths on, and the tokens in the place of
 /// all. It succeeds without memory.
 pub(crate) fn overwrite_live(
-    alloc: Global,
     report: &mut Report,
     tokens: TokenList,
     before: &LiveLengths,
@@ -180,31 +174,26 @@ pub(crate) fn overwrite_live(
 {
     report.tokens = tokens;
     overwrite(
-        alloc,
         &mut report.diagnostics,
         before.diagnostics,
         middle.diagnostics.as_slice(),
     );
     overwrite(
-        alloc,
         &mut report.deferred,
         before.deferred,
         middle.deferred.as_slice(),
     );
     overwrite(
-        alloc,
         &mut report.comments,
         before.comments,
         middle.comments.as_slice(),
     );
     overwrite(
-        alloc,
         &mut report.irregular,
         before.irregular,
         middle.irregular.as_slice(),
     );
     overwrite(
-        alloc,
         &mut report.warnings,
         before.warnings,
         middle.warnings.as_slice(),
