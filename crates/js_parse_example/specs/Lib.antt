@@ -1,4 +1,2 @@
 pub mod Arrow
-pub mod Covered
-pub mod Shown
 pub mod Trees

@@ -89,7 +89,6 @@ pub fn is_arrow(cursor: &mut Tokens<'_>, alloc: Global) -> Result<bool, AllocErr
 /// Parses names up to the `)` behind them.
 fn names(cursor: &mut Tokens<'_>, trees: &mut Trees<'_>, opening: Span) -> Result<(), AllocError>
     ensures onward { cursor.old.token.start ≤ cursor.new.token.start }
-    ensures text { trees.new.text ≡ trees.old.text }
 {
     if !cursor.delimited_list_begins(Kind::RParen) {
         return Ok(());
@@ -106,7 +105,6 @@ fn names(cursor: &mut Tokens<'_>, trees: &mut Trees<'_>, opening: Span) -> Resul
 /// Parses the parameters of an arrow function.
 fn parameters(cursor: &mut Tokens<'_>, trees: &mut Trees<'_>) -> Result<(), AllocError>
     ensures onward { cursor.old.token.start ≤ cursor.new.token.start }
-    ensures text { trees.new.text ≡ trees.old.text }
 {
     if !cursor.at(Kind::LParen) {
         return name(cursor, trees);
@@ -120,7 +118,6 @@ fn parameters(cursor: &mut Tokens<'_>, trees: &mut Trees<'_>) -> Result<(), Allo
 /// Goes past what an arrow function begins with: its parameters, and the arrow.
 pub fn arrow_head(cursor: &mut Tokens<'_>, trees: &mut Trees<'_>) -> Result<(), AllocError>
     ensures onward { cursor.old.token.start ≤ cursor.new.token.start }
-    ensures text { trees.new.text ≡ trees.old.text }
 {
     parameters(cursor, trees)?;
     cursor.expect(Kind::Arrow)

@@ -1,6 +1,6 @@
 //! Expressions, by the strength of their operators.
 
-ghost use Rattle.std.specs.Prelude.{◌≡◌, ◌≤◌, ◌<◌, ◌^◌, IfOk};
+ghost use Rattle.std.specs.Prelude.{◌≤◌, ◌<◌, ◌^◌, IfOk};
 
 use crate::brackets::{Brackets, begins, end, goes_on};
 use crate::fault::ParseFault;
@@ -33,7 +33,6 @@ fn elements(
     opening: Span,
 ) -> Result<(), ParseFault>
     ensures onward { cursor.old.token.start ≤ cursor.new.token.start }
-    ensures text { trees.new.text ≡ trees.old.text }
 {
     if !begins(cursor, brackets) {
         return Ok(());
@@ -55,7 +54,6 @@ fn rest(
     rest: Rest,
 ) -> Result<(), ParseFault>
     ensures onward { cursor.old.token.start ≤ cursor.new.token.start }
-    ensures text { trees.new.text ≡ trees.old.text }
 {
     match rest {
         Rest::Nothing => Ok(()),
@@ -78,7 +76,6 @@ pub fn expression(
 ) -> Result<(), ParseFault>
     ensures onward { cursor.old.token.start ≤ cursor.new.token.start }
     ensures short { cursor.old.token.start < 2 ^ 32 }
-    ensures text { trees.new.text ≡ trees.old.text }
 {
     let depth = inner(cursor, depth)?;
     let (start, mark) = (cursor.cur_start(), trees.mark());

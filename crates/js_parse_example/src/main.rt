@@ -4,7 +4,6 @@
 
 mod arrow;
 mod brackets;
-mod cover;
 mod expression;
 mod fault;
 mod node;

@@ -1,6 +1,6 @@
 //! What operands begin with.
 
-ghost use Rattle.std.specs.Prelude.{◌≡◌, ◌≤◌};
+ghost use Rattle.std.specs.Prelude.{◌≤◌};
 
 use crate::arrow::{arrow_head, is_arrow};
 use crate::brackets::{Brackets, open};
@@ -93,7 +93,6 @@ fn begin_operand(cursor: &mut Tokens<'_>) -> Result<Step, AllocError>
 /// Goes past what an expression begins with, whose operators bind as strongly as `least`, or stronger.
 pub fn begin(cursor: &mut Tokens<'_>, trees: &mut Trees<'_>, least: u8) -> Result<Step, AllocError>
     ensures onward { cursor.old.token.start ≤ cursor.new.token.start }
-    ensures text { trees.new.text ≡ trees.old.text }
 {
     if least > ASSIGNMENT {
         return begin_operand(cursor);

@@ -1,126 +1,87 @@
 //! What the program prints.
 
-ghost use Rattle.std.specs.Prelude.{◌≡◌, ◌++◌, codes, string_bytes, IfOk, OnOk};
-ghost use Rattle.std.specs.List.{flat_map};
-ghost use Rattle.js_parse_example.specs.Shown.{error_line, fatal_line, line_at, lexer_line, node_line, parser_line};
-ghost use Rattle.js_parse_example.specs.Shown.{shown};
-
 use crate::node::Node;
 use crate::tokens::Tokens;
-use js_cursor::{CursorDiagnostic, FatalError};
+use crate::tree::Trees;
+use js_cursor::CursorDiagnostic;
 use js_text::{Diagnostic, Span};
 use std::alloc::{AllocError, Global};
 use std::fmt::Write;
 
+/// Takes away the parents that have no child left.
+fn pop_full(left: &mut Vec<usize>) {
+    'left: while let Some(0) = left.last() {
+        left.pop();
+    }
+}
+
+/// How deep each node stands under its root, the last node first.
+fn depths(alloc: Global, nodes: &[Node]) -> Result<Vec<usize>, AllocError> {
+    let mut depths = Vec::new(alloc);
+    let mut left: Vec<usize> = Vec::new(alloc);
+    for node in nodes.iter().rev() {
+        pop_full(&mut left);
+        depths.push(left.len())?;
+        if let Some(children) = left.last_mut() {
+            *children = children.saturating_sub(1);
+        }
+        left.push(node.children)?;
+    }
+    Ok(depths)
+}
+
 /// Writes the line of a node.
-#[tactic(auto, unfolding(crate::specs::Shown::node_line))]
-fn push_node(text: &mut String, node: &Node) -> Result<(), AllocError>
-    ensures { OnOk result (string_bytes text.new ≡ string_bytes text.old ++ node_line node.now) }
-{
-    let (name, children) = (node.kind.name(), node.children);
-    let (start, end) = (node.span.start, node.span.end);
-    writeln!(text, "{name} {start}..{end} {children}")
+fn push_node(text: &mut String, node: &Node, depth: usize) -> Result<(), AllocError> {
+    for _ in 0..depth {
+        text.push_str("  ")?;
+    }
+    let (name, Span { start, end }) = (node.kind.name(), node.span);
+    writeln!(text, "{name} {start}..{end}")?;
+    Ok(())
 }
 
 /// Writes a line for each node, behind those of its children.
-fn push_nodes(text: &mut String, nodes: &[Node]) -> Result<(), AllocError>
-    ensures { OnOk result (string_bytes text.new ≡ string_bytes text.old ++ flat_map node_line nodes.now) }
-{
-    for node in nodes {
-        push_node(text, node)?;
+fn push_nodes(text: &mut String, nodes: &[Node], depths: &[usize]) -> Result<(), AllocError> {
+    for (node, depth) in nodes.iter().zip(depths.iter().rev()) {
+        push_node(text, node, *depth)?;
     }
     Ok(())
 }
 
 /// Writes the line of an error.
-#[tactic(auto, unfolding(crate::specs::Shown::error_line))]
-fn push_error(text: &mut String, what: &str, name: &str, span: Span) -> Result<(), AllocError>
-    ensures { OnOk result (string_bytes text.new ≡ string_bytes text.old ++ error_line what.now name.now span) }
-{
+fn push_error(text: &mut String, what: &str, name: &str, span: Span) -> Result<(), AllocError> {
     let Span { start, end } = span;
-    writeln!(text, "{what} {name} {start}..{end}")
-}
-
-/// Writes the line of an error of the parser.
-fn push_parser_error(
-    text: &mut String,
-    what: &str,
-    error: &CursorDiagnostic,
-) -> Result<(), AllocError>
-    ensures { OnOk result (string_bytes text.new ≡ string_bytes text.old ++ parser_line what.now error.now) }
-{
-    push_error(text, what, error.name(), error.span())
+    writeln!(text, "{what} {name} {start}..{end}")?;
+    Ok(())
 }
 
 /// Writes a line for each error of the parser.
-fn push_errors(text: &mut String, errors: &[CursorDiagnostic]) -> Result<(), AllocError>
-    ensures { OnOk result (string_bytes text.new
-        ≡ string_bytes text.old ++ flat_map (parser_line (codes "error")) errors.now) }
-{
+fn push_errors(text: &mut String, errors: &[CursorDiagnostic]) -> Result<(), AllocError> {
     for error in errors {
-        push_parser_error(text, "error", error)?;
+        push_error(text, "error", error.name(), error.span())?;
     }
     Ok(())
 }
 
-/// Writes the line of the fatal error, if there is one.
-fn push_fatal(text: &mut String, fatal: Option<FatalError>) -> Result<(), AllocError>
-    ensures { OnOk result (string_bytes text.new ≡ string_bytes text.old ++ fatal_line fatal) }
-{
-    match fatal {
-        Some(fatal) => push_parser_error(text, "fatal", &fatal.error),
-        None => Ok(()),
-    }
-}
-
-/// Writes the line of an error of the lexer that has a place.
-fn push_diagnostic(text: &mut String, error: &Diagnostic) -> Result<(), AllocError>
-    ensures { OnOk result (string_bytes text.new ≡ string_bytes text.old ++ lexer_line error.now) }
-{
-    match error.span() {
-        Some(span) => push_error(text, "lexer", error.name(), span),
-        None => Ok(()),
-    }
-}
-
-/// Writes a line for each error of the lexer that has a place.
-fn push_diagnostics(text: &mut String, errors: &[Diagnostic]) -> Result<(), AllocError>
-    ensures { OnOk result (string_bytes text.new ≡ string_bytes text.old ++ flat_map lexer_line errors.now) }
-{
+/// Writes a line for each error of the lexer.
+fn push_diagnostics(text: &mut String, errors: &[Diagnostic]) -> Result<(), AllocError> {
     for error in errors {
-        push_diagnostic(text, error)?;
+        if let Some(span) = error.span() {
+            push_error(text, "lexer", error.name(), span)?;
+        }
     }
     Ok(())
 }
 
 /// The lines of all nodes, and then those of all errors.
-fn lines(
-    alloc: Global,
-    nodes: &[Node],
-    errors: &[CursorDiagnostic],
-    fatal: Option<FatalError>,
-    found: &[Diagnostic],
-) -> Result<String, AllocError>
-    ensures { IfOk result (λ text. string_bytes text ≡ shown nodes.now errors.now fatal found.now) }
-{
+pub fn shown(alloc: Global, cursor: &Tokens<'_>, trees: &Trees<'_>) -> Result<String, AllocError> {
     let mut text = String::new(alloc);
-    push_nodes(&mut text, nodes)?;
-    push_errors(&mut text, errors)?;
-    push_fatal(&mut text, fatal)?;
-    push_diagnostics(&mut text, found)?;
+    let depths = depths(alloc, trees.nodes())?;
+    push_nodes(&mut text, trees.nodes(), depths.as_slice())?;
+    push_errors(&mut text, cursor.errors())?;
+    if let Some(fatal) = cursor.fatal_error() {
+        push_error(&mut text, "fatal", fatal.error.name(), fatal.error.span())?;
+    }
+    push_diagnostics(&mut text, cursor.lexer().errors())?;
     Ok(text)
-}
-
-/// The lines of the nodes, and then those of all errors that a cursor has.
-pub fn shown(alloc: Global, cursor: &Tokens<'_>, nodes: &[Node]) -> Result<String, AllocError>
-    ensures { IfOk result (λ text. string_bytes text ≡ shown nodes.now cursor.now.errors cursor.now.fatal
-        cursor.now.lexer.findings.diagnostics) }
-{
-    lines(
-        alloc,
-        nodes,
-        cursor.errors(),
-        cursor.fatal_error(),
-        cursor.lexer().errors(),
-    )
 }

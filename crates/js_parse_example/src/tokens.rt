@@ -1,7 +1,6 @@
 //! What the parts of the parser share: the cursor, and the nodes of single tokens.
 
-ghost use Rattle.std.specs.Prelude.{◌≡◌, ◌≤◌, ◌<◌, ◌^◌, true};
-ghost use Rattle.std.specs.Option.{is_some};
+ghost use Rattle.std.specs.Prelude.{◌≤◌, ◌<◌, ◌^◌};
 
 use crate::node::NodeKind;
 use crate::tree::Trees;
@@ -26,9 +25,7 @@ pub fn close(
     mark: usize,
     kind: NodeKind,
     start: u32,
-) -> Result<(), AllocError>
-    ensures { trees.new.text ≡ trees.old.text }
-{
+) -> Result<(), AllocError> {
     trees.close(
         mark,
         kind,
@@ -43,7 +40,6 @@ pub fn close(
 pub fn name(cursor: &mut Tokens<'_>, trees: &mut Trees<'_>) -> Result<(), AllocError>
     ensures onward { cursor.old.token.start ≤ cursor.new.token.start }
     ensures short { cursor.old.token.start < 2 ^ 32 }
-    ensures text { trees.new.text ≡ trees.old.text }
 {
     let start = cursor.cur_start();
     cursor.bump_any()?;
@@ -51,10 +47,8 @@ pub fn name(cursor: &mut Tokens<'_>, trees: &mut Trees<'_>) -> Result<(), AllocE
 }
 
 /// Stops the parser: no expression stands here.
-#[tactic(auto, using(crate::proofs::Stops::is_stopped))]
 pub fn stop(cursor: &mut Tokens<'_>)
     ensures onward { cursor.old.token.start ≤ cursor.new.token.start }
-    ensures stopped { is_some cursor.new.fatal ≡ true }
 {
     let span = cursor.cur_span();
     cursor.set_fatal_error(CursorDiagnostic::Parser {
