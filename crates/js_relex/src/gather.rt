@@ -183,11 +183,11 @@ pub(crate) fn replace_rows(
         ++ map (shifted_row shift.now.from shift.now.to) (drop (length rows.old - behind) rows.old)) }
     ensures err { OnErr result (rows.new ≡ rows.old) }
 {
-    let start = rows.len() - behind;
+    let start = rows.as_slice().len() - behind;
     if shift.from == shift.to {
         return rows.replace(kept, start, read);
     }
-    let index = kept + read.len();
+    let index = kept + read.as_slice().len();
     rows.replace(kept, start, read)?;
     rows.shift_behind(index, shift);
     Ok(())

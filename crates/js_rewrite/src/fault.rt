@@ -9,6 +9,7 @@ ghost use Rattle.js_rewrite.specs.Faults.{RewriteCause};
 ghost use Rattle.js_rewrite.specs.declared.fault.RewriteFault.{RewriteFault};
 
 use js_session::LexFault;
+use std::alloc::AllocError;
 
 /// Why a source is not written anew, in the order in which it is tested.
 #[derive(Clone, Copy, PartialEq, Eq, Debug)]
@@ -27,7 +28,7 @@ pub enum RewriteFault {
 }
 
 /// The fault of a source. No source is at fault for its marks or for lack of memory.
-pub fn fault_of(fault: LexFault) -> RewriteFault
+pub(crate) fn fault_of(fault: LexFault) -> RewriteFault
     ensures { (source : List ℕ) (t : SourceType) (commands : List Command) → SourceCause source fault
         → RewriteCause source t commands result }
 {
@@ -39,12 +40,11 @@ pub fn fault_of(fault: LexFault) -> RewriteFault
 }
 
 /// The fault of a source that can be read, with commands of which none closes a mark: nothing but memory is wanting.
-pub(crate) fn lack_of_memory(fault: LexFault) -> RewriteFault
+pub(crate) fn lack_of_memory(fault: LexFault) -> AllocError
     requires { fault ≡ LexFault.Memory }
-    ensures { result ≡ RewriteFault.Memory }
 {
     match fault {
-        LexFault::Memory => RewriteFault::Memory,
+        LexFault::Memory => AllocError,
         LexFault::Overlong | LexFault::NotUtf8(_) | LexFault::NoMark(_) => unreachable!(),
     }
 }

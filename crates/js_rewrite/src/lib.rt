@@ -8,5 +8,5 @@ mod sources;
 
 pub use commands::first_bad;
 pub use diagnosed::first_diagnosed;
-pub use fault::{RewriteFault, fault_of};
-pub use sources::{check, clean_report};
+pub use fault::RewriteFault;
+pub use sources::{check, clean_report, report_anew};

@@ -11,7 +11,7 @@ use crate::diagnosed::first_diagnosed;
 use crate::fault::{RewriteFault, fault_of, lack_of_memory};
 use js_session::{Command, Report, lex_session, utf8_text};
 use js_text::SourceType;
-use std::alloc::Global;
+use std::alloc::{AllocError, Global};
 
 /// The source as a text, where it and the commands are ones to write anew.
 pub fn check<'a>(
@@ -33,6 +33,24 @@ pub fn check<'a>(
     }
 }
 
+/// The report of a source that can be read, with commands that a source of the type is written anew with. Nothing but
+/// memory can be wanting.
+pub fn report_anew(
+    alloc: Global,
+    source: &[u8],
+    source_type: SourceType,
+    commands: &[Command],
+) -> Result<Report, AllocError>
+    requires readable { IsReadable source.now }
+    requires commands { first_bad source_type commands.now ≡ None }
+    ensures { IfOk result (ReportOf source.now source_type false commands.now) }
+{
+    match lex_session(alloc, source, source_type, false, commands) {
+        Ok(report) => Ok(report),
+        Err(fault) => Err(lack_of_memory(fault)),
+    }
+}
+
 /// The report of a source and commands that were tested, where no row has a diagnostic.
 pub fn clean_report(
     alloc: Global,
@@ -47,9 +65,9 @@ pub fn clean_report(
     ensures cause { IfErr result (λ fault. (fault ≡ RewriteFault.Memory)
         ⊎ RewriteCause source.now source_type commands.now fault) }
 {
-    let report = match lex_session(alloc, source, source_type, false, commands) {
+    let report = match report_anew(alloc, source, source_type, commands) {
         Ok(report) => report,
-        Err(fault) => return Err(lack_of_memory(fault)),
+        Err(_) => return Err(RewriteFault::Memory),
     };
     match first_diagnosed(report.rows.as_slice()) {
         Some(index) => Err(RewriteFault::Diagnosed(index)),

@@ -3,6 +3,7 @@ pub mod Ends
 pub mod Future
 pub mod Futures
 pub mod SameReports
+pub mod Shorter
 pub mod SqueezedRows
 pub mod SqueezedSoFar
 pub mod Written

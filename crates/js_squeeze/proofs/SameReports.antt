@@ -93,7 +93,7 @@ step_tokens text t (re_lexes goal) s row rows front token on first is last token
           rw first refl,
         )
 
-live_tokens : (text : List ℕ) (t : SourceType) (s : State) (commands : List Command) (rows : List Row)
+pub live_tokens : (text : List ℕ) (t : SourceType) (s : State) (commands : List Command) (rows : List Row)
     (front : List TokenParts) (token : TokenParts) → list_all (may_rewrite t) commands ≡ true
     → Run text t s commands rows → s.now.tokens ≡ front ++ token ∷ []
     → (state_after s commands rows).now.tokens ≡ front ++ finals token rows
@@ -190,12 +190,12 @@ pub record Written (text : List ℕ) (t : SourceType) (commands : List Command) 
   pub behind : Onward text t first.token later
   pub lies : IsOnPlaces text first.token
 
-first_ends : (text : List ℕ) (t : SourceType) (commands : List Command) (a : Row) (xs : List Row) → IsUtf8 text
+pub first_ends : (text : List ℕ) (t : SourceType) (commands : List Command) (a : Row) (xs : List Row) → IsUtf8 text
     → IsQuiet a → AreRows text t commands (a ∷ xs) → EndsText text a.token
 first_ends text t commands a xs u quiet are =
     onward_ends text t First None a.place (outcome_of a) u are.0.places.token refl are.0.gives.reads quiet
 
-first_last : (text : List ℕ) (t : SourceType) (commands : List Command) (a : Row) (xs : List Row)
+pub first_last : (text : List ℕ) (t : SourceType) (commands : List Command) (a : Row) (xs : List Row)
     → AreRows text t commands (a ∷ xs) → IsLast text (state_after_first a) a.token
 first_last text t commands a xs are = record {
   last_is = refl;

@@ -1,17 +1,17 @@
 //! Sources that are squeezed.
 
-ghost use Rattle.std.specs.Prelude.{◌≡◌, ◌⊎◌, false, Err, IfOk, OnOk, IfErr, IsOk};
+ghost use Rattle.std.specs.Prelude.{◌≡◌, ◌<◌, ◌^◌, ◌⊎◌, false, length, Err, None, IfOk, OnOk, IfErr, IsOk};
 ghost use Rattle.std.specs.List.{AllByRecursion};
 ghost use Rattle.js_lexer.specs.Lexer.{IsOnPlaces};
 ghost use Rattle.js_session.specs.Report.{ReportOf};
 ghost use Rattle.js_session.specs.SameRows.{SameRows};
-ghost use Rattle.js_rewrite.specs.Faults.{RewriteCause};
+ghost use Rattle.js_rewrite.specs.Faults.{RewriteCause, first_bad};
 ghost use Rattle.js_rewrite.specs.declared.fault.RewriteFault.{RewriteFault};
 ghost use Rattle.js_squeeze.specs.SqueezeText.{squeeze_text};
 
 use crate::squeezed_text::squeeze_text;
-use js_rewrite::{RewriteFault, check, clean_report};
-use js_session::{Command, Report, lex_session};
+use js_rewrite::{RewriteFault, check, clean_report, report_anew};
+use js_session::{Command, Report};
 use js_text::{SourceText, SourceType};
 use std::alloc::{AllocError, Global};
 
@@ -34,7 +34,9 @@ fn squeeze_by(
     commands: &[Command],
     before: Report,
 ) -> Result<Squeezed, AllocError>
-    requires { AllByRecursion (IsOnPlaces source.now) before.tokens }
+    requires lie { AllByRecursion (IsOnPlaces source.now) before.tokens }
+    requires commands { first_bad source_type commands.now ≡ None }
+    requires short { length (squeeze_text source.now before) < 2 ^ 32 }
     ensures before { IfOk result (λ s. s.before ≡ before) }
     ensures text { IfOk result (λ s. s.text ≡ squeeze_text source.now before) }
     ensures after { IfOk result (λ s. ReportOf s.text source_type false commands.now s.after) }
@@ -45,12 +47,8 @@ fn squeeze_by(
         before.rows.as_slice(),
         before.tokens.as_slice(),
     )?;
-    let squeezed = text.as_str().as_bytes();
-    let after = match lex_session(alloc, squeezed, source_type, false, commands) {
-        Ok(after) => after,
-        // A gap is no shorter than what stands in its place, so what is left can be read as the source could.
-        Err(_) => return Err(AllocError),
-    };
+    // A gap is no shorter than what stands in its place, so what is left can be read as the source could.
+    let after = report_anew(alloc, text.as_str().as_bytes(), source_type, commands)?;
     Ok(Squeezed {
         text,
         before,

@@ -1,6 +1,7 @@
 -- The comments that a reading finds stand in its text before its token, one behind the other.
 use Rattle.std.proofs.Common.{◌≡◌, ℕ, ◌≤◌, Bool, true, false, List, [], ◌∷◌, ◌++◌, refl, sym, ◌∙◌, ap}
-use Rattle.std.proofs.Common.{zero, suc, subst, arith, Option, Some}
+use Rattle.std.proofs.Common.{zero, suc, subst, arith, length, ◌<◌, inl, inr, Option, Some}
+use Rattle.std.proofs.lemmas.Bool.{cases_lt}
 use Rattle.std.specs.Prelude.{◌&&◌, is_none, not}
 use Rattle.std.specs.Str.{IsCharBoundary, IsUtf8}
 use Rattle.js_text.specs.Characters.{begins, from_place, is_irregular_whitespace}
@@ -43,6 +44,10 @@ Step = Bool → List ℕ → Option Piece
 abbrev pub Takes : Step → Type 0
 Takes step = (ended : Bool) (cs : List ℕ) (x : Piece) → step ended cs ≡ Some x → cs ≡ x.text ++ x.rest
 
+-- and less is left behind it
+abbrev pub Shortens : Step → Type 0
+Shortens step = (ended : Bool) (cs : List ℕ) (x : Piece) → step ended cs ≡ Some x → length x.rest < length cs
+
 -- The comment stands in the text: it is the piece that the text begins with where it starts.
 pub record IsComment (text : List ℕ) (step : Step) (comment : Comment) : Type 0 where
   pub ordered : comment.span.start ≤ comment.span.end
@@ -78,13 +83,34 @@ between_append text step p q e [] ys h stand = between_from text step p q e ys h
 between_append text step p q e (x ∷ xs) ys h stand =
     (h.0, h.1, between_append text step x.span.end q e xs ys h.2 stand)
 
+-- a comment is not empty
+comment_some : (text : List ℕ) (step : Step) → Shortens step → (c : Comment) → IsComment text step c
+    → c.span.start < c.span.end
+comment_some text step shortens c is =
+    elim (cases_lt c.span.start c.span.end) [
+      | inl less ↦ less
+      | inr more ↦
+          let ordered = is.ordered in
+          let same : c.span.start ≡ c.span.end = omega (arith, more, ordered) in
+          let shorter = shortens is.line_had_ended (from_place text c.span.start) is.piece is.here in
+          let count : length is.piece.rest ≡ length (from_place text c.span.start) =
+          ap length is.rest ∙ ap (λ n. length (from_place text n)) (sym same) in
+          absurd (omega (arith, shorter, count))
+    ]
+
 -- so they stand in order
-pub in_order : (text : List ℕ) (step : Step) (p e : ℕ) (comments : List Comment)
+pub in_order : (text : List ℕ) (step : Step) (p e : ℕ) (comments : List Comment) → Shortens step
     → StandBetween text step p comments e → StandInOrder text p comments
-in_order text step p e [] stand = tt
-in_order text step p e (c ∷ cs) stand = (
-  record { behind = stand.0; ordered = stand.1.ordered; starts = stand.1.starts; ends = stand.1.ends },
-  in_order text step c.span.end e cs stand.2,
+in_order text step p e [] shortens stand = tt
+in_order text step p e (c ∷ cs) shortens stand = (
+  record {
+    behind = stand.0;
+    ordered = stand.1.ordered;
+    some = comment_some text step shortens c stand.1;
+    starts = stand.1.starts;
+    ends = stand.1.ends;
+  },
+  in_order text step c.span.end e cs shortens stand.2,
 )
 
 -- What holds of the comments of items holds of them where irregular white space stands first, and a line end.

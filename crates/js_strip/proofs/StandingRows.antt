@@ -14,6 +14,7 @@ use Rattle.js_grammar.specs.ReLexed.{fits}
 use Rattle.js_grammar.specs.Reads.{is_onward}
 use Rattle.js_grammar.specs.declared.goal.Goal.TheVariants.{First}
 use Rattle.js_lexer.specs.Lexer.{IsOnPlaces, token_or_default}
+use Rattle.js_grammar.proofs.GapsAhead.{whole_takes}
 use Rattle.js_session.specs.declared.command.Command.{Command}
 use Rattle.js_session.specs.declared.command.Command.TheVariants.{Next, JsxChild, JsxAttr, Regex, TemplateTail}
 use Rattle.js_session.specs.declared.command.Command.TheVariants.{JsxName, RAngle, TsLAngle, TsRAngle, Peek}
@@ -151,7 +152,8 @@ all_rows_stand text t commands (row ∷ rows) u lasting are =
     let found =
     rows_stand text t (state_after_first row) commands rows row.token u lasting (first_stands text t row u are.0)
     are.1 in
-    in_order text (whole_gap_piece t) 0 found.0.start (live commands (row ∷ rows)).findings.comments found.1.comments
+    in_order text (whole_gap_piece t) 0 found.0.start (live commands (row ∷ rows)).findings.comments (whole_takes t)
+    found.1.comments
 
 -- The comments of a report stand in order in its source, where each command gives a row which stays.
 pub report_stands : (source : List ℕ) (t : SourceType) (collects : Bool) (commands : List Command) (report : Report)

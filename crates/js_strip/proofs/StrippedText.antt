@@ -1,11 +1,11 @@
 -- A text without its comments, from a place on.
-use Rattle.std.proofs.Common.{◌≡◌, ℕ, ◌+◌, ◌-◌, ◌≤◌, List, [], ◌∷◌, ◌++◌, length, take, drop, sym, ◌∙◌, ap}
+use Rattle.std.proofs.Common.{◌≡◌, ℕ, ◌+◌, ◌-◌, ◌<◌, ◌≤◌, List, [], ◌∷◌, ◌++◌, length, take, drop, sym, ◌∙◌, ap}
 use Rattle.std.proofs.Common.{arith, append_assoc}
 use Rattle.std.specs.Prelude.{slice_range}
 use Rattle.std.specs.Str.{IsCharBoundary, IsUtf8}
 use Rattle.std.proofs.lemmas.Str.{IsCharBoundary-start}
 use Rattle.std.proofs.Math.Seq.{drop-append_seam}
-use Rattle.std.proofs.lemmas.List.{drop-take, length-take-le, take-append-drop, take-append-le, take-take}
+use Rattle.std.proofs.lemmas.List.{drop-take, length-append, length-drop, length-take-le, take-append-drop, take-append-le, take-take}
 use Rattle.js_text.specs.declared.comment.Comment.{Comment}
 use Rattle.js_strip.specs.StripText.{StandInOrder, StandsFrom, strip_text, without_comment}
 use Rattle.js_grammar.specs.Blanks.{stand_in}
@@ -53,6 +53,34 @@ stripped_behind text p (c ∷ cs) stand =
 pub stripped_whole : (text : List ℕ) (comments : List Comment) → StandInOrder text 0 comments
     → strip_text text comments ≡ stripped_from text 0 comments
 stripped_whole text comments stand = stripped_behind text 0 comments stand
+
+-- What stands between two places has as many bytes as lie between them.
+between_length : (text : List ℕ) (p q : ℕ) → p ≤ q → q ≤ length text → length (slice_range text p q) ≡ q - p
+between_length text p q ordered inside =
+    let rest = length-drop p text in length-take-le (q - p) (drop p text) (omega (arith, rest, ordered, inside))
+
+-- What is left without the comments is no longer than what was left of the text.
+left_short : (text : List ℕ) (p : ℕ) (comments : List Comment) → StandInOrder text p comments → p ≤ length text
+    → p + length (stripped_from text p comments) ≤ length text
+left_short text p [] stand inside = let rest = length-drop p text in omega (arith, rest, inside)
+left_short text p (c ∷ cs) stand inside =
+    let s = stand.0 in
+    let behind = s.behind in
+    let some = s.some in
+    let end = s.ends.0 in
+    let start = s.starts.0 in
+    let more = left_short text c.span.end cs stand.1 end in
+    let front = between_length text p c.span.start behind start in
+    let both = length-append (slice_range text p c.span.start) (stand_in c.kind ∷ stripped_from text c.span.end cs) in
+    omega (arith, behind, some, end, more, front, both)
+
+-- A text without its comments is no longer than with them.
+pub stripped_short : (text : List ℕ) (comments : List Comment) → StandInOrder text 0 comments
+    → length (strip_text text comments) ≤ length text
+stripped_short text comments stand =
+    let same = ap length (stripped_whole text comments stand) in
+    let short = left_short text 0 comments stand (omega arith) in
+    omega (arith, same, short)
 
 -- So much was written of a text without its comments: up to the place, where these comments are left.
 pub record StrippedSoFar (text : List ℕ) (comments left : List Comment) (place : ℕ) (written : List ℕ) : Type 0 where

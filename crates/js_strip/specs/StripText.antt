@@ -1,5 +1,5 @@
 -- A text without its comments.
-use Rattle.std.specs.Prelude.{ℕ, ◌≤◌, List, [], ◌∷◌, ◌++◌, take, drop}
+use Rattle.std.specs.Prelude.{ℕ, ◌<◌, ◌≤◌, List, [], ◌∷◌, ◌++◌, take, drop}
 use Rattle.std.specs.Str.{IsCharBoundary}
 use Rattle.js_text.specs.declared.comment.Comment.{Comment}
 use Rattle.js_grammar.specs.Blanks.{stand_in}
@@ -15,10 +15,11 @@ abbrev pub strip_text : List ℕ → List Comment → List ℕ
 strip_text text [] = text
 strip_text text (comment ∷ comments) = without_comment (strip_text text comments) comment
 
--- The comment stands in the text at the place or behind it, and its ends are places of the text.
+-- The comment stands in the text at the place or behind it, with its ends on places of the text, and is not empty.
 pub record StandsFrom (text : List ℕ) (place : ℕ) (comment : Comment) : Type 0 where
   pub behind : place ≤ comment.span.start
   pub ordered : comment.span.start ≤ comment.span.end
+  pub some : comment.span.start < comment.span.end
   pub starts : IsCharBoundary text comment.span.start
   pub ends : IsCharBoundary text comment.span.end
 

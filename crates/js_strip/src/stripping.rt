@@ -1,15 +1,15 @@
 //! Sources that are stripped.
 
-ghost use Rattle.std.specs.Prelude.{◌≡◌, ◌⊎◌, false, Err, IfOk, OnOk, IfErr, IsOk};
+ghost use Rattle.std.specs.Prelude.{◌≡◌, ◌<◌, ◌^◌, ◌⊎◌, false, length, Err, None, IfOk, OnOk, IfErr, IsOk};
 ghost use Rattle.js_session.specs.Report.{ReportOf};
-ghost use Rattle.js_rewrite.specs.Faults.{RewriteCause};
+ghost use Rattle.js_rewrite.specs.Faults.{RewriteCause, first_bad};
 ghost use Rattle.js_session.specs.SameRows.{SameRows};
 ghost use Rattle.js_strip.specs.StripText.{StandInOrder, strip_text};
 ghost use Rattle.js_rewrite.specs.declared.fault.RewriteFault.{RewriteFault};
 
 use crate::without_comments::strip_text;
-use js_rewrite::{RewriteFault, check, clean_report};
-use js_session::{Command, Report, lex_session};
+use js_rewrite::{RewriteFault, check, clean_report, report_anew};
+use js_session::{Command, Report};
 use js_text::{SourceText, SourceType};
 use std::alloc::{AllocError, Global};
 
@@ -32,18 +32,16 @@ fn strip_text_of(
     commands: &[Command],
     before: Report,
 ) -> Result<Stripped, AllocError>
+    requires short { length text.now < 2 ^ 32 }
+    requires commands { first_bad source_type commands.now ≡ None }
     requires comments { StandInOrder text.now 0 before.comments }
     ensures before { IfOk result (λ s. s.before ≡ before) }
     ensures text { IfOk result (λ s. s.text ≡ strip_text text.now before.comments) }
     ensures after { IfOk result (λ s. ReportOf s.text source_type false commands.now s.after) }
 {
     let stripped = strip_text(alloc, text, before.comments.as_slice())?;
-    let source = stripped.as_str().as_bytes();
-    let after = match lex_session(alloc, source, source_type, false, commands) {
-        Ok(after) => after,
-        // A comment is no shorter than what stands in its place, so what is left can be read as the text could.
-        Err(_) => return Err(AllocError),
-    };
+    // A comment is no shorter than what stands in its place, so what is left can be read as the text could.
+    let after = report_anew(alloc, stripped.as_str().as_bytes(), source_type, commands)?;
     Ok(Stripped {
         text: stripped,
         before,

@@ -1,4 +1,5 @@
-use Rattle.std.proofs.Common.{◌∙◌, ap, false, subst, sym}
+use Rattle.std.proofs.Common.{◌∙◌, ◌<◌, ap, false, length, subst, sym}
+use Rattle.std.specs.Prelude.{◌^◌}
 use Rattle.js_session.specs.declared.report.Report.{Report}
 use Rattle.js_session.specs.SameRows.{SameRows}
 use Rattle.js_strip.specs.StripText.{StandInOrder, strip_text}
@@ -8,17 +9,18 @@ use Rattle.js_strip.proofs.SameReports.{same_reports}
 use Rattle.js_strip.proofs.StandingRows.{report_stands}
 use Rattle.js_strip.proofs.stripping.strip_source.Goals as goal
 
-pub strip_text_of-requires : goal.strip_text_of-requires
-strip_text_of-requires c =
+pub strip_text_of-requires-clause-short : goal.strip_text_of-requires-clause-short
+strip_text_of-requires-clause-short c =
+    subst (λ text. length text < 2 ^ 32) (sym c.in-Ok.ensures.text) c.in-Ok.ensures.ok.0.short
+
+pub strip_text_of-requires-clause-comments : goal.strip_text_of-requires-clause-comments
+strip_text_of-requires-clause-comments c =
     let t = c.args.source_type in
     let commands = c.args.commands.now in
     let report = c.in-Ok-clean_report.report in
-    record {
-      comments =
-          subst (λ text. StandInOrder text 0 report.comments) (sym c.in-Ok.ensures.text)
-          (report_stands c.args.source.now t false commands report (all_last t commands c.in-Ok.ensures.ok.1)
-          c.in-Ok-clean_report.ensures.report);
-    }
+    subst (λ text. StandInOrder text 0 report.comments) (sym c.in-Ok.ensures.text)
+    (report_stands c.args.source.now t false commands report (all_last t commands c.in-Ok.ensures.ok.1)
+    c.in-Ok-clean_report.ensures.report)
 
 pub returns-in-Ok-strip_text_of-clause-ok : goal.returns-in-Ok-strip_text_of-clause-ok
 returns-in-Ok-strip_text_of-clause-ok c =

@@ -1,7 +1,7 @@
 use Rattle.std.proofs.Common.{inl, inr}
 use Rattle.js_session.proofs.Causes.{sound_no_cause}
 use Rattle.js_rewrite.proofs.Positions.{none_closes}
-use Rattle.js_rewrite.proofs.sources.clean_report.Goals as goal
+use Rattle.js_rewrite.proofs.sources.report_anew.Goals as goal
 
 pub lack_of_memory-requires : goal.lack_of_memory-requires
 lack_of_memory-requires c =
