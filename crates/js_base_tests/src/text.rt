@@ -7,6 +7,7 @@ use js_text::{
     is_identifier_part, is_identifier_start, is_irregular_whitespace, is_line_terminator,
     is_white_space,
 };
+use std::mem::size_of;
 use std::test::Fail;
 
 #[test]
@@ -181,6 +182,24 @@ fn lists(rt: HostRuntime) -> Result<(), Fail> {
     assert_eq!(rt; bytes.as_slice(), [1].as_slice());
     assert_eq!(rt; copied.as_slice(), [1, 2, 3].as_slice());
     assert_eq!(rt; copied.len(), 3);
+    Ok(())
+}
+
+#[test]
+fn a_list_takes_the_room_of_a_pointer(rt: HostRuntime) {
+    assert_eq!(rt; size_of::<DiagnosticList>(), size_of::<usize>());
+}
+
+#[test]
+fn vectors_as_lists(rt: HostRuntime) -> Result<(), Fail> {
+    let mut list = ByteList::from_vec(rt.alloc(), vec![in rt.alloc(); 1, 2]?)?;
+    let Some(items) = list.take_boxed() else {
+        return Err(Fail::from("no items"));
+    };
+    assert!(rt; list.is_empty());
+    list.put_boxed(items);
+    assert_eq!(rt; list.as_slice(), [1, 2].as_slice());
+    assert!(rt; ByteList::from_slice(rt.alloc(), &[])?.is_empty());
     Ok(())
 }
 

@@ -132,8 +132,8 @@ pub(crate) fn overwrite<T: Copy + Drop>(list: &mut ItemList<T>, start: usize, it
     requires { start + length items.now ≤ length list.old }
     ensures { list.new ≡ take start list.old ++ items.now ++ drop (start + length items.now) list.old }
 {
-    let end = start + items.len();
     if let Some(mut held) = list.take_boxed() {
+        let end = start + items.len();
         held.slice_mut(start..end).copy_from_slice(items);
         list.put_boxed(held);
     }
