@@ -32,7 +32,7 @@ fn strip_text_of(
     commands: &[Command],
     before: Report,
 ) -> Result<Stripped, AllocError>
-    requires short { length text.now < 2 ^ 32 }
+    requires short { length (strip_text text.now before.comments) < 2 ^ 32 }
     requires commands { first_bad source_type commands.now ≡ None }
     requires comments { StandInOrder text.now 0 before.comments }
     ensures before { IfOk result (λ s. s.before ≡ before) }
@@ -40,7 +40,6 @@ fn strip_text_of(
     ensures after { IfOk result (λ s. ReportOf s.text source_type false commands.now s.after) }
 {
     let stripped = strip_text(alloc, text, before.comments.as_slice())?;
-    // A comment is no shorter than what stands in its place, so what is left can be read as the text could.
     let after = report_anew(alloc, stripped.as_str().as_bytes(), source_type, commands)?;
     Ok(Stripped {
         text: stripped,
@@ -72,6 +71,7 @@ fn strip_source(
         Ok(report) => report,
         Err(fault) => return Err(fault),
     };
+    // A comment is no shorter than what stands in its place, so what is left can be read as the text could.
     match strip_text_of(alloc, text, source_type, commands, before) {
         Ok(stripped) => Ok(stripped),
         Err(_) => Err(RewriteFault::Memory),

@@ -1,4 +1,4 @@
-use Rattle.std.proofs.Common.{◌∙◌, ◌<◌, ap, false, length, subst, sym}
+use Rattle.std.proofs.Common.{◌∙◌, ◌<◌, ap, arith, false, length, subst, sym}
 use Rattle.std.specs.Prelude.{◌^◌}
 use Rattle.js_session.specs.declared.report.Report.{Report}
 use Rattle.js_session.specs.SameRows.{SameRows}
@@ -7,11 +7,21 @@ use Rattle.js_rewrite.proofs.Causes.{sound_no_cause}
 use Rattle.js_rewrite.proofs.Positions.{all_last, all_may, all_quiet}
 use Rattle.js_strip.proofs.SameReports.{same_reports}
 use Rattle.js_strip.proofs.StandingRows.{report_stands}
+use Rattle.js_strip.proofs.StrippedText.{stripped_short}
 use Rattle.js_strip.proofs.stripping.strip_source.Goals as goal
 
 pub strip_text_of-requires-clause-short : goal.strip_text_of-requires-clause-short
 strip_text_of-requires-clause-short c =
-    subst (λ text. length text < 2 ^ 32) (sym c.in-Ok.ensures.text) c.in-Ok.ensures.ok.0.short
+    let t = c.args.source_type in
+    let commands = c.args.commands.now in
+    let report = c.in-Ok-clean_report.report in
+    let stand =
+    report_stands c.args.source.now t false commands report (all_last t commands c.in-Ok.ensures.ok.1)
+    c.in-Ok-clean_report.ensures.report in
+    let shorter = stripped_short c.args.source.now report.comments stand in
+    let short = c.in-Ok.ensures.ok.0.short in
+    subst (λ text. length (strip_text text report.comments) < 2 ^ 32) (sym c.in-Ok.ensures.text)
+    (omega (arith, shorter, short))
 
 pub strip_text_of-requires-clause-comments : goal.strip_text_of-requires-clause-comments
 strip_text_of-requires-clause-comments c =
