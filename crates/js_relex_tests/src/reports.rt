@@ -117,11 +117,11 @@ static CASES: [Case; 12] = [
 
 /// Whether both rows have found the same.
 fn have_found_alike(row: &Row, other: &Row) -> bool {
-    row.findings.diagnostics() == other.findings.diagnostics()
-        && row.findings.deferred() == other.findings.deferred()
-        && row.findings.comments() == other.findings.comments()
-        && row.findings.irregular() == other.findings.irregular()
-        && row.findings.warnings() == other.findings.warnings()
+    row.diagnostics.as_slice() == other.diagnostics.as_slice()
+        && row.deferred.as_slice() == other.deferred.as_slice()
+        && row.comments.as_slice() == other.comments.as_slice()
+        && row.irregular.as_slice() == other.irregular.as_slice()
+        && row.warnings.as_slice() == other.warnings.as_slice()
 }
 
 fn are_alike(row: &Row, other: &Row) -> bool {
