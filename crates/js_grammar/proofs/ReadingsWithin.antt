@@ -120,8 +120,11 @@ digits_within limit place (item ∷ items) h =
     let whole = size_both item.text (items_text items) in
     by_choice (AreWithin limit) item.lacks_digit (missing_digit end item.rest ∷ missing_digits end items)
     (missing_digits end items)
-    (λ _. (missing_within limit end item.rest (omega (arith, h, whole)), digits_within limit end items (omega
-    (arith, h, whole))))
+    (λ _. (
+      missing_within limit end item.rest (omega (arith, h, whole)),
+      digits_within limit end items (omega
+          (arith, h, whole)),
+    ))
     (λ _. digits_within limit end items (omega (arith, h, whole)))
 
 end_size : (text : List ℕ) → size (invalid_end text) ≤ size text
@@ -233,8 +236,17 @@ named_within c cs =
     }
 
 unnamed_within : (c : ℕ) (cs : List ℕ) → Within (size (c ∷ cs)) (no_private_name (c ∷ cs) cs)
-unnamed_within c [] = let some = size_first c [] in record { diagnostics = ((omega (arith, some), omega
-    (arith, some)), tt); regex = tt }
+unnamed_within c [] = let some = size_first c [] in record {
+  diagnostics = (
+    (
+      omega (arith, some),
+      omega
+          (arith, some),
+    ),
+    tt,
+  );
+  regex = tt;
+}
 unnamed_within c (d ∷ ds) =
     let some = size_first c (d ∷ ds) in
     let both = size_both (d ∷ []) ds in
@@ -339,7 +351,7 @@ flagged_within text (c ∷ cs) xs e first =
     let long = length-le-encodes letters in
     record {
       diagnostics = flags_within no_flags (size text) (size (before_rest text (c ∷ cs)) + 1) letters (omega
-      (arith, whole, one, taken, few, long));
+          (arith, whole, one, taken, few, long));
       regex = let up = whole in omega (arith, up, taken);
     }
 
@@ -420,8 +432,14 @@ angles_within limit place (c ∷ cs) h =
     let one : 1 ≤ size (c ∷ []) = length-le-encodes (c ∷ []) in
     all_both (SpanWithin limit) (angle_at place c) (angles_among end cs)
     (by_choice (AllByRecursion (SpanWithin limit)) (c == greater_than_sign)
-    (record { start = place; end = place + 1 } ∷ []) [] (λ _. ((omega (arith, h, both, one), omega
-    (arith, h, both, one)), tt)) (λ _. tt))
+    (record { start = place; end = place + 1 } ∷ []) [] (λ _. (
+      (
+        omega (arith, h, both, one),
+        omega
+            (arith, h, both, one),
+      ),
+      tt,
+    )) (λ _. tt))
     (angles_within limit end cs (omega (arith, h, both)))
 
 -- where a gap has ended

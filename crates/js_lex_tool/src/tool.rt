@@ -302,7 +302,9 @@ fn run_line<I: ByteIn, O: ByteOut>(
 fn generated_bytes(alloc: Global, lines: u32) -> Result<ByteList, AllocError>
     requires some { 1 ≤ lines }
     requires few { lines ≤ most_lines }
-    ensures { IfOk result (λ source. source ≡ generated lines) }
+    ensures source { IfOk result (λ source. source ≡ generated lines) }
+    ensures utf8 { IfOk result IsUtf8 }
+    ensures short { IfOk result (λ source. length source < 700000) }
 {
     let text = generated(alloc, lines)?;
     ByteList::from_vec(alloc, text.into_bytes())
