@@ -9,7 +9,8 @@ use Rattle.std.proofs.KnownBytes.{Appends-nil, Appends-trans}
 use Rattle.js_lex_tool.specs.Outside.{OutputState, WritesAll, WritesPrefix, Rises, StaysOpen, Closes, InTime}
 use Rattle.js_lex_tool.specs.declared.outside.Course.TheVariants.{Over, Late}
 use Rattle.js_lex_tool.specs.Run.{CountsFault}
-use Rattle.std.specs.List.{AllByRecursion}
+use Rattle.std.specs.List.{AllByRecursion, flat_map}
+use Rattle.js_kind.specs.TokenParts.{TokenParts}
 use Rattle.js_session.specs.Report.{IsSliceOnPlaces}
 use Rattle.js_session.specs.declared.row.Row.{Row}
 use Rattle.js_lex_tool.specs.ReportText.{row_line, row_lines}
@@ -140,6 +141,39 @@ all_handed whole held left old new e h = (
   ap (λ xs. h.out ++ xs) (sym (append-nil held) ∙ ap (λ xs. held ++ xs) (sym e)) ∙ h.same,
   h.writes,
 )
+
+-- A text is made behind one that was made.
+pub hands_both : {A : Type 0} (r : Result A WriteFault) (xs ys held mid_held held_new : List ℕ)
+    (old mid new : OutputState) → (out : List ℕ) × (out ++ mid_held ≡ held ++ xs) × WritesOn out old mid
+    → HandsOn ys mid_held held_new mid new r
+    → HandsOn (xs ++ ys) held held_new old new r
+hands_both (Ok a) xs ys held mid_held held_new old mid new (out, e, w) (more, f, v) = (
+  out ++ more,
+  append_assoc out more held_new
+      ∙ ap (λ zs. out ++ zs) f
+      ∙ sym (append_assoc out mid_held ys)
+      ∙ ap (λ zs. zs ++ ys) e
+      ∙ append_assoc held xs ys,
+  writes_both out more old mid new w v,
+)
+hands_both (Err fault) xs ys held mid_held held_new old mid new (out, e, w) stop =
+    stops_behind out (mid_held ++ ys) (held ++ (xs ++ ys)) old mid new fault
+    (sym (append_assoc held xs ys) ∙ ap (λ zs. zs ++ ys) (sym e) ∙ append_assoc out mid_held ys) w stop
+
+-- Where the first of two texts stops, so do both.
+pub hands_stopped : (xs ys held : List ℕ) (old new : OutputState) (fault : WriteFault)
+    → StopsIn (held ++ xs) old new fault
+    → StopsIn (held ++ (xs ++ ys)) old new fault
+hands_stopped xs ys held old new fault stop =
+    stops_before (held ++ xs) ys (held ++ (xs ++ ys)) old new fault (sym (append_assoc held xs ys)) stop
+
+-- The line of the next token comes before those of the tokens behind it.
+pub token_next : (line : TokenParts → List ℕ) (tokens : List TokenParts) (i : ℕ) (token : TokenParts)
+    → i < length tokens → token ≡ get_or tokens i token
+    → flat_map line (drop i tokens) ≡ line token ++ flat_map line (drop (i + 1) tokens)
+token_next line tokens i token h is =
+    at_drop_more (flat_map line) tokens i token h
+    ∙ ap (λ (t : TokenParts). line t ++ flat_map line (drop (i + 1) tokens)) (sym is)
 
 -- A run that is out of memory writes no more.
 pub ends_at_once : (text : List ℕ) (s : OutputState) → EndsWriting text s s 1

@@ -137,17 +137,20 @@ comment_line c = comment_head c ++ comment_rest c ++ 10 ∷ []
 abbrev pub span_line : List ℕ → Span → List ℕ
 span_line label span = label ++ codes " " ++ span_text span.start span.end ++ 10 ∷ []
 
--- what is live, behind the rows of a report
-abbrev pub rest_text_of : Report → List ℕ
-rest_text_of report =
-    flat_map (token_line (codes "token")) report.tokens
-    ++ flat_map (token_line (codes "collected")) report.collected
-    ++ flat_map (diagnostic_line (codes "diagnostic")) report.diagnostics
+-- the live tokens, and those that were collected
+abbrev pub token_lines : Report → List ℕ
+token_lines report =
+    flat_map (token_line (codes "token")) report.tokens ++ flat_map (token_line (codes "collected")) report.collected
+
+-- what is live of what was found
+abbrev pub found_lines : Report → List ℕ
+found_lines report =
+    flat_map (diagnostic_line (codes "diagnostic")) report.diagnostics
     ++ flat_map (diagnostic_line (codes "deferred")) report.deferred
     ++ flat_map comment_line report.comments
     ++ flat_map (span_line (codes "irregular")) report.irregular
     ++ flat_map (span_line (codes "warning")) report.warnings
 
--- The text of a report: its rows, then what is live.
+-- The text of a report: its rows, then the tokens, then what was found.
 abbrev pub report_text_of : List ℕ → Report → List ℕ
-report_text_of source report = row_lines source 0 report.rows ++ rest_text_of report
+report_text_of source report = row_lines source 0 report.rows ++ token_lines report ++ found_lines report

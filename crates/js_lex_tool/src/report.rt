@@ -8,7 +8,7 @@ ghost use Rattle.js_text.specs.Comment.{comment_kind_name, comment_position_name
 ghost use Rattle.js_session.specs.Report.{IsSliceOnPlaces};
 ghost use Rattle.js_lex_tool.specs.ReportText.{flags_text, token_text, step_name, bit_text, row_head, value_text};
 ghost use Rattle.js_lex_tool.specs.ReportText.{row_line, row_lines, token_line, span_or_dash, named_character};
-ghost use Rattle.js_lex_tool.specs.ReportText.{diagnostic_text, diagnostic_line, rest_text_of, report_text_of};
+ghost use Rattle.js_lex_tool.specs.ReportText.{diagnostic_text, diagnostic_line, found_lines, report_text_of, token_lines};
 ghost use Rattle.js_lex_tool.specs.ReportText.{flag_letter, regex_flags_text, regex_text};
 ghost use Rattle.js_lex_tool.specs.Units.{text_in_units};
 ghost use Rattle.js_lex_tool.specs.ReportText.{comment_head, comment_rest, comment_line, span_line};
@@ -326,6 +326,21 @@ fn put_token_line(line: &mut Line, label: &str, token: &Token)
     line.put_text(label);
 }
 
+/// The line of a token.
+#[inline(always)]
+pub(crate) fn push_token(
+    text: &mut String,
+    line: &mut Line,
+    label: &str,
+    token: &Token,
+) -> Result<(), AllocError>
+    requires { length label.now ≤ 100 }
+    ensures { OnOk result (string_bytes text.new ≡ string_bytes text.old ++ token_line label.now token.now) }
+{
+    put_token_line(line, label, token);
+    text.push_str(line.as_str())
+}
+
 #[inline(always)]
 fn push_tokens(text: &mut String, label: &str, tokens: &[Token]) -> Result<(), AllocError>
     requires { length label.now ≤ 100 }
@@ -334,8 +349,7 @@ fn push_tokens(text: &mut String, label: &str, tokens: &[Token]) -> Result<(), A
 {
     let mut line = Line::new();
     for token in tokens {
-        put_token_line(&mut line, label, token);
-        text.push_str(line.as_str())?;
+        push_token(text, &mut line, label, token)?;
     }
     Ok(())
 }
@@ -487,12 +501,10 @@ fn push_spans(text: &mut String, label: &str, spans: &[Span]) -> Result<(), Allo
     Ok(())
 }
 
-/// The text of a report behind its rows.
-pub(crate) fn push_rest(text: &mut String, report: &Report) -> Result<(), AllocError>
-    ensures { OnOk result (string_bytes text.new ≡ string_bytes text.old ++ rest_text_of report.now) }
+/// The lines of what was found, behind those of the tokens.
+pub(crate) fn push_found(text: &mut String, report: &Report) -> Result<(), AllocError>
+    ensures { OnOk result (string_bytes text.new ≡ string_bytes text.old ++ found_lines report.now) }
 {
-    push_tokens(text, "token", report.tokens.as_slice())?;
-    push_tokens(text, "collected", report.collected.as_slice())?;
     push_diagnostics(text, "diagnostic", report.diagnostics.as_slice())?;
     push_diagnostics(text, "deferred", report.deferred.as_slice())?;
     push_comments(text, report.comments.as_slice())?;
@@ -509,6 +521,8 @@ pub fn report_text(alloc: Global, source: &str, report: &Report) -> Result<Strin
 {
     let mut text = String::new(alloc);
     push_rows(&mut text, source, report.rows.as_slice())?;
-    push_rest(&mut text, report)?;
+    push_tokens(&mut text, "token", report.tokens.as_slice())?;
+    push_tokens(&mut text, "collected", report.collected.as_slice())?;
+    push_found(&mut text, report)?;
     Ok(text)
 }

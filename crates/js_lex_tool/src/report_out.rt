@@ -1,17 +1,18 @@
 //! Reports that are written as they are made.
 
-ghost use Rattle.std.specs.Prelude.{◌≡◌, ◌++◌, [], string_bytes};
-ghost use Rattle.std.specs.List.{AllByRecursion};
+ghost use Rattle.std.specs.Prelude.{◌≡◌, ◌≤◌, ◌++◌, [], length, string_bytes};
+ghost use Rattle.std.specs.List.{AllByRecursion, flat_map};
 ghost use Rattle.js_session.specs.Report.{IsSliceOnPlaces};
 ghost use Rattle.js_lex_tool.specs.Held.{status_of_fault, HandsOn, EndsWriting};
-ghost use Rattle.js_lex_tool.specs.ReportText.{row_line, row_lines, rest_text_of, report_text_of};
+ghost use Rattle.js_lex_tool.specs.ReportText.{found_lines, report_text_of, row_line, row_lines, token_line, token_lines};
 ghost use Rattle.js_lex_tool.specs.Status.{number};
 
 use crate::line::Line;
 use crate::outside::ByteOut;
-use crate::report::{push_rest, push_row};
+use crate::report::{push_found, push_row, push_token};
 use crate::status::{MEMORY, WRITE_FAILED};
 use crate::write_all::{WriteFault, write_piece, write_status};
+use js_kind::Token;
 use js_session::{Report, Row};
 use std::alloc::Global;
 
@@ -82,12 +83,80 @@ fn write_rows<O: ByteOut>(
     Ok(())
 }
 
-/// Writes what is held back, and then the text of a report behind its rows, and gives the status that this leads to.
-fn write_rest<O: ByteOut>(held: &mut String, report: &Report, output: &mut O) -> u8
-    ensures { EndsWriting (string_bytes held.old ++ rest_text_of report.now)
+/// Makes the line of a token, and writes what is held back, where that is a piece.
+fn write_token<O: ByteOut>(
+    held: &mut String,
+    line: &mut Line,
+    label: &str,
+    token: &Token,
+    output: &mut O,
+) -> Result<(), WriteFault>
+    requires { length label.now ≤ 100 }
+    ensures { HandsOn (token_line label.now token.now) (string_bytes held.old) (string_bytes held.new)
         (O.state output.old) (O.state output.new) result }
 {
-    match push_rest(held, report) {
+    match push_token(held, line, label, token) {
+        Ok(()) => hand_on(held, output),
+        Err(_) => Err(WriteFault::Memory),
+    }
+}
+
+/// Makes the lines of tokens, and writes them piece by piece. The end of them is held back.
+fn write_tokens<O: ByteOut>(
+    held: &mut String,
+    label: &str,
+    tokens: &[Token],
+    output: &mut O,
+) -> Result<(), WriteFault>
+    requires { length label.now ≤ 100 }
+    ensures { HandsOn (flat_map (token_line label.now) tokens.now) (string_bytes held.old) (string_bytes held.new)
+        (O.state output.old) (O.state output.new) result }
+{
+    let mut line = Line::new();
+    for token in tokens {
+        write_token(held, &mut line, label, token, output)?;
+    }
+    Ok(())
+}
+
+/// Makes the lines of the live tokens and of those that were collected, and writes them piece by piece.
+fn write_all_tokens<O: ByteOut>(
+    held: &mut String,
+    report: &Report,
+    output: &mut O,
+) -> Result<(), WriteFault>
+    ensures { HandsOn (token_lines report.now) (string_bytes held.old) (string_bytes held.new)
+        (O.state output.old) (O.state output.new) result }
+{
+    match write_tokens(held, "token", report.tokens.as_slice(), output) {
+        Ok(()) => write_tokens(held, "collected", report.collected.as_slice(), output),
+        Err(fault) => Err(fault),
+    }
+}
+
+/// Makes the lines of rows and tokens, and writes them piece by piece.
+fn write_lines<O: ByteOut>(
+    held: &mut String,
+    source: &str,
+    report: &Report,
+    output: &mut O,
+) -> Result<(), WriteFault>
+    requires { AllByRecursion (λ row. IsSliceOnPlaces source.now row.value) report.now.rows }
+    ensures { HandsOn (row_lines source.now 0 report.now.rows ++ token_lines report.now)
+        (string_bytes held.old) (string_bytes held.new) (O.state output.old) (O.state output.new) result }
+{
+    match write_rows(held, source, report.rows.as_slice(), output) {
+        Ok(()) => write_all_tokens(held, report, output),
+        Err(fault) => Err(fault),
+    }
+}
+
+/// Writes what is held back, and then what was found, and gives the status that this leads to.
+fn write_rest<O: ByteOut>(held: &mut String, report: &Report, output: &mut O) -> u8
+    ensures { EndsWriting (string_bytes held.old ++ found_lines report.now)
+        (O.state output.old) (O.state output.new) result }
+{
+    match push_found(held, report) {
         Ok(()) => write_status(held.as_str(), output),
         Err(_) => MEMORY,
     }
@@ -104,7 +173,7 @@ pub(crate) fn write_report_text<O: ByteOut>(
     ensures { EndsWriting (report_text_of source.now report.now) (O.state output.old) (O.state output.new) result }
 {
     let mut held = String::new(alloc);
-    match write_rows(&mut held, source, report.rows.as_slice(), output) {
+    match write_lines(&mut held, source, report, output) {
         Ok(()) => write_rest(&mut held, report, output),
         Err(fault) => status_of_fault(fault),
     }

@@ -1,5 +1,5 @@
 use Rattle.std.proofs.Common.{◌++◌, string_bytes}
-use Rattle.js_lex_tool.specs.ReportText.{rest_text_of}
+use Rattle.js_lex_tool.specs.ReportText.{found_lines}
 use Rattle.js_lex_tool.proofs.Held.{ends_at_once}
 use Rattle.js_lex_tool.proofs.report_out.write_rest.Goals as goal
 
@@ -15,5 +15,5 @@ returns-in-Ok g c =
 
 pub returns-in-Err : goal.returns-in-Err
 returns-in-Err g c =
-    ends_at_once (string_bytes c.args.held.now ++ rest_text_of c.args.report.now)
+    ends_at_once (string_bytes c.args.held.now ++ found_lines c.args.report.now)
     (g.O.ByteOut.state c.args.output.now)
