@@ -30,6 +30,7 @@ fn status_of_fault(fault: WriteFault) -> u8
 }
 
 /// Writes what is held back, where that is a piece.
+#[inline(always)]
 fn hand_on<O: ByteOut>(held: &mut String, output: &mut O) -> Result<(), WriteFault>
     ensures { HandsOn [] (string_bytes held.old) (string_bytes held.new)
         (O.state output.old) (O.state output.new) result }
@@ -84,6 +85,7 @@ fn write_rows<O: ByteOut>(
 }
 
 /// Makes the line of a token, and writes what is held back, where that is a piece.
+#[inline(always)]
 fn write_token<O: ByteOut>(
     held: &mut String,
     line: &mut Line,
