@@ -30,7 +30,6 @@ fn status_of_fault(fault: WriteFault) -> u8
 }
 
 /// Writes what is held back, where that is a piece.
-#[inline(always)]
 fn hand_on<O: ByteOut>(held: &mut String, output: &mut O) -> Result<(), WriteFault>
     ensures { HandsOn [] (string_bytes held.old) (string_bytes held.new)
         (O.state output.old) (O.state output.new) result }
@@ -104,6 +103,7 @@ fn write_token<O: ByteOut>(
 }
 
 /// Makes the lines of tokens, and writes them piece by piece. The end of them is held back.
+#[inline(always)]
 fn write_tokens<O: ByteOut>(
     held: &mut String,
     label: &str,
