@@ -1,5 +1,5 @@
 -- A pointer whose block may be freed may be compared with null. Assumes `Logic`.
-use Rattle.std.proofs.Common.{ℕ, List, ◌∷◌, ◌<◌, ◌^◌}
+use Rattle.std.proofs.Common.{List, ◌∷◌, ◌<◌, ◌^◌}
 use seplogic.Ra.Ura.{Ura}
 use mir.Syntax.{Ty}
 use types.Logic.{Logic, sem}

@@ -6,9 +6,8 @@
 --     either               what it owns is nothing, at null, or a box's memory, at a pointer that may be compared with null
 use Rattle.std.proofs.Common.{◌≡◌, ℕ, List, [], ◌∷◌, ◌++◌, refl, subst, lit<}
 use seplogic.Ra.Ura.{Ura}
-use lib.Dec.{T}
 use mir.Syntax.{impl, tnil, dnil}
-use mir.Val.{Val, vstruct, vcons, vnil, of_list, has_ty, WT}
+use mir.Val.{Val, vstruct, vcons, vnil, of_list, has_ty}
 use base.Logic.{never, fst∗}
 use mir.Raw.{raw as bare}
 use types.Logic.{Logic, sem}

@@ -10,7 +10,7 @@ use base.Logic.{ent, sep}
 use base.Fml.{Lft, Share, Fml, ftrue, fat, fhide, flft}
 use contract.Monad.{fact}
 use types.Logic.{Logic, sem}
-use types.Kit.{Goal, Soaks, Step, step, Seq, Item, ‵, raw, ◌⊛◌, ◌$◌, ◌∵◌, !, qed, by, move, keep, drop, use1, split, rewrite, fsplit, feq_l, feq_i, flt_l, done}
+use types.Kit.{Goal, Soaks, Step, step, Seq, Item, ‵, raw, ◌⊛◌, ◌$◌, ◌∵◌, !, qed, move, keep, drop, use1, split, rewrite, fsplit, feq_l, feq_i, flt_l, done}
 use denote.RattleType.{RattleType, RowLaws}
 use denote.Memory.{cell_at, part_at, hidden_shr}
 use denote.Copied.{plain_Copied}

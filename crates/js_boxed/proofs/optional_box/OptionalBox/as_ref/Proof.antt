@@ -1,12 +1,12 @@
 -- `as_ref` reads the pointer through the `&`, and lends the value that is shared. Assumes `Logic`.
-use Rattle.std.proofs.Common.{◌≡◌, ℕ, ◌+◌, List, [], ◌∷◌, ◌++◌, refl, lit<}
+use Rattle.std.proofs.Common.{◌≡◌, ℕ, ◌+◌, List, [], ◌∷◌, refl, lit<}
 use mir.Syntax.{Body, seq, assign, place, rv_opd, copy, aggregate, int, w8, a_type, named}
 use mir.Val.{Val, vptr, vcons, vnil}
 use mir.MapTy.{inst_fn}
 use base.Logic.{SProp, emp}
 use base.Fml.{Lft, Share, ftrue, fhide, flft}
 use prog.Wp.{Wp, after_seq, at_return}
-use types.Kit.{‵, raw, ◌⊛◌, at_ret, any_q, ◌$◌, ◌∵◌, !, qed, by, move, keep, drop, split, fsplit, fjoin, use0, use1, feq_i, join}
+use types.Kit.{‵, raw, ◌⊛◌, at_ret, any_q, ◌$◌, ◌∵◌, !, qed, by, move, keep, split, fsplit, fjoin, use0, use1, feq_i, join}
 use types.Run.{stop, fld, addr, lit, load, look, of_opd, bin, no_more, and_then, first, blocks, branches, exec, returns, enter}
 use types.ByLocal.{alloc_all, pass_all, free_all, look_at, get, through, sets, sets_last, env}
 use types.Part.{agg}
@@ -15,11 +15,10 @@ use contract.Monad.{fact, fact_i}
 use contract.Running.{tables}
 use denote.Builtin.{RefOf}
 use denote.Exit.{yes}
-use denote.Memory.{hidden_shr}
 use denote.Opens.{unhide}
 use denote.RattleType.{RattleType, owns}
 use denote.Param.{param, layout, layouts}
-use denote.RawPtr.{Ptr, block_ptr, null_ptr, tests_null}
+use denote.RawPtr.{block_ptr, null_ptr, tests_null}
 use denote.Ref.{ShrRef, shr_vals, shr_Tells}
 use denote.Signature.{types_at, type_at, plain}
 use denote.Steps.{nothing}

@@ -1,5 +1,5 @@
 -- `into_loose` compares the pointer with null. Assumes `Logic`.
-use Rattle.std.proofs.Common.{◌≡◌, ℕ, List, [], ◌∷◌, ◌++◌, refl, sym, ap, ◌∙◌, subst, lit<}
+use Rattle.std.proofs.Common.{◌≡◌, List, [], ◌∷◌, ◌++◌, refl, sym, ap, ◌∙◌, subst, lit<}
 use mir.Syntax.{a_type}
 use mir.Val.{Val, vcons, vnil}
 use mir.MapTy.{inst_fn}
