@@ -4,15 +4,17 @@ ghost use Rattle.std.specs.Prelude.{◌≡◌};
 
 use js_kind::LexerConfig;
 use js_lexer::{Findings, Lexer};
-use js_text::{Comment, ItemList, Span};
+use js_text::{Comment, Diagnostic, ItemList, Span};
 use std::alloc::{AllocError, Global};
 
-/// A box for the comments and one for the irregular white space that a lexer hands out.
+/// A box for each list that a lexer hands out as a vector.
 #[derive(Drop)]
-pub(crate) struct TriviaRooms {
+pub(crate) struct FindingsRooms {
     alloc: Global,
+    deferred: Box<Vec<Diagnostic>>,
     comments: Box<Vec<Comment>>,
     irregular: Box<Vec<Span>>,
+    warnings: Box<Vec<Span>>,
 }
 
 /// The list of the items, in the box.
@@ -26,12 +28,14 @@ fn list_in<T: Drop>(alloc: Global, room: Box<Vec<T>>, items: Vec<T>) -> ItemList
     list
 }
 
-impl TriviaRooms {
-    pub(crate) fn new(alloc: Global) -> Result<TriviaRooms, AllocError> {
-        Ok(TriviaRooms {
+impl FindingsRooms {
+    pub(crate) fn new(alloc: Global) -> Result<FindingsRooms, AllocError> {
+        Ok(FindingsRooms {
             alloc,
+            deferred: Box::new(alloc, Vec::new(alloc))?,
             comments: Box::new(alloc, Vec::new(alloc))?,
             irregular: Box::new(alloc, Vec::new(alloc))?,
+            warnings: Box::new(alloc, Vec::new(alloc))?,
         })
     }
 
@@ -39,17 +43,19 @@ impl TriviaRooms {
     pub(crate) fn take_findings<C: LexerConfig + Drop>(self, lexer: &mut Lexer<'_, C>) -> Findings
         ensures { result ≡ lexer.old.findings }
     {
-        let TriviaRooms {
+        let FindingsRooms {
             alloc,
+            deferred,
             comments,
             irregular,
+            warnings,
         } = self;
         Findings {
             diagnostics: lexer.take_errors(),
-            deferred: lexer.take_deferred_module_errors(),
+            deferred: list_in(alloc, deferred, lexer.take_deferred_module_errors()),
             comments: list_in(alloc, comments, lexer.take_comments()),
             irregular: list_in(alloc, irregular, lexer.take_irregular_whitespaces()),
-            warnings: lexer.take_warnings(),
+            warnings: list_in(alloc, warnings, lexer.take_warnings()),
         }
     }
 }

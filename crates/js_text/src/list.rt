@@ -11,6 +11,71 @@ use std::alloc::{AllocError, Global};
 use std::marker::Model;
 use std::mem;
 
+/// A growing list in the room of a vector, so that its length is read at once. It keeps its allocator.
+#[derive(Drop)]
+pub struct VecList<T> {
+    items: Vec<T>,
+}
+
+impl<T> Model for VecList<T> {
+    ghost use Rattle.std.specs.Prelude.{List};
+
+    ghost Value = { List T };
+
+    ghost view = { λ l. l.items.items };
+}
+
+impl<T> VecList<T> {
+    /// A list of no items. It needs no memory yet.
+    pub fn new_in(alloc: Global) -> VecList<T>
+        ensures { result ≡ [] }
+    {
+        VecList {
+            items: Vec::new(alloc),
+        }
+    }
+
+    /// The vector of the items.
+    pub fn into_vec(self) -> Vec<T>
+        ensures { result.items ≡ self }
+    {
+        let VecList { items } = self;
+        items
+    }
+
+    /// How many items there are.
+    pub fn len(&self) -> usize
+        ensures { result ≡ length self.now }
+    {
+        self.items.len()
+    }
+
+    /// The items, in the order in which they were added.
+    pub fn as_slice(&self) -> &[T]
+        ensures { result.now ≡ self.now }
+    {
+        self.items.as_slice()
+    }
+}
+
+impl<T: Drop> VecList<T> {
+    /// Adds an item at the end. Where there is no memory for it, the list stays as it was.
+    pub fn push(&mut self, item: T) -> Result<(), AllocError>
+        ensures ok { OnOk result (self.new ≡ self.old ++ item ∷ []) }
+        ensures err { OnErr result (self.new ≡ self.old) }
+    {
+        self.items.push(item)?;
+        Ok(())
+    }
+
+    /// Keeps the first `len` items; a shorter list stays as it is.
+    pub fn truncate(&mut self, len: usize)
+        ensures { self.new ≡ take len self.old }
+    {
+        self.items.truncate(len);
+    }
+}
+
 /// A growing list. It keeps its allocator. It takes the room of a pointer where it stands, and no memory beside that
 /// until an item is added.
 #[derive(Drop)]
