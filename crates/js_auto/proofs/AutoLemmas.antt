@@ -30,7 +30,7 @@ use Rattle.js_session.specs.declared.command.Command.TheVariants.{Next}
 use Rattle.js_session.specs.declared.report.Report.{Report}
 use Rattle.js_session.specs.declared.row.Row.{Row}
 use Rattle.js_session.specs.Effects.{effect_of}
-use Rattle.js_session.specs.Effects.Effect.{re_lexes}
+use Rattle.js_session.specs.declared.command.Effect.TheVariants.{ReLexes}
 use Rattle.js_session.specs.Live.{State, after_row, last_live, live, nothing_live, outcome_of, state_after_first}
 use Rattle.js_session.specs.Report.{AreRows, IsNotTaken, IsReLexed, IsRow, all_collected}
 use Rattle.js_session.specs.Session.{AddsRow, Begins, SessionState, report_of}
@@ -110,7 +110,7 @@ record IsReadAgain (text : List ℕ) (last : TokenParts) (row : Row) : Type 0 wh
   pub some_text : ¬ (row.token.kind ≡ Eof) → row.token.start < row.token.end
 
 tokens_after : (goal : Goal) (row : Row) (s : State) → row.taken ≡ true
-    → (after_row (re_lexes goal) row s).now.tokens ≡ with_last s.now.tokens row.token
+    → (after_row (ReLexes goal) row s).now.tokens ≡ with_last s.now.tokens row.token
 tokens_after goal row s taken = rw taken refl
 
 pub last_put : (tokens : List TokenParts) (last x : TokenParts) → last_or None tokens ≡ Some last

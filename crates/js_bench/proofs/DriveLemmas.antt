@@ -17,7 +17,7 @@ use Rattle.js_lexer.specs.Goals.{ReadsRegex}
 use Rattle.js_reader.specs.Goals.{info_of}
 use Rattle.js_lexer.specs.Lexer.{IsBehindFor, IsOnPlaces, LexerState, LexesAgain, ReadsToken, token_or_default}
 use Rattle.js_session.specs.Effects.{effect_of}
-use Rattle.js_session.specs.Effects.Effect.{re_lexes}
+use Rattle.js_session.specs.declared.command.Effect.TheVariants.{ReLexes}
 use Rattle.js_session.specs.Live.{State}
 use Rattle.js_session.specs.Marks.{IsInOrder, live_now, state_of}
 use Rattle.js_session.specs.Report.{LiesOnPlaces, all_collected}
@@ -113,7 +113,7 @@ step_next old new c d token r told s h =
 
 -- A token that was read again, where the last one fits.
 step_again : (goal : Goal) (command : Command) (old new : LexerState) (c d : Chooser) (token : TokenParts)
-    (regex : Option RegexInfo) → effect_of command ≡ re_lexes goal
+    (regex : Option RegexInfo) → effect_of command ≡ ReLexes goal
     → fits old.text goal (token_or_default old.last) ≡ true
     → (r : LexesAgain goal old token new) → r.outcome.regex ≡ regex
     → ((tokens : List TokenParts) → c ≡ chooser_of tokens → d ≡ chooser_of (with_last tokens token))

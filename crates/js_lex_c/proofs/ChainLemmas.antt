@@ -7,7 +7,7 @@ use Rattle.std.proofs.lemmas.Option.{get_or_from_slice_get, slice_get_within}
 use Rattle.std.proofs.Math.Seq.{drop-cons}
 use Rattle.std.specs.Prelude.{slice_get, unwrap_or, if◌then◌else◌, IsSome, MatchBool, ◌↔◌}
 use Rattle.js_session.specs.Effects.{Effect, effect_of, gives_row, is_step}
-use Rattle.js_session.specs.Effects.Effect.{reads, peeks, re_lexes, opens, rewinds, commits}
+use Rattle.js_session.specs.declared.command.Effect.TheVariants.{Reads, Peeks, ReLexes, Opens, Rewinds, Commits}
 use Rattle.js_session.specs.declared.command.Command.{Command}
 use Rattle.js_session.specs.declared.row.Row.{Row}
 use Rattle.js_lex_c.specs.Chains.{LeadsTo, IsChain, AreChains, Stands, Adds, ChangesMarks, Follows, Leaves, Puts}
@@ -119,15 +119,15 @@ re_lex_stands false rows old new s row p h at = subst (λ c. Stands rows c s) (s
 adds_stands : (effect : Effect) (rows : List Row) (old new : RowChains) (s : RowState) (row : Row)
     → gives_row effect ≡ true → Adds effect row.taken old new → Stands rows old s
     → slice_get rows (length old.links) ≡ Some row → Stands rows new (with_row effect row s)
-adds_stands (reads goal) rows old new s row e a h at =
+adds_stands (Reads goal) rows old new s row e a h at =
     subst (λ c. Stands rows c (record s { now = row ∷ s.now })) (sym a)
     (stands_put rows old s old.last row s.now h at h.now)
-adds_stands (peeks goal) rows old new s row e a h at =
+adds_stands (Peeks goal) rows old new s row e a h at =
     subst (λ c. Stands rows c s) (sym a) (stands_passed rows old s h)
-adds_stands (re_lexes goal) rows old new s row e a h at = re_lex_stands row.taken rows old new s row a h at
-adds_stands opens rows old new s row e a h at = absurd cc
-adds_stands rewinds rows old new s row e a h at = absurd cc
-adds_stands commits rows old new s row e a h at = absurd cc
+adds_stands (ReLexes goal) rows old new s row e a h at = re_lex_stands row.taken rows old new s row a h at
+adds_stands Opens rows old new s row e a h at = absurd cc
+adds_stands Rewinds rows old new s row e a h at = absurd cc
+adds_stands Commits rows old new s row e a h at = absurd cc
 
 puts_longer : (old new : RowChains) → Puts old new → length new.links ≡ length old.links + 1
 puts_longer old new p = by_last old.last refl
@@ -139,13 +139,13 @@ puts_longer old new p = by_last old.last refl
 
 adds_longer : (effect : Effect) (taken : Bool) (old new : RowChains) → Adds effect taken old new
     → length new.links ≡ length old.links + 1
-adds_longer (reads goal) taken old new a = ap (λ c. length c.links) a ∙ longer old.links old.last
-adds_longer (peeks goal) taken old new a = ap (λ c. length c.links) a ∙ longer old.links 0
-adds_longer (re_lexes goal) true old new a = puts_longer old new a
-adds_longer (re_lexes goal) false old new a = ap (λ c. length c.links) a ∙ longer old.links 0
-adds_longer opens taken old new a = ap (λ c. length c.links) a ∙ longer old.links 0
-adds_longer rewinds taken old new a = ap (λ c. length c.links) a ∙ longer old.links 0
-adds_longer commits taken old new a = ap (λ c. length c.links) a ∙ longer old.links 0
+adds_longer (Reads goal) taken old new a = ap (λ c. length c.links) a ∙ longer old.links old.last
+adds_longer (Peeks goal) taken old new a = ap (λ c. length c.links) a ∙ longer old.links 0
+adds_longer (ReLexes goal) true old new a = puts_longer old new a
+adds_longer (ReLexes goal) false old new a = ap (λ c. length c.links) a ∙ longer old.links 0
+adds_longer Opens taken old new a = ap (λ c. length c.links) a ∙ longer old.links 0
+adds_longer Rewinds taken old new a = ap (λ c. length c.links) a ∙ longer old.links 0
+adds_longer Commits taken old new a = ap (λ c. length c.links) a ∙ longer old.links 0
 
 rows_step : (s : RowState) (c : Command) (left : List Command) (row : Row) (rows : List Row) → is_step c ≡ true
     → rows_behind s (c ∷ left) (row ∷ rows) ≡ rows_behind (with_row (effect_of c) row s) left rows
@@ -262,10 +262,10 @@ committed_stands rows old new s (Some link) h l = committed_some rows old new s 
 -- Behind a command that gives no row, the chains have what is live then.
 marks_stand : (effect : Effect) (rows : List Row) (old new : RowChains) (s : RowState) → gives_row effect ≡ false
     → ChangesMarks effect old new → Stands rows old s → Stands rows new (with_mark effect s)
-marks_stand (reads goal) rows old new s e m h = absurd cc
-marks_stand (peeks goal) rows old new s e m h = absurd cc
-marks_stand (re_lexes goal) rows old new s e m h = absurd cc
-marks_stand opens rows old new s e m h =
+marks_stand (Reads goal) rows old new s e m h = absurd cc
+marks_stand (Peeks goal) rows old new s e m h = absurd cc
+marks_stand (ReLexes goal) rows old new s e m h = absurd cc
+marks_stand Opens rows old new s e m h =
     subst (λ c. Stands rows c (record s { marks = s.now ∷ s.marks })) (sym m)
     (record {
       now = h.now;
@@ -273,16 +273,16 @@ marks_stand opens rows old new s e m h =
           subst (λ xs. AreChains rows old.links xs (s.now ∷ s.marks)) (sym (reverse-append old.marks (old.last ∷ [])))
           (h.now, h.marks);
     })
-marks_stand rewinds rows old new s e m h = rewound_stands rows old new s m.0 h m.1
-marks_stand commits rows old new s e m h = committed_stands rows old new s m.0 h m.1
+marks_stand Rewinds rows old new s e m h = rewound_stands rows old new s m.0 h m.1
+marks_stand Commits rows old new s e m h = committed_stands rows old new s m.0 h m.1
 
 marks_keep_links : (effect : Effect) (old new : RowChains) → ChangesMarks effect old new → new.links ≡ old.links
-marks_keep_links (reads goal) old new m = ap (λ c. c.links) m
-marks_keep_links (peeks goal) old new m = ap (λ c. c.links) m
-marks_keep_links (re_lexes goal) old new m = ap (λ c. c.links) m
-marks_keep_links opens old new m = ap (λ c. c.links) m
-marks_keep_links rewinds old new m = ap (λ c. c.links) m.1.rest
-marks_keep_links commits old new m = ap (λ c. c.links) m.1.rest
+marks_keep_links (Reads goal) old new m = ap (λ c. c.links) m
+marks_keep_links (Peeks goal) old new m = ap (λ c. c.links) m
+marks_keep_links (ReLexes goal) old new m = ap (λ c. c.links) m
+marks_keep_links Opens old new m = ap (λ c. c.links) m
+marks_keep_links Rewinds old new m = ap (λ c. c.links) m.1.rest
+marks_keep_links Commits old new m = ap (λ c. c.links) m.1.rest
 
 -- a command that gives no row
 pub follows_mark : (rows : List Row) (c : Command) (old new : RowChains) → is_step c ≡ false

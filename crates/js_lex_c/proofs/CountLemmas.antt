@@ -19,7 +19,7 @@ use Rattle.js_grammar.proofs.GoalWays.{goal_reads_span}
 use Rattle.js_grammar.proofs.TokenStarts.{starts_again}
 use Rattle.js_lexer.specs.Lexer.{token_or_default}
 use Rattle.js_session.specs.Effects.{effect_of}
-use Rattle.js_session.specs.Effects.Effect.{re_lexes}
+use Rattle.js_session.specs.declared.command.Effect.TheVariants.{ReLexes}
 use Rattle.js_session.specs.Live.{State, after_row, last_live, live, nothing_live, outcome_of, state_after}
 use Rattle.js_session.specs.Live.{state_after_first}
 use Rattle.js_session.specs.Report.{AreRows, IsNotTaken, IsReLexed, IsRow, LiesOnPlaces, Run}
@@ -90,11 +90,11 @@ counted_again : (text : List ℕ) (t : SourceType) (s : State) (goal : Goal) (ro
     → IsUtf8 text → Counted text s.now.tokens → LiesOnPlaces text row
     → MatchBool (fits text goal (token_or_default (last_live s.now))) (IsReLexed text t s.now goal row)
     (IsNotTaken s.now row)
-    → Counted text (after_row (re_lexes goal) row s).now.tokens
+    → Counted text (after_row (ReLexes goal) row s).now.tokens
 counted_again text t s goal row again u k places is = by_fit (fits text goal (token_or_default (last_live s.now))) is
   where
     by_fit : (b : Bool) → MatchBool b (IsReLexed text t s.now goal row) (IsNotTaken s.now row)
-        → Counted text (after_row (re_lexes goal) row s).now.tokens
+        → Counted text (after_row (ReLexes goal) row s).now.tokens
     by_fit true r = rw r.taken (counted_taken text t s goal row again u k places r)
     by_fit false n = rw n.taken k
 

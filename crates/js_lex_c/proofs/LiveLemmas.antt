@@ -7,7 +7,7 @@ use Rattle.js_text.specs.Lists.{with_last}
 use Rattle.js_text.specs.declared.source_type.SourceType.{SourceType}
 use Rattle.js_kind.specs.TokenParts.{TokenParts}
 use Rattle.js_session.specs.Effects.{Effect, effect_of, is_step}
-use Rattle.js_session.specs.Effects.Effect.{reads, peeks, re_lexes, opens, rewinds, commits}
+use Rattle.js_session.specs.declared.command.Effect.TheVariants.{Reads, Peeks, ReLexes, Opens, Rewinds, Commits}
 use Rattle.js_session.specs.Live.{Live, State, after_mark, after_row, committed_state, live, rewound_state, state_after}
 use Rattle.js_session.specs.Live.{outcome_of, state_after_first, with_re_lexed}
 use Rattle.js_session.specs.Report.{AreRows, HasMark, IsRow, ReportOf, Run}
@@ -55,15 +55,15 @@ re_lex_matches false row rows s m = m
 
 row_matches : (effect : Effect) (row : Row) (rows : RowState) (s : State) → Matches rows s
     → Matches (with_row effect row rows) (after_row effect row s)
-row_matches (reads goal) row rows s m = record {
+row_matches (Reads goal) row rows s m = record {
   now = tokens_more row rows.now ∙ ap (λ ts. ts ++ row.token ∷ []) m.now;
   marks = m.marks;
 }
-row_matches (peeks goal) row rows s m = m
-row_matches (re_lexes goal) row rows s m = re_lex_matches row.taken row rows s m
-row_matches opens row rows s m = m
-row_matches rewinds row rows s m = m
-row_matches commits row rows s m = m
+row_matches (Peeks goal) row rows s m = m
+row_matches (ReLexes goal) row rows s m = re_lex_matches row.taken row rows s m
+row_matches Opens row rows s m = m
+row_matches Rewinds row rows s m = m
+row_matches Commits row rows s m = m
 
 rewound_matches : (now : List Row) (marks : List (List Row)) (live : Live) (lives : List Live)
     → tokens_of now ≡ live.tokens → map tokens_of marks ≡ map (λ l. l.tokens) lives
@@ -83,15 +83,15 @@ committed_matches now (r ∷ rs) live (l ∷ ls) h m = record { now = h; marks =
 
 mark_matches : (effect : Effect) (rows : RowState) (s : State) → Matches rows s
     → Matches (with_mark effect rows) (after_mark effect s)
-mark_matches (reads goal) rows s m = m
-mark_matches (peeks goal) rows s m = m
-mark_matches (re_lexes goal) rows s m = m
-mark_matches opens rows s m = record {
+mark_matches (Reads goal) rows s m = m
+mark_matches (Peeks goal) rows s m = m
+mark_matches (ReLexes goal) rows s m = m
+mark_matches Opens rows s m = record {
   now = m.now;
   marks = ap (λ ts. ts ∷ map tokens_of rows.marks) m.now ∙ ap (λ ms. s.now.tokens ∷ ms) m.marks;
 }
-mark_matches rewinds rows s m = rewound_matches rows.now rows.marks s.now s.marks m.now m.marks
-mark_matches commits rows s m = committed_matches rows.now rows.marks s.now s.marks m.now m.marks
+mark_matches Rewinds rows s m = rewound_matches rows.now rows.marks s.now s.marks m.now m.marks
+mark_matches Commits rows s m = committed_matches rows.now rows.marks s.now s.marks m.now m.marks
 
 rows_step : (rows : RowState) (c : Command) (cs : List Command) (row : Row) (more : List Row) → is_step c ≡ true
     → rows_behind rows (c ∷ cs) (row ∷ more) ≡ rows_behind (with_row (effect_of c) row rows) cs more

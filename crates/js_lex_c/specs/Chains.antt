@@ -2,7 +2,7 @@
 use Rattle.std.specs.Prelude.{◌≡◌, ℕ, ◌+◌, ◌<◌, ◌≤◌, ◌↔◌, min, Bool, List, [], ◌∷◌, ◌++◌, length, drop, reverse, Option}
 use Rattle.std.specs.Prelude.{Some, IsSome, MatchBool, option_to_list, slice_get, slice_index, unwrap_or}
 use Rattle.js_session.specs.Effects.{Effect}
-use Rattle.js_session.specs.Effects.Effect.{reads, peeks, re_lexes, opens, rewinds, commits}
+use Rattle.js_session.specs.declared.command.Effect.TheVariants.{Reads, Peeks, ReLexes, Opens, Rewinds, Commits}
 use Rattle.js_session.specs.declared.command.Command.{Command}
 use Rattle.js_session.specs.declared.row.Row.{Row}
 use Rattle.js_lex_c.specs.LiveRows.{RowState, rows_behind}
@@ -53,12 +53,12 @@ pub record Puts (old new : RowChains) : Type 0 where
 
 -- one more row, which answers a command of the effect
 abbrev pub Adds : Effect → Bool → RowChains → RowChains → Type 0
-Adds (reads goal) taken old new = new ≡ put_behind old.last old
-Adds (peeks goal) taken old new = new ≡ passed old
-Adds (re_lexes goal) taken old new = MatchBool taken (Puts old new) (new ≡ passed old)
-Adds opens taken old new = new ≡ passed old
-Adds rewinds taken old new = new ≡ passed old
-Adds commits taken old new = new ≡ passed old
+Adds (Reads goal) taken old new = new ≡ put_behind old.last old
+Adds (Peeks goal) taken old new = new ≡ passed old
+Adds (ReLexes goal) taken old new = MatchBool taken (Puts old new) (new ≡ passed old)
+Adds Opens taken old new = new ≡ passed old
+Adds Rewinds taken old new = new ≡ passed old
+Adds Commits taken old new = new ≡ passed old
 
 -- The last mark was closed, if one was open, and this is the last live row now.
 pub record Leaves (closed : Option ℕ) (last : ℕ) (old new : RowChains) : Type 0 where
@@ -68,12 +68,12 @@ pub record Leaves (closed : Option ℕ) (last : ℕ) (old new : RowChains) : Typ
 
 -- what an effect that gives no row does to the marks
 abbrev pub ChangesMarks : Effect → RowChains → RowChains → Type 0
-ChangesMarks (reads goal) old new = new ≡ old
-ChangesMarks (peeks goal) old new = new ≡ old
-ChangesMarks (re_lexes goal) old new = new ≡ old
-ChangesMarks opens old new = new ≡ record old { marks = old.marks ++ old.last ∷ [] }
-ChangesMarks rewinds old new = (closed : Option ℕ) × Leaves closed (unwrap_or closed old.last) old new
-ChangesMarks commits old new = (closed : Option ℕ) × Leaves closed old.last old new
+ChangesMarks (Reads goal) old new = new ≡ old
+ChangesMarks (Peeks goal) old new = new ≡ old
+ChangesMarks (ReLexes goal) old new = new ≡ old
+ChangesMarks Opens old new = new ≡ record old { marks = old.marks ++ old.last ∷ [] }
+ChangesMarks Rewinds old new = (closed : Option ℕ) × Leaves closed (unwrap_or closed old.last) old new
+ChangesMarks Commits old new = (closed : Option ℕ) × Leaves closed old.last old new
 
 -- The chains have what is live after one more command, where some follow it.
 pub record Followed (rows : List Row) (command : Command) (left : List Command) (s : RowState) (old new : RowChains)

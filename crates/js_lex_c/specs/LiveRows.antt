@@ -1,7 +1,7 @@
 -- Which rows are live: those whose tokens are live after the commands.
 use Rattle.std.specs.Prelude.{List, [], ◌∷◌, take, drop, reverse, if◌then◌else◌}
 use Rattle.js_session.specs.Effects.{Effect, effect_of, is_step}
-use Rattle.js_session.specs.Effects.Effect.{reads, peeks, re_lexes, opens, rewinds, commits}
+use Rattle.js_session.specs.declared.command.Effect.TheVariants.{Reads, Peeks, ReLexes, Opens, Rewinds, Commits}
 use Rattle.js_session.specs.declared.command.Command.{Command}
 use Rattle.js_session.specs.declared.row.Row.{Row}
 
@@ -17,12 +17,12 @@ with_first row (first ∷ rows) = row ∷ rows
 
 -- the state after an effect that gave this row: a peek, and a re-lex that was not taken, change nothing
 abbrev pub with_row : Effect → Row → RowState → RowState
-with_row (reads goal) row s = record s { now = row ∷ s.now }
-with_row (peeks goal) row s = s
-with_row (re_lexes goal) row s = if row.taken then record s { now = with_first row s.now } else s
-with_row opens row s = s
-with_row rewinds row s = s
-with_row commits row s = s
+with_row (Reads goal) row s = record s { now = row ∷ s.now }
+with_row (Peeks goal) row s = s
+with_row (ReLexes goal) row s = if row.taken then record s { now = with_first row s.now } else s
+with_row Opens row s = s
+with_row Rewinds row s = s
+with_row Commits row s = s
 
 -- the state at the last open mark, which is closed
 abbrev pub rows_rewound : List Row → List (List Row) → RowState
@@ -36,12 +36,12 @@ rows_committed now (m ∷ ms) = record { now = now; marks = ms }
 
 -- the state after an effect that gives no row
 abbrev pub with_mark : Effect → RowState → RowState
-with_mark (reads goal) s = s
-with_mark (peeks goal) s = s
-with_mark (re_lexes goal) s = s
-with_mark opens s = record s { marks = s.now ∷ s.marks }
-with_mark rewinds s = rows_rewound s.now s.marks
-with_mark commits s = rows_committed s.now s.marks
+with_mark (Reads goal) s = s
+with_mark (Peeks goal) s = s
+with_mark (ReLexes goal) s = s
+with_mark Opens s = record s { marks = s.now ∷ s.marks }
+with_mark Rewinds s = rows_rewound s.now s.marks
+with_mark Commits s = rows_committed s.now s.marks
 
 -- the state after these commands, which gave these rows
 abbrev pub rows_behind : RowState → List Command → List Row → RowState

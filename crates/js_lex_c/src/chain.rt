@@ -6,7 +6,7 @@ ghost use Rattle.js_lex_c.specs.LiveRows.{live_backward, live_rows};
 ghost use Rattle.js_lex_c.specs.Chains.{first_chain, put_behind, passed, Puts, Leaves, Adds, ChangesMarks, Follows};
 ghost use Rattle.js_lex_c.specs.Chains.{IsChain};
 
-use js_session::{Command, Row};
+use js_session::{Command, Effect, Row};
 use js_text::ItemList;
 use std::alloc::{AllocError, Global};
 
@@ -75,23 +75,17 @@ impl RowChains {
         }
     }
 
-    /// The next row answers a command that gives one.
-    fn add(&mut self, command: Command, taken: bool) -> Result<(), AllocError>
-        ensures { OnOk result (Adds (effect_of command) taken self.old self.new) }
+    /// The next row answers a command of the effect, which gives one.
+    fn add(&mut self, effect: Effect, taken: bool) -> Result<(), AllocError>
+        ensures { OnOk result (Adds effect taken self.old self.new) }
     {
-        match command {
-            Command::Next | Command::JsxChild | Command::JsxAttr => {
+        match effect {
+            Effect::Reads(_) => {
                 let last = self.last;
                 self.put(last)
             }
-            Command::Peek | Command::Mark | Command::Rewind | Command::Commit => self.pass(),
-            _ => {
-                if taken {
-                    self.put_in_place()
-                } else {
-                    self.pass()
-                }
-            }
+            Effect::ReLexes(_) if taken => self.put_in_place(),
+            _ => self.pass(),
         }
     }
 
@@ -102,22 +96,22 @@ impl RowChains {
         self.marks.pop()
     }
 
-    /// Follows a command that gives no row.
-    fn change_marks(&mut self, command: Command) -> Result<(), AllocError>
-        ensures { OnOk result (ChangesMarks (effect_of command) self.old self.new) }
+    /// Follows a command of the effect, which gives no row.
+    fn change_marks(&mut self, effect: Effect) -> Result<(), AllocError>
+        ensures { OnOk result (ChangesMarks effect self.old self.new) }
     {
-        match command {
-            Command::Mark => {
+        match effect {
+            Effect::Opens => {
                 let last = self.last;
                 self.marks.push(last)
             }
-            Command::Rewind => {
+            Effect::Rewinds => {
                 if let Some(last) = self.close() {
                     self.last = last;
                 }
                 Ok(())
             }
-            Command::Commit => {
+            Effect::Commits => {
                 let _ = self.close();
                 Ok(())
             }
@@ -131,7 +125,7 @@ impl RowChains {
         ensures { OnOk result (Follows rows.now command self.old self.new) }
     {
         match rows.get(self.links.len()) {
-            Some(row) => self.add(command, row.taken),
+            Some(row) => self.add(command.effect(), row.taken),
             None => Ok(()),
         }
     }
@@ -143,7 +137,7 @@ impl RowChains {
         if command.is_step() {
             self.step(command, rows)
         } else {
-            self.change_marks(command)
+            self.change_marks(command.effect())
         }
     }
 }

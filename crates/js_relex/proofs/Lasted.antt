@@ -11,7 +11,7 @@ use Rattle.js_session.specs.declared.command.Command.{Command}
 use Rattle.js_session.specs.declared.report.Report.{Report}
 use Rattle.js_session.specs.declared.row.Row.{Row}
 use Rattle.js_session.specs.Effects.{Effect, effect_of, is_lasting, lasts, row_effect}
-use Rattle.js_session.specs.Effects.Effect.{reads, peeks, re_lexes, opens, rewinds, commits}
+use Rattle.js_session.specs.declared.command.Effect.TheVariants.{Reads, Peeks, ReLexes, Opens, Rewinds, Commits}
 use Rattle.js_session.specs.Live.{Live, State, after_row, last_live, nothing_live, row_findings, state_after_first}
 use Rattle.js_session.specs.Report.{AreRows, IsNotTaken, IsOfEffect, IsReLexed, IsRow, Run}
 use Rattle.js_session.proofs.LastingRuns.{lasting_steps}
@@ -25,17 +25,17 @@ not_both b yes_is no_is = absurd (let no : true ≡ false = sym yes_is ∙ no_is
 -- A row that was not taken has found nothing.
 none_found : (text : List ℕ) (t : SourceType) (now : Live) (effect : Effect) (row : Row)
     → IsOfEffect text t now effect row → row.taken ≡ false → row_findings row ≡ no_findings
-none_found text t now (reads goal) row h e = not_both row.taken h.taken e
-none_found text t now (peeks goal) row h e = not_both row.taken h.taken e
-none_found text t now (re_lexes goal) row h e = by_fits (fits text goal (token_or_default (last_live now))) h
+none_found text t now (Reads goal) row h e = not_both row.taken h.taken e
+none_found text t now (Peeks goal) row h e = not_both row.taken h.taken e
+none_found text t now (ReLexes goal) row h e = by_fits (fits text goal (token_or_default (last_live now))) h
   where
     by_fits : (b : Bool) → MatchBool b (IsReLexed text t now goal row) (IsNotTaken now row)
         → row_findings row ≡ no_findings
     by_fits true h = not_both row.taken h.taken e
     by_fits false h = h.findings
-none_found text t now opens row h e = absurd h
-none_found text t now rewinds row h e = absurd h
-none_found text t now commits row h e = absurd h
+none_found text t now Opens row h e = absurd h
+none_found text t now Rewinds row h e = absurd h
+none_found text t now Commits row h e = absurd h
 
 row_lasts : (text : List ℕ) (t : SourceType) (now : Live) (row : Row) (c : Command) → is_lasting c ≡ true
     → IsRow text t now (Some c) row → Lasts row

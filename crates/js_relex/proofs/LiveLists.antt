@@ -14,7 +14,7 @@ use Rattle.js_session.proofs.Restated.{joined-assoc, joined-none}
 use Rattle.js_session.specs.declared.command.Command.{Command}
 use Rattle.js_session.specs.declared.row.Row.{Row}
 use Rattle.js_session.specs.Effects.{Effect, lasts, row_effect}
-use Rattle.js_session.specs.Effects.Effect.{reads, peeks, re_lexes, opens, rewinds, commits}
+use Rattle.js_session.specs.declared.command.Effect.TheVariants.{Reads, Peeks, ReLexes, Opens, Rewinds, Commits}
 use Rattle.js_session.specs.Live.{Live, State, after_row, nothing_live, outcome_of, row_findings, with_outcome}
 use Rattle.js_session.specs.Live.{with_re_lexed}
 use Rattle.js_session.proofs.LiveLemmas.{length-with_last, same_live, with_last-append}
@@ -43,12 +43,12 @@ HasToken live = 0 < length live.tokens
 row_joined : (a b : Live) (effect : Effect) (row : Row) → lasts effect ≡ true
     → HasToken b ⊎ (reads_on effect ≡ true)
     → behind_row effect row (joined_live a b) ≡ joined_live a (behind_row effect row b)
-row_joined a b (reads goal) row lasting some =
+row_joined a b (Reads goal) row lasting some =
     same_live (with_outcome (joined_live a b) (outcome_of row)) (joined_live a (with_outcome b (outcome_of row)))
     (append_assoc a.tokens b.tokens (row.token ∷ []))
     (joined-assoc a.findings b.findings (row_findings row))
-row_joined a b (re_lexes goal) row lasting (inr reading) = absurd (cc)
-row_joined a b (re_lexes goal) row lasting (inl some) = by_taken row.taken
+row_joined a b (ReLexes goal) row lasting (inr reading) = absurd (cc)
+row_joined a b (ReLexes goal) row lasting (inl some) = by_taken row.taken
   where
     tokens : (ts : List TokenParts) → 0 < length ts
         → with_last (a.tokens ++ ts) row.token ≡ a.tokens ++ with_last ts row.token
@@ -71,16 +71,16 @@ row_joined a b (re_lexes goal) row lasting (inl some) = by_taken row.taken
         (tokens b.tokens some)
         (joined-assoc a.findings b.findings (row_findings row))
     by_taken false = refl
-row_joined a b (peeks goal) row lasting some = absurd (cc)
-row_joined a b opens row lasting some = absurd (cc)
-row_joined a b rewinds row lasting some = absurd (cc)
-row_joined a b commits row lasting some = absurd (cc)
+row_joined a b (Peeks goal) row lasting some = absurd (cc)
+row_joined a b Opens row lasting some = absurd (cc)
+row_joined a b Rewinds row lasting some = absurd (cc)
+row_joined a b Commits row lasting some = absurd (cc)
 
 -- how many tokens are live behind a row
 row_tokens : (live : Live) (effect : Effect) (row : Row)
     → length (behind_row effect row live).tokens ≡ length live.tokens + one (reads_on effect)
-row_tokens live (reads goal) row = length-append live.tokens (row.token ∷ [])
-row_tokens live (re_lexes goal) row = by_taken row.taken
+row_tokens live (Reads goal) row = length-append live.tokens (row.token ∷ [])
+row_tokens live (ReLexes goal) row = by_taken row.taken
   where
     by_taken : (taken : Bool)
         → length (if◌then◌else◌ {A = State} taken
@@ -88,17 +88,17 @@ row_tokens live (re_lexes goal) row = by_taken row.taken
         (record { now = live; marks = [] })).now.tokens ≡ length live.tokens + 0
     by_taken true = length-with_last live.tokens row.token ∙ (omega arith)
     by_taken false = omega arith
-row_tokens live (peeks goal) row = omega arith
-row_tokens live opens row = omega arith
-row_tokens live rewinds row = omega arith
-row_tokens live commits row = omega arith
+row_tokens live (Peeks goal) row = omega arith
+row_tokens live Opens row = omega arith
+row_tokens live Rewinds row = omega arith
+row_tokens live Commits row = omega arith
 
 -- what is found behind a row
 row_found : (live : Live) (effect : Effect) (row : Row) → lasts effect ≡ true
     → (row.taken ≡ false → row_findings row ≡ no_findings)
     → (behind_row effect row live).findings ≡ joined live.findings (row_findings row)
-row_found live (reads goal) row lasting untaken = refl
-row_found live (re_lexes goal) row lasting untaken = by_taken row.taken refl
+row_found live (Reads goal) row lasting untaken = refl
+row_found live (ReLexes goal) row lasting untaken = by_taken row.taken refl
   where
     by_taken : (taken : Bool) → row.taken ≡ taken
         → (if◌then◌else◌ {A = State} taken
@@ -106,10 +106,10 @@ row_found live (re_lexes goal) row lasting untaken = by_taken row.taken refl
         (record { now = live; marks = [] })).now.findings ≡ joined live.findings (row_findings row)
     by_taken true is = refl
     by_taken false is = sym (ap (joined live.findings) (untaken is) ∙ joined-none live.findings)
-row_found live (peeks goal) row lasting untaken = absurd (cc)
-row_found live opens row lasting untaken = absurd (cc)
-row_found live rewinds row lasting untaken = absurd (cc)
-row_found live commits row lasting untaken = absurd (cc)
+row_found live (Peeks goal) row lasting untaken = absurd (cc)
+row_found live Opens row lasting untaken = absurd (cc)
+row_found live Rewinds row lasting untaken = absurd (cc)
+row_found live Commits row lasting untaken = absurd (cc)
 
 -- Behind rows, where there was a token, or the first of them reads one.
 joined_behind : (a b : Live) (rows : List Row) → AllByRecursion Lasts rows → HasToken b ⊎ StartsAnew rows
@@ -128,8 +128,8 @@ joined_behind a b (row ∷ rows) lasted some =
         → HasToken (behind_row (row_effect row.command) row b)
     has_token (inl some) count = omega (arith, some, count)
     has_token (inr reading) count =
-        let reads : one (is_reading row.command) ≡ 1 = ap one reading in
-        omega (arith, reads, count)
+        let Reads : one (is_reading row.command) ≡ 1 = ap one reading in
+        omega (arith, Reads, count)
 
 -- What rows that start anew make live stands behind what was live.
 pub starts_anew : (live : Live) (rows : List Row) → AllByRecursion Lasts rows → StartsAnew rows
@@ -246,11 +246,11 @@ readings_answer (row ∷ rows) [] (suc n) e = absurd (cc)
 readings_answer (row ∷ rows) (c ∷ cs) (suc n) e =
     let first : row.command ≡ Some c = cc in
     let rest : map (λ (row : Row). row.command) rows ≡ map Some cs = cc in
-    let reads : one (is_reading row.command) ≡ one (is_reading (Some c)) = ap (λ c. one (is_reading c)) first in
+    let Reads : one (is_reading row.command) ≡ one (is_reading (Some c)) = ap (λ c. one (is_reading c)) first in
     let here = sum_by-cons (λ (r : Row). one (is_reading r.command)) row (take n rows) in
     let there = sum_by-cons (λ (c : Command). one (is_reading (Some c))) c (take n cs) in
     let more = readings_answer rows cs n rest in
-    omega (arith, reads, here, there, more)
+    omega (arith, Reads, here, there, more)
 
 pub first_readings_are : (rows : List Row) (commands : List Command) (n : ℕ)
     → map (λ (row : Row). row.command) rows ≡ None ∷ map Some commands
@@ -260,10 +260,10 @@ first_readings_are [] commands (suc n) e = absurd (cc)
 first_readings_are (row ∷ rows) commands (suc n) e =
     let first : row.command ≡ None = cc in
     let rest : map (λ (row : Row). row.command) rows ≡ map Some commands = cc in
-    let reads : one (is_reading row.command) ≡ 1 = ap (λ c. one (is_reading c)) first in
+    let Reads : one (is_reading row.command) ≡ 1 = ap (λ c. one (is_reading c)) first in
     let here = sum_by-cons (λ (r : Row). one (is_reading r.command)) row (take n rows) in
     let more = readings_answer rows commands n rest in
-    omega (arith, reads, here, more)
+    omega (arith, Reads, here, more)
 
 -- The lengths at a place, by the commands.
 pub lengths_at_place : (rows : List Row) (commands : List Command) (place : ℕ) → AllByRecursion Lasts rows

@@ -8,7 +8,7 @@ use Rattle.js_text.specs.Lists.{with_last}
 use Rattle.js_session.specs.Restated.{Findings, joined}
 use Rattle.js_session.specs.declared.row.Row.{Row}
 use Rattle.js_session.specs.Effects.{Effect, row_effect}
-use Rattle.js_session.specs.Effects.Effect.{reads, peeks, re_lexes, opens, rewinds, commits}
+use Rattle.js_session.specs.declared.command.Effect.TheVariants.{Reads, Peeks, ReLexes, Opens, Rewinds, Commits}
 use Rattle.js_session.specs.Live.{Live, State, after_row, nothing_live, outcome_of, row_findings, with_outcome}
 use Rattle.js_session.specs.Live.{with_re_lexed}
 use Rattle.js_session.specs.Shifted.{FitsShifted, OfComment, OfDiagnostic, OfFindings, OfSpan}
@@ -46,10 +46,10 @@ module _ (from to : ℕ) where
   row_moved : (live : Live) (effect : Effect) (row : Row)
       → (after_row effect (moved row) (record { now = shift live; marks = [] })).now
       ≡ shift (after_row effect row (record { now = live; marks = [] })).now
-  row_moved live (reads goal) row =
+  row_moved live (Reads goal) row =
       same_live (with_outcome (shift live) (outcome_of (moved row))) (shift (with_outcome live (outcome_of row)))
       (sym (map-append (shifted_token from to) live.tokens (row.token ∷ []))) (findings_moved live row)
-  row_moved live (re_lexes goal) row = by_taken row.taken
+  row_moved live (ReLexes goal) row = by_taken row.taken
     where
       by_taken : (taken : Bool)
           → (if◌then◌else◌ {A = State} taken
@@ -62,10 +62,10 @@ module _ (from to : ℕ) where
           same_live (with_re_lexed (shift live) (outcome_of (moved row))) (shift (with_re_lexed live (outcome_of row)))
           (map_last (shifted_token from to) live.tokens row.token) (findings_moved live row)
       by_taken false = refl
-  row_moved live (peeks goal) row = refl
-  row_moved live opens row = refl
-  row_moved live rewinds row = refl
-  row_moved live commits row = refl
+  row_moved live (Peeks goal) row = refl
+  row_moved live Opens row = refl
+  row_moved live Rewinds row = refl
+  row_moved live Commits row = refl
 
   -- What moved rows make live is what they make live, moved.
   pub moved_behind : (live : Live) (rows : List Row)
@@ -104,11 +104,11 @@ module _ (from to : ℕ) where
 
   row_may_move : (live : Live) (effect : Effect) (row : Row) → LiveMayMove from to live → MayMove from to row
       → LiveMayMove from to (after_row effect row (record { now = live; marks = [] })).now
-  row_may_move live (reads goal) row h m = record {
+  row_may_move live (Reads goal) row h m = record {
     tokens = all_push (TokenMayMove from to) live.tokens row.token h.tokens (token_may_move row m);
     found = found_more live row h m;
   }
-  row_may_move live (re_lexes goal) row h m = by_taken row.taken
+  row_may_move live (ReLexes goal) row h m = by_taken row.taken
     where
       by_taken : (taken : Bool)
           → LiveMayMove from to (if◌then◌else◌ {A = State} taken
@@ -119,10 +119,10 @@ module _ (from to : ℕ) where
         found = found_more live row h m;
       }
       by_taken false = h
-  row_may_move live (peeks goal) row h m = h
-  row_may_move live opens row h m = h
-  row_may_move live rewinds row h m = h
-  row_may_move live commits row h m = h
+  row_may_move live (Peeks goal) row h m = h
+  row_may_move live Opens row h m = h
+  row_may_move live Rewinds row h m = h
+  row_may_move live Commits row h m = h
 
   behind_may_move : (live : Live) (rows : List Row) → LiveMayMove from to live
       → AllByRecursion (MayMove from to) rows → LiveMayMove from to (live_behind live rows)

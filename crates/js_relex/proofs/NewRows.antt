@@ -10,7 +10,7 @@ use Rattle.js_session.specs.declared.command.Command.{Command}
 use Rattle.js_session.specs.declared.report.Report.{Report}
 use Rattle.js_session.specs.declared.row.Row.{Row}
 use Rattle.js_session.specs.Effects.{Effect, effect_of, is_lasting, row_effect}
-use Rattle.js_session.specs.Effects.Effect.{reads, peeks, re_lexes, opens, rewinds, commits}
+use Rattle.js_session.specs.declared.command.Effect.TheVariants.{Reads, Peeks, ReLexes, Opens, Rewinds, Commits}
 use Rattle.js_session.specs.Live.{State, after_row, live, nothing_live, outcome_of, state_after, state_after_first}
 use Rattle.js_session.specs.Live.{with_re_lexed}
 use Rattle.js_session.specs.Report.{AreRows, ReportOf, Run, all_collected}
@@ -21,9 +21,9 @@ use Rattle.js_relex.specs.Documents.{IsGathered, live_behind}
 -- what is live behind a row, whatever was live at open marks
 live_of_row : (effect : Effect) (row : Row) (s : State)
     → (after_row effect row (record { now = s.now; marks = [] })).now ≡ (after_row effect row s).now
-live_of_row (reads goal) row s = refl
-live_of_row (peeks goal) row s = refl
-live_of_row (re_lexes goal) row s = by_flag row.taken
+live_of_row (Reads goal) row s = refl
+live_of_row (Peeks goal) row s = refl
+live_of_row (ReLexes goal) row s = by_flag row.taken
   where
     by_flag : (b : Bool)
         → (if◌then◌else◌ {A = State} b (record { now = with_re_lexed s.now (outcome_of row); marks = [] })
@@ -31,9 +31,9 @@ live_of_row (re_lexes goal) row s = by_flag row.taken
         ≡ (if◌then◌else◌ {A = State} b (record s { now = with_re_lexed s.now (outcome_of row) }) s).now
     by_flag true = refl
     by_flag false = refl
-live_of_row opens row s = refl
-live_of_row rewinds row s = refl
-live_of_row commits row s = refl
+live_of_row Opens row s = refl
+live_of_row Rewinds row s = refl
+live_of_row Commits row s = refl
 
 run_live : (text : List ℕ) (t : SourceType) (s : State) (commands : List Command) (rows : List Row)
     → list_all is_lasting commands ≡ true → Run text t s commands rows

@@ -8,7 +8,7 @@ use Rattle.js_session.specs.declared.command.Command.{Command}
 use Rattle.js_session.specs.declared.report.Report.{Report}
 use Rattle.js_session.specs.declared.row.Row.{Row}
 use Rattle.js_session.specs.Effects.{Effect, lasts, row_effect}
-use Rattle.js_session.specs.Effects.Effect.{reads, peeks, re_lexes, opens, rewinds, commits}
+use Rattle.js_session.specs.declared.command.Effect.TheVariants.{Reads, Peeks, ReLexes, Opens, Rewinds, Commits}
 use Rattle.js_session.specs.Live.{Live, nothing_live, report_live, row_findings}
 use Rattle.js_session.specs.Shifted.{FitsShifted, OfFindings, shifted_comment, shifted_diagnostic, shifted_span}
 use Rattle.js_session.specs.Shifted.{shifted_token}
@@ -19,12 +19,12 @@ use Rattle.js_relex.specs.declared.live.LiveLengths.{LiveLengths}
 
 -- the effects that read a token behind the last one
 abbrev pub reads_on : Effect → Bool
-reads_on (reads goal) = true
-reads_on (peeks goal) = false
-reads_on (re_lexes goal) = false
-reads_on opens = false
-reads_on rewinds = false
-reads_on commits = false
+reads_on (Reads goal) = true
+reads_on (Peeks goal) = false
+reads_on (ReLexes goal) = false
+reads_on Opens = false
+reads_on Rewinds = false
+reads_on Commits = false
 
 -- a row of the command, or of the first step, reads a token behind the last one
 abbrev pub is_reading : Option Command → Bool

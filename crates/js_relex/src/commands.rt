@@ -7,24 +7,14 @@ ghost use Rattle.js_relex.specs.Documents.{IsFirstBad};
 
 use js_session::Command;
 
-/// Whether a document may be given the command: one that gives a row which stays.
-fn is_lasting(command: Command) -> bool
-    ensures { result ≡ is_lasting command }
-{
-    match command {
-        Command::Peek | Command::Mark | Command::Rewind | Command::Commit => false,
-        _ => true,
-    }
-}
-
-/// The index of the first command that a document may not be given.
+/// The index of the first command that a document may not be given: one that gives no row which stays.
 pub(crate) fn first_bad(commands: &[Command]) -> Option<usize>
     ensures none { IfNone result (list_all is_lasting commands.now ≡ true) }
     ensures some { IfSome result (IsFirstBad commands.now) }
 {
     let mut index = 0;
     while index < commands.len() {
-        if !is_lasting(commands[index]) {
+        if !commands[index].is_lasting() {
             return Some(index);
         }
         index += 1;

@@ -1,4 +1,4 @@
-//! Documents.
+//! A text with its report, both of which an edit changes.
 
 ghost use Rattle.std.specs.Prelude.{◌≡◌, ◌≤◌, ◌<◌, ◌+◌, ◌^◌, ◌⊎◌, true, false, length, Err, None};
 ghost use Rattle.std.specs.Prelude.{IfOk, IfErr, OnOk, IsOk};

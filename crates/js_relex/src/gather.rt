@@ -9,7 +9,7 @@ ghost use Rattle.js_session.specs.Shifted.{shifted_row};
 ghost use Rattle.js_relex.specs.Documents.{AddsRows, GoesLive, MayMove, live_behind};
 
 use js_kind::TokenList;
-use js_session::{Command, Report, Row, RowList, Shift};
+use js_session::{Effect, Report, Row, RowList, Shift};
 use js_text::{CommentList, DiagnosticList, SpanList};
 use std::alloc::{AllocError, Global};
 
@@ -74,11 +74,10 @@ fn add_again(report: &mut Report, row: &Row) -> Result<(), AllocError>
 fn add_live(report: &mut Report, row: &Row) -> Result<(), AllocError>
     ensures { OnOk result (GoesLive report.old (live_behind (report_live report.old) (row.now ∷ [])) report.new) }
 {
-    match row.command {
-        None | Some(Command::Next | Command::JsxChild | Command::JsxAttr) => add_read(report, row),
-        Some(Command::Peek | Command::Mark | Command::Rewind | Command::Commit) => Ok(()),
-        Some(_) if row.taken => add_again(report, row),
-        Some(_) => Ok(()),
+    match row.effect() {
+        Effect::Reads(_) => add_read(report, row),
+        Effect::ReLexes(_) if row.taken => add_again(report, row),
+        _ => Ok(()),
     }
 }
 

@@ -6,7 +6,7 @@ use Rattle.js_text.specs.declared.source_type.SourceType.{SourceType}
 use Rattle.js_session.specs.declared.command.Command.{Command}
 use Rattle.js_session.specs.declared.row.Row.{Row}
 use Rattle.js_session.specs.Effects.{Effect, effect_of}
-use Rattle.js_session.specs.Effects.Effect.{reads, peeks, re_lexes, opens, rewinds, commits}
+use Rattle.js_session.specs.declared.command.Effect.TheVariants.{Reads, Peeks, ReLexes, Opens, Rewinds, Commits}
 use Rattle.js_session.specs.Live.{State, after_row, state_after}
 use Rattle.js_session.specs.Report.{Run}
 use Rattle.js_session.proofs.LastingRuns.{lasting_steps}
@@ -26,23 +26,23 @@ both_empty : {A : Type 0} (xs ys : List A) → xs ≡ [] → ys ≡ [] → xs ++
 both_empty xs ys e f = ap (λ zs. zs ++ ys) e ∙ f
 
 still_behind : (effect : Effect) (row : Row) (s : State) → IsBare row → IsStill s → IsStill (after_row effect row s)
-still_behind (reads goal) row s bare still = (
+still_behind (Reads goal) row s bare still = (
   both_empty s.now.findings.diagnostics row.diagnostics still.0 bare.0,
   both_empty s.now.findings.comments row.comments still.1 bare.1,
 )
-still_behind (peeks goal) row s bare still = still
-still_behind (re_lexes goal) row s bare still = by_flag row.taken refl
+still_behind (Peeks goal) row s bare still = still
+still_behind (ReLexes goal) row s bare still = by_flag row.taken refl
   where
-    by_flag : (b : Bool) → row.taken ≡ b → IsStill (after_row (re_lexes goal) row s)
+    by_flag : (b : Bool) → row.taken ≡ b → IsStill (after_row (ReLexes goal) row s)
     by_flag true e =
         rw e (
           both_empty s.now.findings.diagnostics row.diagnostics still.0 bare.0,
           both_empty s.now.findings.comments row.comments still.1 bare.1,
         )
     by_flag false e = rw e still
-still_behind opens row s bare still = still
-still_behind rewinds row s bare still = still
-still_behind commits row s bare still = still
+still_behind Opens row s bare still = still
+still_behind Rewinds row s bare still = still
+still_behind Commits row s bare still = still
 
 pub rows_still : (text : List ℕ) (t : SourceType) (s : State) (commands : List Command) (rows : List Row)
     → list_all (may_rewrite t) commands ≡ true → Run text t s commands rows → AllByRecursion IsBare rows → IsStill s

@@ -27,7 +27,7 @@ use Rattle.js_session.specs.declared.command.Command.TheVariants.{JsxAttr, Regex
 use Rattle.js_session.specs.declared.command.Command.TheVariants.{RAngle, TsLAngle, TsRAngle, Peek, Mark, Rewind, Commit}
 use Rattle.js_session.specs.declared.row.Row.{Row}
 use Rattle.js_session.specs.Effects.{Effect, effect_of, is_lasting}
-use Rattle.js_session.specs.Effects.Effect.{reads, peeks, re_lexes, opens, rewinds, commits}
+use Rattle.js_session.specs.declared.command.Effect.TheVariants.{Reads, Peeks, ReLexes, Opens, Rewinds, Commits}
 use Rattle.js_session.specs.Live.{State, after_row, last_live, outcome_of}
 use Rattle.js_session.specs.Report.{IsNotTaken, IsOfEffect, IsReLexed}
 use Rattle.js_session.proofs.LiveLemmas.{last_or-push}
@@ -40,12 +40,12 @@ IsQuiet row = row.diagnostics ≡ []
 
 -- The effects of commands with which a source of the type is written anew.
 abbrev pub Rewrites : SourceType → Effect → Type 0
-Rewrites t (reads goal) = (is_onward goal ≡ true) × (goal ≢ First) × (goal ≡ JsxChild → is_module t ≡ true)
-Rewrites t (peeks goal) = ⊥
-Rewrites t (re_lexes goal) = (is_onward goal ≡ false) × (goal ≡ TypeScriptLeftAngle → is_module t ≡ true)
-Rewrites t opens = ⊥
-Rewrites t rewinds = ⊥
-Rewrites t commits = ⊥
+Rewrites t (Reads goal) = (is_onward goal ≡ true) × (goal ≢ First) × (goal ≡ JsxChild → is_module t ≡ true)
+Rewrites t (Peeks goal) = ⊥
+Rewrites t (ReLexes goal) = (is_onward goal ≡ false) × (goal ≡ TypeScriptLeftAngle → is_module t ≡ true)
+Rewrites t Opens = ⊥
+Rewrites t Rewinds = ⊥
+Rewrites t Commits = ⊥
 
 module_only : (b : Bool) → (true && (b || false)) ≡ true → b ≡ true
 module_only true e = refl
@@ -79,20 +79,20 @@ pub record IsLast (text : List ℕ) (s : State) (token : TokenParts) : Type 0 wh
 pub last_behind : (text : List ℕ) (t : SourceType) (effect : Effect) (row : Row) (s : State) (token : TokenParts)
     → Rewrites t effect → IsLast text s token → IsOnPlaces text row.token → IsOfEffect text t s.now effect row
     → IsLast text (after_row effect row s) row.token
-last_behind text t (reads goal) row s token on l lies is = record {
+last_behind text t (Reads goal) row s token on l lies is = record {
   last_is = last_or-push None s.now.tokens row.token;
   lies = lies;
   spelled = goal_reads_spelling text t goal (last_live s.now) row.place (outcome_of row) is.reads;
 }
-last_behind text t (peeks goal) row s token on l lies is = absurd on
-last_behind text t opens row s token on l lies is = absurd on
-last_behind text t rewinds row s token on l lies is = absurd on
-last_behind text t commits row s token on l lies is = absurd on
-last_behind text t (re_lexes goal) row s token on l lies is =
+last_behind text t (Peeks goal) row s token on l lies is = absurd on
+last_behind text t Opens row s token on l lies is = absurd on
+last_behind text t Rewinds row s token on l lies is = absurd on
+last_behind text t Commits row s token on l lies is = absurd on
+last_behind text t (ReLexes goal) row s token on l lies is =
     by_flag (fits text goal (token_or_default (last_live s.now))) is
   where
     by_flag : (b : Bool) → MatchBool b (IsReLexed text t s.now goal row) (IsNotTaken s.now row)
-        → IsLast text (after_row (re_lexes goal) row s) row.token
+        → IsLast text (after_row (ReLexes goal) row s) row.token
     by_flag true is =
         rw is.taken (record {
           last_is = replaced_last s.now.tokens token row.token l.last_is;
@@ -144,7 +144,7 @@ again_starts text t JsxAttributeValue token place o off read = absurd (cc)
 
 -- where a row that read the token again starts, and what a row holds that did not
 pub taken_starts : (text : List ℕ) (t : SourceType) (goal : Goal) (s : State) (token : TokenParts) (row : Row)
-    → is_onward goal ≡ false → last_live s.now ≡ Some token → IsOfEffect text t s.now (re_lexes goal) row
+    → is_onward goal ≡ false → last_live s.now ≡ Some token → IsOfEffect text t s.now (ReLexes goal) row
     → row.taken ≡ true → StartsThere token.start (outcome_of row)
 taken_starts text t goal s token row off last is taken =
     by_flag (fits text goal (token_or_default (last_live s.now))) is
@@ -157,7 +157,7 @@ taken_starts text t goal s token row off last is taken =
     by_flag false is = absurd (let no : true ≡ false = sym taken ∙ is.taken in cc)
 
 pub not_taken_is : (text : List ℕ) (t : SourceType) (goal : Goal) (s : State) (row : Row)
-    → IsOfEffect text t s.now (re_lexes goal) row → row.taken ≡ false → IsNotTaken s.now row
+    → IsOfEffect text t s.now (ReLexes goal) row → row.taken ≡ false → IsNotTaken s.now row
 not_taken_is text t goal s row is taken = by_flag (fits text goal (token_or_default (last_live s.now))) is
   where
     by_flag : (b : Bool) → MatchBool b (IsReLexed text t s.now goal row) (IsNotTaken s.now row) → IsNotTaken s.now row

@@ -9,7 +9,7 @@ use Rattle.js_text.specs.declared.source_type.SourceType.{SourceType}
 use Rattle.js_session.specs.declared.command.Command.{Command}
 use Rattle.js_session.specs.declared.row.Row.{Row}
 use Rattle.js_session.specs.Effects.{Effect, closes, closes_mark, effect_of, is_lasting, lasts}
-use Rattle.js_session.specs.Effects.Effect.{reads, peeks, re_lexes, opens, rewinds, commits}
+use Rattle.js_session.specs.declared.command.Effect.TheVariants.{Reads, Peeks, ReLexes, Opens, Rewinds, Commits}
 use Rattle.js_session.specs.Faults.{HasMarks}
 use Rattle.std.proofs.lemmas.Bool.{and_parts}
 use Rattle.js_rewrite.specs.Faults.{first_bad, first_diagnosed, may_rewrite}
@@ -64,12 +64,12 @@ all_last t commands e = each commands (all_may t commands e)
 
 -- what gives a row which stays closes no mark
 stays_open : (e : Effect) → lasts e ≡ true → closes_mark e ≡ true → ⊥
-stays_open (reads goal) e f = cc
-stays_open (peeks goal) e f = cc
-stays_open (re_lexes goal) e f = cc
-stays_open opens e f = cc
-stays_open rewinds e f = cc
-stays_open commits e f = cc
+stays_open (Reads goal) e f = cc
+stays_open (Peeks goal) e f = cc
+stays_open (ReLexes goal) e f = cc
+stays_open Opens e f = cc
+stays_open Rewinds e f = cc
+stays_open Commits e f = cc
 
 -- and no command closes a mark
 pub none_closes : (t : SourceType) (commands : List Command) → first_bad t commands ≡ None → HasMarks commands

@@ -35,7 +35,7 @@ use Rattle.js_lexer.specs.Lexer.{IsOnPlaces, token_or_default}
 use Rattle.js_session.specs.SameRows.{SameRow, SameValue}
 use Rattle.js_session.specs.declared.row.Row.{Row}
 use Rattle.js_session.specs.Effects.{Effect}
-use Rattle.js_session.specs.Effects.Effect.{reads, re_lexes}
+use Rattle.js_session.specs.declared.command.Effect.TheVariants.{Reads, ReLexes}
 use Rattle.js_session.specs.Live.{State, after_row, last_live, outcome_of, place_behind_last}
 use Rattle.js_session.specs.Report.{IsNotTaken, IsOfEffect, IsReLexed, IsRead}
 use Rattle.js_rewrite.specs.Space.{begins_as_word, ends_as_word, is_operator}
@@ -258,7 +258,7 @@ a_hyphen text other t s q token there place o zs left u h is_read stands fit =
 
 -- A step of each session.
 pub read_step : (text other : List ℕ) (t : SourceType) (goal : Goal) (s q : State) (token there : TokenParts) (a b : Row)
-    (left zs : List ℕ) → IsUtf8 text → IsUtf8 other → Rewrites t (reads goal) → a.command ≡ b.command
+    (left zs : List ℕ) → IsUtf8 text → IsUtf8 other → Rewrites t (Reads goal) → a.command ≡ b.command
     → Beside text other t s q token there left → IsQuiet a → a.place ≡ place_behind_last s.now
     → b.place ≡ place_behind_last q.now → IsOnPlaces text a.token → IsOnPlaces other b.token
     → IsRead text t s.now goal a → IsRead other t q.now goal b
@@ -266,7 +266,7 @@ pub read_step : (text other : List ℕ) (t : SourceType) (goal : Goal) (s q : St
     → (goal ≡ JsxChild → StandsAlike text other t a.token.kind token.end a.token.end there.end zs)
     → (xs : List ℕ) → from_place text a.token.start ≡ xs ++ from_place text a.token.end
     → FollowsToken t a.token.kind xs (from_place text a.token.end) zs
-    → StepAlike text other t (reads goal) s q a b zs
+    → StepAlike text other t (Reads goal) s q a b zs
 read_step text other t goal s q token there a b left zs u v on command h quiet at other_at lies other_lies is other_is
     gaps stands xs cut follows =
     let place : a.place ≡ token.end = at ∙ ap (λ l. (token_or_default l).end) h.last.last_is in
@@ -282,19 +282,19 @@ read_step text other t goal s q token there a b left zs u v on command h quiet a
     on.2 read quiet gaps stands in
     let one : g.outcome ≡ outcome_of b =
     goal_reads_unique other t goal (Some there) there.end g.outcome (outcome_of b) v g.reads other_read in
-    stepped text other t (reads goal) s q goal (Some token) (Some there) token.end there.end a b zs u v command
+    stepped text other t (Reads goal) s q goal (Some token) (Some there) token.end there.end a b zs u v command
     (is.taken ∙ sym other_is.taken)
-    (last_behind text t (reads goal) a s token on h.last lies is)
-    (last_behind other t (reads goal) b q there on h.other_last other_lies other_is) read other_read
+    (last_behind text t (Reads goal) a s token on h.last lies is)
+    (last_behind other t (Reads goal) b q there on h.other_last other_lies other_is) read other_read
     (subst (ReadAlike text other zs (outcome_of a)) one g.alike) xs cut follows
 
 re_lexed_step : (text other : List ℕ) (t : SourceType) (goal : Goal) (s q : State) (token there : TokenParts)
-    (a b : Row) (left zs : List ℕ) → IsUtf8 text → IsUtf8 other → Rewrites t (re_lexes goal)
+    (a b : Row) (left zs : List ℕ) → IsUtf8 text → IsUtf8 other → Rewrites t (ReLexes goal)
     → a.command ≡ b.command → Beside text other t s q token there left → IsQuiet a
-    → IsLast text (after_row (re_lexes goal) a s) a.token → IsLast other (after_row (re_lexes goal) b q) b.token
+    → IsLast text (after_row (ReLexes goal) a s) a.token → IsLast other (after_row (ReLexes goal) b q) b.token
     → StandsAlike text other t a.token.kind token.start a.token.end there.start zs
     → IsReLexed text t s.now goal a → IsReLexed other t q.now goal b
-    → StepAlike text other t (re_lexes goal) s q a b zs
+    → StepAlike text other t (ReLexes goal) s q a b zs
 re_lexed_step text other t goal s q token there a b left zs u v on command h quiet last other_last stands is other_is =
     let read : GoalReads text t goal (Some token) token.start (outcome_of a) =
     subst (λ l. GoalReads text t goal l (token_or_default l).start (outcome_of a)) h.last.last_is is.reads in
@@ -315,15 +315,15 @@ re_lexed_step text other t goal s q token there a b left zs u v on command h qui
     read quiet stands in
     let one : g.outcome ≡ outcome_of b =
     goal_reads_unique other t goal (Some there) there.start g.outcome (outcome_of b) v g.reads other_read in
-    stepped text other t (re_lexes goal) s q goal (Some token) (Some there) token.start there.start a b zs u v
+    stepped text other t (ReLexes goal) s q goal (Some token) (Some there) token.start there.start a b zs u v
     command (is.taken ∙ sym other_is.taken) last other_last read other_read
     (subst (ReadAlike text other zs (outcome_of a)) one g.alike) stands.characters
     (ap (from_place text) starts.start_is ∙ stands.here) stands.follows
 
 not_taken_step : (text other : List ℕ) (t : SourceType) (goal : Goal) (s q : State) (token there : TokenParts)
     (a b : Row) (zs : List ℕ) → a.command ≡ b.command → Beside text other t s q token there zs
-    → IsLast text (after_row (re_lexes goal) a s) a.token → IsLast other (after_row (re_lexes goal) b q) b.token
-    → IsNotTaken s.now a → IsNotTaken q.now b → StepAlike text other t (re_lexes goal) s q a b zs
+    → IsLast text (after_row (ReLexes goal) a s) a.token → IsLast other (after_row (ReLexes goal) b q) b.token
+    → IsNotTaken s.now a → IsNotTaken q.now b → StepAlike text other t (ReLexes goal) s q a b zs
 not_taken_step text other t goal s q token there a b zs command h last other_last is other_is =
     let same : a.token ≡ token = is.token ∙ ap token_or_default h.last.last_is in
     let other_same : b.token ≡ there = other_is.token ∙ ap token_or_default h.other_last.last_is in
@@ -416,13 +416,13 @@ fits_alike text other t JsxChild s q token there a left fit u off f = absurd (cc
 fits_alike text other t JsxAttributeValue s q token there a left fit u off f = absurd (cc)
 
 pub re_lex_step : (text other : List ℕ) (t : SourceType) (goal : Goal) (s q : State) (token there : TokenParts)
-    (a b : Row) (left zs : List ℕ) → IsUtf8 text → IsUtf8 other → Rewrites t (re_lexes goal)
+    (a b : Row) (left zs : List ℕ) → IsUtf8 text → IsUtf8 other → Rewrites t (ReLexes goal)
     → a.command ≡ b.command → Beside text other t s q token there left → IsQuiet a
-    → IsLast text (after_row (re_lexes goal) a s) a.token → IsLast other (after_row (re_lexes goal) b q) b.token
+    → IsLast text (after_row (ReLexes goal) a s) a.token → IsLast other (after_row (ReLexes goal) b q) b.token
     → (a.taken ≡ true → StandsAlike text other t a.token.kind token.start a.token.end there.start zs)
     → (a.taken ≡ false → left ≡ zs)
-    → IsOfEffect text t s.now (re_lexes goal) a → IsOfEffect other t q.now (re_lexes goal) b
-    → StepAlike text other t (re_lexes goal) s q a b zs
+    → IsOfEffect text t s.now (ReLexes goal) a → IsOfEffect other t q.now (ReLexes goal) b
+    → StepAlike text other t (ReLexes goal) s q a b zs
 re_lex_step text other t goal s q token there a b left zs u v on command h quiet last other_last stands same_left is
     other_is =
     by_flag (fits text goal (token_or_default (last_live s.now))) refl is
@@ -442,7 +442,7 @@ re_lex_step text other t goal s q token there a b left zs u v on command h quiet
 
     by_flag : (fit : Bool) → fits text goal (token_or_default (last_live s.now)) ≡ fit
         → MatchBool fit (IsReLexed text t s.now goal a) (IsNotTaken s.now a)
-        → StepAlike text other t (re_lexes goal) s q a b zs
+        → StepAlike text other t (ReLexes goal) s q a b zs
     by_flag true e here =
         re_lexed_step text other t goal s q token there a b left zs u v on command h quiet last other_last
         (stands here.taken) here

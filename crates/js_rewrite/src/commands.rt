@@ -1,21 +1,10 @@
 //! Which commands a source is written anew with.
 
 ghost use Rattle.std.specs.Prelude.{◌≡◌};
-ghost use Rattle.js_session.specs.Effects.{is_lasting};
 ghost use Rattle.js_rewrite.specs.Faults.{ends_before_html, first_bad, may_rewrite};
 
 use js_session::Command;
 use js_text::SourceType;
-
-/// Whether the command gives a row which stays.
-fn is_lasting(command: Command) -> bool
-    ensures { result ≡ is_lasting command }
-{
-    match command {
-        Command::Peek | Command::Mark | Command::Rewind | Command::Commit => false,
-        _ => true,
-    }
-}
 
 /// Whether the token of the command may end right before a `<!--`.
 fn ends_before_html(command: Command) -> bool
@@ -31,7 +20,7 @@ fn ends_before_html(command: Command) -> bool
 fn may_rewrite(source_type: SourceType, command: Command) -> bool
     ensures { result ≡ may_rewrite source_type command }
 {
-    is_lasting(command) && (source_type.is_module() || !ends_before_html(command))
+    command.is_lasting() && (source_type.is_module() || !ends_before_html(command))
 }
 
 /// The index of the first command with which no source of the type is written anew, if there is one.

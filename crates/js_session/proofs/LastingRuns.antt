@@ -12,7 +12,7 @@ use Rattle.js_lexer.specs.Lexer.{IsOnPlaces, token_or_default}
 use Rattle.js_session.specs.declared.command.Command.{Command}
 use Rattle.js_session.specs.declared.row.Row.{Row}
 use Rattle.js_session.specs.Effects.{Effect, closes, closes_mark, effect_of, gives_row, is_lasting, is_step, lasts}
-use Rattle.js_session.specs.Effects.Effect.{reads, peeks, re_lexes, opens, rewinds, commits}
+use Rattle.js_session.specs.declared.command.Effect.TheVariants.{Reads, Peeks, ReLexes, Opens, Rewinds, Commits}
 use Rattle.js_session.specs.Live.{State, after_row, last_live, nothing_live, outcome_of, state_after, state_after_first}
 use Rattle.js_session.specs.Report.{IsNotTaken, IsOfEffect, IsReLexed, IsRow, Run}
 use Rattle.js_session.specs.Session.{MayResume, last_token}
@@ -21,20 +21,20 @@ use Rattle.js_session.proofs.LocalRuns.{replaced_last}
 use Rattle.js_session.proofs.RunLemmas.{state_step}
 
 gives_lasting : (effect : Effect) → lasts effect ≡ true → gives_row effect ≡ true
-gives_lasting (reads goal) e = refl
-gives_lasting (peeks goal) e = absurd (cc)
-gives_lasting (re_lexes goal) e = refl
-gives_lasting opens e = absurd (cc)
-gives_lasting rewinds e = absurd (cc)
-gives_lasting commits e = absurd (cc)
+gives_lasting (Reads goal) e = refl
+gives_lasting (Peeks goal) e = absurd (cc)
+gives_lasting (ReLexes goal) e = refl
+gives_lasting Opens e = absurd (cc)
+gives_lasting Rewinds e = absurd (cc)
+gives_lasting Commits e = absurd (cc)
 
 closes_none : (effect : Effect) → lasts effect ≡ true → closes_mark effect ≡ false
-closes_none (reads goal) e = refl
-closes_none (peeks goal) e = absurd (cc)
-closes_none (re_lexes goal) e = refl
-closes_none opens e = absurd (cc)
-closes_none rewinds e = absurd (cc)
-closes_none commits e = absurd (cc)
+closes_none (Reads goal) e = refl
+closes_none (Peeks goal) e = absurd (cc)
+closes_none (ReLexes goal) e = refl
+closes_none Opens e = absurd (cc)
+closes_none Rewinds e = absurd (cc)
+closes_none Commits e = absurd (cc)
 
 pub lasting_steps : (c : Command) → is_lasting c ≡ true → is_step c ≡ true
 lasting_steps c e = gives_lasting (effect_of c) e
@@ -56,22 +56,22 @@ pub record GoesOnBehind (text : List ℕ) (s : State) (token : TokenParts) : Typ
 behind_read : (text : List ℕ) (t : SourceType) (effect : Effect) (row : Row) (s : State) (last : TokenParts)
     → lasts effect ≡ true → IsOnPlaces text row.token → GoesOnBehind text s last → IsOfEffect text t s.now effect row
     → GoesOnBehind text (after_row effect row s) row.token
-behind_read text t (reads goal) row s last e lies h is = record {
+behind_read text t (Reads goal) row s last e lies h is = record {
   last_is = last_or-push None s.now.tokens row.token;
   may = record {
     lies = lies;
     spelled = goal_reads_spelling text t goal (last_live s.now) row.place (outcome_of row) is.reads;
   };
 }
-behind_read text t (peeks goal) row s last e lies h is = absurd (cc)
-behind_read text t opens row s last e lies h is = absurd (cc)
-behind_read text t rewinds row s last e lies h is = absurd (cc)
-behind_read text t commits row s last e lies h is = absurd (cc)
-behind_read text t (re_lexes goal) row s last e lies h is =
+behind_read text t (Peeks goal) row s last e lies h is = absurd (cc)
+behind_read text t Opens row s last e lies h is = absurd (cc)
+behind_read text t Rewinds row s last e lies h is = absurd (cc)
+behind_read text t Commits row s last e lies h is = absurd (cc)
+behind_read text t (ReLexes goal) row s last e lies h is =
     by_flag (fits text goal (token_or_default (last_live s.now))) is
   where
     by_flag : (b : Bool) → MatchBool b (IsReLexed text t s.now goal row) (IsNotTaken s.now row)
-        → GoesOnBehind text (after_row (re_lexes goal) row s) row.token
+        → GoesOnBehind text (after_row (ReLexes goal) row s) row.token
     by_flag true is = record {
       last_is = rw is.taken (replaced_last s.now.tokens last row.token h.last_is);
       may = record {

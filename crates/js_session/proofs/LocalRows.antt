@@ -29,7 +29,7 @@ use Rattle.js_lexer.specs.Lexer.{IsOnPlaces, token_or_default}
 use Rattle.js_session.specs.declared.command.Command.{Command}
 use Rattle.js_session.specs.declared.row.Row.{Row}
 use Rattle.js_session.specs.Effects.{Effect, row_effect}
-use Rattle.js_session.specs.Effects.Effect.{reads, peeks, re_lexes, opens, rewinds, commits}
+use Rattle.js_session.specs.declared.command.Effect.TheVariants.{Reads, Peeks, ReLexes, Opens, Rewinds, Commits}
 use Rattle.js_session.specs.Live.{Live, last_live, outcome_of, place_behind_last}
 use Rattle.js_session.specs.Report.{IsNotTaken, IsOfEffect, IsRead, IsReLexed, IsRow, IsSliceOnPlaces, LiesOnPlaces}
 use Rattle.js_session.proofs.ReadLemmas.{value_lies}
@@ -154,13 +154,13 @@ pub record GivesAndLies (text : List ℕ) (t : SourceType) (now : Live) (effect 
 re_lex_local : (front rest other : List ℕ) (t : SourceType) (now : Live) (goal : Goal) (row : Row)
     → SameFront front rest other → IfSome (last_live now) (IsOnPlaces (front ++ rest))
     → row.token.end + 4 ≤ length front → LiesOnPlaces (front ++ rest) row
-    → IsOfEffect (front ++ rest) t now (re_lexes goal) row → GivesAndLies (front ++ other) t now (re_lexes goal) row
+    → IsOfEffect (front ++ rest) t now (ReLexes goal) row → GivesAndLies (front ++ other) t now (ReLexes goal) row
 re_lex_local front rest other t now goal row both last room lies is =
     by_flag (fits (front ++ rest) goal (token_or_default (last_live now))) refl is
   where
     by_flag : (b : Bool) → fits (front ++ rest) goal (token_or_default (last_live now)) ≡ b
         → MatchBool b (IsReLexed (front ++ rest) t now goal row) (IsNotTaken now row)
-        → GivesAndLies (front ++ other) t now (re_lexes goal) row
+        → GivesAndLies (front ++ other) t now (ReLexes goal) row
     by_flag true e is =
         let there = again_local front rest other t now goal row both last room is in
         let still =
@@ -195,23 +195,23 @@ effect_local : (front rest other : List ℕ) (t : SourceType) (now : Live) (effe
     → SameFront front rest other → IfSome (last_live now) (IsOnPlaces (front ++ rest))
     → row.place ≡ place_behind_last now → row.token.end + 4 ≤ length front → LiesOnPlaces (front ++ rest) row
     → IsOfEffect (front ++ rest) t now effect row → GivesAndLies (front ++ other) t now effect row
-effect_local front rest other t now (reads goal) row both last at room lies is =
+effect_local front rest other t now (Reads goal) row both last at room lies is =
     let there = read_local front rest other t now goal row both last at room is in
     record {
       gives = there;
       lies = read_lies (front ++ other) t goal (last_live now) row.place row both.other_utf8 there.reads;
     }
-effect_local front rest other t now (peeks goal) row both last at room lies is =
+effect_local front rest other t now (Peeks goal) row both last at room lies is =
     let there = read_local front rest other t now goal row both last at room is in
     record {
       gives = there;
       lies = read_lies (front ++ other) t goal (last_live now) row.place row both.other_utf8 there.reads;
     }
-effect_local front rest other t now (re_lexes goal) row both last at room lies is =
+effect_local front rest other t now (ReLexes goal) row both last at room lies is =
     re_lex_local front rest other t now goal row both last room lies is
-effect_local front rest other t now opens row both last at room lies is = absurd is
-effect_local front rest other t now rewinds row both last at room lies is = absurd is
-effect_local front rest other t now commits row both last at room lies is = absurd is
+effect_local front rest other t now Opens row both last at room lies is = absurd is
+effect_local front rest other t now Rewinds row both last at room lies is = absurd is
+effect_local front rest other t now Commits row both last at room lies is = absurd is
 
 pub row_local : (front rest other : List ℕ) (t : SourceType) (now : Live) (command : Option Command) (row : Row)
     → IsUtf8 (front ++ rest) → IsUtf8 (front ++ other) → IfSome (last_live now) (IsOnPlaces (front ++ rest))

@@ -17,7 +17,7 @@ use Rattle.js_lexer.specs.Lexer.{IsOnPlaces, token_or_default}
 use Rattle.js_session.specs.declared.command.Command.{Command}
 use Rattle.js_session.specs.declared.row.Row.{Row}
 use Rattle.js_session.specs.Effects.{Effect, effect_of, is_step, row_effect}
-use Rattle.js_session.specs.Effects.Effect.{reads, peeks, re_lexes, opens, rewinds, commits}
+use Rattle.js_session.specs.declared.command.Effect.TheVariants.{Reads, Peeks, ReLexes, Opens, Rewinds, Commits}
 use Rattle.js_session.specs.Live.{Live, State, after_row, last_live, outcome_of}
 use Rattle.js_session.specs.Live.{with_re_lexed}
 use Rattle.js_session.specs.Report.{IsNotTaken, IsOfEffect, IsRead, IsReLexed, IsRow, Run}
@@ -34,10 +34,10 @@ last_replaced o t (u ∷ us) token = last_replaced (Some t) u us token
 -- The last live token lies on the text behind a row, if it did before and the row's token does.
 pub lies_behind : (text : List ℕ) (effect : Effect) (row : Row) (s : State) → IsOnPlaces text row.token
     → IfSome (last_live s.now) (IsOnPlaces text) → IfSome (last_live (after_row effect row s).now) (IsOnPlaces text)
-lies_behind text (reads goal) row s token last =
+lies_behind text (Reads goal) row s token last =
     subst (λ o. IfSome o (IsOnPlaces text)) (sym (last_or-push None s.now.tokens row.token)) token
-lies_behind text (peeks goal) row s token last = last
-lies_behind text (re_lexes goal) row s token last = by_flag row.taken
+lies_behind text (Peeks goal) row s token last = last
+lies_behind text (ReLexes goal) row s token last = by_flag row.taken
   where
     replaced : (tokens : List TokenParts) → IfSome (last_or None (with_last tokens row.token)) (IsOnPlaces text)
     replaced [] = tt
@@ -48,9 +48,9 @@ lies_behind text (re_lexes goal) row s token last = by_flag row.taken
         (last_live (if b then record s { now = with_re_lexed s.now (outcome_of row) } else s).now) (IsOnPlaces text)
     by_flag true = replaced s.now.tokens
     by_flag false = last
-lies_behind text opens row s token last = last
-lies_behind text rewinds row s token last = last
-lies_behind text commits row s token last = last
+lies_behind text Opens row s token last = last
+lies_behind text Rewinds row s token last = last
+lies_behind text Commits row s token last = last
 
 pub run_local : (front rest other : List ℕ) (t : SourceType) (s : State) (commands : List Command) (rows : List Row)
     → IsUtf8 (front ++ rest) → IsUtf8 (front ++ other) → IfSome (last_live s.now) (IsOnPlaces (front ++ rest))
@@ -108,23 +108,23 @@ row_of_last text t a b command row same is = record {
     by_flag goal false is = not_taken is
 
     by_effect : (effect : Effect) → IsOfEffect text t a effect row → IsOfEffect text t b effect row
-    by_effect (reads goal) is = read goal is
-    by_effect (peeks goal) is = read goal is
-    by_effect (re_lexes goal) is =
+    by_effect (Reads goal) is = read goal is
+    by_effect (Peeks goal) is = read goal is
+    by_effect (ReLexes goal) is =
         subst (λ l. MatchBool (fits text goal (token_or_default l)) (IsReLexed text t b goal row) (IsNotTaken b row))
         (sym same) (by_flag goal (fits text goal (token_or_default (last_live a))) is)
-    by_effect opens is = is
-    by_effect rewinds is = is
-    by_effect commits is = is
+    by_effect Opens is = is
+    by_effect Rewinds is = is
+    by_effect Commits is = is
 
 -- the last live token behind a row of an effect, where there was one before it
 abbrev last_of : Effect → Row → TokenParts → TokenParts
-last_of (reads goal) row token = row.token
-last_of (peeks goal) row token = token
-last_of (re_lexes goal) row token = if row.taken then row.token else token
-last_of opens row token = token
-last_of rewinds row token = token
-last_of commits row token = token
+last_of (Reads goal) row token = row.token
+last_of (Peeks goal) row token = token
+last_of (ReLexes goal) row token = if row.taken then row.token else token
+last_of Opens row token = token
+last_of Rewinds row token = token
+last_of Commits row token = token
 
 -- a token that was read again is the last one
 pub replaced_last : (tokens : List TokenParts) (last token : TokenParts) → last_or None tokens ≡ Some last
@@ -134,18 +134,18 @@ replaced_last (t ∷ ts) last token e = last_replaced None t ts token
 
 last_behind : (effect : Effect) (row : Row) (s : State) (token : TokenParts) → last_live s.now ≡ Some token
     → last_live (after_row effect row s).now ≡ Some (last_of effect row token)
-last_behind (reads goal) row s token e = last_or-push None s.now.tokens row.token
-last_behind (peeks goal) row s token e = e
-last_behind (re_lexes goal) row s token e = by_flag row.taken
+last_behind (Reads goal) row s token e = last_or-push None s.now.tokens row.token
+last_behind (Peeks goal) row s token e = e
+last_behind (ReLexes goal) row s token e = by_flag row.taken
   where
     by_flag : (b : Bool)
         → last_live (if b then record s { now = with_re_lexed s.now (outcome_of row) } else s).now
         ≡ Some (if b then row.token else token)
     by_flag true = replaced_last s.now.tokens token row.token e
     by_flag false = e
-last_behind opens row s token e = e
-last_behind rewinds row s token e = e
-last_behind commits row s token e = e
+last_behind Opens row s token e = e
+last_behind Rewinds row s token e = e
+last_behind Commits row s token e = e
 
 -- A run of steps is one from wherever the same token is the last live one.
 pub run_of_last : (text : List ℕ) (t : SourceType) (a b : State) (token : TokenParts) (commands : List Command)

@@ -31,7 +31,7 @@ use Rattle.js_session.specs.declared.command.Command.TheVariants.{Regex, Templat
 use Rattle.js_session.specs.declared.command.Command.TheVariants.{TsLAngle, TsRAngle, Peek, Mark, Rewind, Commit}
 use Rattle.js_session.specs.declared.row.Row.{Row}
 use Rattle.js_session.specs.Effects.{Effect, effect_of, is_lasting}
-use Rattle.js_session.specs.Effects.Effect.{reads, peeks, re_lexes, opens, rewinds, commits}
+use Rattle.js_session.specs.declared.command.Effect.TheVariants.{Reads, Peeks, ReLexes, Opens, Rewinds, Commits}
 use Rattle.js_session.specs.Live.{Live, State, after_row, last_live, outcome_of, place_behind_last, row_of}
 use Rattle.js_session.specs.Moved.{StandBehind, moved_row}
 use Rattle.js_session.specs.Report.{IsNotTaken, IsOfEffect, IsReLexed, IsRow, IsSliceOnPlaces, Run}
@@ -74,12 +74,12 @@ both_stand front text place u v b = record {
 
 -- The effects that are not of the first goal, and give a row which stays.
 abbrev IsLater : Effect → Type 0
-IsLater (reads goal) = goal ≢ First
-IsLater (peeks goal) = ⊥
-IsLater (re_lexes goal) = goal ≢ First
-IsLater opens = ⊥
-IsLater rewinds = ⊥
-IsLater commits = ⊥
+IsLater (Reads goal) = goal ≢ First
+IsLater (Peeks goal) = ⊥
+IsLater (ReLexes goal) = goal ≢ First
+IsLater Opens = ⊥
+IsLater Rewinds = ⊥
+IsLater Commits = ⊥
 
 later : (c : Command) → is_lasting c ≡ true → IsLater (effect_of c)
 later NextCommand e = λ no. absurd (cc)
@@ -129,7 +129,7 @@ row_is row place o e f = λ j. row_of row.command (e j) row.taken (f j)
 -- the row of a reading behind the last token
 is_read : (text : List ℕ) (t : SourceType) (now : Live) (goal : Goal) (token : TokenParts) (row : Row) → IsUtf8 text
     → last_live now ≡ Some token → row.taken ≡ true → (row.token.kind ≢ Eof → row.token.start < row.token.end)
-    → GoalReads text t goal (Some token) row.place (outcome_of row) → GivesAndLies text t now (reads goal) row
+    → GoalReads text t goal (Some token) row.place (outcome_of row) → GivesAndLies text t now (Reads goal) row
 is_read text t now goal token row u last taken some_text read =
     let reads_last = subst (λ l. GoalReads text t goal l row.place (outcome_of row)) (sym last) read in
     record {
@@ -145,7 +145,7 @@ is_read text t now goal token row u last taken some_text read =
 -- the row of a token that is read again, where it fits
 is_re_lexed : (text : List ℕ) (t : SourceType) (now : Live) (goal : Goal) (token : TokenParts) (row : Row)
     → IsUtf8 text → last_live now ≡ Some token → fits text goal token ≡ true → row.taken ≡ true
-    → GoalReads text t goal (Some token) token.start (outcome_of row) → GivesAndLies text t now (re_lexes goal) row
+    → GoalReads text t goal (Some token) token.start (outcome_of row) → GivesAndLies text t now (ReLexes goal) row
 is_re_lexed text t now goal token row u last fit taken read = record {
   gives =
       rw (last, fit) (record {
@@ -163,7 +163,7 @@ untaken token = record { token = token; value = Nothing; regex = None; findings 
 -- the row of a token that is not
 is_not_taken : (text : List ℕ) (t : SourceType) (now : Live) (goal : Goal) (token : TokenParts) (row : Row)
     → IsOnPlaces text token → last_live now ≡ Some token → fits text goal token ≡ false → row.taken ≡ false
-    → outcome_of row ≡ untaken token → GivesAndLies text t now (re_lexes goal) row
+    → outcome_of row ≡ untaken token → GivesAndLies text t now (ReLexes goal) row
 is_not_taken text t now goal token row lies last fit taken is = record {
   gives =
       rw (last, fit) (record {
@@ -191,8 +191,8 @@ record RowOf (text : List ℕ) (t : SourceType) (now : Live) (effect : Effect) (
 
 read_moves : (front text : List ℕ) (t : SourceType) (goal : Goal) (token : TokenParts) (a b : Live) → goal ≢ First
     → StandBehind front text token a b
-    → RowMoves (length front) (RowOf text t a (reads goal) token.end)
-    (RowOf (front ++ text) t b (reads goal) (length front + token.end))
+    → RowMoves (length front) (RowOf text t a (Reads goal) token.end)
+    (RowOf (front ++ text) t b (Reads goal) (length front + token.end))
 read_moves front text t goal token a b not_first s = record {
   forward = λ row h.
       let is = h.all.gives in
@@ -253,8 +253,8 @@ untaken_is now token row last is =
 
 again_moves : (front text : List ℕ) (t : SourceType) (goal : Goal) (token : TokenParts) (a b : Live) → goal ≢ First
     → StandBehind front text token a b
-    → RowMoves (length front) (RowOf text t a (re_lexes goal) token.end)
-    (RowOf (front ++ text) t b (re_lexes goal) (length front + token.end))
+    → RowMoves (length front) (RowOf text t a (ReLexes goal) token.end)
+    (RowOf (front ++ text) t b (ReLexes goal) (length front + token.end))
 again_moves front text t goal token a b not_first s = record { forward = forward; back = back }
   where
     by : ℕ
@@ -275,7 +275,7 @@ again_moves front text t goal token a b not_first s = record { forward = forward
 
     forward_by : (row : Row) (f : Bool) → fits text goal token ≡ f
         → MatchBool f (IsReLexed text t a goal row) (IsNotTaken a row)
-        → GivesAndLies (front ++ text) t b (re_lexes goal) (moved_row (length front) row)
+        → GivesAndLies (front ++ text) t b (ReLexes goal) (moved_row (length front) row)
     forward_by row true fit is =
         is_re_lexed (front ++ text) t b goal (moved_token (length front) token) (moved_row (length front) row)
         s.whole_utf8 s.moved_last (fits_behind front text goal token ∙ fit) is.taken
@@ -286,8 +286,8 @@ again_moves front text t goal token a b not_first s = record { forward = forward
         s.moved_last (fits_behind front text goal token ∙ fit) is.taken
         (ap (moved_outcome (length front)) (untaken_is a token row s.last_is is))
 
-    forward : (row : Row) → RowOf text t a (re_lexes goal) token.end row
-        → RowOf (front ++ text) t b (re_lexes goal) (length front + token.end) (moved_row (length front) row)
+    forward : (row : Row) → RowOf text t a (ReLexes goal) token.end row
+        → RowOf (front ++ text) t b (ReLexes goal) (length front + token.end) (moved_row (length front) row)
     forward row h = record {
       place_is = ap (λ p. length front + p) h.place_is;
       all =
@@ -299,7 +299,7 @@ again_moves front text t goal token a b not_first s = record { forward = forward
 
     back_by : (row : Row) (f : Bool) → row.place ≡ length front + token.end → fits text goal token ≡ f
         → MatchBool f (IsReLexed (front ++ text) t b goal row) (IsNotTaken b row)
-        → (own : Row) × (row ≡ moved_row (length front) own) × RowOf text t a (re_lexes goal) token.end own
+        → (own : Row) × (row ≡ moved_row (length front) own) × RowOf text t a (ReLexes goal) token.end own
     back_by row true place fit is =
         let own =
         moves.back (outcome_of row)
@@ -326,8 +326,8 @@ again_moves front text t goal token a b not_first s = record { forward = forward
       },
     )
 
-    back : (row : Row) → RowOf (front ++ text) t b (re_lexes goal) (length front + token.end) row
-        → (own : Row) × (row ≡ moved_row (length front) own) × RowOf text t a (re_lexes goal) token.end own
+    back : (row : Row) → RowOf (front ++ text) t b (ReLexes goal) (length front + token.end) row
+        → (own : Row) × (row ≡ moved_row (length front) own) × RowOf text t a (ReLexes goal) token.end own
     back row h =
         back_by row (fits text goal token) h.place_is refl
         (subst (λ f. MatchBool f (IsReLexed (front ++ text) t b goal row) (IsNotTaken b row))
@@ -341,12 +341,12 @@ effect_moves : (front text : List ℕ) (t : SourceType) (effect : Effect) (token
     → IsLater effect → StandBehind front text token a b
     → RowMoves (length front) (RowOf text t a effect token.end)
     (RowOf (front ++ text) t b effect (length front + token.end))
-effect_moves front text t (reads goal) token a b is s = read_moves front text t goal token a b is s
-effect_moves front text t (peeks goal) token a b is s = absurd is
-effect_moves front text t (re_lexes goal) token a b is s = again_moves front text t goal token a b is s
-effect_moves front text t opens token a b is s = absurd is
-effect_moves front text t rewinds token a b is s = absurd is
-effect_moves front text t commits token a b is s = absurd is
+effect_moves front text t (Reads goal) token a b is s = read_moves front text t goal token a b is s
+effect_moves front text t (Peeks goal) token a b is s = absurd is
+effect_moves front text t (ReLexes goal) token a b is s = again_moves front text t goal token a b is s
+effect_moves front text t Opens token a b is s = absurd is
+effect_moves front text t Rewinds token a b is s = absurd is
+effect_moves front text t Commits token a b is s = absurd is
 
 -- A row of a command behind the last token moves, there and back.
 row_moves : (front text : List ℕ) (t : SourceType) (c : Command) (token : TokenParts) (a b : Live)
@@ -393,18 +393,18 @@ row_moves front text t c token a b lasting s = record {
 last_row : (text : List ℕ) (t : SourceType) (effect : Effect) (row : Row) (s : State) (token : TokenParts)
     → IsLater effect → last_live s.now ≡ Some token → IsOfEffect text t s.now effect row
     → last_live (after_row effect row s).now ≡ Some row.token
-last_row text t (reads goal) row s token is last gives = last_or-push None s.now.tokens row.token
-last_row text t (peeks goal) row s token is last gives = absurd is
-last_row text t (re_lexes goal) row s token is last gives =
+last_row text t (Reads goal) row s token is last gives = last_or-push None s.now.tokens row.token
+last_row text t (Peeks goal) row s token is last gives = absurd is
+last_row text t (ReLexes goal) row s token is last gives =
     by_flag (fits text goal (token_or_default (last_live s.now))) gives
   where
     by_flag : (b : Bool) → MatchBool b (IsReLexed text t s.now goal row) (IsNotTaken s.now row)
-        → last_live (after_row (re_lexes goal) row s).now ≡ Some row.token
+        → last_live (after_row (ReLexes goal) row s).now ≡ Some row.token
     by_flag true is = rw is.taken (replaced_last s.now.tokens token row.token last)
     by_flag false is = rw is.taken (last ∙ ap Some (sym (is.token ∙ ap token_or_default last)))
-last_row text t opens row s token is last gives = absurd is
-last_row text t rewinds row s token is last gives = absurd is
-last_row text t commits row s token is last gives = absurd is
+last_row text t Opens row s token is last gives = absurd is
+last_row text t Rewinds row s token is last gives = absurd is
+last_row text t Commits row s token is last gives = absurd is
 
 -- what stands behind a row of both texts
 stand_next : (front text : List ℕ) (t : SourceType) (c : Command) (token : TokenParts) (a b : State) (row : Row)

@@ -9,7 +9,7 @@ use Rattle.js_session.specs.declared.command.Command.{Command}
 use Rattle.js_session.specs.declared.mark.SessionMark.{SessionMark}
 use Rattle.js_session.specs.Effects.{Effect, effect_of, gives_row, closes_mark, opens_mark, is_step, opens_one}
 use Rattle.js_session.specs.Effects.{free_after, needed_before, marks_needed}
-use Rattle.js_session.specs.Effects.Effect.{reads, peeks, re_lexes, opens, rewinds, commits}
+use Rattle.js_session.specs.declared.command.Effect.TheVariants.{Reads, Peeks, ReLexes, Opens, Rewinds, Commits}
 use Rattle.js_session.specs.Marks.{marks_in}
 use Rattle.js_session.specs.Report.{HasMark}
 use Rattle.js_session.specs.Session.{SessionState, AddsRow, Follows, after_command}
@@ -59,39 +59,39 @@ pops old new (Some (Some m)) h e found = record {
 
 -- at least so many places for marks are free after an effect, where those that it needs were free before it
 still_free : (effect : Effect) (needed free : ℕ) → needed_before effect needed ≤ free → needed ≤ free_after effect free
-still_free (reads goal) needed free h = h
-still_free (peeks goal) needed free h = h
-still_free (re_lexes goal) needed free h = h
-still_free opens needed free h = omega (arith, h)
-still_free rewinds needed free h = omega (arith, h)
-still_free commits needed free h = omega (arith, h)
+still_free (Reads goal) needed free h = h
+still_free (Peeks goal) needed free h = h
+still_free (ReLexes goal) needed free h = h
+still_free Opens needed free h = omega (arith, h)
+still_free Rewinds needed free h = omega (arith, h)
+still_free Commits needed free h = omega (arith, h)
 
 -- an effect that gives a row needs no place
 needs_none : (effect : Effect) (needed : ℕ) → gives_row effect ≡ true → needed_before effect needed ≡ needed
-needs_none (reads goal) needed e = refl
-needs_none (peeks goal) needed e = refl
-needs_none (re_lexes goal) needed e = refl
-needs_none opens needed e = absurd (cc)
-needs_none rewinds needed e = absurd (cc)
-needs_none commits needed e = absurd (cc)
+needs_none (Reads goal) needed e = refl
+needs_none (Peeks goal) needed e = refl
+needs_none (ReLexes goal) needed e = refl
+needs_none Opens needed e = absurd (cc)
+needs_none Rewinds needed e = absurd (cc)
+needs_none Commits needed e = absurd (cc)
 
 -- one that opens a mark needs one
 needs_one : (effect : Effect) (needed free : ℕ) → opens_mark effect ≡ true → needed_before effect needed ≤ free
     → 0 < free
-needs_one (reads goal) needed free e h = absurd (cc)
-needs_one (peeks goal) needed free e h = absurd (cc)
-needs_one (re_lexes goal) needed free e h = absurd (cc)
-needs_one opens needed free e h = omega (arith, h)
-needs_one rewinds needed free e h = absurd (cc)
-needs_one commits needed free e h = absurd (cc)
+needs_one (Reads goal) needed free e h = absurd (cc)
+needs_one (Peeks goal) needed free e h = absurd (cc)
+needs_one (ReLexes goal) needed free e h = absurd (cc)
+needs_one Opens needed free e h = omega (arith, h)
+needs_one Rewinds needed free e h = absurd (cc)
+needs_one Commits needed free e h = absurd (cc)
 
 one_more : (effect : Effect) (needed : ℕ) → needed_before effect needed ≤ needed + 1
-one_more (reads goal) needed = omega arith
-one_more (peeks goal) needed = omega arith
-one_more (re_lexes goal) needed = omega arith
-one_more opens needed = omega arith
-one_more rewinds needed = omega arith
-one_more commits needed = omega arith
+one_more (Reads goal) needed = omega arith
+one_more (Peeks goal) needed = omega arith
+one_more (ReLexes goal) needed = omega arith
+one_more Opens needed = omega arith
+one_more Rewinds needed = omega arith
+one_more Commits needed = omega arith
 
 -- no more places are needed than there are commands
 pub needed_within : (commands : List Command) → marks_needed commands ≤ length commands
@@ -122,22 +122,22 @@ enough_on left rest c old new e f h =
 -- what is free, and the mark that is opened or closed
 places_more : (effect : Effect) (free : ℕ) → (opens_mark effect ≡ true → 0 < free)
     → free_after effect free + cond (opens_mark effect) 1 0 ≡ free + cond (closes_mark effect) 1 0
-places_more (reads goal) free h = refl
-places_more (peeks goal) free h = refl
-places_more (re_lexes goal) free h = refl
-places_more opens free h = let some : 0 < free = h refl in omega (arith, some)
-places_more rewinds free h = omega arith
-places_more commits free h = omega arith
+places_more (Reads goal) free h = refl
+places_more (Peeks goal) free h = refl
+places_more (ReLexes goal) free h = refl
+places_more Opens free h = let some : 0 < free = h refl in omega (arith, some)
+places_more Rewinds free h = omega arith
+places_more Commits free h = omega arith
 
 -- an effect that gives a row opens and closes no mark
 no_mark : (effect : Effect) → gives_row effect ≡ true
     → ◌≡◌ {A = ℕ} (cond (opens_mark effect) 1 0) (cond (closes_mark effect) 1 0)
-no_mark (reads goal) e = refl
-no_mark (peeks goal) e = refl
-no_mark (re_lexes goal) e = refl
-no_mark opens e = absurd (cc)
-no_mark rewinds e = absurd (cc)
-no_mark commits e = absurd (cc)
+no_mark (Reads goal) e = refl
+no_mark (Peeks goal) e = refl
+no_mark (ReLexes goal) e = refl
+no_mark Opens e = absurd (cc)
+no_mark Rewinds e = absurd (cc)
+no_mark Commits e = absurd (cc)
 
 -- open marks and free places together stay as many
 pub places_stay : (c : Command) (old new : SessionState) → HasMark c old.state → (opens_one c ≡ true → 0 < old.spare)

@@ -25,7 +25,7 @@ use Rattle.js_lexer.specs.Lexer.{IsOnPlaces, token_or_default}
 use Rattle.js_session.specs.declared.command.Command.{Command}
 use Rattle.js_session.specs.declared.row.Row.{Row}
 use Rattle.js_session.specs.Effects.{Effect, effect_of, is_step, row_effect}
-use Rattle.js_session.specs.Effects.Effect.{reads, peeks, re_lexes, opens, rewinds, commits}
+use Rattle.js_session.specs.declared.command.Effect.TheVariants.{Reads, Peeks, ReLexes, Opens, Rewinds, Commits}
 use Rattle.js_session.specs.Live.{Live, State, after_row, last_live, nothing_live, outcome_of, row_findings}
 use Rattle.js_session.specs.Live.{state_after_first}
 use Rattle.js_session.specs.Report.{AreRows, IsNotTaken, IsOfEffect, IsReLexed, IsRow, IsSliceOnPlaces, Run}
@@ -155,15 +155,15 @@ start_boundary text (Some token) u h = h.start
 effect_within : (text : List ℕ) (t : SourceType) (now : Live) (effect : Effect) (row : Row) → IsUtf8 text
     → IfSome (last_live now) (IsOnPlaces text) → IsCharBoundary text row.place → IsOfEffect text t now effect row
     → RestWithin (length text) row
-effect_within text t now (reads goal) row u last at is =
+effect_within text t now (Reads goal) row u last at is =
     rest_of (length text) row
     (goal_within text t goal (last_live now) row.place (outcome_of row) u at (ends_within text (last_live now) last)
     is.reads)
-effect_within text t now (peeks goal) row u last at is =
+effect_within text t now (Peeks goal) row u last at is =
     rest_of (length text) row
     (goal_within text t goal (last_live now) row.place (outcome_of row) u at (ends_within text (last_live now) last)
     is.reads)
-effect_within text t now (re_lexes goal) row u last at is =
+effect_within text t now (ReLexes goal) row u last at is =
     by_flag (fits text goal (token_or_default (last_live now))) is
   where
     by_flag : (b : Bool) → MatchBool b (IsReLexed text t now goal row) (IsNotTaken now row)
@@ -173,9 +173,9 @@ effect_within text t now (re_lexes goal) row u last at is =
         (goal_within text t goal (last_live now) (token_or_default (last_live now)).start (outcome_of row) u
         (start_boundary text (last_live now) u last) (ends_within text (last_live now) last) is.reads)
     by_flag false is = nothing_within (length text) row is.regex is.findings
-effect_within text t now opens row u last at is = absurd is
-effect_within text t now rewinds row u last at is = absurd is
-effect_within text t now commits row u last at is = absurd is
+effect_within text t now Opens row u last at is = absurd is
+effect_within text t now Rewinds row u last at is = absurd is
+effect_within text t now Commits row u last at is = absurd is
 
 value_within : (text : List ℕ) (v : RowValue) → IsSliceOnPlaces text v → OfValue (λ place. place ≤ length text) v
 value_within text Nothing h = tt

@@ -12,7 +12,7 @@ use Rattle.js_text.specs.declared.source_type.SourceType.{SourceType}
 use Rattle.js_session.specs.declared.command.Command.{Command}
 use Rattle.js_session.specs.declared.row.Row.{Row}
 use Rattle.js_session.specs.Effects.{Effect, effect_of, gives_row, closes_mark, opens_mark, is_step, opens_one, closes}
-use Rattle.js_session.specs.Effects.Effect.{reads, peeks, re_lexes, opens, rewinds, commits}
+use Rattle.js_session.specs.declared.command.Effect.TheVariants.{Reads, Peeks, ReLexes, Opens, Rewinds, Commits}
 use Rattle.js_session.specs.Faults.{HasMarks}
 use Rattle.js_session.specs.Live.{Live, State, outcome_of, with_re_lexed, after_row, after_mark, rewound_state}
 use Rattle.js_session.specs.Live.{committed_state, state_after_first, nothing_live, state_after, live}
@@ -146,12 +146,12 @@ marks_less f now (m ∷ ms) some e = omega (arith, ap length (e now m ms))
 
 pub marks_more : (effect : Effect) (s : State) → gives_row effect ≡ false → (closes_mark effect ≡ true → s.marks ≢ [])
     → length (after_mark effect s).marks + cond (closes_mark effect) 1 0 ≡ length s.marks + cond (opens_mark effect) 1 0
-marks_more (reads goal) s e has = absurd (cc)
-marks_more (peeks goal) s e has = absurd (cc)
-marks_more (re_lexes goal) s e has = absurd (cc)
-marks_more opens s e has = omega arith
-marks_more rewinds s e has = marks_less rewound_state s.now s.marks (has refl) (λ now m ms. refl)
-marks_more commits s e has = marks_less committed_state s.now s.marks (has refl) (λ now m ms. refl)
+marks_more (Reads goal) s e has = absurd (cc)
+marks_more (Peeks goal) s e has = absurd (cc)
+marks_more (ReLexes goal) s e has = absurd (cc)
+marks_more Opens s e has = omega arith
+marks_more Rewinds s e has = marks_less rewound_state s.now s.marks (has refl) (λ now m ms. refl)
+marks_more Commits s e has = marks_less committed_state s.now s.marks (has refl) (λ now m ms. refl)
 
 re_lex_marks : (taken : Bool) (now : Live) (s : State)
     → length (if taken then record s { now = now } else s).marks ≡ length s.marks
@@ -161,12 +161,12 @@ re_lex_marks false now s = refl
 pub same_marks : (effect : Effect) (row : Row) (s : State) → gives_row effect ≡ true
     → length (after_row effect row s).marks + cond (closes_mark effect) 1 0
     ≡ length s.marks + cond (opens_mark effect) 1 0
-same_marks (reads goal) row s e = refl
-same_marks (peeks goal) row s e = refl
-same_marks (re_lexes goal) row s e = ap (λ n. n + 0) (re_lex_marks row.taken (with_re_lexed s.now (outcome_of row)) s)
-same_marks opens row s e = absurd (cc)
-same_marks rewinds row s e = absurd (cc)
-same_marks commits row s e = absurd (cc)
+same_marks (Reads goal) row s e = refl
+same_marks (Peeks goal) row s e = refl
+same_marks (ReLexes goal) row s e = ap (λ n. n + 0) (re_lex_marks row.taken (with_re_lexed s.now (outcome_of row)) s)
+same_marks Opens row s e = absurd (cc)
+same_marks Rewinds row s e = absurd (cc)
+same_marks Commits row s e = absurd (cc)
 
 -- the command at the index is the first of what is left
 pub drop_at : (commands : List Command) (index : ℕ) (c : Command) → index < length commands

@@ -18,7 +18,7 @@ use Rattle.js_session.specs.declared.mark.SessionMark.{SessionMark}
 use Rattle.js_session.specs.declared.row.Row.{Row}
 use Rattle.js_session.specs.Live.{Live, nothing_live, with_outcome, with_re_lexed, outcome_of, last_live, after_mark}
 use Rattle.js_session.specs.Effects.{effect_of}
-use Rattle.js_session.specs.Effects.Effect.{reads, re_lexes}
+use Rattle.js_session.specs.declared.command.Effect.TheVariants.{Reads, ReLexes}
 use Rattle.js_session.proofs.AgainLemmas.{fits_some, re_lexed_collected, from_any_place}
 use Rattle.js_session.specs.Marks.{live_now, front, fronts, state_of, lexer_behind, lexer_at, IsAlike}
 use Rattle.js_session.specs.Marks.{AreMarks, IsInOrder}
@@ -134,7 +134,7 @@ first_added text t collects old new e a =
         }
 
 pub on_adds_row : (goal : Goal) (command : Command) (old new : RowReaderState) (ms : List SessionMark) (spare : ℕ)
-    → effect_of command ≡ reads goal → IsInOrder old (reverse ms) → AddsLive goal (Some command) old new
+    → effect_of command ≡ Reads goal → IsInOrder old (reverse ms) → AddsLive goal (Some command) old new
     → AddsRow command (seen old ms spare) (seen new ms spare)
 on_adds_row goal command old new ms spare effect h a =
     let after = added_restored goal (Some command) old new a in
@@ -210,7 +210,7 @@ order_again goal command old new marks fit h a =
 -- The row of a re-lex that was taken.
 again_is_row : (goal : Goal) (command : Command) (old new : RowReaderState) (row : Row) (now : Live)
     → IsAlike (lexer_behind old.lexer.text old.lexer.source_type old.lexer.collects now) old.lexer
-    → fits old.lexer.text goal (token_or_default old.lexer.last) ≡ true → effect_of command ≡ re_lexes goal
+    → fits old.lexer.text goal (token_or_default old.lexer.last) ≡ true → effect_of command ≡ ReLexes goal
     → ReadsRowAgain goal (Some command) old.lexer row new.lexer
     → IsRow old.lexer.text old.lexer.source_type now (Some command) row
 again_is_row goal command old new row now behind fit effect r =
@@ -232,7 +232,7 @@ again_is_row goal command old new row now behind fit effect r =
     }
 
 again_adds_row : (goal : Goal) (command : Command) (old new : RowReaderState) (ms : List SessionMark) (spare : ℕ)
-    → effect_of command ≡ re_lexes goal → fits old.lexer.text goal (token_or_default old.lexer.last) ≡ true
+    → effect_of command ≡ ReLexes goal → fits old.lexer.text goal (token_or_default old.lexer.last) ≡ true
     → IsInOrder old (reverse ms) → AddsAgain goal (Some command) old new
     → AddsRow command (seen old ms spare) (seen new ms spare)
 again_adds_row goal command old new ms spare effect fit h a =
@@ -301,7 +301,7 @@ order_not_taken command old new marks h a =
 
 not_taken_is_row : (goal : Goal) (command : Command) (old : RowReaderState) (now : Live)
     → IsAlike (lexer_behind old.lexer.text old.lexer.source_type old.lexer.collects now) old.lexer
-    → fits old.lexer.text goal (token_or_default old.lexer.last) ≡ false → effect_of command ≡ re_lexes goal
+    → fits old.lexer.text goal (token_or_default old.lexer.last) ≡ false → effect_of command ≡ ReLexes goal
     → IsOnPlaces old.lexer.text (token_or_default old.lexer.last)
     → IsRow old.lexer.text old.lexer.source_type now (Some command) (not_taken (Some command) old.lexer)
 not_taken_is_row goal command old now behind fit effect lies =
@@ -324,7 +324,7 @@ not_taken_is_row goal command old now behind fit effect lies =
     }
 
 not_taken_adds_row : (goal : Goal) (command : Command) (old new : RowReaderState) (ms : List SessionMark) (spare : ℕ)
-    → effect_of command ≡ re_lexes goal → fits old.lexer.text goal (token_or_default old.lexer.last) ≡ false
+    → effect_of command ≡ ReLexes goal → fits old.lexer.text goal (token_or_default old.lexer.last) ≡ false
     → IsInOrder old (reverse ms) → AddsNotTaken (Some command) old new
     → AddsRow command (seen old ms spare) (seen new ms spare)
 not_taken_adds_row goal command old new ms spare effect fit h a = record {
@@ -348,7 +348,7 @@ order_re_lexed goal command old new marks h adds =
     by_fit false fit adds = order_not_taken command old new marks h adds
 
 pub re_lex_adds_row : (goal : Goal) (command : Command) (old new : RowReaderState) (ms : List SessionMark) (spare : ℕ)
-    → effect_of command ≡ re_lexes goal → IsInOrder old (reverse ms)
+    → effect_of command ≡ ReLexes goal → IsInOrder old (reverse ms)
     → MatchBool (fits old.lexer.text goal (token_or_default old.lexer.last)) (AddsAgain goal (Some command) old new)
     (AddsNotTaken (Some command) old new)
     → AddsRow command (seen old ms spare) (seen new ms spare)

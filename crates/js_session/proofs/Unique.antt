@@ -12,7 +12,7 @@ use Rattle.js_session.specs.declared.command.Command.TheVariants.{Next, Peek}
 use Rattle.js_session.specs.declared.report.Report.{Report}
 use Rattle.js_session.specs.declared.row.Row.{Row}
 use Rattle.js_session.specs.Effects.{Effect, effect_of, row_effect, is_step}
-use Rattle.js_session.specs.Effects.Effect.{reads, peeks, re_lexes, opens, rewinds, commits}
+use Rattle.js_session.specs.declared.command.Effect.TheVariants.{Reads, Peeks, ReLexes, Opens, Rewinds, Commits}
 use Rattle.js_session.specs.Live.{Live, State, outcome_of, last_live, after_row, after_mark, state_after_first}
 use Rattle.js_session.specs.Live.{nothing_live, live, report_live, report_with, row_of}
 use Rattle.js_grammar.specs.ReLexed.{fits}
@@ -50,13 +50,13 @@ re_lex_unique text t now goal a b utf8 false h g = record {
 effect_unique : (text : List ℕ) (t : SourceType) (now : Live) (effect : Effect) (a b : Row) → IsUtf8 text
     → a.place ≡ b.place → IsOfEffect text t now effect a → IsOfEffect text t now effect b
     → SameOfEffect a b
-effect_unique text t now (reads goal) a b utf8 place h g = read_unique text t now goal a b utf8 place h g
-effect_unique text t now (peeks goal) a b utf8 place h g = read_unique text t now goal a b utf8 place h g
-effect_unique text t now (re_lexes goal) a b utf8 place h g =
+effect_unique text t now (Reads goal) a b utf8 place h g = read_unique text t now goal a b utf8 place h g
+effect_unique text t now (Peeks goal) a b utf8 place h g = read_unique text t now goal a b utf8 place h g
+effect_unique text t now (ReLexes goal) a b utf8 place h g =
     re_lex_unique text t now goal a b utf8 (fits text goal (token_or_default (last_live now))) h g
-effect_unique text t now opens a b utf8 place h g = absurd h
-effect_unique text t now rewinds a b utf8 place h g = absurd h
-effect_unique text t now commits a b utf8 place h g = absurd h
+effect_unique text t now Opens a b utf8 place h g = absurd h
+effect_unique text t now Rewinds a b utf8 place h g = absurd h
+effect_unique text t now Commits a b utf8 place h g = absurd h
 
 same_row : (a b : Row) → a.command ≡ b.command → a.place ≡ b.place → a.taken ≡ b.taken → outcome_of a ≡ outcome_of b
     → a ≡ b

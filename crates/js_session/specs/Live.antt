@@ -6,7 +6,7 @@ use Rattle.js_grammar.specs.Outcome.{Findings, no_findings, joined, Outcome}
 use Rattle.js_kind.specs.TokenParts.{TokenParts}
 use Rattle.js_lexer.specs.Lexer.{token_or_default}
 use Rattle.js_session.specs.Effects.{Effect, effect_of, is_step}
-use Rattle.js_session.specs.Effects.Effect.{reads, peeks, re_lexes, opens, rewinds, commits}
+use Rattle.js_session.specs.declared.command.Effect.TheVariants.{Reads, Peeks, ReLexes, Opens, Rewinds, Commits}
 use Rattle.js_session.specs.declared.command.Command.{Command}
 use Rattle.js_session.specs.declared.report.Report.{Report}
 use Rattle.js_session.specs.declared.row.Row.{Row}
@@ -89,12 +89,12 @@ state_after_first row = record { now = with_outcome nothing_live (outcome_of row
 
 -- the state after an effect that gave this row: a peek, and a re-lex that was not taken, change nothing
 abbrev pub after_row : Effect → Row → State → State
-after_row (reads goal) row s = record s { now = with_outcome s.now (outcome_of row) }
-after_row (peeks goal) row s = s
-after_row (re_lexes goal) row s = if row.taken then record s { now = with_re_lexed s.now (outcome_of row) } else s
-after_row opens row s = s
-after_row rewinds row s = s
-after_row commits row s = s
+after_row (Reads goal) row s = record s { now = with_outcome s.now (outcome_of row) }
+after_row (Peeks goal) row s = s
+after_row (ReLexes goal) row s = if row.taken then record s { now = with_re_lexed s.now (outcome_of row) } else s
+after_row Opens row s = s
+after_row Rewinds row s = s
+after_row Commits row s = s
 
 -- the state at the last open mark, which is closed
 abbrev pub rewound_state : Live → List Live → State
@@ -108,12 +108,12 @@ committed_state now (m ∷ ms) = record { now = now; marks = ms }
 
 -- the state after an effect that gives no row
 abbrev pub after_mark : Effect → State → State
-after_mark (reads goal) s = s
-after_mark (peeks goal) s = s
-after_mark (re_lexes goal) s = s
-after_mark opens s = record s { marks = s.now ∷ s.marks }
-after_mark rewinds s = rewound_state s.now s.marks
-after_mark commits s = committed_state s.now s.marks
+after_mark (Reads goal) s = s
+after_mark (Peeks goal) s = s
+after_mark (ReLexes goal) s = s
+after_mark Opens s = record s { marks = s.now ∷ s.marks }
+after_mark Rewinds s = rewound_state s.now s.marks
+after_mark Commits s = committed_state s.now s.marks
 
 -- the state after these commands, which gave these rows
 abbrev pub state_after : State → List Command → List Row → State

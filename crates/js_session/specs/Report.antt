@@ -18,7 +18,7 @@ use Rattle.js_kind.specs.TokenParts.{TokenParts}
 use Rattle.js_kind.specs.declared.kind.Kind.TheVariants.{Eof}
 use Rattle.js_lexer.specs.Lexer.{IsOnPlaces, collected, token_or_default}
 use Rattle.js_session.specs.Effects.{Effect, effect_of, row_effect, is_step, closes}
-use Rattle.js_session.specs.Effects.Effect.{reads, peeks, re_lexes, opens, rewinds, commits}
+use Rattle.js_session.specs.declared.command.Effect.TheVariants.{Reads, Peeks, ReLexes, Opens, Rewinds, Commits}
 use Rattle.js_session.specs.Live.{Live, State, outcome_of, row_findings, last_live, place_behind_last, after_row}
 use Rattle.js_session.specs.Live.{after_mark, state_after_first, nothing_live, live, report_live}
 use Rattle.js_session.specs.declared.command.Command.{Command}
@@ -68,13 +68,13 @@ pub record IsNotTaken (now : Live) (row : Row) : Type 0 where
 
 -- The row is one of three: a reading, a re-lex that was taken, or one that was not.
 abbrev pub IsOfEffect : List ℕ → SourceType → Live → Effect → Row → Type 0
-IsOfEffect text t now (reads goal) row = IsRead text t now goal row
-IsOfEffect text t now (peeks goal) row = IsRead text t now goal row
-IsOfEffect text t now (re_lexes goal) row =
+IsOfEffect text t now (Reads goal) row = IsRead text t now goal row
+IsOfEffect text t now (Peeks goal) row = IsRead text t now goal row
+IsOfEffect text t now (ReLexes goal) row =
     MatchBool (fits text goal (token_or_default (last_live now))) (IsReLexed text t now goal row) (IsNotTaken now row)
-IsOfEffect text t now opens row = ⊥
-IsOfEffect text t now rewinds row = ⊥
-IsOfEffect text t now commits row = ⊥
+IsOfEffect text t now Opens row = ⊥
+IsOfEffect text t now Rewinds row = ⊥
+IsOfEffect text t now Commits row = ⊥
 
 -- The row of a command, or of the first step, which has none.
 pub record IsRow (text : List ℕ) (t : SourceType) (now : Live) (command : Option Command) (row : Row) : Type 0 where

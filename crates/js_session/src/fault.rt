@@ -5,7 +5,7 @@ ghost use Rattle.std.specs.Prelude.{MatchOption};
 ghost use Rattle.js_session.specs.Effects.{opens_one, closes};
 ghost use Rattle.js_session.specs.Faults.{FirstWithoutMark, HasMarks, IsReadable, SourceCause, Cause};
 
-use crate::command::Command;
+use crate::command::{Command, Effect};
 
 /// Why a session gives no report, in the order in which it is tested.
 #[derive(Clone, Copy, PartialEq, Eq, Debug)]
@@ -26,9 +26,9 @@ fn marks_after(marks: usize, command: Command) -> Option<usize>
     ensures some { IfSome result (λ n. n + cond (closes command) 1 0 ≡ marks + cond (opens_one command) 1 0) }
     ensures can_close { IfSome result (λ _. closes command ≡ true → 0 < marks) }
 {
-    match command {
-        Command::Mark => Some(marks + 1),
-        Command::Rewind | Command::Commit => marks.checked_sub(1),
+    match command.effect() {
+        Effect::Opens => Some(marks + 1),
+        Effect::Rewinds | Effect::Commits => marks.checked_sub(1),
         _ => Some(marks),
     }
 }

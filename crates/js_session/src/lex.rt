@@ -9,7 +9,7 @@ ghost use Rattle.js_session.specs.Report.{ReportOf, HasMark, IsSliceOnPlaces};
 ghost use Rattle.js_session.specs.Session.{Begins, Follows, report_of};
 ghost use Rattle.js_session.specs.declared.fault.LexFault.{LexFault};
 
-use crate::command::Command;
+use crate::command::{Command, Effect};
 use crate::fault::{LexFault, check};
 use crate::report::Report;
 use crate::session::Session;
@@ -25,9 +25,9 @@ fn needed_before(command: Command, needed: usize) -> usize
     requires { needed < usize.MAX }
     ensures { result ≡ needed_before (effect_of command) needed }
 {
-    match command {
-        Command::Mark => needed + 1,
-        Command::Rewind | Command::Commit => needed.saturating_sub(1),
+    match command.effect() {
+        Effect::Opens => needed + 1,
+        Effect::Rewinds | Effect::Commits => needed.saturating_sub(1),
         _ => needed,
     }
 }
@@ -53,16 +53,16 @@ fn follow<C: LexerConfig + Drop, L: Ledger>(
     requires place { opens_one command ≡ true → 0 < session.old.spare }
     ensures { OnOk result (Follows command session.old session.new) }
 {
-    match command {
-        Command::Mark => {
+    match command.effect() {
+        Effect::Opens => {
             session.mark();
             Ok(())
         }
-        Command::Rewind => {
+        Effect::Rewinds => {
             session.rewind();
             Ok(())
         }
-        Command::Commit => {
+        Effect::Commits => {
             session.commit();
             Ok(())
         }

@@ -20,7 +20,7 @@ mod shift_in_place;
 mod steps;
 mod whole_source;
 
-pub use command::{Command, CommandList};
+pub use command::{Command, CommandList, Effect};
 pub use fault::{LexFault, utf8_text};
 pub use js_lexer::NewFault;
 pub use js_text::{RegexInfo, RowValue};

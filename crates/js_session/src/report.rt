@@ -1,4 +1,4 @@
-//! Reports.
+//! What a session came to: its rows, and all that is live behind the last of them.
 
 ghost use Rattle.std.specs.Prelude.{◌≡◌};
 ghost use Rattle.js_session.specs.Live.{report_with};

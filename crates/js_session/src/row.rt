@@ -1,12 +1,14 @@
-//! Rows.
+//! What one step of a session gave.
 
 ghost use Rattle.std.specs.Prelude.{◌≡◌, IfOk};
 ghost use Rattle.std.specs.Option.{option_map};
 ghost use Rattle.js_text.specs.JsText.{js_text_units};
+ghost use Rattle.js_session.specs.Effects.{row_effect};
 ghost use Rattle.js_session.specs.Live.{row_of};
 ghost use Rattle.js_session.specs.Report.{IsSliceOnPlaces, text_of};
 
-use crate::command::Command;
+use crate::command::{Command, Effect};
+use js_grammar::Goal;
 use js_kind::Token;
 use js_lexer::Findings;
 use js_text::{CommentList, DiagnosticList, JsText, RegexInfo, RowValue, SpanList};
@@ -37,6 +39,16 @@ pub struct Row {
 }
 
 impl Row {
+    /// What the row's command does; the first row, which has none, reads the first goal.
+    pub fn effect(&self) -> Effect
+        ensures { result ≡ row_effect self.now.command }
+    {
+        match self.command {
+            None => Effect::Reads(Goal::First),
+            Some(command) => command.effect(),
+        }
+    }
+
     /// A row of what was read and found.
     pub(crate) fn new(
         command: Option<Command>,

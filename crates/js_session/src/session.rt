@@ -1,15 +1,15 @@
-//! Sessions.
+//! A lexer that is driven step by step, with marks to which it may go back.
 
 ghost use Rattle.std.specs.Prelude.{◌≡◌, ◌≤◌, ◌<◌, ◌+◌, ◌^◌, ◌↔◌, true, length, max, IfOk, OnOk, OnErr};
 ghost use Rattle.std.specs.List.{AllByRecursion};
 ghost use Rattle.js_lexer.specs.Lexer.{IsOnPlaces};
 ghost use Rattle.js_session.specs.Effects.{effect_of, is_step};
 ghost use Rattle.js_grammar.specs.Reads.{is_onward};
-ghost use Rattle.js_session.specs.Effects.Effect.{reads, re_lexes};
+ghost use Rattle.js_session.specs.declared.command.Effect.TheVariants.{Reads, ReLexes};
 ghost use Rattle.js_session.specs.Report.{LiesOnPlaces, IsSliceOnPlaces};
 ghost use Rattle.js_session.specs.Session.{Begins, AddsRow, LieOnPlaces, MayResume, after_command, report_of, resumed};
 
-use crate::command::Command;
+use crate::command::{Command, Effect};
 use crate::mark_list::MarkList;
 use crate::read::RowReader;
 use crate::report::Report;
@@ -119,7 +119,7 @@ impl<'a, C: LexerConfig + Drop> Session<'a, C> {
 
     /// Adds the row of a reading, with its token live.
     fn step_on(&mut self, command: Command, goal: Goal) -> Result<(), AllocError>
-        requires effect { effect_of command ≡ reads goal }
+        requires effect { effect_of command ≡ Reads goal }
         requires onward { is_onward goal ≡ true }
         requires later { goal ≡ Goal.First → ⊥ }
         ensures ok { OnOk result (AddsRow command self.old self.new) }
@@ -140,7 +140,7 @@ impl<'a, C: LexerConfig + Drop> Session<'a, C> {
 
     /// Adds the row of a re-lex, with its token live in the place of the last one, if it is taken.
     fn step_again(&mut self, command: Command, goal: Goal) -> Result<(), AllocError>
-        requires { effect_of command ≡ re_lexes goal }
+        requires { effect_of command ≡ ReLexes goal }
         ensures ok { OnOk result (AddsRow command self.old self.new) }
         ensures err { OnErr result (self.new ≡ self.old) }
         ensures places { LieOnPlaces self.new }
@@ -163,18 +163,11 @@ impl<'a, C: LexerConfig + Drop> Session<'a, C> {
         ensures ticks_at_most { OnErr result (steps.new ≤ steps.old + 1) }
     {
         steps.tick();
-        match command {
-            Command::Next => self.step_on(command, Goal::Next),
-            Command::JsxChild => self.step_on(command, Goal::JsxChild),
-            Command::JsxAttr => self.step_on(command, Goal::JsxAttributeValue),
-            Command::Regex => self.step_again(command, Goal::RegularExpression),
-            Command::TemplateTail => self.step_again(command, Goal::TemplateTail),
-            Command::JsxName => self.step_again(command, Goal::JsxIdentifier),
-            Command::RAngle => self.step_again(command, Goal::RightAngle),
-            Command::TsLAngle => self.step_again(command, Goal::TypeScriptLeftAngle),
-            Command::TsRAngle => self.step_again(command, Goal::TypeScriptRightAngle),
-            Command::Peek => self.step_peek(),
-            Command::Mark | Command::Rewind | Command::Commit => unreachable!(),
+        match command.effect() {
+            Effect::Reads(goal) => self.step_on(command, goal),
+            Effect::ReLexes(goal) => self.step_again(command, goal),
+            Effect::Peeks(_) => self.step_peek(),
+            Effect::Opens | Effect::Rewinds | Effect::Commits => unreachable!(),
         }
     }
 

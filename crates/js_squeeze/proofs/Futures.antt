@@ -14,7 +14,7 @@ use Rattle.js_lexer.specs.Lexer.{IsOnPlaces, token_or_default}
 use Rattle.js_session.specs.declared.command.Command.{Command}
 use Rattle.js_session.specs.declared.row.Row.{Row}
 use Rattle.js_session.specs.Effects.{Effect, effect_of, row_effect}
-use Rattle.js_session.specs.Effects.Effect.{reads, peeks, re_lexes, opens, rewinds, commits}
+use Rattle.js_session.specs.declared.command.Effect.TheVariants.{Reads, Peeks, ReLexes, Opens, Rewinds, Commits}
 use Rattle.js_session.specs.Live.{State, after_row, last_live, outcome_of, place_behind_last}
 use Rattle.js_session.specs.Report.{IsNotTaken, IsOfEffect, IsReLexed, Run}
 use Rattle.js_session.proofs.LastingRuns.{lasting_steps}
@@ -50,7 +50,7 @@ step_onward : (text : List ℕ) (t : SourceType) (effect : Effect) (s : State) (
     → first_reads row ≡ reads_on effect → IsOnPlaces text row.token → row.place ≡ place_behind_last s.now
     → IsOfEffect text t s.now effect row → IsQuiet row → (EndsText text row.token → Onward text t row.token rows)
     → Onward text t token (row ∷ rows)
-step_onward text t (reads goal) s token row rows u on l ends first lies at is quiet later =
+step_onward text t (Reads goal) s token row rows u on l ends first lies at is quiet later =
     let place : row.place ≡ token.end = at ∙ ap (λ l. (token_or_default l).end) l.last_is in
     let read : GoalReads text t goal (Some token) token.end (outcome_of row) =
     subst (λ p. GoalReads text t goal (Some token) p (outcome_of row)) place
@@ -69,11 +69,11 @@ step_onward text t (reads goal) s token row rows u on l ends first lies at is qu
       final_lies = rw first l.lies;
       later_lie = (lies, behind.later_lie);
     }
-step_onward text t (peeks goal) s token row rows u on l ends first lies at is quiet later = absurd on
-step_onward text t opens s token row rows u on l ends first lies at is quiet later = absurd on
-step_onward text t rewinds s token row rows u on l ends first lies at is quiet later = absurd on
-step_onward text t commits s token row rows u on l ends first lies at is quiet later = absurd on
-step_onward text t (re_lexes goal) s token row rows u on l ends first lies at is quiet later =
+step_onward text t (Peeks goal) s token row rows u on l ends first lies at is quiet later = absurd on
+step_onward text t Opens s token row rows u on l ends first lies at is quiet later = absurd on
+step_onward text t Rewinds s token row rows u on l ends first lies at is quiet later = absurd on
+step_onward text t Commits s token row rows u on l ends first lies at is quiet later = absurd on
+step_onward text t (ReLexes goal) s token row rows u on l ends first lies at is quiet later =
     by_flag (fits text goal (token_or_default (last_live s.now))) refl is
   where
     by_flag : (b : Bool) → fits text goal (token_or_default (last_live s.now)) ≡ b
@@ -106,13 +106,13 @@ step_onward text t (re_lexes goal) s token row rows u on l ends first lies at is
 pub row_ends_text : (text : List ℕ) (t : SourceType) (effect : Effect) (s : State) (token : TokenParts) (row : Row)
     → IsUtf8 text → Rewrites t effect → IsLast text s token → EndsText text token → IsOnPlaces text row.token
     → row.place ≡ place_behind_last s.now → IsOfEffect text t s.now effect row → IsQuiet row → EndsText text row.token
-row_ends_text text t (reads goal) s token row u on l ends lies at is quiet =
+row_ends_text text t (Reads goal) s token row u on l ends lies at is quiet =
     onward_ends text t goal (last_live s.now) row.place (outcome_of row) u lies on.0 is.reads quiet
-row_ends_text text t (peeks goal) s token row u on l ends lies at is quiet = absurd on
-row_ends_text text t opens s token row u on l ends lies at is quiet = absurd on
-row_ends_text text t rewinds s token row u on l ends lies at is quiet = absurd on
-row_ends_text text t commits s token row u on l ends lies at is quiet = absurd on
-row_ends_text text t (re_lexes goal) s token row u on l ends lies at is quiet =
+row_ends_text text t (Peeks goal) s token row u on l ends lies at is quiet = absurd on
+row_ends_text text t Opens s token row u on l ends lies at is quiet = absurd on
+row_ends_text text t Rewinds s token row u on l ends lies at is quiet = absurd on
+row_ends_text text t Commits s token row u on l ends lies at is quiet = absurd on
+row_ends_text text t (ReLexes goal) s token row u on l ends lies at is quiet =
     by_flag (fits text goal (token_or_default (last_live s.now))) is
   where
     by_flag : (b : Bool) → MatchBool b (IsReLexed text t s.now goal row) (IsNotTaken s.now row)

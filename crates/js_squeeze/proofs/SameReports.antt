@@ -32,7 +32,7 @@ use Rattle.js_session.specs.declared.command.Command.{Command}
 use Rattle.js_session.specs.declared.report.Report.{Report}
 use Rattle.js_session.specs.declared.row.Row.{Row}
 use Rattle.js_session.specs.Effects.{Effect, effect_of, row_effect}
-use Rattle.js_session.specs.Effects.Effect.{reads, peeks, re_lexes, opens, rewinds, commits}
+use Rattle.js_session.specs.declared.command.Effect.TheVariants.{Reads, Peeks, ReLexes, Opens, Rewinds, Commits}
 use Rattle.js_session.specs.Live.{Live, State, after_row, last_live, live, outcome_of, state_after, state_after_first}
 use Rattle.js_session.specs.Report.{AreRows, IsNotTaken, IsOfEffect, IsReLexed, ReportOf, Run}
 use Rattle.js_session.proofs.LastingRuns.{lasting_steps}
@@ -66,20 +66,20 @@ step_tokens : (text : List ℕ) (t : SourceType) (effect : Effect) (s : State) (
     → IsOfEffect text t s.now effect row → last_live s.now ≡ Some token → s.now.tokens ≡ front ++ token ∷ []
     → (before : List TokenParts) × ((after_row effect row s).now.tokens ≡ before ++ row.token ∷ [])
     × (before ++ finals row.token rows ≡ front ++ finals token (row ∷ rows))
-step_tokens text t (reads goal) s row rows front token on first is last tokens = (
+step_tokens text t (Reads goal) s row rows front token on first is last tokens = (
   front ++ token ∷ [],
   ap (λ ts. ts ++ row.token ∷ []) tokens,
   rw first (append_assoc front (token ∷ []) (finals row.token rows)),
 )
-step_tokens text t (peeks goal) s row rows front token on first is last tokens = absurd on
-step_tokens text t opens s row rows front token on first is last tokens = absurd on
-step_tokens text t rewinds s row rows front token on first is last tokens = absurd on
-step_tokens text t commits s row rows front token on first is last tokens = absurd on
-step_tokens text t (re_lexes goal) s row rows front token on first is last tokens =
+step_tokens text t (Peeks goal) s row rows front token on first is last tokens = absurd on
+step_tokens text t Opens s row rows front token on first is last tokens = absurd on
+step_tokens text t Rewinds s row rows front token on first is last tokens = absurd on
+step_tokens text t Commits s row rows front token on first is last tokens = absurd on
+step_tokens text t (ReLexes goal) s row rows front token on first is last tokens =
     by_flag (fits text goal (token_or_default (last_live s.now))) is
   where
     by_flag : (b : Bool) → MatchBool b (IsReLexed text t s.now goal row) (IsNotTaken s.now row)
-        → (before : List TokenParts) × ((after_row (re_lexes goal) row s).now.tokens ≡ before ++ row.token ∷ [])
+        → (before : List TokenParts) × ((after_row (ReLexes goal) row s).now.tokens ≡ before ++ row.token ∷ [])
         × (before ++ finals row.token rows ≡ front ++ finals token (row ∷ rows))
     by_flag true is = (
       front,

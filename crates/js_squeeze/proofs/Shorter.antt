@@ -17,7 +17,7 @@ use Rattle.js_session.specs.declared.command.Command.{Command}
 use Rattle.js_session.specs.declared.report.Report.{Report}
 use Rattle.js_session.specs.declared.row.Row.{Row}
 use Rattle.js_session.specs.Effects.{Effect, effect_of, row_effect}
-use Rattle.js_session.specs.Effects.Effect.{reads, peeks, re_lexes, opens, rewinds, commits}
+use Rattle.js_session.specs.declared.command.Effect.TheVariants.{Reads, Peeks, ReLexes, Opens, Rewinds, Commits}
 use Rattle.js_session.specs.Live.{Live, State, after_row, last_live, live, outcome_of, place_behind_last}
 use Rattle.js_session.specs.Live.{state_after_first}
 use Rattle.js_session.specs.Report.{AreRows, IsNotTaken, IsOfEffect, IsReLexed, ReportOf, Run}
@@ -143,7 +143,7 @@ step_next : (text : List ℕ) (t : SourceType) (effect : Effect) (s : State) (to
     → IsUtf8 text → Rewrites t effect → IsLast text s token → first_reads row ≡ reads_on effect
     → row.place ≡ place_behind_last s.now → IsOfEffect text t s.now effect row → IsQuiet row
     → StandsNext (first_reads row) token row
-step_next text t (reads goal) s token row u on l first at is quiet =
+step_next text t (Reads goal) s token row u on l first at is quiet =
     let place : row.place ≡ token.end = at ∙ ap (λ l. (token_or_default l).end) l.last_is in
     let read : GoalReads text t goal (Some token) token.end (outcome_of row) =
     subst (λ p. GoalReads text t goal (Some token) p (outcome_of row)) place
@@ -156,11 +156,11 @@ step_next text t (reads goal) s token row u on l first at is quiet =
           omega (arith, end))
     ] in
     subst (λ b. StandsNext b token row) (sym first) (place, ordered)
-step_next text t (peeks goal) s token row u on l first at is quiet = absurd on
-step_next text t opens s token row u on l first at is quiet = absurd on
-step_next text t rewinds s token row u on l first at is quiet = absurd on
-step_next text t commits s token row u on l first at is quiet = absurd on
-step_next text t (re_lexes goal) s token row u on l first at is quiet =
+step_next text t (Peeks goal) s token row u on l first at is quiet = absurd on
+step_next text t Opens s token row u on l first at is quiet = absurd on
+step_next text t Rewinds s token row u on l first at is quiet = absurd on
+step_next text t Commits s token row u on l first at is quiet = absurd on
+step_next text t (ReLexes goal) s token row u on l first at is quiet =
     subst (λ b. StandsNext b token row) (sym first) (by_flag (fits text goal (token_or_default (last_live s.now))) is)
   where
     by_flag : (b : Bool) → MatchBool b (IsReLexed text t s.now goal row) (IsNotTaken s.now row)

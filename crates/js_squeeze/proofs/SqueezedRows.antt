@@ -19,7 +19,7 @@ use Rattle.js_session.specs.SameRows.{SameRow}
 use Rattle.js_session.specs.declared.command.Command.{Command}
 use Rattle.js_session.specs.declared.row.Row.{Row}
 use Rattle.js_session.specs.Effects.{Effect, effect_of, row_effect}
-use Rattle.js_session.specs.Effects.Effect.{reads, peeks, re_lexes, opens, rewinds, commits}
+use Rattle.js_session.specs.declared.command.Effect.TheVariants.{Reads, Peeks, ReLexes, Opens, Rewinds, Commits}
 use Rattle.js_session.specs.Live.{State, after_row, last_live, outcome_of, place_behind_last}
 use Rattle.js_session.specs.Report.{IsOfEffect, Run}
 use Rattle.js_session.proofs.LastingRuns.{lasting_steps}
@@ -63,12 +63,12 @@ same_characters text other t s q token there zs u h =
 
 -- A row that reads one token more, in each session.
 reads_alike : (text other : List ℕ) (t : SourceType) (goal : Goal) (s q : State) (token there : TokenParts) (a b : Row)
-    (rows : List Row) (zs : List ℕ) → IsUtf8 text → IsUtf8 other → Rewrites t (reads goal) → a.command ≡ b.command
+    (rows : List Row) (zs : List ℕ) → IsUtf8 text → IsUtf8 other → Rewrites t (Reads goal) → a.command ≡ b.command
     → first_reads a ≡ true → Beside text other t s q token there zs → IsQuiet a → a.place ≡ place_behind_last s.now
     → b.place ≡ place_behind_last q.now → IsOnPlaces text a.token → IsOnPlaces other b.token
-    → IsOfEffect text t s.now (reads goal) a → IsOfEffect other t q.now (reads goal) b
+    → IsOfEffect text t s.now (Reads goal) a → IsOfEffect other t q.now (Reads goal) b
     → written text token (a ∷ rows) ≡ characters text token ++ zs → (f : Future text t a.token rows)
-    → StepAlike text other t (reads goal) s q a b f.zs
+    → StepAlike text other t (Reads goal) s q a b f.zs
 reads_alike text other t goal s q token there a b rows zs u v on command first h quiet at other_at lies other_lies is
     other_is whole f =
     let sep = separator_behind text token a (final a.token rows) in
@@ -115,12 +115,12 @@ reads_alike text other t goal s q token there a b rows zs u v on command first h
 
 -- A row that reads the last token again, in each session.
 again_alike : (text other : List ℕ) (t : SourceType) (goal : Goal) (s q : State) (token there : TokenParts) (a b : Row)
-    (rows : List Row) (zs : List ℕ) → IsUtf8 text → IsUtf8 other → Rewrites t (re_lexes goal) → a.command ≡ b.command
+    (rows : List Row) (zs : List ℕ) → IsUtf8 text → IsUtf8 other → Rewrites t (ReLexes goal) → a.command ≡ b.command
     → first_reads a ≡ false → Beside text other t s q token there zs → IsQuiet a → IsOnPlaces text a.token
-    → IsLast text (after_row (re_lexes goal) a s) a.token → IsLast other (after_row (re_lexes goal) b q) b.token
-    → IsOfEffect text t s.now (re_lexes goal) a → IsOfEffect other t q.now (re_lexes goal) b
+    → IsLast text (after_row (ReLexes goal) a s) a.token → IsLast other (after_row (ReLexes goal) b q) b.token
+    → IsOfEffect text t s.now (ReLexes goal) a → IsOfEffect other t q.now (ReLexes goal) b
     → written text token (a ∷ rows) ≡ characters text token ++ zs → (f : Future text t a.token rows)
-    → StepAlike text other t (re_lexes goal) s q a b f.zs
+    → StepAlike text other t (ReLexes goal) s q a b f.zs
 again_alike text other t goal s q token there a b rows zs u v on command again h quiet lies last other_last is other_is
     whole f =
     let xs = characters text a.token in
@@ -149,22 +149,22 @@ effect_alike : (text other : List ℕ) (t : SourceType) (effect : Effect) (s q :
     → IsOnPlaces other b.token → IsOfEffect text t s.now effect a → IsOfEffect other t q.now effect b
     → written text token (a ∷ rows) ≡ characters text token ++ zs → (f : Future text t a.token rows)
     → StepAlike text other t effect s q a b f.zs
-effect_alike text other t (reads goal) s q token there a b rows zs u v on command first h quiet at other_at lies
+effect_alike text other t (Reads goal) s q token there a b rows zs u v on command first h quiet at other_at lies
     other_lies is other_is whole f =
     reads_alike text other t goal s q token there a b rows zs u v on command first h quiet at other_at lies other_lies
     is other_is whole f
-effect_alike text other t (peeks goal) s q token there a b rows zs u v on command first h quiet at other_at lies
+effect_alike text other t (Peeks goal) s q token there a b rows zs u v on command first h quiet at other_at lies
     other_lies is other_is whole f = absurd on
-effect_alike text other t (re_lexes goal) s q token there a b rows zs u v on command first h quiet at other_at lies
+effect_alike text other t (ReLexes goal) s q token there a b rows zs u v on command first h quiet at other_at lies
     other_lies is other_is whole f =
     again_alike text other t goal s q token there a b rows zs u v on command first h quiet lies
-    (last_behind text t (re_lexes goal) a s token on h.last lies is)
-    (last_behind other t (re_lexes goal) b q there on h.other_last other_lies other_is) is other_is whole f
-effect_alike text other t opens s q token there a b rows zs u v on command first h quiet at other_at lies other_lies is
+    (last_behind text t (ReLexes goal) a s token on h.last lies is)
+    (last_behind other t (ReLexes goal) b q there on h.other_last other_lies other_is) is other_is whole f
+effect_alike text other t Opens s q token there a b rows zs u v on command first h quiet at other_at lies other_lies is
     other_is whole f = absurd on
-effect_alike text other t rewinds s q token there a b rows zs u v on command first h quiet at other_at lies other_lies
+effect_alike text other t Rewinds s q token there a b rows zs u v on command first h quiet at other_at lies other_lies
     is other_is whole f = absurd on
-effect_alike text other t commits s q token there a b rows zs u v on command first h quiet at other_at lies other_lies
+effect_alike text other t Commits s q token there a b rows zs u v on command first h quiet at other_at lies other_lies
     is other_is whole f = absurd on
 
 -- The rows of the two runs are the same, and in those of the other nothing is reported, and no comment is found.

@@ -8,19 +8,19 @@ use Rattle.js_kind.specs.TokenParts.{TokenParts}
 use Rattle.js_grammar.specs.Blanks.{space}
 use Rattle.js_lexer.specs.Lexer.{token_or_default}
 use Rattle.js_session.specs.Effects.{Effect, row_effect}
-use Rattle.js_session.specs.Effects.Effect.{reads, peeks, re_lexes, opens, rewinds, commits}
+use Rattle.js_session.specs.declared.command.Effect.TheVariants.{Reads, Peeks, ReLexes, Opens, Rewinds, Commits}
 use Rattle.js_session.specs.declared.report.Report.{Report}
 use Rattle.js_session.specs.declared.row.Row.{Row}
 use Rattle.js_rewrite.specs.Space.{need_space}
 
 -- the effects that make one token more live
 abbrev pub reads_on : Effect → Bool
-reads_on (reads goal) = true
-reads_on (peeks goal) = false
-reads_on (re_lexes goal) = false
-reads_on opens = false
-reads_on rewinds = false
-reads_on commits = false
+reads_on (Reads goal) = true
+reads_on (Peeks goal) = false
+reads_on (ReLexes goal) = false
+reads_on Opens = false
+reads_on Rewinds = false
+reads_on Commits = false
 
 -- The row is the first, or a step that reads one token more. Without marks and peeks each live token has one such row,
 -- which first read it, in the same order.

@@ -6,15 +6,15 @@ ghost use Rattle.js_squeeze.specs.SqueezeText.{first_reads, separator, separator
 
 use crate::space::need_space;
 use js_kind::Token;
-use js_session::{Command, Row};
+use js_session::{Effect, Row};
 
 /// Whether the row is the first, or that of a step which reads one token more.
 pub(crate) fn first_reads(row: &Row) -> bool
     ensures { result ≡ first_reads row.now }
 {
-    match row.command {
-        None | Some(Command::Next | Command::JsxChild | Command::JsxAttr) => true,
-        Some(_) => false,
+    match row.effect() {
+        Effect::Reads(_) => true,
+        _ => false,
     }
 }
 

@@ -24,7 +24,7 @@ use Rattle.js_lexer.specs.Lexer.{IsOnPlaces, token_or_default}
 use Rattle.js_session.specs.declared.command.Command.{Command}
 use Rattle.js_session.specs.declared.row.Row.{Row}
 use Rattle.js_session.specs.Effects.{Effect, effect_of}
-use Rattle.js_session.specs.Effects.Effect.{reads, peeks, re_lexes, opens, rewinds, commits}
+use Rattle.js_session.specs.declared.command.Effect.TheVariants.{Reads, Peeks, ReLexes, Opens, Rewinds, Commits}
 use Rattle.js_session.specs.Live.{State, after_row, last_live, outcome_of, place_behind_last}
 use Rattle.js_session.specs.Report.{IsNotTaken, IsOfEffect, IsReLexed, Run}
 use Rattle.js_session.proofs.LastingRuns.{lasting_steps}
@@ -87,7 +87,7 @@ row_stands : (text : List ℕ) (t : SourceType) (effect : Effect) (row : Row) (s
     → row.place ≡ place_behind_last s.now → IsOfEffect text t s.now effect row → IsQuiet row
     → StandBetween text (piece t) row.token.end comments (length text)
     → StandBetween text (piece t) token.end (row.comments ++ comments) (length text)
-row_stands text t (reads goal) row s token comments u on l lies at is quiet stand =
+row_stands text t (Reads goal) row s token comments u on l lies at is quiet stand =
     let place : row.place ≡ token.end = at ∙ ap (λ l. (token_or_default l).end) l.last_is in
     let here : StandBetween text (piece t) token.end row.comments row.token.start =
     subst (λ p. StandBetween text (piece t) p row.comments row.token.start) place
@@ -95,11 +95,11 @@ row_stands text t (reads goal) row s token comments u on l lies at is quiet stan
     (subst (IsCharBoundary text) (sym place) l.lies.end) on.0 quiet is.reads) in
     between_append text (piece t) token.end row.token.start (length text) row.comments comments here
     (between_from text (piece t) row.token.start row.token.end (length text) comments lies.ordered stand)
-row_stands text t (peeks goal) row s token comments u on l lies at is quiet stand = absurd on
-row_stands text t opens row s token comments u on l lies at is quiet stand = absurd on
-row_stands text t rewinds row s token comments u on l lies at is quiet stand = absurd on
-row_stands text t commits row s token comments u on l lies at is quiet stand = absurd on
-row_stands text t (re_lexes goal) row s token comments u on l lies at is quiet stand =
+row_stands text t (Peeks goal) row s token comments u on l lies at is quiet stand = absurd on
+row_stands text t Opens row s token comments u on l lies at is quiet stand = absurd on
+row_stands text t Rewinds row s token comments u on l lies at is quiet stand = absurd on
+row_stands text t Commits row s token comments u on l lies at is quiet stand = absurd on
+row_stands text t (ReLexes goal) row s token comments u on l lies at is quiet stand =
     by_flag (fits text goal (token_or_default (last_live s.now))) refl is
   where
     by_flag : (b : Bool) → fits text goal (token_or_default (last_live s.now)) ≡ b

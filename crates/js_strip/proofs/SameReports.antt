@@ -24,7 +24,7 @@ use Rattle.js_session.specs.declared.command.Command.{Command}
 use Rattle.js_session.specs.declared.report.Report.{Report}
 use Rattle.js_session.specs.declared.row.Row.{Row}
 use Rattle.js_session.specs.Effects.{Effect, effect_of}
-use Rattle.js_session.specs.Effects.Effect.{reads, peeks, re_lexes, opens, rewinds, commits}
+use Rattle.js_session.specs.declared.command.Effect.TheVariants.{Reads, Peeks, ReLexes, Opens, Rewinds, Commits}
 use Rattle.js_session.specs.Live.{Live, State, after_row, last_live, live, outcome_of, state_after}
 use Rattle.js_session.specs.Live.{state_after_first}
 use Rattle.js_session.specs.Report.{AreRows, IsNotTaken, IsOfEffect, IsReLexed, ReportOf, Run}
@@ -52,15 +52,15 @@ use Rattle.js_grammar.proofs.Without.{Without, prefix_from, true_is_not_false}
 row_live : (text : List ℕ) (t : SourceType) (effect : Effect) (row : Row) (s : State) → Rewrites t effect
     → IsOfEffect text t s.now effect row
     → (after_row effect row s).now.findings.comments ≡ s.now.findings.comments ++ row.comments
-row_live text t (reads goal) row s on is = refl
-row_live text t (peeks goal) row s on is = absurd on
-row_live text t opens row s on is = absurd on
-row_live text t rewinds row s on is = absurd on
-row_live text t commits row s on is = absurd on
-row_live text t (re_lexes goal) row s on is = by_flag (fits text goal (token_or_default (last_live s.now))) is
+row_live text t (Reads goal) row s on is = refl
+row_live text t (Peeks goal) row s on is = absurd on
+row_live text t Opens row s on is = absurd on
+row_live text t Rewinds row s on is = absurd on
+row_live text t Commits row s on is = absurd on
+row_live text t (ReLexes goal) row s on is = by_flag (fits text goal (token_or_default (last_live s.now))) is
   where
     by_flag : (b : Bool) → MatchBool b (IsReLexed text t s.now goal row) (IsNotTaken s.now row)
-        → (after_row (re_lexes goal) row s).now.findings.comments ≡ s.now.findings.comments ++ row.comments
+        → (after_row (ReLexes goal) row s).now.findings.comments ≡ s.now.findings.comments ++ row.comments
     by_flag true is = rw is.taken refl
     by_flag false is =
         let none : row.comments ≡ [] = ap (λ f. f.comments) is.findings in

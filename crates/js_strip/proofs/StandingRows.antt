@@ -22,7 +22,7 @@ use Rattle.js_session.specs.declared.command.Command.TheVariants.{Mark, Rewind, 
 use Rattle.js_session.specs.declared.report.Report.{Report}
 use Rattle.js_session.specs.declared.row.Row.{Row}
 use Rattle.js_session.specs.Effects.{Effect, effect_of, is_lasting}
-use Rattle.js_session.specs.Effects.Effect.{reads, peeks, re_lexes, opens, rewinds, commits}
+use Rattle.js_session.specs.declared.command.Effect.TheVariants.{Reads, Peeks, ReLexes, Opens, Rewinds, Commits}
 use Rattle.js_session.specs.Live.{Live, State, after_row, last_live, live, nothing_live, outcome_of, place_behind_last}
 use Rattle.js_session.specs.Live.{state_after, state_after_first}
 use Rattle.js_session.specs.Report.{AreRows, IsNotTaken, IsOfEffect, IsReLexed, IsRow, ReportOf, Run}
@@ -36,12 +36,12 @@ use Rattle.js_rewrite.proofs.LastTokens.{again_starts}
 
 -- The effects of commands that give a row which stays: a reading from a place on, or of the last token again.
 abbrev pub Stays : Effect → Type 0
-Stays (reads goal) = is_onward goal ≡ true
-Stays (peeks goal) = ⊥
-Stays (re_lexes goal) = is_onward goal ≡ false
-Stays opens = ⊥
-Stays rewinds = ⊥
-Stays commits = ⊥
+Stays (Reads goal) = is_onward goal ≡ true
+Stays (Peeks goal) = ⊥
+Stays (ReLexes goal) = is_onward goal ≡ false
+Stays Opens = ⊥
+Stays Rewinds = ⊥
+Stays Commits = ⊥
 
 pub stays : (c : Command) → is_lasting c ≡ true → Stays (effect_of c)
 stays Next e = refl
@@ -68,7 +68,7 @@ behind_read : (text : List ℕ) (t : SourceType) (effect : Effect) (row : Row) (
     → IsUtf8 text → Stays effect → IsOnPlaces text row.token → row.place ≡ place_behind_last s.now
     → StandBefore text t s token → IsOfEffect text t s.now effect row
     → StandBefore text t (after_row effect row s) row.token
-behind_read text t (reads goal) row s token u on lies at h is =
+behind_read text t (Reads goal) row s token u on lies at h is =
     let place : row.place ≡ token.end = at ∙ ap (λ l. (token_or_default l).end) h.last_is in
     let here : StandBetween text (whole_gap_piece t) token.end row.comments row.token.start =
     subst (λ p. StandBetween text (whole_gap_piece t) p row.comments row.token.start) place
@@ -83,15 +83,15 @@ behind_read text t (reads goal) row s token u on lies at h is =
           (between_to text (whole_gap_piece t) 0 token.start token.end s.now.findings.comments h.lies.ordered
           h.comments) here;
     }
-behind_read text t (peeks goal) row s token u on lies at h is = absurd on
-behind_read text t opens row s token u on lies at h is = absurd on
-behind_read text t rewinds row s token u on lies at h is = absurd on
-behind_read text t commits row s token u on lies at h is = absurd on
-behind_read text t (re_lexes goal) row s token u off lies at h is =
+behind_read text t (Peeks goal) row s token u on lies at h is = absurd on
+behind_read text t Opens row s token u on lies at h is = absurd on
+behind_read text t Rewinds row s token u on lies at h is = absurd on
+behind_read text t Commits row s token u on lies at h is = absurd on
+behind_read text t (ReLexes goal) row s token u off lies at h is =
     by_flag (fits text goal (token_or_default (last_live s.now))) is
   where
     by_flag : (b : Bool) → MatchBool b (IsReLexed text t s.now goal row) (IsNotTaken s.now row)
-        → StandBefore text t (after_row (re_lexes goal) row s) row.token
+        → StandBefore text t (after_row (ReLexes goal) row s) row.token
     by_flag true is =
         let read : GoalReads text t goal (Some token) token.start (outcome_of row) =
         subst (λ l. GoalReads text t goal l (token_or_default l).start (outcome_of row)) h.last_is is.reads in

@@ -23,7 +23,7 @@ use Rattle.js_session.specs.SameRows.{SameRow}
 use Rattle.js_session.specs.declared.command.Command.{Command}
 use Rattle.js_session.specs.declared.row.Row.{Row}
 use Rattle.js_session.specs.Effects.{Effect, effect_of}
-use Rattle.js_session.specs.Effects.Effect.{reads, peeks, re_lexes, opens, rewinds, commits}
+use Rattle.js_session.specs.declared.command.Effect.TheVariants.{Reads, Peeks, ReLexes, Opens, Rewinds, Commits}
 use Rattle.js_session.specs.Live.{State, after_row, outcome_of, place_behind_last}
 use Rattle.js_session.specs.Report.{IsOfEffect, Run}
 use Rattle.js_session.proofs.LastingRuns.{lasting_steps}
@@ -83,13 +83,13 @@ onward_gaps text other t JsxAttributeValue token there place q o more u b on no_
 
 -- A row that reads one token more, in each session.
 reads_alike : (text other : List ℕ) (t : SourceType) (goal : Goal) (s q : State) (token there : TokenParts) (a b : Row)
-    (comments : List Comment) → IsUtf8 text → IsUtf8 other → Rewrites t (reads goal) → a.command ≡ b.command
+    (comments : List Comment) → IsUtf8 text → IsUtf8 other → Rewrites t (Reads goal) → a.command ≡ b.command
     → Beside text other t s q token there (left_behind text token (a.comments ++ comments)) → IsQuiet a
     → a.place ≡ place_behind_last s.now → b.place ≡ place_behind_last q.now
     → IsOnPlaces text a.token → IsOnPlaces other b.token
     → StandBetween text (piece t) a.token.end comments (length text)
-    → IsOfEffect text t s.now (reads goal) a → IsOfEffect other t q.now (reads goal) b
-    → StepAlike text other t (reads goal) s q a b (left_behind text a.token comments)
+    → IsOfEffect text t s.now (Reads goal) a → IsOfEffect other t q.now (Reads goal) b
+    → StepAlike text other t (Reads goal) s q a b (left_behind text a.token comments)
 reads_alike text other t goal s q token there a b comments u v on command h quiet at other_at lies other_lies stand is
     other_is =
     let zs = left_behind text a.token comments in
@@ -126,14 +126,14 @@ reads_alike text other t goal s q token there a b comments u v on command h quie
 
 -- A row that reads the last token again, in each session.
 again_alike : (text other : List ℕ) (t : SourceType) (goal : Goal) (s q : State) (token there : TokenParts) (a b : Row)
-    (comments : List Comment) → IsUtf8 text → IsUtf8 other → Rewrites t (re_lexes goal) → a.command ≡ b.command
+    (comments : List Comment) → IsUtf8 text → IsUtf8 other → Rewrites t (ReLexes goal) → a.command ≡ b.command
     → Beside text other t s q token there (left_behind text token (a.comments ++ comments)) → IsQuiet a
-    → IsOnPlaces text a.token → IsLast text (after_row (re_lexes goal) a s) a.token
-    → IsLast other (after_row (re_lexes goal) b q) b.token
+    → IsOnPlaces text a.token → IsLast text (after_row (ReLexes goal) a s) a.token
+    → IsLast other (after_row (ReLexes goal) b q) b.token
     → StandBetween text (piece t) token.end (a.comments ++ comments) (length text)
     → StandBetween text (piece t) a.token.end comments (length text)
-    → IsOfEffect text t s.now (re_lexes goal) a → IsOfEffect other t q.now (re_lexes goal) b
-    → StepAlike text other t (re_lexes goal) s q a b (left_behind text a.token comments)
+    → IsOfEffect text t s.now (ReLexes goal) a → IsOfEffect other t q.now (ReLexes goal) b
+    → StepAlike text other t (ReLexes goal) s q a b (left_behind text a.token comments)
 again_alike text other t goal s q token there a b comments u v on command h quiet lies last other_last from_token stand
     is other_is =
     re_lex_step text other t goal s q token there a b (left_behind text token (a.comments ++ comments))
@@ -178,22 +178,22 @@ effect_alike : (text other : List ℕ) (t : SourceType) (effect : Effect) (s q :
     → StandBetween text (piece t) a.token.end comments (length text)
     → IsOfEffect text t s.now effect a → IsOfEffect other t q.now effect b
     → StepAlike text other t effect s q a b (left_behind text a.token comments)
-effect_alike text other t (reads goal) s q token there a b comments u v on command h quiet at other_at lies other_lies
+effect_alike text other t (Reads goal) s q token there a b comments u v on command h quiet at other_at lies other_lies
     from_token stand is other_is =
     reads_alike text other t goal s q token there a b comments u v on command h quiet at other_at lies other_lies stand is
     other_is
-effect_alike text other t (peeks goal) s q token there a b comments u v on command h quiet at other_at lies other_lies
+effect_alike text other t (Peeks goal) s q token there a b comments u v on command h quiet at other_at lies other_lies
     from_token stand is other_is = absurd on
-effect_alike text other t (re_lexes goal) s q token there a b comments u v on command h quiet at other_at lies
+effect_alike text other t (ReLexes goal) s q token there a b comments u v on command h quiet at other_at lies
     other_lies from_token stand is other_is =
     again_alike text other t goal s q token there a b comments u v on command h quiet lies
-    (last_behind text t (re_lexes goal) a s token on h.last lies is)
-    (last_behind other t (re_lexes goal) b q there on h.other_last other_lies other_is) from_token stand is other_is
-effect_alike text other t opens s q token there a b comments u v on command h quiet at other_at lies other_lies
+    (last_behind text t (ReLexes goal) a s token on h.last lies is)
+    (last_behind other t (ReLexes goal) b q there on h.other_last other_lies other_is) from_token stand is other_is
+effect_alike text other t Opens s q token there a b comments u v on command h quiet at other_at lies other_lies
     from_token stand is other_is = absurd on
-effect_alike text other t rewinds s q token there a b comments u v on command h quiet at other_at lies other_lies
+effect_alike text other t Rewinds s q token there a b comments u v on command h quiet at other_at lies other_lies
     from_token stand is other_is = absurd on
-effect_alike text other t commits s q token there a b comments u v on command h quiet at other_at lies other_lies
+effect_alike text other t Commits s q token there a b comments u v on command h quiet at other_at lies other_lies
     from_token stand is other_is = absurd on
 
 -- The rows of the two runs are the same, and in those of the other nothing is reported, and no comment is found.

@@ -1,4 +1,4 @@
-//! Spans.
+//! Stretches of a source, by the offsets of their ends in bytes.
 
 ghost use Rattle.std.specs.Prelude.{◌≡◌, ◌+◌, ◌^◌, ◌<◌, ◌≤◌};
 

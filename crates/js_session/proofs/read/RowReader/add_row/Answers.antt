@@ -1,9 +1,17 @@
 use Rattle.std.proofs.Common.{◌∙◌, ap, subst}
 use Rattle.std.specs.Prelude.{length}
 use Rattle.js_lexer.specs.Lexer.{CanRewind, checkpoint_of}
+use Rattle.js_lexer.proofs.LexerSteps.{reading_goes_on}
 use Rattle.js_session.proofs.LexerLemmas.{can_rewind-on}
 use Rattle.js_session.proofs.ReadLemmas.{goes_back_peeks}
 use Rattle.js_session.proofs.read.RowReader.add_row.Goals as goal
+
+pub go_back-requires : goal.go_back-requires
+go_back-requires g c =
+    let added = c.in-Ok.ensures.ok in
+    can_rewind-on c.args.self.now.lexer c.read_on.new.self.lexer c.checkpoint-checkpoint.result
+    (subst (λ r. CanRewind r.lexer c.checkpoint-checkpoint.result) c.self.view_is c.checkpoint-checkpoint.ensures.open)
+    (reading_goes_on c.args.goal _ c.read_on.new.self.lexer added.row.token added.reads.reads)
 
 pub go_back-requires-in-Err : goal.go_back-requires-in-Err
 go_back-requires-in-Err g c =
