@@ -6,7 +6,8 @@ use Rattle.std.proofs.lemmas.List.{drop_all, get_or_append_left, get_or_at, leng
 use Rattle.std.proofs.lemmas.Option.{get_or_from_slice_get, slice_get_within}
 use Rattle.std.proofs.Math.Seq.{drop-cons}
 use Rattle.std.specs.Prelude.{slice_get, unwrap_or, if◌then◌else◌, IsSome, MatchBool, ◌↔◌}
-use Rattle.js_session.specs.Effects.{Effect, effect_of, gives_row, is_step}
+use Rattle.js_session.specs.Effects.{effect_of, gives_row, is_step}
+use Rattle.js_session.specs.declared.command.Effect.{Effect}
 use Rattle.js_session.specs.declared.command.Effect.TheVariants.{Reads, Peeks, ReLexes, Opens, Rewinds, Commits}
 use Rattle.js_session.specs.declared.command.Command.{Command}
 use Rattle.js_session.specs.declared.row.Row.{Row}

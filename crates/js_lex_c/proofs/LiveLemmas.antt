@@ -6,7 +6,8 @@ use Rattle.std.specs.Prelude.{MatchBool, if◌then◌else◌}
 use Rattle.js_text.specs.Lists.{with_last}
 use Rattle.js_text.specs.declared.source_type.SourceType.{SourceType}
 use Rattle.js_kind.specs.TokenParts.{TokenParts}
-use Rattle.js_session.specs.Effects.{Effect, effect_of, is_step}
+use Rattle.js_session.specs.Effects.{effect_of, is_step}
+use Rattle.js_session.specs.declared.command.Effect.{Effect}
 use Rattle.js_session.specs.declared.command.Effect.TheVariants.{Reads, Peeks, ReLexes, Opens, Rewinds, Commits}
 use Rattle.js_session.specs.Live.{Live, State, after_mark, after_row, committed_state, live, rewound_state, state_after}
 use Rattle.js_session.specs.Live.{outcome_of, state_after_first, with_re_lexed}

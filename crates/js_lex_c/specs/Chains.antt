@@ -1,7 +1,7 @@
 -- Rows that are live, as chains of links. A link is one more than the number of a row; 0 links to none.
 use Rattle.std.specs.Prelude.{◌≡◌, ℕ, ◌+◌, ◌<◌, ◌≤◌, ◌↔◌, min, Bool, List, [], ◌∷◌, ◌++◌, length, drop, reverse, Option}
 use Rattle.std.specs.Prelude.{Some, IsSome, MatchBool, option_to_list, slice_get, slice_index, unwrap_or}
-use Rattle.js_session.specs.Effects.{Effect}
+use Rattle.js_session.specs.declared.command.Effect.{Effect}
 use Rattle.js_session.specs.declared.command.Effect.TheVariants.{Reads, Peeks, ReLexes, Opens, Rewinds, Commits}
 use Rattle.js_session.specs.declared.command.Command.{Command}
 use Rattle.js_session.specs.declared.row.Row.{Row}

@@ -1,6 +1,7 @@
 -- Which rows are live: those whose tokens are live after the commands.
 use Rattle.std.specs.Prelude.{List, [], ◌∷◌, take, drop, reverse, if◌then◌else◌}
-use Rattle.js_session.specs.Effects.{Effect, effect_of, is_step}
+use Rattle.js_session.specs.Effects.{effect_of, is_step}
+use Rattle.js_session.specs.declared.command.Effect.{Effect}
 use Rattle.js_session.specs.declared.command.Effect.TheVariants.{Reads, Peeks, ReLexes, Opens, Rewinds, Commits}
 use Rattle.js_session.specs.declared.command.Command.{Command}
 use Rattle.js_session.specs.declared.row.Row.{Row}

@@ -10,7 +10,8 @@ use Rattle.js_session.specs.Restated.{token_or_default}
 use Rattle.js_session.specs.declared.command.Command.{Command}
 use Rattle.js_session.specs.declared.report.Report.{Report}
 use Rattle.js_session.specs.declared.row.Row.{Row}
-use Rattle.js_session.specs.Effects.{Effect, effect_of, is_lasting, lasts, row_effect}
+use Rattle.js_session.specs.Effects.{effect_of, is_lasting, lasts, row_effect}
+use Rattle.js_session.specs.declared.command.Effect.{Effect}
 use Rattle.js_session.specs.declared.command.Effect.TheVariants.{Reads, Peeks, ReLexes, Opens, Rewinds, Commits}
 use Rattle.js_session.specs.Live.{Live, State, after_row, last_live, nothing_live, row_findings, state_after_first}
 use Rattle.js_session.specs.Report.{AreRows, IsNotTaken, IsOfEffect, IsReLexed, IsRow, Run}

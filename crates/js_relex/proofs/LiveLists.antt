@@ -13,7 +13,8 @@ use Rattle.js_session.specs.Restated.{Findings, joined, no_findings}
 use Rattle.js_session.proofs.Restated.{joined-assoc, joined-none}
 use Rattle.js_session.specs.declared.command.Command.{Command}
 use Rattle.js_session.specs.declared.row.Row.{Row}
-use Rattle.js_session.specs.Effects.{Effect, lasts, row_effect}
+use Rattle.js_session.specs.Effects.{lasts, row_effect}
+use Rattle.js_session.specs.declared.command.Effect.{Effect}
 use Rattle.js_session.specs.declared.command.Effect.TheVariants.{Reads, Peeks, ReLexes, Opens, Rewinds, Commits}
 use Rattle.js_session.specs.Live.{Live, State, after_row, nothing_live, outcome_of, row_findings, with_outcome}
 use Rattle.js_session.specs.Live.{with_re_lexed}

@@ -7,7 +7,8 @@ use Rattle.std.proofs.lemmas.List.Elements.{All-append, All-nil}
 use Rattle.js_text.specs.Lists.{with_last}
 use Rattle.js_session.specs.Restated.{Findings, joined}
 use Rattle.js_session.specs.declared.row.Row.{Row}
-use Rattle.js_session.specs.Effects.{Effect, row_effect}
+use Rattle.js_session.specs.Effects.{row_effect}
+use Rattle.js_session.specs.declared.command.Effect.{Effect}
 use Rattle.js_session.specs.declared.command.Effect.TheVariants.{Reads, Peeks, ReLexes, Opens, Rewinds, Commits}
 use Rattle.js_session.specs.Live.{Live, State, after_row, nothing_live, outcome_of, row_findings, with_outcome}
 use Rattle.js_session.specs.Live.{with_re_lexed}

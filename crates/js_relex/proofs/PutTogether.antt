@@ -1,12 +1,11 @@
--- A report that is put together of kept rows, rows that were read, and old rows, moved.
-use Rattle.std.proofs.Common.{◌≡◌, ℕ, ◌+◌, ◌-◌, ◌≤◌, List, [], ◌++◌, length, map}
+-- Rows that are put together: kept ones, those that were read, and old ones, moved.
+use Rattle.std.proofs.Common.{◌≡◌, ℕ, ◌+◌, ◌-◌, ◌≤◌, List, ◌++◌, length, map}
 use Rattle.std.proofs.Common.{take, drop, sym, ◌∙◌, ap, subst, arith}
 use Rattle.std.specs.List.{AllByRecursion}
 use Rattle.js_session.specs.declared.report.Report.{Report}
 use Rattle.js_session.specs.declared.row.Row.{Row}
-use Rattle.js_session.specs.Live.{nothing_live, report_with}
 use Rattle.js_session.specs.Shifted.{shifted_row}
-use Rattle.js_relex.specs.Documents.{AddsRows, DocState, IsDocument, IsGathered, MayMove, joining}
+use Rattle.js_relex.specs.Documents.{DocState, IsDocument, IsGathered, MayMove, joining}
 use Rattle.js_relex.specs.Joined.{JoiningState}
 use Rattle.js_relex.specs.Joining.{PreparedState, Prepares, all_rows, old_rows_behind, taken_over}
 use Rattle.js_relex.specs.LiveLists.{Lasts}
@@ -14,8 +13,6 @@ use Rattle.js_relex.proofs.InPlace.{behind_may_move, kept_before, stay_behind}
 use Rattle.js_relex.proofs.KeptRows.{take_lasting}
 use Rattle.js_relex.proofs.Lasted.{rows_last}
 use Rattle.js_relex.proofs.LiveInPlace.{all_dropped}
-use Rattle.js_relex.proofs.LiveRows.{adds_both, gathers}
-use Rattle.js_relex.proofs.Relexed.{rest_of}
 use Rattle.js_relex.proofs.Ticks.{behind_kept}
 
 module _ (old : DocState) (start end : ℕ) (new : List ℕ) (p : PreparedState)
@@ -25,14 +22,7 @@ module _ (old : DocState) (start end : ℕ) (new : List ℕ) (p : PreparedState)
   abbrev j : JoiningState
   j = joining old start end new p.commands
 
-  -- so many old rows are there
-  pub few_behind : behind ≤ length rows
-  few_behind =
-      let less = kept_before old start end new p doc h in
-      let count = ap length rows_are in
-      omega (arith, less, count, behind_is)
-
-  -- they may be moved
+  -- the old rows may be moved
   pub last_may_move : (from to : ℕ) → from ≡ j.from → to ≡ j.to
       → AllByRecursion (MayMove from to) (drop (length rows - behind) rows)
   last_may_move from to from_is to_is =
@@ -43,12 +33,6 @@ module _ (old : DocState) (start end : ℕ) (new : List ℕ) (p : PreparedState)
       (subst (λ n. AllByRecursion (MayMove n to) (old_rows_behind j (taken_over j p.kept p.rows))) (sym from_is)
       (subst (λ n. AllByRecursion (MayMove j.from n) (old_rows_behind j (taken_over j p.kept p.rows))) (sym to_is)
       (behind_may_move old start end new p doc h)))
-
-  pub rest_may_move : (from to : ℕ) → from ≡ j.from → to ≡ j.to → AllByRecursion (MayMove from to)
-      (take (length rows - (length rows - behind)) (drop (length rows - behind) rows))
-  rest_may_move from to from_is to_is =
-      subst (AllByRecursion (MayMove from to)) (sym (rest_of rows (length rows - behind)))
-      (last_may_move from to from_is to_is)
 
   -- no row that is kept is one of them
   pub few_kept : (kept : ℕ) → kept ≡ p.kept → kept + behind ≤ length rows
@@ -85,24 +69,6 @@ module _ (old : DocState) (start end : ℕ) (new : List ℕ) (p : PreparedState)
   in_place kept read from to kept_is read_is from_is to_is =
       λ i. take (kept_is i) (rows_are i) ++ read_is i
       ++ map (shifted_row (from_is i) (to_is i)) (drop (length (rows_are i) - behind_is i) (rows_are i))
-
-  pub gathers_all : (kept : ℕ) (read : List Row) (from to : ℕ) (r0 r1 r2 r3 : Report) → kept ≡ p.kept
-      → read ≡ p.rows → from ≡ j.from → to ≡ j.to → r0 ≡ report_with [] [] nothing_live
-      → AddsRows r0 (take kept rows) r1 → AddsRows r1 read r2
-      → AddsRows r2
-      (map (shifted_row from to) (take (length rows - (length rows - behind)) (drop (length rows - behind) rows))) r3
-      → IsGathered (all_rows j p.kept p.rows) r3
-  gathers_all kept read from to r0 r1 r2 r3 kept_is read_is from_is to_is none front middle last =
-      let f = shifted_row from to in
-      let tail = take (length rows - (length rows - behind)) (drop (length rows - behind) rows) in
-      let all =
-      adds_both r0 r2 r3 (take kept rows ++ read) (map f tail) (adds_both r0 r1 r2 (take kept rows) read front middle)
-      last in
-      subst (λ rs. IsGathered rs r3)
-      (ap (λ rs. take kept rows ++ read ++ map f rs) (rest_of rows (length rows - behind))
-      ∙ (λ i. take (kept_is i) (rows_are i) ++ read_is i ++ map (shifted_row (from_is i) (to_is i))
-      (drop (length (rows_are i) - behind_is i) (rows_are i))))
-      (gathers r0 r3 (take kept rows ++ read ++ map f tail) none all)
 
 -- What is gathered of the rows that were put in place is gathered of all.
 pub gathered_in_place : (old : DocState) (start end : ℕ) (new : List ℕ) (p : PreparedState)

@@ -76,12 +76,6 @@ pub record MayMove (from to : ℕ) (row : Row) : Type 0 where
   pub ordered : IsInOrder row
   pub fits : ShiftFits from to row
 
--- A report has these rows more, with what is live behind them.
-pub record AddsRows (old : Report) (rows : List Row) (new : Report) : Type 0 where
-  pub rows_are : new.rows ≡ old.rows ++ rows
-  pub live : report_live new ≡ live_behind (report_live old) rows
-  pub collected : new.collected ≡ old.collected
-
 -- A report of these rows, with what is live behind them, and no collected tokens.
 pub record IsGathered (rows : List Row) (report : Report) : Type 0 where
   pub rows_are : report.rows ≡ rows

@@ -7,7 +7,8 @@ use Rattle.js_session.specs.Restated.{joined, no_findings}
 use Rattle.js_session.specs.declared.command.Command.{Command}
 use Rattle.js_session.specs.declared.report.Report.{Report}
 use Rattle.js_session.specs.declared.row.Row.{Row}
-use Rattle.js_session.specs.Effects.{Effect, lasts, row_effect}
+use Rattle.js_session.specs.Effects.{lasts, row_effect}
+use Rattle.js_session.specs.declared.command.Effect.{Effect}
 use Rattle.js_session.specs.declared.command.Effect.TheVariants.{Reads, Peeks, ReLexes, Opens, Rewinds, Commits}
 use Rattle.js_session.specs.Live.{Live, nothing_live, report_live, row_findings}
 use Rattle.js_session.specs.Shifted.{FitsShifted, OfFindings, shifted_comment, shifted_diagnostic, shifted_span}

@@ -83,6 +83,22 @@ impl LexDoc {
         }
     }
 
+    /// An equal document.
+    fn copy(&self, alloc: Global) -> Result<LexDoc, AllocError>
+        ensures { IfOk result (λ document. document ≡ self.now) }
+    {
+        let mut text = SourceText::new_in(alloc);
+        text.push_str(self.text.as_str())?;
+        Ok(LexDoc {
+            text,
+            source_type: self.source_type,
+            commands: self.commands.copy(alloc)?,
+            report: self.report.copy(alloc)?,
+            kept: self.kept,
+            joined: self.joined,
+        })
+    }
+
     /// The text.
     pub fn text(&self) -> &str
         ensures { result.now ≡ self.now.text }

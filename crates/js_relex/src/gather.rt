@@ -6,7 +6,7 @@ ghost use Rattle.std.specs.List.{AllByRecursion};
 ghost use Rattle.js_session.specs.Live.{nothing_live, outcome_of, report_live, report_with, with_outcome};
 ghost use Rattle.js_session.specs.Live.{with_re_lexed};
 ghost use Rattle.js_session.specs.Shifted.{shifted_row};
-ghost use Rattle.js_relex.specs.Documents.{AddsRows, GoesLive, MayMove, live_behind};
+ghost use Rattle.js_relex.specs.Documents.{GoesLive, MayMove, live_behind};
 
 use js_kind::TokenList;
 use js_session::{Effect, Report, Row, RowList, Shift};
@@ -81,59 +81,12 @@ fn add_live(report: &mut Report, row: &Row) -> Result<(), AllocError>
     }
 }
 
-/// Adds a row.
-fn add_row(report: &mut Report, row: Row) -> Result<(), AllocError>
-    ensures { OnOk result (AddsRows report.old (row ∷ []) report.new) }
-{
-    add_live(report, &row)?;
-    report.rows.push(row)
-}
-
-/// Adds copies of the rows.
-pub(crate) fn add_copies(alloc: Global, report: &mut Report, rows: &[Row]) -> Result<(), AllocError>
-    ensures { OnOk result (AddsRows report.old rows.now report.new) }
-{
-    for row in rows {
-        let row = row.copy(alloc)?;
-        add_row(report, row)?;
-    }
-    Ok(())
-}
-
-/// Adds the rows.
-pub(crate) fn add_rows(report: &mut Report, rows: RowList) -> Result<(), AllocError>
-    ensures { OnOk result (AddsRows report.old rows report.new) }
-{
-    for row in rows.into_vec() {
-        add_row(report, row)?;
-    }
-    Ok(())
-}
-
 /// A copy of the row, moved.
 fn moved_row(alloc: Global, shift: &Shift, row: &Row) -> Result<Row, AllocError>
     requires { MayMove shift.now.from shift.now.to row.now }
     ensures { IfOk result (λ new. new ≡ shifted_row shift.now.from shift.now.to row.now) }
 {
     shift.moved_row(alloc, row)
-}
-
-/// Adds copies of the rows, moved.
-pub(crate) fn add_moved_copies(
-    alloc: Global,
-    report: &mut Report,
-    rows: &[Row],
-    shift: &Shift,
-) -> Result<(), AllocError>
-    requires { AllByRecursion (MayMove shift.now.from shift.now.to) rows.now }
-    ensures { OnOk result
-        (AddsRows report.old (map (shifted_row shift.now.from shift.now.to) rows.now) report.new) }
-{
-    for row in rows {
-        let row = moved_row(alloc, shift, row)?;
-        add_row(report, row)?;
-    }
-    Ok(())
 }
 
 /// Makes live what the rows make live.

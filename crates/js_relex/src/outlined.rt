@@ -79,6 +79,16 @@ impl OutlinedReport {
         Ok(OutlinedReport { report, outlines })
     }
 
+    /// An equal report, with its outlines.
+    pub(crate) fn copy(&self, alloc: Global) -> Result<OutlinedReport, AllocError>
+        ensures { IfOk result (λ outlined. outlined ≡ self.now) }
+    {
+        Ok(OutlinedReport {
+            report: self.report.copy(alloc)?,
+            outlines: self.outlines.copy(alloc)?,
+        })
+    }
+
     /// The report.
     pub(crate) fn report(&self) -> &Report
         ensures { result.now ≡ self.now }

@@ -26,7 +26,8 @@ use Rattle.js_session.specs.declared.command.Command.TheVariants.{Next as NextCo
 use Rattle.js_session.specs.declared.command.Command.TheVariants.{JsxAttr, Regex, TemplateTail as TailCommand, JsxName}
 use Rattle.js_session.specs.declared.command.Command.TheVariants.{RAngle, TsLAngle, TsRAngle, Peek, Mark, Rewind, Commit}
 use Rattle.js_session.specs.declared.row.Row.{Row}
-use Rattle.js_session.specs.Effects.{Effect, effect_of, is_lasting}
+use Rattle.js_session.specs.Effects.{effect_of, is_lasting}
+use Rattle.js_session.specs.declared.command.Effect.{Effect}
 use Rattle.js_session.specs.declared.command.Effect.TheVariants.{Reads, Peeks, ReLexes, Opens, Rewinds, Commits}
 use Rattle.js_session.specs.Live.{State, after_row, last_live, outcome_of}
 use Rattle.js_session.specs.Report.{IsNotTaken, IsOfEffect, IsReLexed}

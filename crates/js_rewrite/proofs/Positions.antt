@@ -8,7 +8,8 @@ use Rattle.std.proofs.lemmas.Bool.Decides.{nat_tests}
 use Rattle.js_text.specs.declared.source_type.SourceType.{SourceType}
 use Rattle.js_session.specs.declared.command.Command.{Command}
 use Rattle.js_session.specs.declared.row.Row.{Row}
-use Rattle.js_session.specs.Effects.{Effect, closes, closes_mark, effect_of, is_lasting, lasts}
+use Rattle.js_session.specs.Effects.{closes, closes_mark, effect_of, is_lasting, lasts}
+use Rattle.js_session.specs.declared.command.Effect.{Effect}
 use Rattle.js_session.specs.declared.command.Effect.TheVariants.{Reads, Peeks, ReLexes, Opens, Rewinds, Commits}
 use Rattle.js_session.specs.Faults.{HasMarks}
 use Rattle.std.proofs.lemmas.Bool.{and_parts}

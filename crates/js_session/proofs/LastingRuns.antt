@@ -11,7 +11,8 @@ use Rattle.js_grammar.proofs.KindTexts.{goal_reads_spelling}
 use Rattle.js_lexer.specs.Lexer.{IsOnPlaces, token_or_default}
 use Rattle.js_session.specs.declared.command.Command.{Command}
 use Rattle.js_session.specs.declared.row.Row.{Row}
-use Rattle.js_session.specs.Effects.{Effect, closes, closes_mark, effect_of, gives_row, is_lasting, is_step, lasts}
+use Rattle.js_session.specs.Effects.{closes, closes_mark, effect_of, gives_row, is_lasting, is_step, lasts}
+use Rattle.js_session.specs.declared.command.Effect.{Effect}
 use Rattle.js_session.specs.declared.command.Effect.TheVariants.{Reads, Peeks, ReLexes, Opens, Rewinds, Commits}
 use Rattle.js_session.specs.Live.{State, after_row, last_live, nothing_live, outcome_of, state_after, state_after_first}
 use Rattle.js_session.specs.Report.{IsNotTaken, IsOfEffect, IsReLexed, IsRow, Run}

@@ -30,7 +30,8 @@ use Rattle.js_session.specs.declared.command.Command.TheVariants.{JsxAttr}
 use Rattle.js_session.specs.declared.command.Command.TheVariants.{Regex, TemplateTail as TailCommand, JsxName, RAngle}
 use Rattle.js_session.specs.declared.command.Command.TheVariants.{TsLAngle, TsRAngle, Peek, Mark, Rewind, Commit}
 use Rattle.js_session.specs.declared.row.Row.{Row}
-use Rattle.js_session.specs.Effects.{Effect, effect_of, is_lasting}
+use Rattle.js_session.specs.Effects.{effect_of, is_lasting}
+use Rattle.js_session.specs.declared.command.Effect.{Effect}
 use Rattle.js_session.specs.declared.command.Effect.TheVariants.{Reads, Peeks, ReLexes, Opens, Rewinds, Commits}
 use Rattle.js_session.specs.Live.{Live, State, after_row, last_live, outcome_of, place_behind_last, row_of}
 use Rattle.js_session.specs.Moved.{StandBehind, moved_row}

@@ -7,7 +7,8 @@ use Rattle.std.specs.Option.{option_flatten}
 use Rattle.std.specs.Prelude.{IsSome, ◌↔◌, option_to_list, MatchBool}
 use Rattle.js_session.specs.declared.command.Command.{Command}
 use Rattle.js_session.specs.declared.mark.SessionMark.{SessionMark}
-use Rattle.js_session.specs.Effects.{Effect, effect_of, gives_row, closes_mark, opens_mark, is_step, opens_one}
+use Rattle.js_session.specs.Effects.{effect_of, gives_row, closes_mark, opens_mark, is_step, opens_one}
+use Rattle.js_session.specs.declared.command.Effect.{Effect}
 use Rattle.js_session.specs.Effects.{free_after, needed_before, marks_needed}
 use Rattle.js_session.specs.declared.command.Effect.TheVariants.{Reads, Peeks, ReLexes, Opens, Rewinds, Commits}
 use Rattle.js_session.specs.Marks.{marks_in}

@@ -24,7 +24,8 @@ use Rattle.js_grammar.proofs.ReadingsWithin.{DiagnosticWithin, SpanWithin}
 use Rattle.js_lexer.specs.Lexer.{IsOnPlaces, token_or_default}
 use Rattle.js_session.specs.declared.command.Command.{Command}
 use Rattle.js_session.specs.declared.row.Row.{Row}
-use Rattle.js_session.specs.Effects.{Effect, effect_of, is_step, row_effect}
+use Rattle.js_session.specs.Effects.{effect_of, is_step, row_effect}
+use Rattle.js_session.specs.declared.command.Effect.{Effect}
 use Rattle.js_session.specs.declared.command.Effect.TheVariants.{Reads, Peeks, ReLexes, Opens, Rewinds, Commits}
 use Rattle.js_session.specs.Live.{Live, State, after_row, last_live, nothing_live, outcome_of, row_findings}
 use Rattle.js_session.specs.Live.{state_after_first}

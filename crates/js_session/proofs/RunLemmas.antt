@@ -11,7 +11,8 @@ use Rattle.std.specs.Str.{IsUtf8}
 use Rattle.js_text.specs.declared.source_type.SourceType.{SourceType}
 use Rattle.js_session.specs.declared.command.Command.{Command}
 use Rattle.js_session.specs.declared.row.Row.{Row}
-use Rattle.js_session.specs.Effects.{Effect, effect_of, gives_row, closes_mark, opens_mark, is_step, opens_one, closes}
+use Rattle.js_session.specs.Effects.{effect_of, gives_row, closes_mark, opens_mark, is_step, opens_one, closes}
+use Rattle.js_session.specs.declared.command.Effect.{Effect}
 use Rattle.js_session.specs.declared.command.Effect.TheVariants.{Reads, Peeks, ReLexes, Opens, Rewinds, Commits}
 use Rattle.js_session.specs.Faults.{HasMarks}
 use Rattle.js_session.specs.Live.{Live, State, outcome_of, with_re_lexed, after_row, after_mark, rewound_state}

@@ -11,7 +11,8 @@ use Rattle.js_session.specs.declared.command.Command.{Command}
 use Rattle.js_session.specs.declared.command.Command.TheVariants.{Next, Peek}
 use Rattle.js_session.specs.declared.report.Report.{Report}
 use Rattle.js_session.specs.declared.row.Row.{Row}
-use Rattle.js_session.specs.Effects.{Effect, effect_of, row_effect, is_step}
+use Rattle.js_session.specs.Effects.{effect_of, row_effect, is_step}
+use Rattle.js_session.specs.declared.command.Effect.{Effect}
 use Rattle.js_session.specs.declared.command.Effect.TheVariants.{Reads, Peeks, ReLexes, Opens, Rewinds, Commits}
 use Rattle.js_session.specs.Live.{Live, State, outcome_of, last_live, after_row, after_mark, state_after_first}
 use Rattle.js_session.specs.Live.{nothing_live, live, report_live, report_with, row_of}

@@ -5,7 +5,8 @@ use Rattle.js_text.specs.Lists.{with_last}
 use Rattle.js_grammar.specs.Outcome.{Findings, no_findings, joined, Outcome}
 use Rattle.js_kind.specs.TokenParts.{TokenParts}
 use Rattle.js_lexer.specs.Lexer.{token_or_default}
-use Rattle.js_session.specs.Effects.{Effect, effect_of, is_step}
+use Rattle.js_session.specs.Effects.{effect_of, is_step}
+use Rattle.js_session.specs.declared.command.Effect.{Effect}
 use Rattle.js_session.specs.declared.command.Effect.TheVariants.{Reads, Peeks, ReLexes, Opens, Rewinds, Commits}
 use Rattle.js_session.specs.declared.command.Command.{Command}
 use Rattle.js_session.specs.declared.report.Report.{Report}

@@ -17,7 +17,8 @@ use Rattle.js_grammar.specs.declared.goal.Goal.{Goal}
 use Rattle.js_kind.specs.TokenParts.{TokenParts}
 use Rattle.js_kind.specs.declared.kind.Kind.TheVariants.{Eof}
 use Rattle.js_lexer.specs.Lexer.{IsOnPlaces, collected, token_or_default}
-use Rattle.js_session.specs.Effects.{Effect, effect_of, row_effect, is_step, closes}
+use Rattle.js_session.specs.Effects.{effect_of, row_effect, is_step, closes}
+use Rattle.js_session.specs.declared.command.Effect.{Effect}
 use Rattle.js_session.specs.declared.command.Effect.TheVariants.{Reads, Peeks, ReLexes, Opens, Rewinds, Commits}
 use Rattle.js_session.specs.Live.{Live, State, outcome_of, row_findings, last_live, place_behind_last, after_row}
 use Rattle.js_session.specs.Live.{after_mark, state_after_first, nothing_live, live, report_live}

@@ -7,7 +7,8 @@ use Rattle.js_text.specs.Ascii.{line_feed}
 use Rattle.js_kind.specs.TokenParts.{TokenParts}
 use Rattle.js_grammar.specs.Blanks.{space}
 use Rattle.js_lexer.specs.Lexer.{token_or_default}
-use Rattle.js_session.specs.Effects.{Effect, row_effect}
+use Rattle.js_session.specs.Effects.{row_effect}
+use Rattle.js_session.specs.declared.command.Effect.{Effect}
 use Rattle.js_session.specs.declared.command.Effect.TheVariants.{Reads, Peeks, ReLexes, Opens, Rewinds, Commits}
 use Rattle.js_session.specs.declared.report.Report.{Report}
 use Rattle.js_session.specs.declared.row.Row.{Row}

@@ -23,7 +23,8 @@ use Rattle.js_session.specs.SameRows.{SameRow, SameRows}
 use Rattle.js_session.specs.declared.command.Command.{Command}
 use Rattle.js_session.specs.declared.report.Report.{Report}
 use Rattle.js_session.specs.declared.row.Row.{Row}
-use Rattle.js_session.specs.Effects.{Effect, effect_of}
+use Rattle.js_session.specs.Effects.{effect_of}
+use Rattle.js_session.specs.declared.command.Effect.{Effect}
 use Rattle.js_session.specs.declared.command.Effect.TheVariants.{Reads, Peeks, ReLexes, Opens, Rewinds, Commits}
 use Rattle.js_session.specs.Live.{Live, State, after_row, last_live, live, outcome_of, state_after}
 use Rattle.js_session.specs.Live.{state_after_first}

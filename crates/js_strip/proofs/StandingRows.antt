@@ -21,7 +21,8 @@ use Rattle.js_session.specs.declared.command.Command.TheVariants.{JsxName, RAngl
 use Rattle.js_session.specs.declared.command.Command.TheVariants.{Mark, Rewind, Commit}
 use Rattle.js_session.specs.declared.report.Report.{Report}
 use Rattle.js_session.specs.declared.row.Row.{Row}
-use Rattle.js_session.specs.Effects.{Effect, effect_of, is_lasting}
+use Rattle.js_session.specs.Effects.{effect_of, is_lasting}
+use Rattle.js_session.specs.declared.command.Effect.{Effect}
 use Rattle.js_session.specs.declared.command.Effect.TheVariants.{Reads, Peeks, ReLexes, Opens, Rewinds, Commits}
 use Rattle.js_session.specs.Live.{Live, State, after_row, last_live, live, nothing_live, outcome_of, place_behind_last}
 use Rattle.js_session.specs.Live.{state_after, state_after_first}

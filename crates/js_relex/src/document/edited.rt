@@ -13,10 +13,8 @@ use super::{LexDoc, check};
 use crate::drive::{ReadRows, rows_behind, rows_from_start};
 use crate::edit::Edit;
 use crate::fault::RelexFault;
-use crate::gather::{add_copies, add_moved_copies, add_rows, empty_report};
 use crate::join::Joining;
 use crate::kept::count_kept;
-use crate::outlined::OutlinedReport;
 use js_session::{Command, CommandList, RowList, Shift, Steps};
 use js_text::SourceText;
 use std::alloc::{AllocError, Global};
@@ -240,47 +238,11 @@ fn joined_index(prepared: &Prepared) -> Option<usize>
     }
 }
 
-/// The document of the edited text, with copies of the old rows.
-fn put_together(
-    alloc: Global,
-    old: &LexDoc,
-    edit: &Edit<'_>,
-    prepared: Prepared,
-) -> Result<LexDoc, AllocError>
-    requires { Prepares old.now edit.now.start edit.now.end edit.now.text.now prepared }
-    ensures { IfOk result (Relexes old.now edit.now.start edit.now.end edit.now.text.now prepared.commands
-        0 (length prepared.rows)) }
-{
-    let rows = old.report.report().rows.as_slice();
-    let behind = count_taken_over(&prepared);
-    let joined = joined_index(&prepared);
-    let shift = shift_of(edit);
-    let Prepared {
-        text,
-        commands,
-        kept,
-        rows: read,
-        joined: _,
-    } = prepared;
-    let mut report = empty_report(alloc);
-    add_copies(alloc, &mut report, &rows[..kept])?;
-    add_rows(&mut report, read)?;
-    add_moved_copies(alloc, &mut report, &rows[rows.len() - behind..], &shift)?;
-    let outlined = OutlinedReport::new(alloc, report)?;
-    Ok(LexDoc {
-        text,
-        source_type: old.source_type,
-        commands,
-        report: outlined,
-        kept,
-        joined,
-    })
-}
-
 /// The document of a text with an edit made, and of other commands. Rows that end four bytes or more before the edit,
 /// and have the command that the new list has there, are kept. Behind the edit the text is read up to the first row
 /// that an old one is, each offset moved, with the same commands behind it; the old rows behind that one are taken
-/// over. So many steps fewer are made than there are rows. The old document stays as it is.
+/// over. So many steps fewer are made than there are rows. The old document stays as it is: it is copied, and its copy
+/// given away.
 pub fn relex<L: Ledger>(
     alloc: Global,
     old: &LexDoc,
@@ -305,13 +267,13 @@ pub fn relex<L: Ledger>(
     ensures at_most { (steps.new ≡ steps.old) ⊎ TicksAtMost old.now edit.now.start edit.now.end edit.now.text.now
         commands.now steps.old steps.new }
 {
-    let prepared = match prepare(alloc, old, edit, commands, steps) {
-        Ok(prepared) => prepared,
-        Err(fault) => return Err(fault),
+    let copy = match old.copy(alloc) {
+        Ok(copy) => copy,
+        Err(_) => return Err(RelexFault::Memory),
     };
-    match put_together(alloc, old, edit, prepared) {
+    match copy.into_relexed(alloc, edit, commands, steps) {
         Ok(document) => Ok(document),
-        Err(_) => Err(RelexFault::Memory),
+        Err(not) => Err(not.fault),
     }
 }
 

@@ -1,9 +1,0 @@
-use Rattle.std.proofs.Common.{map, take}
-use Rattle.js_session.specs.Shifted.{shifted_row}
-use Rattle.js_relex.specs.Documents.{AddsRows}
-use Rattle.js_relex.proofs.gather.add_moved_copies.Given as goal
-
--- So many rows were added, moved.
-abbrev pub invariant-loop-row : goal.invariant-loop-row
-invariant-loop-row l =
-    AddsRows l.initial.report (map (shifted_row l.shift.from l.shift.to) (take l.row-index l.rows)) l.report
