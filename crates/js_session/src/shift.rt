@@ -4,11 +4,10 @@ ghost use Rattle.std.specs.Prelude.{◌≡◌, ◌≤◌, map, IfOk};
 ghost use Rattle.std.specs.List.{All};
 ghost use Rattle.std.specs.Option.{SomeIff};
 ghost use Rattle.js_session.specs.Shifted.{shifted, shifted_comment, shifted_diagnostic, shifted_row, shifted_span};
-ghost use Rattle.js_session.specs.Shifted.{shifted_token, with_span, FitsShifted, OfComment, OfDiagnostic, OfSpan};
+ghost use Rattle.js_session.specs.Shifted.{with_span, FitsShifted, OfComment, OfDiagnostic, OfSpan};
 ghost use Rattle.js_session.specs.Shifted.{ShiftFits};
 
 use crate::row::Row;
-use js_kind::Token;
 use js_text::{Comment, CommentList, Diagnostic, DiagnosticList, Span, SpanList};
 use std::alloc::{AllocError, Global};
 
@@ -52,61 +51,6 @@ impl Shift {
         place.saturating_sub(self.from).checked_add(self.to)
     }
 
-    /// The span, moved. None where one of its ends is no `u32` then.
-    pub fn span(&self, span: Span) -> Option<Span>
-        ensures { SomeIff result (OfSpan (FitsShifted self.now.from self.now.to) span)
-            (shifted_span self.now.from self.now.to span) }
-    {
-        if !self.span_fits(span) {
-            return None;
-        }
-        let mut moved = span;
-        self.move_span(&mut moved);
-        Some(moved)
-    }
-
-    /// The token, moved. None where one of its ends is no `u32` then.
-    pub fn token(&self, token: Token) -> Option<Token>
-        requires { token.start ≤ token.end }
-        ensures { SomeIff result
-            (FitsShifted self.now.from self.now.to token.start × FitsShifted self.now.from self.now.to token.end)
-            (shifted_token self.now.from self.now.to token) }
-    {
-        if !self.span_fits(token.span()) {
-            return None;
-        }
-        let mut moved = token;
-        self.move_token(&mut moved);
-        Some(moved)
-    }
-
-    /// The diagnostic, with its span moved, if it has one. None where an end of the span is no `u32` then.
-    pub fn diagnostic(&self, diagnostic: Diagnostic) -> Option<Diagnostic>
-        ensures { SomeIff result (OfDiagnostic (FitsShifted self.now.from self.now.to) diagnostic)
-            (shifted_diagnostic self.now.from self.now.to diagnostic) }
-    {
-        if !self.diagnostic_fits(diagnostic) {
-            return None;
-        }
-        let mut moved = diagnostic;
-        self.move_diagnostic(&mut moved);
-        Some(moved)
-    }
-
-    /// The comment, with its span moved, and the place that it is attached to. None where one of these is no `u32`
-    /// then.
-    pub fn comment(&self, comment: Comment) -> Option<Comment>
-        ensures { SomeIff result (OfComment (FitsShifted self.now.from self.now.to) comment)
-            (shifted_comment self.now.from self.now.to comment) }
-    {
-        if !self.comment_fits(comment) {
-            return None;
-        }
-        let mut moved = comment;
-        self.move_comment(&mut moved);
-        Some(moved)
-    }
-
     /// Copies of the diagnostics, moved.
     pub fn moved_diagnostics(
         &self,
@@ -120,23 +64,6 @@ impl Shift {
         moved.extend_from_slice(diagnostics)?;
         self.move_diagnostics(&mut moved);
         Ok(moved)
-    }
-
-    /// Copies of the diagnostics, moved. None where a place of one is no `u32` then.
-    pub fn diagnostics(
-        &self,
-        alloc: Global,
-        diagnostics: &[Diagnostic],
-    ) -> Result<Option<DiagnosticList>, AllocError>
-        ensures { IfOk result (λ found.
-            SomeIff found (All (OfDiagnostic (FitsShifted self.now.from self.now.to)) diagnostics.now)
-            (map (shifted_diagnostic self.now.from self.now.to) diagnostics.now)) }
-    {
-        if !self.diagnostics_fit(diagnostics) {
-            return Ok(None);
-        }
-        let moved = self.moved_diagnostics(alloc, diagnostics)?;
-        Ok(Some(moved))
     }
 
     /// Copies of the comments, moved.
@@ -154,23 +81,6 @@ impl Shift {
         Ok(moved)
     }
 
-    /// Copies of the comments, moved. None where a place of one is no `u32` then.
-    pub fn comments(
-        &self,
-        alloc: Global,
-        comments: &[Comment],
-    ) -> Result<Option<CommentList>, AllocError>
-        ensures { IfOk result (λ found.
-            SomeIff found (All (OfComment (FitsShifted self.now.from self.now.to)) comments.now)
-            (map (shifted_comment self.now.from self.now.to) comments.now)) }
-    {
-        if !self.comments_fit(comments) {
-            return Ok(None);
-        }
-        let moved = self.moved_comments(alloc, comments)?;
-        Ok(Some(moved))
-    }
-
     /// Copies of the spans, moved.
     pub fn moved_spans(&self, alloc: Global, spans: &[Span]) -> Result<SpanList, AllocError>
         requires { All (OfSpan (FitsShifted self.now.from self.now.to)) spans.now }
@@ -182,19 +92,6 @@ impl Shift {
         Ok(moved)
     }
 
-    /// Copies of the spans, moved. None where an end of one is no `u32` then.
-    pub fn spans(&self, alloc: Global, spans: &[Span]) -> Result<Option<SpanList>, AllocError>
-        ensures { IfOk result (λ found.
-            SomeIff found (All (OfSpan (FitsShifted self.now.from self.now.to)) spans.now)
-            (map (shifted_span self.now.from self.now.to) spans.now)) }
-    {
-        if !self.spans_fit(spans) {
-            return Ok(None);
-        }
-        let moved = self.moved_spans(alloc, spans)?;
-        Ok(Some(moved))
-    }
-
     /// A copy of the row, moved.
     pub fn moved_row(&self, alloc: Global, row: &Row) -> Result<Row, AllocError>
         requires fits { ShiftFits self.now.from self.now.to row.now }
@@ -204,19 +101,5 @@ impl Shift {
         let mut moved = row.copy(alloc)?;
         self.move_row(&mut moved);
         Ok(moved)
-    }
-
-    /// A copy of the row, moved. None where a place of it is no `u32` then.
-    pub fn row(&self, alloc: Global, row: &Row) -> Result<Option<Row>, AllocError>
-        requires { row.now.token.start ≤ row.now.token.end }
-        ensures { IfOk result (λ found.
-            SomeIff found (ShiftFits self.now.from self.now.to row.now)
-            (shifted_row self.now.from self.now.to row.now)) }
-    {
-        if !self.fits(row) {
-            return Ok(None);
-        }
-        let moved = self.moved_row(alloc, row)?;
-        Ok(Some(moved))
     }
 }

@@ -21,13 +21,13 @@ impl Shift {
             .is_some()
     }
 
-    pub(crate) fn span_fits(&self, span: Span) -> bool
+    fn span_fits(&self, span: Span) -> bool
         ensures { IsTrue result ↔ OfSpan (FitsShifted self.now.from self.now.to) span }
     {
         self.place_fits(span.start) && self.place_fits(span.end)
     }
 
-    pub(crate) fn diagnostic_fits(&self, diagnostic: Diagnostic) -> bool
+    fn diagnostic_fits(&self, diagnostic: Diagnostic) -> bool
         ensures { IsTrue result ↔ OfDiagnostic (FitsShifted self.now.from self.now.to) diagnostic }
     {
         match diagnostic.span() {
@@ -36,7 +36,7 @@ impl Shift {
         }
     }
 
-    pub(crate) fn comment_fits(&self, comment: Comment) -> bool
+    fn comment_fits(&self, comment: Comment) -> bool
         ensures { IsTrue result ↔ OfComment (FitsShifted self.now.from self.now.to) comment }
     {
         self.span_fits(comment.span) && self.place_fits(comment.attached_to)
@@ -60,7 +60,7 @@ impl Shift {
         }
     }
 
-    pub(crate) fn diagnostics_fit(&self, diagnostics: &[Diagnostic]) -> bool
+    fn diagnostics_fit(&self, diagnostics: &[Diagnostic]) -> bool
         ensures { IsTrue result ↔ All (OfDiagnostic (FitsShifted self.now.from self.now.to)) diagnostics.now }
     {
         for diagnostic in diagnostics {
@@ -71,7 +71,7 @@ impl Shift {
         true
     }
 
-    pub(crate) fn comments_fit(&self, comments: &[Comment]) -> bool
+    fn comments_fit(&self, comments: &[Comment]) -> bool
         ensures { IsTrue result ↔ All (OfComment (FitsShifted self.now.from self.now.to)) comments.now }
     {
         for comment in comments {
@@ -82,7 +82,7 @@ impl Shift {
         true
     }
 
-    pub(crate) fn spans_fit(&self, spans: &[Span]) -> bool
+    fn spans_fit(&self, spans: &[Span]) -> bool
         ensures { IsTrue result ↔ All (OfSpan (FitsShifted self.now.from self.now.to)) spans.now }
     {
         for span in spans {

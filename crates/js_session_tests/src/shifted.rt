@@ -3,11 +3,8 @@
 ghost use Rattle.std.specs.Prelude.{◌≡◌, ◌≤◌, true, IfSome};
 ghost use Rattle.js_session.specs.Shifted.{ShiftFits};
 
-use js_kind::{Kind, Token};
 use js_session::{Command, Row, RowList, Shift, lex_session};
-use js_text::{
-    Comment, CommentContent, CommentKind, CommentPosition, Diagnostic, SourceType, Span,
-};
+use js_text::{Diagnostic, SourceType, Span};
 use std::alloc::Global;
 use std::test::Fail;
 
@@ -69,7 +66,7 @@ fn first_row(alloc: Global) -> Option<Row>
 
 fn moved_copy(alloc: Global) -> Option<Row> {
     let row = first_row(alloc)?;
-    Shift { from: 0, to: 5 }.row(alloc, &row).ok()?
+    Shift { from: 0, to: 5 }.moved_row(alloc, &row).ok()
 }
 
 fn moved_in_its_place(alloc: Global) -> Option<Row> {
@@ -130,17 +127,11 @@ fn a_row_is_put_between_others(rt: HostRuntime) -> Result<(), Fail> {
 /// A move by five bytes of what stands behind two.
 const BY_FIVE: Shift = Shift { from: 2, to: 7 };
 
-/// A stretch, and where it stands once it is moved.
-const STRETCH: Span = Span { start: 3, end: 6 };
-
-const MOVED: Span = Span { start: 8, end: 11 };
-
 #[test]
 fn places_are_moved(rt: HostRuntime) {
     for (place, moved) in [(0, 7), (2, 7), (3, 8), (100, 105)] {
         assert_eq!(rt; BY_FIVE.place(place), Some(moved));
     }
-    assert_eq!(rt; BY_FIVE.span(STRETCH), Some(MOVED));
 }
 
 // What is behind the last place of a `u32` is no place.
@@ -152,45 +143,4 @@ fn places_that_do_not_fit(rt: HostRuntime) {
     };
     assert_eq!(rt; far.place(0), Some(u32::MAX));
     assert_eq!(rt; far.place(1), None);
-}
-
-#[test]
-fn a_token_is_moved(rt: HostRuntime) {
-    let token = BY_FIVE.token(Token::new(Kind::Let, STRETCH, true));
-    assert_eq!(rt; token, Some(Token::new(Kind::Let, MOVED, true)));
-}
-
-#[test]
-fn diagnostics_are_moved(rt: HostRuntime) -> Result<(), Fail> {
-    let here = Diagnostic::UnexpectedEnd { span: STRETCH };
-    let moved = Diagnostic::UnexpectedEnd { span: MOVED };
-    assert_eq!(rt; BY_FIVE.diagnostic(here), Some(moved));
-    let list = BY_FIVE.diagnostics(rt.alloc(), &[here])?.ok_or("no list")?;
-    assert_eq!(rt; list.as_slice(), [moved].as_slice());
-    Ok(())
-}
-
-/// A comment there.
-fn comment(span: Span, attached_to: u32) -> Comment {
-    Comment {
-        span,
-        kind: CommentKind::SingleLineBlock,
-        position: CommentPosition::Leading,
-        attached_to,
-        preceded: true,
-        followed: false,
-        content: CommentContent::None,
-    }
-}
-
-#[test]
-fn comments_are_moved(rt: HostRuntime) -> Result<(), Fail> {
-    let here = comment(STRETCH, 9);
-    let moved = comment(MOVED, 14);
-    assert_eq!(rt; BY_FIVE.comment(here), Some(moved));
-    let list = BY_FIVE.comments(rt.alloc(), &[here])?.ok_or("no list")?;
-    assert_eq!(rt; list.as_slice(), [moved].as_slice());
-    let list = BY_FIVE.spans(rt.alloc(), &[STRETCH])?.ok_or("no list")?;
-    assert_eq!(rt; list.as_slice(), [MOVED].as_slice());
-    Ok(())
 }
