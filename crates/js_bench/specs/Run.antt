@@ -7,10 +7,10 @@ use Rattle.std.specs.IoError.{error_kind}
 use Rattle.std.specs.Fmt.{decimal}
 use Rattle.std.specs.List.{flat_map}
 use Rattle.js_text.specs.declared.source_type.SourceType.{SourceType}
-use Rattle.js_lex_tool.specs.Outside.{InputState, OutputState}
-use Rattle.js_lex_tool.specs.Status.{number, status_without_words}
-use Rattle.js_lex_tool.specs.Status.Status.{Usage}
-use Rattle.js_lex_tool.specs.TextRun.{RunsMaker}
+use Rattle.js_process.specs.Outside.{InputState, OutputState}
+use Rattle.js_process.specs.Status.{number, status_without_words}
+use Rattle.js_process.specs.Status.Status.{Usage}
+use Rattle.js_process.specs.TextRun.{RunsMaker}
 use Rattle.js_bench.specs.Counts.{IsPassOver}
 use Rattle.js_bench.specs.Words.{bench_line_of}
 use Rattle.js_bench.specs.declared.pass.PassCounts.{PassCounts}

@@ -6,7 +6,7 @@ ghost use Rattle.js_bench.specs.Words.{bench_line_of};
 
 use crate::pass::{PassCounts, count_pass};
 use crate::words::{BenchLine, read_bench_words};
-use js_lex_tool::{ByteIn, ByteOut, TextMaker, text_run};
+use js_process::{ByteIn, ByteOut, TextMaker, text_run};
 use std::alloc::{AllocError, Global};
 use std::fmt::Write;
 

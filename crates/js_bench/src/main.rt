@@ -7,7 +7,7 @@ mod pass;
 mod program;
 mod words;
 
-use js_lex_tool::{StdIn, StdOut, program_words};
+use js_process::{StdIn, StdOut, program_words};
 use program::bench_program;
 use std::io;
 use std::process::ExitCode;

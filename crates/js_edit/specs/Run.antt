@@ -4,10 +4,10 @@ use Rattle.std.specs.declared.alloc.Global.{Global}
 use Rattle.std.specs.declared.io.Error.{Error}
 use Rattle.std.specs.IoError.{error_kind}
 use Rattle.std.specs.Fmt.{decimal}
-use Rattle.js_lex_tool.specs.Outside.{InputState, OutputState}
+use Rattle.js_process.specs.Outside.{InputState, OutputState}
 use Rattle.js_lex_tool.specs.ReportText.{report_text_of}
-use Rattle.js_lex_tool.specs.Status.{number, status_without_words}
-use Rattle.js_lex_tool.specs.TextRun.{RunsMaker}
+use Rattle.js_process.specs.Status.{number, status_without_words}
+use Rattle.js_process.specs.TextRun.{RunsMaker}
 use Rattle.js_relex.specs.Documents.{Cause, DocState, EditCause, IsDocumentOf, Spares, edited}
 use Rattle.js_relex.specs.declared.fault.RelexFault.{RelexFault}
 use Rattle.js_relex.specs.declared.fault.RelexFault.TheVariants.{BadEdit, Overlong, BadCommand, Memory}

@@ -1,13 +1,14 @@
 //! A run of the program: from words and bytes to a status and a text.
 
 ghost use Rattle.std.specs.Prelude.{◌≡◌, ◌<◌, ◌⊎◌, ◌++◌, string_bytes, IfOk, IfErr, OnOk};
-ghost use Rattle.js_lex_tool.specs.TextRun.{RunsMaker};
+ghost use Rattle.js_process.specs.TextRun.{RunsMaker};
 ghost use Rattle.js_relex.specs.declared.fault.RelexFault.{RelexFault};
 ghost use Rattle.js_edit.specs.Run.{IsEditText, IsEdited, IsRefused, document_text, fault_line, joined_line};
 ghost use Rattle.js_edit.specs.Words.{edit_words_of};
 
 use crate::words::{EditLine, read_edit_words};
-use js_lex_tool::{ByteIn, ByteOut, TextMaker, report_text, text_run};
+use js_lex_tool::report_text;
+use js_process::{ByteIn, ByteOut, TextMaker, text_run};
 use js_relex::{LexDoc, RelexFault, relex};
 use js_session::Steps;
 use std::alloc::{AllocError, Global};

@@ -6,7 +6,7 @@ mod edit;
 mod program;
 mod words;
 
-use js_lex_tool::{StdIn, StdOut, program_words};
+use js_process::{StdIn, StdOut, program_words};
 use program::edit_program;
 use std::io;
 use std::process::ExitCode;

@@ -1,14 +1,14 @@
 //! The program, from its words on.
 
 ghost use Rattle.std.specs.Process.{exit_status};
-ghost use Rattle.js_lex_tool.specs.Exit.{Tells};
-ghost use Rattle.js_lex_tool.specs.Programs.{js_edit, js_edit_usage};
-ghost use Rattle.js_lex_tool.specs.Status.{line_for};
+ghost use Rattle.js_process.specs.Exit.{Tells};
+ghost use Rattle.js_process.specs.Programs.{js_edit, js_edit_usage};
+ghost use Rattle.js_process.specs.Status.{line_for};
 ghost use Rattle.js_edit.specs.Run.{RunsWords};
 
 use crate::edit::edit_run;
-use js_lex_tool::programs::{EDIT, EDIT_USAGE};
-use js_lex_tool::{ByteIn, ByteOut, end_program, status_without_words};
+use js_process::programs::{EDIT, EDIT_USAGE};
+use js_process::{ByteIn, ByteOut, end_program, status_without_words};
 use std::alloc::Global;
 use std::io;
 use std::process::ExitCode;

@@ -6,16 +6,17 @@ use Rattle.js_session.specs.Faults.{IsReadable, HasMarks, Cause, FirstWithoutMar
 use Rattle.js_session.specs.declared.fault.LexFault.{LexFault}
 use Rattle.js_session.specs.declared.fault.LexFault.TheVariants.{Overlong, NotUtf8 as NotUtf8Fault}
 use Rattle.js_session.specs.declared.fault.LexFault.TheVariants.{NoMark as NoMarkFault, Memory}
-use Rattle.js_lex_tool.specs.Outside.{InTime, OutputState}
+use Rattle.js_process.specs.Outside.{InTime, OutputState}
+use Rattle.js_process.specs.Reads.{most_bytes}
+use Rattle.js_process.specs.Status.{CountsFault, number, IsOneOf, HasPassed, Tests}
+use Rattle.js_process.specs.Status.Status.{OutOfMemory, WriteFailed, NotUtf8, NoMark}
+use Rattle.js_process.specs.Writing.{Writes}
+use Rattle.js_process.proofs.Courses.{InTime-refl}
 use Rattle.js_session.specs.declared.report.Report.{Report}
-use Rattle.js_lex_tool.specs.Run.{most_bytes, status_of, CountsFault, Answers, HasReport, IsRunOver, Writes}
-use Rattle.js_lex_tool.specs.Run.{listed_commands}
-use Rattle.js_lex_tool.specs.Status.{number, IsOneOf, HasPassed, Tests}
-use Rattle.js_lex_tool.specs.Status.Status.{OutOfMemory, WriteFailed, NotUtf8, NoMark}
+use Rattle.js_lex_tool.specs.Run.{status_of, Answers, HasReport, IsRunOver, listed_commands}
 use Rattle.js_lex_tool.specs.declared.tool.Ran.{Ran}
 use Rattle.js_lex_tool.specs.declared.tool.ToolOutcome.{ToolOutcome}
 use Rattle.js_lex_tool.specs.declared.words.CommandLine.{CommandLine}
-use Rattle.js_lex_tool.proofs.Courses.{InTime-refl}
 
 -- the outcome of a run that has no report
 abbrev pub without_run : ℕ → ToolOutcome

@@ -21,12 +21,14 @@ use Rattle.js_auto.proofs.ChosenLemmas.{one_list}
 use Rattle.js_rewrite.specs.Faults.{RewriteCause, first_bad, first_diagnosed, may_rewrite}
 use Rattle.js_rewrite.specs.declared.fault.RewriteFault.{RewriteFault}
 use Rattle.js_rewrite.specs.declared.fault.RewriteFault.TheVariants as rewrite_fault
+use Rattle.js_process.specs.Outside.{InTime, OutputState}
+use Rattle.js_process.specs.Reads.{most_bytes}
+use Rattle.js_process.specs.Status.{CountsFault, number, IsOneOf, HasPassed, Tests}
+use Rattle.js_process.specs.Status.Status.{OutOfMemory, WriteFailed, NotUtf8, NoMark, Diagnosed}
+use Rattle.js_process.specs.Writing.{Writes}
+use Rattle.js_process.proofs.Courses.{InTime-refl}
 use Rattle.js_lex_tool.specs.Anew.{KeepsRows, lexes_anew, text_anew}
-use Rattle.js_lex_tool.specs.Outside.{InTime, OutputState}
-use Rattle.js_lex_tool.specs.Run.{AnswersAnew, AreMeant, CountsFault, IsDiagnosed, IsRunOver, Writes, most_bytes}
-use Rattle.js_lex_tool.specs.Run.{status_anew, status_of}
-use Rattle.js_lex_tool.specs.Status.{number, IsOneOf, HasPassed, Tests}
-use Rattle.js_lex_tool.specs.Status.Status.{OutOfMemory, WriteFailed, NotUtf8, NoMark, Diagnosed}
+use Rattle.js_lex_tool.specs.Run.{AnswersAnew, AreMeant, IsDiagnosed, IsRunOver, status_anew, status_of}
 use Rattle.js_lex_tool.specs.Words.{MayRewrite}
 use Rattle.js_lex_tool.specs.declared.tool.Ran.{Ran}
 use Rattle.js_lex_tool.specs.declared.tool.ToolOutcome.{ToolOutcome}
@@ -34,7 +36,6 @@ use Rattle.js_lex_tool.specs.declared.words.Commands.{Commands}
 use Rattle.js_lex_tool.specs.declared.words.Commands.TheVariants.{Listed, All, Auto}
 use Rattle.js_lex_tool.specs.declared.words.Rewriting.{Rewriting}
 use Rattle.js_lex_tool.proofs.Answering.{report_over, without_run}
-use Rattle.js_lex_tool.proofs.Courses.{InTime-refl}
 
 one_more : (m n : ℕ) → m ≡ n → 1 + m ≡ suc n
 one_more m n e = omega (arith, e)

@@ -3,18 +3,19 @@ use Rattle.std.proofs.Common.{◌≡◌, ◌≢◌, ℕ, ◌≤◌, ◌⊎◌, L
 use Rattle.std.proofs.Common.{Option, None, Some, append-nil, length-append}
 use Rattle.std.specs.Io.KnownBytes.{Consumes, IsAtEnd}
 use Rattle.std.proofs.KnownBytes.{Consumes-nil}
+use Rattle.js_process.specs.Outside.{InputState, OutputState, Rises}
+use Rattle.js_process.specs.Reads.{CanBeRead}
+use Rattle.js_process.specs.Status.{number, later_than, IsOneOf}
+use Rattle.js_process.specs.Status.Status.{Done, OutOfMemory, Usage, ReadFailed, WriteFailed, TooLong, NotUtf8, NoMark}
+use Rattle.js_process.specs.Status.Status.{Diagnosed}
+use Rattle.js_process.proofs.Courses.{InTime-refl}
 use Rattle.js_lex_tool.specs.Generated.{generated, summary_of}
-use Rattle.js_lex_tool.specs.Outside.{InputState, OutputState, Rises}
 use Rattle.js_lex_tool.specs.ReportText.{report_text_of}
-use Rattle.js_lex_tool.specs.Run.{Answers, AnswersAnew, CanBeRead, CanRun, ReadsInput, RunsTask, RunsTool, lexes_lines}
-use Rattle.js_lex_tool.specs.Status.{number, later_than, IsOneOf}
-use Rattle.js_lex_tool.specs.Status.Status.{Done, OutOfMemory, Usage, ReadFailed, WriteFailed, TooLong, NotUtf8, NoMark}
-use Rattle.js_lex_tool.specs.Status.Status.{Diagnosed}
+use Rattle.js_lex_tool.specs.Run.{Answers, AnswersAnew, CanRun, ReadsInput, RunsTask, RunsTool, lexes_lines}
 use Rattle.js_lex_tool.specs.declared.tool.ToolOutcome.{ToolOutcome}
 use Rattle.js_lex_tool.specs.declared.words.Task.{Task}
 use Rattle.js_lex_tool.specs.declared.words.Task.TheVariants.{Lex, Generate, WriteAnew}
 use Rattle.js_lex_tool.proofs.Answering.{without_run, answers_at_memory}
-use Rattle.js_lex_tool.proofs.Courses.{InTime-refl}
 
 -- What was taken of known bytes up to the end is all of them.
 pub all_taken : (bytes taken : List ℕ) (new : Option (List ℕ)) → Consumes (Some bytes) new taken → IsAtEnd new

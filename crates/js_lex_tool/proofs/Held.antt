@@ -6,21 +6,21 @@ use Rattle.std.specs.Prelude.{Result, Ok, Err, Some, OnOk, OnErr, IsErrOf}
 use Rattle.std.specs.Io.KnownBytes.{Appends}
 use Rattle.std.proofs.lemmas.List.{at_drop_more, drop_more}
 use Rattle.std.proofs.KnownBytes.{Appends-nil, Appends-trans}
-use Rattle.js_lex_tool.specs.Outside.{OutputState, WritesAll, WritesPrefix, Rises, StaysOpen, Closes, InTime}
-use Rattle.js_lex_tool.specs.declared.outside.Course.TheVariants.{Over, Late}
-use Rattle.js_lex_tool.specs.Run.{CountsFault}
+use Rattle.js_process.specs.Outside.{OutputState, WritesAll, WritesPrefix, Rises, StaysOpen, Closes, InTime}
+use Rattle.js_process.specs.Status.{CountsFault, number}
+use Rattle.js_process.specs.Status.Status.{WriteFailed}
+use Rattle.js_process.specs.Writing.{status_of_fault, WritesOn, StopsIn, WritesUnflushed}
+use Rattle.js_process.specs.declared.outside.Course.TheVariants.{Over, Late}
+use Rattle.js_process.specs.declared.write_all.WriteFault.{WriteFault}
+use Rattle.js_process.specs.declared.write_all.WriteFault.TheVariants.{Failed, Memory}
+use Rattle.js_process.proofs.Courses.{InTime-refl}
+use Rattle.js_process.proofs.Pieces.{begins_with_more, begins_behind}
 use Rattle.std.specs.List.{AllByRecursion, flat_map}
 use Rattle.js_kind.specs.TokenParts.{TokenParts}
 use Rattle.js_session.specs.Report.{IsSliceOnPlaces}
 use Rattle.js_session.specs.declared.row.Row.{Row}
 use Rattle.js_lex_tool.specs.ReportText.{row_line, row_lines}
-use Rattle.js_lex_tool.specs.Held.{status_of_fault, WritesOn, StopsIn, WritesUnflushed, HandsOn, EndsWriting}
-use Rattle.js_lex_tool.specs.Status.{number}
-use Rattle.js_lex_tool.specs.Status.Status.{WriteFailed}
-use Rattle.js_lex_tool.specs.declared.write_all.WriteFault.{WriteFault}
-use Rattle.js_lex_tool.specs.declared.write_all.WriteFault.TheVariants.{Failed, Memory}
-use Rattle.js_lex_tool.proofs.Courses.{InTime-refl}
-use Rattle.js_lex_tool.proofs.Pieces.{begins_with_more, begins_behind}
+use Rattle.js_lex_tool.specs.Held.{HandsOn, EndsWriting}
 
 writes_nothing : (s : OutputState) → WritesOn [] s s
 writes_nothing s = record { written = Appends-nil s.written; faults = refl; stays_open = λ h. h }
@@ -31,29 +31,6 @@ writes_both xs ys old mid new a b = record {
   written = Appends-trans old.written mid.written new.written xs ys a.written b.written;
   faults = b.faults ∙ a.faults;
   stays_open = λ h. b.stays_open (a.stays_open h);
-}
-
-open_no_more : (old new : OutputState) → Closes old.course new.course → InTime old.course new.course
-open_no_more old new closes is_open late = absurd (let both : Some Over ≡ Some Late = sym (closes is_open) ∙ late in cc)
-
--- What the writing of a piece comes to.
-pub unflushed : {A : Type 0} (r : Result A WriteFault) (text : List ℕ) (old new : OutputState)
-    → OnOk r (Appends old.written new.written text) → OnErr r (WritesPrefix old new text)
-    → (IsErrOf r Failed → Rises old.faults new.faults)
-    → ((¬ (IsErrOf r Failed)) → new.faults ≡ old.faults)
-    → OnOk r (StaysOpen old.course new.course) → OnErr r (Closes old.course new.course)
-    → WritesUnflushed text old new r
-unflushed (Ok a) text old new all prefix fault no_fault stays closes =
-    record { written = all; faults = no_fault (λ h. absurd cc); stays_open = stays }
-unflushed (Err Failed) text old new all prefix fault no_fault stays closes = record {
-  written = prefix;
-  faults = record { rises = λ _. fault refl; stays = λ other. absurd (other refl) };
-  in_time = open_no_more old new closes;
-}
-unflushed (Err Memory) text old new all prefix fault no_fault stays closes = record {
-  written = prefix;
-  faults = record { rises = λ e. absurd (omega (arith, e)); stays = λ _. no_fault (λ h. absurd cc) };
-  in_time = open_no_more old new closes;
 }
 
 -- Where there is no memory for more of a text, nothing more is written.

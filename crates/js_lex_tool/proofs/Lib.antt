@@ -2,11 +2,8 @@ pub mod Answering
 pub mod AnsweringAnew
 pub mod Completing
 pub mod Counts
-pub mod Courses
 pub mod Generating
 pub mod Held
 pub mod Lines
-pub mod Pieces
 pub mod Plain
-pub mod Rooms
 pub mod Stars

@@ -3,9 +3,9 @@ use Rattle.std.specs.Prelude.{◌≡◌, ℕ, Option, Result, Ok, Err, Vec, Stri
 use Rattle.std.specs.declared.alloc.Global.{Global}
 use Rattle.std.specs.declared.io.Error.{Error}
 use Rattle.std.specs.IoError.{error_kind}
-use Rattle.js_lex_tool.specs.Outside.{InputState, OutputState}
+use Rattle.js_process.specs.Outside.{InputState, OutputState}
+use Rattle.js_process.specs.Status.{number, status_without_words}
 use Rattle.js_lex_tool.specs.Run.{RunsTool}
-use Rattle.js_lex_tool.specs.Status.{number, status_without_words}
 use Rattle.js_lex_tool.specs.Words.{task_of}
 use Rattle.js_lex_tool.specs.declared.tool.Ran.{Ran}
 

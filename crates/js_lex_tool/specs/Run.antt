@@ -17,13 +17,15 @@ use Rattle.js_text.specs.declared.source_type.SourceType.TheVariants.{Module}
 use Rattle.js_rewrite.specs.Faults.{first_diagnosed}
 use Rattle.js_rewrite.specs.declared.fault.RewriteFault.{RewriteFault}
 use Rattle.js_rewrite.specs.declared.fault.RewriteFault.TheVariants as rewrite_fault
+use Rattle.js_process.specs.Outside.{InputState, OutputState, Rises, WritesPrefix, InTime}
+use Rattle.js_process.specs.Reads.{CanBeRead, most_bytes}
+use Rattle.js_process.specs.Status.{CountsFault, Status, number, order, IsOneOf, HasPassed, Tests}
+use Rattle.js_process.specs.Status.Status.{Done, OutOfMemory, Usage, ReadFailed, WriteFailed, TooLong, NotUtf8, NoMark}
+use Rattle.js_process.specs.Status.Status.{Diagnosed}
+use Rattle.js_process.specs.Writing.{Writes}
 use Rattle.js_lex_tool.specs.Anew.{KeepsRows, lexes_anew, text_anew}
 use Rattle.js_lex_tool.specs.Generated.{generated, summary_of}
-use Rattle.js_lex_tool.specs.Outside.{InputState, OutputState, Rises, WritesAll, WritesPrefix, InTime}
 use Rattle.js_lex_tool.specs.ReportText.{report_text_of}
-use Rattle.js_lex_tool.specs.Status.{Status, number, order, IsOneOf, HasPassed, Tests}
-use Rattle.js_lex_tool.specs.Status.Status.{Done, OutOfMemory, Usage, ReadFailed, WriteFailed, TooLong, NotUtf8, NoMark}
-use Rattle.js_lex_tool.specs.Status.Status.{Diagnosed}
 use Rattle.js_lex_tool.specs.declared.tool.Ran.{Ran}
 use Rattle.js_lex_tool.specs.declared.tool.ToolOutcome.{ToolOutcome}
 use Rattle.js_lex_tool.specs.declared.words.CommandLine.{CommandLine}
@@ -32,10 +34,6 @@ use Rattle.js_lex_tool.specs.declared.words.Commands.TheVariants.{Listed, All, A
 use Rattle.js_lex_tool.specs.declared.words.Rewriting.{Rewriting}
 use Rattle.js_lex_tool.specs.declared.words.Task.{Task}
 use Rattle.js_lex_tool.specs.declared.words.Task.TheVariants.{Lex, Generate, WriteAnew}
-
--- the most bytes that an input may have
-abbrev pub most_bytes : ℕ
-most_bytes = 67108864
 
 -- the status of a run whose session has this fault
 abbrev pub status_of : LexFault → Status
@@ -51,11 +49,6 @@ status_anew (rewrite_fault.NotUtf8 at) = NotUtf8
 status_anew (rewrite_fault.BadCommand index) = Usage
 status_anew (rewrite_fault.Diagnosed index) = Diagnosed
 status_anew rewrite_fault.Memory = OutOfMemory
-
--- a count of faults rises exactly in a run with this status
-pub record CountsFault (status : Status) (n before now : ℕ) : Type 0 where
-  pub rises : n ≡ number status → Rises before now
-  pub stays : n ≢ number status → now ≡ before
 
 -- the commands that the words list: none with `all` or `auto`, which close no mark
 abbrev pub listed_commands : Commands → List Command
@@ -79,11 +72,6 @@ pub record IsRunOver (line : CommandLine) (bytes : List ℕ) (ran : Ran) : Type 
   pub tokens : ran.tokens ≡ line.tokens
   pub commands : AreMeant line.commands ran.source ran.source_type ran.tokens ran.commands ran.report
   pub report : ReportOf ran.source ran.source_type ran.tokens ran.commands ran.report
-
--- What was written of a text: a beginning of it, and all of it, flushed, where the run is done.
-pub record Writes (text : List ℕ) (old new : OutputState) (n : ℕ) : Type 0 where
-  pub partly : WritesPrefix old new text
-  pub whole : n ≡ number Done → WritesAll old new text
 
 -- the report of a session over the bytes, with the command line's source type, tokens and commands
 abbrev pub HasReport : CommandLine → List ℕ → Report → Type 0
@@ -195,13 +183,6 @@ RunsTask (Lex line) input input_new output output_new outcome =
 RunsTask (Generate lines) input input_new output output_new outcome =
     RunsGenerated lines input input_new output output_new outcome
 RunsTask (WriteAnew r) input input_new output output_new outcome = RunsAnew r input input_new output output_new outcome
-
--- An input can be read: the bytes that are left of it are known, few enough, and UTF-8.
-pub record CanBeRead (left : Option (List ℕ)) : Type 0 where
-  pub bytes : List ℕ
-  pub left_is : left ≡ Some bytes
-  pub few : length bytes ≤ most_bytes
-  pub utf8 : IsUtf8 bytes
 
 -- A command line can be run: its commands close no mark too many, and the input can be read.
 pub record CanRunLine (line : CommandLine) (left : Option (List ℕ)) : Type 0 where

@@ -1,7 +1,7 @@
 -- The faults that `js_lex` prints.
-use Rattle.js_lex_tool.specs.Status.{Status}
-use Rattle.js_lex_tool.specs.Status.Status.{OutOfMemory, Usage, ReadFailed, WriteFailed, TooLong, NotUtf8, NoMark}
-use Rattle.js_lex_tool.specs.Status.Status.{Diagnosed, NoArguments}
+use Rattle.js_process.specs.Status.{Status}
+use Rattle.js_process.specs.Status.Status.{OutOfMemory, Usage, ReadFailed, WriteFailed, TooLong, NotUtf8, NoMark}
+use Rattle.js_process.specs.Status.Status.{Diagnosed, NoArguments}
 use Rattle.js_lex_tool.specs.declared.stop.StopFault.{StopFault}
 use Rattle.js_lex_tool.specs.declared.stop.StopFault.TheVariants as fault
 

@@ -4,21 +4,22 @@ ghost use Rattle.std.specs.Prelude.{◌≡◌, ◌≤◌, ◌⊎◌, Some, None,
 ghost use Rattle.js_session.specs.Faults.{SourceCause};
 ghost use Rattle.js_session.specs.Report.{ReportOf};
 ghost use Rattle.js_rewrite.specs.Faults.{RewriteCause, first_bad};
+ghost use Rattle.js_process.specs.Outside.{InTime};
+ghost use Rattle.js_process.specs.Reads.{most_bytes};
+ghost use Rattle.js_process.specs.Status.{CountsFault, number, HasPassed};
+ghost use Rattle.js_process.specs.Status.Status.{OutOfMemory, WriteFailed, NoMark};
+ghost use Rattle.js_process.specs.Writing.{Writes};
 ghost use Rattle.js_lex_tool.specs.Anew.{KeepsRows, text_anew};
-ghost use Rattle.js_lex_tool.specs.Outside.{InTime};
-ghost use Rattle.js_lex_tool.specs.Run.{AnswersAnew, AreMeant, CountsFault, RunsAnew, Writes, most_bytes, status_anew};
-ghost use Rattle.js_lex_tool.specs.Status.{number, HasPassed};
-ghost use Rattle.js_lex_tool.specs.Status.Status.{OutOfMemory, WriteFailed, NoMark};
+ghost use Rattle.js_lex_tool.specs.Run.{AnswersAnew, AreMeant, RunsAnew, status_anew};
 ghost use Rattle.js_lex_tool.specs.Words.{MayRewrite};
 
-use crate::outside::{ByteIn, ByteOut};
-use crate::read_all::{MOST_BYTES, ReadFault, read_to_end};
-use crate::status::{DIAGNOSED, MEMORY, NOT_UTF8, READ_FAILED, TOO_LONG, USAGE};
 use crate::tool::{
     Ran, ToolOutcome, outcome_behind, outcome_without_run, run_all, run_auto, status_of,
 };
 use crate::words::{Commands, Rewrite, Rewriting};
-use crate::write_all::write_status;
+use js_process::status::{DIAGNOSED, MEMORY, NOT_UTF8, READ_FAILED, TOO_LONG, USAGE};
+use js_process::write_all::write_status;
+use js_process::{ByteIn, ByteOut, MOST_BYTES, ReadFault, read_to_end};
 use js_rewrite::RewriteFault;
 use js_session::{Command, CommandList, LexFault, Report};
 use js_squeeze::{Squeezed, squeeze};

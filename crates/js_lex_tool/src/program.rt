@@ -3,11 +3,9 @@
 ghost use Rattle.std.specs.Process.{exit_status};
 ghost use Rattle.js_lex_tool.specs.Program.{RunsWords};
 
-use crate::arguments::{program_words, status_without_words};
-use crate::outside::{ByteIn, ByteOut};
-use crate::std_streams::{StdIn, StdOut};
 use crate::stop::end_lex;
 use crate::tool::lex_tool_run;
+use js_process::{ByteIn, ByteOut, StdIn, StdOut, program_words, status_without_words};
 use std::alloc::Global;
 use std::io;
 use std::process::ExitCode;

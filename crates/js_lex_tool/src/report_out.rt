@@ -3,16 +3,17 @@
 ghost use Rattle.std.specs.Prelude.{◌≡◌, ◌≤◌, ◌++◌, [], length, string_bytes};
 ghost use Rattle.std.specs.List.{AllByRecursion, flat_map};
 ghost use Rattle.js_session.specs.Report.{IsSliceOnPlaces};
-ghost use Rattle.js_lex_tool.specs.Held.{status_of_fault, HandsOn, EndsWriting};
+ghost use Rattle.js_process.specs.Status.{number};
+ghost use Rattle.js_process.specs.Writing.{status_of_fault};
+ghost use Rattle.js_lex_tool.specs.Held.{HandsOn, EndsWriting};
 ghost use Rattle.js_lex_tool.specs.ReportText.{found_lines, report_text_of, row_line, row_lines, token_line, token_lines};
-ghost use Rattle.js_lex_tool.specs.Status.{number};
 
 use crate::line::Line;
-use crate::outside::ByteOut;
 use crate::report::{push_found, push_row, push_token};
-use crate::status::{MEMORY, WRITE_FAILED};
-use crate::write_all::{WriteFault, write_piece, write_status};
 use js_kind::Token;
+use js_process::ByteOut;
+use js_process::status::{MEMORY, WRITE_FAILED};
+use js_process::write_all::{WriteFault, write_piece, write_status};
 use js_session::{Report, Row};
 use std::alloc::Global;
 

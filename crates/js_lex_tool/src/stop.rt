@@ -2,15 +2,15 @@
 
 ghost use Rattle.std.specs.Prelude.{◌≡◌, ◌==◌, find, option_map};
 ghost use Rattle.std.specs.Process.{exit_status};
-ghost use Rattle.js_lex_tool.specs.Status.{failures, number};
+ghost use Rattle.js_process.specs.Status.{failures, number};
 ghost use Rattle.js_lex_tool.specs.Stop.{status_of_stop};
 
-use crate::outside::ByteOut;
-use crate::status::{
+use js_process::ByteOut;
+use js_process::status::{
     DIAGNOSED, MEMORY, NO_ARGUMENTS, NO_MARK, NOT_UTF8, PROGRAM, READ_FAILED, TOO_LONG, USAGE,
     USAGE_LINE, WRITE_FAILED,
 };
-use crate::write_all::write_piece;
+use js_process::write_all::write_piece;
 use std::fmt::{self, Write};
 use std::process::ExitCode;
 use thiserror::Error;

@@ -1,5 +1,5 @@
-//! Tests of js_lex_tool, by its public calls. They stand in a crate of their own, since a crate's functions are proved
-//! again with its tests.
+//! Tests of js_lex_tool, and of js_process below it, by public calls. They stand in a crate of their own, since a
+//! crate's functions are proved again with its tests.
 #![tactic(auto)]
 
 #[cfg(test)]

@@ -19,7 +19,7 @@ mod step;
 mod tokens;
 mod tree;
 
-use js_lex_tool::{StdIn, StdOut};
+use js_process::{StdIn, StdOut};
 use program::parse_program;
 use std::io;
 use std::process::ExitCode;

@@ -2,18 +2,18 @@
 
 ghost use Rattle.std.specs.Prelude.{Some};
 ghost use Rattle.std.specs.Process.{exit_status};
-ghost use Rattle.js_lex_tool.specs.Exit.{Tells};
-ghost use Rattle.js_lex_tool.specs.Programs.{js_parse_example, js_parse_example_usage};
-ghost use Rattle.js_lex_tool.specs.Status.{line_for};
-ghost use Rattle.js_lex_tool.specs.TextRun.{RunsMaker};
+ghost use Rattle.js_process.specs.Exit.{Tells};
+ghost use Rattle.js_process.specs.Programs.{js_parse_example, js_parse_example_usage};
+ghost use Rattle.js_process.specs.Status.{line_for};
+ghost use Rattle.js_process.specs.TextRun.{RunsMaker};
 ghost use Rattle.js_parse_example.specs.declared.program.Parse.{Parse};
 
 use crate::parse::parse_text;
 use js_cursor::Cursor;
 use js_kind::RuntimeLexerConfig;
-use js_lex_tool::programs::{PARSE_EXAMPLE, PARSE_EXAMPLE_USAGE};
-use js_lex_tool::{ByteIn, ByteOut, TextMaker, end_program, text_run};
 use js_lexer::Lexer;
+use js_process::programs::{PARSE_EXAMPLE, PARSE_EXAMPLE_USAGE};
+use js_process::{ByteIn, ByteOut, TextMaker, end_program, text_run};
 use js_text::SourceType;
 use std::alloc::{AllocError, Global};
 use std::process::ExitCode;

@@ -1,11 +1,11 @@
 //! The program `js_usage`: prints, of each program, the line that it prints where its arguments are not valid.
 #![tactic(auto)]
 
-use js_lex_tool::line_for;
-use js_lex_tool::programs::{
+use js_process::line_for;
+use js_process::programs::{
     BENCH, BENCH_USAGE, EDIT, EDIT_USAGE, PARSE_EXAMPLE, PARSE_EXAMPLE_USAGE,
 };
-use js_lex_tool::status::{PROGRAM, USAGE, USAGE_LINE};
+use js_process::status::{PROGRAM, USAGE, USAGE_LINE};
 use std::io;
 
 /// The programs: their names, and their usage.

@@ -1,5 +1,5 @@
 use Rattle.std.proofs.Common.{Some, sym, subst, refl}
-use Rattle.js_lex_tool.specs.TextRun.{RunsMaker}
+use Rattle.js_process.specs.TextRun.{RunsMaker}
 use Rattle.js_parse_example.specs.declared.program.Parse.{Parse}
 use Rattle.js_parse_example.proofs.program.parse_program.Goals as goal
 

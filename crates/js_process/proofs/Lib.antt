@@ -1,0 +1,4 @@
+pub mod Courses
+pub mod Pieces
+pub mod Rooms
+pub mod Writing
