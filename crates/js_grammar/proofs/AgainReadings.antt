@@ -5,27 +5,21 @@ use Rattle.std.specs.Prelude.{codes, if◌then◌else◌}
 use Rattle.std.proofs.lemmas.Bool.{eqb-true}
 use Rattle.std.proofs.lemmas.List.{append_cancel_right}
 use Rattle.unicode_ident.proofs.Computing.{unicode_ident}
-use Rattle.js_text.specs.Ascii.{hyphen_minus, less_than_sign}
+use Rattle.js_text.specs.Ascii.{hyphen_minus}
 use Rattle.js_text.specs.Characters.{before_first, begins, from_first, is_identifier_part}
 use Rattle.js_text.specs.SourceType.{is_module}
 use Rattle.js_text.proofs.TextLemmas.{length-from_first}
 use Rattle.js_text.specs.declared.comment.CommentKind.{CommentKind}
-use Rattle.js_text.specs.declared.comment.CommentKind.TheVariants.{Line, SingleLineBlock, MultiLineBlock, HtmlOpen}
-use Rattle.js_text.specs.declared.comment.CommentKind.TheVariants.{HtmlClose}
-use Rattle.js_text.specs.declared.diagnostic.Diagnostic.TheVariants.{UnexpectedJsxEnd}
 use Rattle.js_text.specs.declared.source_type.SourceType.{SourceType}
 use Rattle.js_kind.specs.declared.kind.Kind.{Kind}
-use Rattle.js_kind.specs.declared.kind.Kind.TheVariants.{Eof, JSXText, LAngle, LCurly, Str}
+use Rattle.js_kind.specs.declared.kind.Kind.TheVariants.{Str}
 use Rattle.js_grammar.specs.Gap.{Piece, is_prefix, piece}
-use Rattle.js_grammar.specs.Jsx.{begins_child, ends_jsx_name, ends_jsx_text, jsx_child_reading}
-use Rattle.js_grammar.specs.Jsx.{jsx_string_before, jsx_string_reading, jsx_text_before}
-use Rattle.js_grammar.specs.Jsx.{jsx_text_reading, reported}
-use Rattle.js_grammar.specs.NumberReads.{empty_span}
-use Rattle.js_grammar.specs.Reading.{Reading, read_up_to, size_of}
+use Rattle.js_grammar.specs.Jsx.{ends_jsx_name}
+use Rattle.js_grammar.specs.Jsx.{jsx_string_before, jsx_string_reading}
+use Rattle.js_grammar.specs.Reading.{Reading, size_of}
 use Rattle.js_grammar.specs.StringItems.{is_quote, item_reports, string_text}
 use Rattle.js_grammar.specs.Template.{IsPart, template_items, template_part_reading}
 use Rattle.js_grammar.specs.TokenText.{unescaped_value}
-use Rattle.js_grammar.specs.UnicodeEscape.{left_curly_bracket}
 use Rattle.js_grammar.proofs.Ahead.{BeginAlike, nothing_before}
 use Rattle.js_grammar.proofs.EscapeCases.{first_is}
 use Rattle.js_grammar.proofs.GoalsAhead.{up_to_same}
@@ -36,11 +30,9 @@ use Rattle.js_grammar.proofs.StringSteps.{part_unterminated, part_with_substitut
 use Rattle.js_grammar.proofs.TemplateLaws.{substitution_is_read, tail_is_read, part_here}
 use Rattle.js_grammar.proofs.Tests.{prefix_is}
 use Rattle.js_grammar.proofs.QuotedAnywhere.{part_anywhere}
-use Rattle.js_grammar.specs.Blanks.{stand_in}
 use Rattle.js_grammar.specs.Blanks.{kind_of}
-use Rattle.js_grammar.proofs.Without.{Without, comment_begins, dropped, kept}
-use Rattle.js_grammar.proofs.Without.{FailsMarks, begins_comment, mark_fails, no_close, same}
-use Rattle.js_grammar.proofs.Without.{true_is_not_false}
+use Rattle.js_grammar.proofs.Without.{comment_begins}
+use Rattle.js_grammar.proofs.Without.{begins_comment, no_close, same}
 
 -- A part of a template that a mark ends, by its items.
 ended_part : (opening : ℕ) (closing xs ys : List ℕ) → (template_items (xs ++ ys)).rest ≡ closing ++ ys
@@ -127,13 +119,6 @@ false_when a false h e = refl
 abbrev pub PassesBlanks : (ℕ → Bool) → Type 0
 PassesBlanks p = (p 32 ≡ true) × (p 10 ≡ true)
 
-blank_passes : (p : ℕ → Bool) → PassesBlanks p → (kind : CommentKind) → p (stand_in kind) ≡ true
-blank_passes p passes Line = passes.0
-blank_passes p passes SingleLineBlock = passes.0
-blank_passes p passes MultiLineBlock = passes.1
-blank_passes p passes HtmlOpen = passes.0
-blank_passes p passes HtmlClose = passes.0
-
 -- what begins with a character that passes is left whole
 first_whole : (p : ℕ → Bool) (c : ℕ) (cs : List ℕ) → p c ≡ true → from_first p (c ∷ cs) ≡ c ∷ cs
 first_whole p c cs e = rw e refl
@@ -146,14 +131,6 @@ whole_first p c cs e = by_test (p c) refl
     by_test false is =
         let stands : from_first p cs ≡ c ∷ cs = rw is at e in
         absurd (omega (arith, length-from_first p cs, ap length stands))
-
-pub stops_there : (t : SourceType) (p : ℕ → Bool) → PassesBlanks p → (ys zs : List ℕ) → Without t ys zs
-    → from_first p ys ≡ ys → from_first p zs ≡ zs
-stops_there t p passes ys zs same e = e
-stops_there t p passes ys zs (kept c {ys = ys'} {zs = zs'} w) e =
-    first_whole p c zs' (whole_first p c ys' e)
-stops_there t p passes ys zs (dropped ended x kind {zs = zs'} here is w) e =
-    first_whole p (stand_in kind) zs' (blank_passes p passes kind)
 
 -- Where the first character that passes stands, in both texts.
 pub record StopsBoth (p : ℕ → Bool) (xs ys zs : List ℕ) : Type 0 where
@@ -187,21 +164,6 @@ stops_both p (x ∷ xs) ys zs stops e = by_test (stops_both p xs ys zs stops) (p
           before = rw is (ap (λ t. x ∷ t) later.before);
           behind = later.behind;
         }
-
--- a test that no character passes with which a comment begins stops before the same
-pub stops_before : (t : SourceType) (p : ℕ → Bool) → FailsMarks p → (ys zs : List ℕ) → Without t ys zs
-    → from_first p ys ≡ ys → from_first p zs ≡ zs
-stops_before t p fails ys zs same e = e
-stops_before t p fails ys zs (kept c {ys = ys'} {zs = zs'} w) e = first_whole p c zs' (whole_first p c ys' e)
-stops_before t p fails [] zs (dropped ended x kind here is w) e = absurd (let no : None ≡ Some x = here in cc)
-stops_before t p fails (c ∷ cs) zs (dropped ended x kind here is w) e =
-    true_is_not_false (p c) (whole_first p c cs e)
-    (mark_fails p fails (c ∷ cs) (comment_begins t ended (c ∷ cs) x kind here is))
-
--- A name of JSX.
-name_blanks : PassesBlanks ends_jsx_name
-unfolding is_identifier_part unicode_ident
-name_blanks = (refl, refl)
 
 pub hyphen_goes_on : ends_jsx_name hyphen_minus ≡ false
 unfolding is_identifier_part unicode_ident
@@ -305,56 +267,3 @@ module_begins t ended (c ∷ cs) x kind module_is here is = (cs, ap (λ d. d ∷
                 (subst (λ d. piece t ended (d ∷ cs) ≡ Some x) (eqb-true c 45 minus) here)))
           ]
         ]
-
--- A child of JSX, before a comment of a module: it is a mark.
-abbrev ChildStays : List ℕ → List ℕ → List ℕ → Type 0
-ChildStays xs ys zs = jsx_child_reading (xs ++ zs) ≡ record (jsx_child_reading (xs ++ ys)) { rest = zs }
-
-mark_stays : (kind : Kind) (x : ℕ) (xs ys zs : List ℕ) → xs ++ ys ≡ ys
-    → read_up_to kind (x ∷ (xs ++ zs)) (xs ++ zs) ≡ record (read_up_to kind (x ∷ (xs ++ ys)) (xs ++ ys)) { rest = zs }
-mark_stays kind x xs ys zs left =
-    let none : xs ≡ [] = nothing_before xs ys (sym left) in
-    subst (λ (t : List ℕ). read_up_to kind (x ∷ (t ++ zs)) (t ++ zs)
-    ≡ record (read_up_to kind (x ∷ (t ++ ys)) (t ++ ys)) { rest = zs }) (sym none) (up_to_same kind (x ∷ []) ys zs)
-
--- text does not end before a `/`
-no_text_before : {A : Type 0} (text behind cs : List ℕ) → (jsx_text_before text behind).rest ≡ 47 ∷ cs
-    → (jsx_text_before text behind).diagnostics ≡ [] → A
-no_text_before text [] cs e clean = absurd (let no : [] ≡ 47 ∷ cs = e in cc)
-no_text_before text (d ∷ ds) cs e clean = by_child (begins_child d) refl e clean
-  where
-    by_child : {A : Type 0} (b : Bool) → begins_child d ≡ b
-        → (if b then read_up_to JSXText text (d ∷ ds)
-        else reported Eof text (d ∷ ds)
-        (UnexpectedJsxEnd d (empty_span (size_of (read_up_to Eof text (d ∷ ds)))))).rest ≡ 47 ∷ cs
-        → (if b then read_up_to JSXText text (d ∷ ds)
-        else reported Eof text (d ∷ ds)
-        (UnexpectedJsxEnd d (empty_span (size_of (read_up_to Eof text (d ∷ ds)))))).diagnostics ≡ [] → A
-    by_child true is f g =
-        let slash : d ≡ 47 = cc in
-        absurd (let no : true ≡ false = sym is ∙ ap begins_child slash in cc)
-    by_child false is f g = not_empty [] _ g
-
-child_before : (xs ys zs cs : List ℕ) → ys ≡ 47 ∷ cs → (jsx_child_reading (xs ++ ys)).diagnostics ≡ []
-    → (jsx_child_reading (xs ++ ys)).rest ≡ ys → ChildStays xs ys zs
-child_before [] ys zs cs e clean left =
-    let here : jsx_child_reading ys ≡ jsx_text_reading (47 ∷ cs) = ap jsx_child_reading e in
-    no_text_before (47 ∷ cs) (from_first ends_jsx_text (47 ∷ cs)) cs
-    (sym (ap (λ (r : Reading). r.rest) here) ∙ left ∙ e)
-    (sym (ap (λ (r : Reading). r.diagnostics) here) ∙ clean)
-child_before (x ∷ xs) ys zs cs e clean left = by_mark (x == less_than_sign) (x == left_curly_bracket) clean left
-  where
-    by_mark : (a b : Bool)
-        → (if a then read_up_to LAngle (x ∷ (xs ++ ys)) (xs ++ ys) else
-        if b then read_up_to LCurly (x ∷ (xs ++ ys)) (xs ++ ys) else jsx_text_reading (x ∷ (xs ++ ys))).diagnostics
-        ≡ []
-        → (if a then read_up_to LAngle (x ∷ (xs ++ ys)) (xs ++ ys) else
-        if b then read_up_to LCurly (x ∷ (xs ++ ys)) (xs ++ ys) else jsx_text_reading (x ∷ (xs ++ ys))).rest ≡ ys
-        → (if a then read_up_to LAngle (x ∷ (xs ++ zs)) (xs ++ zs) else
-        if b then read_up_to LCurly (x ∷ (xs ++ zs)) (xs ++ zs) else jsx_text_reading (x ∷ (xs ++ zs)))
-        ≡ record (if a then read_up_to LAngle (x ∷ (xs ++ ys)) (xs ++ ys) else
-        if b then read_up_to LCurly (x ∷ (xs ++ ys)) (xs ++ ys) else jsx_text_reading (x ∷ (xs ++ ys))) { rest = zs }
-    by_mark true b f g = mark_stays LAngle x xs ys zs g
-    by_mark false true f g = mark_stays LCurly x xs ys zs g
-    by_mark false false f g =
-        no_text_before (x ∷ (xs ++ ys)) (from_first ends_jsx_text (x ∷ (xs ++ ys))) cs (g ∙ e) f

@@ -2,10 +2,9 @@
 use Rattle.std.proofs.Common.{◌≡◌, ℕ, Bool, true, false, ◌||◌, ◌&&◌, List, [], ◌∷◌, ◌++◌, refl, sym, ◌∙◌, ap}
 use Rattle.std.proofs.Common.{drop, subst, append_assoc, Option, Some, None}
 use Rattle.std.specs.Prelude.{codes, if◌then◌else◌}
-use Rattle.std.specs.List.{list_all, list_any}
+use Rattle.std.specs.List.{list_any}
 use Rattle.std.specs.Option.{option_map}
 use Rattle.js_text.specs.Characters.{is_irregular_whitespace, is_line_terminator, is_white_space}
-use Rattle.js_text.specs.SourceType.{is_module}
 use Rattle.js_text.specs.declared.comment.CommentKind.{CommentKind}
 use Rattle.js_text.specs.declared.comment.CommentKind.TheVariants.{Line, SingleLineBlock, MultiLineBlock, HtmlOpen}
 use Rattle.js_text.specs.declared.comment.CommentKind.TheVariants.{HtmlClose}
@@ -21,7 +20,6 @@ use Rattle.js_grammar.proofs.PieceLemmas.{piece-line_terminator, piece-white}
 use Rattle.js_grammar.proofs.Reported.{append_nil, whole_gap_piece_of}
 use Rattle.js_grammar.specs.Blanks.{stand_in}
 use Rattle.js_grammar.specs.Blanks.{kind_of}
-use Rattle.js_grammar.proofs.Without.{Without, is_no_blank, kept, prefix_from}
 
 -- A line ends in a comment of the kind.
 abbrev pub is_multi_line : CommentKind → Bool
@@ -270,51 +268,3 @@ pieces_blanked t ended here (x ∷ xs) has left rest g =
           (subst (λ h. Pieces (whole_gap_piece t) x.line_has_ended h (blanked_pieces xs rest) has rest)
           (sym stands.left) (pieces_blanked t x.line_has_ended x.rest xs has left rest g.1)),
     )
-
--- a choice that gives no piece
-none_chosen : (b : Bool) (y : Piece) (o : Option Piece) → (if b then Some y else o) ≡ None → (b ≡ false) × (o ≡ None)
-none_chosen true y o e = absurd (let no : Some y ≡ None = e in cc)
-none_chosen false y o e = (refl, e)
-
-false_when : (a b : Bool) → (b ≡ true → a ≡ true) → a ≡ false → b ≡ false
-false_when a true h e = absurd (let no : true ≡ false = sym (h refl) ∙ e in cc)
-false_when a false h e = refl
-
-with_flag : (a b c : Bool) → (b ≡ true → a ≡ true) → (a && c) ≡ false → (b && c) ≡ false
-with_flag a true c h e = rw (h refl) at e
-with_flag a false c h e = refl
-
--- Where no piece begins with a character, and no block comment without an end does, none begins where comments behind
--- it are replaced.
-pub none_stays : (t : SourceType) (has : Bool) (c : ℕ) (ys zs : List ℕ) → Without t ys zs
-    → whole_gap_piece t has (c ∷ ys) ≡ None → is_prefix (codes "/*") (c ∷ ys) ≡ false
-    → whole_gap_piece t has (c ∷ zs) ≡ None
-none_stays t has c ys zs w none no_block =
-    let from : (mark : List ℕ) → list_all is_no_blank mark ≡ true → is_prefix mark (c ∷ zs) ≡ true
-    → is_prefix mark (c ∷ ys) ≡ true =
-    λ mark plain e. (prefix_from t mark (c ∷ ys) (c ∷ zs) plain (kept c w) e).here in
-    let reported = none_chosen (is_reported t has (c ∷ ys)) (line_comment reported_comment has (c ∷ ys)) _ none in
-    let white = none_chosen (is_white_space c) (one_character white_space has c ys) _ reported.1 in
-    let line = none_chosen (is_line_terminator c) (one_character line_terminator true c ys) _ white.1 in
-    let slashes =
-    none_chosen (is_prefix (codes "//") (c ∷ ys)) (line_comment single_line_comment has (c ∷ ys)) _ line.1 in
-    let behind = rw no_block at slashes.1 in
-    let opened =
-    none_chosen (is_prefix (codes "<!--") (c ∷ ys) && has_html_comments t)
-    (line_comment html_open_comment has (c ∷ ys)) _ behind in
-    let close =
-    none_chosen (is_prefix (codes "-->") (c ∷ ys) && (has_html_comments t && has))
-    (line_comment html_close_comment has (c ∷ ys)) None opened.1 in
-    rw (
-      with_flag (is_prefix (codes "<!--") (c ∷ ys)) (is_prefix (codes "<!--") (c ∷ zs)) (is_module t && has)
-          (from (codes "<!--") refl) reported.0,
-      white.0,
-      line.0,
-      false_when (is_prefix (codes "//") (c ∷ ys)) (is_prefix (codes "//") (c ∷ zs)) (from (codes "//") refl)
-          slashes.0,
-      false_when (is_prefix (codes "/*") (c ∷ ys)) (is_prefix (codes "/*") (c ∷ zs)) (from (codes "/*") refl) no_block,
-      with_flag (is_prefix (codes "<!--") (c ∷ ys)) (is_prefix (codes "<!--") (c ∷ zs)) (has_html_comments t)
-          (from (codes "<!--") refl) opened.0,
-      with_flag (is_prefix (codes "-->") (c ∷ ys)) (is_prefix (codes "-->") (c ∷ zs)) (has_html_comments t && has)
-          (from (codes "-->") refl) close.0,
-    ) refl

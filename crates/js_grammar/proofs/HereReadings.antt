@@ -50,9 +50,6 @@ IsLongest t line_has_ended text ps (Some p) =
     IsIn p ps × (is_spelled t line_has_ended text p ≡ true)
     × (list_all (λ q. not (is_spelled t line_has_ended text q) || nat_le (length q.text) (length p.text)) ps ≡ true)
 
-no_longer : (n m : ℕ) → nat_le n m ≡ true → nat_lt m n ≡ false
-no_longer n m e = grind (arith, nat_tests)
-
 at_most : (n m : ℕ) → n ≤ m → nat_le n m ≡ true
 at_most n m e = grind (arith, nat_tests)
 

@@ -8,7 +8,6 @@ pub mod Clean
 pub mod CleanReadings
 pub mod EscapeCases
 pub mod EscapesAhead
-pub mod ExpressionReadings
 pub mod ExpressionsAhead
 pub mod Flags
 pub mod GapEnds

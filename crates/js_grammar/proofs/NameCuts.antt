@@ -173,10 +173,6 @@ nothing_continues (c ∷ cs) e = by_class (is_identifier_part c) (c == backslash
     by_class true false p m = let no : Some (ordinary_item c) ≡ None = rw (m, p) at e in absurd (cc)
     by_class false false p m = rw (p, m) refl
 
-or_false : (a b : Bool) → (a || b) ≡ false → (a ≡ false) × (b ≡ false)
-or_false true b e = absurd (cc)
-or_false false b e = (refl, e)
-
 -- a fault or none
 no_fault : (item : NameItem) (items : List NameItem) → has_fault (item ∷ items) ≡ false
     → (item.fault ≡ None) × (has_fault items ≡ false)

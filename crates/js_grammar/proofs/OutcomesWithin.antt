@@ -31,7 +31,7 @@ use Rattle.js_grammar.specs.Gap.{piece}
 use Rattle.js_grammar.specs.Gap.{Cut, block_comment, cut_behind, one_character, whole_gap_piece}
 use Rattle.js_grammar.specs.Gap.PieceKind.{white_space, line_terminator, single_line_comment, multi_line_comment}
 use Rattle.js_grammar.specs.Gap.PieceKind.{html_open_comment, html_close_comment, reported_comment}
-use Rattle.js_grammar.specs.GapItems.{Found, Gap, Item, comment, irregular, irregular_of, line_end, token_before}
+use Rattle.js_grammar.specs.GapItems.{Gap, Item, comment, irregular, irregular_of, line_end, token_before}
 use Rattle.js_grammar.specs.Goals.{GoalReads, ReadsAngle, ReadsAttributeString, ReadsAttributeValue, ReadsBehindGap}
 use Rattle.js_grammar.specs.Goals.{ReadsFrom, ReadsJsxChild, ReadsJsxName, ReadsPart, ReadsPlainly}
 use Rattle.js_grammar.specs.Goals.{line_has_ended_behind, next_part, with_gap}
@@ -39,8 +39,8 @@ use Rattle.js_grammar.specs.Goals.ReadsAttributeValue.{string, plain}
 use Rattle.js_grammar.specs.Goals.ReadsPlainly.{hashbang, behind_gap}
 use Rattle.js_grammar.specs.Jsx.{jsx_child_reading, jsx_name_reading, jsx_string_reading}
 use Rattle.js_grammar.specs.Outcome.{Findings, Outcome, gap_deferred, gap_diagnostics, gap_findings, html_deferred}
-use Rattle.js_grammar.specs.Outcome.{joined, no_findings, outcome_at, piece_deferred, piece_diagnostics}
-use Rattle.js_grammar.specs.PieceItems.{found_comment, gap_of, is_line_comment, items_from, items_of, items_of_kind}
+use Rattle.js_grammar.specs.Outcome.{joined, outcome_at, piece_deferred, piece_diagnostics}
+use Rattle.js_grammar.specs.PieceItems.{gap_of, is_line_comment, items_from, items_of, items_of_kind}
 use Rattle.js_grammar.specs.PieceItems.{is_separator, listed_if, piece_length, piece_span}
 use Rattle.js_grammar.specs.Reading.{Reading, moved_diagnostic, moved_diagnostics, moved_regex, place_behind}
 use Rattle.js_grammar.specs.RegularExpression.{regular_expression_reading}

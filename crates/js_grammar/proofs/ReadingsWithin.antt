@@ -1,5 +1,5 @@
 -- What is reported of what is read at the beginning of a text lies within that text, and so does the end of a pattern.
-use Rattle.std.proofs.Common.{◌≡◌, ℕ, zero, suc, ◌+◌, ◌-◌, ◌≤◌, Bool, true, false, List, [], ◌∷◌, ◌++◌, ◌==◌, length}
+use Rattle.std.proofs.Common.{◌≡◌, ℕ, zero, ◌+◌, ◌-◌, ◌≤◌, Bool, true, false, List, [], ◌∷◌, ◌++◌, ◌==◌, length}
 use Rattle.std.proofs.Common.{take, drop, refl, sym, ◌∙◌, ap, subst, arith, length-append, Option, None, Some, inl, inr}
 use Rattle.std.specs.Prelude.{IfSome, codes, if◌then◌else◌}
 use Rattle.std.specs.List.{AllByRecursion}
@@ -9,17 +9,13 @@ use Rattle.std.proofs.lemmas.Bool.{eqb-true}
 use Rattle.std.proofs.lemmas.List.{take-append-drop}
 use Rattle.std.proofs.lemmas.Str.{encodes-append, length-le-encodes}
 use Rattle.js_text.specs.Ascii.{grave_accent, greater_than_sign, hyphen_minus, less_than_sign, number_sign, slash}
-use Rattle.js_text.specs.Characters.{begins, before_first, from_first, is_line_terminator, is_identifier_start}
+use Rattle.js_text.specs.Characters.{begins, before_first, from_first, is_identifier_start}
 use Rattle.js_text.specs.Characters.{is_identifier_part}
 use Rattle.js_text.specs.Diagnostic.{diagnostic_span}
 use Rattle.js_text.specs.RegExpFlags.{flag_of_letter}
 use Rattle.js_text.specs.declared.diagnostic.Diagnostic.{Diagnostic}
-use Rattle.js_text.specs.declared.diagnostic.Diagnostic.TheVariants.{InvalidCharacter, UnexpectedEnd}
-use Rattle.js_text.specs.declared.diagnostic.Diagnostic.TheVariants.{FileAppearsToBeBinary, InvalidNumberEnd}
-use Rattle.js_text.specs.declared.diagnostic.Diagnostic.TheVariants.{UnterminatedString, UnterminatedMultiLineComment}
-use Rattle.js_text.specs.declared.diagnostic.Diagnostic.TheVariants.{UnterminatedRegExp, UnicodeEscapeSequence}
-use Rattle.js_text.specs.declared.diagnostic.Diagnostic.TheVariants.{InvalidEscapeSequence, RegExpFlag, RegExpFlagTwice}
-use Rattle.js_text.specs.declared.diagnostic.Diagnostic.TheVariants.{UnexpectedJsxEnd, HtmlCommentInModule}
+use Rattle.js_text.specs.declared.diagnostic.Diagnostic.TheVariants.{RegExpFlag, RegExpFlagTwice}
+use Rattle.js_text.specs.declared.diagnostic.Diagnostic.TheVariants.{UnexpectedJsxEnd}
 use Rattle.js_text.specs.declared.reg_exp_flags.RegExpFlags.{RegExpFlags}
 use Rattle.js_text.specs.declared.reg_exp_flags.RegexInfo.{RegexInfo}
 use Rattle.js_text.specs.declared.source_type.SourceType.{SourceType}
@@ -28,7 +24,7 @@ use Rattle.js_text.proofs.TextLemmas.{before_from}
 use Rattle.js_kind.specs.Kinds.{kind_text}
 use Rattle.js_kind.specs.declared.kind.Kind.{Kind}
 use Rattle.js_kind.specs.declared.kind.Kind.TheVariants.{Eof, JSXText, LAngle, LCurly, NoSubstitutionTemplate}
-use Rattle.js_kind.specs.declared.kind.Kind.TheVariants.{RegExp, TemplateHead}
+use Rattle.js_kind.specs.declared.kind.Kind.TheVariants.{TemplateHead}
 use Rattle.js_grammar.specs.Angle.{angle_reading, punctuator_reading}
 use Rattle.js_grammar.specs.Gap.{is_prefix}
 use Rattle.js_grammar.specs.Goals.{ReadsHere}
@@ -44,13 +40,13 @@ use Rattle.js_grammar.specs.Number.{Item, begins_number, may_not_follow_number}
 use Rattle.js_grammar.specs.NumberReads.{invalid_end, invalid_number_end, is_no_start, items_text, missing_digit}
 use Rattle.js_grammar.specs.NumberReads.{empty_span, missing_digits, number_items, number_reading}
 use Rattle.js_grammar.specs.Quoted.{begins_quoted, quoted_reading}
-use Rattle.js_grammar.specs.Reading.{Reading, before_rest, moved_diagnostic, moved_span, place_behind, read_up_to}
+use Rattle.js_grammar.specs.Reading.{Reading, before_rest, place_behind, read_up_to}
 use Rattle.js_grammar.specs.Reading.{size_of}
-use Rattle.js_grammar.specs.Recovery.{binary_file, invalid_character, is_control_or_wide, recovered}
-use Rattle.js_grammar.specs.Recovery.{recovered_character, unterminated_comment}
+use Rattle.js_grammar.specs.Recovery.{is_control_or_wide, recovered}
+use Rattle.js_grammar.specs.Recovery.{recovered_character}
 use Rattle.js_grammar.specs.RegularExpression.{behind_body, ends_flags, flag_reports, has_flag, letter_reports}
 use Rattle.js_grammar.specs.RegularExpression.{no_flags, regular_expression, regular_expression_reading}
-use Rattle.js_grammar.specs.RegularExpression.{unterminated_expression, with_flags_behind, with_letter}
+use Rattle.js_grammar.specs.RegularExpression.{with_flags_behind, with_letter}
 use Rattle.js_grammar.specs.StringItems.{Fault, StringItem, fault_reports, is_quote, item_reports, string_items}
 use Rattle.js_grammar.specs.StringItems.{string_reading, string_text}
 use Rattle.js_grammar.specs.StringItems.Fault.{no_fault, bad_escape, unfinished_escape}

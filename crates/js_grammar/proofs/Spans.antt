@@ -86,12 +86,6 @@ leads text p q xs u b d e =
     some_length [] some = absurd (some refl)
     some_length (x ∷ xs) some = omega arith
 
-to_end : (text : List ℕ) (p q : ℕ) → IsUtf8 text → IsCharBoundary text p → IsCharBoundary text q
-    → from_place text q ≡ [] → p ≤ q
-to_end text p q u b d e =
-    (leads text p q (from_place text p) u b d
-    (sym (append-nil (from_place text p)) ∙ ap (λ r. from_place text p ++ r) (sym e))).0
-
 -- what holds of each way to recover
 pub each_recovery : (P : Reading → Type 0) (b : Bool) (x y : Option Reading) → (b ≡ true → IfSome x P) → IfSome y P
     → IfSome (if b then x else y) P
