@@ -6,13 +6,13 @@ use Rattle.js_session.specs.Faults.{IsReadable, HasMarks, Cause, FirstWithoutMar
 use Rattle.js_session.specs.declared.fault.LexFault.{LexFault}
 use Rattle.js_session.specs.declared.fault.LexFault.TheVariants.{Overlong, NotUtf8 as NotUtf8Fault}
 use Rattle.js_session.specs.declared.fault.LexFault.TheVariants.{NoMark as NoMarkFault, Memory}
+use Rattle.js_session.specs.declared.report.Report.{Report}
 use Rattle.js_process.specs.Outside.{InTime, OutputState}
 use Rattle.js_process.specs.Reads.{most_bytes}
 use Rattle.js_process.specs.Status.{CountsFault, number, IsOneOf, HasPassed, Tests}
 use Rattle.js_process.specs.Status.Status.{OutOfMemory, WriteFailed, NotUtf8, NoMark}
 use Rattle.js_process.specs.Writing.{Writes}
 use Rattle.js_process.proofs.Courses.{InTime-refl}
-use Rattle.js_session.specs.declared.report.Report.{Report}
 use Rattle.js_lex_tool.specs.Run.{status_of, Answers, HasReport, IsRunOver, listed_commands}
 use Rattle.js_lex_tool.specs.declared.tool.Ran.{Ran}
 use Rattle.js_lex_tool.specs.declared.tool.ToolOutcome.{ToolOutcome}

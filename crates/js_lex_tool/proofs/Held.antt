@@ -2,25 +2,23 @@
 use Rattle.std.proofs.Common.{◌≡◌, ℕ, ◌+◌, ◌<◌, List, [], ◌∷◌, ◌++◌, length, get_or, drop, arith, refl, sym, ap, subst}
 use Rattle.std.proofs.Common.{◌∙◌, inl, inr}
 use Rattle.std.proofs.Common.{append_assoc, append-nil}
-use Rattle.std.specs.Prelude.{Result, Ok, Err, Some, OnOk, OnErr, IsErrOf}
-use Rattle.std.specs.Io.KnownBytes.{Appends}
+use Rattle.std.specs.Prelude.{Result, Ok, Err}
+use Rattle.std.specs.List.{AllByRecursion, flat_map}
 use Rattle.std.proofs.lemmas.List.{at_drop_more, drop_more}
 use Rattle.std.proofs.KnownBytes.{Appends-nil, Appends-trans}
-use Rattle.js_process.specs.Outside.{OutputState, WritesAll, WritesPrefix, Rises, StaysOpen, Closes, InTime}
+use Rattle.js_kind.specs.TokenParts.{TokenParts}
+use Rattle.js_session.specs.Report.{IsSliceOnPlaces}
+use Rattle.js_session.specs.declared.row.Row.{Row}
+use Rattle.js_process.specs.Outside.{OutputState, WritesAll}
 use Rattle.js_process.specs.Status.{CountsFault, number}
 use Rattle.js_process.specs.Status.Status.{WriteFailed}
-use Rattle.js_process.specs.Writing.{status_of_fault, WritesOn, StopsIn, WritesUnflushed}
-use Rattle.js_process.specs.declared.outside.Course.TheVariants.{Over, Late}
+use Rattle.js_process.specs.Writing.{status_of_fault, WritesOn, StopsIn}
 use Rattle.js_process.specs.declared.write_all.WriteFault.{WriteFault}
 use Rattle.js_process.specs.declared.write_all.WriteFault.TheVariants.{Failed, Memory}
 use Rattle.js_process.proofs.Courses.{InTime-refl}
 use Rattle.js_process.proofs.Pieces.{begins_with_more, begins_behind}
-use Rattle.std.specs.List.{AllByRecursion, flat_map}
-use Rattle.js_kind.specs.TokenParts.{TokenParts}
-use Rattle.js_session.specs.Report.{IsSliceOnPlaces}
-use Rattle.js_session.specs.declared.row.Row.{Row}
-use Rattle.js_lex_tool.specs.ReportText.{row_line, row_lines}
 use Rattle.js_lex_tool.specs.Held.{HandsOn, EndsWriting}
+use Rattle.js_lex_tool.specs.ReportText.{row_line, row_lines}
 
 writes_nothing : (s : OutputState) → WritesOn [] s s
 writes_nothing s = record { written = Appends-nil s.written; faults = refl; stays_open = λ h. h }

@@ -8,7 +8,7 @@ ghost use Rattle.js_text.specs.Comment.{comment_kind_name, comment_position_name
 ghost use Rattle.js_session.specs.Report.{IsSliceOnPlaces};
 ghost use Rattle.js_lex_tool.specs.ReportText.{flags_text, token_text, step_name, bit_text, row_head, value_text};
 ghost use Rattle.js_lex_tool.specs.ReportText.{row_line, row_lines, token_line, span_or_dash, named_character};
-ghost use Rattle.js_lex_tool.specs.ReportText.{diagnostic_text, diagnostic_line, found_lines, report_text_of, token_lines};
+ghost use Rattle.js_lex_tool.specs.ReportText.{diagnostic_text, diagnostic_line, found_lines, report_text_of};
 ghost use Rattle.js_lex_tool.specs.ReportText.{flag_letter, regex_flags_text, regex_text};
 ghost use Rattle.js_lex_tool.specs.Units.{text_in_units};
 ghost use Rattle.js_lex_tool.specs.ReportText.{comment_head, comment_rest, comment_line, span_line};
