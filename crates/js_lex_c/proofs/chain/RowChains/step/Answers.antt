@@ -2,6 +2,7 @@ use Rattle.std.proofs.Common.{◌≡◌, length, refl, subst, Some}
 use Rattle.std.proofs.lemmas.Option.{slice_get_read}
 use Rattle.std.proofs.lemmas.Result.{on_ok_weaker}
 use Rattle.std.specs.Prelude.{slice_get}
+use Rattle.js_lex_c.specs.Chains.{Adds}
 use Rattle.js_lex_c.proofs.ChainLemmas.{follows_row}
 use Rattle.js_lex_c.proofs.chain.RowChains.step.Goals as goal
 
@@ -14,5 +15,6 @@ returns-in-Some c =
     let at : slice_get rows (length c.args.self.now.links) ≡ Some c.in-Some.row.now =
     subst (λ n. slice_get rows n ≡ Some c.in-Some.row.now) c.len.ensures found in
     on_ok_weaker c.add.result
-    (λ added. follows_row rows c.args.command c.args.self.now c.add.new.self c.in-Some.row.now c.requires at added)
+    (λ added. follows_row rows c.args.command c.args.self.now c.add.new.self c.in-Some.row.now c.requires at
+    (subst (λ e. Adds e c.in-Some.row.now.taken c.args.self.now c.add.new.self) c.effect.ensures added))
     c.add.ensures
