@@ -23,9 +23,9 @@ pub struct FindingsBuilder {
 /// How much was found.
 #[derive(Drop)]
 pub struct FindingsLengths {
+    pub trivia: TriviaLengths,
     pub errors: usize,
     pub deferred: usize,
-    pub trivia: TriviaLengths,
     pub warnings: usize,
 }
 

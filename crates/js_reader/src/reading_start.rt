@@ -12,8 +12,8 @@ use js_source::{Source, SourcePosition};
 /// Where a reading begins that may have to go back, and how much was found before it.
 #[derive(Drop)]
 pub struct ReadingStart {
-    pub position: SourcePosition,
     pub found: FindingsLengths,
+    pub position: SourcePosition,
 }
 
 impl ReadingStart {
