@@ -41,7 +41,7 @@ use js_places::ReservedList;
 use js_reader::{ByteTables, DecodedValues, Findings, FindingsBuilder, Reader, ReadingStart};
 use js_source::{Source, SourcePosition};
 use js_text::{
-    Comment, Diagnostic, DiagnosticList, JsText, SourceType, Span, TemplateValue, VecList,
+    Comment, Diagnostic, DiagnosticList, JsText, SourceType, Span, SpanList, TemplateValue,
 };
 use js_trivia::TriviaBuilder;
 use std::alloc::{AllocError, Global};
@@ -571,12 +571,12 @@ impl<'a, C: LexerConfig + Drop> Lexer<'a, C> {
     }
 
     /// Hands out what was reported for the case that the source is a module, and leaves nothing.
-    pub fn take_deferred_module_errors(&mut self) -> Vec<Diagnostic>
-        ensures errors { result.items ≡ self.old.findings.deferred }
+    pub fn take_deferred_module_errors(&mut self) -> DiagnosticList
+        ensures errors { result ≡ self.old.findings.deferred }
         ensures after { self.new ≡ record self.old { findings = record self.old.findings { deferred = [] } } }
     {
         let alloc = self.reader.alloc;
-        std::mem::replace(&mut self.found.deferred, VecList::new_in(alloc)).into_vec()
+        std::mem::replace(&mut self.found.deferred, DiagnosticList::new_in(alloc))
     }
 
     /// Hands out the comments that were read, and leaves none, and no range of them.
@@ -600,12 +600,12 @@ impl<'a, C: LexerConfig + Drop> Lexer<'a, C> {
     }
 
     /// Hands out what was warned of, and leaves nothing.
-    pub fn take_warnings(&mut self) -> Vec<Span>
-        ensures spans { result.items ≡ self.old.findings.warnings }
+    pub fn take_warnings(&mut self) -> SpanList
+        ensures spans { result ≡ self.old.findings.warnings }
         ensures after { self.new ≡ record self.old { findings = record self.old.findings { warnings = [] } } }
     {
         let alloc = self.reader.alloc;
-        std::mem::replace(&mut self.found.warnings, VecList::new_in(alloc)).into_vec()
+        std::mem::replace(&mut self.found.warnings, SpanList::new_in(alloc))
     }
 
     /// The tokens that were collected.

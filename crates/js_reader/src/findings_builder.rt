@@ -6,7 +6,7 @@ ghost use Rattle.js_trivia.specs.Trivia.{no_trivia, AreRangesUpTo, CanCutBack};
 ghost use Rattle.js_reader.specs.Found.{HasFound, findings_in, found_lengths, found_up_to, lengths_in};
 
 use crate::findings::{Findings, items_from};
-use js_text::{Diagnostic, DiagnosticList, Span, VecList};
+use js_text::{DiagnosticList, SpanList};
 use js_trivia::{TriviaBuilder, TriviaLengths};
 use std::alloc::{AllocError, Global};
 
@@ -15,9 +15,9 @@ use std::alloc::{AllocError, Global};
 #[derive(Drop)]
 pub struct FindingsBuilder {
     pub errors: DiagnosticList,
-    pub deferred: VecList<Diagnostic>,
+    pub deferred: DiagnosticList,
     pub trivia: TriviaBuilder,
-    pub warnings: VecList<Span>,
+    pub warnings: SpanList,
 }
 
 /// How much was found.
@@ -36,9 +36,9 @@ impl FindingsBuilder {
     {
         FindingsBuilder {
             errors: DiagnosticList::new_in(alloc),
-            deferred: VecList::new_in(alloc),
+            deferred: DiagnosticList::new_in(alloc),
             trivia: TriviaBuilder::new_in(alloc),
-            warnings: VecList::new_in(alloc),
+            warnings: SpanList::new_in(alloc),
         }
     }
 

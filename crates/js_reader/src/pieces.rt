@@ -18,7 +18,7 @@ use crate::findings_builder::FindingsBuilder;
 use crate::reader::Reader;
 use js_spell::{advance_if_sequence, skip_block, skip_line};
 use js_text::{
-    CommentKind, Diagnostic, SourceType, Span, VecList, either, is_irregular_whitespace,
+    CommentKind, Diagnostic, DiagnosticList, SourceType, Span, either, is_irregular_whitespace,
 };
 use js_trivia::TriviaBuilder;
 use std::alloc::AllocError;
@@ -70,7 +70,7 @@ fn list_if(trivia: &mut TriviaBuilder, is_listed: bool, span: Span) -> Result<()
 
 /// Reports an HTML-like comment with its mark over the span, for the case that the source is a module.
 fn defer_html(
-    deferred: &mut VecList<Diagnostic>,
+    deferred: &mut DiagnosticList,
     source_type: SourceType,
     span: Span,
 ) -> Result<(), AllocError>

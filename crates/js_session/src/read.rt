@@ -17,7 +17,7 @@ ghost use Rattle.js_session.specs.RowReader.{HoldsValue, IsMadeOf, ReadsRowIfFit
 use crate::command::Command;
 use crate::mark::SessionMark;
 use crate::re_lex::read_again;
-use crate::rooms::FindingsRooms;
+use crate::rooms::TriviaRooms;
 use crate::row::Row;
 use crate::row_list::RowList;
 use js_grammar::Goal;
@@ -240,7 +240,7 @@ pub(crate) struct RowReader<'a, C: LexerConfig + Drop> {
     pub alloc: Global,
     pub rows: RowList,
     pub tokens: TokenList,
-    pub rooms: FindingsRooms,
+    pub rooms: TriviaRooms,
 }
 
 impl<'a, C: LexerConfig + Drop> Model for RowReader<'a, C> {
@@ -265,7 +265,7 @@ impl<'a, C: LexerConfig + Drop> RowReader<'a, C> {
             alloc,
             rows: RowList::with_room(alloc, rows),
             tokens: TokenList::new_in(alloc),
-            rooms: FindingsRooms::new(alloc)?,
+            rooms: TriviaRooms::new(alloc)?,
         })
     }
 

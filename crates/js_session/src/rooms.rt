@@ -4,17 +4,15 @@ ghost use Rattle.std.specs.Prelude.{◌≡◌};
 
 use js_kind::LexerConfig;
 use js_lexer::{Findings, Lexer};
-use js_text::{Comment, Diagnostic, ItemList, Span};
+use js_text::{Comment, ItemList, Span};
 use std::alloc::{AllocError, Global};
 
-/// A box for each list that a lexer hands out as a vector.
+/// A box for the comments and one for the irregular white space that a lexer hands out.
 #[derive(Drop)]
-pub(crate) struct FindingsRooms {
+pub(crate) struct TriviaRooms {
     alloc: Global,
-    deferred: Box<Vec<Diagnostic>>,
     comments: Box<Vec<Comment>>,
     irregular: Box<Vec<Span>>,
-    warnings: Box<Vec<Span>>,
 }
 
 /// The list of the items, in the box.
@@ -28,14 +26,12 @@ fn list_in<T: Drop>(alloc: Global, room: Box<Vec<T>>, items: Vec<T>) -> ItemList
     list
 }
 
-impl FindingsRooms {
-    pub(crate) fn new(alloc: Global) -> Result<FindingsRooms, AllocError> {
-        Ok(FindingsRooms {
+impl TriviaRooms {
+    pub(crate) fn new(alloc: Global) -> Result<TriviaRooms, AllocError> {
+        Ok(TriviaRooms {
             alloc,
-            deferred: Box::new(alloc, Vec::new(alloc))?,
             comments: Box::new(alloc, Vec::new(alloc))?,
             irregular: Box::new(alloc, Vec::new(alloc))?,
-            warnings: Box::new(alloc, Vec::new(alloc))?,
         })
     }
 
@@ -43,19 +39,17 @@ impl FindingsRooms {
     pub(crate) fn take_findings<C: LexerConfig + Drop>(self, lexer: &mut Lexer<'_, C>) -> Findings
         ensures { result ≡ lexer.old.findings }
     {
-        let FindingsRooms {
+        let TriviaRooms {
             alloc,
-            deferred,
             comments,
             irregular,
-            warnings,
         } = self;
         Findings {
             diagnostics: lexer.take_errors(),
-            deferred: list_in(alloc, deferred, lexer.take_deferred_module_errors()),
+            deferred: lexer.take_deferred_module_errors(),
             comments: list_in(alloc, comments, lexer.take_comments()),
             irregular: list_in(alloc, irregular, lexer.take_irregular_whitespaces()),
-            warnings: list_in(alloc, warnings, lexer.take_warnings()),
+            warnings: lexer.take_warnings(),
         }
     }
 }

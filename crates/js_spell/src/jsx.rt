@@ -17,7 +17,7 @@ use crate::escape::report_unterminated;
 use crate::name::skip_parts;
 use js_kind::Kind;
 use js_source::{Source, of_each_byte};
-use js_text::{Diagnostic, DiagnosticList, Span, VecList};
+use js_text::{Diagnostic, DiagnosticList, Span, SpanList};
 use std::alloc::AllocError;
 
 /// Goes to the first character that is no part of a name of JSX.
@@ -128,10 +128,7 @@ fn begins_child(b: u8) -> bool
 }
 
 /// Goes to the character that ends the text of a child, and gives it. Each `>` on the way is warned of.
-fn pass_child(
-    source: &mut Source<'_>,
-    warnings: &mut VecList<Span>,
-) -> Result<Option<u8>, AllocError>
+fn pass_child(source: &mut Source<'_>, warnings: &mut SpanList) -> Result<Option<u8>, AllocError>
     requires { IsPlaced source.old }
     ensures ok { IfOk result (PassesChild source.old source.new warnings.old warnings.new) }
     ensures text { source.new.text ≡ source.old.text }
@@ -154,7 +151,7 @@ fn pass_child(
 fn read_jsx_text(
     source: &mut Source<'_>,
     errors: &mut DiagnosticList,
-    warnings: &mut VecList<Span>,
+    warnings: &mut SpanList,
 ) -> Result<Kind, AllocError>
     requires { IsPlaced source.old }
     ensures ok { IfOk result (ReadsAs (jsx_text_reading (rest source.old)) source.old.place source.old source.new
@@ -184,7 +181,7 @@ fn read_jsx_text(
 pub fn read_jsx_child(
     source: &mut Source<'_>,
     errors: &mut DiagnosticList,
-    warnings: &mut VecList<Span>,
+    warnings: &mut SpanList,
 ) -> Result<Kind, AllocError>
     requires { IsPlaced source.old }
     ensures ok { IfOk result (ReadsAs (jsx_child_reading (rest source.old)) source.old.place source.old source.new

@@ -7,7 +7,7 @@ use js_source::Source;
 use js_spell::{
     read_jsx_child, read_jsx_identifier, read_jsx_string, read_regular_expression, read_right_angle,
 };
-use js_text::{Diagnostic, DiagnosticList, RegexInfo, VecList};
+use js_text::{Diagnostic, DiagnosticList, RegexInfo, SpanList};
 use std::alloc::AllocError;
 use std::test::Fail;
 
@@ -184,7 +184,7 @@ fn children_of_jsx(rt: HostRuntime) -> Result<(), Fail> {
     for (text, kind, end, first, warned) in CHILDREN {
         let mut source = Source::new(text);
         let mut errors = DiagnosticList::new_in(rt.alloc());
-        let mut warnings = VecList::new_in(rt.alloc());
+        let mut warnings = SpanList::new_in(rt.alloc());
         let read = read_jsx_child(&mut source, &mut errors, &mut warnings)?;
         assert!(rt; read.is_same(kind), "{text}");
         assert_eq!(rt; source.offset(), end, "{text}");

@@ -25,7 +25,7 @@ pub use comment_newlines::CommentNewlines;
 pub use diagnostic::Diagnostic;
 pub use js_str::{JSStr, JSStrBuilder};
 pub use js_text::{JsText, TemplateValue};
-pub use list::{ByteList, CommentList, DiagnosticList, ItemList, SpanList, VecList};
+pub use list::{ByteList, CommentList, DiagnosticList, ItemList, SpanList};
 pub use reg_exp_flags::{RegExpFlags, RegexInfo};
 pub use source_text::SourceText;
 pub use source_type::SourceType;
