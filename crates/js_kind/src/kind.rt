@@ -1,4 +1,4 @@
-//! Kinds of tokens: each has a number, a name and a text.
+//! Kinds of tokens.
 
 ghost use Rattle.std.specs.Prelude.{◌≡◌, ◌↔◌, IsTrue};
 ghost use Rattle.std.specs.Int.{is_in_range};

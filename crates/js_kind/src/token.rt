@@ -1,4 +1,4 @@
-//! What is known of one token: its kind, its span and its flags.
+//! Tokens.
 
 ghost use Rattle.std.specs.Prelude.{◌≡◌, ◌≤◌, ◌↔◌, IsTrue, true, false};
 ghost use Rattle.js_kind.specs.Kinds.{number};

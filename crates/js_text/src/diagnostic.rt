@@ -1,4 +1,4 @@
-//! What is at fault in a source, and where.
+//! Diagnostics.
 
 ghost use Rattle.std.specs.Prelude.{◌≡◌};
 ghost use Rattle.js_text.specs.Diagnostic.{diagnostic_name, diagnostic_span, diagnostic_character};

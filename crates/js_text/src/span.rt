@@ -1,4 +1,4 @@
-//! Stretches of a source, by the offsets of their ends in bytes.
+//! Spans.
 
 ghost use Rattle.std.specs.Prelude.{◌≡◌, ◌+◌, ◌^◌, ◌<◌, ◌≤◌};
 
