@@ -1,5 +1,7 @@
 //! Why there is no tree.
 
+ghost use Rattle.std.specs.Prelude.{◌≡◌};
+
 use std::alloc::AllocError;
 
 /// Why there is no tree.
@@ -11,7 +13,7 @@ pub enum ParseFault {
 }
 
 impl From<AllocError> for ParseFault {
-    ghost from_gives = { λ _ fault. Unit {0} };
+    ghost from_gives = { λ _ fault. fault ≡ ParseFault.Memory };
 
     fn from(_error: AllocError) -> ParseFault {
         ParseFault::Memory
