@@ -12,11 +12,14 @@ use Rattle.js_parse_example.specs.Trees.AreTrees.{none as no_trees, node}
 use Rattle.js_parse_example.specs.declared.draw.Line.{Line}
 use Rattle.js_parse_example.specs.declared.node.Node.{Node}
 
+abbrev pub line_of : ℕ → Node → Line
+line_of depth n = record { depth = depth; node = n }
+
 -- the lines of nodes, the last one first, by the depths of the trees to come
 abbrev pub walk : List Node → List ℕ → List Line
 walk [] ds = []
 walk (n ∷ ns) ds =
-    record { depth = get_or ds 0 0; node = n } ∷ walk ns (replicate n.children (get_or ds 0 0 + 1) ++ drop 1 ds)
+    line_of (get_or ds 0 0) n ∷ walk ns (replicate n.children (get_or ds 0 0 + 1) ++ drop 1 ds)
 
 -- one more depth before the others
 pub one_in_front : (count depth : ℕ) (ds : List ℕ)
@@ -34,10 +37,10 @@ walked_on : (depth count : ℕ) (nodes : List Node) (lines : List Line) → AreD
 walked_on d c nodes lines (none depth) rest ds = refl
 walked_on d c nodes lines (tree depth count before within n outer inner f g) rest ds =
     ap (λ ns. walk ns (depth ∷ replicate count depth ++ ds)) (turned before within rest n)
-    ∙ ap (λ (ls : List Line). record { depth = depth; node = n } ∷ ls)
+    ∙ ap (λ (ls : List Line). line_of depth n ∷ ls)
     (walked_on (depth + 1) n.children within inner g (reverse before ++ rest) (replicate count depth ++ ds)
     ∙ ap (λ (ls : List Line). reverse inner ++ ls) (walked_on depth count before outer f rest ds))
-    ∙ sym (turned outer inner (walk rest ds) (record { depth = depth; node = n }))
+    ∙ sym (turned outer inner (walk rest ds) (line_of depth n))
 
 -- the lines of so many trees, from the last one on
 pub walked : (count : ℕ) (nodes : List Node) (lines drawn : List Line)
@@ -56,18 +59,18 @@ nothing_drawn count nodes ds e = ap (walk (reverse nodes)) (e ∙ append-nil (re
 pub line_drawn : (whole lines new_lines : List Line) (rest before : List Node) (n : Node) (ds under new_ds : List ℕ)
     (depth : ℕ) → lines ++ walk (reverse rest) ds ≡ whole → rest ≡ before ++ n ∷ [] → depth ≡ get_or ds 0 0
     → under ≡ drop 1 ds → new_ds ≡ replicate n.children (depth + 1) ++ under
-    → new_lines ≡ lines ++ record { depth = depth; node = n } ∷ [] → new_lines ++ walk (reverse before) new_ds ≡ whole
+    → new_lines ≡ lines ++ line_of depth n ∷ [] → new_lines ++ walk (reverse before) new_ds ≡ whole
 line_drawn whole lines new_lines rest before n ds under new_ds depth e parts first others more added =
     let turned_rest : reverse rest ≡ n ∷ reverse before =
     ap reverse parts ∙ reverse-append before (n ∷ []) in
     let depths : new_ds ≡ replicate n.children (get_or ds 0 0 + 1) ++ drop 1 ds =
     more ∙ ap (λ d. replicate n.children (d + 1) ++ under) first
     ∙ ap (λ us. replicate n.children (get_or ds 0 0 + 1) ++ us) others in
-    let line : new_lines ≡ lines ++ record { depth = get_or ds 0 0; node = n } ∷ [] =
-    added ∙ ap (λ (d : ℕ). lines ++ record { depth = d; node = n } ∷ []) first in
+    let line : new_lines ≡ lines ++ line_of (get_or ds 0 0) n ∷ [] =
+    added ∙ ap (λ (d : ℕ). lines ++ line_of d n ∷ []) first in
     ap (λ ls. ls ++ walk (reverse before) new_ds) line
-    ∙ append_assoc lines (record { depth = get_or ds 0 0; node = n } ∷ []) (walk (reverse before) new_ds)
-    ∙ ap (λ us. lines ++ record { depth = get_or ds 0 0; node = n } ∷ walk (reverse before) us) depths
+    ∙ append_assoc lines (line_of (get_or ds 0 0) n ∷ []) (walk (reverse before) new_ds)
+    ∙ ap (λ us. lines ++ line_of (get_or ds 0 0) n ∷ walk (reverse before) us) depths
     ∙ ap (λ ns. lines ++ walk ns ds) (sym turned_rest) ∙ e
 
 -- after the last line
@@ -78,29 +81,30 @@ all_drawn whole lines (n ∷ ns) ds e none_left =
     let less : length ns + 1 ≡ 0 = omega arith in absurd (omega arith)
 
 -- the first of some depths
-pub first_deep : (most : ℕ) (ds : List ℕ) → All (λ d. d ≤ most) ds → get_or ds 0 0 ≤ most
-first_deep most [] h = omega arith
-first_deep most (d ∷ ds) h = h 0 0 (omega arith)
+pub first_deep : (left all : ℕ) (ds : List ℕ) → All (λ d. d + left ≤ all) ds → left ≤ all
+    → get_or ds 0 0 + left ≤ all
+first_deep left all [] h fits = omega arith
+first_deep left all (d ∷ ds) h fits = h 0 0 (omega arith)
 
 -- the depths of some trees, and one level more in place of the first
-pub one_deeper : (most count depth : ℕ) (ds under new_ds : List ℕ) → All (λ d. d ≤ most) ds → depth ≤ most
-    → under ≡ drop 1 ds → new_ds ≡ replicate count (depth + 1) ++ under → All (λ d. d ≤ most + 1) new_ds
-one_deeper most count depth ds under new_ds h deep others more =
-    let fits : depth + 1 ≤ most + 1 = omega arith in
-    let under_fits : All (λ d. d ≤ most + 1) (drop 1 ds) =
-    All-drop (λ d. d ≤ most + 1) 1 ds
-    (λ k d lt. let below : get_or ds k d ≤ most = h k d lt in omega arith) in
-    subst (All (λ d. d ≤ most + 1))
-    (ap (λ us. replicate count (depth + 1) ++ us) (sym others) ∙ sym more)
-    (All-append (λ d. d ≤ most + 1) (replicate count (depth + 1)) (drop 1 ds)
-    (All-replicate (λ d. d ≤ most + 1) count (depth + 1) fits) under_fits)
+pub one_deeper : (left less all count depth : ℕ) (ds under new_ds : List ℕ) → All (λ d. d + left ≤ all) ds
+    → left ≡ less + 1 → depth + left ≤ all → under ≡ drop 1 ds → new_ds ≡ replicate count (depth + 1) ++ under
+    → All (λ d. d + less ≤ all) new_ds
+one_deeper left less all count depth ds under new_ds h fewer deep others more =
+    let fits : depth + 1 + less ≤ all = omega arith in
+    let under_fits : All (λ d. d + less ≤ all) (drop 1 ds) =
+    All-drop (λ d. d + less ≤ all) 1 ds
+    (λ k d lt. let below : get_or ds k d + left ≤ all = h k d lt in omega arith) in
+    subst (All (λ d. d + less ≤ all)) (ap (λ us. replicate count (depth + 1) ++ us) (sym others) ∙ sym more)
+    (All-append (λ d. d + less ≤ all) (replicate count (depth + 1)) (drop 1 ds)
+    (All-replicate (λ d. d + less ≤ all) count (depth + 1) fits) under_fits)
 
--- no tree stands deeper than its root at first
-pub roots_only : (count : ℕ) (ds : List ℕ) → ds ≡ replicate count 0 ++ [] → All (λ d. d ≤ 0) ds
-roots_only count ds e =
-    let none_deeper : 0 ≤ 0 = omega arith in
-    subst (All (λ d. d ≤ 0)) (sym (e ∙ append-nil (replicate count 0)))
-    (All-replicate (λ d. d ≤ 0) count 0 none_deeper)
+-- the roots stand at no depth
+pub roots_only : (count left : ℕ) (ds : List ℕ) → ds ≡ replicate count 0 ++ [] → All (λ d. d + left ≤ left) ds
+roots_only count left ds e =
+    let fits : 0 + left ≤ left = omega arith in
+    subst (All (λ d. d + left ≤ left)) (sym (e ∙ append-nil (replicate count 0)))
+    (All-replicate (λ d. d + left ≤ left) count 0 fits)
 
 -- So many trees, one after another.
 data Forest : ℕ → List Node → Type 0 where

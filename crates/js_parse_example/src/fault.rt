@@ -13,7 +13,9 @@ pub enum ParseFault {
 }
 
 impl From<AllocError> for ParseFault {
-    ghost from_gives = { λ _ fault. fault ≡ ParseFault.Memory };
+    ghost use Rattle.js_parse_example.specs.declared.fault.ParseFault.TheVariants.{Memory};
+
+    ghost from_gives = { λ _ fault. fault ≡ Memory };
 
     fn from(_error: AllocError) -> ParseFault {
         ParseFault::Memory
