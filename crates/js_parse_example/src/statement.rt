@@ -127,7 +127,7 @@ pub fn hashbang(cursor: &mut Tokens<'_>, trees: &mut Trees<'_>) -> Result<(), Al
 }
 
 /// Parses statements up to the end of the source, or to a fatal error.
-#[tactic(auto, using(crate::proofs::Depths::behind_sooner, crate::proofs::Depths::memory_anywhere, crate::proofs::Stops::ends_when_stopped, crate::proofs::Stops::ends_where_it_stops))]
+#[tactic(auto, using(crate::proofs::Stops::ends_when_stopped, crate::proofs::Stops::ends_where_it_stops))]
 pub fn statements(cursor: &mut Tokens<'_>, trees: &mut Trees<'_>) -> Result<(), ParseFault>
     ensures ends { OnOk result (ends_at Kind.Eof cursor.new ≡ true) }
     ensures text { trees.new.text ≡ trees.old.text }

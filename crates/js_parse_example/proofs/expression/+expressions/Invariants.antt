@@ -12,8 +12,8 @@ decreases-elements l = 3 * l.depth + 1
 abbrev pub decreases-rest : goal.decreases-rest
 decreases-rest l = 3 * l.depth + 2
 
--- The current token starts no earlier than it did, and behind the start of the expression where more of that is to come;
--- the source is the same.
+-- The current token starts no earlier than it did, and behind the start of the expression where more of that is to
+-- come; the source is the same.
 abbrev pub invariant-expression-steps : goal.invariant-expression-steps
 invariant-expression-steps l =
     (l.initial.cursor.token.start ≤ l.cursor.token.start) × (l.trees.text ≡ l.initial.trees.text)

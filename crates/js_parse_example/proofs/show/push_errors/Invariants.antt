@@ -7,4 +7,5 @@ use Rattle.js_parse_example.proofs.show.push_errors.Given as goal
 -- The lines of the errors so far were appended.
 abbrev pub invariant-loop-error : goal.invariant-loop-error
 invariant-loop-error l =
-    string_bytes l.text ≡ string_bytes l.initial.text ++ flat_map (parser_line (codes "error")) (take l.error-index l.errors)
+    string_bytes l.text
+    ≡ string_bytes l.initial.text ++ flat_map (parser_line (codes "error")) (take l.error-index l.errors)
