@@ -1,8 +1,9 @@
 //! Arrow functions (ECMA-262 15.3), whose parameters are names.
 
-ghost use Rattle.std.specs.Prelude.{◌≡◌, ◌≤◌, true, IfOk};
+ghost use Rattle.std.specs.Prelude.{◌≡◌, ◌≤◌, ◌≢◌, true, IfOk, OnOk};
 ghost use Rattle.js_lexer.specs.Places.{KeepsPlaces};
 ghost use Rattle.js_cursor.specs.Checkpoint.{GoesOnFrom};
+ghost use Rattle.js_cursor.specs.Cursor.{StartsLater};
 ghost use Rattle.js_parse_example.specs.Arrow.{IsAtArrow};
 
 use crate::tokens::{Tokens, name};
@@ -75,8 +76,12 @@ impl<C: LexerConfig + Drop> Predicate<C, Result<bool, AllocError>> for IsArrowHe
 
 /// Whether an arrow function stands here.
 pub fn is_arrow(cursor: &mut Tokens<'_>, alloc: Global) -> Result<bool, AllocError>
-    ensures onward { cursor.old.token.start ≤ cursor.new.token.start }
+    ensures begun { IfOk result (λ is_arrow. is_arrow ≡ true → cursor.old.token.kind ≢ Kind.Eof) }
+    ensures stays { cursor.new.token ≡ cursor.old.token }
 {
+    if cursor.at(Kind::Eof) {
+        return Ok(false);
+    }
     if cursor.at(Kind::LParen) {
         return cursor.lookahead(IsArrowHead(alloc));
     }
@@ -89,6 +94,7 @@ pub fn is_arrow(cursor: &mut Tokens<'_>, alloc: Global) -> Result<bool, AllocErr
 /// Parses names up to the `)` behind them.
 fn names(cursor: &mut Tokens<'_>, trees: &mut Trees<'_>, opening: Span) -> Result<(), AllocError>
     ensures onward { cursor.old.token.start ≤ cursor.new.token.start }
+    ensures text { trees.new.text ≡ trees.old.text }
 {
     if !cursor.delimited_list_begins(Kind::RParen) {
         return Ok(());
@@ -105,6 +111,8 @@ fn names(cursor: &mut Tokens<'_>, trees: &mut Trees<'_>, opening: Span) -> Resul
 /// Parses the parameters of an arrow function.
 fn parameters(cursor: &mut Tokens<'_>, trees: &mut Trees<'_>) -> Result<(), AllocError>
     ensures onward { cursor.old.token.start ≤ cursor.new.token.start }
+    ensures starts { OnOk result (StartsLater cursor.old cursor.new) }
+    ensures text { trees.new.text ≡ trees.old.text }
 {
     if !cursor.at(Kind::LParen) {
         return name(cursor, trees);
@@ -118,6 +126,8 @@ fn parameters(cursor: &mut Tokens<'_>, trees: &mut Trees<'_>) -> Result<(), Allo
 /// Goes past what an arrow function begins with: its parameters, and the arrow.
 pub fn arrow_head(cursor: &mut Tokens<'_>, trees: &mut Trees<'_>) -> Result<(), AllocError>
     ensures onward { cursor.old.token.start ≤ cursor.new.token.start }
+    ensures starts { OnOk result (StartsLater cursor.old cursor.new) }
+    ensures text { trees.new.text ≡ trees.old.text }
 {
     parameters(cursor, trees)?;
     cursor.expect(Kind::Arrow)

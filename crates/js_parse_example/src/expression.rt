@@ -1,6 +1,7 @@
 //! Expressions, by the strength of their operators.
 
-ghost use Rattle.std.specs.Prelude.{◌≤◌, ◌<◌, ◌^◌, IfOk};
+ghost use Rattle.std.specs.Prelude.{◌≡◌, ◌+◌, ◌≤◌, ◌<◌, ◌≢◌, ◌^◌, IfOk, IfErr};
+ghost use Rattle.js_parse_example.specs.Depth.{IsBehind};
 
 use crate::brackets::{Brackets, begins, end, goes_on};
 use crate::fault::ParseFault;
@@ -13,7 +14,8 @@ use js_text::Span;
 
 /// One level less to nest in, if any is left.
 fn inner(cursor: &Tokens<'_>, depth: u32) -> Result<u32, ParseFault>
-    ensures less { IfOk result (λ left. left < depth) }
+    ensures less { IfOk result (λ left. left + 1 ≡ depth) }
+    ensures deep { IfErr result (IsBehind (cursor.now.token.start + depth)) }
     ensures short { cursor.now.token.start < 2 ^ 32 }
 {
     let at = cursor.cur_start();
@@ -25,6 +27,7 @@ fn inner(cursor: &Tokens<'_>, depth: u32) -> Result<u32, ParseFault>
 
 /// Parses expressions up to what closes them.
 #[cycle(expressions)]
+#[tactic(auto, using(crate::proofs::Depths::behind_sooner, crate::proofs::Depths::memory_anywhere))]
 fn elements(
     cursor: &mut Tokens<'_>,
     trees: &mut Trees<'_>,
@@ -33,6 +36,8 @@ fn elements(
     opening: Span,
 ) -> Result<(), ParseFault>
     ensures onward { cursor.old.token.start ≤ cursor.new.token.start }
+    ensures text { trees.new.text ≡ trees.old.text }
+    ensures deep { IfErr result (IsBehind (cursor.old.token.start + depth)) }
 {
     if !begins(cursor, brackets) {
         return Ok(());
@@ -47,6 +52,7 @@ fn elements(
 
 /// Parses what is left of a node.
 #[cycle(expressions)]
+#[tactic(auto, using(crate::proofs::Depths::behind_sooner, crate::proofs::Depths::memory_anywhere))]
 fn rest(
     cursor: &mut Tokens<'_>,
     trees: &mut Trees<'_>,
@@ -54,6 +60,9 @@ fn rest(
     rest: Rest,
 ) -> Result<(), ParseFault>
     ensures onward { cursor.old.token.start ≤ cursor.new.token.start }
+    ensures text { trees.new.text ≡ trees.old.text }
+    ensures deep { IfErr result (IsBehind (cursor.old.token.start + depth)) }
+    ensures more { IfErr result (λ fault. rest ≢ Rest.Nothing) }
 {
     match rest {
         Rest::Nothing => Ok(()),
@@ -68,6 +77,7 @@ fn rest(
 
 /// Parses an expression whose operators bind as strongly as `least`, or stronger. It may nest as deep as `depth`.
 #[cycle(expressions)]
+#[tactic(auto, using(crate::proofs::Depths::behind_sooner, crate::proofs::Depths::memory_anywhere))]
 pub fn expression(
     cursor: &mut Tokens<'_>,
     trees: &mut Trees<'_>,
@@ -76,6 +86,8 @@ pub fn expression(
 ) -> Result<(), ParseFault>
     ensures onward { cursor.old.token.start ≤ cursor.new.token.start }
     ensures short { cursor.old.token.start < 2 ^ 32 }
+    ensures text { trees.new.text ≡ trees.old.text }
+    ensures deep { IfErr result (IsBehind (cursor.old.token.start + depth)) }
 {
     let depth = inner(cursor, depth)?;
     let (start, mark) = (cursor.cur_start(), trees.mark());

@@ -1,5 +1,7 @@
 //! Why there is no tree.
 
+ghost use Rattle.std.specs.Prelude.{◌≡◌};
+
 use std::alloc::AllocError;
 
 /// Why there is no tree.
@@ -11,7 +13,9 @@ pub enum ParseFault {
 }
 
 impl From<AllocError> for ParseFault {
-    ghost from_gives = { λ _ fault. Unit {0} };
+    ghost use Rattle.js_parse_example.specs.declared.fault.ParseFault.TheVariants.{Memory};
+
+    ghost from_gives = { λ _ fault. fault ≡ Memory };
 
     fn from(_error: AllocError) -> ParseFault {
         ParseFault::Memory

@@ -4,6 +4,8 @@
 
 mod arrow;
 mod brackets;
+mod cover;
+mod draw;
 mod expression;
 mod fault;
 mod node;

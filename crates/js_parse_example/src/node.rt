@@ -1,10 +1,15 @@
 //! The nodes of a tree.
 
+ghost use Rattle.std.specs.Prelude.{◌≡◌};
+ghost use Rattle.js_parse_example.specs.Shown.{kind_name};
+
 use js_text::Span;
 
 /// What a node is.
 #[derive(Clone, Copy, PartialEq, Eq, Debug)]
 pub enum NodeKind {
+    /// The comment that a source may begin with (ECMA-262 12.5).
+    Hashbang,
     Name,
     Literal,
     RegularExpression,
@@ -27,8 +32,11 @@ pub enum NodeKind {
 
 impl NodeKind {
     /// The name of the variant.
-    pub fn name(self) -> &'static str {
+    pub fn name(self) -> &'static str
+        ensures { result.now ≡ kind_name self }
+    {
         match self {
+            NodeKind::Hashbang => "Hashbang",
             NodeKind::Name => "Name",
             NodeKind::Literal => "Literal",
             NodeKind::RegularExpression => "RegularExpression",

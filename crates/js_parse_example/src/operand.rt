@@ -1,12 +1,12 @@
 //! What operands begin with.
 
-ghost use Rattle.std.specs.Prelude.{◌≤◌};
+ghost use Rattle.std.specs.Prelude.{◌≡◌, ◌≤◌, ◌<◌, ◌≢◌, IfOk};
 
 use crate::arrow::{arrow_head, is_arrow};
 use crate::brackets::{Brackets, open};
 use crate::node::NodeKind;
-use crate::step::{ASSIGNMENT, PREFIX, Step};
-use crate::tokens::{Tokens, stop};
+use crate::step::{ASSIGNMENT, PREFIX, Rest, Step};
+use crate::tokens::{NO_EXPRESSION, Tokens, stop};
 use crate::tree::Trees;
 use js_grammar::Goal;
 use js_kind::Kind;
@@ -40,8 +40,8 @@ fn begun_by(kind: Kind) -> Operand {
     }
 }
 
-/// What a token of the kind begins, where an operand is wanted.
-fn operand_of(kind: Kind) -> Operand {
+/// What a token begins that is not the end of the source.
+fn begun_by_token(kind: Kind) -> Operand {
     if kind.is_unary_operator() {
         return Operand::Prefix;
     }
@@ -52,6 +52,16 @@ fn operand_of(kind: Kind) -> Operand {
         return Operand::Token(NodeKind::Name);
     }
     begun_by(kind)
+}
+
+/// What a token of the kind begins, where an operand is wanted.
+fn operand_of(kind: Kind) -> Operand
+    ensures { kind ≡ Kind.Eof → result ≡ Operand.Missing }
+{
+    match kind {
+        Kind::Eof => Operand::Missing,
+        _ => begun_by_token(kind),
+    }
 }
 
 /// Goes past a regular expression, whose `/` is current. Under a fatal error there may be none.
@@ -68,6 +78,7 @@ fn regular_expression(cursor: &mut Tokens<'_>) -> Result<(), AllocError>
 /// Goes past what an operand begins with, that is no arrow function.
 fn begin_operand(cursor: &mut Tokens<'_>) -> Result<Step, AllocError>
     ensures onward { cursor.old.token.start ≤ cursor.new.token.start }
+    ensures passes { IfOk result (λ step. step.rest ≢ Rest.Nothing → cursor.old.token.start < cursor.new.token.start) }
 {
     match operand_of(cursor.cur_kind()) {
         Operand::Token(node) => {
@@ -84,7 +95,7 @@ fn begin_operand(cursor: &mut Tokens<'_>) -> Result<Step, AllocError>
         }
         Operand::List(brackets) => open(cursor, brackets),
         Operand::Missing => {
-            stop(cursor);
+            stop(cursor, NO_EXPRESSION);
             Ok(Step::whole(NodeKind::Missing))
         }
     }
@@ -93,6 +104,8 @@ fn begin_operand(cursor: &mut Tokens<'_>) -> Result<Step, AllocError>
 /// Goes past what an expression begins with, whose operators bind as strongly as `least`, or stronger.
 pub fn begin(cursor: &mut Tokens<'_>, trees: &mut Trees<'_>, least: u8) -> Result<Step, AllocError>
     ensures onward { cursor.old.token.start ≤ cursor.new.token.start }
+    ensures passes { IfOk result (λ step. step.rest ≢ Rest.Nothing → cursor.old.token.start < cursor.new.token.start) }
+    ensures text { trees.new.text ≡ trees.old.text }
 {
     if least > ASSIGNMENT {
         return begin_operand(cursor);

@@ -6,14 +6,15 @@ ghost use Rattle.js_process.specs.Exit.{Tells};
 ghost use Rattle.js_process.specs.Programs.{js_parse_example, js_parse_example_usage};
 ghost use Rattle.js_process.specs.Status.{line_for};
 ghost use Rattle.js_process.specs.TextRun.{RunsMaker};
+ghost use Rattle.js_parse_example.specs.Covered.{IsParseText};
 ghost use Rattle.js_parse_example.specs.declared.program.Parse.{Parse};
 
 use crate::parse::parse_text;
 use js_cursor::Cursor;
 use js_kind::RuntimeLexerConfig;
-use js_lexer::Lexer;
 use js_process::programs::{PARSE_EXAMPLE, PARSE_EXAMPLE_USAGE};
 use js_process::{ByteIn, ByteOut, TextMaker, end_program, text_run};
+use js_lexer::Lexer;
 use js_text::SourceType;
 use std::alloc::{AllocError, Global};
 use std::process::ExitCode;
@@ -23,7 +24,7 @@ use std::process::ExitCode;
 struct Parse {}
 
 impl TextMaker for Parse {
-    ghost may_make = { λ p source text. Unit {0} };
+    ghost may_make = { λ _ source text. IsParseText source text };
 
     fn text(&self, alloc: Global, source: &str) -> Result<String, AllocError> {
         let config = RuntimeLexerConfig::new(false);
@@ -46,7 +47,7 @@ pub fn parse_program<I: ByteIn, O: ByteOut, E: ByteOut>(
     output: &mut O,
     errors: &mut E,
 ) -> ExitCode
-    ensures run { (p : Parse) × RunsMaker (λ (q : Parse) source text. Unit {0}) (Some p)
+    ensures run { (p : Parse) × RunsMaker (λ (q : Parse) source text. IsParseText source text) (Some p)
         (I.state input.old) (I.state input.new) (O.state output.old) (O.state output.new) (exit_status result) }
     ensures line { Tells (line_for js_parse_example js_parse_example_usage (exit_status result))
         (E.state errors.old) (E.state errors.new) }

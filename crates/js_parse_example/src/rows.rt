@@ -44,7 +44,7 @@ fn brackets_without_end(rt: HostRuntime) -> Result<(), Fail> {
 }
 
 /// A source, and what is printed of it.
-static PRINTED: [(&str, &str); 4] = [
+static PRINTED: [(&str, &str); 6] = [
     ("a", "  Name 0..1\nExpression 0..1\n"),
     (
         "`a${-b}c`;",
@@ -57,6 +57,11 @@ static PRINTED: [(&str, &str); 4] = [
     (
         "1 = 2",
         "    Literal 0..1\n    Literal 4..5\n  Assignment 0..5\nExpression 0..5\nerror Parser 0..1\n",
+    ),
+    ("#!x\na", "Hashbang 0..3\n  Name 4..5\nExpression 4..5\n"),
+    (
+        "a\n/*b*/\nc //d",
+        "  Name 0..1\nExpression 0..1\n  Name 8..9\nExpression 8..9\n",
     ),
 ];
 

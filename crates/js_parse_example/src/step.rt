@@ -1,5 +1,7 @@
 //! The steps in which an expression is parsed.
 
+ghost use Rattle.std.specs.Prelude.{◌≡◌};
+
 use crate::brackets::Brackets;
 use crate::node::NodeKind;
 use js_text::Span;
@@ -32,7 +34,9 @@ pub struct Step {
 
 impl Step {
     /// A step of which nothing is left.
-    pub fn whole(node: NodeKind) -> Step {
+    pub fn whole(node: NodeKind) -> Step
+        ensures { result.rest ≡ Rest.Nothing }
+    {
         Step {
             node,
             rest: Rest::Nothing,

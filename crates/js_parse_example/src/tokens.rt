@@ -1,6 +1,8 @@
 //! What the parts of the parser share: the cursor, and the nodes of single tokens.
 
-ghost use Rattle.std.specs.Prelude.{◌≤◌, ◌<◌, ◌^◌};
+ghost use Rattle.std.specs.Prelude.{◌≡◌, ◌≤◌, ◌<◌, ◌^◌, true, OnOk};
+ghost use Rattle.std.specs.Option.{is_some};
+ghost use Rattle.js_cursor.specs.Cursor.{StartsLater};
 
 use crate::node::NodeKind;
 use crate::tree::Trees;
@@ -18,6 +20,9 @@ pub const BAD_TARGET: u32 = 1;
 /// The number of the error that no expression stands where one is wanted.
 pub const NO_EXPRESSION: u32 = 2;
 
+/// The number of the error that a token was left out of the trees.
+pub const LEFT_OUT: u32 = 3;
+
 /// Adds a root that ends where the token before the current one did.
 pub fn close(
     cursor: &Tokens<'_>,
@@ -25,7 +30,9 @@ pub fn close(
     mark: usize,
     kind: NodeKind,
     start: u32,
-) -> Result<(), AllocError> {
+) -> Result<(), AllocError>
+    ensures { trees.new.text ≡ trees.old.text }
+{
     trees.close(
         mark,
         kind,
@@ -39,20 +46,21 @@ pub fn close(
 /// Takes the current token as a name.
 pub fn name(cursor: &mut Tokens<'_>, trees: &mut Trees<'_>) -> Result<(), AllocError>
     ensures onward { cursor.old.token.start ≤ cursor.new.token.start }
+    ensures starts { OnOk result (StartsLater cursor.old cursor.new) }
     ensures short { cursor.old.token.start < 2 ^ 32 }
+    ensures text { trees.new.text ≡ trees.old.text }
 {
     let start = cursor.cur_start();
     cursor.bump_any()?;
     close(cursor, trees, trees.mark(), NodeKind::Name, start)
 }
 
-/// Stops the parser: no expression stands here.
-pub fn stop(cursor: &mut Tokens<'_>)
+/// Stops the parser at the current token, by the error of the number, unless an error did so before.
+#[tactic(auto, using(crate::proofs::Stops::is_stopped))]
+pub fn stop(cursor: &mut Tokens<'_>, code: u32)
     ensures onward { cursor.old.token.start ≤ cursor.new.token.start }
+    ensures stopped { is_some cursor.new.fatal ≡ true }
 {
     let span = cursor.cur_span();
-    cursor.set_fatal_error(CursorDiagnostic::Parser {
-        code: NO_EXPRESSION,
-        span,
-    });
+    cursor.set_fatal_error(CursorDiagnostic::Parser { code, span });
 }

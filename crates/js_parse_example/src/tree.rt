@@ -154,6 +154,20 @@ impl<'a> Trees<'a> {
         self.nodes.as_slice()
     }
 
+    /// Where the roots stand.
+    pub fn roots(&self) -> &[Span]
+        ensures { result.now ≡ self.now.roots }
+    {
+        self.roots.as_slice()
+    }
+
+    /// The source.
+    pub fn source(&self) -> &'a str
+        ensures { result.now ≡ self.now.text }
+    {
+        self.source
+    }
+
     /// What the last root is.
     pub fn last_kind(&self) -> Option<NodeKind> {
         self.nodes.as_slice().last().map(|node| node.kind)
@@ -162,7 +176,8 @@ impl<'a> Trees<'a> {
     /// Adds a node, whose children are the roots behind the mark. Where there is no memory for it, no tree may be left.
     fn add(&mut self, mark: usize, node: Node) -> Result<(), AllocError>
         requires { AreKept self.old.text (self.old.nodes ++ node ∷ []) (take mark self.old.roots ++ node.span ∷ []) }
-        ensures { OnOk result (self.new.nodes ≡ self.old.nodes ++ node ∷ []) }
+        ensures node { OnOk result (self.new.nodes ≡ self.old.nodes ++ node ∷ []) }
+        ensures text { self.new.text ≡ self.old.text }
     {
         self.nodes.push(node)?;
         self.roots.truncate(mark);
@@ -179,8 +194,9 @@ impl<'a> Trees<'a> {
     /// Adds a root, whose children are the roots behind the mark. It stands at the span, where a root may; else it
     /// takes up what its children do.
     pub fn close(&mut self, mark: usize, kind: NodeKind, span: Span) -> Result<(), AllocError>
-        ensures { OnOk result ((node : Node) × (self.new.nodes ≡ self.old.nodes ++ node ∷ []) × (node.kind ≡ kind)
+        ensures node { OnOk result ((node : Node) × (self.new.nodes ≡ self.old.nodes ++ node ∷ []) × (node.kind ≡ kind)
             × (node.children ≡ length (drop mark self.old.roots))) }
+        ensures text { self.new.text ≡ self.old.text }
     {
         let mark = mark.min(self.roots.len());
         let (before, within) = self.roots.as_slice().split_at(mark);
