@@ -13,36 +13,18 @@ use Rattle.js_grammar.specs.ReLexed.{again_kinds}
 use Rattle.js_grammar.specs.declared.goal.Goal.TheVariants.{RegularExpression, TemplateTail as TailGoal}
 use Rattle.js_grammar.proofs.AgainKinds.{only_one}
 use Rattle.js_session.specs.declared.command.Command.TheVariants.{Next, Regex, TemplateTail}
-use Rattle.js_session.proofs.LiveLemmas.{last_or-push, last_or-with_last}
+use Rattle.js_session.proofs.LiveLemmas.{last_or-with_last}
+use Rattle.js_choose.specs.LastTokens.{but_last, kind_before, last_kind}
+use Rattle.js_choose.proofs.LastTokenLemmas.{but_last-push, but_last-with_last, ends, last_kind-push}
 use Rattle.js_auto.specs.declared.brace.Brace.{Brace}
 use Rattle.js_auto.specs.Braces.{effect_of, after_effect, braces, braces_from, open_behind}
-use Rattle.js_auto.specs.Choice.{Chooser, begins_expression, but_last, choice_behind, chooser_behind, chooser_of}
-use Rattle.js_auto.specs.Choice.{ends_substitution, kept_last, kind_before, last_kind}
+use Rattle.js_auto.specs.Choice.{Chooser, begins_expression, choice_behind, chooser_behind, chooser_of}
+use Rattle.js_auto.specs.Choice.{ends_substitution, kept_last}
 
 braces-push : (stack : List Brace) (tokens : List TokenParts) (t : TokenParts)
     → braces_from stack (tokens ++ t ∷ []) ≡ after_effect (effect_of t.kind) (braces_from stack tokens)
 braces-push stack [] t = refl
 braces-push stack (u ∷ us) t = braces-push (after_effect (effect_of u.kind) stack) us t
-
-pub but_last-push : (tokens : List TokenParts) (t : TokenParts) → but_last (tokens ++ t ∷ []) ≡ tokens
-but_last-push [] t = refl
-but_last-push (u ∷ []) t = refl
-but_last-push (u ∷ v ∷ vs) t = ap (λ l. u ∷ l) (but_last-push (v ∷ vs) t)
-
-pub last_kind-push : (tokens : List TokenParts) (t : TokenParts) → last_kind (tokens ++ t ∷ []) ≡ Some t.kind
-last_kind-push tokens t = ap (option_map (λ x. x.kind)) (last_or-push None tokens t)
-
--- the last of some tokens, and those before it
-pub record Ends (tokens : List TokenParts) : Type 0 where
-  pub last : TokenParts
-  pub is_last : last_or None tokens ≡ Some last
-  pub tokens_are : tokens ≡ but_last tokens ++ last ∷ []
-
-pub ends : (t : TokenParts) (ts : List TokenParts) → Ends (t ∷ ts)
-ends t [] = record { last = t; is_last = refl; tokens_are = refl }
-ends t (u ∷ us) =
-    let e = ends u us in
-    record { last = e.last; is_last = e.is_last; tokens_are = ap (λ l. t ∷ l) e.tokens_are }
 
 -- the braces that are open behind all tokens are those behind the last one
 braces_behind_last : (tokens : List TokenParts)
@@ -62,12 +44,6 @@ pub chooser-push : (tokens : List TokenParts) (t : TokenParts)
       last = Some t.kind;
     }
 chooser-push tokens t = rw (but_last-push tokens t, last_kind-push tokens t) refl
-
-but_last-with_last : (tokens : List TokenParts) (x : TokenParts) → but_last (with_last tokens x) ≡ but_last tokens
-but_last-with_last [] x = refl
-but_last-with_last (t ∷ []) x = refl
-but_last-with_last (t ∷ u ∷ []) x = refl
-but_last-with_last (t ∷ u ∷ v ∷ vs) x = ap (λ l. t ∷ l) (but_last-with_last (u ∷ v ∷ vs) x)
 
 -- what is kept where the last token is another, and where there is none
 pub chooser-with_last : (tokens : List TokenParts) (x : TokenParts) → IsSome (last_kind tokens)

@@ -1,5 +1,2 @@
-pub mod AutoLemmas
-pub mod Causes
 pub mod ChooserLemmas
-pub mod ChosenLemmas
 pub mod NotableLemmas

@@ -6,17 +6,17 @@ ghost use Rattle.js_text.specs.Lists.{with_last};
 ghost use Rattle.js_kind.specs.Kinds.{is_one_of};
 ghost use Rattle.js_kind.specs.TokenParts.{TokenParts};
 ghost use Rattle.js_grammar.specs.ReLexed.{again_kinds};
-ghost use Rattle.js_auto.specs.Choice.{begins_expression, choice, chooser_of, ends_only_jsx, ends_operand};
+ghost use Rattle.js_auto.specs.Choice.{begins_expression, choice, chooser_of};
 ghost use Rattle.js_auto.specs.Braces.{is_in_substitution, open_behind};
 ghost use Rattle.js_auto.specs.Choice.{choice_behind, chooser_behind};
 ghost use Rattle.js_auto.specs.declared.brace.Brace.{Brace};
 
 use crate::brace::OpenBraces;
 use crate::notable::NotableKinds;
+use js_choose::{ChooseGoals, ends_operand};
 use js_grammar::Goal;
 use js_kind::{Kind, Token};
 use js_session::Command;
-use js_trivia::can_end_expression;
 use std::alloc::{AllocError, Global};
 use std::marker::Model;
 
@@ -54,21 +54,6 @@ impl Model for GoalChooser {
     } };
 
     ghost invariant = { λ c. c.has_last ≡ false → c.last.kind ≡ Eof };
-}
-
-/// Whether an operand may end with the token, though not where JSX is told from operators.
-#[tactic(auto, unfolding(crate::specs::Choice::ends_only_jsx))]
-fn ends_only_jsx(kind: Kind) -> bool
-    ensures { result ≡ ends_only_jsx kind }
-{
-    matches!(kind, Kind::RAngle | Kind::JSXText)
-}
-
-/// Whether an operand may end with a token of the kind.
-fn ends_operand(kind: Kind) -> bool
-    ensures { result ≡ ends_operand kind }
-{
-    can_end_expression(kind) && !ends_only_jsx(kind)
 }
 
 /// Whether a token of the kind begins a regular expression behind one of the kind before.
@@ -203,5 +188,41 @@ impl GoalChooser {
             return Some(Command::Next);
         };
         command_behind(self.braces.is_in_substitution(), self.before.kind(), last)
+    }
+}
+
+impl ChooseGoals for GoalChooser {
+    ghost use Rattle.js_auto.specs.Choice.{choice_in};
+    ghost use Rattle.js_auto.specs.DueLemmas.{each_is_due};
+
+    ghost choice = { choice_in };
+
+    ghost is_told = { λ c tokens. c ≡ chooser_of tokens };
+
+    ghost has_passed = { λ c tokens. c ≡ chooser_behind tokens };
+
+    ghost is_rule = { each_is_due };
+
+    fn new(alloc: Global) -> GoalChooser {
+        GoalChooser::new(alloc)
+    }
+
+    #[inline(always)]
+    fn pass(&mut self) -> Result<(), AllocError> {
+        GoalChooser::pass(self)
+    }
+
+    #[inline(always)]
+    fn read_passed(&mut self, token: &Token) {
+        GoalChooser::read_passed(self, token);
+    }
+
+    fn read_again(&mut self, token: &Token) {
+        GoalChooser::read_again(self, token);
+    }
+
+    #[inline(always)]
+    fn command(&self, _: &str) -> Option<Command> {
+        GoalChooser::command(self)
     }
 }

@@ -4,10 +4,9 @@
 mod auto;
 mod brace;
 mod chooser;
-mod fault;
 pub mod laws;
 mod notable;
 
-pub use auto::{Auto, auto_session};
+pub use auto::auto_session;
 pub use chooser::GoalChooser;
-pub use fault::AutoFault;
+pub use js_choose::{ChoiceFault as AutoFault, Chosen as Auto};

@@ -30,8 +30,8 @@ use Rattle.js_lexer.proofs.ReadAgain.{part_again}
 use Rattle.js_session.proofs.LiveLemmas.{length-with_last, same_live}
 use Rattle.js_session.proofs.StepLemmas.{in_order_lies, on_adds_row, order_added, order_re_lexed, re_lex_adds_row, seen}
 use Rattle.js_auto.specs.Choice.{Chooser, chooser_of}
-use Rattle.js_auto.proofs.ChosenLemmas.{Chosen, chosen_by}
-use Rattle.js_auto.proofs.ChosenLemmas.Chosen.{reads, reads_expression, reads_part}
+use Rattle.js_auto.specs.DueLemmas.{Chosen, chosen_by}
+use Rattle.js_auto.specs.DueLemmas.Chosen.{reads, reads_expression, reads_part}
 use Rattle.js_bench.specs.Drive.{Drives, DrivesTo, MakesStep}
 use Rattle.js_bench.proofs.RowLemmas.{row_made, row_read, row_read_again}
 

@@ -5,7 +5,6 @@ use Rattle.std.specs.Str.{IsUtf8}
 use Rattle.js_text.specs.declared.source_type.SourceType.{SourceType}
 use Rattle.js_kind.specs.TokenParts.{TokenParts}
 use Rattle.js_grammar.specs.Outcome.{joined, no_findings}
-use Rattle.js_grammar.specs.ReLexed.{is_re_lexed}
 use Rattle.js_grammar.specs.declared.goal.Goal.TheVariants.{First}
 use Rattle.js_lexer.specs.Lexer.{LexerState, ReadsToken, fresh, token_or_default}
 use Rattle.js_session.specs.Live.{nothing_live, outcome_of, row_findings, state_after_first, with_outcome}
@@ -17,16 +16,17 @@ use Rattle.js_session.specs.declared.row.Row.{Row}
 use Rattle.js_session.proofs.LiveLemmas.{same_live}
 use Rattle.js_session.proofs.ReadLemmas.{read_is_row}
 use Rattle.js_session.proofs.StepLemmas.{order_added, seen}
-use Rattle.js_auto.specs.Choice.{Chooser, choice, chooser_of}
-use Rattle.js_auto.proofs.AutoLemmas.{Goes, goes_end, goes_less, goes_on, goes_start, left_from, left_of, one_at_most}
+use Rattle.js_choose.proofs.SessionLemmas.{Goes, few_more, goes_end, goes_less, goes_on, goes_start, left_from, left_of}
+use Rattle.js_auto.specs.Choice.{Chooser, choice, choice_in, chooser_of}
+use Rattle.js_auto.specs.DueLemmas.{each_is_due}
 use Rattle.js_bench.specs.Counts.{IsPassOver, counts_of}
 use Rattle.js_bench.specs.Drive.{Drives, DrivesTo, MakesStep}
 use Rattle.js_bench.specs.declared.pass.PassCounts.{PassCounts}
 use Rattle.js_bench.proofs.DriveLemmas.{drives_seen, same_session, same_state}
 use Rattle.js_bench.proofs.RowLemmas.{row_made, row_read}
 
--- How much is left of the text of a lexer from the start of its last token on. It counts twice, and once more where the
--- token may be read again.
+-- How much is left of the text of a lexer from the start of its last token on. It counts three times, and more where
+-- steps may come behind the token that reach no further.
 abbrev pub left : LexerState → ℕ
 left l = left_from l.text (token_or_default l.last)
 
@@ -37,13 +37,12 @@ pub record Passes (text : List ℕ) (t : SourceType) (collects : Bool) (tokens :
   pub session : SessionState
   pub drives : Drives session l c
   pub commands : List Command
-  pub goes : Goes text t collects commands session
+  pub goes : Goes choice_in text t collects commands session
   pub counted : tokens ≡ length session.state.now.tokens
   pub few : tokens + left l < 2 ^ 34
 
-left_at_most : (l : LexerState) → left l ≤ 2 * length l.text + 1
-left_at_most l =
-    let few = one_at_most (is_re_lexed (token_or_default l.last).kind) in omega (arith, few)
+left_at_most : (l : LexerState) → left l ≤ 3 * length l.text + 2
+left_at_most l = omega (arith, few_more l.text (token_or_default l.last))
 
 few_at_first : (l : LexerState) (text : List ℕ) → l.text ≡ text → length text < 2 ^ 32 → 1 + left l < 2 ^ 34
 few_at_first l text is short = omega (arith, left_at_most l, ap length is, short)
@@ -110,7 +109,7 @@ passes_start text t collects new c token u short r told =
           drives_seen after 0 c (subst IsUtf8 (sym r.after.text) u)
           (order_added First None before after [] nothing adds) told;
       commands = [];
-      goes = goes_start text t collects session u begins;
+      goes = goes_start choice_in text t collects session u begins;
       counted = refl;
       few = few_at_first new text r.after.text short;
     }
@@ -140,7 +139,8 @@ passes_less text t collects tokens old new c d command more u p chosen makes =
     let on = makes p.session p.drives in
     let was = left_is text p.session old c p.drives p.goes.text_is in
     let is = left_is text on.session new d on.drives (ap (λ s. s.text) on.adds.after ∙ p.goes.text_is) in
-    let less = goes_less text t collects p.commands p.session on.session command u p.goes chosen on.adds in
+    let less =
+    goes_less choice_in each_is_due text t collects p.commands p.session on.session command u p.goes chosen on.adds in
     less_alike (left old) (left_of text p.session.state.now.tokens) (left new) _ was is less
 
 -- A step that is chosen, which reads one token more at most.
@@ -155,7 +155,8 @@ passes_on text t collects tokens old new c d command more u p chosen makes one =
       session = on.session;
       drives = on.drives;
       commands = p.commands ++ command ∷ [];
-      goes = goes_on text t collects p.commands p.session on.session command u p.goes chosen on.adds;
+      goes =
+          goes_on choice_in each_is_due text t collects p.commands p.session on.session command u p.goes chosen on.adds;
       counted = ap (λ n. n + more) p.counted ∙ sym on.more_are;
       few = few_left tokens more (left old) (left new) less one p.few;
     }
@@ -175,7 +176,7 @@ passes_end text t collects tokens l c counts u short p stops are_tokens are_comm
     record {
       commands = p.commands;
       report = report_of p.session;
-      report_is = goes_end text t collects p.commands p.session u short p.goes stops;
+      report_is = goes_end choice_in each_is_due text t collects p.commands p.session u short p.goes stops;
       counts_are =
           same_counts counts (counts_of (report_of p.session)) (are_tokens ∙ p.counted)
           (are_comments ∙ ap (λ f. length f.comments) found)

@@ -4,7 +4,9 @@ use Rattle.std.proofs.lemmas.List.{flat_map_more, replicate_more}
 use Rattle.std.specs.List.{flat_map}
 use Rattle.std.specs.Prelude.{replicate}
 use Rattle.js_text.specs.declared.source_type.SourceType.{SourceType}
-use Rattle.js_auto.proofs.ChosenLemmas.{one_list}
+use Rattle.js_choose.proofs.ChosenLemmas.{one_list}
+use Rattle.js_auto.specs.Choice.{choice_in}
+use Rattle.js_auto.specs.DueLemmas.{each_is_due}
 use Rattle.js_bench.specs.Counts.{IsPassOver, counts_of}
 use Rattle.js_bench.specs.Run.{HasPasses, pass_line}
 use Rattle.js_bench.specs.declared.pass.PassCounts.{PassCounts}
@@ -23,7 +25,8 @@ same_counts : (source : List ℕ) (t : SourceType) (collects : Bool) (a b : Pass
     → IsPassOver source t collects b → a ≡ b
 same_counts source t collects a b h g =
     h.counts_are
-    ∙ ap counts_of (one_list source t collects h.commands g.commands h.report g.report h.report_is g.report_is).1
+    ∙ ap counts_of
+    (one_list choice_in each_is_due source t collects h.commands g.commands h.report g.report h.report_is g.report_is).1
     ∙ sym g.counts_are
 
 same_lines : (passes : ℕ) (a b : PassCounts) → (0 < passes → a ≡ b) → replicate passes a ≡ replicate passes b

@@ -32,9 +32,9 @@ use Rattle.js_session.proofs.RunLemmas.{state_step}
 use Rattle.js_session.proofs.WholeLemmas.{row_onward}
 use Rattle.js_auto.specs.Auto.{AreChosen, ReportOfChosen}
 use Rattle.js_auto.specs.Choice.{choice}
-use Rattle.js_auto.proofs.AutoLemmas.{LastLies, last_put, not_end}
-use Rattle.js_auto.proofs.ChosenLemmas.{Chosen, chosen_by, chosen_is_step}
-use Rattle.js_auto.proofs.ChosenLemmas.Chosen.{reads, reads_expression, reads_part}
+use Rattle.js_choose.proofs.SessionLemmas.{LastLies, last_put, not_end}
+use Rattle.js_auto.specs.DueLemmas.{Chosen, chosen_by, chosen_is_step}
+use Rattle.js_auto.specs.DueLemmas.Chosen.{reads, reads_expression, reads_part}
 use Rattle.js_lex_c.specs.LiveRows.{live_rows}
 use Rattle.js_lex_c.specs.Tokens.{token_records, value_units}
 use Rattle.js_lex_c.proofs.LiveLemmas.{live_tokens, run_some, run_step, token_of}

@@ -17,7 +17,9 @@ use Rattle.js_session.specs.declared.fault.LexFault.TheVariants as lex_fault
 use Rattle.js_session.specs.declared.report.Report.{Report}
 use Rattle.js_session.proofs.Unique.{report_unique}
 use Rattle.js_session.proofs.WholeUnique.{whole_unique}
-use Rattle.js_auto.proofs.ChosenLemmas.{one_list}
+use Rattle.js_auto.specs.Choice.{choice_in}
+use Rattle.js_auto.specs.DueLemmas.{each_is_due}
+use Rattle.js_choose.proofs.ChosenLemmas.{one_list}
 use Rattle.js_rewrite.specs.Faults.{RewriteCause, first_bad, first_diagnosed, may_rewrite}
 use Rattle.js_rewrite.specs.declared.fault.RewriteFault.{RewriteFault}
 use Rattle.js_rewrite.specs.declared.fault.RewriteFault.TheVariants as rewrite_fault
@@ -81,7 +83,7 @@ meant_unique (Listed listed) source t tokens c d a b m r n s =
     report_unique source t tokens listed a b (subst (λ l. ReportOf source t tokens l a) m r)
     (subst (λ l. ReportOf source t tokens l b) n s)
 meant_unique All source t tokens c d a b m r n s = (whole_unique source t tokens m.0 n.0 a b m.2 n.2).1
-meant_unique Auto source t tokens c d a b m r n s = (one_list source t tokens c d a b m n).1
+meant_unique Auto source t tokens c d a b m r n s = (one_list choice_in each_is_due source t tokens c d a b m n).1
 
 -- A source that is written anew has no cause of a fault.
 pub no_cause : {A : Type 0} (source : List ℕ) (t : SourceType) (commands : List Command) (result : Result A RewriteFault)

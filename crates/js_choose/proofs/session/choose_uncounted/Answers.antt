@@ -1,5 +1,5 @@
 use Rattle.std.proofs.Common.{inr}
-use Rattle.js_auto.proofs.auto.auto_uncounted.Goals as goal
+use Rattle.js_choose.proofs.session.choose_uncounted.Goals as goal
 
 pub returns-in-Err-clause-cause : goal.returns-in-Err-clause-cause
 returns-in-Err-clause-cause g c = inr (c.fault_of.ensures c.args.source.now c.in-Err.ensures.err)

@@ -1,0 +1,4 @@
+pub mod Faults
+pub mod LastTokens
+pub mod Operands
+pub mod Rules
