@@ -1,15 +1,8 @@
 -- What a cursor does is going on from where it was.
-use Rattle.std.proofs.Common.{◌≡◌, Bool, true, false, List, [], ◌∷◌, ◌++◌, refl, sym, ◌∙◌, ap, subst, append_assoc}
-use Rattle.std.proofs.Common.{append-nil}
-use Rattle.std.specs.declared.alloc.AllocError.{AllocError}
-use Rattle.std.specs.Prelude.{Result, Ok, Err, OnOk, OnErr, ◌&&◌, if◌then◌else◌}
-use Rattle.std.specs.Option.{is_some}
-use Rattle.js_kind.specs.Kinds.{is_name_kind}
+use Rattle.std.proofs.Common.{◌≡◌, List, [], ◌∷◌, ◌++◌, refl, sym, ◌∙◌, ap, subst, append_assoc, append-nil}
 use Rattle.js_kind.specs.TokenParts.{TokenParts}
-use Rattle.js_kind.specs.declared.kind.Kind.{Kind}
 use Rattle.js_grammar.specs.Outcome.{joined, no_findings}
 use Rattle.js_grammar.specs.declared.goal.Goal.{Goal}
-use Rattle.js_grammar.specs.declared.goal.Goal.TheVariants.{Next}
 use Rattle.js_reader.specs.Decoded.{Keeps, Values}
 use Rattle.js_lexer.specs.Lexer.{BeginsAlike, IsRestored, LexerState}
 use Rattle.js_lexer.specs.Lexer as of_lexer
@@ -17,9 +10,7 @@ use Rattle.js_lexer.proofs.FindingLaws.{joined-assoc, joined-none}
 use Rattle.js_lexer.proofs.GoesOn.{has_token}
 use Rattle.js_lexer.proofs.LexerSteps.{begins_alike-append, reading_goes_on, re_lexing_goes_on}
 use Rattle.js_cursor.specs.Checkpoint.{GoesOnFrom, without_fatal_error}
-use Rattle.js_cursor.specs.Expect.{expecting}
-use Rattle.js_cursor.specs.Cursor.{Advances, CursorState, IsAsBefore, ReadsOn, is_at, noting_escape, with_error}
-use Rattle.js_cursor.specs.Cursor.{with_fatal_error}
+use Rattle.js_cursor.specs.Cursor.{CursorState, IsAsBefore, ReadsOn, with_error}
 use Rattle.js_cursor.specs.ReLex.{ReLexes}
 use Rattle.js_cursor.specs.declared.diagnostic.CursorDiagnostic.{CursorDiagnostic}
 
@@ -129,39 +120,6 @@ error_goes_on error c =
       errors = refl;
     }
 
-goes_on_either : (b : Bool) (c x y : CursorState) → GoesOnFrom c x → GoesOnFrom c y
-    → GoesOnFrom c (if b then x else y)
-goes_on_either true c x y h k = h
-goes_on_either false c x y h k = k
-
-pub fatal_error_goes_on : (error : CursorDiagnostic) (c : CursorState) → GoesOnFrom c (with_fatal_error error c)
-fatal_error_goes_on error c =
-    let r = goes_on-refl c in
-    goes_on_either (is_some c.fatal) c c _ r
-    (record {
-      lexer = record {
-        text = refl;
-        source_type = refl;
-        collects = refl;
-        tokens = r.lexer.tokens;
-        findings = no_findings;
-        goes_on = r.lexer.goes_on;
-      };
-      decoded = r.decoded;
-      ambient = refl;
-      more = [];
-      errors = r.errors;
-    })
-
-pub noting_escape_goes_on : (kind : Kind) (c : CursorState) → GoesOnFrom c (noting_escape kind c)
-noting_escape_goes_on kind c =
-    goes_on_either (c.token.escaped && is_name_kind kind) c _ c (error_goes_on _ c) (goes_on-refl c)
-
-pub advances_goes_on : (kind : Kind) (old new : CursorState) → Advances kind old new → GoesOnFrom old new
-advances_goes_on kind old new r =
-    goes_on-trans old (noting_escape kind old) new (noting_escape_goes_on kind old)
-    (reads_on_goes_on Next (noting_escape kind old) new r)
-
 -- a cursor that goes on from where its fatal error was taken goes on from there
 pub goes_on_without_fatal_error : (old now : CursorState) → GoesOnFrom (without_fatal_error old) now
     → GoesOnFrom old now
@@ -171,29 +129,4 @@ goes_on_without_fatal_error old now g = record {
   ambient = g.ambient;
   more = g.more;
   errors = g.errors;
-}
-
-pub expecting_goes_on : (kind : Kind) (c : CursorState) → GoesOnFrom c (expecting kind c)
-expecting_goes_on kind c = goes_on_either (is_at kind c) c c _ (goes_on-refl c) (fatal_error_goes_on _ c)
-
--- an error that is reported, or for which there is no memory
-pub reported_goes_on : (error : CursorDiagnostic) (old new : CursorState) (r : Result (Unit {0}) AllocError)
-    → OnOk r (new ≡ with_error error old) → OnErr r (new ≡ old) → GoesOnFrom old new
-reported_goes_on error old new (Ok u) ok err = subst (GoesOnFrom old) (sym ok) (error_goes_on error old)
-reported_goes_on error old new (Err e) ok err = subst (GoesOnFrom old) (sym err) (goes_on-refl old)
-
--- a fatal error
-pub stopped_goes_on : (error : CursorDiagnostic) (old new : CursorState) → new ≡ with_fatal_error error old
-    → GoesOnFrom old new
-stopped_goes_on error old new e = subst (GoesOnFrom old) (sym e) (fatal_error_goes_on error old)
-
--- a lexer that is as it was, but for decoded values that were added
-pub goes_on_restored : (old : CursorState) (l : LexerState) → IsRestored old.lexer l
-    → Keeps old.lexer.decoded l.decoded → GoesOnFrom old (record old { lexer = l })
-goes_on_restored old l r kept = record {
-  lexer = restored_goes_on old.lexer l r;
-  decoded = kept;
-  ambient = refl;
-  more = [];
-  errors = sym (append-nil old.errors);
 }

@@ -2,7 +2,6 @@ pub mod AheadSteps
 pub mod CursorSteps
 pub mod FailingSteps
 pub mod GoesOn
-pub mod PlaceSteps
 pub mod RestItems
 pub mod RoundSteps
 pub mod TokenSteps

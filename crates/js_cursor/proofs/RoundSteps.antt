@@ -6,11 +6,12 @@ use Rattle.std.specs.Option.{is_some}
 use Rattle.std.proofs.lemmas.Bool.Decides.{nat_tests}
 use Rattle.std.proofs.lemmas.Fn.{FoldsTo-push}
 use Rattle.js_kind.specs.declared.kind.Kind.{Kind}
-use Rattle.js_cursor.specs.Checkpoint.{GoesOnFrom}
+use Rattle.js_lexer.specs.Places.{KeepsPlaces}
 use Rattle.js_cursor.specs.Cursor.{CursorState, is_at}
 use Rattle.js_cursor.specs.Lists.{Answering, GoesOn, IsRound, LeadingOn, Reading, Rounds, ends_at, is_stuck}
 use Rattle.js_cursor.specs.Lists.{is_stuck_at, left_to_read}
-use Rattle.js_cursor.proofs.GoesOn.{goes_on-trans}
+use Rattle.js_cursor.specs.Onward.{GoesOnIf, HasNotGoneBack}
+use Rattle.js_cursor.proofs.GoesOn.{goes_on-refl, goes_on-trans}
 
 -- one more round
 pub rounds-push : {F T : Type 0} (Q : Reading F T) (f : F) (c : CursorState) (xs : List T) (g : F) (d : CursorState)
@@ -57,7 +58,40 @@ round-push R close f c xs ys g d x h e rounds is_open read leading added =
     (rounds-push (LeadingOn (IsRound R close)) f c xs g d x h e rounds
     (record { is_open = is_open; read = read }, leading))
 
--- an element was called for behind what went on
+-- what goes on if others do
+pub goes_on_if-refl : (others : Type 0) (c : CursorState) → GoesOnIf others c c
+goes_on_if-refl others c = record { places = omega arith; goes_on = λ onward. goes_on-refl c }
+
+pub goes_on_if-trans : (others : Type 0) (a b c : CursorState) → GoesOnIf others a b → GoesOnIf others b c
+    → GoesOnIf others a c
+goes_on_if-trans others a b c h k = record {
+  places = omega (arith, h.places, k.places);
+  goes_on = λ onward. goes_on-trans a b c (h.goes_on onward) (k.goes_on onward);
+}
+
+pub goes_on_always : (others : Type 0) (a b : CursorState) → HasNotGoneBack a b → GoesOnIf others a b
+goes_on_always others a b h = record { places = h.places.count; goes_on = λ onward. h.goes_on }
+
+-- an element was called for
+pub read_goes_on : {F T Fault : Type 0} (A : Answering F T Fault) (c : CursorState) (f : F) (answer : Result T Fault)
+    (g : F) (d : CursorState) → A f c answer g d → KeepsPlaces c.lexer d.lexer → GoesOnIf (GoesOn A) c d
+read_goes_on A c f answer g d read places =
+    record { places = places; goes_on = λ onward. onward f c answer g d read }
+
+-- and so behind what went on
 pub then_read : {F T Fault : Type 0} (A : Answering F T Fault) (a b : CursorState) (f : F) (answer : Result T Fault)
-    (g : F) (d : CursorState) → (GoesOn A → GoesOnFrom a b) → A f b answer g d → GoesOn A → GoesOnFrom a d
-then_read A a b f answer g d before read onward = goes_on-trans a b d (before onward) (onward f b answer g d read)
+    (g : F) (d : CursorState) → GoesOnIf (GoesOn A) a b → A f b answer g d → KeepsPlaces b.lexer d.lexer
+    → GoesOnIf (GoesOn A) a d
+then_read A a b f answer g d before read places =
+    goes_on_if-trans (GoesOn A) a b d before (read_goes_on A b f answer g d read places)
+
+-- what goes on always, behind what goes on if others do
+pub goes_on_behind : (others : Type 0) (a b c : CursorState) → GoesOnIf others a b → HasNotGoneBack b c
+    → GoesOnIf others a c
+goes_on_behind others a b c h k = goes_on_if-trans others a b c h (goes_on_always others b c k)
+
+-- and what goes on if others do, between what goes on always
+pub goes_on_around : (others : Type 0) (a b c d : CursorState) → HasNotGoneBack a b → GoesOnIf others b c
+    → HasNotGoneBack c d → GoesOnIf others a d
+goes_on_around others a b c d first h last =
+    goes_on_behind others a c d (goes_on_if-trans others a b c (goes_on_always others a b first) h) last

@@ -1,35 +1,35 @@
 -- Where the current token and the one before it stand.
-use Rattle.std.proofs.Common.{◌≡◌, ◌≢◌, ◌<◌, ◌≤◌, ℕ, Bool, true, false, List, length, refl, sym, ◌∙◌, ap, subst, arith}
-use Rattle.std.proofs.Common.{Some}
+use Rattle.std.proofs.Common.{◌≡◌, ◌≢◌, ◌<◌, ◌≤◌, ℕ, Bool, true, false, List, [], length, refl, sym, ◌∙◌, ap, subst}
+use Rattle.std.proofs.Common.{Some, arith}
 use Rattle.std.specs.Prelude.{Result, Ok, Err, MatchBool, OnOk, OnErr, ◌&&◌, if◌then◌else◌}
 use Rattle.std.specs.Option.{is_some}
 use Rattle.std.specs.Str.{IsCharBoundary}
 use Rattle.std.specs.declared.alloc.AllocError.{AllocError}
 use Rattle.js_text.specs.declared.source_type.SourceType.{SourceType}
-use Rattle.js_text.specs.declared.reg_exp_flags.RegExpFlags.{RegExpFlags}
 use Rattle.js_text.specs.declared.span.Span.{Span}
 use Rattle.js_kind.specs.Kinds.{is_name_kind}
 use Rattle.js_kind.specs.TokenParts.{TokenParts}
 use Rattle.js_kind.specs.declared.kind.Kind.{Kind}
 use Rattle.js_kind.specs.declared.kind.Kind.TheVariants.{Colon, Eof, Semicolon}
 use Rattle.js_grammar.specs.Goals.{GoalReads}
-use Rattle.js_grammar.specs.Outcome.{Outcome}
+use Rattle.js_grammar.specs.Outcome.{Outcome, no_findings}
 use Rattle.js_grammar.specs.Reads.{is_onward}
 use Rattle.js_grammar.specs.declared.goal.Goal.{Goal}
 use Rattle.js_grammar.specs.declared.goal.Goal.TheVariants.{First, Next, TemplateTail, RegularExpression, RightAngle}
 use Rattle.js_grammar.specs.declared.goal.Goal.TheVariants.{TypeScriptLeftAngle, TypeScriptRightAngle, JsxIdentifier}
 use Rattle.js_grammar.specs.declared.goal.Goal.TheVariants.{JsxChild, JsxAttributeValue}
-use Rattle.js_reader.specs.Decoded.{Keeps}
-use Rattle.js_lexer.specs.Lexer.{Checkpoint, IsRestored, LexerState, LexesAgain, ReadsToken, rewound}
-use Rattle.js_cursor.specs.Checkpoint.{GoesOnFrom, HasNotAdvanced, IsOfToken}
-use Rattle.js_cursor.specs.Cursor.{CursorState, HasByte, HasPassed, IsAsBefore, IsOnToken, ReadsOn, StartsLater}
-use Rattle.js_cursor.specs.Cursor.{allows_semicolon, is_at, noting_escape, with_error, with_fatal_error}
-use Rattle.js_cursor.specs.ReLex.{ReLexes, ReadsExpression}
+use Rattle.js_lexer.specs.Lexer.{Checkpoint, LexerState, LexesAgain, ReadsToken, rewound}
+use Rattle.js_lexer.specs.Places.{HoldsAsMany, IsSparse, ReadsInPlaces, StaysInPlaces}
+use Rattle.js_cursor.specs.Checkpoint.{GoesOnFrom, IsOfToken}
+use Rattle.js_cursor.specs.Cursor.{Advances, CursorState, HasByte, IsAsBefore, IsOnToken, ReadsOn, allows_semicolon}
+use Rattle.js_cursor.specs.Cursor.{is_at, noting_escape, with_error, with_fatal_error}
+use Rattle.js_cursor.specs.Onward.{HasNotAdvanced, HasNotGoneBack, HasPassed}
+use Rattle.js_cursor.specs.ReLex.{ReLexes}
 use Rattle.js_cursor.specs.Expect.{expecting, expecting_alternative, expecting_closing, expecting_semicolon}
 use Rattle.js_cursor.specs.declared.diagnostic.CursorDiagnostic.{CursorDiagnostic}
 use Rattle.js_cursor.proofs.CursorSteps.{kind_at}
-use Rattle.js_cursor.proofs.GoesOn.{as_before_goes_on, error_goes_on, fatal_error_goes_on, goes_on-refl, goes_on-trans}
-use Rattle.js_cursor.proofs.GoesOn.{goes_on_restored, re_lexes_goes_on, reported_goes_on}
+use Rattle.js_cursor.proofs.GoesOn.{as_before_goes_on, error_goes_on, goes_on-refl, goes_on-trans, re_lexes_goes_on}
+use Rattle.js_cursor.proofs.GoesOn.{reads_on_goes_on}
 
 -- the lexer stands on a token that it has read
 pub on_read : (goal : Goal) (text : List ℕ) (old new : LexerState) (before token : TokenParts) (previous : ℕ)
@@ -129,66 +129,94 @@ on_end text old new token previous on place e =
       previous = on.previous;
     })
 
--- Where the next token was read: the old one, of which the new one starts behind the end, and the places.
+-- and so does the lexer of a cursor as it is seen
+pub on_view : (text : List ℕ) (a b : CursorState) → a ≡ b → IsOnToken text a.lexer a.token a.previous_end
+    → IsOnToken text b.lexer b.token b.previous_end
+on_view text a b e on = subst (λ (s : CursorState). IsOnToken text s.lexer s.token s.previous_end) e on
+
+-- Where the next token was read, the old one was passed, and nothing has gone back.
 pub record MovesOn (old new : CursorState) : Type 0 where
-  pub starts : StartsLater old new
-  pub passed : HasPassed old new
-  pub onward : old.token.start ≤ new.token.start
-  pub previous : old.previous_end ≤ new.previous_end
+  pub passed : HasPassed old.token.kind old new
+  pub onward : HasNotGoneBack old new
 
 pub moves_on : (goal : Goal) (text : List ℕ) (old new : CursorState) → is_onward goal ≡ true
-    → IsOnToken text old.lexer old.token old.previous_end → ReadsOn goal old new → MovesOn old new
-moves_on goal text old new onward on r =
+    → IsOnToken text old.lexer old.token old.previous_end → ReadsInPlaces old.lexer new.lexer → ReadsOn goal old new
+    → MovesOn old new
+moves_on goal text old new onward on places r =
     let next = on_read goal text old.lexer new.lexer old.token new.token old.previous_end onward on r.read in
     let end : new.previous_end ≡ old.token.end = ap (λ (c : CursorState). c.previous_end) r.others in
     let behind : old.token.end ≤ new.token.start = next.previous in
     record {
-      starts = λ some. let bytes : old.token.start < old.token.end = on.some_text some in omega (arith, bytes, behind);
-      passed = omega (arith, on.ordered, end);
-      onward = omega (arith, on.ordered, behind);
-      previous = omega (arith, on.ordered, on.previous, end);
+      passed = record {
+        starts =
+            λ some.
+            let bytes : old.token.start < old.token.end = on.some_text some in
+            omega (arith, bytes, behind);
+        ends = omega (arith, on.ordered, end);
+      };
+      onward = record {
+        places = places;
+        goes_on = reads_on_goes_on goal old new r;
+        start = omega (arith, on.ordered, behind);
+        previous = omega (arith, on.ordered, on.previous, end);
+      };
     }
 
--- a cursor that is as it was has the same previous end
-pub previous_as_before : (old new : CursorState) → IsAsBefore old new → old.previous_end ≤ new.previous_end
-previous_as_before old new r =
-    let same : new.previous_end ≡ old.previous_end = ap (λ (c : CursorState). c.previous_end) r.others in
-    omega (arith, same)
-
-pub onward_as_before : (old new : CursorState) → IsAsBefore old new → old.token.start ≤ new.token.start
-onward_as_before old new r =
-    let same : new.token.start ≡ old.token.start = ap (λ (c : CursorState). c.token.start) r.others in
-    omega (arith, same)
-
--- The cursor has not advanced, and went on.
+-- The cursor stays on its token, with as many tokens in as many places.
 pub record StaysAt (old new : CursorState) : Type 0 where
   pub token : new.token ≡ old.token
   pub previous : new.previous_end ≡ old.previous_end
   pub goes_on : GoesOnFrom old new
+  pub held : HoldsAsMany old.lexer new.lexer
 
 stays : (c : CursorState) → StaysAt c c
-stays c = record { token = refl; previous = refl; goes_on = goes_on-refl c }
+stays c = record {
+  token = refl;
+  previous = refl;
+  goes_on = goes_on-refl c;
+  held = record { text = refl; collects = refl; last = refl; tokens = refl; free = refl };
+}
 
 stays_either : (b : Bool) (c x y : CursorState) → StaysAt c x → StaysAt c y → StaysAt c (if b then x else y)
 stays_either true c x y h k = h
 stays_either false c x y h k = k
 
-tokens_either : (b : Bool) (c x : CursorState) → x.token ≡ c.token → x.previous_end ≡ c.previous_end
-    → ((if b then c else x).token ≡ c.token) × ((if b then c else x).previous_end ≡ c.previous_end)
-tokens_either true c x e f = (refl, refl)
-tokens_either false c x e f = (e, f)
-
 pub stays_fatal : (error : CursorDiagnostic) (c : CursorState) → StaysAt c (with_fatal_error error c)
 stays_fatal error c =
+    let r = goes_on-refl c in
     let at_end : CursorState =
     record c {
       fatal = Some (record { error = error; errors_len = length c.lexer.findings.diagnostics });
       lexer = record c.lexer { place = length c.lexer.text };
     } in
-    let same : ((if is_some c.fatal then c else at_end).token ≡ c.token)
-    × ((if is_some c.fatal then c else at_end).previous_end ≡ c.previous_end) =
-    tokens_either (is_some c.fatal) c at_end refl refl in
-    record { token = same.0; previous = same.1; goes_on = fatal_error_goes_on error c }
+    stays_either (is_some c.fatal) c c at_end (stays c)
+    (record {
+      token = refl;
+      previous = refl;
+      goes_on = record {
+        lexer = record {
+          text = refl;
+          source_type = refl;
+          collects = refl;
+          tokens = r.lexer.tokens;
+          findings = no_findings;
+          goes_on = r.lexer.goes_on;
+        };
+        decoded = r.decoded;
+        ambient = refl;
+        more = [];
+        errors = r.errors;
+      };
+      held = record { text = refl; collects = refl; last = refl; tokens = refl; free = refl };
+    })
+
+pub stays_error : (error : CursorDiagnostic) (c : CursorState) → StaysAt c (with_error error c)
+stays_error error c = record {
+  token = refl;
+  previous = refl;
+  goes_on = error_goes_on error c;
+  held = (stays c).held;
+}
 
 pub stays_expecting : (kind : Kind) (c : CursorState) → StaysAt c (expecting kind c)
 stays_expecting kind c = stays_either (is_at kind c) c c _ (stays c) (stays_fatal _ c)
@@ -203,140 +231,153 @@ pub stays_semicolon : (c : CursorState) → StaysAt c (expecting_semicolon c)
 stays_semicolon c = stays_either (allows_semicolon c.token) c c _ (stays c) (stays_fatal _ c)
 
 pub stays_noting : (kind : Kind) (c : CursorState) → StaysAt c (noting_escape kind c)
-stays_noting kind c =
-    stays_either (c.token.escaped && is_name_kind kind) c _ c
-    (record { token = refl; previous = refl; goes_on = error_goes_on _ c }) (stays c)
+stays_noting kind c = stays_either (c.token.escaped && is_name_kind kind) c _ c (stays_error _ c) (stays c)
 
--- a cursor that equals one that has not advanced
-pub stays_as : (a b c : CursorState) → c ≡ b → StaysAt a b → StaysAt a c
-stays_as a b c e h = subst (StaysAt a) (sym e) h
+pub advances_goes_on : (kind : Kind) (old new : CursorState) → Advances kind old new → GoesOnFrom old new
+advances_goes_on kind old new r =
+    goes_on-trans old (noting_escape kind old) new (stays_noting kind old).goes_on
+    (reads_on_goes_on Next (noting_escape kind old) new r)
 
-pub previous_as : (a b c : CursorState) → c ≡ b → StaysAt a b → a.previous_end ≤ c.previous_end
-previous_as a b c e h = let same = (stays_as a b c e h).previous in omega (arith, same)
+still_sparse : (a b : LexerState) → HoldsAsMany a b → IsSparse a → IsSparse b
+still_sparse a b h sparse = rw (h.collects, h.last) (let tokens = h.tokens in omega (arith, sparse, tokens))
 
-pub onward_as : (a b c : CursorState) → c ≡ b → StaysAt a b → a.token.start ≤ c.token.start
-onward_as a b c e h =
-    let same : c.token.start ≡ a.token.start = ap (λ (t : TokenParts). t.start) (stays_as a b c e h).token in
-    omega (arith, same)
+-- a cursor that stays on its token has not advanced
+stays_places : (a b : LexerState) → HoldsAsMany a b → StaysInPlaces a b
+stays_places a b h = record {
+  count = let tokens = h.tokens in let free = h.free in omega (arith, tokens, free);
+  sparse = still_sparse a b h;
+}
+
+pub not_advanced : (a b c : CursorState) → c ≡ b → StaysAt a b → HasNotAdvanced a c
+not_advanced a b c e h =
+    subst (HasNotAdvanced a) (sym e)
+    (record {
+      places = stays_places a.lexer b.lexer h.held;
+      goes_on = h.goes_on;
+      start = ap (λ (t : TokenParts). t.start) h.token;
+      previous = h.previous;
+    })
+
+-- and one that has not advanced has not gone back
+pub not_back : (a b : CursorState) → HasNotAdvanced a b → HasNotGoneBack a b
+not_back a b h = record {
+  places = record { count = h.places.count; sparse = λ sparse byte. h.places.sparse sparse };
+  goes_on = h.goes_on;
+  start = let start = h.start in omega (arith, start);
+  previous = let previous = h.previous in omega (arith, previous);
+}
+
+pub stays_back : (a b c : CursorState) → c ≡ b → StaysAt a b → HasNotGoneBack a c
+stays_back a b c e h = not_back a c (not_advanced a b c e h)
 
 -- a cursor in which nothing has changed
-pub unchanged : (a c : CursorState) → c ≡ a → GoesOnFrom a c
-unchanged a c e = (stays_as a a c e (stays a)).goes_on
+pub unmoved : (a c : CursorState) → c ≡ a → HasNotAdvanced a c
+unmoved a c e = not_advanced a a c e (stays a)
 
-pub goes_on_behind : (a b c d : CursorState) → c ≡ b → StaysAt a b → GoesOnFrom c d → GoesOnFrom a d
-goes_on_behind a b c d e h g = goes_on-trans a c d (stays_as a b c e h).goes_on g
+pub unchanged : (a c : CursorState) → c ≡ a → HasNotGoneBack a c
+unchanged a c e = not_back a c (unmoved a c e)
 
-pub previous_behind : (a b c d : CursorState) → c ≡ b → StaysAt a b → c.previous_end ≤ d.previous_end
-    → a.previous_end ≤ d.previous_end
-previous_behind a b c d e h le = let same = (stays_as a b c e h).previous in omega (arith, same, le)
-
-pub onward_behind : (a b c d : CursorState) → c ≡ b → StaysAt a b → c.token.start ≤ d.token.start
-    → a.token.start ≤ d.token.start
-onward_behind a b c d e h le =
-    let same : c.token.start ≡ a.token.start = ap (λ (t : TokenParts). t.start) (stays_as a b c e h).token in
-    omega (arith, same, le)
-
-pub starts_behind : (a b c d : CursorState) → c ≡ b → StaysAt a b → (r : Result (Unit {0}) AllocError)
-    → OnOk r (StartsLater c d) → OnOk r (StartsLater a d)
-starts_behind a b c d e h (Ok u) later =
-    subst (λ (t : TokenParts). t.kind ≢ Eof → t.start < d.token.start) (stays_as a b c e h).token later
-starts_behind a b c d e h (Err error) later = tt
+-- a cursor that goes on from where another one stays
+pub onward_behind : (a b c d : CursorState) → c ≡ b → StaysAt a b → HasNotGoneBack c d → HasNotGoneBack a d
+onward_behind a b c d e h k =
+    let before = not_advanced a b c e h in
+    let last : c.lexer.last ≡ a.lexer.last = ap (λ (s : CursorState). s.lexer.last) e ∙ h.held.last in
+    record {
+      places = record {
+        count = let first = before.places.count in let next = k.places.count in omega (arith, first, next);
+        sparse = λ sparse byte. k.places.sparse (before.places.sparse sparse) (rw last byte);
+      };
+      goes_on = goes_on-trans a c d before.goes_on k.goes_on;
+      start = let same = before.start in let le = k.start in omega (arith, same, le);
+      previous = let same = before.previous in let le = k.previous in omega (arith, same, le);
+    }
 
 pub passed_behind : (a b c d : CursorState) → c ≡ b → StaysAt a b → (r : Result (Unit {0}) AllocError)
-    → OnOk r (HasPassed c d) → OnOk r (HasPassed a d)
+    → OnOk r (HasPassed c.token.kind c d) → OnOk r (HasPassed a.token.kind a d)
 passed_behind a b c d e h (Ok u) passed =
-    subst (λ (t : TokenParts). t.start ≤ d.previous_end) (stays_as a b c e h).token passed
+    let same : c.token ≡ a.token = ap (λ (s : CursorState). s.token) e ∙ h.token in
+    record {
+      starts = subst (λ (t : TokenParts). t.kind ≢ Eof → t.start < d.token.start) same passed.starts;
+      ends = subst (λ (t : TokenParts). t.start ≤ d.previous_end) same passed.ends;
+    }
 passed_behind a b c d e h (Err error) passed = tt
+
+-- a cursor that has not advanced from where another one has gone on
+pub then_stays : (a b c : CursorState) → HasNotGoneBack a b → HasNotAdvanced b c → HasNotGoneBack a c
+then_stays a b c h k = record {
+  places = record {
+    count = let first = h.places.count in let next = k.places.count in omega (arith, first, next);
+    sparse = λ sparse byte. k.places.sparse (h.places.sparse sparse byte);
+  };
+  goes_on = goes_on-trans a b c h.goes_on k.goes_on;
+  start = let le = h.start in let same = k.start in omega (arith, same, le);
+  previous = let le = h.previous in let same = k.previous in omega (arith, same, le);
+}
+
+-- a cursor that is as it was has not gone back
+pub before_onward : (old new : CursorState) → IsAsBefore old new → ReadsInPlaces old.lexer new.lexer
+    → HasNotGoneBack old new
+before_onward old new r places =
+    let start : new.token.start ≡ old.token.start = ap (λ (c : CursorState). c.token.start) r.others in
+    let previous : new.previous_end ≡ old.previous_end = ap (λ (c : CursorState). c.previous_end) r.others in
+    record {
+      places = places;
+      goes_on = as_before_goes_on old new r;
+      start = omega (arith, start);
+      previous = omega (arith, previous);
+    }
 
 -- a token that was read again stands where it did
 pub in_its_place : (goal : Goal) (text : List ℕ) (old new : CursorState) → is_onward goal ≡ false
-    → IsOnToken text old.lexer old.token old.previous_end → ReLexes goal old new → HasNotAdvanced old new
-in_its_place goal text old new again on r =
+    → IsOnToken text old.lexer old.token old.previous_end → StaysInPlaces old.lexer new.lexer → ReLexes goal old new
+    → HasNotAdvanced old new
+in_its_place goal text old new again on places r =
     let start : r.read.outcome.token.start ≡ old.token.start =
     starts_in old.lexer.text old.lexer.source_type goal old.token old.lexer.place r.read.outcome again
     (subst (λ o. GoalReads old.lexer.text old.lexer.source_type goal o old.lexer.place r.read.outcome) on.last
     r.read.reads.reads) in
     record {
+      places = places;
       goes_on = re_lexes_goes_on goal old new r;
       start = ap (λ (t : TokenParts). t.start) r.read.token_is ∙ start;
       previous = ap (λ (c : CursorState). c.previous_end) r.others;
     }
 
-pub expression_in_its_place : (text : List ℕ) (old new : CursorState) (pattern_end : ℕ) (flags : RegExpFlags)
-    (flags_error : Bool) → IsOnToken text old.lexer old.token old.previous_end
-    → ReadsExpression old pattern_end flags flags_error new → HasNotAdvanced old new
-expression_in_its_place text old new pattern_end flags flags_error on r =
-    in_its_place RegularExpression text old new refl on (record { read = r.read.again; others = r.others })
+pub taken_in_place : (goal : Goal) (text : List ℕ) (b : Bool) (old new : CursorState) → is_onward goal ≡ false
+    → IsOnToken text old.lexer old.token old.previous_end → StaysInPlaces old.lexer new.lexer
+    → MatchBool b (ReLexes goal old new) (new ≡ old) → HasNotAdvanced old new
+taken_in_place goal text true old new again on places r = in_its_place goal text old new again on places r
+taken_in_place goal text false old new again on places e = unmoved old new e
 
-pub before_in_its_place : (old new : CursorState) → IsAsBefore old new → HasNotAdvanced old new
-before_in_its_place old new r = record {
+pub before_in_its_place : (old new : CursorState) → StaysInPlaces old.lexer new.lexer → IsAsBefore old new
+    → HasNotAdvanced old new
+before_in_its_place old new places r = record {
+  places = places;
   goes_on = as_before_goes_on old new r;
   start = ap (λ (c : CursorState). c.token.start) r.others;
   previous = ap (λ (c : CursorState). c.previous_end) r.others;
 }
 
-pub restored_in_its_place : (old : CursorState) (l : LexerState) → IsRestored old.lexer l
-    → Keeps old.lexer.decoded l.decoded → HasNotAdvanced old (record old { lexer = l })
-restored_in_its_place old l r kept =
-    record { goes_on = goes_on_restored old l r kept; start = refl; previous = refl }
-
--- and so does one that was not
-pub unmoved : (old new : CursorState) → new ≡ old → HasNotAdvanced old new
-unmoved old new e = record {
-  goes_on = unchanged old new e;
-  start = ap (λ (c : CursorState). c.token.start) e;
-  previous = ap (λ (c : CursorState). c.previous_end) e;
-}
-
-pub taken_in_place : (goal : Goal) (text : List ℕ) (b : Bool) (old new : CursorState) → is_onward goal ≡ false
-    → IsOnToken text old.lexer old.token old.previous_end → MatchBool b (ReLexes goal old new) (new ≡ old)
-    → HasNotAdvanced old new
-taken_in_place goal text true old new again on r = in_its_place goal text old new again on r
-taken_in_place goal text false old new again on e = unmoved old new e
-
--- nor does a fatal error advance, nor what reports an error
-pub not_advanced : (old new : CursorState) → StaysAt old new → HasNotAdvanced old new
-not_advanced old new h = record {
-  goes_on = h.goes_on;
-  start = ap (λ (t : TokenParts). t.start) h.token;
-  previous = h.previous;
-}
-
-pub stopped : (error : CursorDiagnostic) (old new : CursorState) → new ≡ with_fatal_error error old
-    → HasNotAdvanced old new
-stopped error old new e = not_advanced old new (stays_as old _ new e (stays_fatal error old))
-
-pub expected : (kind : Kind) (old new : CursorState) → new ≡ expecting kind old → HasNotAdvanced old new
-expected kind old new e = not_advanced old new (stays_as old _ new e (stays_expecting kind old))
-
+-- an error that is reported, or for which there is no memory
 pub reported : (error : CursorDiagnostic) (old new : CursorState) (r : Result (Unit {0}) AllocError)
     → OnOk r (new ≡ with_error error old) → OnErr r (new ≡ old) → HasNotAdvanced old new
-reported error old new (Ok u) ok err = record {
-  goes_on = reported_goes_on error old new (Ok u) ok err;
-  start = ap (λ (c : CursorState). c.token.start) ok;
-  previous = ap (λ (c : CursorState). c.previous_end) ok;
-}
+reported error old new (Ok u) ok err = not_advanced old _ new ok (stays_error error old)
 reported error old new (Err e) ok err = unmoved old new err
 
 -- a token of the kind was passed
-pub starts_at : (kind : Kind) (old new : CursorState) (r : Result (Unit {0}) AllocError) → is_at kind old ≡ true
-    → OnOk r (StartsLater old new)
-    → OnOk r (is_at kind old ≡ true → kind ≢ Eof → old.token.start < new.token.start)
-starts_at kind old new (Ok u) at later = λ told some. later (λ e. some (sym (kind_at kind old at) ∙ e))
-starts_at kind old new (Err error) at later = tt
+pub passed_at : (kind : Kind) (old new : CursorState) → is_at kind old ≡ true → HasPassed old.token.kind old new
+    → HasPassed kind old new
+passed_at kind old new at passed =
+    record { starts = λ some. passed.starts (λ e. some (sym (kind_at kind old at) ∙ e)); ends = passed.ends }
 
-pub passed_at : (kind : Kind) (old new : CursorState) (r : Result (Unit {0}) AllocError) → OnOk r (HasPassed old new)
-    → OnOk r (is_at kind old ≡ true → HasPassed old new)
-passed_at kind old new (Ok u) passed = λ told. passed
-passed_at kind old new (Err error) passed = tt
-
-semicolon_starts : (old new : CursorState) (r : Result (Unit {0}) AllocError)
-    → OnOk r (is_at Semicolon old ≡ true → Semicolon ≢ Eof → old.token.start < new.token.start)
-    → OnOk r (is_at Semicolon old ≡ true → old.token.start < new.token.start)
-semicolon_starts old new (Ok u) later = λ told. later told (λ e. absurd (cc))
-semicolon_starts old new (Err error) later = tt
+pub passed_if_at : (kind : Kind) (old new : CursorState) (r : Result (Unit {0}) AllocError) → is_at kind old ≡ true
+    → OnOk r (HasPassed old.token.kind old new) → OnOk r (is_at kind old ≡ true → HasPassed kind old new)
+passed_if_at kind old new (Ok u) at passed = λ told. passed_at kind old new at passed
+passed_if_at kind old new (Err error) at passed = tt
 
 pub starts_behind_semicolon : (old new : CursorState) (r : Result (Unit {0}) AllocError)
-    → is_at Semicolon old ≡ true → OnOk r (StartsLater old new)
+    → is_at Semicolon old ≡ true → OnOk r (HasPassed old.token.kind old new)
     → OnOk r (is_at Semicolon old ≡ true → old.token.start < new.token.start)
-starts_behind_semicolon old new r at later = semicolon_starts old new r (starts_at Semicolon old new r at later)
+starts_behind_semicolon old new (Ok u) at passed =
+    λ told. (passed_at Semicolon old new at passed).starts (λ e. absurd (cc))
+starts_behind_semicolon old new (Err error) at passed = tt

@@ -70,9 +70,3 @@ pub record GoesOnFrom (old now : CursorState) : Type 0 where
   pub ambient : now.ambient ≡ old.ambient
   pub more : List CursorDiagnostic
   pub errors : now.errors ≡ old.errors ++ more
-
--- The cursor went on, and has not advanced: the current token starts where it did, and so does the one before it end.
-pub record HasNotAdvanced (old now : CursorState) : Type 0 where
-  pub goes_on : GoesOnFrom old now
-  pub start : now.token.start ≡ old.token.start
-  pub previous : now.previous_end ≡ old.previous_end

@@ -95,10 +95,6 @@ pub record ReadsOn (goal : Goal) (old new : CursorState) : Type 0 where
 abbrev pub StartsLater : CursorState → CursorState → Type 0
 StartsLater old new = old.token.kind ≢ Eof → old.token.start < new.token.start
 
--- The start of the old token was passed: the token before the new one ends there or behind it.
-abbrev pub HasPassed : CursorState → CursorState → Type 0
-HasPassed old new = old.token.start ≤ new.previous_end
-
 -- An escape in the current token is an error where the token is taken as a word of the language (ECMA-262 12.7.2).
 abbrev pub noting_escape : Kind → CursorState → CursorState
 noting_escape kind c =

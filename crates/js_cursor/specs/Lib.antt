@@ -7,6 +7,7 @@ pub mod Failing
 pub mod Faults
 pub mod ListSteps
 pub mod Lists
+pub mod Onward
 pub mod ReLex
 pub mod Rests
 pub mod RestSteps

@@ -76,36 +76,11 @@ pub record IsSeparatedRound {F T : Type 0} (R : Reading F T) (close separator : 
 abbrev pub LeadingOn : {F T : Type 0} → Reading F T → Reading F T
 LeadingOn Q f c x g d = Q f c x g d × (is_stuck c d ≡ false)
 
--- After rounds that led on came one that did not, and the cursor stands as that left it, at this place.
-pub record GetsStuck {F T : Type 0} (Q : Reading F T) (f : F) (c : CursorState) (at : ℕ) (new : CursorState)
-    : Type 0 where
-  pub xs : List T
-  pub before : F
-  pub from : CursorState
-  pub rounds : Rounds (LeadingOn Q) f c xs before from
-  pub x : T
-  pub after : F
-  pub round : Q before from x after new
-  pub stuck : is_stuck from new ≡ true
-  pub at_is : at ≡ new.token.start
-
--- A normal list was read: its opening, elements up to its end, and its closing.
-pub record ReadsNormalList {F T : Type 0} (R : Reading F T) (opening close : Kind) (f : F) (old : CursorState)
-    (xs : List T) (new : CursorState) : Type 0 where
-  pub opened : CursorState
-  pub opens : Advances opening (expecting opening old) opened
-  pub last : F
-  pub end : CursorState
-  pub rounds : Rounds (LeadingOn (IsRound R close)) f opened xs last end
+-- Elements were read up to the end of their list.
+pub record ReadsElements {F T : Type 0} (R : Reading F T) (close : Kind) (f : F) (c : CursorState) (xs : List T)
+    (last : F) (end : CursorState) : Type 0 where
+  pub rounds : Rounds (LeadingOn (IsRound R close)) f c xs last end
   pub ends : ends_at close end ≡ true
-  pub closes : Advances close (expecting_closing close (span_of old.token) end) new
-
--- A normal list was opened, and got stuck.
-pub record StopsNormalList {F T : Type 0} (R : Reading F T) (opening close : Kind) (f : F) (old : CursorState) (at : ℕ)
-    (new : CursorState) : Type 0 where
-  pub opened : CursorState
-  pub opens : Advances opening (expecting opening old) opened
-  pub stuck : GetsStuck (IsRound R close) f opened at new
 
 -- the elements that are there, of those that may be none
 abbrev pub Present : {F T : Type 0} → Reading F (Option T) → Reading F T
@@ -125,14 +100,14 @@ pub record ReadsWhileSome {F T : Type 0} (R : Reading F (Option T)) (close : Kin
   pub rounds : Rounds (LeadingOn (IsRound (Present R) close)) f c xs last from
   pub ends : EndsBreakable R close last from g end
 
--- Such a list was read: its opening, elements up to where it ends, and its closing.
-pub record ReadsBreakableList {F T : Type 0} (R : Reading F (Option T)) (opening close : Kind) (f : F)
+-- A normal list was read: its opening, its elements, and its closing.
+pub record ReadsNormalList {F T : Type 0} (reads : Reading F (List T)) (opening close : Kind) (f : F)
     (old : CursorState) (xs : List T) (new : CursorState) : Type 0 where
   pub opened : CursorState
   pub opens : Advances opening (expecting opening old) opened
   pub last : F
   pub end : CursorState
-  pub elements : ReadsWhileSome R close f opened xs last end
+  pub elements : reads f opened xs last end
   pub closes : Advances close (expecting_closing close (span_of old.token) end) new
 
 -- A list that is neither closed nor goes on stops the cursor.
@@ -175,13 +150,3 @@ pub data ReadsDelimitedList {F T : Type 0} (R : Reading F T) (close separator : 
   elements : (last : F) (end : CursorState) → ReadsSeparated R close separator f old xs last end
       → EndsDelimited close separator opening end trailing new
       → ReadsDelimitedList R close separator opening f old xs trailing new
-
--- A list with separators got stuck, behind its first element.
-pub record StopsDelimitedList {F T : Type 0} (R : Reading F T) (close separator : Kind) (f : F) (old : CursorState)
-    (at : ℕ) (new : CursorState) : Type 0 where
-  pub is_open : ends_at close old ≡ false
-  pub x : T
-  pub then_f : F
-  pub behind : CursorState
-  pub first : R f old x then_f behind
-  pub stuck : GetsStuck (IsSeparatedRound R close separator) then_f behind at new

@@ -4,6 +4,7 @@ ghost use Rattle.js_lexer.specs.Places.{KeepsPlaces};
 ghost use Rattle.js_cursor.specs.Ahead.{LooksAhead, LooksTwoAhead, is_at_on_same_line};
 ghost use Rattle.js_cursor.specs.Checkpoint.{GoesOnFrom};
 ghost use Rattle.js_cursor.specs.Cursor.{is_at};
+ghost use Rattle.js_cursor.specs.Onward.{HasNotGoneBack};
 
 use crate::cursor::Cursor;
 use crate::predicate::Predicate;
@@ -28,8 +29,7 @@ fn goes_to<C: LexerConfig + Drop>(
     kind: Kind,
 ) -> Result<bool, AllocError>
     ensures looks { LooksAhead (is_at kind) cursor.old result cursor.new }
-    ensures goes_on { GoesOnFrom cursor.old cursor.new }
-    ensures places { KeepsPlaces cursor.old.lexer cursor.new.lexer }
+    ensures onward { HasNotGoneBack cursor.old cursor.new }
 {
     cursor.bump_any()?;
     Ok(cursor.at(kind))
@@ -41,8 +41,7 @@ fn goes_to_on_same_line<C: LexerConfig + Drop>(
     kind: Kind,
 ) -> Result<bool, AllocError>
     ensures looks { LooksAhead (is_at_on_same_line kind) cursor.old result cursor.new }
-    ensures goes_on { GoesOnFrom cursor.old cursor.new }
-    ensures places { KeepsPlaces cursor.old.lexer cursor.new.lexer }
+    ensures onward { HasNotGoneBack cursor.old cursor.new }
 {
     cursor.bump_any()?;
     Ok(cursor.at(kind) && !cursor.cur_token().is_on_new_line())

@@ -5,9 +5,9 @@ ghost use Rattle.std.specs.Option.{is_some};
 ghost use Rattle.js_reader.specs.Decoded.{GivesTemplate, GivesText, IsStretch};
 ghost use Rattle.js_lexer.specs.Lexer.{IsOnPlaces, ReadsToken};
 ghost use Rattle.js_lexer.specs.Places.{ReadsInPlaces};
-ghost use Rattle.js_cursor.specs.Checkpoint.{HasNotAdvanced};
 ghost use Rattle.js_cursor.specs.Cursor.{IsFresh, allows_semicolon, is_at, is_at_token_end, span_of, with_error};
 ghost use Rattle.js_cursor.specs.Cursor.{with_fatal_error};
+ghost use Rattle.js_cursor.specs.Onward.{HasNotAdvanced};
 
 mod advance;
 mod expect;

@@ -1,9 +1,8 @@
 //! Going on to the next token.
 
-ghost use Rattle.std.specs.Prelude.{◌≡◌, ◌≢◌, ◌≤◌, ◌<◌, true, MatchBool, IsTrue, IfOk, OnOk, OnErr};
-ghost use Rattle.js_lexer.specs.Places.{ReadsInPlaces};
-ghost use Rattle.js_cursor.specs.Checkpoint.{GoesOnFrom};
-ghost use Rattle.js_cursor.specs.Cursor.{Advances, HasPassed, IsAsBefore, ReadsOn, StartsLater, is_at, noting_escape};
+ghost use Rattle.std.specs.Prelude.{◌≡◌, true, MatchBool, IsTrue, IfOk, OnOk, OnErr};
+ghost use Rattle.js_cursor.specs.Cursor.{Advances, IsAsBefore, ReadsOn, is_at, noting_escape};
+ghost use Rattle.js_cursor.specs.Onward.{HasNotGoneBack, HasPassed};
 
 use super::Cursor;
 use crate::diagnostic::CursorDiagnostic;
@@ -32,12 +31,8 @@ impl<C: LexerConfig + Drop> Cursor<'_, C> {
     fn read_next(&mut self) -> Result<(), AllocError>
         ensures ok { OnOk result (ReadsOn Goal.Next self.old self.new) }
         ensures err { OnErr result (IsAsBefore self.old self.new) }
-        ensures places { ReadsInPlaces self.old.lexer self.new.lexer }
-        ensures goes_on { GoesOnFrom self.old self.new }
-        ensures starts { OnOk result (StartsLater self.old self.new) }
-        ensures passed { OnOk result (HasPassed self.old self.new) }
-        ensures onward { self.old.token.start ≤ self.new.token.start }
-        ensures previous { self.old.previous_end ≤ self.new.previous_end }
+        ensures passed { OnOk result (HasPassed self.old.token.kind self.old self.new) }
+        ensures onward { HasNotGoneBack self.old self.new }
     {
         let token = self.lexer.next_token()?;
         self.previous_end = self.token.end();
@@ -47,16 +42,11 @@ impl<C: LexerConfig + Drop> Cursor<'_, C> {
 
     /// Takes the current token as one of the kind, and goes on to the next. A word of the language that is written with
     /// an escape is reported (ECMA-262 12.7.2).
-    #[tactic(auto, using(crate::proofs::TokenSteps::unchanged))]
     pub fn advance(&mut self, kind: Kind) -> Result<(), AllocError>
         ensures ok { OnOk result (Advances kind self.old self.new) }
         ensures err { OnErr result (IsAsBefore self.old self.new) }
-        ensures places { ReadsInPlaces self.old.lexer self.new.lexer }
-        ensures goes_on { GoesOnFrom self.old self.new }
-        ensures starts { OnOk result (StartsLater self.old self.new) }
-        ensures passed { OnOk result (HasPassed self.old self.new) }
-        ensures onward { self.old.token.start ≤ self.new.token.start }
-        ensures previous { self.old.previous_end ≤ self.new.previous_end }
+        ensures passed { OnOk result (HasPassed self.old.token.kind self.old self.new) }
+        ensures onward { HasNotGoneBack self.old self.new }
     {
         let reported = self.errors.len();
         self.note_escape(kind)?;
@@ -73,29 +63,19 @@ impl<C: LexerConfig + Drop> Cursor<'_, C> {
     pub fn bump_any(&mut self) -> Result<(), AllocError>
         ensures ok { OnOk result (Advances self.old.token.kind self.old self.new) }
         ensures err { OnErr result (IsAsBefore self.old self.new) }
-        ensures places { ReadsInPlaces self.old.lexer self.new.lexer }
-        ensures goes_on { GoesOnFrom self.old self.new }
-        ensures starts { OnOk result (StartsLater self.old self.new) }
-        ensures passed { OnOk result (HasPassed self.old self.new) }
-        ensures onward { self.old.token.start ≤ self.new.token.start }
-        ensures previous { self.old.previous_end ≤ self.new.previous_end }
+        ensures passed { OnOk result (HasPassed self.old.token.kind self.old self.new) }
+        ensures onward { HasNotGoneBack self.old self.new }
     {
         self.advance(self.cur_kind())
     }
 
     /// Goes on to the next token where the current one is of the kind; else nothing changes.
-    #[tactic(auto, using(crate::proofs::TokenSteps::unchanged))]
     pub fn bump(&mut self, kind: Kind) -> Result<(), AllocError>
         ensures ok { OnOk result (MatchBool (is_at kind self.old) (Advances kind self.old self.new)
             (self.new ≡ self.old)) }
         ensures err { OnErr result (IsAsBefore self.old self.new) }
-        ensures places { ReadsInPlaces self.old.lexer self.new.lexer }
-        ensures goes_on { GoesOnFrom self.old self.new }
-        ensures starts { OnOk result (is_at kind self.old ≡ true → kind ≢ Kind.Eof
-            → self.old.token.start < self.new.token.start) }
-        ensures passed { OnOk result (is_at kind self.old ≡ true → HasPassed self.old self.new) }
-        ensures onward { self.old.token.start ≤ self.new.token.start }
-        ensures previous { self.old.previous_end ≤ self.new.previous_end }
+        ensures passed { OnOk result (is_at kind self.old ≡ true → HasPassed kind self.old self.new) }
+        ensures onward { HasNotGoneBack self.old self.new }
     {
         if !self.at(kind) {
             return Ok(());
@@ -104,18 +84,12 @@ impl<C: LexerConfig + Drop> Cursor<'_, C> {
     }
 
     /// Goes on to the next token where the current one is of the kind, and tells whether it was; else nothing changes.
-    #[tactic(auto, using(crate::proofs::TokenSteps::unchanged))]
     pub fn eat(&mut self, kind: Kind) -> Result<bool, AllocError>
         ensures ok { IfOk result (λ eaten. MatchBool eaten (Advances kind self.old self.new) (self.new ≡ self.old)) }
         ensures answer { IfOk result (λ eaten. eaten ≡ is_at kind self.old) }
         ensures err { OnErr result (IsAsBefore self.old self.new) }
-        ensures places { ReadsInPlaces self.old.lexer self.new.lexer }
-        ensures goes_on { GoesOnFrom self.old self.new }
-        ensures starts { IfOk result (λ eaten. IsTrue eaten → kind ≢ Kind.Eof
-            → self.old.token.start < self.new.token.start) }
-        ensures passed { IfOk result (λ eaten. IsTrue eaten → HasPassed self.old self.new) }
-        ensures onward { self.old.token.start ≤ self.new.token.start }
-        ensures previous { self.old.previous_end ≤ self.new.previous_end }
+        ensures passed { IfOk result (λ eaten. IsTrue eaten → HasPassed kind self.old self.new) }
+        ensures onward { HasNotGoneBack self.old self.new }
     {
         if !self.at(kind) {
             return Ok(false);

@@ -1,10 +1,9 @@
 //! Tokens that are expected, the ends of statements, and the advances of JSX.
 
-ghost use Rattle.std.specs.Prelude.{◌≡◌, ◌≤◌, ◌<◌, true, MatchBool, OnOk, OnErr};
-ghost use Rattle.js_lexer.specs.Places.{ReadsInPlaces};
-ghost use Rattle.js_cursor.specs.Checkpoint.{GoesOnFrom, HasNotAdvanced};
-ghost use Rattle.js_cursor.specs.Cursor.{Advances, HasPassed, IsAsBefore, ReadsOn, StartsLater, is_at};
+ghost use Rattle.std.specs.Prelude.{◌≡◌, ◌<◌, true, MatchBool, OnOk, OnErr};
+ghost use Rattle.js_cursor.specs.Cursor.{Advances, IsAsBefore, ReadsOn, is_at};
 ghost use Rattle.js_cursor.specs.Expect.{expecting, expecting_alternative, expecting_closing, expecting_semicolon};
+ghost use Rattle.js_cursor.specs.Onward.{HasNotAdvanced, HasNotGoneBack, HasPassed};
 
 use super::Cursor;
 use crate::diagnostic::CursorDiagnostic;
@@ -34,12 +33,8 @@ impl<C: LexerConfig + Drop> Cursor<'_, C> {
     pub fn expect(&mut self, kind: Kind) -> Result<(), AllocError>
         ensures ok { OnOk result (Advances kind (expecting kind self.old) self.new) }
         ensures err { OnErr result (IsAsBefore (expecting kind self.old) self.new) }
-        ensures places { ReadsInPlaces self.old.lexer self.new.lexer }
-        ensures goes_on { GoesOnFrom self.old self.new }
-        ensures starts { OnOk result (StartsLater self.old self.new) }
-        ensures passed { OnOk result (HasPassed self.old self.new) }
-        ensures onward { self.old.token.start ≤ self.new.token.start }
-        ensures previous { self.old.previous_end ≤ self.new.previous_end }
+        ensures passed { OnOk result (HasPassed self.old.token.kind self.old self.new) }
+        ensures onward { HasNotGoneBack self.old self.new }
     {
         self.expect_without_advance(kind);
         self.advance(kind)
@@ -66,12 +61,8 @@ impl<C: LexerConfig + Drop> Cursor<'_, C> {
     pub fn expect_closing(&mut self, kind: Kind, opening_span: Span) -> Result<(), AllocError>
         ensures ok { OnOk result (Advances kind (expecting_closing kind opening_span self.old) self.new) }
         ensures err { OnErr result (IsAsBefore (expecting_closing kind opening_span self.old) self.new) }
-        ensures places { ReadsInPlaces self.old.lexer self.new.lexer }
-        ensures goes_on { GoesOnFrom self.old self.new }
-        ensures starts { OnOk result (StartsLater self.old self.new) }
-        ensures passed { OnOk result (HasPassed self.old self.new) }
-        ensures onward { self.old.token.start ≤ self.new.token.start }
-        ensures previous { self.old.previous_end ≤ self.new.previous_end }
+        ensures passed { OnOk result (HasPassed self.old.token.kind self.old self.new) }
+        ensures onward { HasNotGoneBack self.old self.new }
     {
         self.expect_closing_without_advance(kind, opening_span);
         self.advance(kind)
@@ -98,12 +89,8 @@ impl<C: LexerConfig + Drop> Cursor<'_, C> {
         ensures ok { OnOk result
             (Advances self.old.token.kind (expecting_alternative question_span self.old) self.new) }
         ensures err { OnErr result (IsAsBefore (expecting_alternative question_span self.old) self.new) }
-        ensures places { ReadsInPlaces self.old.lexer self.new.lexer }
-        ensures goes_on { GoesOnFrom self.old self.new }
-        ensures starts { OnOk result (StartsLater self.old self.new) }
-        ensures passed { OnOk result (HasPassed self.old self.new) }
-        ensures onward { self.old.token.start ≤ self.new.token.start }
-        ensures previous { self.old.previous_end ≤ self.new.previous_end }
+        ensures passed { OnOk result (HasPassed self.old.token.kind self.old self.new) }
+        ensures onward { HasNotGoneBack self.old self.new }
     {
         let kind = self.cur_kind();
         self.expect_colon_without_advance(question_span);
@@ -127,13 +114,11 @@ impl<C: LexerConfig + Drop> Cursor<'_, C> {
         ensures ok { OnOk result (MatchBool (is_at Kind.Semicolon self.old) (Advances Kind.Semicolon self.old self.new)
             (self.new ≡ expecting_semicolon self.old)) }
         ensures err { OnErr result (IsAsBefore self.old self.new) }
-        ensures places { ReadsInPlaces self.old.lexer self.new.lexer }
-        ensures goes_on { GoesOnFrom self.old self.new }
         ensures starts { OnOk result (is_at Kind.Semicolon self.old ≡ true
             → self.old.token.start < self.new.token.start) }
-        ensures passed { OnOk result (is_at Kind.Semicolon self.old ≡ true → HasPassed self.old self.new) }
-        ensures onward { self.old.token.start ≤ self.new.token.start }
-        ensures previous { self.old.previous_end ≤ self.new.previous_end }
+        ensures passed { OnOk result (is_at Kind.Semicolon self.old ≡ true
+            → HasPassed Kind.Semicolon self.old self.new) }
+        ensures onward { HasNotGoneBack self.old self.new }
     {
         if self.at(Kind::Semicolon) {
             return self.advance(Kind::Semicolon);
@@ -146,12 +131,8 @@ impl<C: LexerConfig + Drop> Cursor<'_, C> {
     pub fn advance_for_jsx_child(&mut self) -> Result<(), AllocError>
         ensures ok { OnOk result (ReadsOn Goal.JsxChild self.old self.new) }
         ensures err { OnErr result (IsAsBefore self.old self.new) }
-        ensures places { ReadsInPlaces self.old.lexer self.new.lexer }
-        ensures goes_on { GoesOnFrom self.old self.new }
-        ensures starts { OnOk result (StartsLater self.old self.new) }
-        ensures passed { OnOk result (HasPassed self.old self.new) }
-        ensures onward { self.old.token.start ≤ self.new.token.start }
-        ensures previous { self.old.previous_end ≤ self.new.previous_end }
+        ensures passed { OnOk result (HasPassed self.old.token.kind self.old self.new) }
+        ensures onward { HasNotGoneBack self.old self.new }
     {
         let token = self.lexer.next_jsx_child()?;
         self.previous_end = self.token.end();
@@ -163,12 +144,8 @@ impl<C: LexerConfig + Drop> Cursor<'_, C> {
     pub fn advance_for_jsx_attribute_value(&mut self) -> Result<(), AllocError>
         ensures ok { OnOk result (ReadsOn Goal.JsxAttributeValue self.old self.new) }
         ensures err { OnErr result (IsAsBefore self.old self.new) }
-        ensures places { ReadsInPlaces self.old.lexer self.new.lexer }
-        ensures goes_on { GoesOnFrom self.old self.new }
-        ensures starts { OnOk result (StartsLater self.old self.new) }
-        ensures passed { OnOk result (HasPassed self.old self.new) }
-        ensures onward { self.old.token.start ≤ self.new.token.start }
-        ensures previous { self.old.previous_end ≤ self.new.previous_end }
+        ensures passed { OnOk result (HasPassed self.old.token.kind self.old self.new) }
+        ensures onward { HasNotGoneBack self.old self.new }
     {
         let token = self.lexer.next_jsx_attribute_value()?;
         self.previous_end = self.token.end();
@@ -181,12 +158,8 @@ impl<C: LexerConfig + Drop> Cursor<'_, C> {
     pub fn expect_jsx_child(&mut self, kind: Kind) -> Result<(), AllocError>
         ensures ok { OnOk result (ReadsOn Goal.JsxChild (expecting kind self.old) self.new) }
         ensures err { OnErr result (IsAsBefore (expecting kind self.old) self.new) }
-        ensures places { ReadsInPlaces self.old.lexer self.new.lexer }
-        ensures goes_on { GoesOnFrom self.old self.new }
-        ensures starts { OnOk result (StartsLater self.old self.new) }
-        ensures passed { OnOk result (HasPassed self.old self.new) }
-        ensures onward { self.old.token.start ≤ self.new.token.start }
-        ensures previous { self.old.previous_end ≤ self.new.previous_end }
+        ensures passed { OnOk result (HasPassed self.old.token.kind self.old self.new) }
+        ensures onward { HasNotGoneBack self.old self.new }
     {
         self.expect_without_advance(kind);
         self.advance_for_jsx_child()

@@ -4,9 +4,9 @@ ghost use Rattle.std.specs.Prelude.{◌≡◌, ◌↔◌, ◌++◌, [], IfOk, If
 ghost use Rattle.js_text.specs.Lists.{with_last};
 ghost use Rattle.js_trivia.specs.Marks.{IsRangeOf, marked_within, pure_applied, no_side_effects_applied};
 ghost use Rattle.js_lexer.specs.Lexer.{Peeks, with_comments};
-ghost use Rattle.js_lexer.specs.Places.{StaysInPlaces};
-ghost use Rattle.js_cursor.specs.Checkpoint.{HasNotAdvanced, with_diagnostics};
+ghost use Rattle.js_cursor.specs.Checkpoint.{with_diagnostics};
 ghost use Rattle.js_cursor.specs.Cursor.{IsAsBefore};
+ghost use Rattle.js_cursor.specs.Onward.{HasNotAdvanced};
 
 use super::Cursor;
 use js_kind::{LexerConfig, Token};
@@ -18,7 +18,6 @@ impl<C: LexerConfig + Drop> Cursor<'_, C> {
     pub fn peek_token(&mut self) -> Result<Token, AllocError>
         ensures ok { IfOk result (λ token. Peeks self.old.lexer token self.new.lexer) }
         ensures before { IsAsBefore self.old self.new }
-        ensures places { StaysInPlaces self.old.lexer self.new.lexer }
         ensures stays { HasNotAdvanced self.old self.new }
     {
         self.lexer.peek_token()

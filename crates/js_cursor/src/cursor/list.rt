@@ -3,19 +3,13 @@
 ghost use Rattle.std.specs.Prelude.{◌≡◌, ◌≢◌, ◌≤◌, ◌<◌, not, [], ◌∷◌, ◌++◌, true, false, IfOk, IfErr, OnOk, OnErr};
 ghost use Rattle.js_text.specs.declared.span.Span.{Span};
 ghost use Rattle.js_kind.specs.Kinds.{is_one_of};
-ghost use Rattle.js_lexer.specs.Places.{KeepsPlaces};
 ghost use Rattle.js_cursor.specs.Cursor.{Advances, IsAsBefore, is_at};
-ghost use Rattle.js_cursor.specs.Checkpoint.{GoesOnFrom};
-ghost use Rattle.js_cursor.specs.Failing.{FailsDelimitedList, FailsInElements, FailsNormalList, FailsSeparated};
-ghost use Rattle.js_cursor.specs.Failing.{FailsWith, LacksNormalList, LacksPlace, LacksSeparator, NothingBefore};
-ghost use Rattle.js_cursor.specs.Failing.{ReadsElements, ReadsSomeElements};
-ghost use Rattle.js_cursor.specs.Faults.{IfElement, IfMemory, IfStuck};
-ghost use Rattle.js_cursor.specs.Lists.{GetsStuck, Given, GoesOn, IsRound, IsSeparatedRound, LeadingOn};
-ghost use Rattle.js_cursor.specs.Lists.{Present, Rounds};
-ghost use Rattle.js_cursor.specs.Lists.{ReadsBreakableList, ReadsDelimitedList, ReadsNormalList, ReadsWhileSome};
-ghost use Rattle.js_cursor.specs.Lists.{StopsDelimitedList, StopsNormalList, ends_at, is_stuck_at};
-ghost use Rattle.js_cursor.specs.Lists.{neither_closed_nor_separated};
+ghost use Rattle.js_cursor.specs.Failing.{Fails, FailsDelimitedList, FailsInElements, FailsNormalList, FailsSeparated};
+ghost use Rattle.js_cursor.specs.Failing.{LacksSeparator};
+ghost use Rattle.js_cursor.specs.Lists.{Given, GoesOn, Present, ReadsDelimitedList, ReadsElements, ReadsNormalList};
+ghost use Rattle.js_cursor.specs.Lists.{ReadsWhileSome, ends_at, is_stuck_at, neither_closed_nor_separated};
 ghost use Rattle.js_cursor.specs.ListSteps.{GoesBehind, ReadsMore};
+ghost use Rattle.js_cursor.specs.Onward.{GoesOnIf, HasNotGoneBack};
 
 use super::Cursor;
 use crate::diagnostic::CursorDiagnostic;
@@ -84,17 +78,10 @@ impl<C: LexerConfig + Drop> Cursor<'_, C> {
         close: Kind,
         f: &mut F,
     ) -> Result<Vec<T>, ListFault<Fault>>
-        ensures ok { IfOk result (λ xs.
-            Rounds (LeadingOn (IsRound (Given F.reads) close)) f.old self.old xs.items f.new self.new) }
-        ensures ends { OnOk result (ends_at close self.new ≡ true) }
-        ensures stuck { IfErr result (λ fault. IfStuck fault
-            (λ at. GetsStuck (IsRound (Given F.reads) close) f.old self.old at self.new)) }
-        ensures memory { IfErr result (λ fault. IfMemory fault
-            (FailsInElements (LacksPlace F.reads) (Given F.reads) close f.old self.old f.new self.new)) }
-        ensures element { IfErr result (λ fault. IfElement fault
-            (λ e. FailsInElements (FailsWith F.reads e) (Given F.reads) close f.old self.old f.new self.new)) }
-        ensures places { KeepsPlaces self.old.lexer self.new.lexer }
-        ensures goes_on { GoesOn F.reads → GoesOnFrom self.old self.new }
+        ensures ok { IfOk result (λ xs. ReadsElements (Given F.reads) close f.old self.old xs.items f.new self.new) }
+        ensures err { IfErr result (λ fault.
+            FailsInElements F.reads (Given F.reads) close f.old self.old fault f.new self.new) }
+        ensures goes_on { GoesOnIf (GoesOn F.reads) self.old self.new }
     {
         let mut elements = Vec::new(alloc);
         while !self.is_at_end_of_list(close) {
@@ -122,17 +109,11 @@ impl<C: LexerConfig + Drop> Cursor<'_, C> {
         close: Kind,
         f: F,
     ) -> Result<Vec<T>, ListFault<Fault>>
-        ensures ok { IfOk result (λ xs. ReadsNormalList (Given F.reads) opening close f self.old xs.items self.new) }
-        ensures stuck { IfErr result (λ fault. IfStuck fault
-            (λ at. StopsNormalList (Given F.reads) opening close f self.old at self.new)) }
-        ensures memory { IfErr result (λ fault. IfMemory fault
-            (LacksNormalList (FailsInElements (LacksPlace F.reads) (Given F.reads) close)
-            (ReadsElements (Given F.reads) close) opening close f self.old self.new)) }
-        ensures element { IfErr result (λ fault. IfElement fault
-            (λ e. FailsNormalList (FailsInElements (FailsWith F.reads e) (Given F.reads) close) opening f self.old
-            self.new)) }
-        ensures places { KeepsPlaces self.old.lexer self.new.lexer }
-        ensures goes_on { GoesOn F.reads → GoesOnFrom self.old self.new }
+        ensures ok { IfOk result (λ xs. ReadsNormalList (ReadsElements (Given F.reads) close) opening close f self.old
+            xs.items self.new) }
+        ensures err { IfErr result (λ fault. FailsNormalList (FailsInElements F.reads (Given F.reads) close)
+            (ReadsElements (Given F.reads) close) opening close f self.old fault self.new) }
+        ensures goes_on { GoesOnIf (GoesOn F.reads) self.old self.new }
     {
         let mut f = f;
         let opening_span = self.cur_span();
@@ -154,15 +135,9 @@ impl<C: LexerConfig + Drop> Cursor<'_, C> {
         f: &mut F,
     ) -> Result<Vec<T>, ListFault<Fault>>
         ensures ok { IfOk result (λ xs. ReadsWhileSome (Given F.reads) close f.old self.old xs.items f.new self.new) }
-        ensures stuck { IfErr result (λ fault. IfStuck fault
-            (λ at. GetsStuck (IsRound (Present (Given F.reads)) close) f.old self.old at self.new)) }
-        ensures memory { IfErr result (λ fault. IfMemory fault
-            (FailsInElements (LacksPlace F.reads) (Present (Given F.reads)) close f.old self.old f.new self.new)) }
-        ensures element { IfErr result (λ fault. IfElement fault
-            (λ e. FailsInElements (FailsWith F.reads e) (Present (Given F.reads)) close f.old self.old f.new
-            self.new)) }
-        ensures places { KeepsPlaces self.old.lexer self.new.lexer }
-        ensures goes_on { GoesOn F.reads → GoesOnFrom self.old self.new }
+        ensures err { IfErr result (λ fault.
+            FailsInElements F.reads (Present (Given F.reads)) close f.old self.old fault f.new self.new) }
+        ensures goes_on { GoesOnIf (GoesOn F.reads) self.old self.new }
     {
         let mut elements = Vec::new(alloc);
         while !self.is_at_end_of_list(close) {
@@ -197,17 +172,11 @@ impl<C: LexerConfig + Drop> Cursor<'_, C> {
     ) -> Result<Vec<T>, ListFault<Fault>>
     where
         F: FallibleElement<C, Option<T>, Fault> + Drop,
-        ensures ok { IfOk result (λ xs. ReadsBreakableList (Given F.reads) opening close f self.old xs.items self.new) }
-        ensures stuck { IfErr result (λ fault. IfStuck fault
-            (λ at. StopsNormalList (Present (Given F.reads)) opening close f self.old at self.new)) }
-        ensures memory { IfErr result (λ fault. IfMemory fault
-            (LacksNormalList (FailsInElements (LacksPlace F.reads) (Present (Given F.reads)) close)
-            (ReadsSomeElements (Given F.reads) close) opening close f self.old self.new)) }
-        ensures element { IfErr result (λ fault. IfElement fault
-            (λ e. FailsNormalList (FailsInElements (FailsWith F.reads e) (Present (Given F.reads)) close) opening f
-            self.old self.new)) }
-        ensures places { KeepsPlaces self.old.lexer self.new.lexer }
-        ensures goes_on { GoesOn F.reads → GoesOnFrom self.old self.new }
+        ensures ok { IfOk result (λ xs. ReadsNormalList (ReadsWhileSome (Given F.reads) close) opening close f self.old
+            xs.items self.new) }
+        ensures err { IfErr result (λ fault. FailsNormalList (FailsInElements F.reads (Present (Given F.reads)) close)
+            (ReadsWhileSome (Given F.reads) close) opening close f self.old fault self.new) }
+        ensures goes_on { GoesOnIf (GoesOn F.reads) self.old self.new }
     {
         let mut f = f;
         let opening_span = self.cur_span();
@@ -228,11 +197,8 @@ impl<C: LexerConfig + Drop> Cursor<'_, C> {
         ensures ok { OnOk result (Advances separator self.old self.new) }
         ensures some_text { OnOk result (1 ≤ self.new.previous_end) }
         ensures err { OnErr result (IsAsBefore self.old self.new) }
-        ensures places { KeepsPlaces self.old.lexer self.new.lexer }
-        ensures goes_on { GoesOnFrom self.old self.new }
         ensures starts { OnOk result (self.old.token.start < self.new.token.start) }
-        ensures onward { self.old.token.start ≤ self.new.token.start }
-        ensures previous { self.old.previous_end ≤ self.new.previous_end }
+        ensures onward { HasNotGoneBack self.old self.new }
     {
         let _token = &self.token;
         self.advance(separator)?;
@@ -261,12 +227,9 @@ impl<C: LexerConfig + Drop> Cursor<'_, C> {
         ensures step { IfOk result (λ step. (opening : Span)
             → GoesBehind close separator opening self.old step self.new) }
         ensures err { OnErr result (LacksSeparator close separator self.old self.new) }
-        ensures places { KeepsPlaces self.old.lexer self.new.lexer }
-        ensures goes_on { GoesOnFrom self.old self.new }
         ensures starts { IfOk result (λ step. step ≡ ListStep.Element
             → self.old.token.start < self.new.token.start) }
-        ensures onward { self.old.token.start ≤ self.new.token.start }
-        ensures previous { self.old.previous_end ≤ self.new.previous_end }
+        ensures onward { HasNotGoneBack self.old self.new }
     {
         self.go_past(separator)?;
         if self.at(close) {
@@ -280,7 +243,6 @@ impl<C: LexerConfig + Drop> Cursor<'_, C> {
 
     /// Tells what stands behind an element of a list with separators, and goes past a separator. One that is neither
     /// closed nor goes on stops the parser.
-    #[tactic(auto, using(crate::proofs::TokenSteps::unchanged))]
     pub fn delimited_list_goes_on(
         &mut self,
         close: Kind,
@@ -290,12 +252,9 @@ impl<C: LexerConfig + Drop> Cursor<'_, C> {
         requires { separator ≢ Kind.Eof }
         ensures step { IfOk result (λ step. GoesBehind close separator opening_span self.old step self.new) }
         ensures err { OnErr result (LacksSeparator close separator self.old self.new) }
-        ensures places { KeepsPlaces self.old.lexer self.new.lexer }
-        ensures goes_on { GoesOnFrom self.old self.new }
         ensures starts { IfOk result (λ step. step ≡ ListStep.Element
             → self.old.token.start < self.new.token.start) }
-        ensures onward { self.old.token.start ≤ self.new.token.start }
-        ensures previous { self.old.previous_end ≤ self.new.previous_end }
+        ensures onward { HasNotGoneBack self.old self.new }
     {
         if self.is_at_end_of_list(close) {
             return Ok(ListStep::End(None));
@@ -319,16 +278,10 @@ impl<C: LexerConfig + Drop> Cursor<'_, C> {
         requires { separator ≢ Kind.Eof }
         ensures ok { IfOk result (λ trailing. ReadsMore (Given F.reads) close separator opening_span f.old self.old
             elements.old.items elements.new.items trailing f.new self.new) }
-        ensures stuck { IfErr result (λ fault. IfStuck fault
-            (λ at. GetsStuck (IsSeparatedRound (Given F.reads) close separator) f.old self.old at self.new)) }
-        ensures memory { IfErr result (λ fault. IfMemory fault
-            (FailsSeparated (LacksPlace F.reads) (Given F.reads) close separator (LacksSeparator close separator)
-            f.old self.old f.new self.new)) }
-        ensures element { IfErr result (λ fault. IfElement fault
-            (λ e. FailsSeparated (FailsWith F.reads e) (Given F.reads) close separator NothingBefore f.old self.old
-            f.new self.new)) }
-        ensures places { KeepsPlaces self.old.lexer self.new.lexer }
-        ensures goes_on { GoesOn F.reads → GoesOnFrom self.old self.new }
+        ensures err { IfErr result (λ fault.
+            FailsSeparated (Fails F.reads) (Given F.reads) close separator (LacksSeparator close separator) f.old
+            self.old fault f.new self.new) }
+        ensures goes_on { GoesOnIf (GoesOn F.reads) self.old self.new }
     {
         'elements: loop {
             let start = self.cur_start();
@@ -363,16 +316,10 @@ impl<C: LexerConfig + Drop> Cursor<'_, C> {
         requires { separator ≢ Kind.Eof }
         ensures ok { IfOk result (λ read. ReadsDelimitedList (Given F.reads) close separator opening_span f self.old
             read.0.items read.1 self.new) }
-        ensures stuck { IfErr result (λ fault. IfStuck fault
-            (λ at. StopsDelimitedList (Given F.reads) close separator f self.old at self.new)) }
-        ensures memory { IfErr result (λ fault. IfMemory fault
-            (FailsDelimitedList (LacksPlace F.reads) (Given F.reads) close separator
-            (LacksSeparator close separator) f self.old self.new)) }
-        ensures element { IfErr result (λ fault. IfElement fault
-            (λ e. FailsDelimitedList (FailsWith F.reads e) (Given F.reads) close separator NothingBefore f self.old
-            self.new)) }
-        ensures places { KeepsPlaces self.old.lexer self.new.lexer }
-        ensures goes_on { GoesOn F.reads → GoesOnFrom self.old self.new }
+        ensures err { IfErr result (λ fault.
+            FailsDelimitedList (Fails F.reads) (Given F.reads) close separator (LacksSeparator close separator) f
+            self.old fault self.new) }
+        ensures goes_on { GoesOnIf (GoesOn F.reads) self.old self.new }
     {
         let mut f = f;
         let mut elements = Vec::new(alloc);

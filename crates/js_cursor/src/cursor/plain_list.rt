@@ -1,17 +1,15 @@
 //! Lists whose elements have no fault but that they find no memory.
 
-ghost use Rattle.std.specs.Prelude.{◌≢◌, None, IfOk, IfErr};
+ghost use Rattle.std.specs.Prelude.{◌≢◌, IfOk, IfErr};
 ghost use Rattle.std.specs.Fn.{FnReturnsAt};
 ghost use Rattle.js_text.specs.declared.span.Span.{Span};
-ghost use Rattle.js_lexer.specs.Places.{KeepsPlaces};
-ghost use Rattle.js_cursor.specs.Checkpoint.{GoesOnFrom};
-ghost use Rattle.js_cursor.specs.Failing.{FailsDelimitedList, FailsInElements, FailsItem, LacksComma, LacksNormalList};
-ghost use Rattle.js_cursor.specs.Failing.{LacksOne, LacksSeparator, ReadsElements, ReadsSomeElements};
-ghost use Rattle.js_cursor.specs.Faults.{OnMemory, OnStuck};
-ghost use Rattle.js_cursor.specs.Lists.{Given, GoesOn, Present};
-ghost use Rattle.js_cursor.specs.Lists.{ReadsBreakableList, ReadsDelimitedList, ReadsNormalList};
-ghost use Rattle.js_cursor.specs.Lists.{StopsDelimitedList, StopsNormalList};
-ghost use Rattle.js_cursor.specs.Rests.{ReadsItem, ReadsListWithRest};
+ghost use Rattle.js_cursor.specs.Failing.{Fails, FailsDelimitedList, FailsInElements, FailsItem, FailsItself};
+ghost use Rattle.js_cursor.specs.Failing.{FailsNormalList, LacksComma, LacksSeparator};
+ghost use Rattle.js_cursor.specs.Faults.{IsFaultOf};
+ghost use Rattle.js_cursor.specs.Lists.{Given, GoesOn, Present, ReadsDelimitedList, ReadsElements, ReadsNormalList};
+ghost use Rattle.js_cursor.specs.Lists.{ReadsWhileSome};
+ghost use Rattle.js_cursor.specs.Onward.{GoesOnIf};
+ghost use Rattle.js_cursor.specs.Rests.{ReadsItem, ReadsListWithRest, no_rest_yet};
 
 use super::Cursor;
 use crate::diagnostic::CursorDiagnostic;
@@ -30,14 +28,11 @@ impl<C: LexerConfig + Drop> Cursor<'_, C> {
         close: Kind,
         f: F,
     ) -> Result<Vec<T>, CursorFault>
-        ensures ok { IfOk result (λ xs. ReadsNormalList (Given F.reads) opening close f self.old xs.items self.new) }
-        ensures stuck { IfErr result (λ fault. OnStuck fault
-            (λ at. StopsNormalList (Given F.reads) opening close f self.old at self.new)) }
-        ensures memory { IfErr result (λ fault. OnMemory fault
-            (LacksNormalList (FailsInElements (LacksOne F.reads) (Given F.reads) close)
-            (ReadsElements (Given F.reads) close) opening close f self.old self.new)) }
-        ensures places { KeepsPlaces self.old.lexer self.new.lexer }
-        ensures goes_on { GoesOn F.reads → GoesOnFrom self.old self.new }
+        ensures ok { IfOk result (λ xs. ReadsNormalList (ReadsElements (Given F.reads) close) opening close f self.old
+            xs.items self.new) }
+        ensures err { IfErr result (IsFaultOf (λ fault. FailsNormalList (FailsInElements F.reads (Given F.reads) close)
+            (ReadsElements (Given F.reads) close) opening close f self.old fault self.new)) }
+        ensures goes_on { GoesOnIf (GoesOn F.reads) self.old self.new }
     {
         match self.try_parse_normal_list::<T, AllocError, F>(alloc, opening, close, f) {
             Ok(elements) => Ok(elements),
@@ -53,14 +48,12 @@ impl<C: LexerConfig + Drop> Cursor<'_, C> {
         close: Kind,
         f: F,
     ) -> Result<Vec<T>, CursorFault>
-        ensures ok { IfOk result (λ xs. ReadsBreakableList (Given F.reads) opening close f self.old xs.items self.new) }
-        ensures stuck { IfErr result (λ fault. OnStuck fault
-            (λ at. StopsNormalList (Present (Given F.reads)) opening close f self.old at self.new)) }
-        ensures memory { IfErr result (λ fault. OnMemory fault
-            (LacksNormalList (FailsInElements (LacksOne F.reads) (Present (Given F.reads)) close)
-            (ReadsSomeElements (Given F.reads) close) opening close f self.old self.new)) }
-        ensures places { KeepsPlaces self.old.lexer self.new.lexer }
-        ensures goes_on { GoesOn F.reads → GoesOnFrom self.old self.new }
+        ensures ok { IfOk result (λ xs. ReadsNormalList (ReadsWhileSome (Given F.reads) close) opening close f self.old
+            xs.items self.new) }
+        ensures err { IfErr result (IsFaultOf (λ fault.
+            FailsNormalList (FailsInElements F.reads (Present (Given F.reads)) close)
+            (ReadsWhileSome (Given F.reads) close) opening close f self.old fault self.new)) }
+        ensures goes_on { GoesOnIf (GoesOn F.reads) self.old self.new }
     {
         match self.try_parse_normal_list_breakable::<T, AllocError, F>(alloc, opening, close, f) {
             Ok(elements) => Ok(elements),
@@ -82,13 +75,10 @@ impl<C: LexerConfig + Drop> Cursor<'_, C> {
         requires { separator ≢ Kind.Eof }
         ensures ok { IfOk result (λ read. ReadsDelimitedList (Given F.reads) close separator opening_span f self.old
             read.0.items read.1 self.new) }
-        ensures stuck { IfErr result (λ fault. OnStuck fault
-            (λ at. StopsDelimitedList (Given F.reads) close separator f self.old at self.new)) }
-        ensures memory { IfErr result (λ fault. OnMemory fault
-            (FailsDelimitedList (LacksOne F.reads) (Given F.reads) close separator
-            (LacksSeparator close separator) f self.old self.new)) }
-        ensures places { KeepsPlaces self.old.lexer self.new.lexer }
-        ensures goes_on { GoesOn F.reads → GoesOnFrom self.old self.new }
+        ensures err { IfErr result (IsFaultOf (λ fault.
+            FailsDelimitedList (Fails F.reads) (Given F.reads) close separator (LacksSeparator close separator) f
+            self.old fault self.new)) }
+        ensures goes_on { GoesOnIf (GoesOn F.reads) self.old self.new }
     {
         match self.try_parse_delimited_list::<T, AllocError, F>(
             alloc,
@@ -128,15 +118,11 @@ impl<C: LexerConfig + Drop> Cursor<'_, C> {
         ensures ok { IfOk result (λ read. ReadsListWithRest (Given E.reads) (Given P.reads)
             (λ r error. (span : Span) × FnReturnsAt S.Fn rest_span r span × D.post rest_last_diagnostic span error)
             close opening_span parse_element parse_rest self.old read.0.items read.1 self.new) }
-        ensures stuck { IfErr result (λ fault. OnStuck fault (λ at.
-            StopsDelimitedList (ReadsItem (Given E.reads) (Given P.reads)) close Kind.Comma
-            (record { element = parse_element; rest = parse_rest; found = None }) self.old at self.new)) }
-        ensures memory { IfErr result (λ fault. OnMemory fault
-            (FailsDelimitedList (FailsItem (LacksOne E.reads) (LacksOne P.reads))
+        ensures err { IfErr result (IsFaultOf (λ fault.
+            FailsDelimitedList (FailsItem (Fails E.reads) (FailsItself P.reads))
             (ReadsItem (Given E.reads) (Given P.reads)) close Kind.Comma (LacksComma close)
-            (record { element = parse_element; rest = parse_rest; found = None }) self.old self.new)) }
-        ensures places { KeepsPlaces self.old.lexer self.new.lexer }
-        ensures goes_on { GoesOn E.reads → GoesOn P.reads → GoesOnFrom self.old self.new }
+            (no_rest_yet parse_element parse_rest) self.old fault self.new)) }
+        ensures goes_on { GoesOnIf (GoesOn E.reads × GoesOn P.reads) self.old self.new }
     {
         match self.try_parse_delimited_list_with_rest::<A, R, AllocError, E, P, S, D>(
             alloc,

@@ -6,8 +6,7 @@ ghost use Rattle.std.specs.Option.{is_some};
 ghost use Rattle.js_kind.specs.Kinds.{is_identifier_name, is_one_of};
 ghost use Rattle.js_grammar.specs.ReLexed.{again_kinds, is_re_lexed};
 ghost use Rattle.js_lexer.specs.Lexer.{IsBehindFor};
-ghost use Rattle.js_lexer.specs.Places.{StaysInPlaces};
-ghost use Rattle.js_cursor.specs.Checkpoint.{HasNotAdvanced};
+ghost use Rattle.js_cursor.specs.Onward.{HasNotAdvanced};
 ghost use Rattle.js_cursor.specs.Cursor.{IsAsBefore, is_at_token_end};
 ghost use Rattle.js_cursor.specs.ReLex.{ReLexes, ReadsExpression, is_angle, is_at_hyphen, is_free, may_re_lex};
 
@@ -48,7 +47,6 @@ impl<C: LexerConfig + Drop> Cursor<'_, C> {
         requires behind { is_at_token_end self.old ≡ true }
         ensures ok { IfOk result (λ found. ReadsExpression self.old found.0 found.1 found.2 self.new) }
         ensures err { OnErr result (IsAsBefore self.old self.new) }
-        ensures places { StaysInPlaces self.old.lexer self.new.lexer }
         ensures stays { HasNotAdvanced self.old self.new }
     {
         let found = self.lexer.next_regex(self.token.kind())?;
@@ -61,7 +59,6 @@ impl<C: LexerConfig + Drop> Cursor<'_, C> {
         ensures ok { OnOk result (MatchBool (may_re_lex Goal.TemplateTail self.old)
             (ReLexes Goal.TemplateTail self.old self.new) (self.new ≡ self.old)) }
         ensures err { OnErr result (IsAsBefore self.old self.new) }
-        ensures places { StaysInPlaces self.old.lexer self.new.lexer }
         ensures stays { HasNotAdvanced self.old self.new }
     {
         if !self.may_re_lex(Goal::TemplateTail) {
@@ -77,7 +74,6 @@ impl<C: LexerConfig + Drop> Cursor<'_, C> {
         requires { is_identifier_name self.old.token.kind ≡ true }
         ensures changed { MatchBool result (ReLexes Goal.JsxIdentifier self.old self.new) (self.new ≡ self.old) }
         ensures answer { result ≡ (is_free self.old && is_at_hyphen self.old) }
-        ensures places { StaysInPlaces self.old.lexer self.new.lexer }
         ensures stays { HasNotAdvanced self.old self.new }
     {
         if !self.is_free() {
@@ -96,7 +92,6 @@ impl<C: LexerConfig + Drop> Cursor<'_, C> {
     fn take_right_angle(&mut self)
         ensures taken { MatchBool (may_re_lex Goal.RightAngle self.old) (ReLexes Goal.RightAngle self.old self.new)
             (self.new ≡ self.old) }
-        ensures places { StaysInPlaces self.old.lexer self.new.lexer }
         ensures stays { HasNotAdvanced self.old self.new }
     {
         if !self.may_re_lex(Goal::RightAngle) {
@@ -111,7 +106,6 @@ impl<C: LexerConfig + Drop> Cursor<'_, C> {
         ensures taken { MatchBool (may_re_lex Goal.RightAngle self.old) (ReLexes Goal.RightAngle self.old self.new)
             (self.new ≡ self.old) }
         ensures answer { result ≡ (if is_some self.old.fatal then Kind.Eof else self.new.token.kind) }
-        ensures places { StaysInPlaces self.old.lexer self.new.lexer }
         ensures stays { HasNotAdvanced self.old self.new }
     {
         if self.has_fatal_error() {
@@ -127,7 +121,6 @@ impl<C: LexerConfig + Drop> Cursor<'_, C> {
         ensures taken { MatchBool (may_re_lex Goal.TypeScriptLeftAngle self.old)
             (ReLexes Goal.TypeScriptLeftAngle self.old self.new) (self.new ≡ self.old) }
         ensures answer { result ≡ is_angle Kind.LAngle Goal.TypeScriptLeftAngle self.old }
-        ensures places { StaysInPlaces self.old.lexer self.new.lexer }
         ensures stays { HasNotAdvanced self.old self.new }
     {
         if self.has_fatal_error() {
@@ -147,7 +140,6 @@ impl<C: LexerConfig + Drop> Cursor<'_, C> {
         ensures taken { MatchBool (may_re_lex Goal.TypeScriptRightAngle self.old)
             (ReLexes Goal.TypeScriptRightAngle self.old self.new) (self.new ≡ self.old) }
         ensures answer { result ≡ is_angle Kind.RAngle Goal.TypeScriptRightAngle self.old }
-        ensures places { StaysInPlaces self.old.lexer self.new.lexer }
         ensures stays { HasNotAdvanced self.old self.new }
     {
         if self.has_fatal_error() {

@@ -3,14 +3,12 @@
 ghost use Rattle.std.specs.Prelude.{◌≡◌, true, false, None, IfOk, IfErr, OnOk, OnErr};
 ghost use Rattle.std.specs.Fn.{FnReturnsAt};
 ghost use Rattle.js_text.specs.declared.span.Span.{Span};
-ghost use Rattle.js_lexer.specs.Places.{KeepsPlaces};
 ghost use Rattle.js_cursor.specs.Cursor.{is_at};
-ghost use Rattle.js_cursor.specs.Checkpoint.{GoesOnFrom};
-ghost use Rattle.js_cursor.specs.Failing.{FailsDelimitedList, FailsItem, FailsSeparated, FailsWith, LacksComma};
-ghost use Rattle.js_cursor.specs.Failing.{LacksPlace, NeverFails, NothingBefore};
-ghost use Rattle.js_cursor.specs.Faults.{IfElement, IfMemory, IfStuck};
-ghost use Rattle.js_cursor.specs.Lists.{GetsStuck, Given, GoesOn, IsSeparatedRound, StopsDelimitedList, ends_at};
-ghost use Rattle.js_cursor.specs.Rests.{ReadsItem, ReadsListWithRest, noting_trailing_comma};
+ghost use Rattle.js_cursor.specs.Failing.{Fails, FailsDelimitedList, FailsItem, FailsItself, FailsSeparated};
+ghost use Rattle.js_cursor.specs.Failing.{LacksComma};
+ghost use Rattle.js_cursor.specs.Lists.{Given, GoesOn, ends_at};
+ghost use Rattle.js_cursor.specs.Onward.{GoesOnIf, HasNotAdvanced, HasNotGoneBack};
+ghost use Rattle.js_cursor.specs.Rests.{ReadsItem, ReadsListWithRest, no_rest_yet, noting_trailing_comma};
 ghost use Rattle.js_cursor.specs.RestSteps.{GoesBehindItem, ReadsItems, ReadsOneItem, readers_of};
 
 use super::Cursor;
@@ -46,13 +44,9 @@ where
     requires at { is_at Kind.Dot3 cursor.old ≡ true }
     ensures item { OnOk result (ReadsOneItem (Given E.reads) (Given P.reads) items.old cursor.old items.new
         cursor.new) }
-    ensures stuck { IfErr result (λ fault. IfStuck fault (λ at. ⊥)) }
-    ensures memory { IfErr result (λ fault. IfMemory fault (FailsItem (LacksPlace E.reads) NeverFails
-        (readers_of items.old) cursor.old (readers_of items.new) cursor.new)) }
-    ensures element { IfErr result (λ fault. IfElement fault (λ e. FailsItem (FailsWith E.reads e) (FailsWith P.reads e)
-        (readers_of items.old) cursor.old (readers_of items.new) cursor.new)) }
-    ensures places { KeepsPlaces cursor.old.lexer cursor.new.lexer }
-    ensures goes_on { GoesOn P.reads → GoesOnFrom cursor.old cursor.new }
+    ensures err { IfErr result (λ fault. FailsItem (Fails E.reads) (FailsItself P.reads) (readers_of items.old)
+        cursor.old fault (readers_of items.new) cursor.new) }
+    ensures goes_on { GoesOnIf (GoesOn E.reads × GoesOn P.reads) cursor.old cursor.new }
 {
     let rest = match items.rest.try_read(cursor) {
         Ok(rest) => rest,
@@ -77,13 +71,9 @@ where
     requires at { is_at Kind.Dot3 cursor.old ≡ false }
     ensures item { OnOk result (ReadsOneItem (Given E.reads) (Given P.reads) items.old cursor.old items.new
         cursor.new) }
-    ensures stuck { IfErr result (λ fault. IfStuck fault (λ at. ⊥)) }
-    ensures memory { IfErr result (λ fault. IfMemory fault (FailsItem (LacksPlace E.reads) NeverFails
-        (readers_of items.old) cursor.old (readers_of items.new) cursor.new)) }
-    ensures element { IfErr result (λ fault. IfElement fault (λ e. FailsItem (FailsWith E.reads e) (FailsWith P.reads e)
-        (readers_of items.old) cursor.old (readers_of items.new) cursor.new)) }
-    ensures places { KeepsPlaces cursor.old.lexer cursor.new.lexer }
-    ensures goes_on { GoesOn E.reads → GoesOnFrom cursor.old cursor.new }
+    ensures err { IfErr result (λ fault. FailsItem (Fails E.reads) (FailsItself P.reads) (readers_of items.old)
+        cursor.old fault (readers_of items.new) cursor.new) }
+    ensures goes_on { GoesOnIf (GoesOn E.reads × GoesOn P.reads) cursor.old cursor.new }
 {
     let element = match items.element.try_read(cursor) {
         Ok(element) => element,
@@ -107,13 +97,9 @@ where
     requires { items.old.found ≡ None }
     ensures item { OnOk result (ReadsOneItem (Given E.reads) (Given P.reads) items.old cursor.old items.new
         cursor.new) }
-    ensures stuck { IfErr result (λ fault. IfStuck fault (λ at. ⊥)) }
-    ensures memory { IfErr result (λ fault. IfMemory fault (FailsItem (LacksPlace E.reads) NeverFails
-        (readers_of items.old) cursor.old (readers_of items.new) cursor.new)) }
-    ensures element { IfErr result (λ fault. IfElement fault (λ e. FailsItem (FailsWith E.reads e) (FailsWith P.reads e)
-        (readers_of items.old) cursor.old (readers_of items.new) cursor.new)) }
-    ensures places { KeepsPlaces cursor.old.lexer cursor.new.lexer }
-    ensures goes_on { GoesOn E.reads → GoesOn P.reads → GoesOnFrom cursor.old cursor.new }
+    ensures err { IfErr result (λ fault. FailsItem (Fails E.reads) (FailsItself P.reads) (readers_of items.old)
+        cursor.old fault (readers_of items.new) cursor.new) }
+    ensures goes_on { GoesOnIf (GoesOn E.reads × GoesOn P.reads) cursor.old cursor.new }
 {
     if cursor.at(Kind::Dot3) {
         return read_rest(cursor, items);
@@ -123,12 +109,10 @@ where
 
 impl<C: LexerConfig + Drop> Cursor<'_, C> {
     /// Reports a comma at the span that stands between a rest and the end of its list.
-    #[tactic(auto, using(crate::proofs::TokenSteps::unchanged))]
     fn note_trailing_comma(&mut self, has_rest: bool, span: Span) -> Result<(), AllocError>
         ensures noted { OnOk result (self.new ≡ noting_trailing_comma has_rest span self.old) }
         ensures err { OnErr result (self.new ≡ self.old) }
-        ensures places { KeepsPlaces self.old.lexer self.new.lexer }
-        ensures goes_on { GoesOnFrom self.old self.new }
+        ensures stays { HasNotAdvanced self.old self.new }
     {
         if !has_rest {
             return Ok(());
@@ -146,8 +130,7 @@ impl<C: LexerConfig + Drop> Cursor<'_, C> {
         ensures behind { IfOk result (λ goes_on. (opening : Span)
             → GoesBehindItem close opening has_rest self.old goes_on self.new) }
         ensures err { OnErr result (LacksComma close self.old self.new) }
-        ensures places { KeepsPlaces self.old.lexer self.new.lexer }
-        ensures goes_on { GoesOnFrom self.old self.new }
+        ensures onward { HasNotGoneBack self.old self.new }
     {
         let span = self.cur_span();
         self.go_past(Kind::Comma)?;
@@ -162,7 +145,6 @@ impl<C: LexerConfig + Drop> Cursor<'_, C> {
     }
 
     /// Tells whether an item stands behind an item, and goes past a comma; else the list ends there.
-    #[tactic(auto, using(crate::proofs::TokenSteps::unchanged))]
     fn behind_item(
         &mut self,
         close: Kind,
@@ -171,8 +153,7 @@ impl<C: LexerConfig + Drop> Cursor<'_, C> {
     ) -> Result<bool, AllocError>
         ensures behind { IfOk result (λ goes_on. GoesBehindItem close opening_span has_rest self.old goes_on self.new) }
         ensures err { OnErr result (LacksComma close self.old self.new) }
-        ensures places { KeepsPlaces self.old.lexer self.new.lexer }
-        ensures goes_on { GoesOnFrom self.old self.new }
+        ensures onward { HasNotGoneBack self.old self.new }
     {
         if self.is_at_end_of_list(close) {
             return Ok(false);
@@ -205,18 +186,11 @@ impl<C: LexerConfig + Drop> Cursor<'_, C> {
         ensures ok { OnOk result (ReadsItems (Given E.reads) (Given P.reads)
             (λ r error. (span : Span) × FnReturnsAt S.Fn rest_span r span × D.post rest_last_diagnostic span error)
             close opening_span items.old self.old items.new self.new) }
-        ensures stuck { IfErr result (λ fault. IfStuck fault (λ at.
-            GetsStuck (IsSeparatedRound (ReadsItem (Given E.reads) (Given P.reads)) close Kind.Comma)
-            (readers_of items.old) self.old at self.new)) }
-        ensures memory { IfErr result (λ fault. IfMemory fault
-            (FailsSeparated (FailsItem (LacksPlace E.reads) NeverFails) (ReadsItem (Given E.reads) (Given P.reads))
-            close Kind.Comma (LacksComma close) (readers_of items.old) self.old (readers_of items.new) self.new)) }
-        ensures element { IfErr result (λ fault. IfElement fault
-            (λ e. FailsSeparated (FailsItem (FailsWith E.reads e) (FailsWith P.reads e))
-            (ReadsItem (Given E.reads) (Given P.reads)) close Kind.Comma NothingBefore (readers_of items.old) self.old
-            (readers_of items.new) self.new)) }
-        ensures places { KeepsPlaces self.old.lexer self.new.lexer }
-        ensures goes_on { GoesOn E.reads → GoesOn P.reads → GoesOnFrom self.old self.new }
+        ensures err { IfErr result (λ fault.
+            FailsSeparated (FailsItem (Fails E.reads) (FailsItself P.reads))
+            (ReadsItem (Given E.reads) (Given P.reads)) close Kind.Comma (LacksComma close) (readers_of items.old)
+            self.old fault (readers_of items.new) self.new) }
+        ensures goes_on { GoesOnIf (GoesOn E.reads × GoesOn P.reads) self.old self.new }
     {
         'items: loop {
             let start = self.cur_start();
@@ -268,19 +242,11 @@ impl<C: LexerConfig + Drop> Cursor<'_, C> {
         ensures ok { IfOk result (λ read. ReadsListWithRest (Given E.reads) (Given P.reads)
             (λ r error. (span : Span) × FnReturnsAt S.Fn rest_span r span × D.post rest_last_diagnostic span error)
             close opening_span parse_element parse_rest self.old read.0.items read.1 self.new) }
-        ensures stuck { IfErr result (λ fault. IfStuck fault (λ at.
-            StopsDelimitedList (ReadsItem (Given E.reads) (Given P.reads)) close Kind.Comma
-            (record { element = parse_element; rest = parse_rest; found = None }) self.old at self.new)) }
-        ensures memory { IfErr result (λ fault. IfMemory fault
-            (FailsDelimitedList (FailsItem (LacksPlace E.reads) NeverFails) (ReadsItem (Given E.reads) (Given P.reads))
-            close Kind.Comma (LacksComma close) (record { element = parse_element; rest = parse_rest; found = None })
-            self.old self.new)) }
-        ensures element { IfErr result (λ fault. IfElement fault
-            (λ e. FailsDelimitedList (FailsItem (FailsWith E.reads e) (FailsWith P.reads e))
-            (ReadsItem (Given E.reads) (Given P.reads)) close Kind.Comma NothingBefore
-            (record { element = parse_element; rest = parse_rest; found = None }) self.old self.new)) }
-        ensures places { KeepsPlaces self.old.lexer self.new.lexer }
-        ensures goes_on { GoesOn E.reads → GoesOn P.reads → GoesOnFrom self.old self.new }
+        ensures err { IfErr result (λ fault.
+            FailsDelimitedList (FailsItem (Fails E.reads) (FailsItself P.reads))
+            (ReadsItem (Given E.reads) (Given P.reads)) close Kind.Comma (LacksComma close)
+            (no_rest_yet parse_element parse_rest) self.old fault self.new) }
+        ensures goes_on { GoesOnIf (GoesOn E.reads × GoesOn P.reads) self.old self.new }
     {
         if self.is_at_end_of_list(close) {
             return Ok((Vec::new(alloc), None));

@@ -2,10 +2,11 @@
 
 ghost use Rattle.std.specs.Prelude.{◌≡◌, ◌↔◌, List, IsTrue, IfOk, OnOk, OnErr};
 ghost use Rattle.js_text.specs.declared.diagnostic.Diagnostic.{Diagnostic};
-ghost use Rattle.js_lexer.specs.Places.{IsSparse, IsSparseCheckpoint, StaysInPlaces};
-ghost use Rattle.js_cursor.specs.Checkpoint.{CanRewind, GoesOnFrom, HasNotAdvanced, checkpoint_of};
+ghost use Rattle.js_lexer.specs.Places.{IsSparse, IsSparseCheckpoint};
+ghost use Rattle.js_cursor.specs.Checkpoint.{CanRewind, GoesOnFrom, checkpoint_of};
 ghost use Rattle.js_cursor.specs.Checkpoint.{checkpoint_with_errors_of, rewound, with_diagnostics, without_fatal_error};
 ghost use Rattle.js_cursor.specs.Cursor.{CursorState, IsAsBefore};
+ghost use Rattle.js_cursor.specs.Onward.{HasNotAdvanced};
 
 use super::Cursor;
 use crate::checkpoint::ParserCheckpoint;
@@ -88,7 +89,6 @@ impl<C: LexerConfig + Drop> Cursor<'_, C> {
     pub fn lookahead<U, P: Predicate<C, U> + Drop>(&mut self, predicate: P) -> U
         ensures gives { (after : CursorState) × P.gives predicate (without_fatal_error self.old) result after }
         ensures no_trace { IsAsBefore self.old self.new }
-        ensures places { StaysInPlaces self.old.lexer self.new.lexer }
         ensures stays { HasNotAdvanced self.old self.new }
     {
         let checkpoint = self.checkpoint();

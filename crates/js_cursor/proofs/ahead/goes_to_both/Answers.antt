@@ -17,5 +17,5 @@ returns-clause-looks g c =
 
 pub returns-clause-goes_on : goal.returns-clause-goes_on
 returns-clause-goes_on g c =
-    goes_on-trans c.args.cursor.now c.goes_to.new.cursor c.goes_to-2.new.cursor c.goes_to.ensures.goes_on
-    c.goes_to-2.ensures.goes_on
+    goes_on-trans c.args.cursor.now c.goes_to.new.cursor c.goes_to-2.new.cursor c.goes_to.ensures.onward.goes_on
+    c.goes_to-2.ensures.onward.goes_on

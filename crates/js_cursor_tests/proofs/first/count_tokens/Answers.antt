@@ -6,5 +6,5 @@ pub tokens-smaller : goal.tokens-smaller
 tokens-smaller c =
     let short : c.tokens.cursor.token.start < 2 ^ 32 = omega arith in
     let some : c.tokens.cursor.token.kind ≢ Eof = search rules in
-    let later = c.in_ok-bump_any.ensures.starts some in
+    let later = c.in_ok-bump_any.ensures.passed.starts some in
     omega (arith, short, later)

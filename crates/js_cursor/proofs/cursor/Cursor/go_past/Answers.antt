@@ -11,5 +11,5 @@ returns-clause-some_text g c =
 
 pub returns-clause-starts : goal.returns-clause-starts
 returns-clause-starts g c =
-    c.in_ok-advance.ensures.starts
+    c.in_ok-advance.ensures.passed.starts
     (λ e. c.requires.some (sym (kind_at c.args.separator c.args.self.now c.requires.at) ∙ e))

@@ -1,4 +1,4 @@
-use Rattle.std.proofs.Common.{subst}
+use Rattle.std.proofs.Common.{rules, subst}
 use Rattle.js_cursor.specs.Checkpoint.{GoesOnFrom}
 use Rattle.js_cursor.proofs.CursorSteps.{can_rewind-on}
 use Rattle.js_cursor.proofs.GoesOn.{goes_on_without_fatal_error}
@@ -18,4 +18,4 @@ returns-clause-no_trace g c =
     c.test-answer.ensures.goes_on))
 
 pub returns-clause-stays : goal.returns-clause-stays
-returns-clause-stays g c = before_in_its_place c.args.self.now _ (returns-clause-no_trace g c)
+returns-clause-stays g c = before_in_its_place c.args.self.now _ (search rules) (returns-clause-no_trace g c)

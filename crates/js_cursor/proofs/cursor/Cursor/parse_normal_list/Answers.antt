@@ -1,15 +1,5 @@
-use Rattle.js_cursor.specs.Failing.{ReadsElements}
-use Rattle.js_cursor.specs.Lists.{Given}
-use Rattle.js_cursor.proofs.FailingSteps.{lacks_normal, plain_stuck}
 use Rattle.js_cursor.proofs.cursor.Cursor.parse_normal_list.Goals as goal
 
-pub returns-in-Err-clause-stuck : goal.returns-in-Err-clause-stuck
-returns-in-Err-clause-stuck g c =
-    plain_stuck c.in-Err.fault c.from.result _ c.from.ensures c.in-Err.ensures.stuck
-
-pub returns-in-Err-clause-memory : goal.returns-in-Err-clause-memory
-returns-in-Err-clause-memory g c =
-    lacks_normal g.F.Element.reads (Given g.F.Element.reads) (ReadsElements (Given g.F.Element.reads) c.args.close)
-    c.args.opening
-    c.args.close c.args.f c.args.self.now c.try_parse_normal_list.new.self c.in-Err.fault c.from.result c.from.ensures
-    c.in-Err.ensures.memory c.in-Err.ensures.element
+pub returns-in-Err-clause-err : goal.returns-in-Err-clause-err
+returns-in-Err-clause-err g c =
+    record { fault = c.in-Err.fault; given_is = c.from.ensures; why = c.in-Err.ensures.err }

@@ -6,4 +6,4 @@ pub returns-clause-before : goal.returns-clause-before
 returns-clause-before g c = search rules
 
 pub returns-clause-stays : goal.returns-clause-stays
-returns-clause-stays g c = before_in_its_place c.args.self.now _ (returns-clause-before g c)
+returns-clause-stays g c = before_in_its_place c.args.self.now _ (search rules) (returns-clause-before g c)

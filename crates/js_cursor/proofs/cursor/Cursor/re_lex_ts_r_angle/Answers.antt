@@ -1,9 +1,8 @@
-use Rattle.std.proofs.Common.{refl, rules, sym, ◌∙◌, subst}
+use Rattle.std.proofs.Common.{refl, rules, sym, ◌∙◌}
 use Rattle.js_kind.specs.declared.kind.Kind.TheVariants.{RAngle}
 use Rattle.js_grammar.specs.declared.goal.Goal.TheVariants.{TypeScriptRightAngle}
-use Rattle.js_cursor.specs.Cursor.{CursorState, IsOnToken}
 use Rattle.js_cursor.proofs.CursorSteps.{angle_taken}
-use Rattle.js_cursor.proofs.TokenSteps.{on_again, taken_in_place, unmoved}
+use Rattle.js_cursor.proofs.TokenSteps.{on_again, on_view, taken_in_place, unmoved}
 use Rattle.js_cursor.proofs.cursor.Cursor.re_lex_ts_r_angle.Goals as goal
 
 pub returns-clause-answer : goal.returns-clause-answer
@@ -13,7 +12,8 @@ returns-clause-answer g c =
 
 pub invariant_of-self : goal.invariant_of-self
 invariant_of-self g c =
-    on_again TypeScriptRightAngle _ c.self.inside.lexer _ c.self.inside.token _ c.self.inside.previous_end refl c.self.invariant
+    on_again TypeScriptRightAngle _ c.self.inside.lexer _ c.self.inside.token _ c.self.inside.previous_end refl
+    c.self.invariant
     c.re_lex_as_typescript_r_angle-self-inside.ensures.token
 
 pub returns-clause-taken : goal.returns-clause-taken
@@ -21,9 +21,8 @@ returns-clause-taken g c = search rules
 
 pub returns-clause-stays : goal.returns-clause-stays
 returns-clause-stays g c =
-    taken_in_place TypeScriptRightAngle c.self.inside.source_text.now _ c.args.self.now _ refl
-    (subst (λ (s : CursorState). IsOnToken c.self.inside.source_text.now s.lexer s.token s.previous_end) c.self.view_is
-    c.self.invariant)
+    taken_in_place TypeScriptRightAngle _ _ c.args.self.now _ refl
+    (on_view _ _ _ c.self.view_is c.self.invariant) (search rules)
     (returns-clause-taken g c)
 
 pub returns-then-not-may_re_lex-clause-stays : goal.returns-then-not-may_re_lex-clause-stays

@@ -2,16 +2,17 @@ use Rattle.std.proofs.Common.{◌<◌, ◌^◌, ◌++◌, [], ◌∷◌, refl, s
 use Rattle.std.proofs.Common.{append-nil, arith}
 use Rattle.std.proofs.lemmas.Fn.{says_at}
 use Rattle.js_kind.specs.declared.kind.Kind.TheVariants.{Comma}
-use Rattle.js_cursor.specs.Lists.{Given, IsSeparated, IsSeparatedRound, LeadingOn}
-use Rattle.js_cursor.specs.Failing.{FailsItem, LacksComma, LacksPlace, NeverFails}
-use Rattle.js_cursor.specs.Failing.FailsInRounds.{in_item}
+use Rattle.js_cursor.specs.Lists.{Given, GoesOn, IsSeparated, IsSeparatedRound, LeadingOn}
+use Rattle.js_cursor.specs.Failing.FailsInRounds.{before_item, in_item, stuck}
 use Rattle.js_cursor.specs.RestSteps.{readers_of}
 use Rattle.js_cursor.specs.Rests.{ReadsItem, elements}
 use Rattle.js_cursor.specs.Rests.EndsWithRest.{ends, rest_is_not_last}
-use Rattle.js_cursor.proofs.GoesOn.{goes_on-refl, goes_on-trans}
-use Rattle.js_cursor.proofs.FailingSteps.{if_element-map, if_memory-map, if_stuck-map, lacks_before}
+use Rattle.js_cursor.specs.declared.fault.ListFault.TheVariants.{Stuck}
+use Rattle.js_cursor.proofs.FailingSteps.{lacking}
 use Rattle.js_cursor.proofs.RestItems.{elements-append, ends_behind, separated_behind}
-use Rattle.js_cursor.proofs.RoundSteps.{leaves_less, rounds-push, stuck_as_told}
+use Rattle.js_cursor.proofs.RoundSteps.{goes_on_behind, goes_on_if-refl, goes_on_if-trans, leaves_less, rounds-push}
+use Rattle.js_cursor.proofs.RoundSteps.{stuck_as_told}
+use Rattle.js_cursor.proofs.TokenSteps.{then_stays}
 use Rattle.js_cursor.proofs.cursor.Cursor.read_items.Goals as goal
 
 pub items-init : goal.items-init
@@ -19,8 +20,7 @@ items-init g c = (
   [],
   refl,
   sym (append-nil c.args.items.now.elements.items),
-  omega arith,
-  λ elements rests. goes_on-refl c.args.self.now,
+  goes_on_if-refl _ c.args.self.now,
 )
 
 pub items-smaller : goal.items-smaller
@@ -56,16 +56,11 @@ items-preserved g c =
       round.kept ∙ ap (λ ys. ys ++ elements (round.item ∷ [])) c.items.invariant.2
           ∙ append_assoc c.args.items.now.elements.items (elements more) (elements (round.item ∷ []))
           ∙ ap (λ ys. c.args.items.now.elements.items ++ ys) (sym (elements-append more (round.item ∷ []))),
-      omega (
-        arith,
-        c.items.invariant.3,
-        c.in_ok-goes_on.ensures.places,
-        c.in-Ok.ensures.places,
-      ),
-      λ elements rests.
-          goes_on-trans c.args.self.now c.behind_item.new.self c.read_item.new.cursor
-          (goes_on-trans c.args.self.now c.items.self c.behind_item.new.self (c.items.invariant.4 elements rests)
-          c.in_ok-goes_on.ensures.goes_on) (c.in-Ok.ensures.goes_on elements rests),
+      goes_on_if-trans (GoesOn g.E.FallibleElement.reads × GoesOn g.P.FallibleElement.reads) c.args.self.now
+          c.behind_item.new.self c.read_item.new.cursor
+          (goes_on_behind (GoesOn g.E.FallibleElement.reads × GoesOn g.P.FallibleElement.reads) c.args.self.now
+          c.items.self
+          c.behind_item.new.self c.items.invariant.3 c.in_ok-goes_on.ensures.onward) c.in-Ok.ensures.goes_on,
     )
 
 pub returns-then-not-goes_on-clause-ok : goal.returns-then-not-goes_on-clause-ok
@@ -100,94 +95,60 @@ returns-in-Some-clause-ok g c =
           (c.rest_span.result, told, c.rest_last_diagnostic.ensures) c.set_fatal_error.ensures.state;
     }
 
-pub returns-then-is_stuck_at-clause-stuck : goal.returns-then-is_stuck_at-clause-stuck
-returns-then-is_stuck_at-clause-stuck g c =
-    let read = c.items.invariant in
-    let round = c.in-Ok.ensures.item in
-    let after = c.read_item.new.cursor in
-    record {
-      xs = read.0;
-      before = readers_of c.items.items;
-      from = c.items.self;
-      rounds = read.1;
-      x = round.item;
-      after = readers_of c.read_item.new.items;
-      round = record {
-        between = c.behind_item.new.self;
-        separated =
-            separated_behind c.args.close c.args.opening_span c.is_some-has_rest.result c.items.self
-            c.in_ok-goes_on.goes_on c.behind_item.new.self c.if-not-goes_on.false c.in_ok-goes_on.ensures.behind;
-        read = round.reads;
-      };
-      stuck =
-          stuck_as_told c.items.self after c.cur_start-start.result c.is_stuck_at.result _
-          c.cur_start-start.ensures.start
-          c.is_stuck_at.ensures c.if-is_stuck_at.true;
-      at_is = c.cur_start.ensures.start;
-    }
-
 pub returns-in_err-goes_on-clause-goes_on : goal.returns-in_err-goes_on-clause-goes_on
 returns-in_err-goes_on-clause-goes_on g c =
-    λ elements rests.
-    goes_on-trans c.args.self.now c.items.self c.behind_item.new.self (c.items.invariant.4 elements rests)
-    c.in_err-goes_on.ensures.goes_on
+    goes_on_behind (GoesOn g.E.FallibleElement.reads × GoesOn g.P.FallibleElement.reads) c.args.self.now c.items.self
+    c.behind_item.new.self c.items.invariant.3 c.in_err-goes_on.ensures.onward
 
 pub returns-then-not-goes_on-clause-goes_on : goal.returns-then-not-goes_on-clause-goes_on
 returns-then-not-goes_on-clause-goes_on g c =
-    λ elements rests.
-    goes_on-trans c.args.self.now c.items.self c.behind_item.new.self (c.items.invariant.4 elements rests)
-    c.in_ok-goes_on.ensures.goes_on
+    goes_on_behind (GoesOn g.E.FallibleElement.reads × GoesOn g.P.FallibleElement.reads) c.args.self.now c.items.self
+    c.behind_item.new.self c.items.invariant.3 c.in_ok-goes_on.ensures.onward
 
 pub returns-in-Some-clause-goes_on : goal.returns-in-Some-clause-goes_on
 returns-in-Some-clause-goes_on g c =
-    λ elements rests.
-    goes_on-trans c.args.self.now c.behind_item.new.self c.set_fatal_error.new.self
-    (goes_on-trans c.args.self.now c.items.self c.behind_item.new.self (c.items.invariant.4 elements rests)
-    c.in_ok-goes_on.ensures.goes_on)
-    c.set_fatal_error.ensures.stays.goes_on
+    goes_on_behind (GoesOn g.E.FallibleElement.reads × GoesOn g.P.FallibleElement.reads) c.args.self.now
+    c.items.self c.set_fatal_error.new.self c.items.invariant.3
+    (then_stays c.items.self c.behind_item.new.self c.set_fatal_error.new.self c.in_ok-goes_on.ensures.onward
+    c.set_fatal_error.ensures.stays)
 
 pub returns-in-Err-clause-goes_on : goal.returns-in-Err-clause-goes_on
 returns-in-Err-clause-goes_on g c =
-    λ elements rests.
-    goes_on-trans c.args.self.now c.behind_item.new.self c.read_item.new.cursor
-    (goes_on-trans c.args.self.now c.items.self c.behind_item.new.self (c.items.invariant.4 elements rests)
-    c.in_ok-goes_on.ensures.goes_on) (c.in-Err.ensures.goes_on elements rests)
+    goes_on_if-trans (GoesOn g.E.FallibleElement.reads × GoesOn g.P.FallibleElement.reads) c.args.self.now
+    c.behind_item.new.self c.read_item.new.cursor
+    (goes_on_behind (GoesOn g.E.FallibleElement.reads × GoesOn g.P.FallibleElement.reads) c.args.self.now c.items.self
+    c.behind_item.new.self c.items.invariant.3 c.in_ok-goes_on.ensures.onward) c.in-Err.ensures.goes_on
 
 pub returns-then-is_stuck_at-clause-goes_on : goal.returns-then-is_stuck_at-clause-goes_on
 returns-then-is_stuck_at-clause-goes_on g c =
-    λ elements rests.
-    goes_on-trans c.args.self.now c.behind_item.new.self c.read_item.new.cursor
-    (goes_on-trans c.args.self.now c.items.self c.behind_item.new.self (c.items.invariant.4 elements rests)
-    c.in_ok-goes_on.ensures.goes_on) (c.in-Ok.ensures.goes_on elements rests)
+    goes_on_if-trans (GoesOn g.E.FallibleElement.reads × GoesOn g.P.FallibleElement.reads) c.args.self.now
+    c.behind_item.new.self c.read_item.new.cursor
+    (goes_on_behind (GoesOn g.E.FallibleElement.reads × GoesOn g.P.FallibleElement.reads) c.args.self.now c.items.self
+    c.behind_item.new.self c.items.invariant.3 c.in_ok-goes_on.ensures.onward) c.in-Ok.ensures.goes_on
 
-pub returns-in_err-goes_on-clause-memory : goal.returns-in_err-goes_on-clause-memory
-returns-in_err-goes_on-clause-memory g c =
-    lacks_before (FailsItem (LacksPlace g.E.FallibleElement.reads) NeverFails)
-    (ReadsItem (Given g.E.FallibleElement.reads) (Given g.P.FallibleElement.reads)) c.args.close Comma (LacksComma
-    c.args.close) _ (readers_of c.args.items.now)
-    c.args.self.now c.items.invariant.0 c.items.self (readers_of c.items.items) c.behind_item.new.self
-    c.items.invariant.1 c.in_err-goes_on.ensures.err
+pub returns-in_err-goes_on-clause-err : goal.returns-in_err-goes_on-clause-err
+returns-in_err-goes_on-clause-err g c =
+    lacking _ _ c.from_residual.ensures.1
+    (before_item refl c.items.invariant.0 c.items.self c.items.invariant.1 c.in_err-goes_on.ensures.err)
 
-pub returns-in-Err-clause-stuck : goal.returns-in-Err-clause-stuck
-returns-in-Err-clause-stuck g c =
-    if_stuck-map c.in-Err.fault _ _ (λ at never. absurd never) c.in-Err.ensures.stuck
-
-pub returns-in-Err-clause-memory : goal.returns-in-Err-clause-memory
-returns-in-Err-clause-memory g c =
-    if_memory-map c.in-Err.fault _ _
-    (λ lacks.
+pub returns-in-Err-clause-err : goal.returns-in-Err-clause-err
+returns-in-Err-clause-err g c =
     in_item c.items.invariant.0 (readers_of c.items.items) c.items.self c.behind_item.new.self c.items.invariant.1
     (separated_behind c.args.close c.args.opening_span c.is_some-has_rest.result c.items.self
     c.in_ok-goes_on.goes_on c.behind_item.new.self c.if-not-goes_on.false c.in_ok-goes_on.ensures.behind)
-    lacks)
-    c.in-Err.ensures.memory
+    c.in-Err.ensures.err
 
-pub returns-in-Err-clause-element : goal.returns-in-Err-clause-element
-returns-in-Err-clause-element g c =
-    if_element-map c.in-Err.fault _ _
-    (λ e failed.
-    in_item c.items.invariant.0 (readers_of c.items.items) c.items.self c.behind_item.new.self c.items.invariant.1
-    (separated_behind c.args.close c.args.opening_span c.is_some-has_rest.result c.items.self
-    c.in_ok-goes_on.goes_on c.behind_item.new.self c.if-not-goes_on.false c.in_ok-goes_on.ensures.behind)
-    failed)
-    c.in-Err.ensures.element
+pub returns-then-is_stuck_at-clause-err : goal.returns-then-is_stuck_at-clause-err
+returns-then-is_stuck_at-clause-err g c =
+    let round = c.in-Ok.ensures.item in
+    stuck c.items.invariant.0 (readers_of c.items.items) c.items.self c.items.invariant.1 round.item
+    (record {
+      between = c.behind_item.new.self;
+      separated =
+          separated_behind c.args.close c.args.opening_span c.is_some-has_rest.result c.items.self
+          c.in_ok-goes_on.goes_on c.behind_item.new.self c.if-not-goes_on.false c.in_ok-goes_on.ensures.behind;
+      read = round.reads;
+    })
+    (stuck_as_told c.items.self c.read_item.new.cursor c.cur_start-start.result c.is_stuck_at.result _
+    c.cur_start-start.ensures.start c.is_stuck_at.ensures c.if-is_stuck_at.true)
+    (ap Stuck c.cur_start.ensures.start)

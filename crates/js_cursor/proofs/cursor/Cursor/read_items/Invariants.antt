@@ -1,14 +1,12 @@
 use Rattle.std.proofs.Common.{◌≡◌, List, ◌++◌}
 use Rattle.js_kind.specs.declared.kind.Kind.TheVariants.{Comma}
-use Rattle.js_lexer.specs.Places.{KeepsPlaces}
-use Rattle.js_cursor.specs.Checkpoint.{GoesOnFrom}
 use Rattle.js_cursor.specs.Lists.{Given, GoesOn, IsSeparatedRound, LeadingOn, Rounds, left_to_read}
+use Rattle.js_cursor.specs.Onward.{GoesOnIf}
 use Rattle.js_cursor.specs.Rests.{Item, ReadsItem, elements}
 use Rattle.js_cursor.specs.RestSteps.{readers_of}
 use Rattle.js_cursor.proofs.cursor.Cursor.read_items.Given as goal
 
--- What was read so far are rounds, their elements were added, no place was given up, and the cursor has gone
--- on.
+-- What was read so far are rounds, their elements were added, and the cursor has gone on.
 abbrev pub invariant-items : goal.invariant-items
 invariant-items g l =
     (more : List (Item g.row.A.Denot g.row.R.Denot))
@@ -16,8 +14,7 @@ invariant-items g l =
     g.P.FallibleElement.reads)) l.close Comma))
     (readers_of l.initial.items) l.initial.self more (readers_of l.items) l.self
     × (l.items.elements.items ≡ l.initial.items.elements.items ++ elements more)
-    × KeepsPlaces l.initial.self.lexer l.self.lexer
-    × (GoesOn g.E.FallibleElement.reads → GoesOn g.P.FallibleElement.reads → GoesOnFrom l.initial.self l.self)
+    × GoesOnIf (GoesOn g.E.FallibleElement.reads × GoesOn g.P.FallibleElement.reads) l.initial.self l.self
 
 -- No fatal error stands, and there is still text behind the current token.
 abbrev pub decreases-items : goal.decreases-items

@@ -1,8 +1,8 @@
-use Rattle.std.proofs.Common.{refl, ap, subst}
+use Rattle.std.proofs.Common.{ap, refl, rules, subst}
 use Rattle.js_grammar.specs.declared.goal.Goal.TheVariants.{RegularExpression}
 use Rattle.js_lexer.specs.Goals.{ReadsRegex}
-use Rattle.js_cursor.specs.Cursor.{CursorState, IsOnToken}
-use Rattle.js_cursor.proofs.TokenSteps.{expression_in_its_place, on_again, restored_in_its_place}
+use Rattle.js_cursor.specs.Cursor.{CursorState}
+use Rattle.js_cursor.proofs.TokenSteps.{before_in_its_place, in_its_place, on_again, on_view}
 use Rattle.js_cursor.proofs.cursor.Cursor.read_regex.Goals as goal
 
 pub returns-clause-ok : goal.returns-clause-ok
@@ -22,12 +22,11 @@ invariant_of-self-2 g c =
 
 pub returns-clause-stays : goal.returns-clause-stays
 returns-clause-stays g c =
-    expression_in_its_place c.self.inside.source_text.now c.args.self.now _ _ _ _
-    (subst (λ (s : CursorState). IsOnToken c.self.inside.source_text.now s.lexer s.token s.previous_end) c.self.view_is
-    c.self.invariant)
-    (returns-clause-ok g c)
+    let read = returns-clause-ok g c in
+    in_its_place RegularExpression _ c.args.self.now _ refl
+    (on_view _ _ _ c.self.view_is c.self.invariant) (search rules)
+    (record { read = read.read.again; others = read.others })
 
 pub returns-in_err-found-clause-stays : goal.returns-in_err-found-clause-stays
 returns-in_err-found-clause-stays g c =
-    rw (← c.self.view_is)
-    (restored_in_its_place _ c.next_regex.new.self c.in_err-found.ensures.err c.in_err-found.ensures.kept)
+    before_in_its_place c.args.self.now _ (search rules) (search rules)

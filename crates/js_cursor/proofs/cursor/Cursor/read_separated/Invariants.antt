@@ -1,20 +1,16 @@
 use Rattle.std.proofs.Common.{◌≡◌, List, ◌++◌}
-use Rattle.js_lexer.specs.Places.{KeepsPlaces}
-use Rattle.js_cursor.specs.Checkpoint.{GoesOnFrom}
 use Rattle.js_cursor.specs.Lists.{Given, GoesOn, IsSeparatedRound, LeadingOn, Rounds, left_to_read}
+use Rattle.js_cursor.specs.Onward.{GoesOnIf}
 use Rattle.js_cursor.proofs.cursor.Cursor.read_separated.Given as goal
 
--- What was read so far are rounds, their elements were added, no place was given up, and the cursor has gone
--- on.
+-- What was read so far are rounds, their elements were added, and the cursor has gone on.
 abbrev pub invariant-elements : goal.invariant-elements
 invariant-elements g l =
     (more : List g.row.T.Denot)
     × Rounds (LeadingOn (IsSeparatedRound (Given g.F.FallibleElement.reads) l.close l.separator)) l.initial.f
-    l.initial.self more l.f
-    l.self
+    l.initial.self more l.f l.self
     × (l.elements.items ≡ l.initial.elements.items ++ more)
-    × KeepsPlaces l.initial.self.lexer l.self.lexer
-    × (GoesOn g.F.FallibleElement.reads → GoesOnFrom l.initial.self l.self)
+    × GoesOnIf (GoesOn g.F.FallibleElement.reads) l.initial.self l.self
 
 -- No fatal error stands, and there is still text behind the current token.
 abbrev pub decreases-elements : goal.decreases-elements

@@ -1,6 +1,6 @@
 use Rattle.std.proofs.Common.{rules, subst}
 use Rattle.std.specs.Str.{IsCharBoundary}
-use Rattle.js_cursor.proofs.TokenSteps.{on_end, stopped}
+use Rattle.js_cursor.proofs.TokenSteps.{not_advanced, on_end, stays_fatal}
 use Rattle.js_cursor.proofs.cursor.Cursor.set_fatal_error.Goals as goal
 
 pub invariant_of-self : goal.invariant_of-self
@@ -14,10 +14,12 @@ pub returns-then-is_some-clause-state : goal.returns-then-is_some-clause-state
 returns-then-is_some-clause-state g c = search rules
 
 pub returns-then-is_some-clause-stays : goal.returns-then-is_some-clause-stays
-returns-then-is_some-clause-stays g c = stopped c.args.error c.args.self.now _ (returns-then-is_some-clause-state g c)
+returns-then-is_some-clause-stays g c =
+    not_advanced c.args.self.now _ _ (returns-then-is_some-clause-state g c) (stays_fatal c.args.error c.args.self.now)
 
 pub returns-clause-state : goal.returns-clause-state
 returns-clause-state g c = search rules
 
 pub returns-clause-stays : goal.returns-clause-stays
-returns-clause-stays g c = stopped c.args.error c.args.self.now _ (returns-clause-state g c)
+returns-clause-stays g c =
+    not_advanced c.args.self.now _ _ (returns-clause-state g c) (stays_fatal c.args.error c.args.self.now)

@@ -1,7 +1,6 @@
-use Rattle.std.proofs.Common.{refl, rules, subst}
+use Rattle.std.proofs.Common.{refl, rules}
 use Rattle.js_grammar.specs.declared.goal.Goal.TheVariants.{RightAngle}
-use Rattle.js_cursor.specs.Cursor.{CursorState, IsOnToken}
-use Rattle.js_cursor.proofs.TokenSteps.{on_again, taken_in_place, unmoved}
+use Rattle.js_cursor.proofs.TokenSteps.{on_again, on_view, taken_in_place, unmoved}
 use Rattle.js_cursor.proofs.cursor.Cursor.take_right_angle.Goals as goal
 
 pub invariant_of-self : goal.invariant_of-self
@@ -14,9 +13,8 @@ returns-clause-taken g c = search rules
 
 pub returns-clause-stays : goal.returns-clause-stays
 returns-clause-stays g c =
-    taken_in_place RightAngle c.self.inside.source_text.now _ c.args.self.now _ refl
-    (subst (λ (s : CursorState). IsOnToken c.self.inside.source_text.now s.lexer s.token s.previous_end) c.self.view_is
-    c.self.invariant)
+    taken_in_place RightAngle _ _ c.args.self.now _ refl
+    (on_view _ _ _ c.self.view_is c.self.invariant) (search rules)
     (returns-clause-taken g c)
 
 pub returns-then-not-may_re_lex-clause-stays : goal.returns-then-not-may_re_lex-clause-stays

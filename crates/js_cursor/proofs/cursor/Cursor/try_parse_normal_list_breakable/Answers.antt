@@ -1,86 +1,65 @@
-use Rattle.std.proofs.Common.{subst}
-use Rattle.js_cursor.specs.Cursor.{IsAsBefore}
+use Rattle.std.proofs.Common.{refl, subst}
+use Rattle.js_cursor.specs.Cursor.{Advances, IsAsBefore}
 use Rattle.js_cursor.specs.Expect.{expecting_closing}
-use Rattle.js_cursor.specs.Lists.{Given, Present}
-use Rattle.js_cursor.specs.Failing.{FailsInElements, LacksPlace, ReadsSomeElements}
-use Rattle.js_cursor.specs.Failing.LacksNormalList.{in_elements}
-use Rattle.js_cursor.proofs.GoesOn.{goes_on-trans}
-use Rattle.js_cursor.proofs.FailingSteps.{if_element-map, if_memory-map, if_stuck-map, lacks_closing, lacks_opening}
+use Rattle.js_cursor.specs.Failing.FailsNormalList.{at_closing, at_opening, in_elements}
+use Rattle.js_cursor.specs.Lists.{GoesOn}
+use Rattle.js_cursor.proofs.FailingSteps.{lacking}
+use Rattle.js_cursor.proofs.RoundSteps.{goes_on_always, goes_on_around, goes_on_if-trans}
 use Rattle.js_cursor.proofs.cursor.Cursor.try_parse_normal_list_breakable.Goals as goal
 
-pub returns-in-Err-clause-stuck : goal.returns-in-Err-clause-stuck
-returns-in-Err-clause-stuck g c =
-    if_stuck-map c.in-Err.fault _ _
-    (λ at stuck. record { opened = c.expect.new.self; opens = c.in_ok-expect.ensures.ok; stuck = stuck })
-    c.in-Err.ensures.stuck
+pub returns-clause-ok : goal.returns-clause-ok
+returns-clause-ok g c = record {
+  opened = c.expect.new.self;
+  opens = c.in_ok-expect.ensures.ok;
+  last = c.read_elements_while_some-read.new.f;
+  end = c.read_elements_while_some-read.new.self;
+  elements = c.in-Ok.ensures.ok;
+  closes =
+      subst
+      (λ span. Advances c.args.close (expecting_closing c.args.close span c.read_elements_while_some-read.new.self)
+      c.expect_closing.new.self) c.cur_span-opening_span.ensures c.in_ok-expect_closing.ensures.ok;
+}
 
-pub returns-in_err-expect-clause-goes_on : goal.returns-in_err-expect-clause-goes_on
-returns-in_err-expect-clause-goes_on g c =
-    λ onward. c.in_err-expect.ensures.goes_on
+pub returns-in_err-expect-clause-err : goal.returns-in_err-expect-clause-err
+returns-in_err-expect-clause-err g c =
+    lacking _ _ c.from_residual.ensures.1 (at_opening refl c.in_err-expect.ensures.err)
 
-pub returns-in-Err-clause-memory : goal.returns-in-Err-clause-memory
-returns-in-Err-clause-memory g c =
-    if_memory-map c.in-Err.fault _ _
-    (λ lacks. in_elements c.expect.new.self c.in_ok-expect.ensures.ok c.read_elements_while_some-read.new.f lacks)
-    c.in-Err.ensures.memory
+pub returns-in-Err-clause-err : goal.returns-in-Err-clause-err
+returns-in-Err-clause-err g c =
+    in_elements c.expect.new.self c.in_ok-expect.ensures.ok c.read_elements_while_some-read.new.f c.in-Err.ensures.err
 
-pub returns-in-Err-clause-element : goal.returns-in-Err-clause-element
-returns-in-Err-clause-element g c =
-    if_element-map c.in-Err.fault _ _
-    (λ e failed.
-    record {
-      opened = c.expect.new.self;
-      opens = c.in_ok-expect.ensures.ok;
-      last = c.read_elements_while_some-read.new.f;
-      failed = failed;
-    })
-    c.in-Err.ensures.element
-
-pub returns-in-Err-clause-goes_on : goal.returns-in-Err-clause-goes_on
-returns-in-Err-clause-goes_on g c =
-    λ onward.
-    goes_on-trans c.args.self.now c.expect.new.self c.read_elements_while_some-read.new.self
-    c.in_ok-expect.ensures.goes_on
-    (c.in-Err.ensures.goes_on onward)
-
-pub returns-in_err-expect_closing-clause-goes_on : goal.returns-in_err-expect_closing-clause-goes_on
-returns-in_err-expect_closing-clause-goes_on g c =
-    λ onward.
-    goes_on-trans c.args.self.now c.expect.new.self c.expect_closing.new.self c.in_ok-expect.ensures.goes_on
-    (goes_on-trans c.expect.new.self c.read_elements_while_some-read.new.self c.expect_closing.new.self
-    (c.in-Ok.ensures.goes_on onward)
-    c.in_err-expect_closing.ensures.goes_on)
-
-pub returns-clause-goes_on : goal.returns-clause-goes_on
-returns-clause-goes_on g c =
-    λ onward.
-    goes_on-trans c.args.self.now c.expect.new.self c.expect_closing.new.self c.in_ok-expect.ensures.goes_on
-    (goes_on-trans c.expect.new.self c.read_elements_while_some-read.new.self c.expect_closing.new.self
-    (c.in-Ok.ensures.goes_on onward)
-    c.in_ok-expect_closing.ensures.goes_on)
-
-pub returns-in_err-expect-clause-memory : goal.returns-in_err-expect-clause-memory
-returns-in_err-expect-clause-memory g c =
-    lacks_opening (FailsInElements (LacksPlace g.F.FallibleElement.reads) (Present (Given g.F.FallibleElement.reads))
-    c.args.close)
-    (ReadsSomeElements (Given g.F.FallibleElement.reads) c.args.close) c.args.opening c.args.close _ c.args.f
-    c.args.self.now c.expect.new.self
-    c.in_err-expect.ensures.err
-
-pub returns-in_err-expect_closing-clause-memory : goal.returns-in_err-expect_closing-clause-memory
-returns-in_err-expect_closing-clause-memory g c =
-    lacks_closing (FailsInElements (LacksPlace g.F.FallibleElement.reads) (Present (Given g.F.FallibleElement.reads))
-    c.args.close)
-    (ReadsSomeElements (Given g.F.FallibleElement.reads) c.args.close) c.args.opening c.args.close _ c.args.f
-    c.args.self.now c.expect.new.self c.read_elements_while_some-read.new.self
-    c.expect_closing.new.self c.in_ok-expect.ensures.ok
-    (record {
-      xs = c.in-Ok.elements.items;
-      last = c.read_elements_while_some-read.new.f;
-      elements =
-          c.in-Ok.ensures.ok;
-    })
+pub returns-in_err-expect_closing-clause-err : goal.returns-in_err-expect_closing-clause-err
+returns-in_err-expect_closing-clause-err g c =
+    lacking _ _ c.from_residual-in_err-expect_closing.ensures.1
+    (at_closing refl c.expect.new.self c.in_ok-expect.ensures.ok c.in-Ok.elements.items
+    c.read_elements_while_some-read.new.f
+    c.read_elements_while_some-read.new.self c.in-Ok.ensures.ok
     (subst
     (λ span. IsAsBefore (expecting_closing c.args.close span c.read_elements_while_some-read.new.self)
     c.expect_closing.new.self)
-    c.cur_span-opening_span.ensures c.in_err-expect_closing.ensures.err)
+    c.cur_span-opening_span.ensures c.in_err-expect_closing.ensures.err))
+
+pub returns-in_err-expect-clause-goes_on : goal.returns-in_err-expect-clause-goes_on
+returns-in_err-expect-clause-goes_on g c =
+    goes_on_always (GoesOn g.F.FallibleElement.reads) c.args.self.now c.expect.new.self c.in_err-expect.ensures.onward
+
+pub returns-in-Err-clause-goes_on : goal.returns-in-Err-clause-goes_on
+returns-in-Err-clause-goes_on g c =
+    goes_on_if-trans (GoesOn g.F.FallibleElement.reads) c.args.self.now c.expect.new.self
+    c.read_elements_while_some-read.new.self
+    (goes_on_always (GoesOn g.F.FallibleElement.reads) c.args.self.now c.expect.new.self c.in_ok-expect.ensures.onward)
+    c.in-Err.ensures.goes_on
+
+pub returns-in_err-expect_closing-clause-goes_on : goal.returns-in_err-expect_closing-clause-goes_on
+returns-in_err-expect_closing-clause-goes_on g c =
+    goes_on_around (GoesOn g.F.FallibleElement.reads) c.args.self.now c.expect.new.self
+    c.read_elements_while_some-read.new.self
+    c.expect_closing.new.self c.in_ok-expect.ensures.onward c.in-Ok.ensures.goes_on
+    c.in_err-expect_closing.ensures.onward
+
+pub returns-clause-goes_on : goal.returns-clause-goes_on
+returns-clause-goes_on g c =
+    goes_on_around (GoesOn g.F.FallibleElement.reads) c.args.self.now c.expect.new.self
+    c.read_elements_while_some-read.new.self
+    c.expect_closing.new.self c.in_ok-expect.ensures.onward c.in-Ok.ensures.goes_on
+    c.in_ok-expect_closing.ensures.onward

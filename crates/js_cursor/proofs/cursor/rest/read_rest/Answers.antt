@@ -10,14 +10,14 @@ returns-clause-item g c = record {
   kept = sym (append-nil c.args.items.now.elements.items);
 }
 
-pub returns-in-Err-clause-goes_on : goal.returns-in-Err-clause-goes_on
-returns-in-Err-clause-goes_on g c =
-    λ onward. onward _ _ _ _ _ c.in-Err.ensures.reads
-
 pub returns-clause-goes_on : goal.returns-clause-goes_on
 returns-clause-goes_on g c =
-    λ onward. onward _ _ _ _ _ c.in-Ok.ensures.reads
+    record { places = c.in-Ok.ensures.places; goes_on = λ others. others.1 _ _ _ _ _ c.in-Ok.ensures.reads }
 
-pub returns-in-Err-clause-element : goal.returns-in-Err-clause-element
-returns-in-Err-clause-element g c =
+pub returns-in-Err-clause-goes_on : goal.returns-in-Err-clause-goes_on
+returns-in-Err-clause-goes_on g c =
+    record { places = c.in-Err.ensures.places; goes_on = λ others. others.1 _ _ _ _ _ c.in-Err.ensures.reads }
+
+pub returns-in-Err-clause-err : goal.returns-in-Err-clause-err
+returns-in-Err-clause-err g c =
     fails_rest c.requires.first c.requires.at c.in-Err.ensures.reads refl c.requires.first
