@@ -2,7 +2,6 @@
 use Rattle.std.proofs.Common.{◌≡◌, List, [], ◌∷◌, ◌++◌, refl, sym, ◌∙◌, ap, subst}
 use Rattle.std.proofs.Common.{Some, None, true, false, Bool, ◌&&◌}
 use Rattle.std.specs.Prelude.{IsSome, is_some, option_map, unwrap_or, if◌then◌else◌}
-use Rattle.std.specs.List.{last_or}
 use Rattle.js_text.specs.Lists.{with_last}
 use Rattle.js_kind.specs.Kinds.{is_one_of}
 use Rattle.js_kind.specs.Predicates.{is_eof}

@@ -6,7 +6,6 @@ use Rattle.std.specs.Prelude.{option_map, if◌then◌else◌}
 use Rattle.js_kind.specs.Kinds.{is_one_of}
 use Rattle.js_kind.specs.Predicates.{is_eof}
 use Rattle.js_kind.specs.TokenParts.{TokenParts}
-use Rattle.js_kind.specs.declared.kind.Kind.TheVariants.{Eof}
 use Rattle.js_grammar.specs.ReLexed.{again_kinds}
 use Rattle.js_grammar.specs.declared.goal.Goal.TheVariants.{Next as NextGoal, RegularExpression}
 use Rattle.js_grammar.specs.declared.goal.Goal.TheVariants.{TemplateTail as TailGoal}

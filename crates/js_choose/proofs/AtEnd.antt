@@ -1,7 +1,6 @@
 -- A token `Eof` of a plain reading ends at the end of the text.
-use Rattle.std.proofs.Common.{◌≡◌, ◌⊎◌, ℕ, ◌≤◌, Bool, true, false, not, ◌==◌, List, [], ◌∷◌, length, drop, refl, sym}
-use Rattle.std.proofs.Common.{◌∙◌}
-use Rattle.std.proofs.Common.{ap, arith, length-drop, subst, Option, Some, None, inl, inr}
+use Rattle.std.proofs.Common.{◌≡◌, ◌⊎◌, ℕ, Bool, true, false, not, ◌==◌, List, [], ◌∷◌, length, drop, refl, sym}
+use Rattle.std.proofs.Common.{◌∙◌, ap, arith, length-drop, subst, Option, Some, None, inl, inr}
 use Rattle.std.specs.Str.{IsCharBoundary, IsUtf8, encode_utf8_all}
 use Rattle.js_text.specs.Ascii.{full_stop}
 use Rattle.js_text.specs.Characters.{begins, from_place}
@@ -14,14 +13,14 @@ use Rattle.js_kind.specs.TokenParts.{TokenParts}
 use Rattle.js_kind.specs.declared.kind.Kind.{Kind}
 use Rattle.js_kind.specs.declared.kind.Kind.TheVariants.{Decimal, DecimalBigInt, Eof, Float, Octal, Undetermined}
 use Rattle.js_kind.proofs.NameKinds.{name_kind-is_identifier_name}
-use Rattle.js_grammar.specs.Goals.{GoalReads, ReadsHere, ReadsPlainly}
+use Rattle.js_grammar.specs.Goals.{GoalReads, ReadsHere}
 use Rattle.js_grammar.specs.Goals.ReadsPlainly.{hashbang, behind_gap}
 use Rattle.js_grammar.specs.Name.{begins_name, items_reading, name_reading, no_private_name, private_name_of}
 use Rattle.js_grammar.specs.Name.{private_reading}
 use Rattle.js_grammar.specs.Number.{Base, are_digits, base_of, digit_zero, integer, is_exponent_indicator}
 use Rattle.js_grammar.specs.Number.{latin_small_letter_n, may_not_follow_number, run, whole}
 use Rattle.js_grammar.specs.NumberReads.{Items, base_at, behind_digits, behind_prefix, decimal_items, exponent_items}
-use Rattle.js_grammar.specs.NumberReads.{exponent_or, fraction_items, items-cons, legacy_items, no_items, number_items}
+use Rattle.js_grammar.specs.NumberReads.{exponent_or, items-cons, legacy_items, no_items, number_items}
 use Rattle.js_grammar.specs.NumberReads.{number_reading, point_items, sign_of, suffix_or, unseparated_digits}
 use Rattle.js_grammar.specs.NumberReads.{zero_items}
 use Rattle.js_grammar.specs.Outcome.{Outcome}
@@ -33,8 +32,8 @@ use Rattle.js_grammar.proofs.HereReadings.{of_each_reading}
 use Rattle.js_grammar.proofs.NumberItems.{true_or_false}
 use Rattle.js_grammar.proofs.NumberKinds.{base_kinds, sign_is_number}
 use Rattle.js_grammar.proofs.NumberSteps.{behind_digits_other, behind_digits_point, behind_prefix_broken}
-use Rattle.js_grammar.proofs.NumberSteps.{behind_prefix_whole, exponent_missing, exponent_there, fraction_missing}
-use Rattle.js_grammar.proofs.NumberSteps.{fraction_there, legacy_decimal_items, legacy_octal_items, number_decimal}
+use Rattle.js_grammar.proofs.NumberSteps.{behind_prefix_whole, exponent_missing, exponent_there}
+use Rattle.js_grammar.proofs.NumberSteps.{legacy_decimal_items, legacy_octal_items, number_decimal}
 use Rattle.js_grammar.proofs.NumberSteps.{number_point, number_zero, read_badly, read_well, suffix_missing}
 use Rattle.js_grammar.proofs.NumberSteps.{suffix_there, zero_base, zero_decimal, zero_legacy}
 use Rattle.js_grammar.proofs.PunctuatorLemmas.{passes_at}

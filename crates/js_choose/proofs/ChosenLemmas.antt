@@ -1,5 +1,5 @@
 -- Commands that are chosen, one after the other, and that there is one list of them for a rule.
-use Rattle.std.proofs.Common.{◌≡◌, ℕ, zero, suc, Bool, true, false, List, [], ◌∷◌, take, refl, sym, ◌∙◌, ap, subst}
+use Rattle.std.proofs.Common.{◌≡◌, ℕ, zero, suc, Bool, true, List, [], ◌∷◌, take, refl, sym, ◌∙◌, ap, subst}
 use Rattle.std.proofs.Common.{Option, Some, None}
 use Rattle.std.specs.Prelude.{MatchBool, slice_get}
 use Rattle.std.specs.Str.{IsUtf8}

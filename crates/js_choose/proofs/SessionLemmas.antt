@@ -49,7 +49,7 @@ use Rattle.js_session.proofs.WholeLemmas.{row_onward}
 use Rattle.js_choose.specs.Rules.{AreChosenBy, IsDue, IsRule, MayReadOn, ReportBy, Rule, is_final, with_token}
 use Rattle.js_choose.specs.Rules.IsDue.{reads_on, reads_again}
 use Rattle.js_choose.proofs.AtEnd.{plain_end}
-use Rattle.js_choose.proofs.ChosenLemmas.{Choice, ChosenFrom, are_chosen, due_is_step, rule_steps}
+use Rattle.js_choose.proofs.ChosenLemmas.{ChosenFrom, are_chosen, rule_steps}
 
 -- The last token lies on places of the text, and has a byte but for `Eof`.
 pub record LastLies (text : List ℕ) (tokens : List TokenParts) : Type 0 where
@@ -265,7 +265,8 @@ no_dash_behind (c ∷ cs) =
     no_dash : (c : ℕ) → ends_jsx_name c ≡ true → (c == hyphen_minus) ≡ false
     no_dash c ends =
         elim (true_or_false (c == hyphen_minus)) [
-          | inl dash ↦ absurd (let no : ends_jsx_name c ≡ false = rw dash (ap not (or_right (is_identifier_part c) true refl)) in
+          | inl dash ↦ absurd (let no : ends_jsx_name c ≡ false =
+              rw dash (ap not (or_right (is_identifier_part c) true refl)) in
               let both : true ≡ false = sym ends ∙ no in cc)
           | inr other ↦ other
         ]
