@@ -1,7 +1,7 @@
 //! Which rows are live, as a chain from the last one on.
 
 ghost use Rattle.std.specs.Prelude.{◌≡◌, true, map, reverse, slice_get, slice_index, Some, IfOk, OnOk};
-ghost use Rattle.js_session.specs.Effects.{effect_of, is_step};
+ghost use Rattle.js_session.specs.Effects.{is_step};
 ghost use Rattle.js_lex_c.specs.LiveRows.{live_backward, live_rows};
 ghost use Rattle.js_lex_c.specs.Chains.{first_chain, put_behind, passed, Puts, Leaves, Adds, ChangesMarks, Follows};
 ghost use Rattle.js_lex_c.specs.Chains.{IsChain};

@@ -1,14 +1,14 @@
 -- What is looked up for a token is the value of its reading.
 use Rattle.std.proofs.Common.{◌≡◌, ℕ, Bool, true, false, List, refl, sym, ◌∙◌, ap, subst}
-use Rattle.std.specs.Prelude.{◌≤◌, ◌||◌, Option, Some, None, if◌then◌else◌}
+use Rattle.std.specs.Prelude.{◌||◌, Option, Some, None, if◌then◌else◌}
 use Rattle.std.specs.Str.{IsUtf8}
 use Rattle.js_text.specs.Characters.{from_place}
-use Rattle.js_text.specs.JsText.{js_text_units, is_decoded}
+use Rattle.js_text.specs.JsText.{js_text_units}
 use Rattle.js_text.specs.declared.js_text.JsText.{JsText}
 use Rattle.js_text.specs.declared.js_text.TemplateValue.{TemplateValue}
 use Rattle.js_text.specs.declared.js_text.TemplateValue.TheVariants.{Text, Bad as BadPart}
 use Rattle.js_text.specs.declared.value.RowValue.{RowValue}
-use Rattle.js_text.specs.declared.value.RowValue.TheVariants.{Nothing, Slice, Units, Bad}
+use Rattle.js_text.specs.declared.value.RowValue.TheVariants.{Nothing, Slice, Units}
 use Rattle.js_grammar.specs.Outcome.{Outcome}
 use Rattle.js_grammar.specs.TokenText.{is_named, is_valued, text_slice, text_start, text_end}
 use Rattle.js_grammar.specs.Values.{HasText, IsValueOf, decoded_units, template_row_value, template_units}

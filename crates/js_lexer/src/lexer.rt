@@ -7,7 +7,7 @@ ghost use Rattle.std.specs.Str.{IsCharBoundary, IsUtf8};
 ghost use Rattle.js_text.specs.declared.comment.Comment.{Comment};
 ghost use Rattle.js_text.specs.declared.diagnostic.Diagnostic.{Diagnostic};
 ghost use Rattle.js_grammar.specs.Goals.{line_has_ended_behind};
-ghost use Rattle.js_grammar.specs.Outcome.{AreWithin, found_since, lengths_of, no_findings};
+ghost use Rattle.js_grammar.specs.Outcome.{AreWithin, found_since, lengths_of};
 ghost use Rattle.js_grammar.specs.TokenText.{text_start, text_end};
 ghost use Rattle.js_grammar.specs.Reads.{is_onward};
 ghost use Rattle.js_kind.specs.TokenParts.{TokenParts};

@@ -8,7 +8,7 @@ use Rattle.js_session.specs.Restated.{no_findings}
 use Rattle.js_session.specs.declared.command.Command.{Command}
 use Rattle.js_session.specs.declared.report.Report.{Report}
 use Rattle.js_session.specs.declared.row.Row.{Row}
-use Rattle.js_session.specs.Live.{Live, nothing_live, report_live, report_with, row_findings}
+use Rattle.js_session.specs.Live.{nothing_live, report_live, report_with, row_findings}
 use Rattle.js_session.specs.Shifted.{shifted_comment, shifted_diagnostic, shifted_row, shifted_span}
 use Rattle.js_relex.specs.Documents.{GoesLive, MayMove, live_behind}
 use Rattle.js_relex.specs.LiveLists.{AreWithin, HasLasted, Lasts, LiveMayMove, StartsAnew, first_readings, joined_live}

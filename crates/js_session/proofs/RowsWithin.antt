@@ -1,5 +1,5 @@
 -- Each place of a row is one of its text, or the end of the text.
-use Rattle.std.proofs.Common.{◌≡◌, ℕ, ◌≤◌, Bool, true, false, List, [], ◌∷◌, length, sym, ◌∙◌, ap, subst, arith}
+use Rattle.std.proofs.Common.{◌≡◌, ℕ, ◌≤◌, Bool, true, false, List, [], ◌∷◌, length, sym, subst}
 use Rattle.std.proofs.Common.{Option, None, Some}
 use Rattle.std.specs.Prelude.{IfSome, MatchBool}
 use Rattle.std.specs.List.{All, AllByRecursion, list_all}
@@ -18,7 +18,6 @@ use Rattle.js_text.specs.declared.value.RowValue.TheVariants.{Nothing, Slice, Un
 use Rattle.js_kind.specs.TokenParts.{TokenParts}
 use Rattle.js_grammar.specs.Outcome.{Findings, no_findings}
 use Rattle.js_grammar.specs.ReLexed.{fits}
-use Rattle.js_grammar.specs.declared.goal.Goal.{Goal}
 use Rattle.js_grammar.proofs.OutcomesWithin.{CommentWithin, FoundWithin, OutcomeWithin, goal_within}
 use Rattle.js_grammar.proofs.ReadingsWithin.{DiagnosticWithin, SpanWithin}
 use Rattle.js_lexer.specs.Lexer.{IsOnPlaces, token_or_default}

@@ -1,5 +1,5 @@
 -- What is squeezed is no longer than its source.
-use Rattle.std.proofs.Common.{◌≡◌, ℕ, ◌+◌, ◌-◌, ◌<◌, ◌≤◌, ◌==◌, Bool, true, false, List, [], ◌∷◌, ◌++◌, length, drop}
+use Rattle.std.proofs.Common.{◌≡◌, ℕ, ◌+◌, ◌-◌, ◌≤◌, ◌==◌, Bool, true, false, List, [], ◌∷◌, ◌++◌, length, drop}
 use Rattle.std.proofs.Common.{refl, sym, ◌∙◌, ap, subst, arith, Option, None, Some, inl, inr}
 use Rattle.std.specs.Prelude.{MatchBool, if◌then◌else◌, slice_get}
 use Rattle.std.specs.List.{AllByRecursion, filter, last_or, list_all}
@@ -25,7 +25,7 @@ use Rattle.js_session.specs.Report.{AreRows, IsNotTaken, IsOfEffect, IsReLexed, 
 use Rattle.js_session.proofs.LastingRuns.{lasting_steps}
 use Rattle.js_rewrite.specs.Faults.{may_rewrite}
 use Rattle.js_rewrite.specs.Space.{need_space}
-use Rattle.js_rewrite.proofs.GapsBefore.{GapParts, onward_parts}
+use Rattle.js_rewrite.proofs.GapsBefore.{onward_parts}
 use Rattle.js_rewrite.proofs.LastTokens.{IsLast, IsQuiet, Rewrites, again_starts, last_behind, lasting_of, rewrites}
 use Rattle.js_squeeze.specs.SqueezeText.{first_reads, reads_on, separator, separator_behind, squeeze_text, squeezed}
 use Rattle.js_squeeze.specs.SqueezeText.{token_text}
