@@ -2,7 +2,7 @@
 
 ghost use Rattle.std.specs.Prelude.{◌≡◌, ◌++◌, codes, string_bytes, IfOk, OnOk};
 ghost use Rattle.std.specs.List.{flat_map};
-ghost use Rattle.js_parse_example.specs.Shown.{error_line, fatal_line, indent, line_at, line_text, lexer_line};
+ghost use Rattle.js_parse_example.specs.Shown.{error_line, fatal_line, indent, line_text, lexer_line};
 ghost use Rattle.js_parse_example.specs.Shown.{node_line, parser_line, shown};
 
 use crate::draw::Line;

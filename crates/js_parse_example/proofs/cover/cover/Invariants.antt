@@ -1,4 +1,4 @@
-use Rattle.std.proofs.Common.{ℕ, drop}
+use Rattle.std.proofs.Common.{drop}
 use Rattle.js_parse_example.specs.Covered.{Cover}
 use Rattle.js_parse_example.proofs.cover.cover.Given as goal
 

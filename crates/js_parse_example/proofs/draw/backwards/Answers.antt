@@ -1,4 +1,4 @@
-use Rattle.std.proofs.Common.{◌≡◌, ℕ, ◌+◌, length, ap, arith, sym, ◌∙◌, length-append}
+use Rattle.std.proofs.Common.{◌≡◌, ◌+◌, length, ap, arith, ◌∙◌, length-append}
 use Rattle.js_parse_example.proofs.Drawing.{all_drawn, line_drawn, one_deeper, walked}
 use Rattle.js_parse_example.proofs.draw.backwards.Goals as goal
 

@@ -1,4 +1,4 @@
-use Rattle.std.proofs.Common.{◌≡◌, ℕ, ◌+◌, ◌≤◌, ◌++◌, length, replicate, reverse}
+use Rattle.std.proofs.Common.{◌≡◌, ◌+◌, ◌≤◌, ◌++◌, length, replicate, reverse}
 use Rattle.std.specs.List.{All}
 use Rattle.js_parse_example.proofs.Drawing.{walk}
 use Rattle.js_parse_example.proofs.draw.backwards.Given as goal
