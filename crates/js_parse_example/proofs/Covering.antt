@@ -15,8 +15,11 @@ use Rattle.js_lexer.specs.Lexer.{LexerState, ReadsToken, fresh}
 use Rattle.js_cursor.specs.declared.diagnostic.CursorDiagnostic.{CursorDiagnostic}
 use Rattle.js_cursor.specs.declared.diagnostic.FatalError.{FatalError}
 use Rattle.js_parse_example.specs.Covered.{Cover, HasNoToken, IsParseText, ReadsEnd, depth_line}
+use Rattle.js_parse_example.specs.Depth.{most_depth}
+use Rattle.js_parse_example.specs.Drawn.{AreDrawn}
 use Rattle.js_parse_example.specs.Shown.{shown}
 use Rattle.js_parse_example.specs.Trees.{AreKept}
+use Rattle.js_parse_example.specs.declared.draw.Line.{Line}
 use Rattle.js_parse_example.specs.declared.node.Node.{Node}
 
 pub end_read : (old now : LexerState) (token : TokenParts) → ReadsToken First old token now → token.kind ≡ Eof
@@ -43,11 +46,11 @@ pub no_more : (text : List ℕ) (from i : ℕ) (spans : List Span) → length sp
 no_more text from i spans all h = subst (Cover text from) (sym (drop_all i spans all)) h
 
 -- the trees of a source are printed
-pub trees_printed : (source now text : List ℕ) (nodes : List Node) (roots : List Span)
+pub trees_printed : (source now text : List ℕ) (nodes : List Node) (roots : List Span) (lines : List Line)
     (errors : List CursorDiagnostic) (fatal : Option FatalError) (found : List Diagnostic) → now ≡ source
-    → AreKept now nodes roots → (is_some fatal ≡ false → Cover now 0 roots) → text ≡ shown nodes errors fatal found
-    → IsParseText source text
-trees_printed source now text nodes roots errors fatal found same kept covered text_is =
+    → AreKept now nodes roots → AreDrawn 0 (length roots) nodes lines
+    → (is_some fatal ≡ false → Cover now 0 roots) → text ≡ shown lines errors fatal found → IsParseText source text
+trees_printed source now text nodes roots lines errors fatal found same kept drawn covered text_is =
     subst (λ (s : List ℕ). IsParseText s text) same
     (inl
     (record {
@@ -57,10 +60,13 @@ trees_printed source now text nodes roots errors fatal found same kept covered t
       fatal = fatal;
       found = found;
       kept = kept;
+      lines = lines;
+      drawn = drawn;
       covered = covered;
       text_is = text_is;
     }))
 
 -- that expressions nest too deep is printed
-pub depth_printed : (source text : List ℕ) (at : ℕ) → text ≡ depth_line at → IsParseText source text
-depth_printed source text at e = inr (at, e)
+pub depth_printed : (source text : List ℕ) (at : ℕ) → most_depth ≤ at → text ≡ depth_line at
+    → IsParseText source text
+depth_printed source text at deep e = inr (at, deep, e)

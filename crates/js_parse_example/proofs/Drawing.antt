@@ -81,30 +81,23 @@ all_drawn whole lines (n ∷ ns) ds e none_left =
     let less : length ns + 1 ≡ 0 = omega arith in absurd (omega arith)
 
 -- the first of some depths
-pub first_deep : (left all : ℕ) (ds : List ℕ) → All (λ d. d + left ≤ all) ds → left ≤ all
-    → get_or ds 0 0 + left ≤ all
-first_deep left all [] h fits = omega arith
-first_deep left all (d ∷ ds) h fits = h 0 0 (omega arith)
+pub first_deep : (most : ℕ) (ds : List ℕ) → All (λ d. d ≤ most) ds → get_or ds 0 0 ≤ most
+first_deep most [] h = omega arith
+first_deep most (d ∷ ds) h = h 0 0 (omega arith)
 
 -- the depths of some trees, and one level more in place of the first
-pub one_deeper : (left less all count depth : ℕ) (ds under new_ds : List ℕ) → All (λ d. d + left ≤ all) ds
-    → left ≡ less + 1 → depth + left ≤ all → under ≡ drop 1 ds → new_ds ≡ replicate count (depth + 1) ++ under
-    → All (λ d. d + less ≤ all) new_ds
-one_deeper left less all count depth ds under new_ds h fewer deep others more =
-    let fits : depth + 1 + less ≤ all = omega arith in
-    let under_fits : All (λ d. d + less ≤ all) (drop 1 ds) =
-    All-drop (λ d. d + less ≤ all) 1 ds
-    (λ k d lt. let below : get_or ds k d + left ≤ all = h k d lt in omega arith) in
-    subst (All (λ d. d + less ≤ all)) (ap (λ us. replicate count (depth + 1) ++ us) (sym others) ∙ sym more)
-    (All-append (λ d. d + less ≤ all) (replicate count (depth + 1)) (drop 1 ds)
-    (All-replicate (λ d. d + less ≤ all) count (depth + 1) fits) under_fits)
-
--- the roots stand at no depth
-pub roots_only : (count left : ℕ) (ds : List ℕ) → ds ≡ replicate count 0 ++ [] → All (λ d. d + left ≤ left) ds
-roots_only count left ds e =
-    let fits : 0 + left ≤ left = omega arith in
-    subst (All (λ d. d + left ≤ left)) (sym (e ∙ append-nil (replicate count 0)))
-    (All-replicate (λ d. d + left ≤ left) count 0 fits)
+pub one_deeper : (most more count depth : ℕ) (ds under new_ds : List ℕ) → All (λ d. d ≤ most) ds → more ≡ most + 1
+    → depth ≡ get_or ds 0 0 → under ≡ drop 1 ds → new_ds ≡ replicate count (depth + 1) ++ under
+    → All (λ d. d ≤ more) new_ds
+one_deeper most more count depth ds under new_ds h one first others deeper =
+    let deep : get_or ds 0 0 ≤ most = first_deep most ds h in
+    let fits : depth + 1 ≤ more = omega arith in
+    let under_fits : All (λ d. d ≤ more) (drop 1 ds) =
+    All-drop (λ d. d ≤ more) 1 ds
+    (λ k d lt. let below : get_or ds k d ≤ most = h k d lt in omega arith) in
+    subst (All (λ d. d ≤ more)) (ap (λ us. replicate count (depth + 1) ++ us) (sym others) ∙ sym deeper)
+    (All-append (λ d. d ≤ more) (replicate count (depth + 1)) (drop 1 ds)
+    (All-replicate (λ d. d ≤ more) count (depth + 1) fits) under_fits)
 
 -- So many trees, one after another.
 data Forest : ℕ → List Node → Type 0 where
@@ -138,6 +131,9 @@ record TwoForests (a b : ℕ) (nodes : List Node) : Type 0 where
   front : Forest a xs
   back : Forest b ys
 
+regrouped : (xs ys zs : List Node) (n : Node) → ((xs ++ ys) ++ zs) ++ n ∷ [] ≡ xs ++ ((ys ++ zs) ++ n ∷ [])
+regrouped xs ys zs n = simp append_assoc
+
 parted : (a b : ℕ) (nodes : List Node) → Forest (a + b) nodes → TwoForests a b nodes
 parted a zero nodes f = record {
   xs = nodes;
@@ -155,7 +151,7 @@ parted a (suc b) nodes f =
       ys = rest.ys ++ last.within ++ last.n ∷ [];
       whole =
           last.whole ∙ ap (λ bs. bs ++ last.within ++ last.n ∷ []) rest.whole
-          ∙ append_assoc rest.xs rest.ys (last.within ++ last.n ∷ []);
+          ∙ regrouped rest.xs rest.ys last.within last.n;
       front = rest.front;
       back = more b rest.ys last.within last.n rest.back last.inside;
     }
@@ -172,8 +168,7 @@ forest_of text nodes roots (node before earlier within n t inside children) =
     let one : length (earlier ++ n.span ∷ []) ≡ length earlier + 1 = length-append earlier (n.span ∷ []) in
     omega arith in
     subst (λ c. Forest c (before ++ n ∷ [])) count
-    (subst (Forest (suc (length earlier)))
-    (sym (append_assoc parts.xs parts.ys (n ∷ [])) ∙ ap (λ bs. bs ++ n ∷ []) (sym parts.whole))
+    (subst (Forest (suc (length earlier))) (ap (λ bs. bs ++ n ∷ []) (sym parts.whole))
     (more (length earlier) parts.xs parts.ys n parts.front
     (subst (λ c. Forest c parts.ys) (sym children) parts.back)))
 
