@@ -1,4 +1,4 @@
-use Rattle.std.proofs.Common.{◌<◌, ◌∙◌, length, arith, rules}
+use Rattle.std.proofs.Common.{◌<◌, ◌∙◌, arith, rules}
 use Rattle.std.specs.Mem.Slots.{slots_items, slots_filled, slots_counts}
 use Rattle.js_places.proofs.Empty.{one_more}
 use Rattle.js_places.proofs.block.move_items.Goals as goal
