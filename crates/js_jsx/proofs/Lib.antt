@@ -1,0 +1,4 @@
+pub mod ChooserLemmas
+pub mod PlainLemmas
+pub mod ScopeLemmas
+pub mod StackLemmas
