@@ -1,0 +1,11 @@
+pub mod Causes
+pub mod ChainLemmas
+pub mod ChosenLemmas
+pub mod DriveLemmas
+pub mod ListLemmas
+pub mod LiveLemmas
+pub mod LiveSoFar
+pub mod PlainLemmas
+pub mod RowLemmas
+pub mod StepsLemmas
+pub mod TakenLemmas

@@ -1,0 +1,161 @@
+//! The readings of a lexer that is driven.
+
+ghost use Rattle.std.specs.Prelude.{◌≡◌, ◌++◌, true, List, [], ◌∷◌, Option, None, IfOk};
+ghost use Rattle.js_text.specs.Lists.{with_last};
+ghost use Rattle.js_kind.specs.TokenParts.{TokenParts};
+ghost use Rattle.js_grammar.specs.Reads.{is_onward};
+ghost use Rattle.js_grammar.specs.ReLexed.{fits};
+ghost use Rattle.js_lexer.specs.Lexer.{ReadsToken, token_or_default};
+ghost use Rattle.js_choose.specs.Rules.{is_final};
+ghost use Rattle.js_lists.specs.Drive.{ReadsAgainAs};
+
+use js_choose::ChooseGoals;
+use js_grammar::Goal;
+use js_kind::{LexerConfig, Token};
+use js_lexer::Lexer;
+use js_text::RegexInfo;
+use std::alloc::AllocError;
+
+/// The last token that was read, and what is known of it as a regular expression if it is one.
+#[derive(Clone, Copy)]
+pub(crate) struct LastRead {
+    pub token: Token,
+    pub regex: Option<RegexInfo>,
+}
+
+/// Reads a token of a goal that goes on, and is not the plain one, which is compiled apart.
+#[inline(never)]
+fn read_token<C: LexerConfig + Drop>(
+    lexer: &mut Lexer<'_, C>,
+    goal: Goal,
+) -> Result<Token, AllocError>
+    requires onward { is_onward goal ≡ true }
+    requires other { goal ≡ Goal.Next → ⊥ }
+    requires first { goal ≡ Goal.First → lexer.old.last ≡ None }
+    ensures { IfOk result (λ token. ReadsToken goal lexer.old token lexer.new) }
+{
+    match goal {
+        Goal::First => lexer.first_token(),
+        Goal::JsxChild => lexer.next_jsx_child(),
+        Goal::JsxAttributeValue => lexer.next_jsx_attribute_value(),
+        _ => unreachable!(),
+    }
+}
+
+/// Reads a token of a goal that goes on, other than the plain one, and tells it to the chooser.
+#[inline(always)]
+pub(crate) fn read_on<C: LexerConfig + Drop, G: ChooseGoals>(
+    lexer: &mut Lexer<'_, C>,
+    chooser: &mut G,
+    goal: Goal,
+) -> Result<LastRead, AllocError>
+    requires onward { is_onward goal ≡ true }
+    requires other { goal ≡ Goal.Next → ⊥ }
+    requires first { goal ≡ Goal.First → lexer.old.last ≡ None }
+    ensures read { IfOk result (λ last. ReadsToken goal lexer.old last.token lexer.new) }
+    ensures regex { IfOk result (λ last. last.regex ≡ None) }
+    ensures told { IfOk result (λ last. (tokens : List TokenParts) → G.is_told chooser.old tokens
+        → G.is_told chooser.new (tokens ++ last.token ∷ [])) }
+{
+    // The last token is passed first: what was just asked of it is still known then.
+    chooser.pass()?;
+    let token = read_token(lexer, goal)?;
+    chooser.read_passed(&token);
+    Ok(LastRead { token, regex: None })
+}
+
+/// Reads the next token, and tells it to the chooser.
+#[inline(always)]
+pub(crate) fn read_next<C: LexerConfig + Drop, G: ChooseGoals>(
+    lexer: &mut Lexer<'_, C>,
+    chooser: &mut G,
+) -> Result<LastRead, AllocError>
+    ensures read { IfOk result (λ last. ReadsToken Goal.Next lexer.old last.token lexer.new) }
+    ensures regex { IfOk result (λ last. last.regex ≡ None) }
+    ensures told { IfOk result (λ last. (tokens : List TokenParts) → G.is_told chooser.old tokens
+        → G.is_told chooser.new (tokens ++ last.token ∷ [])) }
+{
+    chooser.pass()?;
+    let token = lexer.next_token()?;
+    chooser.read_passed(&token);
+    Ok(LastRead { token, regex: None })
+}
+
+/// Reads the last token again, as a regular expression.
+fn read_expression<C: LexerConfig + Drop>(lexer: &mut Lexer<'_, C>) -> Result<LastRead, AllocError>
+    requires behind { lexer.old.place ≡ (token_or_default lexer.old.last).end }
+    requires fits { fits lexer.old.text Goal.RegularExpression (token_or_default lexer.old.last) ≡ true }
+    ensures { IfOk result (λ last. ReadsAgainAs Goal.RegularExpression lexer.old last lexer.new) }
+{
+    let kind = lexer.last_token().kind();
+    let found = lexer.next_regex(kind)?;
+    Ok(LastRead {
+        token: found.token,
+        regex: Some(RegexInfo {
+            pattern_end: found.pattern_end,
+            flags: found.flags,
+            flags_error: found.flags_error,
+        }),
+    })
+}
+
+/// Reads the last token again, as a part of a template.
+fn read_part<C: LexerConfig + Drop>(lexer: &mut Lexer<'_, C>) -> Result<LastRead, AllocError>
+    requires behind { lexer.old.place ≡ (token_or_default lexer.old.last).end }
+    requires fits { fits lexer.old.text Goal.TemplateTail (token_or_default lexer.old.last) ≡ true }
+    ensures { IfOk result (λ last. ReadsAgainAs Goal.TemplateTail lexer.old last lexer.new) }
+{
+    let token = lexer.next_template_substitution_tail()?;
+    Ok(LastRead { token, regex: None })
+}
+
+/// Reads the last token again, as a name of JSX.
+fn read_jsx_name<C: LexerConfig + Drop>(lexer: &mut Lexer<'_, C>) -> LastRead
+    requires behind { lexer.old.place ≡ (token_or_default lexer.old.last).end }
+    requires fits { fits lexer.old.text Goal.JsxIdentifier (token_or_default lexer.old.last) ≡ true }
+    ensures { ReadsAgainAs Goal.JsxIdentifier lexer.old result lexer.new }
+{
+    let start = lexer.last_token().start();
+    match lexer.continue_lex_jsx_identifier(start) {
+        Some(token) => LastRead { token, regex: None },
+        None => unreachable!(),
+    }
+}
+
+/// Reads the last token again, where it fits a goal behind which none reads it once more.
+#[inline(never)]
+fn read_token_again<C: LexerConfig + Drop>(
+    lexer: &mut Lexer<'_, C>,
+    goal: Goal,
+) -> Result<LastRead, AllocError>
+    requires settles { is_final goal ≡ true }
+    requires behind { lexer.old.place ≡ (token_or_default lexer.old.last).end }
+    requires fits { fits lexer.old.text goal (token_or_default lexer.old.last) ≡ true }
+    ensures { IfOk result (λ last. ReadsAgainAs goal lexer.old last lexer.new) }
+{
+    match goal {
+        Goal::RegularExpression => read_expression(lexer),
+        Goal::TemplateTail => read_part(lexer),
+        Goal::JsxIdentifier => Ok(read_jsx_name(lexer)),
+        _ => unreachable!(),
+    }
+}
+
+/// Reads the last token again, and tells the chooser what stands in its place.
+#[inline(always)]
+pub(crate) fn read_again<C: LexerConfig + Drop, G: ChooseGoals>(
+    lexer: &mut Lexer<'_, C>,
+    chooser: &mut G,
+    goal: Goal,
+) -> Result<LastRead, AllocError>
+    requires settles { is_final goal ≡ true }
+    requires behind { lexer.old.place ≡ (token_or_default lexer.old.last).end }
+    requires fits { fits lexer.old.text goal (token_or_default lexer.old.last) ≡ true }
+    ensures read { IfOk result (λ last. ReadsAgainAs goal lexer.old last lexer.new) }
+    ensures told { IfOk result (λ last. (tokens : List TokenParts) → G.is_told chooser.old tokens
+        → G.is_told chooser.new (with_last tokens last.token)) }
+{
+    let last = read_token_again(lexer, goal)?;
+    chooser.read_again(&last.token);
+    Ok(last)
+}
