@@ -33,7 +33,9 @@ enum {
     JS_LEX_UNAMBIGUOUS = 2 /* not settled: read as a script, with what a module may not have in `deferred` */
 };
 
-/* What a call answers. On any but JS_LEX_OK the lists are as before, and the counts are 0 but for `place`. */
+/* What a call answers. On any but JS_LEX_OK the counts are 0 but for `place`. On any but JS_LEX_OK and
+ * JS_LEX_NO_MEMORY the lists are as before; on JS_LEX_NO_MEMORY some tokens may stand at the beginning of `tokens`, and
+ * units at that of `units`, each within its room, and all else is as before. */
 enum {
     JS_LEX_OK = 0,
     JS_LEX_NO_MEMORY = 1,            /* or the pool would have 2^32 units or more */
@@ -165,12 +167,20 @@ typedef struct JsCounts {
 } JsCounts;
 
 /* Lexes a source of `source_length` bytes by goals that are chosen: where a `/` begins a regular expression, and where
- * a `}` ends a substitution of a template, is told by the tokens before it. This is a rule of thumb, and not a parser's.
+ * a `}` ends a substitution of a template, is told by the tokens before it. This is a rule of thumb, not a parser's.
  *
  * It answers JS_LEX_OK, JS_LEX_NO_MEMORY, JS_LEX_NOT_UTF8, JS_LEX_OVERLONG or JS_LEX_UNKNOWN_SOURCE_TYPE. The last
  * token is the end of the source. Room for `source_length` + 1 tokens always suffices. */
 uint32_t js_lex_auto(const uint8_t *source, size_t source_length, uint32_t source_type, JsLists *out,
                      JsCounts *counts);
+
+/* Lexes a source that may have JSX, by a rule that knows its tags and texts, and answers what js_lex_auto does. It may
+ * find more tokens than the source has bytes, since an end that a '}' makes in the text of an element has none. */
+uint32_t js_lex_jsx(const uint8_t *source, size_t source_length, uint32_t source_type, JsLists *out, JsCounts *counts);
+
+/* How many items js_lex_auto finds in a source: it answers what that does, takes as long, and writes the counts alone.
+ * So lists can be made with just the room that they need. */
+uint32_t js_lex_count(const uint8_t *source, size_t source_length, uint32_t source_type, JsCounts *counts);
 
 /* Lexes a source by commands: the first token is read before any. It answers what js_lex_auto does, and besides
  * JS_LEX_NO_MARK and JS_LEX_UNKNOWN_COMMAND. */

@@ -1,5 +1,5 @@
-/* Prints what calls answer: a regular expression, room that is short, bytes that are no text, an empty source, and
- * commands. */
+/* Prints what calls answer: a regular expression, room that is short, bytes that are no text, an empty source,
+ * counts alone, and commands. */
 #include "source.h"
 #include <string.h>
 
@@ -43,6 +43,13 @@ static void lex(const char *title, const char *text, size_t length, uint32_t typ
     print_answer(title, answer, &counts, token_room);
 }
 
+static void count_items(const char *title, const char *text, uint32_t type) {
+    JsCounts counts;
+    uint32_t answer = js_lex_count((const uint8_t *)text, strlen(text), type, &counts);
+    printf("%s: answer %u, tokens %zu, units %zu, comments %zu, place %zu\n", title, answer, counts.tokens, counts.units,
+           counts.comments, counts.place);
+}
+
 static void steps(const char *title, const char *text, const uint8_t *commands, size_t count) {
     JsCounts counts;
     JsLists lists = lists_with(ROOM);
@@ -62,6 +69,8 @@ int main(void) {
     lex("FF", "\xFF", 1, JS_LEX_MODULE, ROOM);
     lex("empty", "", 0, JS_LEX_SCRIPT, ROOM);
     lex("source type 3", "a", 1, 3, ROOM);
+    count_items("counts of '\\x61' and a comment", "'\\x61' /* */", JS_LEX_MODULE);
+    count_items("counts of source type 3", "a", 3);
     steps("next, 99", "a b", unknown, 2);
     steps("next, rewind", "a b", no_mark, 2);
     steps("mark, next, next, rewind, next, peek", "a b c", back, 6);

@@ -1,123 +1,127 @@
-"""Prints a source in colours: colours.py LIBRARY FILE
+"""Prints a source in colours: colours.py [--jsx] [--time] LIBRARY FILE
 
-LIBRARY is the shared object that `examples/run` links of the archive.
+LIBRARY is the shared object that `examples/run` links of the archive. A source has JSX where its name ends with .jsx or
+.tsx, and with --jsx. With --time it prints in the place of the source how long it took, in nanoseconds of the processor
+for each token.
 """
 
-import ctypes
+import argparse
+import itertools
 import sys
+import time
+
+import js_lex
 
 NUMBERS = {
     "Decimal", "Float", "Binary", "Octal", "Hex", "PositiveExponential", "NegativeExponential",
     "DecimalBigInt", "BinaryBigInt", "OctalBigInt", "HexBigInt",
 }
-STRINGS = {"Str", "NoSubstitutionTemplate", "TemplateHead", "TemplateMiddle", "TemplateTail", "JSXText"}
+STRINGS = {"Str", "NoSubstitutionTemplate", "TemplateHead", "TemplateMiddle", "TemplateTail"}
+WORDS = b"""
+    as async await break case catch class const continue debugger default delete do else enum export extends false
+    finally for from function if implements import in instanceof interface let new null of package private protected
+    public return static super switch this throw true try typeof var void while with yield
+"""
 COLOURS = {"comment": 90, "number": 36, "string": 32, "regex": 35, "word": 34}
 
 
-class Span(ctypes.Structure):
-    _fields_ = [("start", ctypes.c_uint32), ("end", ctypes.c_uint32)]
+def colours_of_kinds(lexer):
+    """The colour of each kind, one byte by its number: 0 where it has none."""
+    words = set(lexer.lex(WORDS).tokens["kind"]) - {lexer.kinds.index("Eof")}
+    colours = bytearray(256)
+    for number, name in enumerate(lexer.kinds):
+        if name in NUMBERS:
+            colours[number] = COLOURS["number"]
+        elif name in STRINGS:
+            colours[number] = COLOURS["string"]
+        elif name == "RegExp":
+            colours[number] = COLOURS["regex"]
+        elif number in words:
+            colours[number] = COLOURS["word"]
+    return bytes(colours)
 
 
-class Token(ctypes.Structure):
-    _fields_ = [
-        ("span", Span), ("value", Span), ("pattern_end", ctypes.c_uint32), ("kind", ctypes.c_uint8),
-        ("flags", ctypes.c_uint8), ("regex_flags", ctypes.c_uint8), ("value_form", ctypes.c_uint8),
-    ]
+def stretches_of(found, colours):
+    """The stretches that have a colour, in order, each with its start, its end and the colour.
+
+    The kinds of all tokens become colours at once; only tokens that have one are looked at.
+    """
+    of_tokens = bytes(found.tokens["kind"]).translate(colours)
+    tokens = zip(found.tokens["start"], found.tokens["end"], of_tokens)
+    comments = zip(found.comments["start"], found.comments["end"], itertools.repeat(COLOURS["comment"]))
+    return sorted(itertools.chain(itertools.compress(tokens, of_tokens), comments))
 
 
-class Comment(ctypes.Structure):
-    _fields_ = [
-        ("span", Span), ("attached_to", ctypes.c_uint32), ("kind", ctypes.c_uint8), ("position", ctypes.c_uint8),
-        ("newlines", ctypes.c_uint8), ("content", ctypes.c_uint8),
-    ]
+def coloured(source, stretches):
+    """The source, with each stretch in its colour."""
+    pieces, place = [], 0
+    for start, end, colour in stretches:
+        pieces += source[place:start], b"\x1b[%dm" % colour, source[start:end], b"\x1b[0m"
+        place = end
+    pieces.append(source[place:])
+    return b"".join(pieces)
 
 
-class Diagnostic(ctypes.Structure):
-    _fields_ = [("span", Span), ("number", ctypes.c_uint32), ("character", ctypes.c_uint32)]
+def has_numpy():
+    try:
+        import numpy  # noqa: F401
+    except ImportError:
+        return False
+    return True
 
 
-ITEMS = {
-    "tokens": Token, "units": ctypes.c_uint16, "diagnostics": Diagnostic, "deferred": Diagnostic,
-    "comments": Comment, "irregular": Span, "warnings": Span,
-}
+def steps_of(lexer, source, jsx, colours):
+    """The steps that are timed, by their names; the last ones colour nothing, and are there to compare with."""
+    found, room = lexer.lex(source, jsx=jsx), js_lex.Room(js_lex.usual_room(len(source)))
+    stretches = stretches_of(found, colours)
+    fields = [found.tokens[name] for name in ("start", "end", "kind")]
+    steps = {
+        "the call": lambda: lexer.lex(source, jsx=jsx),
+        "the call, into lists that were filled before": lambda: lexer.lex(source, jsx=jsx, room=room),
+        "the colours of all kinds": lambda: bytes(found.tokens["kind"]).translate(colours),
+        "the stretches that have a colour": lambda: stretches_of(found, colours),
+        "the text": lambda: coloured(source, stretches),
+        "a tuple for each token": lambda: list(zip(*fields)),
+    }
+    if has_numpy():
+        array = found.tokens.array()
+        steps["the lengths of all tokens, by numpy"] = lambda: array["end"] - array["start"]
+    return steps, len(found.tokens)
 
 
-class Lists(ctypes.Structure):
-    _fields_ = [
-        field
-        for name, item in ITEMS.items()
-        for field in ((name, ctypes.POINTER(item)), (name + "_room", ctypes.c_size_t))
-    ]
+def seconds_of(step):
+    """The processor time of a step, the least of five times."""
+    seconds = []
+    for _ in range(5):
+        begin = time.process_time()
+        step()
+        seconds.append(time.process_time() - begin)
+    return min(seconds)
 
 
-class Counts(ctypes.Structure):
-    _fields_ = [(name, ctypes.c_size_t) for name in (*ITEMS, "place")]
-
-
-class Lexer:
-    """The calls of include/js_lex.h."""
-
-    def __init__(self, path):
-        self.library = ctypes.CDLL(path)
-        self.library.js_lex_auto.restype = ctypes.c_uint32
-        self.library.js_lex_auto.argtypes = [
-            ctypes.c_char_p, ctypes.c_size_t, ctypes.c_uint32, ctypes.POINTER(Lists), ctypes.POINTER(Counts),
-        ]
-        self.library.js_lex_kind_name.restype = ctypes.c_size_t
-        self.library.js_lex_kind_name.argtypes = [ctypes.c_uint32, ctypes.c_char_p, ctypes.c_size_t]
-
-    def kind_names(self):
-        names, buffer = [], ctypes.create_string_buffer(64)
-        while length := self.library.js_lex_kind_name(len(names), buffer, len(buffer)):
-            names.append(buffer.raw[:length].decode())
-        return names
-
-    def lex(self, source):
-        """The tokens and comments of a source."""
-        room = {name: 16 for name in ITEMS} | {"tokens": len(source) + 1}
-        while True:
-            arrays = {name: (item * room[name])() for name, item in ITEMS.items()}
-            lists, counts = Lists(), Counts()
-            for name, array in arrays.items():
-                setattr(lists, name, array)
-                setattr(lists, name + "_room", room[name])
-            answer = self.library.js_lex_auto(source, len(source), 2, lists, counts)
-            if answer:
-                sys.exit(f"answer {answer} at {counts.place}")
-            short = {name: getattr(counts, name) for name in ITEMS if getattr(counts, name) > room[name]}
-            if not short:
-                return arrays["tokens"][: counts.tokens], arrays["comments"][: counts.comments]
-            room |= short
-
-
-def colour_of(kind, text):
-    if kind in NUMBERS:
-        return COLOURS["number"]
-    if kind in STRINGS:
-        return COLOURS["string"]
-    if kind == "RegExp":
-        return COLOURS["regex"]
-    if kind != "Ident" and text.isalpha():
-        return COLOURS["word"]
-    return None
+def print_times(lexer, source, jsx, colours):
+    steps, count = steps_of(lexer, source, jsx, colours)
+    print(f"{count:,} tokens of {len(source):,} bytes, nanoseconds a token:")
+    for name, step in steps.items():
+        print(f"{seconds_of(step) / count * 1e9:8.1f}  {name}")
 
 
 def main():
-    library, path = sys.argv[1:]
-    lexer = Lexer(library)
-    names = lexer.kind_names()
-    with open(path, "rb") as file:
+    words = argparse.ArgumentParser(description=__doc__, formatter_class=argparse.RawDescriptionHelpFormatter)
+    words.add_argument("--jsx", action="store_true")
+    words.add_argument("--time", action="store_true")
+    words.add_argument("library")
+    words.add_argument("file")
+    words = words.parse_args()
+    lexer = js_lex.load(words.library)
+    colours = colours_of_kinds(lexer)
+    with open(words.file, "rb") as file:
         source = file.read()
-    tokens, comments = lexer.lex(source)
-    stretches = [(t.span, colour_of(names[t.kind], source[t.span.start : t.span.end])) for t in tokens]
-    stretches += [(c.span, COLOURS["comment"]) for c in comments]
-    place = 0
-    for span, colour in sorted(stretches, key=lambda pair: (pair[0].start, pair[0].end)):
-        text = source[span.start : span.end]
-        sys.stdout.buffer.write(source[place : span.start])
-        sys.stdout.buffer.write(text if colour is None else b"\x1b[%dm%s\x1b[0m" % (colour, text))
-        place = span.end
-    sys.stdout.buffer.write(source[place:])
+    jsx = words.jsx or js_lex.is_jsx(words.file)
+    if words.time:
+        print_times(lexer, source, jsx, colours)
+    else:
+        sys.stdout.buffer.write(coloured(source, stretches_of(lexer.lex(source, jsx=jsx), colours)))
 
 
 if __name__ == "__main__":

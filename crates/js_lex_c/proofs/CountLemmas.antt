@@ -1,6 +1,6 @@
 -- A source whose goals are chosen has one token more than bytes, at most.
-use Rattle.std.proofs.Common.{◌≡◌, ℕ, suc, ◌+◌, ◌≤◌, Bool, true, false, List, [], ◌∷◌, ◌++◌, length, map, take, refl}
-use Rattle.std.proofs.Common.{sym, ◌∙◌, ap, subst, arith, Some, None}
+use Rattle.std.proofs.Common.{◌≡◌, ℕ, suc, ◌+◌, ◌≤◌, Bool, true, List, [], ◌∷◌, ◌++◌, length, take, refl}
+use Rattle.std.proofs.Common.{sym, ◌∙◌, ap, subst, arith, false, Some, None, Result, Ok, Err}
 use Rattle.std.proofs.lemmas.List.{length-append, length-map}
 use Rattle.std.proofs.lemmas.Str.{IsCharBoundary-start}
 use Rattle.std.specs.Prelude.{MatchBool, slice_get}
@@ -31,13 +31,18 @@ use Rattle.js_session.proofs.LiveLemmas.{last_or-push, length-with_last}
 use Rattle.js_session.proofs.RunLemmas.{state_step}
 use Rattle.js_session.proofs.WholeLemmas.{row_onward}
 use Rattle.js_auto.specs.Auto.{AreChosen, ReportOfChosen}
-use Rattle.js_auto.specs.Choice.{choice}
+use Rattle.js_auto.specs.Choice.{choice, choice_in}
 use Rattle.js_choose.proofs.SessionLemmas.{LastLies, last_put, not_end}
 use Rattle.js_auto.specs.DueLemmas.{Chosen, chosen_by, chosen_is_step}
 use Rattle.js_auto.specs.DueLemmas.Chosen.{reads, reads_expression, reads_part}
-use Rattle.js_lex_c.specs.LiveRows.{live_rows}
-use Rattle.js_lex_c.specs.Tokens.{token_records, value_units}
-use Rattle.js_lex_c.proofs.LiveLemmas.{live_tokens, run_some, run_step, token_of}
+use Rattle.js_lists.specs.LiveLists.{live_taken}
+use Rattle.js_lists.proofs.LiveLemmas.{run_some, run_step}
+use Rattle.js_lex_c.specs.Held.{Held}
+use Rattle.js_lex_c.specs.Lists.{AreListsOf, AutoLists, FillsOfNumber, ListsBy, NumberedLists, ReportLists}
+use Rattle.js_lex_c.specs.Tokens.{token_records}
+use Rattle.js_lex_c.specs.declared.fault.Fault.{Fault}
+use Rattle.js_lex_c.specs.declared.fill.JsCounts.{JsCounts}
+use Rattle.js_lex_c.proofs.RecordLemmas.{count_records}
 
 -- Before the start of the last token stands a byte at least for each token before it.
 record Counted (text : List ℕ) (tokens : List TokenParts) : Type 0 where
@@ -161,19 +166,49 @@ few_tokens source t collects commands report h =
     let count : length report.tokens ≡ length (live commands report.rows).tokens = ap length same in
     omega (arith, k.few, within, count)
 
--- there are as many records as rows
-count_records : (before : ℕ) (rows : List Row) → length (token_records before rows) ≡ length rows
-count_records before [] = refl
-count_records before (row ∷ rows) =
-    ap (λ n. suc n) (count_records (before + length (value_units row.value)) rows)
+-- and as many records
+few_records : (source : List ℕ) (t : SourceType) (commands : List Command) (report : Report) (lists : ReportLists)
+    → ReportOfChosen source t false commands report → AreListsOf commands report lists
+    → length lists.tokens ≤ length source + 1
+few_records source t commands report lists h are =
+    let taken = live_taken commands report.rows in
+    let records : length lists.tokens ≡ length (token_records 0 taken) = ap (λ l. length l.tokens) are.lists_are in
+    omega (
+      arith,
+      records,
+      count_records 0 taken,
+      length-map taken (λ x. x.token),
+      ap length are.tokens_are,
+      few_tokens source t false commands report h,
+    )
 
--- and as many as tokens
-pub few_records : (source : List ℕ) (t : SourceType) (collects : Bool) (commands : List Command) (report : Report)
-    → ReportOfChosen source t collects commands report
-    → length (token_records 0 (live_rows commands report.rows)) ≤ length source + 1
-few_records source t collects commands report h =
-    let rows = live_rows commands report.rows in
-    let records = count_records 0 rows in
-    let tokens : length (map token_of rows) ≡ length report.tokens =
-    ap length (live_tokens source t collects commands report h.report_is) in
-    omega (arith, records, length-map rows token_of, tokens, few_tokens source t collects commands report h)
+-- The lists by the choice of goals are those of the chosen goals.
+auto_lists : (source : List ℕ) (number : ℕ) (lists : ReportLists)
+    → NumberedLists (ListsBy choice_in source) number lists → AutoLists source number lists
+auto_lists source number lists n =
+    let l = n.are_lists in
+    record {
+      source_type = n.source_type;
+      type_is = n.type_is;
+      are_lists =
+          record {
+            commands = l.commands;
+            report = l.report;
+            chosen = l.chosen;
+            are_lists = l.are_lists;
+            few = few_records source n.source_type l.commands l.report lists l.chosen l.are_lists;
+          };
+    }
+
+-- and so are those that a call fills
+pub auto_fills : (source : List ℕ) (number : ℕ) (Causes : Fault → Type 0) (old new : Held)
+    (found : Result JsCounts Fault)
+    → FillsOfNumber number (NumberedLists (ListsBy choice_in source) number) Causes old new found
+    → FillsOfNumber number (AutoLists source number) Causes old new found
+auto_fills source number Causes old new (Ok counts) g = record {
+  lists = g.lists;
+  are = auto_lists source number g.lists g.are;
+  filled = g.filled;
+  counted = g.counted;
+}
+auto_fills source number Causes old new (Err fault) e = e

@@ -7,14 +7,15 @@ use denote.Enum.Bare.{tag_one}
 use Rattle.js_session.specs.Faults.{Cause, HasMarks, IsReadable}
 use Rattle.js_session.specs.contracts.command.Command.{the_type as command_type}
 use Rattle.js_session.specs.declared.command.Command.{Command}
+use Rattle.js_choose.specs.Rules.{Rule}
 use Rattle.js_session.proofs.Causes.{cause_unique, no_commands, sound_no_cause, source_cause}
 use Rattle.js_lex_c.specs.Faults.{AutoFaultCause, FirstUnknown, StepsFaultCause, fault_number}
-use Rattle.js_lex_c.specs.Lists.{Answers, AutoLists, Held, StepLists}
+use Rattle.js_lex_c.specs.Held.{Held}
+use Rattle.js_lex_c.specs.Lists.{Answers, AutoLists, ListsBy, NumberedLists, ReportLists, StepLists}
 use Rattle.js_lex_c.specs.Numbers.{command_number}
 use Rattle.js_lex_c.specs.declared.fault.Fault.{Fault}
 use Rattle.js_lex_c.specs.declared.fault.Fault.TheVariants.{UnknownSourceType, UnknownCommand, Lex}
 use Rattle.js_lex_c.specs.declared.fill.JsCounts.{JsCounts}
-use Rattle.js_lex_c.specs.declared.gather.ReportLists.{ReportLists}
 use Rattle.js_lex_c.proofs.NumberLemmas.{command_below, source_type_below}
 
 -- What a call answers, where its causes exclude one another and exclude that it gives lists.
@@ -71,31 +72,48 @@ auto_one source number (Lex f) (UnknownCommand j) c d = absurd d
 auto_one source number (Lex f) (Lex g) c d =
     ap Lex (cause_unique source [] f g (source_cause source [] f c.1) (source_cause source [] g d.1))
 
-pub auto_exactly : (source : List ℕ) (number answer : ℕ) (old new : Held) (counts : JsCounts)
-    → Answers number (AutoLists source number) (AutoFaultCause source number) answer old new counts
-    → (fault : Fault) → AutoFaultCause source number fault → (answer ≡ fault_number fault) ⊎ (answer ≡ 1)
-auto_exactly source number answer old new counts a =
-    exactly number (AutoLists source number) (AutoFaultCause source number) answer old new counts a
-    (λ lists fault are.
-    let h = are.are_lists.chosen.report_is in
-    auto_none source number fault (record { short = h.short; utf8 = h.utf8 })
-    (omega (arith, are.type_is, source_type_below are.source_type)))
-    (auto_one source number)
+-- Only of a source that is readable, with the number of a source type, there are such lists.
+abbrev pub AreOfReadable : (source : List ℕ) (number : ℕ) (Are : ReportLists → Type 0) → Type 0
+AreOfReadable source number Are = (lists : ReportLists) → Are lists → IsReadable source × (number < 3)
 
-pub auto_completely : (source : List ℕ) (number answer : ℕ) (old new : Held) (counts : JsCounts)
-    → Answers number (AutoLists source number) (AutoFaultCause source number) answer old new counts
-    → IsReadable source → number < 3 → (answer ≡ 0) ⊎ (answer ≡ 1)
-auto_completely source number answer old new counts a h few =
-    completely number (AutoLists source number) (AutoFaultCause source number) answer old new counts a
-    (λ fault. auto_none source number fault h few)
+-- Such are those of a report of a rule.
+pub rule_readable : (rule : Rule) (source : List ℕ) (number : ℕ)
+    → AreOfReadable source number (NumberedLists (ListsBy rule source) number)
+rule_readable rule source number lists are =
+    let h = are.are_lists.chosen.report_is in (
+      record { short = h.short; utf8 = h.utf8 },
+      omega (arith, are.type_is, source_type_below are.source_type),
+    )
 
-pub auto_unknown : (source : List ℕ) (number answer : ℕ) (old new : Held) (counts : JsCounts)
-    → Answers number (AutoLists source number) (AutoFaultCause source number) answer old new counts
-    → 3 ≤ number → answer ≡ 13
-auto_unknown source number answer old new counts a past =
-    unknown number (AutoLists source number) (AutoFaultCause source number) answer old new counts a
-    (λ lists are. omega (arith, are.type_is, source_type_below are.source_type, past))
-    (λ fault cause. auto_one source number fault UnknownSourceType cause past) past
+-- and those of chosen goals
+pub auto_readable : (source : List ℕ) (number : ℕ) → AreOfReadable source number (AutoLists source number)
+auto_readable source number lists are =
+    let h = are.are_lists.chosen.report_is in (
+      record { short = h.short; utf8 = h.utf8 },
+      omega (arith, are.type_is, source_type_below are.source_type),
+    )
+
+-- What a call over a source alone answers.
+module _ (source : List ℕ) (number : ℕ) (Are : ReportLists → Type 0) (answer : ℕ) (old new : Held) (counts : JsCounts)
+    (sound : AreOfReadable source number Are)
+    (a : Answers number Are (AutoFaultCause source number) answer old new counts) where
+  pub auto_exactly : (fault : Fault) → AutoFaultCause source number fault
+      → (answer ≡ fault_number fault) ⊎ (answer ≡ 1)
+  auto_exactly =
+      exactly number Are (AutoFaultCause source number) answer old new counts a
+      (λ lists fault are. auto_none source number fault (sound lists are).0 (sound lists are).1)
+      (auto_one source number)
+
+  pub auto_completely : IsReadable source → number < 3 → (answer ≡ 0) ⊎ (answer ≡ 1)
+  auto_completely h few =
+      completely number Are (AutoFaultCause source number) answer old new counts a
+      (λ fault. auto_none source number fault h few)
+
+  pub auto_unknown : 3 ≤ number → answer ≡ 13
+  auto_unknown past =
+      unknown number Are (AutoFaultCause source number) answer old new counts a
+      (λ lists are. omega (arith, (sound lists are).1, past))
+      (λ fault cause. auto_one source number fault UnknownSourceType cause past) past
 
 command_one : (a b : Command) → command_number a ≡ command_number b → a ≡ b
 command_one = tag_one command_type tt

@@ -1,7 +1,7 @@
 pub mod AnswerLemmas
-pub mod ChainLemmas
 pub mod CountLemmas
 pub mod ExactLemmas
-pub mod LiveLemmas
+pub mod FillLemmas
+pub mod FillerLemmas
 pub mod NumberLemmas
 pub mod RecordLemmas

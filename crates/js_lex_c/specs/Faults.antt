@@ -46,6 +46,11 @@ pub record LacksMemory (number : ℕ) (fault : Fault) : Type 0 where
   pub memory : fault ≡ out_of_memory
   pub known : number < source_type_count
 
+-- The number is that of no source type, and this is the fault.
+pub record IsUnknownType (number : ℕ) (fault : Fault) : Type 0 where
+  pub fault_is : fault ≡ UnknownSourceType
+  pub past : source_type_count ≤ number
+
 -- the cause of a fault of the numbers of commands
 abbrev pub CommandsFault : List ℕ → Fault → Type 0
 CommandsFault numbers UnknownSourceType = ⊥

@@ -1,7 +1,7 @@
-pub mod Chains
 pub mod Faults
 pub mod Filled
-pub mod LiveRows
+pub mod Filler
+pub mod Held
 pub mod Lists
 pub mod Names
 pub mod Numbers

@@ -1,5 +1,5 @@
 -- Tokens as C sees them, and the pool of their decoded values.
-use Rattle.std.specs.Prelude.{ℕ, ◌+◌, Bool, false, List, [], ◌∷◌, ◌++◌, length, Option, Some, None, if◌then◌else◌}
+use Rattle.std.specs.Prelude.{ℕ, ◌+◌, Bool, false, List, [], ◌∷◌, length, Option, Some, None, if◌then◌else◌}
 use Rattle.std.specs.List.{flat_map}
 use Rattle.js_text.specs.RegExpFlags.{flag_bits}
 use Rattle.js_text.specs.declared.reg_exp_flags.RegexInfo.{RegexInfo}
@@ -7,11 +7,10 @@ use Rattle.js_text.specs.declared.value.RowValue.{RowValue}
 use Rattle.js_text.specs.declared.value.RowValue.TheVariants.{Nothing, Slice, Units, Bad}
 use Rattle.js_kind.specs.Kinds.{number}
 use Rattle.js_kind.specs.TokenParts.{TokenParts}
-use Rattle.js_session.specs.declared.row.Row.{Row}
+use Rattle.js_lists.specs.Taken.{Taken}
 use Rattle.js_lex_c.specs.Records.{span_record}
 use Rattle.js_lex_c.specs.declared.record.JsSpan.{JsSpan}
 use Rattle.js_lex_c.specs.declared.record.JsToken.{JsToken}
-use Rattle.js_lex_c.specs.declared.token.TokenLists.{TokenLists}
 
 -- a bit of this value, if it is set
 abbrev pub bit : Bool → ℕ → ℕ
@@ -55,34 +54,23 @@ value_span before (Units units) = record { start = before; end = before + length
 value_span before Bad = record { start = 0; end = 0 }
 
 -- the token of a row, with so many units in the pool before its value
-abbrev pub token_record : ℕ → Row → JsToken
-token_record before row = record {
-  span = record { start = row.token.start; end = row.token.end };
-  value = value_span before row.value;
-  pattern_end = pattern_end_of row.regex;
-  kind = number row.token.kind;
-  flags = token_flags row.token (has_flags_error row.regex);
-  regex_flags = regex_flags_of row.regex;
-  value_form = value_form row.value;
+abbrev pub token_record : ℕ → Taken → JsToken
+token_record before taken = record {
+  span = record { start = taken.token.start; end = taken.token.end };
+  value = value_span before taken.value;
+  pattern_end = pattern_end_of taken.regex;
+  kind = number taken.token.kind;
+  flags = token_flags taken.token (has_flags_error taken.regex);
+  regex_flags = regex_flags_of taken.regex;
+  value_form = value_form taken.value;
 }
 
 -- the tokens of rows, each value behind those before it in the pool
-abbrev pub token_records : ℕ → List Row → List JsToken
+abbrev pub token_records : ℕ → List Taken → List JsToken
 token_records before [] = []
-token_records before (row ∷ rows) =
-    token_record before row ∷ token_records (before + length (value_units row.value)) rows
+token_records before (taken ∷ more) =
+    token_record before taken ∷ token_records (before + length (value_units taken.value)) more
 
 -- the pool of rows: their decoded values, one behind the other
-abbrev pub pool : List Row → List ℕ
-pool rows = flat_map (λ row. value_units row.value) rows
-
--- the tokens of rows, and their pool
-abbrev pub token_lists : List Row → TokenLists
-token_lists rows = record { tokens = token_records 0 rows; units = pool rows }
-
--- the same with one more row
-abbrev pub with_token : Row → TokenLists → TokenLists
-with_token row lists = record {
-  tokens = lists.tokens ++ token_record (length lists.units) row ∷ [];
-  units = lists.units ++ value_units row.value;
-}
+abbrev pub pool : List Taken → List ℕ
+pool all = flat_map (λ taken. value_units taken.value) all

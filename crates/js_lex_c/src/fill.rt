@@ -1,12 +1,15 @@
 //! The lists and the counts of a caller.
 
 ghost use Rattle.std.specs.Prelude.{◌≡◌};
-ghost use Rattle.js_lex_c.specs.Filled.{filled};
-ghost use Rattle.js_lex_c.specs.Lists.{AreFilled, StayInPlace, counts_of, fault_counts, held};
+ghost use Rattle.js_lex_c.specs.Held.{PutsToken, PutsUnits, StayInPlace, held, with_findings};
+ghost use Rattle.js_lex_c.specs.Lists.{fault_counts};
 
 use crate::fault::Fault;
-use crate::gather::ReportLists;
-use crate::record::{JsComment, JsDiagnostic, JsSpan, JsToken};
+use crate::put::{put, put_all};
+use crate::record::{
+    JsComment, JsDiagnostic, JsSpan, JsToken, fill_comments, fill_diagnostics, fill_spans,
+};
+use js_lexer::Findings;
 
 /// The lists of a caller, each with its room. A call fills them as far as there is room.
 #[repr(C)]
@@ -41,63 +44,55 @@ pub struct JsCounts {
     pub place: usize,
 }
 
-/// Puts the items into the list as far as there is room.
-pub(crate) fn fill<T: Copy>(room: &mut [T], items: &[T])
-    ensures { room.new ≡ filled room.old items.now }
-{
-    if items.len() <= room.len() {
-        room[..items.len()].copy_from_slice(items);
-    } else {
-        room.copy_from_slice(&items[..room.len()]);
-    }
-}
-
 impl JsLists<'_> {
-    /// Puts the lists of a report into those of the caller.
-    pub(crate) fn fill(&mut self, lists: &ReportLists)
-        ensures filled { AreFilled lists.now (held self.old) (held self.new) }
+    /// Puts a token at its place, if there is room.
+    #[inline(always)]
+    pub(crate) fn put_token(&mut self, place: usize, token: JsToken)
+        ensures { PutsToken place token self.old self.new }
+    {
+        put(self.tokens, place, token);
+    }
+
+    /// Puts units of the pool from their place on, as far as there is room.
+    pub(crate) fn put_units(&mut self, place: usize, units: &[u16])
+        ensures { PutsUnits place units.now self.old self.new }
+    {
+        put_all(self.units, place, units);
+    }
+
+    /// Fills the lists of all that was found beside the tokens.
+    pub(crate) fn fill_findings(&mut self, found: &Findings)
+        ensures filled { held self.new ≡ with_findings found.now (held self.old) }
         ensures places { StayInPlace self.old self.new }
     {
-        fill(self.tokens, lists.tokens.as_slice());
-        fill(self.units, lists.units.as_slice());
-        fill(self.diagnostics, lists.diagnostics.as_slice());
-        fill(self.deferred, lists.deferred.as_slice());
-        fill(self.comments, lists.comments.as_slice());
-        fill(self.irregular, lists.irregular.as_slice());
-        fill(self.warnings, lists.warnings.as_slice());
+        fill_diagnostics(self.diagnostics, found.diagnostics.as_slice());
+        fill_diagnostics(self.deferred, found.deferred.as_slice());
+        fill_comments(self.comments, found.comments.as_slice());
+        fill_spans(self.irregular, found.irregular.as_slice());
+        fill_spans(self.warnings, found.warnings.as_slice());
     }
 }
 
 impl JsCounts {
-    /// How many items the lists of a report have.
-    pub(crate) fn of_lists(lists: &ReportLists) -> JsCounts
-        ensures { result ≡ counts_of lists.now }
-    {
-        JsCounts {
-            tokens: lists.tokens.len(),
-            units: lists.units.len(),
-            diagnostics: lists.diagnostics.len(),
-            deferred: lists.deferred.len(),
-            comments: lists.comments.len(),
-            irregular: lists.irregular.len(),
-            warnings: lists.warnings.len(),
-            place: 0,
-        }
-    }
+    /// No items, and no place.
+    pub(crate) const NONE: JsCounts = JsCounts {
+        tokens: 0,
+        units: 0,
+        diagnostics: 0,
+        deferred: 0,
+        comments: 0,
+        irregular: 0,
+        warnings: 0,
+        place: 0,
+    };
 
     /// Where a fault is.
     pub(crate) fn of_fault(fault: Fault) -> JsCounts
         ensures { result ≡ fault_counts fault }
     {
         JsCounts {
-            tokens: 0,
-            units: 0,
-            diagnostics: 0,
-            deferred: 0,
-            comments: 0,
-            irregular: 0,
-            warnings: 0,
             place: fault.place(),
+            ..JsCounts::NONE
         }
     }
 }

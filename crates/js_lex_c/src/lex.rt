@@ -1,92 +1,141 @@
-//! The lists of the report of a source, or why there are none.
+//! What is live of a source, put into the lists of a caller.
 
-ghost use Rattle.std.specs.Prelude.{◌≡◌, ◌⊎◌, MatchResult};
+ghost use Rattle.std.specs.Prelude.{◌≡◌};
 ghost use Rattle.js_session.specs.Faults.{Cause, SourceCause};
-ghost use Rattle.js_lex_c.specs.Faults.{AutoFaultCause, LacksMemory, StepsFaultCause};
-ghost use Rattle.js_lex_c.specs.Lists.{AutoLists, ListsOfChosen, ListsOfCommands, StepLists};
+ghost use Rattle.js_lex_c.specs.Faults.{AutoFaultCause, StepsFaultCause};
+ghost use Rattle.js_lex_c.specs.Filler.{token_counts};
+ghost use Rattle.js_lex_c.specs.Held.{StayInPlace, held};
+ghost use Rattle.js_lex_c.specs.Lists.{Fills, FillsOfNumber, ListsBy, ListsOfCommands, NumberedLists, StepLists};
 
 use crate::fault::Fault;
-use crate::gather::{ReportLists, gather};
+use crate::fill::{JsCounts, JsLists};
+use crate::filler::Filler;
 use crate::number::{commands_of, source_type_of};
-use js_auto::auto_session;
-use js_session::{Command, LexFault, lex_session};
+use js_choose::ChooseGoals;
+use js_lists::{read_chosen, read_steps};
+use js_session::{Command, LexFault};
 use js_text::SourceType;
 use std::alloc::Global;
 
-/// The lists of a source whose goals are chosen.
-fn lists_of_chosen(
+/// Puts what is live of a source whose goals are chosen into lists into which nothing was put yet, and counts it.
+fn put_chosen<G: ChooseGoals>(
     alloc: Global,
     source: &[u8],
     source_type: SourceType,
-) -> Result<ReportLists, LexFault>
-    ensures { MatchResult result (ListsOfChosen source.now source_type)
-        (λ fault. (fault ≡ LexFault.Memory) ⊎ SourceCause source.now fault) }
+    filler: &mut Filler<'_, '_>,
+) -> Result<JsCounts, LexFault>
+    requires { filler.old.counts ≡ token_counts 0 0 }
+    ensures fills { Fills (ListsBy G.choice source.now source_type) (SourceCause source.now)
+        (held filler.old.out.now) (held filler.new.out.now) result }
+    ensures places { StayInPlace filler.old.out.now filler.new.out.now }
+    ensures same { filler.new.out.ghost_name ≡ filler.old.out.ghost_name }
 {
-    match auto_session(alloc, source, source_type, false) {
-        Ok(auto) => match gather(alloc, auto.commands.as_slice(), &auto.report) {
-            Ok(lists) => Ok(lists),
-            Err(_) => Err(LexFault::Memory),
-        },
+    match read_chosen::<G, Filler<'_, '_>>(alloc, source, source_type, filler) {
+        Ok(()) => Ok(filler.counts),
         Err(fault) => Err(fault.as_lex_fault()),
     }
 }
 
-/// The lists of a source and commands.
-fn lists_of_commands(
+/// The same with a source and commands.
+fn put_followed(
     alloc: Global,
     source: &[u8],
     source_type: SourceType,
     commands: &[Command],
-) -> Result<ReportLists, LexFault>
-    ensures { MatchResult result (ListsOfCommands source.now source_type commands.now)
-        (λ fault. (fault ≡ LexFault.Memory) ⊎ Cause source.now commands.now fault) }
+    filler: &mut Filler<'_, '_>,
+) -> Result<JsCounts, LexFault>
+    requires { filler.old.counts ≡ token_counts 0 0 }
+    ensures fills { Fills (ListsOfCommands source.now source_type commands.now) (Cause source.now commands.now)
+        (held filler.old.out.now) (held filler.new.out.now) result }
+    ensures places { StayInPlace filler.old.out.now filler.new.out.now }
+    ensures same { filler.new.out.ghost_name ≡ filler.old.out.ghost_name }
 {
-    match lex_session(alloc, source, source_type, false, commands) {
-        Ok(report) => match gather(alloc, commands, &report) {
-            Ok(lists) => Ok(lists),
-            Err(_) => Err(LexFault::Memory),
-        },
+    match read_steps::<Filler<'_, '_>>(alloc, source, source_type, commands, filler) {
+        Ok(()) => Ok(filler.counts),
         Err(fault) => Err(fault),
     }
 }
 
-/// The lists of a source whose goals are chosen, with the number of its type.
-pub(crate) fn auto_lists(
+/// Fills the lists with those of a source whose goals are chosen.
+fn fill_chosen<G: ChooseGoals>(
+    alloc: Global,
+    source: &[u8],
+    source_type: SourceType,
+    out: &mut JsLists<'_>,
+) -> Result<JsCounts, LexFault>
+    ensures fills { Fills (ListsBy G.choice source.now source_type) (SourceCause source.now)
+        (held out.old) (held out.new) result }
+    ensures places { StayInPlace out.old out.new }
+{
+    let mut filler = Filler {
+        out,
+        counts: JsCounts::NONE,
+    };
+    put_chosen::<G>(alloc, source, source_type, &mut filler)
+}
+
+/// Fills the lists with those of a source and commands.
+fn fill_followed(
+    alloc: Global,
+    source: &[u8],
+    source_type: SourceType,
+    commands: &[Command],
+    out: &mut JsLists<'_>,
+) -> Result<JsCounts, LexFault>
+    ensures fills { Fills (ListsOfCommands source.now source_type commands.now) (Cause source.now commands.now)
+        (held out.old) (held out.new) result }
+    ensures places { StayInPlace out.old out.new }
+{
+    let mut filler = Filler {
+        out,
+        counts: JsCounts::NONE,
+    };
+    put_followed(alloc, source, source_type, commands, &mut filler)
+}
+
+/// Fills the lists with those of a source whose goals are chosen, with the number of its type.
+pub(crate) fn fill_auto<G: ChooseGoals>(
     alloc: Global,
     source: &[u8],
     source_type: u32,
-) -> Result<ReportLists, Fault>
-    ensures { MatchResult result (AutoLists source.now source_type)
-        (λ fault. LacksMemory source_type fault ⊎ AutoFaultCause source.now source_type fault) }
+    out: &mut JsLists<'_>,
+) -> Result<JsCounts, Fault>
+    ensures fills { FillsOfNumber source_type (NumberedLists (ListsBy G.choice source.now) source_type)
+        (AutoFaultCause source.now source_type) (held out.old) (held out.new) result }
+    ensures places { StayInPlace out.old out.new }
 {
-    match source_type_of(source_type) {
-        Some(known) => match lists_of_chosen(alloc, source, known) {
-            Ok(lists) => Ok(lists),
-            Err(fault) => Err(Fault::Lex(fault)),
-        },
-        None => Err(Fault::UnknownSourceType),
+    let known = match source_type_of(source_type) {
+        Ok(known) => known,
+        Err(fault) => return Err(fault),
+    };
+    match fill_chosen::<G>(alloc, source, known, out) {
+        Ok(counts) => Ok(counts),
+        Err(fault) => Err(Fault::Lex(fault)),
     }
 }
 
-/// The lists of a source and commands, with the number of each.
-pub(crate) fn step_lists(
+/// Fills the lists with those of a source and commands, with the number of each.
+pub(crate) fn fill_steps(
     alloc: Global,
     source: &[u8],
     source_type: u32,
     commands: &[u8],
-) -> Result<ReportLists, Fault>
-    ensures { MatchResult result (StepLists source.now source_type commands.now)
-        (λ fault. LacksMemory source_type fault ⊎ StepsFaultCause source.now source_type commands.now fault) }
+    out: &mut JsLists<'_>,
+) -> Result<JsCounts, Fault>
+    ensures fills { FillsOfNumber source_type (StepLists source.now source_type commands.now)
+        (StepsFaultCause source.now source_type commands.now) (held out.old) (held out.new) result }
+    ensures places { StayInPlace out.old out.new }
 {
-    let Some(known) = source_type_of(source_type) else {
-        return Err(Fault::UnknownSourceType);
+    let known = match source_type_of(source_type) {
+        Ok(known) => known,
+        Err(fault) => return Err(fault),
     };
     let list = match commands_of(alloc, commands) {
         Ok(list) => list,
         Err(fault) => return Err(fault),
     };
-    match lists_of_commands(alloc, source, known, list.as_slice()) {
-        Ok(lists) => Ok(lists),
+    match fill_followed(alloc, source, known, list.as_slice(), out) {
+        Ok(counts) => Ok(counts),
         Err(fault) => Err(Fault::Lex(fault)),
     }
 }

@@ -4,17 +4,17 @@
 #![tactic(auto)]
 
 mod calls;
-mod chain;
 mod fault;
 mod fill;
-mod gather;
+mod filler;
 mod lex;
 mod names;
 mod number;
+mod put;
 mod record;
 mod token;
 
-pub use calls::{js_lex_auto, js_lex_steps};
+pub use calls::{js_lex_auto, js_lex_count, js_lex_steps};
 pub use fill::{JsCounts, JsLists};
 pub use names::{js_lex_content_name, js_lex_diagnostic_name, js_lex_kind_name};
 pub use record::{JsComment, JsDiagnostic, JsSpan, JsToken};

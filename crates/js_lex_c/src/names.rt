@@ -11,7 +11,7 @@ ghost use Rattle.js_lex_c.specs.Names.{IsNamed, kind_count};
 ghost use Rattle.js_lex_c.specs.Records.{comment_content_count, comment_content_number, diagnostic_count};
 ghost use Rattle.js_lex_c.specs.Records.{diagnostic_number};
 
-use crate::fill::fill;
+use crate::put::fill;
 use js_kind::Kind;
 use js_text::{CommentContent, Diagnostic, Span};
 

@@ -1,8 +1,8 @@
 //! What the numbers that C passes stand for.
 
 ghost use Rattle.std.specs.Prelude.{◌≡◌, ◌≤◌, ◌⊎◌, map, MatchOption, MatchResult};
-ghost use Rattle.js_lex_c.specs.Numbers.{source_type_number, source_type_count, command_number, command_count};
-ghost use Rattle.js_lex_c.specs.Faults.{CommandsFault, out_of_memory};
+ghost use Rattle.js_lex_c.specs.Numbers.{source_type_number, command_number, command_count};
+ghost use Rattle.js_lex_c.specs.Faults.{CommandsFault, IsUnknownType, out_of_memory};
 
 use crate::fault::Fault;
 use js_session::{Command, CommandList};
@@ -10,14 +10,14 @@ use js_text::SourceType;
 use std::alloc::Global;
 
 /// The source type of a number.
-pub(crate) fn source_type_of(number: u32) -> Option<SourceType>
-    ensures { MatchOption result (source_type_count ≤ number) (λ t. number ≡ source_type_number t) }
+pub(crate) fn source_type_of(number: u32) -> Result<SourceType, Fault>
+    ensures { MatchResult result (λ t. number ≡ source_type_number t) (IsUnknownType number) }
 {
     match number {
-        0 => Some(SourceType::Module),
-        1 => Some(SourceType::Script),
-        2 => Some(SourceType::Unambiguous),
-        _ => None,
+        0 => Ok(SourceType::Module),
+        1 => Ok(SourceType::Script),
+        2 => Ok(SourceType::Unambiguous),
+        _ => Err(Fault::UnknownSourceType),
     }
 }
 

@@ -1,12 +1,13 @@
 //! The records that C sees of spans, comments and diagnostics.
 
-ghost use Rattle.std.specs.Prelude.{◌≡◌, map, IfOk};
+ghost use Rattle.std.specs.Prelude.{◌≡◌, map};
+ghost use Rattle.js_lex_c.specs.Filled.{filled};
 ghost use Rattle.js_lex_c.specs.Records.{span_record, span_or_none, character_or_none, diagnostic_number};
 ghost use Rattle.js_lex_c.specs.Records.{diagnostic_record, comment_record};
 
+use crate::put::put;
 use bitflags::Flags;
-use js_text::{Comment, Diagnostic, ItemList, Span};
-use std::alloc::{AllocError, Global};
+use js_text::{Comment, Diagnostic, Span};
 
 /// In the place of an offset or a character: there is none.
 const NONE: u32 = u32::MAX;
@@ -150,41 +151,29 @@ fn comment_record(comment: &Comment) -> JsComment
     }
 }
 
-/// The spans, as C sees them.
-pub(crate) fn span_records(alloc: Global, spans: &[Span]) -> Result<ItemList<JsSpan>, AllocError>
-    ensures { IfOk result (λ records. records ≡ map span_record spans.now) }
+/// Fills a list with spans.
+pub(crate) fn fill_spans(room: &mut [JsSpan], spans: &[Span])
+    ensures { room.new ≡ filled room.old (map span_record spans.now) }
 {
-    let mut records = ItemList::new_in(alloc);
-    for span in spans {
-        records.push(span_record(*span))?;
+    for (place, span) in spans.iter().enumerate() {
+        put(room, place, span_record(*span));
     }
-    Ok(records)
 }
 
-/// The diagnostics, as C sees them.
-pub(crate) fn diagnostic_records(
-    alloc: Global,
-    diagnostics: &[Diagnostic],
-) -> Result<ItemList<JsDiagnostic>, AllocError>
-    ensures { IfOk result (λ records. records ≡ map diagnostic_record diagnostics.now) }
+/// Fills a list with diagnostics.
+pub(crate) fn fill_diagnostics(room: &mut [JsDiagnostic], diagnostics: &[Diagnostic])
+    ensures { room.new ≡ filled room.old (map diagnostic_record diagnostics.now) }
 {
-    let mut records = ItemList::new_in(alloc);
-    for diagnostic in diagnostics {
-        records.push(diagnostic_record(diagnostic))?;
+    for (place, diagnostic) in diagnostics.iter().enumerate() {
+        put(room, place, diagnostic_record(diagnostic));
     }
-    Ok(records)
 }
 
-/// The comments, as C sees them.
-pub(crate) fn comment_records(
-    alloc: Global,
-    comments: &[Comment],
-) -> Result<ItemList<JsComment>, AllocError>
-    ensures { IfOk result (λ records. records ≡ map comment_record comments.now) }
+/// Fills a list with comments.
+pub(crate) fn fill_comments(room: &mut [JsComment], comments: &[Comment])
+    ensures { room.new ≡ filled room.old (map comment_record comments.now) }
 {
-    let mut records = ItemList::new_in(alloc);
-    for comment in comments {
-        records.push(comment_record(comment))?;
+    for (place, comment) in comments.iter().enumerate() {
+        put(room, place, comment_record(comment));
     }
-    Ok(records)
 }

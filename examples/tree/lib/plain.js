@@ -1,0 +1,2 @@
+// a comment, and no licence
+export default 1;
