@@ -1,0 +1,8 @@
+use Rattle.std.proofs.Common.{◌≡◌, ◌++◌, string_bytes}
+use Rattle.std.specs.List.{flat_map}
+use Rattle.js_totsenak.specs.Excerpt.{shown_text}
+use Rattle.js_totsenak.proofs.shown.push_shown.Given as goal
+
+-- The characters so far were appended.
+abbrev pub invariant-loop-c : goal.invariant-loop-c
+invariant-loop-c l = string_bytes l.text ≡ string_bytes l.initial.text ++ flat_map shown_text l.yielded

@@ -1,0 +1,10 @@
+pub mod Check
+pub mod Checked
+pub mod Escaped
+pub mod Excerpt
+pub mod Messages
+pub mod Run
+pub mod SourceTypes
+pub mod Tokens
+pub mod Told
+pub mod Values

@@ -1,0 +1,5 @@
+//! Tests of js_totsenak, by its public calls.
+#![tactic(auto)]
+
+#[cfg(test)]
+mod told;
