@@ -5,7 +5,6 @@ use Rattle.std.specs.List.{last_or}
 use Rattle.std.specs.Str.{IsUtf8}
 use Rattle.js_text.specs.Lists.{with_last}
 use Rattle.js_text.specs.declared.source_type.SourceType.{SourceType}
-use Rattle.js_kind.specs.Kinds.{is_template_kind}
 use Rattle.js_kind.specs.TokenParts.{TokenParts}
 use Rattle.js_grammar.specs.Outcome.{Findings}
 use Rattle.js_grammar.specs.Reads.{is_onward}
@@ -23,7 +22,7 @@ use Rattle.js_session.specs.Session.{AddsRow, SessionState, report_of}
 use Rattle.js_session.specs.declared.command.Command.{Command}
 use Rattle.js_session.specs.declared.row.Row.{Row}
 use Rattle.js_session.proofs.StepLemmas.{first_added, order_added, seen}
-use Rattle.js_choose.specs.Rules.{IsDue, IsRule, ReportBy, Rule, is_final}
+use Rattle.js_choose.specs.Rules.{IsDue, IsRule, ReportBy, Rule}
 use Rattle.js_choose.specs.Rules.IsDue.{reads_on, reads_again}
 use Rattle.js_choose.proofs.ChosenLemmas.{due_is_step}
 use Rattle.js_choose.proofs.SessionLemmas.{Goes, goes_end, goes_less, goes_on, goes_start, left_from, left_of}
@@ -33,10 +32,10 @@ use Rattle.js_lists.specs.LiveLists.{TakesChosen, taken_of}
 use Rattle.js_lists.specs.LiveRows.{live_rows}
 use Rattle.js_lists.specs.Taken.{Taken, TakesEach}
 use Rattle.js_lists.specs.declared.step.LastRead.{LastRead}
-use Rattle.js_lists.proofs.DriveLemmas.{HoldsLast, StepsTo, drives_seen, kept_if_held, one_value}
-use Rattle.js_lists.proofs.DriveLemmas.{step_again, step_on}
+use Rattle.js_lists.proofs.DriveLemmas.{StepsTo, drives_seen, handed_row, held_row, step_again, step_on}
+use Rattle.js_lists.proofs.ReaderSteps.{HoldsLast}
 use Rattle.js_lists.proofs.LiveLemmas.{live_tokens}
-use Rattle.js_lists.proofs.LiveSoFar.{LiveSoFar, live_again, live_end, live_first, live_on}
+use Rattle.js_lists.proofs.LiveSoFar.{LiveSoFar, live_again, live_end, live_first, live_on, unmarked}
 use Rattle.js_lists.proofs.RowLemmas.{holds_value, row_made, row_read}
 use Rattle.js_lists.proofs.TakenLemmas.{backward_more, taken_backward, takes_more, tokens_of_taken}
 
@@ -58,7 +57,7 @@ pub record Reading {S : Type 0} (takes : S → Taken → S → Type 0) (rule : R
   pub rows_are : session.rows ≡ first ∷ rows
   pub row : Row
   pub before : List Row
-  pub live : LiveSoFar first commands rows (row ∷ before)
+  pub live : LiveSoFar first commands rows (unmarked (row ∷ before))
   pub holds : HoldsLast l.decoded row last
   pub taken : TakesEach takes start (taken_backward before) now
 
@@ -128,21 +127,19 @@ due_onward text tokens command goal (reads_on other effect onward later may) is 
 due_onward text tokens command goal (reads_again other effect final last is_last fit) is =
     absurd (let no : ReLexes other ≡ Reads goal = sym effect ∙ is in cc)
 
--- a goal that reads again is one behind which none does, and the last token fits it
+-- the last token fits a goal that reads it again
 pub due_again : (text : List ℕ) (tokens : List TokenParts) (command : Command) (goal : Goal) (l : LexerState)
     → IsDue text tokens command → effect_of command ≡ ReLexes goal → IsUtf8 text → l.text ≡ text
     → l.last ≡ last_or None tokens
     → ((last : TokenParts) → last_or None tokens ≡ Some last → IsOnPlaces text last)
-    → (is_final goal ≡ true) × (fits l.text goal (token_or_default l.last) ≡ true)
+    → fits l.text goal (token_or_default l.last) ≡ true
 due_again text tokens command goal l (reads_on other effect onward later may) is u texts lasts lie =
     absurd (let no : Reads other ≡ ReLexes goal = sym effect ∙ is in cc)
 due_again text tokens command goal l (reads_again other effect final last is_last fit) is u texts lasts lie =
-    let same : other ≡ goal = same_again other goal (effect_of command) effect is in (
-      subst (λ g. is_final g ≡ true) same final,
-      ap (λ x. fits x goal (token_or_default l.last)) texts
-          ∙ ap (λ o. fits text goal (token_or_default o)) (lasts ∙ is_last)
-          ∙ ap (λ g. fits text g last) (sym same) ∙ fit u (lie last is_last),
-    )
+    let same : other ≡ goal = same_again other goal (effect_of command) effect is in
+    ap (λ x. fits x goal (token_or_default l.last)) texts
+    ∙ ap (λ o. fits text goal (token_or_default o)) (lasts ∙ is_last) ∙ ap (λ g. fits text g last) (sym same)
+    ∙ fit u (lie last is_last)
 
 -- the last live token lies on places
 last_lies : (rule : Rule) (text : List ℕ) (t : SourceType) (commands : List Command) (s : SessionState)
@@ -157,7 +154,7 @@ pub reading_due_again : {S : Type 0} (takes : S → Taken → S → Type 0) (rul
     (text : List ℕ) (t : SourceType) (start now : S) (l : LexerState) (last : LastRead) (command : Command)
     (goal : Goal) → IsRule rule → IsUtf8 text → (h : Reading takes rule told text t start now l last)
     → rule text h.session.state.now.tokens ≡ Some command → effect_of command ≡ ReLexes goal
-    → (is_final goal ≡ true) × (fits l.text goal (token_or_default l.last) ≡ true)
+    → fits l.text goal (token_or_default l.last) ≡ true
 reading_due_again takes rule told text t start now l last command goal law u h chosen effect =
     due_again text h.session.state.now.tokens command goal l (law text h.session.state.now.tokens command chosen) effect
     u (h.drives.text ∙ h.goes.text_is) h.drives.last (last_lies rule text t h.commands h.session h.goes)
@@ -168,19 +165,6 @@ pub reading_behind : {S : Type 0} (takes : S → Taken → S → Type 0) (rule :
     → Reading takes rule told text t start now l last → l.place ≡ (token_or_default l.last).end
 reading_behind takes rule told text t start now l last h =
     h.drives.place ∙ sym (ap (λ o. (token_or_default o).end) h.drives.last)
-
--- what was handed over is the token of the last live row
-handed_row : {S : Type 0} (takes : S → Taken → S → Type 0) (now new : S) (l : LexerState) (row : Row) (last : LastRead)
-    → HoldsLast l.decoded row last → HandsOver takes l.decoded last now new → takes now (taken_of row) new
-handed_row takes now new l row last h o =
-    let value : o.value ≡ row.value = one_value l.decoded last.token o.value row.value o.holds h.value in
-    let same : record { token = last.token; value = o.value; regex = last.regex } ≡ taken_of row =
-    same_taken (record { token = last.token; value = o.value; regex = last.regex }) (taken_of row) (sym h.token) value
-    (sym h.regex) in
-    subst (λ x. takes now x new) same o.taken
-  where
-    same_taken : (a b : Taken) → a.token ≡ b.token → a.value ≡ b.value → a.regex ≡ b.regex → a ≡ b
-    same_taken a b e1 e2 e3 = rw (e1, e2, e3) refl
 
 rows_more : (old new : SessionState) (command : Command) (first : Row) (rows : List Row) → (a : AddsRow command old new)
     → old.rows ≡ first ∷ rows → new.rows ≡ first ∷ (rows ++ a.row ∷ [])
@@ -217,7 +201,7 @@ reading_on takes rule told new_told text t start now new l k last next command g
       taken =
           subst (λ xs. TakesEach takes start xs new) (backward_more h.row h.before)
           (takes_more takes (taken_backward h.before) (taken_of h.row) start now new h.taken
-          (handed_row takes now new l h.row last h.holds o));
+          (handed_row takes l.decoded now new h.row last h.holds o));
     }
 
 -- A step that reads the last token again.
@@ -232,7 +216,7 @@ pub reading_again : {S : Type 0} (takes : S → Taken → S → Type 0) (rule : 
 reading_again takes rule told new_told text t start now l k last next command goal law u h chosen effect r tell =
     let s = h.session in
     let due = law text s.state.now.tokens command chosen in
-    let fit = (reading_due_again takes rule told text t start now l last command goal law u h chosen effect).1 in
+    let fit = reading_due_again takes rule told text t start now l last command goal law u h chosen effect in
     let to = step_again goal command l k next effect fit r s h.drives in
     let step = due_is_step text s.state.now.tokens command due in
     record {
@@ -261,7 +245,7 @@ reading_ends takes rule told text t start now new l last law u short h stops o =
     let s = h.session in
     let report_is = goes_end rule law text t false h.commands s u short h.goes stops in
     let rows : live_rows h.commands s.rows ≡ reverse (h.row ∷ h.before) =
-    ap (live_rows h.commands) h.rows_are ∙ live_end h.first h.commands h.rows (h.row ∷ h.before) h.live in
+    ap (live_rows h.commands) h.rows_are ∙ live_end h.first h.commands h.rows (unmarked (h.row ∷ h.before)) h.live in
     record {
       commands = h.commands;
       report = report_of s;
@@ -270,7 +254,7 @@ reading_ends takes rule told text t start now new l last law u short h stops o =
           subst (λ xs. TakesEach takes start xs new)
           (backward_more h.row h.before ∙ sym (ap (map taken_of) rows))
           (takes_more takes (taken_backward h.before) (taken_of h.row) start now new h.taken
-          (handed_row takes now new l h.row last h.holds o));
+          (handed_row takes l.decoded now new h.row last h.holds o));
       tokens_are =
           tokens_of_taken (live_rows h.commands s.rows)
           ∙ live_tokens text t false h.commands (report_of s) report_is.report_is;
@@ -312,17 +296,13 @@ reading_may takes rule told text t start now l last command law u h chosen =
     by_due (reads_again goal effect final other is_last fit) =
         let fits_it = reading_due_again takes rule told text t start now l last command goal law u h chosen effect in
         subst (λ e. MayFollow e l) (sym effect)
-        (final, reading_behind takes rule told text t start now l last h, fits_it.1)
+        (reading_behind takes rule told text t start now l last h, fits_it)
 
 -- the token that is held back may be handed over
 pub reading_held : {S : Type 0} (takes : S → Taken → S → Type 0) (rule : Rule) (told : List TokenParts → Type 0)
     (text : List ℕ) (t : SourceType) (start now : S) (l : LexerState) (last : LastRead)
     → Reading takes rule told text t start now l last → IsHeld l.decoded last
-reading_held takes rule told text t start now l last h = record {
-  ordered = h.holds.ordered;
-  kept = λ e. kept_if_held (is_template_kind last.token.kind) l.decoded last.token.start h.row.value
-      (h.holds.value.escaped e);
-}
+reading_held takes rule told text t start now l last h = held_row l.decoded h.row last h.holds
 
 -- a command that was chosen was followed
 pub reading_follows : {S G : Type 0} (takes : S → Taken → S → Type 0) (is_told : G → List TokenParts → Type 0)
@@ -372,7 +352,7 @@ reading_falls takes is_told rule text t start now new l k c d last next command 
         reading_due_again takes rule (is_told c) text t start now l last command goal law u h chosen effect in
         reading_less takes rule (is_told c) text t start now l k last next command
         (with_last h.session.state.now.tokens next.token) law u h chosen
-        (step_again goal command l k next effect fits_it.1 f.reads h.session h.drives)
+        (step_again goal command l k next effect fits_it f.reads h.session h.drives)
 
 -- The tokens were taken, and then what was found.
 pub takes_chosen : {S : Type 0} (takes : S → Taken → S → Type 0) (ends : S → Findings → S → Type 0) (rule : Rule)

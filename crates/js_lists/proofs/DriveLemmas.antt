@@ -1,8 +1,8 @@
 -- A lexer that is driven makes the steps of a session.
-use Rattle.std.proofs.Common.{◌≡◌, ◌≤◌, ℕ, Bool, true, false, List, [], ◌∷◌}
+use Rattle.std.proofs.Common.{◌≡◌, ℕ, Bool, true, false, List, [], ◌∷◌}
 use Rattle.std.proofs.Common.{◌++◌, refl, sym, ◌∙◌, ap, subst, Option, Some, None}
 use Rattle.std.specs.List.{AllByRecursion}
-use Rattle.std.specs.Prelude.{MatchBool, is_some}
+use Rattle.std.specs.Prelude.{is_some}
 use Rattle.std.specs.Str.{IsUtf8}
 use Rattle.js_text.specs.Lists.{with_last}
 use Rattle.js_text.specs.declared.value.RowValue.{RowValue}
@@ -10,7 +10,6 @@ use Rattle.js_kind.specs.Kinds.{is_template_kind}
 use Rattle.js_kind.specs.TokenParts.{TokenParts}
 use Rattle.js_grammar.specs.Reads.{is_onward}
 use Rattle.js_grammar.specs.ReLexed.{fits}
-use Rattle.js_grammar.specs.TokenText.{text_end, text_start}
 use Rattle.js_grammar.specs.declared.goal.Goal.{Goal}
 use Rattle.js_grammar.specs.declared.goal.Goal.TheVariants.{Next as NextGoal}
 use Rattle.js_reader.specs.Decoded.{Values, value_of}
@@ -20,8 +19,7 @@ use Rattle.js_session.specs.declared.command.Effect.TheVariants.{Reads, ReLexes}
 use Rattle.js_session.specs.Live.{State}
 use Rattle.js_session.specs.Marks.{IsInOrder, live_now, state_of}
 use Rattle.js_session.specs.Report.{LiesOnPlaces, all_collected}
-use Rattle.js_session.specs.RowReader.{AddsAgain, AddsLive, AddsNotTaken, HoldsKept, HoldsPart}
-use Rattle.js_session.specs.RowReader.{HoldsUnits, HoldsValue, IsKept, RowReaderState}
+use Rattle.js_session.specs.RowReader.{HoldsKept, HoldsPart, HoldsUnits, HoldsValue, IsKept, RowReaderState}
 use Rattle.js_session.specs.Session.{AddsRow, SessionState}
 use Rattle.js_session.specs.declared.command.Command.{Command}
 use Rattle.js_session.specs.declared.command.Command.TheVariants.{Next, JsxChild, JsxAttr, Regex, TemplateTail}
@@ -29,10 +27,12 @@ use Rattle.js_session.specs.declared.command.Command.TheVariants.{JsxName, RAngl
 use Rattle.js_session.specs.declared.command.Command.TheVariants.{Mark, Rewind, Commit}
 use Rattle.js_session.specs.declared.row.Row.{Row}
 use Rattle.js_session.proofs.LiveLemmas.{same_live}
-use Rattle.js_session.proofs.StepLemmas.{in_order_lies, on_adds_row, order_added, order_re_lexed, re_lex_adds_row, seen}
-use Rattle.js_lists.specs.Drive.{Drives, ReadsAgainAs}
+use Rattle.js_session.proofs.StepLemmas.{in_order_lies, seen}
+use Rattle.js_lists.specs.Drive.{Drives, HandsOver, IsHeld, ReadsAgainAs}
+use Rattle.js_lists.specs.LiveLists.{taken_of}
+use Rattle.js_lists.specs.Taken.{Taken}
 use Rattle.js_lists.specs.declared.step.LastRead.{LastRead}
-use Rattle.js_lists.proofs.RowLemmas.{holds_value, row_made, row_read, row_read_again}
+use Rattle.js_lists.proofs.ReaderSteps.{HoldsLast, StepsLive, reader_with, reads_again, reads_on, row_added}
 
 pub same_state : (a b : State) → a.now ≡ b.now → a.marks ≡ b.marks → a ≡ b
 same_state a b e1 e2 = rw (e1, e2) refl
@@ -40,13 +40,6 @@ same_state a b e1 e2 = rw (e1, e2) refl
 pub same_session : (a b : SessionState) → a.text ≡ b.text → a.source_type ≡ b.source_type → a.collects ≡ b.collects
     → a.rows ≡ b.rows → a.state ≡ b.state → a.spare ≡ b.spare → a ≡ b
 same_session a b e1 e2 e3 e4 e5 e6 = rw (e1, e2, e3, e4, e5, e6) refl
-
--- what is held back of the row of the last live token
-pub record HoldsLast (decoded : Values) (row : Row) (last : LastRead) : Type 0 where
-  pub token : row.token ≡ last.token
-  pub regex : row.regex ≡ last.regex
-  pub value : HoldsValue decoded last.token row.value
-  pub ordered : text_start last.token.kind last.token.start ≤ text_end last.token.kind last.token.end
 
 -- The session has one row more, whose token is the last one that was read, and these are the live tokens now.
 pub record StepsTo (command : Command) (s : SessionState) (new : LexerState) (last : LastRead)
@@ -102,19 +95,23 @@ drives_seen r spare u in_order = record {
   places = in_order_lies r [] [] spare in_order;
 }
 
-last_same : (rows : List Row) (a b : Row) → rows ++ a ∷ [] ≡ rows ++ b ∷ [] → a ≡ b
-last_same [] a b e = cc
-last_same (row ∷ rows) a b e = let rest : rows ++ a ∷ [] ≡ rows ++ b ∷ [] = cc in last_same rows a b rest
-
--- the row that a step added
-row_added : (command : Command) (s new : SessionState) (row : Row) → (a : AddsRow command s new)
-    → new.rows ≡ s.rows ++ row ∷ [] → row ≡ a.row
-row_added command s new row a rows =
-    last_same s.rows row a.row (sym rows ∙ ap (λ (x : SessionState). x.rows) a.after)
-
-holds_row : (decoded : Values) (row other : Row) (last : LastRead) → row ≡ other → HoldsLast decoded row last
-    → HoldsLast decoded other last
-holds_row decoded row other last same h = subst (λ r. HoldsLast decoded r last) same h
+-- the row of a step, by what a session tells of it
+steps_to : (command : Command) (s : SessionState) (old new : LexerState) (last : LastRead) (tokens : List TokenParts)
+    → Drives s old → IsUtf8 new.text → StepsLive command (reader_of s old) [] s.spare new last tokens
+    → StepsTo command s new last tokens
+steps_to command s old new last tokens h u live =
+    let after = reader_with (reader_of s old) new live.row tokens in
+    let adds : AddsRow command s (seen after [] s.spare) =
+    subst (λ x. AddsRow command x (seen after [] s.spare)) (seen_is s old h) live.steps.adds in
+    let same : live.row ≡ adds.row = row_added command s (seen after [] s.spare) live.row adds refl in
+    record {
+      session = seen after [] s.spare;
+      adds = adds;
+      drives = drives_seen after s.spare u live.steps.in_order;
+      tokens_are = refl;
+      taken = subst (λ (x : Row). x.taken ≡ true) same live.taken;
+      holds = subst (λ r. HoldsLast new.decoded r last) same live.holds;
+    }
 
 -- A token that was read on.
 pub step_on : (goal : Goal) (command : Command) (old new : LexerState) (last : LastRead)
@@ -122,34 +119,8 @@ pub step_on : (goal : Goal) (command : Command) (old new : LexerState) (last : L
     → (s : SessionState) → Drives s old → StepsTo command s new last (s.state.now.tokens ++ last.token ∷ [])
 step_on goal command old new last effect onward r none s h =
     let u : IsUtf8 old.text = subst IsUtf8 (sym h.text) h.utf8 in
-    let token = last.token in
-    let before = reader_of s old in
-    let row = row_made (Some command) old token None r.outcome.value new in
-    let after : RowReaderState =
-    record { lexer = new; rows = s.rows ++ row ∷ []; tokens = s.state.now.tokens ++ token ∷ [] } in
-    let adds : AddsLive goal (Some command) before after =
-    record { row = row; reads = row_read goal (Some command) old new token onward u r; rows = refl; tokens = refl } in
-    let in_order = reader_in_order s old h in
-    let steps : AddsRow command s (seen after [] s.spare) =
-    subst (λ x. AddsRow command x (seen after [] s.spare)) (seen_is s old h)
-    (on_adds_row goal command before after [] s.spare effect in_order adds) in
-    let same : row ≡ steps.row = row_added command s (seen after [] s.spare) row steps refl in
-    record {
-      session = seen after [] s.spare;
-      adds = steps;
-      drives =
-          drives_seen after s.spare (subst IsUtf8 (sym r.after.text) u)
-          (order_added goal (Some command) before after [] in_order adds);
-      tokens_are = refl;
-      taken = ap (λ (x : Row). x.taken) (sym same);
-      holds =
-          holds_row new.decoded row steps.row last same (record {
-            token = refl;
-            regex = sym none;
-            value = holds_value goal old new.decoded token r.outcome u r.reads r.token_is r.has_value;
-            ordered = rw r.token_is r.reads.text_lies.ordered;
-          });
-    }
+    steps_to command s old new last (s.state.now.tokens ++ last.token ∷ []) h (subst IsUtf8 (sym r.after.text) u)
+    (reads_on goal command (reader_of s old) [] s.spare new last effect onward u r none (reader_in_order s old h))
 
 -- A token that was read again, where the last one fits.
 pub step_again : (goal : Goal) (command : Command) (old new : LexerState) (last : LastRead)
@@ -157,45 +128,10 @@ pub step_again : (goal : Goal) (command : Command) (old new : LexerState) (last 
     → ReadsAgainAs goal old last new → (s : SessionState) → Drives s old
     → StepsTo command s new last (with_last s.state.now.tokens last.token)
 step_again goal command old new last effect fit again s h =
-    let r = again.reads in
     let u : IsUtf8 old.text = subst IsUtf8 (sym h.text) h.utf8 in
-    let token = last.token in
-    let before = reader_of s old in
-    let row = row_made (Some command) old token last.regex r.outcome.value new in
-    let after : RowReaderState =
-    record { lexer = new; rows = s.rows ++ row ∷ []; tokens = with_last s.state.now.tokens token } in
-    let taken : AddsAgain goal (Some command) before after =
-    record {
-      row = row;
-      reads = row_read_again goal (Some command) old new token last.regex u r again.regex;
-      rows = refl;
-      tokens = refl;
-    } in
-    let adds : MatchBool (fits old.text goal (token_or_default old.last)) (AddsAgain goal (Some command) before after)
-    (AddsNotTaken (Some command) before after) =
-    subst (λ b. MatchBool b (AddsAgain goal (Some command) before after) (AddsNotTaken (Some command) before after))
-    (sym fit) taken in
-    let in_order = reader_in_order s old h in
-    let steps : AddsRow command s (seen after [] s.spare) =
-    subst (λ x. AddsRow command x (seen after [] s.spare)) (seen_is s old h)
-    (re_lex_adds_row goal command before after [] s.spare effect in_order adds) in
-    let same : row ≡ steps.row = row_added command s (seen after [] s.spare) row steps refl in
-    record {
-      session = seen after [] s.spare;
-      adds = steps;
-      drives =
-          drives_seen after s.spare (subst IsUtf8 (sym r.after.text) u)
-          (order_re_lexed goal (Some command) before after [] in_order adds);
-      tokens_are = refl;
-      taken = ap (λ (x : Row). x.taken) (sym same);
-      holds =
-          holds_row new.decoded row steps.row last same (record {
-            token = refl;
-            regex = refl;
-            value = holds_value goal old new.decoded token r.outcome u r.reads r.token_is r.has_value;
-            ordered = rw r.token_is r.reads.text_lies.ordered;
-          });
-    }
+    steps_to command s old new last (with_last s.state.now.tokens last.token) h
+    (subst IsUtf8 (sym again.reads.after.text) u)
+    (reads_again goal command (reader_of s old) [] s.spare new last effect fit u again (reader_in_order s old h))
 
 -- a value that is held is kept
 kept_units : (found : Option (List ℕ)) (value : RowValue) → HoldsUnits found value → is_some found ≡ true
@@ -206,7 +142,7 @@ kept_part : (found : Option (Option (List ℕ))) (value : RowValue) → HoldsPar
 kept_part None value h = absurd h
 kept_part (Some units) value h = refl
 
-pub kept_if_held : (template : Bool) (decoded : Values) (start : ℕ) (value : RowValue)
+kept_if_held : (template : Bool) (decoded : Values) (start : ℕ) (value : RowValue)
     → HoldsKept template decoded start value → IsKept template decoded start
 kept_if_held true decoded start value h = kept_part (value_of decoded.templates start) value h
 kept_if_held false decoded start value h = kept_units (value_of decoded.strings start) value h
@@ -225,13 +161,34 @@ one_kept : (template : Bool) (decoded : Values) (start : ℕ) (a b : RowValue) �
 one_kept true decoded start a b h g = one_part (value_of decoded.templates start) a b h g
 one_kept false decoded start a b h g = one_units (value_of decoded.strings start) a b h g
 
-pub one_value : (decoded : Values) (token : TokenParts) (a b : RowValue) → HoldsValue decoded token a
+one_value : (decoded : Values) (token : TokenParts) (a b : RowValue) → HoldsValue decoded token a
     → HoldsValue decoded token b → a ≡ b
 one_value decoded token a b h g = by_flag token.escaped refl
   where
     by_flag : (escaped : Bool) → token.escaped ≡ escaped → a ≡ b
     by_flag true e = one_kept (is_template_kind token.kind) decoded token.start a b (h.escaped e) (g.escaped e)
     by_flag false e = h.unescaped e ∙ sym (g.unescaped e)
+
+-- what was handed over is the token of its row
+pub handed_row : {S : Type 0} (takes : S → Taken → S → Type 0) (decoded : Values) (now new : S) (row : Row)
+    (last : LastRead) → HoldsLast decoded row last → HandsOver takes decoded last now new
+    → takes now (taken_of row) new
+handed_row takes decoded now new row last h o =
+    let value : o.value ≡ row.value = one_value decoded last.token o.value row.value o.holds h.value in
+    let same : record { token = last.token; value = o.value; regex = last.regex } ≡ taken_of row =
+    same_taken (record { token = last.token; value = o.value; regex = last.regex }) (taken_of row) (sym h.token) value
+    (sym h.regex) in
+    subst (λ x. takes now x new) same o.taken
+  where
+    same_taken : (a b : Taken) → a.token ≡ b.token → a.value ≡ b.value → a.regex ≡ b.regex → a ≡ b
+    same_taken a b e1 e2 e3 = rw (e1, e2, e3) refl
+
+-- and it may be handed over
+pub held_row : (decoded : Values) (row : Row) (last : LastRead) → HoldsLast decoded row last → IsHeld decoded last
+held_row decoded row last h = record {
+  ordered = h.ordered;
+  kept = λ e. kept_if_held (is_template_kind last.token.kind) decoded last.token.start row.value (h.value.escaped e);
+}
 
 -- the plain goal is that of one command
 pub plain_is_next : (command : Command) → effect_of command ≡ Reads NextGoal → command ≡ Next

@@ -98,7 +98,7 @@ pub rows_step : (rows : RowState) (c : Command) (cs : List Command) (row : Row) 
     → rows_behind rows (c ∷ cs) (row ∷ more) ≡ rows_behind (with_row (effect_of c) row rows) cs more
 rows_step rows c cs row more e = rw e refl
 
-rows_mark : (rows : RowState) (c : Command) (cs : List Command) (more : List Row) → is_step c ≡ false
+pub rows_mark : (rows : RowState) (c : Command) (cs : List Command) (more : List Row) → is_step c ≡ false
     → rows_behind rows (c ∷ cs) more ≡ rows_behind (with_mark (effect_of c) rows) cs more
 rows_mark rows c cs [] e = refl
 rows_mark rows c cs (row ∷ more) e = rw e refl

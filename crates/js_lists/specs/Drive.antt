@@ -1,5 +1,5 @@
 -- A lexer that is driven by the goals that are chosen stands for a session, though no rows are made.
-use Rattle.std.specs.Prelude.{◌≡◌, ◌≤◌, ℕ, true, false, List, [], ◌∷◌, ◌++◌, map, None}
+use Rattle.std.specs.Prelude.{◌≡◌, ◌≤◌, ℕ, true, false, List, [], ◌∷◌, ◌++◌, map, Option, None, Some}
 use Rattle.std.specs.Str.{IsUtf8}
 use Rattle.js_text.specs.Lists.{with_last}
 use Rattle.js_text.specs.declared.source_type.SourceType.{SourceType}
@@ -22,7 +22,7 @@ use Rattle.js_session.specs.declared.command.Command.{Command}
 use Rattle.js_session.specs.declared.command.Effect.{Effect}
 use Rattle.js_session.specs.declared.command.Effect.TheVariants.{Reads, Peeks, ReLexes, Opens, Rewinds, Commits}
 use Rattle.js_session.specs.declared.report.Report.{Report}
-use Rattle.js_choose.specs.Rules.{ReportBy, Rule, is_final}
+use Rattle.js_choose.specs.Rules.{ReportBy, Rule}
 use Rattle.js_lists.specs.LiveLists.{live_found, live_taken}
 use Rattle.js_lists.specs.Taken.{Taken, TakesEach}
 use Rattle.js_lists.specs.declared.step.LastRead.{LastRead}
@@ -45,6 +45,12 @@ pub record ReadsAgainAs (goal : Goal) (old : LexerState) (last : LastRead) (new 
   pub reads : LexesAgain goal old last.token new
   pub regex : reads.outcome.regex ≡ last.regex
 
+-- The last token was read again for the goal where it fits; else nothing has changed.
+abbrev pub ReadsIfFits : Goal → LexerState → Option LastRead → LexerState → Type 0
+ReadsIfFits goal old None new = (fits old.text goal (token_or_default old.last) ≡ false) × (new ≡ old)
+ReadsIfFits goal old (Some last) new =
+    (fits old.text goal (token_or_default old.last) ≡ true) × ReadsAgainAs goal old last new
+
 -- The token was taken, with the value that it has and with what is known of it as a regular expression.
 pub record HandsOver {S : Type 0} (takes : S → Taken → S → Type 0) (decoded : Values) (last : LastRead) (old new : S)
     : Type 0 where
@@ -62,8 +68,7 @@ abbrev pub MayFollow : Effect → LexerState → Type 0
 MayFollow (Reads goal) l = (is_onward goal ≡ true) × (¬ (goal ≡ First))
 MayFollow (Peeks goal) l = ⊥
 MayFollow (ReLexes goal) l =
-    (is_final goal ≡ true) × (l.place ≡ (token_or_default l.last).end)
-    × (fits l.text goal (token_or_default l.last) ≡ true)
+    (l.place ≡ (token_or_default l.last).end) × (fits l.text goal (token_or_default l.last) ≡ true)
 MayFollow Opens l = ⊥
 MayFollow Rewinds l = ⊥
 MayFollow Commits l = ⊥

@@ -1,6 +1,6 @@
-pub mod Chains
 pub mod Drive
 pub mod Lists
 pub mod LiveLists
 pub mod LiveRows
+pub mod Steps
 pub mod Taken

@@ -23,13 +23,6 @@ live_taken commands rows = map taken_of (live_rows commands rows)
 abbrev pub live_found : Report → Findings
 live_found report = (report_live report).findings
 
--- What is live of these rows was taken, and what was found.
-pub record TakesRows {S : Type 0} (takes : S → Taken → S → Type 0) (ends : S → Findings → S → Type 0)
-    (commands : List Command) (rows : List Row) (found : Findings) (old new : S) : Type 0 where
-  pub behind : S
-  pub takes_each : TakesEach takes old (live_taken commands rows) behind
-  pub after : ends behind found new
-
 -- What is live of the report of these commands was taken: the token of each live row, once, in order, with the value
 -- and the regular expression of that row; and then what was found. These are the live tokens of the report.
 pub record TakesReport {S : Type 0} (takes : S → Taken → S → Type 0) (ends : S → Findings → S → Type 0)

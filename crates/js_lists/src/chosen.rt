@@ -13,31 +13,17 @@ ghost use Rattle.js_lists.specs.LiveLists.{TakesChosen};
 ghost use Rattle.js_lists.specs.Taken.{BreaksOff, plain_taken};
 ghost use Rattle.js_lists.specs.Drive.{Follows, HandsOver, IsHeld, MayFollow, TakesTokens};
 
+use crate::hand::{hand_over, take_findings};
 use crate::step::{LastRead, read_again, read_next, read_on};
 use crate::take::{TakeTokens, TokenValue};
-use crate::value::{unescaped_value, value_of};
+use crate::value::unescaped_value;
 use js_choose::{ChoiceFault, ChooseGoals};
 use js_grammar::Goal;
 use js_kind::{LexerConfig, NoTokensLexerConfig, Token};
-use js_lexer::{Findings, Lexer};
+use js_lexer::Lexer;
 use js_session::{Command, Effect, LexFault, utf8_text};
-use js_text::{CommentList, SourceType, SpanList};
+use js_text::SourceType;
 use std::alloc::{AllocError, Global};
-
-/// Hands a token over that is settled, with its value.
-#[inline(never)]
-fn hand_over<C: LexerConfig + Drop, T: TakeTokens>(
-    lexer: &Lexer<'_, C>,
-    taker: &mut T,
-    last: &LastRead,
-) -> Result<(), AllocError>
-    requires { IsHeld lexer.now.decoded last.now }
-    ensures ok { OnOk result (HandsOver T.takes lexer.now.decoded last.now taker.old taker.new) }
-    ensures err { OnErr result (T.breaks_off taker.old taker.new) }
-{
-    let value = value_of(lexer, &last.token);
-    taker.take(&last.token, value, last.regex)
-}
 
 /// Hands a token over that has no escape and is no regular expression. Each way is compiled apart, with what a taker does
 /// then.
@@ -74,22 +60,6 @@ fn hand_over_settled<C: LexerConfig + Drop, T: TakeTokens>(
         None => hand_over_plain(taker, &last.token),
         Some(_) => hand_over(lexer, taker, last),
     }
-}
-
-/// What the lexer has found, which leaves it.
-fn take_findings<C: LexerConfig + Drop>(
-    alloc: Global,
-    lexer: &mut Lexer<'_, C>,
-) -> Result<Findings, AllocError>
-    ensures { IfOk result (λ found. found ≡ lexer.old.findings) }
-{
-    Ok(Findings {
-        diagnostics: lexer.take_errors(),
-        deferred: lexer.take_deferred_module_errors(),
-        comments: CommentList::from_vec(alloc, lexer.take_comments())?,
-        irregular: SpanList::from_vec(alloc, lexer.take_irregular_whitespaces())?,
-        warnings: lexer.take_warnings(),
-    })
 }
 
 /// Follows a command that is chosen, and is not `Command::Next`: one that reads on settles the last token, which is handed

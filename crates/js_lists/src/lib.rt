@@ -1,10 +1,13 @@
-//! What is live of a source, each token once, in order. Where goals are chosen, tokens are handed over as they are read,
-//! at the lexer's own speed, and no rows are made of them; of a list of commands, out of the report of a session.
+//! What is live of a source, each token once, in order: where its goals are chosen, and of a list of commands, which may
+//! strike some out again. Tokens are handed over as they are read, at the lexer's own speed, and no rows are made of them.
 #![tactic(auto)]
 
-mod chain;
 mod chosen;
+mod follow;
+mod hand;
 mod lists;
+mod marks;
+mod pending;
 mod step;
 mod steps;
 mod take;

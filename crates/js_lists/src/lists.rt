@@ -12,7 +12,7 @@ ghost use Rattle.js_lists.specs.Lists.{AddsRegex, AddsValue, HasTaken, IsTold, L
 ghost use Rattle.js_lists.specs.Taken.{Taken, value_handed};
 
 use crate::chosen::read_chosen;
-use crate::steps::{read_steps, value_of as handed};
+use crate::steps::read_steps;
 use crate::take::{TakeTokens, TokenValue};
 use js_choose::{ChoiceFault, ChooseGoals};
 use js_kind::{Token, TokenList};
@@ -78,6 +78,18 @@ fn is_told(token: &Token, value: &TokenValue<'_>) -> bool
         TokenValue::Nothing => !is_valued(token.kind()),
         TokenValue::Slice(span) => is_text(token, *span),
         TokenValue::Units(_) | TokenValue::Bad => false,
+    }
+}
+
+/// A value that is kept, as it is handed over.
+fn handed(value: &RowValue) -> TokenValue<'_>
+    ensures { value_handed result ≡ value.now }
+{
+    match value {
+        RowValue::Nothing => TokenValue::Nothing,
+        RowValue::Slice(span) => TokenValue::Slice(*span),
+        RowValue::Units(text) => TokenValue::Units(text),
+        RowValue::Bad => TokenValue::Bad,
     }
 }
 

@@ -1,97 +1,80 @@
 //! Sources that are read by a list of commands.
 
-ghost use Rattle.std.specs.Prelude.{◌≡◌, ◌⊎◌, List, map, slice_get, Some, Err, OnOk, OnErr, IfErr, IsOk};
+ghost use Rattle.std.specs.Prelude.{◌≡◌, ◌<◌, ◌^◌, ◌⊎◌, false, length, Err, IfOk, OnOk, OnErr, IfErr, IsOk};
+ghost use Rattle.std.specs.Str.{IsUtf8};
+ghost use Rattle.js_lexer.specs.Lexer.{fresh};
 ghost use Rattle.js_session.specs.Faults.{Cause, HasMarks, IsReadable};
 ghost use Rattle.js_session.specs.declared.fault.LexFault.{LexFault};
-ghost use Rattle.js_session.specs.declared.row.Row.{Row};
-ghost use Rattle.js_lists.specs.LiveLists.{TakesCommands, TakesRows, live_found, taken_of};
-ghost use Rattle.js_lists.specs.Taken.{BreaksOff, TakesEach, value_handed};
+ghost use Rattle.js_lists.specs.LiveLists.{TakesCommands};
+ghost use Rattle.js_lists.specs.Steps.{TakesSteps};
+ghost use Rattle.js_lists.specs.Taken.{BreaksOff};
 
-use crate::chain::live_numbers;
-use crate::take::{TakeTokens, TokenValue};
-use js_lexer::Findings;
-use js_session::{Command, LexFault, Report, Row, RowValue, lex_session};
+use crate::follow::follow;
+use crate::hand::take_findings;
+use crate::marks::first_without_mark;
+use crate::pending::Pending;
+use crate::take::TakeTokens;
+use js_kind::{LexerConfig, NoTokensLexerConfig};
+use js_lexer::Lexer;
+use js_session::{Command, LexFault, utf8_text};
 use js_text::SourceType;
 use std::alloc::{AllocError, Global};
 
-/// The value of a row, as it is handed over.
-pub(crate) fn value_of(value: &RowValue) -> TokenValue<'_>
-    ensures { value_handed result ≡ value.now }
-{
-    match value {
-        RowValue::Nothing => TokenValue::Nothing,
-        RowValue::Slice(span) => TokenValue::Slice(*span),
-        RowValue::Units(text) => TokenValue::Units(text),
-        RowValue::Bad => TokenValue::Bad,
-    }
-}
-
-/// Hands over the token of the row with this number.
-fn hand_row<T: TakeTokens>(taker: &mut T, rows: &[Row], number: usize) -> Result<(), AllocError>
-    ensures ok { OnOk result ((row : Row) → slice_get rows.now number ≡ Some row
-        → T.takes taker.old (taken_of row) taker.new) }
-    ensures err { OnErr result (T.breaks_off taker.old taker.new) }
-{
-    match rows.get(number) {
-        Some(row) => taker.take(&row.token, value_of(&row.value), row.regex),
-        None => Ok(()),
-    }
-}
-
-/// Hands over the tokens of the rows with these numbers, which are numbers of rows.
-fn hand_rows<T: TakeTokens>(
-    taker: &mut T,
-    rows: &[Row],
-    numbers: &[usize],
-) -> Result<(), AllocError>
-    requires { (live : List Row) × (map (slice_get rows.now) numbers.now ≡ map Some live) }
-    ensures ok { OnOk result ((live : List Row) → map (slice_get rows.now) numbers.now ≡ map Some live
-        → TakesEach T.takes taker.old (map taken_of live) taker.new) }
-    ensures err { OnErr result (BreaksOff T.takes T.breaks_off taker.old taker.new) }
-{
-    for number in numbers {
-        hand_row(taker, rows, *number)?;
-    }
-    Ok(())
-}
-
-/// What was found, out of a report.
-fn findings_of(report: Report) -> Findings
-    ensures { result ≡ live_found report }
-{
-    let Report {
-        rows: _,
-        tokens: _,
-        collected: _,
-        diagnostics,
-        deferred,
-        comments,
-        irregular,
-        warnings,
-    } = report;
-    Findings {
-        diagnostics,
-        deferred,
-        comments,
-        irregular,
-        warnings,
-    }
-}
-
-/// Hands over what is live of the report of these commands.
-fn hand_report<T: TakeTokens>(
+/// Follows the commands, and hands over each token that is live behind them, once none of them can strike it out.
+fn follow_each<C: LexerConfig + Drop, T: TakeTokens>(
     alloc: Global,
+    lexer: &mut Lexer<'_, C>,
     commands: &[Command],
-    report: Report,
     taker: &mut T,
 ) -> Result<(), AllocError>
-    ensures ok { OnOk result (TakesRows T.takes T.ends commands.now report.rows (live_found report)
+    requires unread { lexer.old ≡ fresh lexer.old.text lexer.old.source_type false }
+    requires utf8 { IsUtf8 lexer.old.text }
+    requires short { length lexer.old.text < 2 ^ 32 }
+    requires marks { HasMarks commands.now }
+    ensures ok { OnOk result (TakesSteps T.takes commands.now lexer.old.text lexer.old.source_type lexer.new.findings
         taker.old taker.new) }
     ensures err { OnErr result (BreaksOff T.takes T.breaks_off taker.old taker.new) }
 {
-    let numbers = live_numbers(alloc, commands, report.rows.as_slice())?;
-    hand_rows(taker, report.rows.as_slice(), &numbers)?;
-    taker.end(findings_of(report))
+    let token = lexer.first_token()?;
+    let mut pending = Pending::behind(alloc, token);
+    for command in commands {
+        follow(lexer, taker, &mut pending, *command)?;
+    }
+    pending.hand_all(lexer, taker)
+}
+
+/// Reads a text by commands that close no mark too many.
+fn read_text<T: TakeTokens>(
+    alloc: Global,
+    text: &str,
+    source_type: SourceType,
+    commands: &[Command],
+    taker: &mut T,
+) -> Result<(), AllocError>
+    requires short { length text.now < 2 ^ 32 }
+    requires marks { HasMarks commands.now }
+    ensures ok { OnOk result (TakesCommands T.takes T.ends commands.now text.now source_type taker.old taker.new) }
+    ensures err { OnErr result (BreaksOff T.takes T.breaks_off taker.old taker.new) }
+{
+    let mut lexer = match Lexer::new(alloc, text, source_type, NoTokensLexerConfig) {
+        Ok(lexer) => lexer,
+        Err(_) => return Err(AllocError),
+    };
+    follow_each(alloc, &mut lexer, commands, taker)?;
+    let found = take_findings(alloc, &mut lexer)?;
+    taker.end(found)
+}
+
+/// The text of a source, where nothing but a lack of memory can keep it from being read by the commands.
+fn checked_text<'a>(source: &'a [u8], commands: &[Command]) -> Result<&'a str, LexFault>
+    ensures ok { IfOk result (λ text. (text.now ≡ source.now) × IsReadable source.now × HasMarks commands.now) }
+    ensures err { IfErr result (Cause source.now commands.now) }
+{
+    let text = utf8_text(source)?;
+    match first_without_mark(commands) {
+        Some(index) => Err(LexFault::NoMark(index)),
+        None => Ok(text),
+    }
 }
 
 /// Reads a source by a list of commands, and hands what is live behind them to the taker: each token once, in order,
@@ -118,8 +101,11 @@ pub fn read_steps<T: TakeTokens>(
         → (result ≡ Err fault) ⊎ (result ≡ Err LexFault.Memory) }
     ensures complete { IsReadable source.now → HasMarks commands.now → IsOk result ⊎ (result ≡ Err LexFault.Memory) }
 {
-    let report = lex_session(alloc, source, source_type, false, commands)?;
-    match hand_report(alloc, commands, report, taker) {
+    let text = match checked_text(source, commands) {
+        Ok(text) => text,
+        Err(fault) => return Err(fault),
+    };
+    match read_text(alloc, text, source_type, commands, taker) {
         Ok(()) => Ok(()),
         Err(_) => Err(LexFault::Memory),
     }

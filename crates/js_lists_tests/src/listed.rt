@@ -95,6 +95,194 @@ static CASES: [(&str, &[Command], &[Listed]); 6] = [
     ),
 ];
 
+/// The same, with marks.
+static MARKED: [(&str, &[Command], &[Listed]); 7] = [
+    // What a mark within another one strikes out is read again, and stands once.
+    (
+        "a b c d e",
+        &[
+            Command::Mark,
+            Command::Next,
+            Command::Mark,
+            Command::Next,
+            Command::Rewind,
+            Command::Next,
+            Command::Commit,
+            Command::Next,
+        ],
+        &[
+            (Kind::Ident, 0, 1, Value::Slice(0, 1)),
+            (Kind::Ident, 2, 3, Value::Slice(2, 3)),
+            (Kind::Ident, 4, 5, Value::Slice(4, 5)),
+            (Kind::Ident, 6, 7, Value::Slice(6, 7)),
+        ],
+    ),
+    // A mark that is closed within another one keeps nothing from it.
+    (
+        "a b c",
+        &[
+            Command::Mark,
+            Command::Next,
+            Command::Mark,
+            Command::Next,
+            Command::Commit,
+            Command::Rewind,
+            Command::Next,
+        ],
+        &[
+            (Kind::Ident, 0, 1, Value::Slice(0, 1)),
+            (Kind::Ident, 2, 3, Value::Slice(2, 3)),
+        ],
+    ),
+    // A token that is read again behind a mark stays so where the mark is committed.
+    (
+        "a/b/g c",
+        &[
+            Command::Next,
+            Command::Mark,
+            Command::Regex,
+            Command::Next,
+            Command::Commit,
+            Command::Next,
+        ],
+        &[
+            (Kind::Ident, 0, 1, Value::Slice(0, 1)),
+            (Kind::RegExp, 1, 5, Value::None),
+            (Kind::Ident, 6, 7, Value::Slice(6, 7)),
+            (Kind::Eof, 7, 7, Value::None),
+        ],
+    ),
+    // And it stands as before, and may be followed by something else, where it is gone back to.
+    (
+        "a/b/g c",
+        &[
+            Command::Next,
+            Command::Mark,
+            Command::Regex,
+            Command::Next,
+            Command::Rewind,
+            Command::Next,
+        ],
+        &[
+            (Kind::Ident, 0, 1, Value::Slice(0, 1)),
+            (Kind::Slash, 1, 2, Value::None),
+            (Kind::Ident, 2, 3, Value::Slice(2, 3)),
+        ],
+    ),
+    // Values that were decoded in a stretch that is struck out, and in one behind a mark that stays open.
+    (
+        "a '\\x62' '\\x63'",
+        &[
+            Command::Mark,
+            Command::Next,
+            Command::Next,
+            Command::Rewind,
+            Command::Next,
+            Command::Mark,
+            Command::Next,
+        ],
+        &[
+            (Kind::Ident, 0, 1, Value::Slice(0, 1)),
+            (Kind::Str, 2, 8, Value::Units(&[0x62])),
+            (Kind::Str, 9, 15, Value::Units(&[0x63])),
+        ],
+    ),
+    (
+        "`${a}\\n`",
+        &[
+            Command::Next,
+            Command::Next,
+            Command::Mark,
+            Command::TemplateTail,
+            Command::Rewind,
+        ],
+        &[
+            (Kind::TemplateHead, 0, 3, Value::Slice(1, 1)),
+            (Kind::Ident, 3, 4, Value::Slice(3, 4)),
+            (Kind::RCurly, 4, 5, Value::None),
+        ],
+    ),
+    // No peek is live, wherever it stands.
+    (
+        "a b",
+        &[
+            Command::Peek,
+            Command::Mark,
+            Command::Peek,
+            Command::Next,
+            Command::Peek,
+            Command::Rewind,
+            Command::Peek,
+        ],
+        &[(Kind::Ident, 0, 1, Value::Slice(0, 1))],
+    ),
+];
+
+/// The same, where tokens are read again: each command for it, and some that the last token does not fit.
+static READ_AGAIN: [(&str, &[Command], &[Listed]); 3] = [
+    (
+        "<<=a-b>>>=c",
+        &[
+            Command::TsLAngle,
+            Command::Next,
+            Command::TsLAngle,
+            Command::Next,
+            Command::Regex,
+            Command::Next,
+            Command::JsxName,
+            Command::Next,
+            Command::RAngle,
+            Command::TsRAngle,
+            Command::Next,
+            Command::JsxName,
+        ],
+        &[
+            (Kind::LAngle, 0, 1, Value::None),
+            (Kind::LAngle, 1, 2, Value::None),
+            (Kind::Eq, 2, 3, Value::None),
+            (Kind::Ident, 3, 6, Value::Slice(3, 6)),
+            (Kind::ShiftRight3Eq, 6, 10, Value::None),
+            (Kind::Ident, 10, 11, Value::Slice(10, 11)),
+        ],
+    ),
+    (
+        "x>>y",
+        &[
+            Command::Next,
+            Command::RAngle,
+            Command::TsRAngle,
+            Command::Next,
+            Command::Next,
+        ],
+        &[
+            (Kind::Ident, 0, 1, Value::Slice(0, 1)),
+            (Kind::RAngle, 1, 2, Value::None),
+            (Kind::RAngle, 2, 3, Value::None),
+            (Kind::Ident, 3, 4, Value::Slice(3, 4)),
+        ],
+    ),
+    (
+        "<a b='c'>d</a>",
+        &[
+            Command::Next,
+            Command::Next,
+            Command::Next,
+            Command::JsxAttr,
+            Command::Next,
+            Command::JsxChild,
+        ],
+        &[
+            (Kind::LAngle, 0, 1, Value::None),
+            (Kind::Ident, 1, 2, Value::Slice(1, 2)),
+            (Kind::Ident, 3, 4, Value::Slice(3, 4)),
+            (Kind::Eq, 4, 5, Value::None),
+            (Kind::Str, 5, 8, Value::Slice(6, 7)),
+            (Kind::RAngle, 8, 9, Value::None),
+            (Kind::JSXText, 9, 10, Value::None),
+        ],
+    ),
+];
+
 fn is_token(token: &Token, listed: &Listed) -> bool {
     token.kind().is_same(listed.0) && token.start() == listed.1 && token.end() == listed.2
 }
@@ -146,6 +334,24 @@ fn tokens_and_values(rt: HostRuntime) -> Result<(), Fail> {
 }
 
 #[test]
+fn tokens_behind_marks(rt: HostRuntime) -> Result<(), Fail> {
+    for (source, commands, tokens) in &MARKED {
+        let lists = lists_of(rt.alloc(), source, commands).ok_or("no lists")?;
+        assert!(rt; are_listed(&lists, tokens), "{source}");
+    }
+    Ok(())
+}
+
+#[test]
+fn tokens_that_are_read_again(rt: HostRuntime) -> Result<(), Fail> {
+    for (source, commands, tokens) in &READ_AGAIN {
+        let lists = lists_of(rt.alloc(), source, commands).ok_or("no lists")?;
+        assert!(rt; are_listed(&lists, tokens), "{source}");
+    }
+    Ok(())
+}
+
+#[test]
 fn regular_expressions(rt: HostRuntime) -> Result<(), Fail> {
     let lists = lists_of(rt.alloc(), "x=/b/g", &[]).ok_or("no lists")?;
     assert!(rt; lists.tokens.len() == 4);
@@ -161,6 +367,24 @@ fn findings(rt: HostRuntime) -> Result<(), Fail> {
     assert_eq!(rt; lists.found.comments.len(), 1);
     assert_eq!(rt; lists.found.irregular.len(), 1);
     assert_eq!(rt; lists.found.diagnostics.len(), 1);
+    Ok(())
+}
+
+/// What was found behind a mark, which is struck out with it, and found again.
+#[test]
+fn findings_behind_marks(rt: HostRuntime) -> Result<(), Fail> {
+    let again = [Command::Mark, Command::Next, Command::Rewind, Command::Next];
+    let lists = lists_of(rt.alloc(), "a /*c*/'b", &again).ok_or("no lists")?;
+    assert_eq!(rt;
+        (lists.found.comments.len(), lists.found.diagnostics.len()),
+        (1, 1)
+    );
+    let gone = [Command::Mark, Command::Next, Command::Rewind];
+    let lists = lists_of(rt.alloc(), "a /*c*/'b", &gone).ok_or("no lists")?;
+    assert_eq!(rt;
+        (lists.found.comments.len(), lists.found.diagnostics.len()),
+        (0, 0)
+    );
     Ok(())
 }
 

@@ -96,6 +96,50 @@ fn fault_before_anything(rt: HostRuntime) {
     assert_eq!(rt; (taker.tokens, taker.ends), (0, 0));
 }
 
+/// A mark is closed twice: the first time it was open.
+#[test]
+fn fault_behind_marks(rt: HostRuntime) {
+    let mut taker = counting_up_to(9);
+    let commands = [
+        Command::Next,
+        Command::Mark,
+        Command::Next,
+        Command::Commit,
+        Command::Rewind,
+    ];
+    let read = read_steps(
+        rt.alloc(),
+        b"a b c",
+        SourceType::Module,
+        &commands,
+        &mut taker,
+    );
+    assert_eq!(rt; read, Err(LexFault::NoMark(4)));
+    assert_eq!(rt; (taker.tokens, taker.ends), (0, 0));
+}
+
+/// What waits behind a mark finds no memory.
+#[test]
+fn steps_without_memory(rt: HostRuntime) {
+    let mut taker = counting_up_to(2);
+    let commands = [
+        Command::Mark,
+        Command::Next,
+        Command::Next,
+        Command::Commit,
+        Command::Next,
+    ];
+    let read = read_steps(
+        rt.alloc(),
+        b"a b c",
+        SourceType::Module,
+        &commands,
+        &mut taker,
+    );
+    assert_eq!(rt; read, Err(LexFault::Memory));
+    assert_eq!(rt; (taker.tokens, taker.ends), (2, 0));
+}
+
 #[test]
 fn steps_with_marks(rt: HostRuntime) {
     let mut taker = counting_up_to(9);
