@@ -15,8 +15,6 @@ use Rattle.js_lexer.specs.Lexer.{IsOnPlaces, LexerState, ReadsToken, fresh, toke
 use Rattle.js_session.specs.Effects.{effect_of}
 use Rattle.js_session.specs.declared.command.Effect.{Effect}
 use Rattle.js_session.specs.declared.command.Effect.TheVariants.{Reads, ReLexes}
-use Rattle.js_session.specs.Live.{nothing_live}
-use Rattle.js_session.specs.Marks.{IsAlike, IsInOrder, lexer_behind}
 use Rattle.js_session.specs.RowReader.{AddsLive, RowReaderState}
 use Rattle.js_session.specs.Session.{AddsRow, SessionState, report_of}
 use Rattle.js_session.specs.declared.command.Command.{Command}
@@ -33,7 +31,7 @@ use Rattle.js_lists.specs.LiveRows.{live_rows}
 use Rattle.js_lists.specs.Taken.{Taken, TakesEach}
 use Rattle.js_lists.specs.declared.step.LastRead.{LastRead}
 use Rattle.js_lists.proofs.DriveLemmas.{StepsTo, drives_seen, handed_row, held_row, step_again, step_on}
-use Rattle.js_lists.proofs.ReaderSteps.{HoldsLast}
+use Rattle.js_lists.proofs.ReaderSteps.{HoldsLast, fresh_in_order}
 use Rattle.js_lists.proofs.LiveLemmas.{live_tokens}
 use Rattle.js_lists.proofs.LiveSoFar.{LiveSoFar, live_again, live_end, live_first, live_on, unmarked}
 use Rattle.js_lists.proofs.RowLemmas.{holds_value, row_made, row_read}
@@ -61,19 +59,6 @@ pub record Reading {S : Type 0} (takes : S → Taken → S → Type 0) (rule : R
   pub holds : HoldsLast l.decoded row last
   pub taken : TakesEach takes start (taken_backward before) now
 
--- a lexer that has read nothing is behind nothing
-fresh_behind : (text : List ℕ) (t : SourceType) (collects : Bool)
-    → IsAlike (lexer_behind text t collects nothing_live) (fresh text t collects)
-fresh_behind text t collects = record {
-  text = refl;
-  source_type = refl;
-  collects = refl;
-  place = refl;
-  last = refl;
-  tokens = refl;
-  findings = refl;
-}
-
 -- Behind the first token.
 pub reading_starts : {S : Type 0} (takes : S → Taken → S → Type 0) (rule : Rule) (told : List TokenParts → Type 0)
     (text : List ℕ) (t : SourceType) (start : S) (new : LexerState) (last : LastRead) → IsUtf8 text
@@ -87,12 +72,11 @@ reading_starts takes rule told text t start new last u r none is_told =
     let after : RowReaderState = record { lexer = new; rows = row ∷ []; tokens = token ∷ [] } in
     let adds : AddsLive First None before after =
     record { row = row; reads = row_read First None old new token refl u r; rows = refl; tokens = refl } in
-    let nothing : IsInOrder before [] =
-    record { behind = fresh_behind text t false; are_marks = tt; rows_lie = tt; tokens_lie = tt } in
     record {
       session = seen after [] 0;
       drives =
-          drives_seen after 0 (subst IsUtf8 (sym r.after.text) u) (order_added First None before after [] nothing adds);
+          drives_seen after 0 (subst IsUtf8 (sym r.after.text) u)
+          (order_added First None before after [] (fresh_in_order text t false) adds);
       is_told = is_told;
       commands = [];
       goes = goes_start rule text t false (seen after [] 0) u (first_added text t false before after refl adds);

@@ -1,11 +1,15 @@
 pub mod Causes
-pub mod ChainLemmas
 pub mod ChosenLemmas
 pub mod DriveLemmas
+pub mod FollowLemmas
+pub mod HandedLemmas
 pub mod ListLemmas
 pub mod LiveLemmas
 pub mod LiveSoFar
+pub mod PendingLemmas
 pub mod PlainLemmas
+pub mod ReaderSteps
 pub mod RowLemmas
+pub mod StandsLemmas
 pub mod StepsLemmas
 pub mod TakenLemmas

@@ -4,6 +4,7 @@ use Rattle.std.proofs.Common.{◌++◌, refl, sym, ◌∙◌, ap, subst, Option,
 use Rattle.std.specs.Prelude.{MatchBool}
 use Rattle.std.specs.Str.{IsUtf8}
 use Rattle.js_text.specs.Lists.{with_last}
+use Rattle.js_text.specs.declared.source_type.SourceType.{SourceType}
 use Rattle.js_text.specs.declared.value.RowValue.{RowValue}
 use Rattle.js_kind.specs.TokenParts.{TokenParts}
 use Rattle.js_grammar.specs.Reads.{is_onward}
@@ -12,14 +13,15 @@ use Rattle.js_grammar.specs.TokenText.{text_end, text_start}
 use Rattle.js_grammar.specs.declared.goal.Goal.{Goal}
 use Rattle.js_grammar.specs.declared.goal.Goal.TheVariants.{Next as NextGoal}
 use Rattle.js_reader.specs.Decoded.{Values}
-use Rattle.js_lexer.specs.Lexer.{IsOnPlaces, LexerState, Peeks, ReadsToken, after_outcome, token_or_default}
+use Rattle.js_lexer.specs.Lexer.{IsOnPlaces, LexerState, Peeks, ReadsToken, after_outcome, fresh, token_or_default}
 use Rattle.js_session.specs.Effects.{effect_of}
 use Rattle.js_session.specs.declared.command.Effect.TheVariants.{Reads, ReLexes}
 use Rattle.js_session.specs.declared.command.Command.{Command}
 use Rattle.js_session.specs.declared.command.Command.TheVariants.{Peek}
 use Rattle.js_session.specs.declared.mark.SessionMark.{SessionMark}
 use Rattle.js_session.specs.declared.row.Row.{Row}
-use Rattle.js_session.specs.Marks.{IsInOrder}
+use Rattle.js_session.specs.Live.{nothing_live}
+use Rattle.js_session.specs.Marks.{IsAlike, IsInOrder, lexer_behind}
 use Rattle.js_session.specs.RowReader.{AddsAgain, AddsLive, AddsNotTaken, AddsPeek, HoldsValue, RowReaderState}
 use Rattle.js_session.specs.RowReader.{not_taken}
 use Rattle.js_session.specs.Session.{AddsRow, SessionState}
@@ -45,6 +47,24 @@ pub row_added : (command : Command) (s new : SessionState) (row : Row) → (a : 
     → new.rows ≡ s.rows ++ row ∷ [] → row ≡ a.row
 row_added command s new row a rows =
     last_same s.rows row a.row (sym rows ∙ ap (λ (x : SessionState). x.rows) a.after)
+
+-- A lexer that has read nothing is behind nothing.
+fresh_behind : (text : List ℕ) (t : SourceType) (collects : Bool)
+    → IsAlike (lexer_behind text t collects nothing_live) (fresh text t collects)
+fresh_behind text t collects = record {
+  text = refl;
+  source_type = refl;
+  collects = refl;
+  place = refl;
+  last = refl;
+  tokens = refl;
+  findings = refl;
+}
+
+pub fresh_in_order : (text : List ℕ) (t : SourceType) (collects : Bool)
+    → IsInOrder (record { lexer = fresh text t collects; rows = []; tokens = [] }) []
+fresh_in_order text t collects =
+    record { behind = fresh_behind text t collects; are_marks = tt; rows_lie = tt; tokens_lie = tt }
 
 -- the reader of a session, once a row was added, with its lexer and the live tokens now
 abbrev pub reader_with : RowReaderState → LexerState → Row → List TokenParts → RowReaderState
