@@ -1,25 +1,25 @@
 -- Commands that a lexer follows, one behind the other.
 use Rattle.std.proofs.Common.{◌≡◌, ◌≢◌, ℕ, ◌+◌, ◌<◌, ◌≤◌, ◌^◌, Bool, true, false, List, [], ◌∷◌, ◌++◌, length, map}
 use Rattle.std.proofs.Common.{refl, sym, ◌∙◌, ap, subst, arith, get_or, reverse, take, Option, Some, None}
-use Rattle.std.proofs.lemmas.List.{length-append, length-reverse, reverse-append, take_all, take_more}
-use Rattle.std.specs.Prelude.{MatchBool, slice_get, unwrap_or}
+use Rattle.std.proofs.lemmas.List.{length-append, length-reverse, take_all, take_more}
+use Rattle.std.specs.List.{AllByRecursion, last_or}
+use Rattle.std.specs.Prelude.{IfSome, MatchBool, slice_get, unwrap_or}
 use Rattle.std.specs.Str.{IsUtf8}
 use Rattle.js_text.specs.Lists.{with_last}
 use Rattle.js_text.specs.declared.source_type.SourceType.{SourceType}
 use Rattle.js_kind.specs.TokenParts.{TokenParts}
 use Rattle.js_grammar.specs.Reads.{is_onward}
-use Rattle.js_grammar.specs.ReLexed.{fits}
 use Rattle.js_grammar.specs.declared.goal.Goal.{Goal}
-use Rattle.js_grammar.specs.declared.goal.Goal.TheVariants.{First}
-use Rattle.js_reader.specs.Decoded.{Keeps, Values}
-use Rattle.js_lexer.specs.Lexer.{CanRewind, GoesOnFrom, IsRestored, LexerState, ReadsToken, checkpoint_of, fresh}
-use Rattle.js_lexer.specs.Lexer.{token_or_default}
+use Rattle.js_grammar.specs.declared.goal.Goal.TheVariants.{First, Next as NextGoal, JsxChild as ChildGoal}
+use Rattle.js_grammar.specs.declared.goal.Goal.TheVariants.{JsxAttributeValue}
+use Rattle.js_lexer.specs.Lexer.{CanRewind, IsOnPlaces, LexerState, ReadsToken, checkpoint_of, fresh, token_or_default}
+use Rattle.js_lexer.proofs.LexerSteps.{default_lies}
 use Rattle.js_session.specs.Effects.{closes, effect_of, free_after, gives_row, is_step}
 use Rattle.js_session.specs.Faults.{HasMarks}
 use Rattle.js_session.specs.Live.{after_mark}
 use Rattle.js_session.specs.Marks.{IsInOrder, fronts, live_now}
 use Rattle.js_session.specs.Report.{HasMark}
-use Rattle.js_session.specs.RowReader.{AddsLive, RowReaderState, not_taken}
+use Rattle.js_session.specs.RowReader.{AddsLive, IsMarkOf, RowReaderState, not_taken}
 use Rattle.js_session.specs.Session.{AddsRow, SessionState, after_command, report_of}
 use Rattle.js_session.specs.declared.command.Command.{Command}
 use Rattle.js_session.specs.declared.command.Command.TheVariants.{Next, JsxChild, JsxAttr, Regex, TemplateTail}
@@ -29,8 +29,8 @@ use Rattle.js_session.specs.declared.command.Effect.{Effect}
 use Rattle.js_session.specs.declared.command.Effect.TheVariants.{Reads, Peeks, ReLexes, Opens, Rewinds, Commits}
 use Rattle.js_session.specs.declared.mark.SessionMark.{SessionMark}
 use Rattle.js_session.specs.declared.row.Row.{Row}
-use Rattle.js_session.proofs.RunLemmas.{Progress, has_mark, progress_end, progress_follow, progress_reserved}
-use Rattle.js_session.proofs.RunLemmas.{progress_start}
+use Rattle.js_session.proofs.RunLemmas.{Progress, command_at, has_mark, progress_end, progress_follow}
+use Rattle.js_session.proofs.RunLemmas.{progress_reserved, progress_start}
 use Rattle.js_session.proofs.StepLemmas.{IsBack, commit_is, first_added, length_marks, mark_is, may_rewind, order_added}
 use Rattle.js_session.proofs.StepLemmas.{order_commit, order_mark, order_rewind, rewind_is, seen}
 use Rattle.js_lists.specs.Drive.{ReadsIfFits}
@@ -39,7 +39,6 @@ use Rattle.js_lists.specs.LiveRows.{RowState, live_rows, with_mark, with_row}
 use Rattle.js_lists.specs.Steps.{AreHeld, ClosesMark, FollowsCommand, GoesBack, HandsEach, LooksAhead, MayGoBack}
 use Rattle.js_lists.specs.Steps.{OpensMark, ReadsAgain, ReadsOn, TakesSteps, mark_of}
 use Rattle.js_lists.specs.Taken.{Taken, TakesEach}
-use Rattle.js_lists.specs.declared.pending.OpenMark.{OpenMark}
 use Rattle.js_lists.specs.declared.pending.Pending.{Pending}
 use Rattle.js_lists.specs.declared.step.LastRead.{LastRead}
 use Rattle.js_lists.proofs.LiveLemmas.{live_tokens}
@@ -48,7 +47,7 @@ use Rattle.js_lists.proofs.PendingLemmas.{marks_length}
 use Rattle.js_lists.proofs.ReaderSteps.{AddsStep, fresh_in_order, looks_ahead, not_again, reader_with, reads_again}
 use Rattle.js_lists.proofs.ReaderSteps.{reads_on}
 use Rattle.js_lists.proofs.RowLemmas.{holds_value, row_made, row_read}
-use Rattle.js_lists.proofs.StandsLemmas.{StandsAt, StandsBehind, StandsFor, stands_again, stands_at, stands_back}
+use Rattle.js_lists.proofs.StandsLemmas.{StandsBehind, StandsFor, stands_again, stands_at, stands_back}
 use Rattle.js_lists.proofs.StandsLemmas.{stands_behind, stands_closed, stands_held, stands_on, stands_open, takes_all}
 use Rattle.js_lists.proofs.TakenLemmas.{taken_backward, tokens_of_taken}
 
@@ -79,6 +78,11 @@ pub record IsNext (commands : List Command) (index : ℕ) (command : Command) : 
   pub within : index < length commands
   pub here : slice_get commands index ≡ Some command
   pub at : get_or commands index command ≡ command
+
+pub is_next : (commands : List Command) (index : ℕ) (d : Command) → index < length commands
+    → IsNext commands index (get_or commands index d)
+is_next commands index d within =
+    let at = command_at commands index d within in record { within = within; here = at.0; at = at.1 }
 
 next_taken : (commands : List Command) (index : ℕ) (command : Command) → IsNext commands index command
     → take (index + 1) commands ≡ take index commands ++ command ∷ []
@@ -170,11 +174,14 @@ following_utf8 : {S : Type 0} (takes : S → Taken → S → Type 0) (text : Lis
     → Following takes text t commands index start now l p → IsUtf8 l.text
 following_utf8 takes text t commands index start now l p u h = subst IsUtf8 (sym h.progress.text_is) u
 
+onward_by : (a b : Goal) → Reads a ≡ Reads b → is_onward a ≡ true → is_onward b ≡ true
+onward_by a b e is = let same : a ≡ b = cc in subst (λ g. is_onward g ≡ true) same is
+
 -- commands that read on have goals that do
 reads_onward : (command : Command) (goal : Goal) → effect_of command ≡ Reads goal → is_onward goal ≡ true
-reads_onward Next goal e = cc
-reads_onward JsxChild goal e = cc
-reads_onward JsxAttr goal e = cc
+reads_onward Next goal e = onward_by NextGoal goal e refl
+reads_onward JsxChild goal e = onward_by ChildGoal goal e refl
+reads_onward JsxAttr goal e = onward_by JsxAttributeValue goal e refl
 reads_onward Regex goal e = absurd cc
 reads_onward TemplateTail goal e = absurd cc
 reads_onward JsxName goal e = absurd cc
@@ -265,14 +272,29 @@ follows_again takes text t commands index command goal start now l k p last u ne
 follows_not_again : {S : Type 0} (takes : S → Taken → S → Type 0) (text : List ℕ) (t : SourceType)
     (commands : List Command) (index : ℕ) (command : Command) (goal : Goal) (start now : S) (l k : LexerState)
     (p : Pending) → IsNext commands index command → HasMarks commands → effect_of command ≡ ReLexes goal
-    → (h : Following takes text t commands index start now l p) → (q : Pending) → ReadsAgain goal l k p q
+    → Following takes text t commands index start now l p → IsOnPlaces l.text (token_or_default l.last)
     → ReadsIfFits goal l None k → Following takes text t commands (index + 1) start now k p
-follows_not_again takes text t commands index command goal start now l k p next has effect h q f none =
+follows_not_again takes text t commands index command goal start now l k p next has effect h lies none =
     let row = not_taken (Some command) l in
     subst (λ x. Following takes text t commands (index + 1) start now x p) (sym none.1)
     (following_row takes text t commands index command start now now l l p p next has (ap gives_row effect) h row
-    h.tokens (not_again goal command (reader l h.rows h.tokens) h.marks 0 effect none.0 f.places h.in_order) h.handed
+    h.tokens (not_again goal command (reader l h.rows h.tokens) h.marks 0 effect none.0 lies h.in_order) h.handed
     h.state (ap (λ e. with_row e row h.state) effect) h.stands h.taken)
+
+-- the last of some tokens that lie on places does
+last_lies : (text : List ℕ) (o : Option TokenParts) (ts : List TokenParts) → IfSome o (IsOnPlaces text)
+    → AllByRecursion (IsOnPlaces text) ts → IfSome (last_or o ts) (IsOnPlaces text)
+last_lies text o [] h all = h
+last_lies text o (t ∷ ts) h all = last_lies text (Some t) ts all.0 all.1
+
+-- and so does the last token of the lexer
+following_lies : {S : Type 0} (takes : S → Taken → S → Type 0) (text : List ℕ) (t : SourceType)
+    (commands : List Command) (index : ℕ) (start now : S) (l : LexerState) (p : Pending) → IsUtf8 text
+    → Following takes text t commands index start now l p → IsOnPlaces l.text (token_or_default l.last)
+following_lies takes text t commands index start now l p u h =
+    subst (λ o. IsOnPlaces l.text (token_or_default o)) (sym h.in_order.behind.last)
+    (default_lies l.text (last_or None h.tokens) (following_utf8 takes text t commands index start now l p u h)
+    (last_lies l.text None h.tokens tt h.in_order.tokens_lie))
 
 follows_re_lex : {S : Type 0} (takes : S → Taken → S → Type 0) (text : List ℕ) (t : SourceType)
     (commands : List Command) (index : ℕ) (command : Command) (goal : Goal) (start now : S) (l k : LexerState)
@@ -285,7 +307,8 @@ follows_re_lex takes text t commands index command goal start now l k p q u next
     by_found : (found : Option LastRead) → ReadsIfFits goal l found k
         → Following takes text t commands (index + 1) start now k (record p { last = unwrap_or found p.last })
     by_found None none =
-        follows_not_again takes text t commands index command goal start now l k p next has effect h q f none
+        follows_not_again takes text t commands index command goal start now l k p next has effect h
+        (following_lies takes text t commands index start now l p u h) none
     by_found (Some last) some =
         follows_again takes text t commands index command goal start now l k p last u next has effect h some
 
@@ -303,7 +326,7 @@ follows_open takes text t commands index command start now l p q next has effect
     let r = reader l h.rows h.tokens in
     let x : SessionMark = record { checkpoint = checkpoint_of l; tokens = length h.tokens } in
     let marks = h.marks ++ x ∷ [] in
-    let is_mark = record { tokens = refl; checkpoint = refl; can_rewind = f.can_rewind } in
+    let is_mark : IsMarkOf r x = record { tokens = refl; checkpoint = refl; can_rewind = f.can_rewind } in
     let state : RowState = record h.state { marks = h.state.now ∷ h.state.marks } in
     following_mark takes text t commands index command start now l l p q next has (ap gives_row effect) h h.tokens
     marks 1 0
@@ -311,9 +334,6 @@ follows_open takes text t commands index command start now l p q next has effect
     (order_mark r h.marks marks x refl is_mark h.in_order) state (ap (λ e. with_mark e h.state) effect)
     (subst (λ y. StandsFor l.decoded y h.handed marks state) (sym f.after)
     (stands_open l.decoded p h.handed h.marks h.state (mark_of l p) x refl refl refl h.stands))
-
-keeps_all : (v : Values) → Keeps v v
-keeps_all v = record { strings = λ start value is. is; templates = λ start value is. is }
 
 -- the state at the last mark
 rewound_rows : (state : RowState) (live : List Row) (lives : List (List Row)) → state.marks ≡ live ∷ lives
@@ -352,7 +372,7 @@ follows_back takes text t commands index command start now l k p q next has effe
     (ap (λ e. with_mark e h.state) effect ∙ rewound_rows h.state at.live at.lives at.lives_are)
     (subst (λ v. StandsFor v q h.handed at.others state) (sym f.decoded)
     (subst (λ y. StandsFor l.decoded y h.handed at.others state) (sym f.after)
-    (stands_back l.decoded p q.marks f.mark h.handed h.marks h.state h.stands at keeps_all)))
+    (stands_back l.decoded p q.marks f.mark h.handed h.marks h.state h.stands at)))
 
 some_length : {A : Type 0} (xs : List A) (x : A) (all : List A) → all ≡ xs ++ x ∷ [] → 0 < length all
 some_length xs x all is = omega (arith, ap length is, length-append xs (x ∷ []))
@@ -376,7 +396,7 @@ follows_commit takes text t commands index command start now l p q next has effe
     (order_commit r h.marks at.others (Some at.x) at.marks_are ((λ is. many), (λ is. refl)) some h.in_order) state
     (ap (λ e. with_mark e h.state) effect ∙ committed_rows h.state at.live at.lives at.lives_are)
     (subst (λ y. StandsFor l.decoded y h.handed at.others state) (sym f.after)
-    (stands_closed l.decoded p q.marks f.mark h.handed h.marks h.state h.stands at keeps_all))
+    (stands_closed l.decoded p q.marks f.mark h.handed h.marks h.state h.stands at))
 
 -- One more command was followed.
 pub following_next : {S : Type 0} (takes : S → Taken → S → Type 0) (text : List ℕ) (t : SourceType)
@@ -398,20 +418,20 @@ following_next takes text t commands index command start now new l k p q u next 
     by_effect (Reads goal) is g =
         follows_on takes text t commands index command goal start now new l k p q u next has is h g
     by_effect (Peeks goal) is g =
-        unmoved k q g.1.1
-        (subst (λ y. Following takes text t commands (index + 1) start now k y) (sym g.1.0)
+        unmoved k q g.2
+        (subst (λ y. Following takes text t commands (index + 1) start now k y) (sym g.1)
         (follows_peek takes text t commands index command goal start now l k p u next has is h g.0))
     by_effect (ReLexes goal) is g =
         unmoved k q g.1 (follows_re_lex takes text t commands index command goal start now l k p q u next has is h g.0)
     by_effect Opens is g =
-        unmoved k q g.1.1
-        (subst (λ x. Following takes text t commands (index + 1) start now x q) (sym g.1.0)
+        unmoved k q g.2
+        (subst (λ x. Following takes text t commands (index + 1) start now x q) (sym g.1)
         (follows_open takes text t commands index command start now l p q next has is h g.0))
     by_effect Rewinds is g =
         unmoved k q g.1 (follows_back takes text t commands index command start now l k p q next has is h g.0)
     by_effect Commits is g =
-        unmoved k q g.1.1
-        (subst (λ x. Following takes text t commands (index + 1) start now x q) (sym g.1.0)
+        unmoved k q g.2
+        (subst (λ x. Following takes text t commands (index + 1) start now x q) (sym g.1)
         (follows_commit takes text t commands index command start now l p q next has is h g.0))
 
 -- Behind the first token.

@@ -1,18 +1,19 @@
--- Tokens that are handed over one behind the other.
-use Rattle.std.proofs.Common.{◌≡◌, ℕ, zero, suc, ◌+◌, ◌<◌, ◌≤◌, ◌==◌, Bool, true, false, List, [], ◌∷◌, ◌++◌, length, map}
-use Rattle.std.proofs.Common.{refl, sym, ◌∙◌, ap, subst, arith, get_or, take}
+-- What is pending, as it is handed over, and as marks are opened and closed.
+use Rattle.std.proofs.Common.{◌≡◌, ℕ, zero, suc, ◌+◌, ◌<◌, ◌≤◌, ◌==◌, true, false, List, [], ◌∷◌, ◌++◌, length, refl}
+use Rattle.std.proofs.Common.{sym, ◌∙◌, ap, subst, arith, get_or, take, Option, Some, None}
+use Rattle.std.proofs.lemmas.Bool.{eqb-true}
 use Rattle.std.proofs.lemmas.List.{take_all, take_more}
 use Rattle.std.specs.List.{AllByRecursion}
+use Rattle.std.specs.Prelude.{IsSome, ◌↔◌, option_to_list}
 use Rattle.js_reader.specs.Decoded.{Values}
-use Rattle.js_session.specs.declared.row.Row.{Row}
+use Rattle.js_lexer.specs.Lexer.{CanRewind, Checkpoint, LexerState, checkpoint_of}
 use Rattle.js_lists.specs.Drive.{HandsOver, IsHeld}
-use Rattle.js_lists.specs.LiveLists.{taken_of}
-use Rattle.js_lists.specs.Steps.{HandsEach, Settles}
+use Rattle.js_lists.specs.Steps.{ClosesMark, HandsEach, OpensMark, Settles, mark_of}
 use Rattle.js_lists.specs.Taken.{BreaksOff, Taken, TakesEach}
 use Rattle.js_lists.specs.declared.pending.OpenMark.{OpenMark}
 use Rattle.js_lists.specs.declared.pending.Pending.{Pending}
 use Rattle.js_lists.specs.declared.step.LastRead.{LastRead}
-use Rattle.js_lists.proofs.TakenLemmas.{breaks_behind, breaks_here, breaks_later}
+use Rattle.js_lists.proofs.TakenLemmas.{breaks_behind, breaks_here}
 
 -- one more token was handed over
 pub hands_more : {S : Type 0} (takes : S → Taken → S → Type 0) (decoded : Values) (xs : List LastRead) (x : LastRead)
@@ -75,7 +76,7 @@ pub settles_all : {S : Type 0} (takes : S → Taken → S → Type 0) (decoded :
     → HandsEach takes decoded (p.waiting ++ p.last ∷ []) old new → q ≡ record p { waiting = [] }
     → Settles takes decoded marks p q old new
 settles_all takes decoded [] p q old new none h after = (h, after)
-settles_all takes decoded (m ∷ ms) p q old new none h after = absurd (let no : false ≡ true = none in cc)
+settles_all takes decoded (m ∷ ms) p q old new none h after = absurd (omega (arith, eqb-true (length (m ∷ ms)) 0 none))
 
 -- where one is
 pub settles_none : {S : Type 0} (takes : S → Taken → S → Type 0) (decoded : Values) (marks : List OpenMark)
@@ -83,3 +84,26 @@ pub settles_none : {S : Type 0} (takes : S → Taken → S → Type 0) (decoded 
     → q ≡ record p { waiting = p.waiting ++ p.last ∷ [] } → Settles takes decoded marks p q old new
 settles_none takes decoded [] p q old new some same after = absurd (let no : true ≡ false = some in cc)
 settles_none takes decoded (m ∷ ms) p q old new some same after = (same, after)
+
+-- a mark was opened with this checkpoint, behind so many that wait
+pub opens_mark : (l : LexerState) (p q : Pending) (checkpoint : Checkpoint) (waiting : ℕ) (marks : List OpenMark)
+    → checkpoint ≡ checkpoint_of l → CanRewind l checkpoint → waiting ≡ length p.waiting
+    → marks ≡ p.marks ++ record { checkpoint = checkpoint; last = p.last; waiting = waiting } ∷ []
+    → q ≡ record p { marks = marks } → OpensMark l p q
+opens_mark l p q checkpoint waiting marks is can many pushed after =
+    let same : record { checkpoint = checkpoint; last = p.last; waiting = waiting } ≡ mark_of l p = rw (is, many) refl in
+    record {
+      can_rewind = subst (CanRewind l) is can;
+      after = after ∙ ap (λ ms. record p { marks = ms }) (pushed ∙ ap (λ m. p.marks ++ m ∷ []) same);
+    }
+
+-- the last mark is closed, if one was open
+pub closes_mark : (p q : Pending) (marks : List OpenMark) (closed : Option OpenMark)
+    → p.marks ≡ marks ++ option_to_list closed → (IsSome closed ↔ (0 < length p.marks)) → 0 < length p.marks
+    → q ≡ record p { marks = marks } → ClosesMark p q
+closes_mark p q marks None ends found some after = absurd (let no : false ≡ true = found.1 some in cc)
+closes_mark p q marks (Some m) ends found some after = record {
+  mark = m;
+  marks = ends ∙ ap (λ ms. ms ++ m ∷ []) (sym (ap (λ x. x.marks) after));
+  after = after ∙ ap (λ ms. record p { marks = ms }) (sym (ap (λ x. x.marks) after));
+}

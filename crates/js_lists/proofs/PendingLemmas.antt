@@ -1,21 +1,18 @@
 -- The rows of tokens that wait, and those that were live at open marks.
-use Rattle.std.proofs.Common.{◌≡◌, ℕ, zero, suc, ◌+◌, ◌<◌, ◌≤◌, Bool, true, false, List, [], ◌∷◌, ◌++◌, length, map}
-use Rattle.std.proofs.Common.{refl, sym, ◌∙◌, ap, subst, arith, reverse, take, Option, Some, None, append_assoc}
-use Rattle.std.proofs.lemmas.List.{length-append, map-append, reverse-append, take-append-le, take-take, take_all}
+use Rattle.std.proofs.Common.{◌≡◌, ℕ, zero, suc, ◌≤◌, Bool, true, false, List, [], ◌∷◌, ◌++◌, length, map, refl, sym}
+use Rattle.std.proofs.Common.{◌∙◌, ap, subst, arith, reverse, take, Option, Some, None}
 use Rattle.std.specs.List.{AllByRecursion}
 use Rattle.js_kind.specs.Kinds.{is_template_kind}
-use Rattle.js_kind.specs.TokenParts.{TokenParts}
 use Rattle.js_reader.specs.Decoded.{Keeps, Values, value_of}
 use Rattle.js_text.specs.declared.value.RowValue.{RowValue}
-use Rattle.js_session.specs.RowReader.{HoldsKept, HoldsPart, HoldsUnits, HoldsValue}
+use Rattle.js_session.specs.RowReader.{HoldsKept, HoldsPart, HoldsUnits}
 use Rattle.js_session.specs.declared.mark.SessionMark.{SessionMark}
 use Rattle.js_session.specs.declared.row.Row.{Row}
-use Rattle.js_lists.specs.Drive.{HandsOver, IsHeld}
+use Rattle.js_lists.specs.Drive.{IsHeld}
 use Rattle.js_lists.specs.LiveLists.{taken_of}
-use Rattle.js_lists.specs.Steps.{AreHeld, HandsEach}
+use Rattle.js_lists.specs.Steps.{HandsEach}
 use Rattle.js_lists.specs.Taken.{Taken, TakesEach}
 use Rattle.js_lists.specs.declared.pending.OpenMark.{OpenMark}
-use Rattle.js_lists.specs.declared.pending.Pending.{Pending}
 use Rattle.js_lists.specs.declared.step.LastRead.{LastRead}
 use Rattle.js_lists.proofs.DriveLemmas.{handed_row, held_row}
 use Rattle.js_lists.proofs.ReaderSteps.{HoldsLast}
@@ -37,6 +34,9 @@ kept_stays true a b start value keeps h =
     part_stays (value_of a.templates start) (value_of b.templates start) value (keeps.templates start) h
 kept_stays false a b start value keeps h =
     units_stay (value_of a.strings start) (value_of b.strings start) value (keeps.strings start) h
+
+pub keeps_all : (v : Values) → Keeps v v
+keeps_all v = record { strings = λ start value is. is; templates = λ start value is. is }
 
 pub holds_on : (a b : Values) (row : Row) (last : LastRead) → Keeps a b → HoldsLast a row last → HoldsLast b row last
 holds_on a b row last keeps h = record {

@@ -4,7 +4,6 @@ use Rattle.std.proofs.Common.{refl, sym, ◌∙◌, ap, subst, arith, reverse, t
 use Rattle.std.proofs.lemmas.List.{length-append, length-take-le, map-append, reverse-append, reverse-reverse}
 use Rattle.std.proofs.lemmas.List.{take-append-le, take-take, take_all}
 use Rattle.js_reader.specs.Decoded.{Keeps, Values}
-use Rattle.js_lexer.specs.Lexer.{Checkpoint}
 use Rattle.js_session.specs.declared.mark.SessionMark.{SessionMark}
 use Rattle.js_session.specs.declared.row.Row.{Row}
 use Rattle.js_lists.specs.LiveLists.{taken_of}
@@ -16,7 +15,7 @@ use Rattle.js_lists.specs.declared.pending.Pending.{Pending}
 use Rattle.js_lists.specs.declared.step.LastRead.{LastRead}
 use Rattle.js_lists.proofs.DriveLemmas.{held_row}
 use Rattle.js_lists.proofs.PendingLemmas.{HoldEach, HoldMarks, HoldsMark, LastMark, each_held, each_length, each_more}
-use Rattle.js_lists.proofs.PendingLemmas.{each_on, each_take, each_taken, holds_on, last_mark, marks_on, no_marks}
+use Rattle.js_lists.proofs.PendingLemmas.{each_on, each_take, each_taken, holds_on, keeps_all, last_mark, marks_on, no_marks}
 use Rattle.js_lists.proofs.ReaderSteps.{HoldsLast}
 use Rattle.js_lists.proofs.TakenLemmas.{taken_backward, takes_both}
 
@@ -37,9 +36,6 @@ stands_held decoded p handed marks state s = record {
   last = held_row decoded s.row p.last s.last;
 }
 
-same_front : (waits : List Row) (n : ℕ) → n ≤ length waits → take n waits ≡ take n waits
-same_front waits n le = refl
-
 -- where no value is lost
 pub stands_on : (a b : Values) (p : Pending) (handed : List Row) (marks : List SessionMark) (state : RowState)
     → Keeps a b → StandsFor a p handed marks state → StandsFor b p handed marks state
@@ -51,7 +47,7 @@ stands_on a b p handed marks state keeps s = record {
   waiting = each_on a b s.waits p.waiting keeps s.waiting;
   marks_are =
       marks_on a b handed s.waits s.waits (length s.waits) (length s.waits) (reverse p.marks) (reverse marks)
-      state.marks keeps (omega arith) (same_front s.waits) s.marks_are;
+      state.marks keeps (omega arith) (λ n le. refl) s.marks_are;
 }
 
 -- the last token was read again
@@ -66,7 +62,7 @@ stands_again a b p last handed marks state row keeps holds s = record {
   waiting = each_on a b s.waits p.waiting keeps s.waiting;
   marks_are =
       marks_on a b handed s.waits s.waits (length s.waits) (length s.waits) (reverse p.marks) (reverse marks)
-      state.marks keeps (omega arith) (same_front s.waits) s.marks_are;
+      state.marks keeps (omega arith) (λ n le. refl) s.marks_are;
 }
 
 -- one more row behind some that stand backward
@@ -193,7 +189,7 @@ stands_open decoded p handed marks state m x waiting last same s =
     }
 
 -- The last mark, with that of the session.
-pub record StandsAt (decoded : Values) (p : Pending) (open_marks : List OpenMark) (m : OpenMark) (handed waits : List Row)
+pub record StandsAt (decoded : Values) (open_marks : List OpenMark) (m : OpenMark) (handed waits : List Row)
     (marks : List SessionMark) (state : RowState) : Type 0 where
   pub x : SessionMark
   pub others : List SessionMark
@@ -207,7 +203,7 @@ pub record StandsAt (decoded : Values) (p : Pending) (open_marks : List OpenMark
 pub stands_at : (decoded : Values) (p : Pending) (open_marks : List OpenMark) (m : OpenMark) (handed : List Row)
     (marks : List SessionMark) (state : RowState) → p.marks ≡ open_marks ++ m ∷ []
     → (s : StandsFor decoded p handed marks state)
-    → StandsAt decoded p open_marks m handed s.waits marks state
+    → StandsAt decoded open_marks m handed s.waits marks state
 stands_at decoded p open_marks m handed marks state ends s =
     let turned : reverse p.marks ≡ m ∷ reverse open_marks = ap reverse ends ∙ reverse-append open_marks (m ∷ []) in
     let l : LastMark decoded handed s.waits (length s.waits) m (reverse open_marks) (reverse marks) state.marks =
@@ -230,10 +226,10 @@ stands_at decoded p open_marks m handed marks state ends s =
 -- It is closed.
 pub stands_closed : (decoded : Values) (p : Pending) (open_marks : List OpenMark) (m : OpenMark) (handed : List Row)
     (marks : List SessionMark) (state : RowState) → (s : StandsFor decoded p handed marks state)
-    → (at : StandsAt decoded p open_marks m handed s.waits marks state) → ((v : Values) → Keeps v v)
+    → (at : StandsAt decoded open_marks m handed s.waits marks state)
     → StandsFor decoded (record p { marks = open_marks }) handed at.others
     (record { now = state.now; marks = at.lives })
-stands_closed decoded p open_marks m handed marks state s at keeps = record {
+stands_closed decoded p open_marks m handed marks state s at = record {
   row = s.row;
   waits = s.waits;
   now = s.now;
@@ -241,19 +237,16 @@ stands_closed decoded p open_marks m handed marks state s at keeps = record {
   waiting = s.waiting;
   marks_are =
       marks_on decoded decoded handed s.waits s.waits m.waiting (length s.waits) (reverse open_marks)
-      (reverse at.others) at.lives (keeps decoded) at.holds.within (same_front_to s.waits m.waiting) at.rest;
+      (reverse at.others) at.lives (keeps_all decoded) at.holds.within (λ n le. refl) at.rest;
 }
-  where
-    same_front_to : (waits : List Row) (bound n : ℕ) → n ≤ bound → take n waits ≡ take n waits
-    same_front_to waits bound n le = refl
 
 -- It is closed, and what was live at it is live now.
 pub stands_back : (decoded : Values) (p : Pending) (open_marks : List OpenMark) (m : OpenMark) (handed : List Row)
     (marks : List SessionMark) (state : RowState) → (s : StandsFor decoded p handed marks state)
-    → (at : StandsAt decoded p open_marks m handed s.waits marks state) → ((v : Values) → Keeps v v)
+    → (at : StandsAt decoded open_marks m handed s.waits marks state)
     → StandsFor decoded (record { last = m.last; waiting = take m.waiting p.waiting; marks = open_marks }) handed
     at.others (record { now = at.live; marks = at.lives })
-stands_back decoded p open_marks m handed marks state s at keeps =
+stands_back decoded p open_marks m handed marks state s at =
     let waits = take m.waiting s.waits in
     let many : length waits ≡ m.waiting = length-take-le m.waiting s.waits at.holds.within in
     record {
@@ -264,6 +257,6 @@ stands_back decoded p open_marks m handed marks state s at keeps =
       waiting = each_take decoded m.waiting s.waits p.waiting s.waiting;
       marks_are =
           marks_on decoded decoded handed s.waits waits m.waiting (length waits) (reverse open_marks)
-          (reverse at.others) at.lives (keeps decoded) (omega (arith, many))
+          (reverse at.others) at.lives (keeps_all decoded) (omega (arith, many))
           (λ n le. take-take n m.waiting s.waits le) at.rest;
     }

@@ -31,7 +31,7 @@ backward_more row rows =
     sym (ap (map taken_of) (reverse-append (row ∷ []) rows) ∙ map-append taken_of (reverse rows) (row ∷ []))
 
 -- tokens were taken, and then some more
-takes_both : {S : Type 0} (takes : S → Taken → S → Type 0) (xs ys : List Taken) (old mid new : S)
+pub takes_both : {S : Type 0} (takes : S → Taken → S → Type 0) (xs ys : List Taken) (old mid new : S)
     → TakesEach takes old xs mid → TakesEach takes mid ys new → TakesEach takes old (xs ++ ys) new
 takes_both takes [] ys old mid new h g = subst (λ s. TakesEach takes s ys new) h g
 takes_both takes (x ∷ xs) ys old mid new h g = (h.0, h.1, takes_both takes xs ys h.0 mid new h.2 g)

@@ -6,8 +6,8 @@ use Rattle.js_grammar.specs.Outcome.{Findings}
 use Rattle.js_grammar.specs.declared.goal.Goal.{Goal}
 use Rattle.js_kind.specs.TokenParts.{TokenParts}
 use Rattle.js_reader.specs.Decoded.{Values}
-use Rattle.js_lexer.specs.Lexer.{CanRewind, GoesOnFrom, IsOnPlaces, IsRestored, LexerState, Peeks as PeeksToken}
-use Rattle.js_lexer.specs.Lexer.{ReadsToken, checkpoint_of, token_or_default}
+use Rattle.js_lexer.specs.Lexer.{CanRewind, GoesOnFrom, IsRestored, LexerState, Peeks as PeeksToken, ReadsToken}
+use Rattle.js_lexer.specs.Lexer.{checkpoint_of}
 use Rattle.js_session.specs.Report.{ReportOf}
 use Rattle.js_session.specs.declared.command.Command.{Command}
 use Rattle.js_session.specs.declared.command.Effect.{Effect}
@@ -52,7 +52,6 @@ pub record ReadsOn {S : Type 0} (takes : S → Taken → S → Type 0) (goal : G
 pub record ReadsAgain (goal : Goal) (l k : LexerState) (p q : Pending) : Type 0 where
   pub found : Option LastRead
   pub reads : ReadsIfFits goal l found k
-  pub places : IsOnPlaces l.text (token_or_default l.last)
   pub after : q ≡ record p { last = unwrap_or found p.last }
 
 -- The next token was read, and the lexer has gone back before it.

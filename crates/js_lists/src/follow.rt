@@ -44,10 +44,13 @@ fn read_again<C: LexerConfig + Drop>(
     requires { lexer.old.place ≡ (token_or_default lexer.old.last).end }
     ensures { OnOk result (ReadsAgain goal lexer.old lexer.new pending.old pending.new) }
 {
-    if let Some(last) = read_if_fits(lexer, goal)? {
-        pending.last = last;
+    match read_if_fits(lexer, goal)? {
+        Some(last) => {
+            pending.last = last;
+            Ok(())
+        }
+        None => Ok(()),
     }
-    Ok(())
 }
 
 /// Reads the next token, and goes back before it.
