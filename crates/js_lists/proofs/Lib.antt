@@ -1,6 +1,7 @@
 pub mod Causes
 pub mod ChosenLemmas
 pub mod DriveLemmas
+pub mod FitLemmas
 pub mod FollowLemmas
 pub mod HandedLemmas
 pub mod ListLemmas

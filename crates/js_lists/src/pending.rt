@@ -2,7 +2,6 @@
 
 ghost use Rattle.std.specs.Prelude.{◌≡◌, ◌<◌, [], ◌∷◌, ◌++◌, length, None, OnOk, OnErr};
 ghost use Rattle.std.specs.List.{AllByRecursion};
-ghost use Rattle.js_lexer.specs.Lexer.{CanRewind};
 ghost use Rattle.js_lists.specs.Drive.{IsHeld};
 ghost use Rattle.js_lists.specs.Steps.{AreHeld, ClosesMark, GoesBack, HandsEach, MayGoBack, OpensMark, Settles};
 ghost use Rattle.js_lists.specs.Taken.{BreaksOff};
