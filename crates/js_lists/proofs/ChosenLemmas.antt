@@ -1,5 +1,5 @@
 -- The tokens that are chosen, each of which is handed over once it is settled.
-use Rattle.std.proofs.Common.{◌≡◌, ℕ, ◌^◌, ◌<◌, Bool, true, false, List, [], ◌∷◌, ◌++◌, length, map, reverse, refl}
+use Rattle.std.proofs.Common.{◌≡◌, ℕ, ◌^◌, ◌<◌, true, false, List, [], ◌∷◌, ◌++◌, length, map, reverse, refl}
 use Rattle.std.proofs.Common.{sym, ◌∙◌, ap, subst, arith, Some, None}
 use Rattle.std.specs.List.{last_or}
 use Rattle.std.specs.Str.{IsUtf8}

@@ -1,5 +1,5 @@
 -- Which tokens fit a goal, by their kind.
-use Rattle.std.proofs.Common.{◌≡◌, ℕ, true, List, refl}
+use Rattle.std.proofs.Common.{◌≡◌, ℕ, List, refl}
 use Rattle.js_kind.specs.Kinds.{is_one_of}
 use Rattle.js_kind.specs.TokenParts.{TokenParts}
 use Rattle.js_grammar.specs.ReLexed.{again_kinds, fits}

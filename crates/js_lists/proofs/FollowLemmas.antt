@@ -1,5 +1,5 @@
 -- Commands that a lexer follows, one behind the other.
-use Rattle.std.proofs.Common.{◌≡◌, ◌≢◌, ℕ, ◌+◌, ◌<◌, ◌≤◌, ◌^◌, Bool, true, false, List, [], ◌∷◌, ◌++◌, length, map}
+use Rattle.std.proofs.Common.{◌≡◌, ◌≢◌, ℕ, ◌+◌, ◌<◌, ◌≤◌, ◌^◌, true, false, List, [], ◌∷◌, ◌++◌, length, map}
 use Rattle.std.proofs.Common.{refl, sym, ◌∙◌, ap, subst, arith, get_or, reverse, take, Option, Some, None}
 use Rattle.std.proofs.lemmas.List.{length-append, length-reverse, take_all, take_more}
 use Rattle.std.specs.List.{AllByRecursion, last_or}

@@ -1,5 +1,5 @@
 -- What is live of the report of a list of commands.
-use Rattle.std.proofs.Common.{◌≡◌, ℕ, List, ◌∙◌, ap, subst, false}
+use Rattle.std.proofs.Common.{◌≡◌, ℕ, List, ◌∙◌, subst, false}
 use Rattle.js_text.specs.declared.source_type.SourceType.{SourceType}
 use Rattle.js_grammar.specs.Outcome.{Findings}
 use Rattle.js_lexer.specs.Lexer.{LexerState, fresh}

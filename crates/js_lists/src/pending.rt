@@ -49,7 +49,7 @@ fn hand_each<C: LexerConfig + Drop, T: TakeTokens>(
 
 impl Pending {
     /// Nothing waits before this token, and no mark is open.
-    pub fn behind(alloc: Global, token: Token) -> Pending
+    pub(crate) fn behind(alloc: Global, token: Token) -> Pending
         ensures { result ≡ record { last = record { token = token; regex = None }; waiting = []; marks = [] } }
     {
         Pending {
@@ -60,7 +60,7 @@ impl Pending {
     }
 
     /// Hands over what waits, and the last token behind it.
-    pub fn hand_all<C: LexerConfig + Drop, T: TakeTokens>(
+    pub(crate) fn hand_all<C: LexerConfig + Drop, T: TakeTokens>(
         &self,
         lexer: &Lexer<'_, C>,
         taker: &mut T,
@@ -75,7 +75,7 @@ impl Pending {
     }
 
     /// The last token is settled: it is handed over behind what waits, or waits too where a mark is open.
-    pub fn settle<C: LexerConfig + Drop, T: TakeTokens>(
+    pub(crate) fn settle<C: LexerConfig + Drop, T: TakeTokens>(
         &mut self,
         lexer: &Lexer<'_, C>,
         taker: &mut T,
@@ -94,7 +94,10 @@ impl Pending {
     }
 
     /// Opens a mark.
-    pub fn open<C: LexerConfig + Drop>(&mut self, lexer: &Lexer<'_, C>) -> Result<(), AllocError>
+    pub(crate) fn open<C: LexerConfig + Drop>(
+        &mut self,
+        lexer: &Lexer<'_, C>,
+    ) -> Result<(), AllocError>
         ensures { OnOk result (OpensMark lexer.now self.old self.new) }
     {
         self.marks.push(OpenMark {
@@ -105,7 +108,7 @@ impl Pending {
     }
 
     /// Goes back to the last open mark, and closes it. What was read behind it is struck out.
-    pub fn rewind<C: LexerConfig + Drop>(&mut self, lexer: &mut Lexer<'_, C>)
+    pub(crate) fn rewind<C: LexerConfig + Drop>(&mut self, lexer: &mut Lexer<'_, C>)
         requires some { 0 < length self.old.marks }
         requires may { MayGoBack lexer.old self.old.marks }
         ensures { GoesBack lexer.old lexer.new self.old self.new }
@@ -118,7 +121,7 @@ impl Pending {
     }
 
     /// Closes the last open mark.
-    pub fn commit(&mut self)
+    pub(crate) fn commit(&mut self)
         requires { 0 < length self.old.marks }
         ensures { ClosesMark self.old self.new }
     {

@@ -1,6 +1,5 @@
-use Rattle.std.proofs.Common.{ap, subst, absurd, inl, Err}
+use Rattle.std.proofs.Common.{ap, inl, Err}
 use Rattle.js_session.proofs.Causes.{cause_unique, sound_no_cause}
-use Rattle.js_lists.specs.LiveLists.{TakesCommands}
 use Rattle.js_lists.proofs.steps.read_steps.Goals as goal
 
 pub returns-in-Err-clause-exact : goal.returns-in-Err-clause-exact
