@@ -22,20 +22,26 @@ pub hands_more : {S : Type 0} (takes : S → Taken → S → Type 0) (decoded : 
 hands_more takes decoded [] x old mid new h o = (new, subst (λ s. HandsOver takes decoded x s new) h o, refl)
 hands_more takes decoded (y ∷ xs) x old mid new h o = (h.0, h.1, hands_more takes decoded xs x h.0 mid new h.2 o)
 
--- each of them may be handed over
-pub held_at : (decoded : Values) (xs : List LastRead) (i : ℕ) (d : LastRead) → AllByRecursion (IsHeld decoded) xs
+held_get : (decoded : Values) (xs : List LastRead) (i : ℕ) (d : LastRead) → AllByRecursion (IsHeld decoded) xs
     → i < length xs → IsHeld decoded (get_or xs i d)
-held_at decoded [] i d h within = absurd (omega (arith, within))
-held_at decoded (x ∷ xs) zero d h within = h.0
-held_at decoded (x ∷ xs) (suc k) d h within = held_at decoded xs k d h.1 (omega (arith, within))
+held_get decoded [] i d h within = absurd (omega (arith, within))
+held_get decoded (x ∷ xs) zero d h within = h.0
+held_get decoded (x ∷ xs) (suc k) d h within = held_get decoded xs k d h.1 (omega (arith, within))
+
+-- each of them may be handed over
+pub held_at : (decoded : Values) (xs : List LastRead) (i : ℕ) (x : LastRead) → AllByRecursion (IsHeld decoded) xs
+    → i < length xs → x ≡ get_or xs i x → IsHeld decoded x
+held_at decoded xs i x h within is = subst (IsHeld decoded) (sym is) (held_get decoded xs i x h within)
 
 -- a step of the loop
 pub hands_step : {S : Type 0} (takes : S → Taken → S → Type 0) (decoded : Values) (xs : List LastRead) (i : ℕ)
-    (d : LastRead) (old mid new : S) → i < length xs → HandsEach takes decoded (take i xs) old mid
-    → HandsOver takes decoded (get_or xs i d) mid new → HandsEach takes decoded (take (i + 1) xs) old new
-hands_step takes decoded xs i d old mid new within h o =
-    subst (λ ys. HandsEach takes decoded ys old new) (sym (take_more xs i d within))
-    (hands_more takes decoded (take i xs) (get_or xs i d) old mid new h o)
+    (x : LastRead) (old mid new : S) → i < length xs → x ≡ get_or xs i x
+    → HandsEach takes decoded (take i xs) old mid → HandsOver takes decoded x mid new
+    → HandsEach takes decoded (take (i + 1) xs) old new
+hands_step takes decoded xs i x old mid new within is h o =
+    subst (λ ys. HandsEach takes decoded ys old new)
+    (sym (take_more xs i x within ∙ ap (λ y. take i xs ++ y ∷ []) (sym is)))
+    (hands_more takes decoded (take i xs) x old mid new h o)
 
 -- and behind it
 pub hands_end : {S : Type 0} (takes : S → Taken → S → Type 0) (decoded : Values) (xs : List LastRead) (i : ℕ)

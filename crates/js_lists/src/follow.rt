@@ -44,7 +44,8 @@ fn read_again<C: LexerConfig + Drop>(
     requires { lexer.old.place ≡ (token_or_default lexer.old.last).end }
     ensures { OnOk result (ReadsAgain goal lexer.old lexer.new pending.old pending.new) }
 {
-    match read_if_fits(lexer, goal)? {
+    let found = read_if_fits(lexer, goal)?;
+    match found {
         Some(last) => {
             pending.last = last;
             Ok(())

@@ -5,12 +5,14 @@ use Rattle.js_lists.proofs.pending.hand_each.Goals as goal
 
 pub hand_over-requires : goal.hand_over-requires
 hand_over-requires g c =
-    held_at c.args.lexer.now.decoded c.args.tokens.now c.loop-token.token-index _ c.requires c.loop-token-test.true
+    held_at c.args.lexer.now.decoded c.args.tokens.now c.loop-token.token-index c.token-item.result
+    c.requires c.loop-token-test.true c.token-item.is
 
 pub loop-token-preserved : goal.loop-token-preserved
 loop-token-preserved g c =
-    hands_step g.T.TakeTokens.takes c.args.lexer.now.decoded c.args.tokens.now c.loop-token.token-index _
-    c.args.taker.now c.loop-token.taker c.hand_over.new.taker c.loop-token-test.true c.loop-token.invariant
+    hands_step g.T.TakeTokens.takes c.args.lexer.now.decoded c.args.tokens.now c.loop-token.token-index
+    c.token-item.result c.args.taker.now c.loop-token.taker c.hand_over.new.taker c.loop-token-test.true c.token-item.is
+    c.loop-token.invariant
     c.in_ok-hand_over.ensures.ok
 
 pub returns-in_err-hand_over-clause-err : goal.returns-in_err-hand_over-clause-err

@@ -9,18 +9,18 @@ use Rattle.js_lexer.proofs.ReadAgain.{angle_again, angles_are_none}
 use Rattle.js_session.proofs.AgainLemmas.{stands_for}
 use Rattle.js_lists.proofs.step.read_first_right.Goals as goal
 
-pub spelled_length-requires : goal.spelled_length-requires
-spelled_length-requires g c =
+pub spelled_length-bytes-requires : goal.spelled_length-bytes-requires
+spelled_length-bytes-requires g c =
     again_is_re_lexed TypeScriptRightAngle c.kind.result
     (ap (is_one_of (again_kinds TypeScriptRightAngle)) (c.kind.ensures ∙ ap (λ t. t.kind) c.last_token.ensures.token)
     ∙ c.requires.fits)
 
-pub re_lex_as_typescript_r_angle-requires-clause-behind : goal.re_lex_as_typescript_r_angle-requires-clause-behind
-re_lex_as_typescript_r_angle-requires-clause-behind g c =
+pub re_lex_as_typescript_r_angle-token-requires-clause-behind : goal.re_lex_as_typescript_r_angle-token-requires-clause-behind
+re_lex_as_typescript_r_angle-token-requires-clause-behind g c =
     stands_for TypeScriptRightAngle c.args.lexer.now c.requires.fits c.requires.behind
 
-pub re_lex_as_typescript_r_angle-requires-clause-bytes : goal.re_lex_as_typescript_r_angle-requires-clause-bytes
-re_lex_as_typescript_r_angle-requires-clause-bytes g c =
+pub re_lex_as_typescript_r_angle-token-requires-clause-bytes : goal.re_lex_as_typescript_r_angle-token-requires-clause-bytes
+re_lex_as_typescript_r_angle-token-requires-clause-bytes g c =
     c.spelled_length-bytes.ensures
     ∙ ap (λ k. length (kind_text k)) (c.kind.ensures ∙ ap (λ t. t.kind) c.last_token.ensures.token)
 

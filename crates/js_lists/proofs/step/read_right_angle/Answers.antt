@@ -4,8 +4,8 @@ use Rattle.js_lexer.proofs.ReadAgain.{angle_again, angles_are_none}
 use Rattle.js_session.proofs.AgainLemmas.{stands_for}
 use Rattle.js_lists.proofs.step.read_right_angle.Goals as goal
 
-pub re_lex_right_angle-requires : goal.re_lex_right_angle-requires
-re_lex_right_angle-requires g c = stands_for RightAngle c.args.lexer.now c.requires.fits c.requires.behind
+pub re_lex_right_angle-token-requires : goal.re_lex_right_angle-token-requires
+re_lex_right_angle-token-requires g c = stands_for RightAngle c.args.lexer.now c.requires.fits c.requires.behind
 
 pub returns : goal.returns
 returns g c =

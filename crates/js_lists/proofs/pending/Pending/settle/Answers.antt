@@ -6,8 +6,8 @@ use Rattle.js_lists.proofs.HandedLemmas.{settles_all, settles_none}
 use Rattle.js_lists.proofs.TakenLemmas.{breaks_here}
 use Rattle.js_lists.proofs.pending.Pending.settle.Goals as goal
 
-pub returns-then-is_empty-clause-ok : goal.returns-then-is_empty-clause-ok
-returns-then-is_empty-clause-ok g c =
+pub returns-in_ok-hand_all-clause-ok : goal.returns-in_ok-hand_all-clause-ok
+returns-in_ok-hand_all-clause-ok g c =
     let p : Pending = c.args.self.now in
     settles_all g.T.TakeTokens.takes c.args.lexer.now.decoded p.marks p _ c.args.taker.now c.hand_all.new.taker
     (sym c.is_empty.ensures ∙ c.if-is_empty.true) c.in_ok-hand_all.ensures.ok
