@@ -1,5 +1,5 @@
 -- What is pending stands for the live rows, as commands are followed.
-use Rattle.std.proofs.Common.{◌≡◌, ℕ, ◌+◌, List, [], ◌∷◌, ◌++◌, length, map}
+use Rattle.std.proofs.Common.{◌≡◌, List, [], ◌∷◌, ◌++◌, length, map}
 use Rattle.std.proofs.Common.{refl, sym, ◌∙◌, ap, subst, arith, reverse, take}
 use Rattle.std.proofs.lemmas.List.{length-append, length-take-le, map-append, reverse-append, reverse-reverse}
 use Rattle.std.proofs.lemmas.List.{take-append-le, take-take, take_all}
