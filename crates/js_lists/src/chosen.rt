@@ -13,12 +13,13 @@ ghost use Rattle.js_lists.specs.LiveLists.{TakesChosen};
 ghost use Rattle.js_lists.specs.Taken.{BreaksOff, plain_taken};
 ghost use Rattle.js_lists.specs.Drive.{Follows, HandsOver, IsHeld, MayFollow, TakesTokens};
 
+use crate::config::DrivenLexerConfig;
 use crate::step::{LastRead, read_again, read_next, read_on};
 use crate::take::{TakeTokens, TokenValue};
 use crate::value::{unescaped_value, value_of};
 use js_choose::{ChoiceFault, ChooseGoals};
 use js_grammar::Goal;
-use js_kind::{LexerConfig, NoTokensLexerConfig, Token};
+use js_kind::{LexerConfig, Token};
 use js_lexer::{Findings, Lexer};
 use js_session::{Command, Effect, LexFault, utf8_text};
 use js_text::{CommentList, SourceType, SpanList};
@@ -93,28 +94,32 @@ fn take_findings<C: LexerConfig + Drop>(
 }
 
 /// Follows a command that is chosen, and is not `Command::Next`: one that reads on settles the last token, which is handed
-/// over first. It gives the last token that was read then.
+/// over first.
 #[inline(never)]
 fn follow_any<C: LexerConfig + Drop, G: ChooseGoals, T: TakeTokens>(
     lexer: &mut Lexer<'_, C>,
     chooser: &mut G,
     taker: &mut T,
-    last: &LastRead,
+    last: &mut LastRead,
     command: Command,
-) -> Result<LastRead, AllocError>
+) -> Result<(), AllocError>
     requires other { command ≡ Command.Next → ⊥ }
     requires may { MayFollow (effect_of command) lexer.old }
-    requires held { IsHeld lexer.old.decoded last.now }
-    ensures ok { IfOk result (λ next. Follows T.takes G.is_told (effect_of command) last.now next lexer.old lexer.new
+    requires held { IsHeld lexer.old.decoded last.old }
+    ensures ok { OnOk result (Follows T.takes G.is_told (effect_of command) last.old last.new lexer.old lexer.new
         chooser.old chooser.new taker.old taker.new) }
     ensures err { OnErr result (BreaksOff T.takes T.breaks_off taker.old taker.new) }
 {
     match command.effect() {
         Effect::Reads(goal) => {
             hand_over(lexer, taker, last)?;
-            read_on(lexer, chooser, goal)
+            *last = read_on(lexer, chooser, goal)?;
+            Ok(())
         }
-        Effect::ReLexes(goal) => read_again(lexer, chooser, goal),
+        Effect::ReLexes(goal) => {
+            *last = read_again(lexer, chooser, goal)?;
+            Ok(())
+        }
         _ => unreachable!(),
     }
 }
@@ -125,19 +130,19 @@ fn follow<C: LexerConfig + Drop, G: ChooseGoals, T: TakeTokens>(
     lexer: &mut Lexer<'_, C>,
     chooser: &mut G,
     taker: &mut T,
-    last: &LastRead,
+    last: &mut LastRead,
     command: Command,
-) -> Result<LastRead, AllocError>
+) -> Result<(), AllocError>
     requires may { MayFollow (effect_of command) lexer.old }
-    requires held { IsHeld lexer.old.decoded last.now }
-    ensures ok { IfOk result (λ next. Follows T.takes G.is_told (effect_of command) last.now next lexer.old lexer.new
+    requires held { IsHeld lexer.old.decoded last.old }
+    ensures ok { OnOk result (Follows T.takes G.is_told (effect_of command) last.old last.new lexer.old lexer.new
         chooser.old chooser.new taker.old taker.new) }
     ensures err { OnErr result (BreaksOff T.takes T.breaks_off taker.old taker.new) }
 {
     match command {
         Command::Next => {
             hand_over_settled(lexer, taker, last)?;
-            read_next(lexer, chooser)
+            read_next(lexer, chooser, last)
         }
         _ => follow_any(lexer, chooser, taker, last, command),
     }
@@ -161,7 +166,7 @@ fn read_tokens<C: LexerConfig + Drop, G: ChooseGoals, T: TakeTokens>(
     let mut chooser = G::new(alloc);
     let mut last = read_on(lexer, &mut chooser, Goal::First)?;
     while let Some(command) = chooser.command(text) {
-        last = follow(lexer, &mut chooser, taker, &last, command)?;
+        follow(lexer, &mut chooser, taker, &mut last, command)?;
     }
     hand_over(lexer, taker, &last)
 }
@@ -178,11 +183,12 @@ fn read_text<G: ChooseGoals, T: TakeTokens>(
     ensures ok { OnOk result (TakesChosen T.takes T.ends G.choice text.now source_type taker.old taker.new) }
     ensures err { OnErr result (BreaksOff T.takes T.breaks_off taker.old taker.new) }
 {
-    let mut lexer = match Lexer::new(alloc, text, source_type, NoTokensLexerConfig) {
+    let config = DrivenLexerConfig::<G>::default();
+    let mut lexer = match Lexer::new(alloc, text, source_type, config) {
         Ok(lexer) => lexer,
         Err(_) => return Err(AllocError),
     };
-    read_tokens::<NoTokensLexerConfig, G, T>(alloc, text, &mut lexer, taker)?;
+    read_tokens::<DrivenLexerConfig<G>, G, T>(alloc, text, &mut lexer, taker)?;
     let found = take_findings(alloc, &mut lexer)?;
     taker.end(found)
 }

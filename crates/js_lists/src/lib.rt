@@ -4,6 +4,7 @@
 
 mod chain;
 mod chosen;
+mod config;
 mod lists;
 mod step;
 mod steps;
