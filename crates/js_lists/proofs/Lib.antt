@@ -5,6 +5,7 @@ pub mod DriveLemmas
 pub mod ListLemmas
 pub mod LiveLemmas
 pub mod LiveSoFar
+pub mod NameLemmas
 pub mod PlainLemmas
 pub mod RowLemmas
 pub mod StepsLemmas

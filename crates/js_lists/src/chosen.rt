@@ -1,6 +1,6 @@
 //! Sources whose goals are chosen.
 
-ghost use Rattle.std.specs.Prelude.{◌≡◌, ◌≤◌, ◌<◌, ◌^◌, ◌⊎◌, ℕ, false, List, length, Err};
+ghost use Rattle.std.specs.Prelude.{◌≡◌, ◌≤◌, ◌<◌, ◌^◌, ◌⊎◌, ℕ, false, List, length, None, Err};
 ghost use Rattle.std.specs.Prelude.{IfOk, OnOk, OnErr, IfErr, IsOk};
 ghost use Rattle.std.specs.Str.{IsUtf8};
 ghost use Rattle.js_grammar.specs.TokenText.{text_start, text_end};
@@ -14,6 +14,7 @@ ghost use Rattle.js_lists.specs.Taken.{BreaksOff, plain_taken};
 ghost use Rattle.js_lists.specs.Drive.{Follows, HandsOver, IsHeld, MayFollow, TakesTokens};
 
 use crate::config::DrivenLexerConfig;
+use crate::names::is_name;
 use crate::step::{LastRead, read_again, read_next, read_on};
 use crate::take::{TakeTokens, TokenValue};
 use crate::value::{unescaped_value, value_of};
@@ -40,6 +41,22 @@ fn hand_over<C: LexerConfig + Drop, T: TakeTokens>(
     taker.take(&last.token, value, last.regex)
 }
 
+/// Hands the last token over, with an escape, or as a regular expression.
+fn hand_over_rare<C: LexerConfig + Drop, T: TakeTokens>(
+    lexer: &Lexer<'_, C>,
+    taker: &mut T,
+    last: &mut LastRead,
+) -> Result<(), AllocError>
+    requires { IsHeld lexer.now.decoded last.old }
+    ensures ok { OnOk result (HandsOver T.takes lexer.now.decoded last.old taker.old taker.new) }
+    ensures forgets { OnOk result (last.new.regex ≡ None) }
+    ensures err { OnErr result (T.breaks_off taker.old taker.new) }
+{
+    hand_over(lexer, taker, last)?;
+    last.regex = None;
+    Ok(())
+}
+
 /// Hands a token over that has no escape and is no regular expression. Each way is compiled apart, with what a taker does
 /// then.
 #[inline(always)]
@@ -48,7 +65,7 @@ fn hand_over_plain<T: TakeTokens>(taker: &mut T, token: &Token) -> Result<(), Al
     ensures ok { OnOk result (T.takes taker.old (plain_taken token.now) taker.new) }
     ensures err { OnErr result (T.breaks_off taker.old taker.new) }
 {
-    if token.kind().is_identifier_name() {
+    if is_name(token) {
         return taker.take(token, TokenValue::Slice(token.span()), None);
     }
     match unescaped_value(token) {
@@ -57,23 +74,25 @@ fn hand_over_plain<T: TakeTokens>(taker: &mut T, token: &Token) -> Result<(), Al
     }
 }
 
-/// Hands a token over that is settled. Few have an escape or are regular expressions: all others go a way of their own.
+/// Hands the last token over, which is settled, and forgets what is known of it as a regular expression. Few have an
+/// escape or are regular expressions: all others go a way of their own.
 #[inline(always)]
 fn hand_over_settled<C: LexerConfig + Drop, T: TakeTokens>(
     lexer: &Lexer<'_, C>,
     taker: &mut T,
-    last: &LastRead,
+    last: &mut LastRead,
 ) -> Result<(), AllocError>
-    requires { IsHeld lexer.now.decoded last.now }
-    ensures ok { OnOk result (HandsOver T.takes lexer.now.decoded last.now taker.old taker.new) }
+    requires { IsHeld lexer.now.decoded last.old }
+    ensures ok { OnOk result (HandsOver T.takes lexer.now.decoded last.old taker.old taker.new) }
+    ensures forgets { OnOk result (last.new.regex ≡ None) }
     ensures err { OnErr result (T.breaks_off taker.old taker.new) }
 {
     if last.token.escaped() {
-        return hand_over(lexer, taker, last);
+        return hand_over_rare(lexer, taker, last);
     }
     match last.regex {
         None => hand_over_plain(taker, &last.token),
-        Some(_) => hand_over(lexer, taker, last),
+        Some(_) => hand_over_rare(lexer, taker, last),
     }
 }
 

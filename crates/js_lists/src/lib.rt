@@ -6,6 +6,7 @@ mod chain;
 mod chosen;
 mod config;
 mod lists;
+mod names;
 mod step;
 mod steps;
 mod take;

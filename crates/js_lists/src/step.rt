@@ -64,7 +64,8 @@ pub(crate) fn read_on<C: LexerConfig + Drop, G: ChooseGoals>(
     Ok(LastRead { token, regex: None })
 }
 
-/// Reads the next token, which is the last one then, and tells it to the chooser.
+/// Reads the next token, which is the last one then, and tells it to the chooser. Of the last one nothing is known as a
+/// regular expression.
 // The last token is changed where it stands: one that is handed back is copied piece by piece.
 #[inline(always)]
 pub(crate) fn read_next<C: LexerConfig + Drop, G: ChooseGoals>(
@@ -72,6 +73,7 @@ pub(crate) fn read_next<C: LexerConfig + Drop, G: ChooseGoals>(
     chooser: &mut G,
     last: &mut LastRead,
 ) -> Result<(), AllocError>
+    requires { last.old.regex ≡ None }
     ensures read { OnOk result (ReadsToken Goal.Next lexer.old last.new.token lexer.new) }
     ensures regex { OnOk result (last.new.regex ≡ None) }
     ensures told { OnOk result ((tokens : List TokenParts) → G.is_told chooser.old tokens
@@ -79,7 +81,6 @@ pub(crate) fn read_next<C: LexerConfig + Drop, G: ChooseGoals>(
 {
     chooser.pass()?;
     last.token = lexer.next_token()?;
-    last.regex = None;
     chooser.read_passed(&last.token);
     Ok(())
 }
