@@ -90,6 +90,7 @@ fn pool_span(before: usize, count: usize) -> Result<JsSpan, AllocError>
 }
 
 /// Where a value is, with so many units in the pool before it.
+#[inline(always)]
 fn value_span(before: usize, value: TokenValue<'_>) -> Result<JsSpan, AllocError>
     ensures { IfOk result (λ span. span ≡ value_span before (value_handed value.entry)) }
 {

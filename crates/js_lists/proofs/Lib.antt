@@ -7,6 +7,7 @@ pub mod HandedLemmas
 pub mod ListLemmas
 pub mod LiveLemmas
 pub mod LiveSoFar
+pub mod NameLemmas
 pub mod PendingLemmas
 pub mod PlainLemmas
 pub mod ReaderSteps

@@ -1,6 +1,6 @@
 //! Sources whose goals are chosen.
 
-ghost use Rattle.std.specs.Prelude.{◌≡◌, ◌≤◌, ◌<◌, ◌^◌, ◌⊎◌, ℕ, false, List, length, Err};
+ghost use Rattle.std.specs.Prelude.{◌≡◌, ◌≤◌, ◌<◌, ◌^◌, ◌⊎◌, ℕ, false, List, length, None, Err};
 ghost use Rattle.std.specs.Prelude.{IfOk, OnOk, OnErr, IfErr, IsOk};
 ghost use Rattle.std.specs.Str.{IsUtf8};
 ghost use Rattle.js_grammar.specs.TokenText.{text_start, text_end};
@@ -13,17 +13,35 @@ ghost use Rattle.js_lists.specs.LiveLists.{TakesChosen};
 ghost use Rattle.js_lists.specs.Taken.{BreaksOff, plain_taken};
 ghost use Rattle.js_lists.specs.Drive.{Follows, HandsOver, IsHeld, MayFollow, TakesTokens};
 
+use crate::config::DrivenLexerConfig;
 use crate::hand::{hand_over, take_findings};
+use crate::names::is_name;
 use crate::step::{LastRead, read_again, read_next, read_on};
 use crate::take::{TakeTokens, TokenValue};
 use crate::value::unescaped_value;
 use js_choose::{ChoiceFault, ChooseGoals};
 use js_grammar::Goal;
-use js_kind::{LexerConfig, NoTokensLexerConfig, Token};
+use js_kind::{LexerConfig, Token};
 use js_lexer::Lexer;
 use js_session::{Command, Effect, LexFault, utf8_text};
 use js_text::SourceType;
 use std::alloc::{AllocError, Global};
+
+/// Hands the last token over, with an escape, or as a regular expression.
+fn hand_over_rare<C: LexerConfig + Drop, T: TakeTokens>(
+    lexer: &Lexer<'_, C>,
+    taker: &mut T,
+    last: &mut LastRead,
+) -> Result<(), AllocError>
+    requires { IsHeld lexer.now.decoded last.old }
+    ensures ok { OnOk result (HandsOver T.takes lexer.now.decoded last.old taker.old taker.new) }
+    ensures forgets { OnOk result (last.new.regex ≡ None) }
+    ensures err { OnErr result (T.breaks_off taker.old taker.new) }
+{
+    hand_over(lexer, taker, last)?;
+    last.regex = None;
+    Ok(())
+}
 
 /// Hands a token over that has no escape and is no regular expression. Each way is compiled apart, with what a taker does
 /// then.
@@ -33,7 +51,7 @@ fn hand_over_plain<T: TakeTokens>(taker: &mut T, token: &Token) -> Result<(), Al
     ensures ok { OnOk result (T.takes taker.old (plain_taken token.now) taker.new) }
     ensures err { OnErr result (T.breaks_off taker.old taker.new) }
 {
-    if token.kind().is_identifier_name() {
+    if is_name(token) {
         return taker.take(token, TokenValue::Slice(token.span()), None);
     }
     match unescaped_value(token) {
@@ -42,49 +60,55 @@ fn hand_over_plain<T: TakeTokens>(taker: &mut T, token: &Token) -> Result<(), Al
     }
 }
 
-/// Hands a token over that is settled. Few have an escape or are regular expressions: all others go a way of their own.
+/// Hands the last token over, which is settled, and forgets what is known of it as a regular expression. Few have an
+/// escape or are regular expressions: all others go a way of their own.
 #[inline(always)]
 fn hand_over_settled<C: LexerConfig + Drop, T: TakeTokens>(
     lexer: &Lexer<'_, C>,
     taker: &mut T,
-    last: &LastRead,
+    last: &mut LastRead,
 ) -> Result<(), AllocError>
-    requires { IsHeld lexer.now.decoded last.now }
-    ensures ok { OnOk result (HandsOver T.takes lexer.now.decoded last.now taker.old taker.new) }
+    requires { IsHeld lexer.now.decoded last.old }
+    ensures ok { OnOk result (HandsOver T.takes lexer.now.decoded last.old taker.old taker.new) }
+    ensures forgets { OnOk result (last.new.regex ≡ None) }
     ensures err { OnErr result (T.breaks_off taker.old taker.new) }
 {
     if last.token.escaped() {
-        return hand_over(lexer, taker, last);
+        return hand_over_rare(lexer, taker, last);
     }
     match last.regex {
         None => hand_over_plain(taker, &last.token),
-        Some(_) => hand_over(lexer, taker, last),
+        Some(_) => hand_over_rare(lexer, taker, last),
     }
 }
 
 /// Follows a command that is chosen, and is not `Command::Next`: one that reads on settles the last token, which is handed
-/// over first. It gives the last token that was read then.
+/// over first.
 #[inline(never)]
 fn follow_any<C: LexerConfig + Drop, G: ChooseGoals, T: TakeTokens>(
     lexer: &mut Lexer<'_, C>,
     chooser: &mut G,
     taker: &mut T,
-    last: &LastRead,
+    last: &mut LastRead,
     command: Command,
-) -> Result<LastRead, AllocError>
+) -> Result<(), AllocError>
     requires other { command ≡ Command.Next → ⊥ }
     requires may { MayFollow (effect_of command) lexer.old }
-    requires held { IsHeld lexer.old.decoded last.now }
-    ensures ok { IfOk result (λ next. Follows T.takes G.is_told (effect_of command) last.now next lexer.old lexer.new
+    requires held { IsHeld lexer.old.decoded last.old }
+    ensures ok { OnOk result (Follows T.takes G.is_told (effect_of command) last.old last.new lexer.old lexer.new
         chooser.old chooser.new taker.old taker.new) }
     ensures err { OnErr result (BreaksOff T.takes T.breaks_off taker.old taker.new) }
 {
     match command.effect() {
         Effect::Reads(goal) => {
             hand_over(lexer, taker, last)?;
-            read_on(lexer, chooser, goal)
+            *last = read_on(lexer, chooser, goal)?;
+            Ok(())
         }
-        Effect::ReLexes(goal) => read_again(lexer, chooser, goal),
+        Effect::ReLexes(goal) => {
+            *last = read_again(lexer, chooser, goal)?;
+            Ok(())
+        }
         _ => unreachable!(),
     }
 }
@@ -95,19 +119,19 @@ fn follow<C: LexerConfig + Drop, G: ChooseGoals, T: TakeTokens>(
     lexer: &mut Lexer<'_, C>,
     chooser: &mut G,
     taker: &mut T,
-    last: &LastRead,
+    last: &mut LastRead,
     command: Command,
-) -> Result<LastRead, AllocError>
+) -> Result<(), AllocError>
     requires may { MayFollow (effect_of command) lexer.old }
-    requires held { IsHeld lexer.old.decoded last.now }
-    ensures ok { IfOk result (λ next. Follows T.takes G.is_told (effect_of command) last.now next lexer.old lexer.new
+    requires held { IsHeld lexer.old.decoded last.old }
+    ensures ok { OnOk result (Follows T.takes G.is_told (effect_of command) last.old last.new lexer.old lexer.new
         chooser.old chooser.new taker.old taker.new) }
     ensures err { OnErr result (BreaksOff T.takes T.breaks_off taker.old taker.new) }
 {
     match command {
         Command::Next => {
             hand_over_settled(lexer, taker, last)?;
-            read_next(lexer, chooser)
+            read_next(lexer, chooser, last)
         }
         _ => follow_any(lexer, chooser, taker, last, command),
     }
@@ -131,7 +155,7 @@ fn read_tokens<C: LexerConfig + Drop, G: ChooseGoals, T: TakeTokens>(
     let mut chooser = G::new(alloc);
     let mut last = read_on(lexer, &mut chooser, Goal::First)?;
     while let Some(command) = chooser.command(text) {
-        last = follow(lexer, &mut chooser, taker, &last, command)?;
+        follow(lexer, &mut chooser, taker, &mut last, command)?;
     }
     hand_over(lexer, taker, &last)
 }
@@ -148,11 +172,12 @@ fn read_text<G: ChooseGoals, T: TakeTokens>(
     ensures ok { OnOk result (TakesChosen T.takes T.ends G.choice text.now source_type taker.old taker.new) }
     ensures err { OnErr result (BreaksOff T.takes T.breaks_off taker.old taker.new) }
 {
-    let mut lexer = match Lexer::new(alloc, text, source_type, NoTokensLexerConfig) {
+    let config = DrivenLexerConfig::<G>::default();
+    let mut lexer = match Lexer::new(alloc, text, source_type, config) {
         Ok(lexer) => lexer,
         Err(_) => return Err(AllocError),
     };
-    read_tokens::<NoTokensLexerConfig, G, T>(alloc, text, &mut lexer, taker)?;
+    read_tokens::<DrivenLexerConfig<G>, G, T>(alloc, text, &mut lexer, taker)?;
     let found = take_findings(alloc, &mut lexer)?;
     taker.end(found)
 }

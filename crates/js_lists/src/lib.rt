@@ -3,10 +3,12 @@
 #![tactic(auto)]
 
 mod chosen;
+mod config;
 mod follow;
 mod hand;
 mod lists;
 mod marks;
+mod names;
 mod pending;
 mod step;
 mod steps;

@@ -1,6 +1,6 @@
 //! The readings of a lexer that is driven.
 
-ghost use Rattle.std.specs.Prelude.{◌≡◌, ◌++◌, true, List, [], ◌∷◌, Option, None, IfOk};
+ghost use Rattle.std.specs.Prelude.{◌≡◌, ◌++◌, true, List, [], ◌∷◌, Option, None, IfOk, OnOk};
 ghost use Rattle.js_text.specs.Lists.{with_last};
 ghost use Rattle.js_kind.specs.TokenParts.{TokenParts};
 ghost use Rattle.js_grammar.specs.Reads.{is_onward};
@@ -78,21 +78,25 @@ pub(crate) fn read_on<C: LexerConfig + Drop, G: ChooseGoals>(
     Ok(LastRead { token, regex: None })
 }
 
-/// Reads the next token, and tells it to the chooser.
+/// Reads the next token, which is the last one then, and tells it to the chooser. Of the last one nothing is known as a
+/// regular expression.
+// The last token is changed where it stands: one that is handed back is copied piece by piece.
 #[inline(always)]
 pub(crate) fn read_next<C: LexerConfig + Drop, G: ChooseGoals>(
     lexer: &mut Lexer<'_, C>,
     chooser: &mut G,
-) -> Result<LastRead, AllocError>
-    ensures read { IfOk result (λ last. ReadsToken Goal.Next lexer.old last.token lexer.new) }
-    ensures regex { IfOk result (λ last. last.regex ≡ None) }
-    ensures told { IfOk result (λ last. (tokens : List TokenParts) → G.is_told chooser.old tokens
-        → G.is_told chooser.new (tokens ++ last.token ∷ [])) }
+    last: &mut LastRead,
+) -> Result<(), AllocError>
+    requires { last.old.regex ≡ None }
+    ensures read { OnOk result (ReadsToken Goal.Next lexer.old last.new.token lexer.new) }
+    ensures regex { OnOk result (last.new.regex ≡ None) }
+    ensures told { OnOk result ((tokens : List TokenParts) → G.is_told chooser.old tokens
+        → G.is_told chooser.new (tokens ++ last.new.token ∷ [])) }
 {
     chooser.pass()?;
-    let token = lexer.next_token()?;
-    chooser.read_passed(&token);
-    Ok(LastRead { token, regex: None })
+    last.token = lexer.next_token()?;
+    chooser.read_passed(&last.token);
+    Ok(())
 }
 
 /// Reads the last token again, as a regular expression.

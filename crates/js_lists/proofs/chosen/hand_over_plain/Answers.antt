@@ -7,11 +7,11 @@ use Rattle.js_lists.specs.Taken.{Taken, plain_taken}
 use Rattle.js_lists.proofs.PlainLemmas.{name_value}
 use Rattle.js_lists.proofs.chosen.hand_over_plain.Goals as goal
 
-pub returns-then-is_identifier_name-clause-ok : goal.returns-then-is_identifier_name-clause-ok
-returns-then-is_identifier_name-clause-ok g c =
+pub returns-then-is_name-clause-ok : goal.returns-then-is_name-clause-ok
+returns-then-is_name-clause-ok g c =
     let token = c.args.token.now in
     let is : is_identifier_name token.kind ≡ true =
-    sym (c.is_identifier_name.ensures ∙ ap is_identifier_name c.kind.ensures) ∙ c.if-is_identifier_name.true in
+    sym c.is_name.ensures ∙ c.if-is_name.true in
     let value : Slice c.span.result ≡ (plain_taken token).value =
     ap Slice c.span.ensures ∙ sym (name_value token.kind token.start token.end is) in
     on_ok_weaker c.take.result

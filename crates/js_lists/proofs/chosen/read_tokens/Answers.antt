@@ -34,19 +34,19 @@ pub loop-command-preserved : goal.loop-command-preserved
 loop-command-preserved g c =
     reading_follows g.T.TakeTokens.takes g.G.ChooseGoals.is_told g.G.ChooseGoals.choice c.args.text.now
     c.args.lexer.now.source_type c.args.taker.now c.loop-command.taker c.follow.new.taker c.loop-command.lexer
-    c.follow.new.lexer c.loop-command.chooser c.follow.new.chooser c.loop-command.last c.in_ok-last-2.last
+    c.follow.new.lexer c.loop-command.chooser c.follow.new.chooser c.loop-command.last c.follow.new.last
     c.in-Some.command g.met.G.ChooseGoals.is_rule c.requires.utf8 c.loop-command.invariant
     (sym (c.in-Some.ensures c.loop-command.invariant.session.state.now.tokens c.loop-command.invariant.is_told))
-    c.in_ok-last-2.ensures.ok
+    c.in_ok-follow.ensures.ok
 
 pub loop-command-smaller : goal.loop-command-smaller
 loop-command-smaller g c =
     reading_falls g.T.TakeTokens.takes g.G.ChooseGoals.is_told g.G.ChooseGoals.choice c.args.text.now
     c.args.lexer.now.source_type c.args.taker.now c.loop-command.taker c.follow.new.taker c.loop-command.lexer
-    c.follow.new.lexer c.loop-command.chooser c.follow.new.chooser c.loop-command.last c.in_ok-last-2.last
+    c.follow.new.lexer c.loop-command.chooser c.follow.new.chooser c.loop-command.last c.follow.new.last
     c.in-Some.command g.met.G.ChooseGoals.is_rule c.requires.utf8 c.loop-command.invariant
     (sym (c.in-Some.ensures c.loop-command.invariant.session.state.now.tokens c.loop-command.invariant.is_told))
-    c.in_ok-last-2.ensures.ok
+    c.in_ok-follow.ensures.ok
 
 pub hand_over-requires : goal.hand_over-requires
 hand_over-requires g c =
@@ -55,12 +55,12 @@ hand_over-requires g c =
     c.loop-command.last c.loop-command.invariant
 
 -- there was no memory for a step
-pub returns-in_err-last-2-clause-err : goal.returns-in_err-last-2-clause-err
-returns-in_err-last-2-clause-err g c =
-    on_err c.from_residual-in_err-last-2.result
+pub returns-in_err-follow-clause-err : goal.returns-in_err-follow-clause-err
+returns-in_err-follow-clause-err g c =
+    on_err c.from_residual-in_err-follow.result
     (breaks_later g.T.TakeTokens.takes g.T.TakeTokens.breaks_off (taken_backward c.loop-command.invariant.before)
     c.args.taker.now c.loop-command.taker c.follow.new.taker c.loop-command.invariant.taken
-    c.in_err-last-2.ensures.err)
+    c.in_err-follow.ensures.err)
 
 pub returns-clause-ok : goal.returns-clause-ok
 returns-clause-ok g c =
