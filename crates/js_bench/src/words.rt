@@ -1,9 +1,11 @@
 //! The words of the program.
 
-ghost use Rattle.std.specs.Prelude.{◌≡◌};
-ghost use Rattle.js_bench.specs.Words.{bench_line_of};
+ghost use Rattle.std.specs.Prelude.{◌≡◌, map, string_bytes};
+ghost use Rattle.js_lex_tool.specs.Words.{entry_for};
+ghost use Rattle.js_bench.specs.Words.{bench_line_of, kept_words, rule_in};
 
-use js_lex_tool::{parse_count, parse_source_type, parse_tokens};
+use crate::pass::{GoalRule, Kept};
+use js_lex_tool::{parse_count, parse_source_type};
 use js_text::SourceType;
 
 /// The most passes of a run.
@@ -13,22 +15,48 @@ const MOST_PASSES: usize = 1_000;
 #[derive(Clone, Copy, PartialEq, Eq, Debug)]
 pub struct BenchLine {
     pub source_type: SourceType,
-    /// Whether the tokens are collected.
-    pub tokens: bool,
+    /// What each pass keeps of the tokens.
+    pub kept: Kept,
     /// How often the source is lexed.
     pub passes: usize,
+    /// The rule by which goals are chosen.
+    pub rule: GoalRule,
 }
 
-/// What the words after the program's name mean: a source type, whether tokens are collected, and a number of passes
-/// from 1 to 1,000. None: they are not valid.
+/// What a pass keeps of the tokens, as the word says.
+fn parse_kept(word: &str) -> Option<Kept>
+    ensures { result ≡ entry_for kept_words word.now }
+{
+    match word {
+        "tokens" => Some(Kept::Tokens),
+        "no-tokens" => Some(Kept::Nothing),
+        "lists" => Some(Kept::Lists),
+        _ => None,
+    }
+}
+
+/// The rule that the last words name: that of js_auto where there is none. None: they are not valid.
+fn parse_rule(words: &[String]) -> Option<GoalRule>
+    ensures { result ≡ rule_in (map string_bytes words.now) }
+{
+    match words {
+        [] => Some(GoalRule::Auto),
+        [word] if word.as_str() == "jsx" => Some(GoalRule::Jsx),
+        _ => None,
+    }
+}
+
+/// What the words after the program's name mean: a source type, what is kept of the tokens, a number of passes from 1 to
+/// 1,000, and `jsx` where goals are chosen by the rule of js_jsx. None: they are not valid.
 pub fn read_bench_words(words: &Vec<String>) -> Option<BenchLine>
     ensures { result ≡ bench_line_of words.now.items }
 {
     match words.as_slice() {
-        [source_type, tokens, passes] => Some(BenchLine {
+        [source_type, kept, passes, rule @ ..] => Some(BenchLine {
             source_type: parse_source_type(source_type.as_str())?,
-            tokens: parse_tokens(tokens.as_str())?,
+            kept: parse_kept(kept.as_str())?,
             passes: parse_count(passes.as_str(), MOST_PASSES)?,
+            rule: parse_rule(rule)?,
         }),
         _ => None,
     }
