@@ -16,19 +16,18 @@ use Rattle.js_session.specs.Marks.{IsAlike, IsInOrder, lexer_behind}
 use Rattle.js_session.specs.RowReader.{AddsLive, RowReaderState}
 use Rattle.js_session.specs.Session.{AddsRow, SessionState, report_of}
 use Rattle.js_session.specs.declared.command.Command.{Command}
-use Rattle.js_session.specs.declared.command.Effect.TheVariants.{ReLexes}
 use Rattle.js_session.proofs.LiveLemmas.{length-with_last}
 use Rattle.js_session.proofs.StepLemmas.{first_added, order_added, seen}
 use Rattle.js_choose.specs.Rules.{IsDue, IsRule, Rule}
 use Rattle.js_choose.specs.Rules.IsDue.{reads_on, reads_again}
 use Rattle.js_choose.proofs.SessionLemmas.{Goes, few_more, goes_end, goes_less, goes_on, goes_start, left_from, left_of}
-use Rattle.js_lists.specs.Drive.{Drives, MayFollow}
+use Rattle.js_lists.specs.Drive.{Drives}
 use Rattle.js_lists.specs.declared.step.LastRead.{LastRead}
-use Rattle.js_lists.proofs.ChosenLemmas.{due_again, left}
+use Rattle.js_lists.proofs.ChosenLemmas.{left}
 use Rattle.js_lists.proofs.DriveLemmas.{drives_seen, step_again, step_on}
 use Rattle.js_lists.proofs.RowLemmas.{row_made, row_read}
 use Rattle.js_bench.specs.Counts.{IsPassOver, counts_of}
-use Rattle.js_bench.specs.Drive.{Follows, ReadsAgain, ReadsOn}
+use Rattle.js_bench.specs.Drive.{Follows, MayFollow, ReadsAgain, ReadsOn}
 use Rattle.js_bench.specs.declared.pass.PassCounts.{PassCounts}
 
 -- A pass over the text has counted so many tokens: they are live in a session that has made the steps that were chosen
@@ -101,15 +100,16 @@ last_lies rule text t collects commands s goes last is =
     let same : last ≡ goes.last.last = let e : Some last ≡ Some goes.last.last = sym is ∙ goes.last.is_last in cc in
     subst (IsOnPlaces text) (sym same) goes.last.lies
 
--- a goal that is chosen to read again fits the last token
+-- a token that is read again is the last one of the lexer
 passes_fit : (rule : Rule) (told : List TokenParts → Type 0) (text : List ℕ) (t : SourceType) (collects : Bool)
-    (tokens : ℕ) (l : LexerState) (command : Command) (goal : Goal) → IsRule rule → IsUtf8 text
-    → (p : Passes rule told text t collects tokens l) → rule text p.session.state.now.tokens ≡ Some command
-    → effect_of command ≡ ReLexes goal → fits l.text goal (token_or_default l.last) ≡ true
-passes_fit rule told text t collects tokens l command goal law u p chosen effect =
-    (due_again text p.session.state.now.tokens command goal l (law text p.session.state.now.tokens command chosen)
-    effect u (p.drives.text ∙ p.goes.text_is) p.drives.last
-    (last_lies rule text t collects p.commands p.session p.goes)).1
+    (tokens : ℕ) (l : LexerState) (goal : Goal) (last : TokenParts) → IsUtf8 text
+    → (p : Passes rule told text t collects tokens l) → last_or None p.session.state.now.tokens ≡ Some last
+    → (IsUtf8 text → IsOnPlaces text last → fits text goal last ≡ true)
+    → fits l.text goal (token_or_default l.last) ≡ true
+passes_fit rule told text t collects tokens l goal last u p is_last fit =
+    ap (λ x. fits x goal (token_or_default l.last)) (p.drives.text ∙ p.goes.text_is)
+    ∙ ap (λ o. fits text goal (token_or_default o)) (p.drives.last ∙ is_last)
+    ∙ fit u (last_lies rule text t collects p.commands p.session p.goes last is_last)
 
 -- The lexer may follow what is chosen.
 pub passes_may : (rule : Rule) (told : List TokenParts → Type 0) (text : List ℕ) (t : SourceType) (collects : Bool)
@@ -125,7 +125,7 @@ passes_may rule told text t collects tokens l command law u p chosen =
         subst (λ e. MayFollow e l) (sym effect) (
           final,
           p.drives.place ∙ sym (ap (λ o. (token_or_default o).end) p.drives.last),
-          passes_fit rule told text t collects tokens l command goal law u p chosen effect,
+          passes_fit rule told text t collects tokens l goal last u p is_last fit,
         )
 
 -- The session has one row more for the command, so many more tokens, and the chooser was told them.
@@ -165,7 +165,7 @@ passes_step is_told rule text t collects tokens more l k c d command law u p cho
         subst (λ e. Follows is_told e more l k c d) effect follows in
         let live = p.session.state.now.tokens in
         let last : LastRead = record { token = f.1.token; regex = f.1.reads.outcome.regex } in
-        let fits_it = passes_fit rule (is_told c) text t collects tokens l command goal law u p chosen effect in
+        let fits_it = passes_fit rule (is_told c) text t collects tokens l goal other u p is_last fit in
         let to =
         step_again goal command l k last effect fits_it (record { reads = f.1.reads; regex = refl }) p.session
         p.drives in

@@ -6,8 +6,7 @@ ghost use Rattle.js_grammar.specs.ReLexed.{fits};
 ghost use Rattle.js_lexer.specs.Lexer.{LexesAgain, ReadsToken, token_or_default};
 ghost use Rattle.js_session.specs.Effects.{effect_of};
 ghost use Rattle.js_choose.specs.Rules.{is_final};
-ghost use Rattle.js_lists.specs.Drive.{MayFollow};
-ghost use Rattle.js_bench.specs.Drive.{Follows, ReadsAgain, ReadsOn};
+ghost use Rattle.js_bench.specs.Drive.{Follows, MayFollow, ReadsAgain, ReadsOn};
 
 use js_choose::ChooseGoals;
 use js_grammar::Goal;
