@@ -22,7 +22,6 @@ use Rattle.js_choose.specs.Rules.{IsDue, IsRule, Rule}
 use Rattle.js_choose.specs.Rules.IsDue.{reads_on, reads_again}
 use Rattle.js_choose.proofs.SessionLemmas.{Goes, few_more, goes_end, goes_less, goes_on, goes_start, left_from, left_of}
 use Rattle.js_lists.specs.Drive.{Drives}
-use Rattle.js_lists.specs.declared.step.LastRead.{LastRead}
 use Rattle.js_lists.proofs.ChosenLemmas.{left}
 use Rattle.js_lists.proofs.DriveLemmas.{drives_seen, step_again, step_on}
 use Rattle.js_lists.proofs.RowLemmas.{row_made, row_read}
@@ -150,8 +149,9 @@ passes_step is_told rule text t collects tokens more l k c d command law u p cho
         let f : (more ≡ 1) × ReadsOn is_told goal l k c d =
         subst (λ e. Follows is_told e more l k c d) effect follows in
         let live = p.session.state.now.tokens in
-        let last : LastRead = record { token = f.1.token; regex = None } in
-        let to = step_on goal command l k last effect onward f.1.reads refl p.session p.drives in
+        let to =
+        step_on goal command l k (record { token = f.1.token; regex = None }) effect onward f.1.reads refl p.session
+        p.drives in
         record {
           session = to.session;
           adds = to.adds;
@@ -164,11 +164,10 @@ passes_step is_told rule text t collects tokens more l k c d command law u p cho
         let f : (more ≡ 0) × ReadsAgain is_told goal l k c d =
         subst (λ e. Follows is_told e more l k c d) effect follows in
         let live = p.session.state.now.tokens in
-        let last : LastRead = record { token = f.1.token; regex = f.1.reads.outcome.regex } in
         let fits_it = passes_fit rule (is_told c) text t collects tokens l goal other u p is_last fit in
         let to =
-        step_again goal command l k last effect fits_it (record { reads = f.1.reads; regex = refl }) p.session
-        p.drives in
+        step_again goal command l k (record { token = f.1.token; regex = f.1.reads.outcome.regex }) effect fits_it
+        (record { reads = f.1.reads; regex = refl }) p.session p.drives in
         record {
           session = to.session;
           adds = to.adds;

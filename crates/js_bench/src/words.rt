@@ -1,8 +1,8 @@
 //! The words of the program.
 
 ghost use Rattle.std.specs.Prelude.{◌≡◌, map, string_bytes};
-ghost use Rattle.js_lex_tool.specs.Words.{entry_for};
-ghost use Rattle.js_bench.specs.Words.{bench_line_of, kept_words, rule_in};
+ghost use Rattle.js_lex_tool.specs.Words.{count_in, entry_for, source_type_words};
+ghost use Rattle.js_bench.specs.Words.{bench_line, bench_line_of, kept_words, most_passes, rule_in};
 
 use crate::pass::{GoalRule, Kept};
 use js_lex_tool::{parse_count, parse_source_type};
@@ -46,18 +46,31 @@ fn parse_rule(words: &[String]) -> Option<GoalRule>
     }
 }
 
+/// The line of these words, where each is valid.
+fn read_parts(source_type: &str, kept: &str, passes: &str, rule: &[String]) -> Option<BenchLine>
+    ensures { result ≡ bench_line (entry_for source_type_words source_type.now) (entry_for kept_words kept.now)
+        (count_in most_passes passes.now) (rule_in (map string_bytes rule.now)) }
+{
+    Some(BenchLine {
+        source_type: parse_source_type(source_type)?,
+        kept: parse_kept(kept)?,
+        passes: parse_count(passes, MOST_PASSES)?,
+        rule: parse_rule(rule)?,
+    })
+}
+
 /// What the words after the program's name mean: a source type, what is kept of the tokens, a number of passes from 1 to
 /// 1,000, and `jsx` where goals are chosen by the rule of js_jsx. None: they are not valid.
 pub fn read_bench_words(words: &Vec<String>) -> Option<BenchLine>
     ensures { result ≡ bench_line_of words.now.items }
 {
     match words.as_slice() {
-        [source_type, kept, passes, rule @ ..] => Some(BenchLine {
-            source_type: parse_source_type(source_type.as_str())?,
-            kept: parse_kept(kept.as_str())?,
-            passes: parse_count(passes.as_str(), MOST_PASSES)?,
-            rule: parse_rule(rule)?,
-        }),
+        [source_type, kept, passes, rule @ ..] => read_parts(
+            source_type.as_str(),
+            kept.as_str(),
+            passes.as_str(),
+            rule,
+        ),
         _ => None,
     }
 }
