@@ -1,6 +1,7 @@
 //! The steps of a lexer that is driven by a chooser of goals.
 
 ghost use Rattle.std.specs.Prelude.{◌≡◌, ◌≤◌, true, None, OnOk, IfOk};
+ghost use Rattle.js_kind.specs.TokenParts.{TokenParts};
 ghost use Rattle.js_grammar.specs.Reads.{is_onward};
 ghost use Rattle.js_grammar.specs.ReLexed.{fits};
 ghost use Rattle.js_lexer.specs.Lexer.{LexesAgain, ReadsToken, token_or_default};
@@ -16,7 +17,6 @@ use js_session::{Command, Effect};
 use std::alloc::AllocError;
 
 /// Reads a token of a goal that goes on, and is not the plain one, which is compiled apart.
-#[inline(never)]
 fn read_token<C: LexerConfig + Drop>(
     lexer: &mut Lexer<'_, C>,
     goal: Goal,
@@ -34,6 +34,22 @@ fn read_token<C: LexerConfig + Drop>(
     }
 }
 
+/// Does so; the lexer has the token then as the last one. Taken from there, and not handed back, it leaves what a chooser
+/// keeps in registers.
+#[inline(never)]
+fn read_as_last<C: LexerConfig + Drop>(
+    lexer: &mut Lexer<'_, C>,
+    goal: Goal,
+) -> Result<(), AllocError>
+    requires onward { is_onward goal ≡ true }
+    requires other { goal ≡ Goal.Next → ⊥ }
+    requires first { goal ≡ Goal.First → lexer.old.last ≡ None }
+    ensures { OnOk result ((token : TokenParts) × ReadsToken goal lexer.old token lexer.new) }
+{
+    let _token = read_token(lexer, goal)?;
+    Ok(())
+}
+
 /// Reads a token of a goal that goes on, other than the plain one, and tells it to the chooser.
 #[inline(always)]
 pub(crate) fn read_on<C: LexerConfig + Drop, G: ChooseGoals>(
@@ -48,7 +64,8 @@ pub(crate) fn read_on<C: LexerConfig + Drop, G: ChooseGoals>(
 {
     // The last token is passed first: what was just asked of it is still known then.
     chooser.pass()?;
-    let token = read_token(lexer, goal)?;
+    read_as_last(lexer, goal)?;
+    let token = lexer.last_token();
     chooser.read_passed(&token);
     Ok(())
 }
@@ -101,7 +118,6 @@ fn read_jsx_name<C: LexerConfig + Drop>(lexer: &mut Lexer<'_, C>) -> Token
 }
 
 /// Reads the last token again, where it fits a goal behind which none reads it once more.
-#[inline(never)]
 fn read_token_again<C: LexerConfig + Drop>(
     lexer: &mut Lexer<'_, C>,
     goal: Goal,
@@ -119,6 +135,21 @@ fn read_token_again<C: LexerConfig + Drop>(
     }
 }
 
+/// Does so; the lexer has the token then as the last one.
+#[inline(never)]
+fn read_again_as_last<C: LexerConfig + Drop>(
+    lexer: &mut Lexer<'_, C>,
+    goal: Goal,
+) -> Result<(), AllocError>
+    requires settles { is_final goal ≡ true }
+    requires behind { lexer.old.place ≡ (token_or_default lexer.old.last).end }
+    requires fits { fits lexer.old.text goal (token_or_default lexer.old.last) ≡ true }
+    ensures { OnOk result ((token : TokenParts) × LexesAgain goal lexer.old token lexer.new) }
+{
+    let _token = read_token_again(lexer, goal)?;
+    Ok(())
+}
+
 /// Reads the last token again, and tells the chooser what stands in its place.
 #[inline(always)]
 fn read_again<C: LexerConfig + Drop, G: ChooseGoals>(
@@ -131,7 +162,8 @@ fn read_again<C: LexerConfig + Drop, G: ChooseGoals>(
     requires fits { fits lexer.old.text goal (token_or_default lexer.old.last) ≡ true }
     ensures { OnOk result (ReadsAgain G.is_told goal lexer.old lexer.new chooser.old chooser.new) }
 {
-    let token = read_token_again(lexer, goal)?;
+    read_again_as_last(lexer, goal)?;
+    let token = lexer.last_token();
     chooser.read_again(&token);
     Ok(())
 }
