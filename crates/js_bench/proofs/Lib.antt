@@ -1,2 +1,3 @@
 pub mod PassLemmas
 pub mod Passes
+pub mod PlainLemmas

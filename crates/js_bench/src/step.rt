@@ -1,6 +1,6 @@
 //! The steps of a lexer that is driven by a chooser of goals.
 
-ghost use Rattle.std.specs.Prelude.{◌≡◌, ◌≤◌, true, None, OnOk, IfOk};
+ghost use Rattle.std.specs.Prelude.{◌≡◌, ◌≤◌, true, false, None, OnOk, IfOk};
 ghost use Rattle.js_kind.specs.TokenParts.{TokenParts};
 ghost use Rattle.js_grammar.specs.Reads.{is_onward};
 ghost use Rattle.js_grammar.specs.ReLexed.{fits};
@@ -168,22 +168,44 @@ fn read_again<C: LexerConfig + Drop, G: ChooseGoals>(
     Ok(())
 }
 
+/// Reads a token of a goal that only a rule for JSX chooses to read on, and tells it to the chooser. For another rule no
+/// code is made of this.
+#[inline(always)]
+fn read_in_jsx<C: LexerConfig + Drop, G: ChooseGoals, const JSX: bool>(
+    lexer: &mut Lexer<'_, C>,
+    chooser: &mut G,
+    goal: Goal,
+) -> Result<(), AllocError>
+    requires onward { is_onward goal ≡ true }
+    requires other { goal ≡ Goal.Next → ⊥ }
+    requires later { goal ≡ Goal.First → ⊥ }
+    requires plain { JSX ≡ false → goal ≡ Goal.Next }
+    ensures { OnOk result (ReadsOn G.is_told goal lexer.old lexer.new chooser.old chooser.new) }
+{
+    if JSX {
+        read_on(lexer, chooser, goal)
+    } else {
+        unreachable!()
+    }
+}
+
 /// Follows a command that is chosen, and is not `Command::Next`.
 #[inline(always)]
-fn follow_any<C: LexerConfig + Drop, G: ChooseGoals>(
+fn follow_any<C: LexerConfig + Drop, G: ChooseGoals, const JSX: bool>(
     lexer: &mut Lexer<'_, C>,
     chooser: &mut G,
     command: Command,
 ) -> Result<u64, AllocError>
     requires other { command ≡ Command.Next → ⊥ }
     requires may { MayFollow (effect_of command) lexer.old }
+    requires plain { JSX ≡ false → (goal : Goal) → effect_of command ≡ Effect.Reads goal → goal ≡ Goal.Next }
     ensures follows { IfOk result (λ more.
         Follows G.is_told (effect_of command) more lexer.old lexer.new chooser.old chooser.new) }
     ensures one_at_most { IfOk result (λ more. more ≤ 1) }
 {
     match command.effect() {
         Effect::Reads(goal) => {
-            read_on(lexer, chooser, goal)?;
+            read_in_jsx::<C, G, JSX>(lexer, chooser, goal)?;
             Ok(1)
         }
         Effect::ReLexes(goal) => {
@@ -197,12 +219,13 @@ fn follow_any<C: LexerConfig + Drop, G: ChooseGoals>(
 /// Follows a command that is chosen, and tells how many more tokens were read then: one, or none where the last one was
 /// read again. Most steps read the next token, and that is compiled apart.
 #[inline(always)]
-pub(crate) fn follow<C: LexerConfig + Drop, G: ChooseGoals>(
+pub(crate) fn follow<C: LexerConfig + Drop, G: ChooseGoals, const JSX: bool>(
     lexer: &mut Lexer<'_, C>,
     chooser: &mut G,
     command: Command,
 ) -> Result<u64, AllocError>
-    requires { MayFollow (effect_of command) lexer.old }
+    requires may { MayFollow (effect_of command) lexer.old }
+    requires plain { JSX ≡ false → (goal : Goal) → effect_of command ≡ Effect.Reads goal → goal ≡ Goal.Next }
     ensures follows { IfOk result (λ more.
         Follows G.is_told (effect_of command) more lexer.old lexer.new chooser.old chooser.new) }
     ensures one_at_most { IfOk result (λ more. more ≤ 1) }
@@ -212,6 +235,6 @@ pub(crate) fn follow<C: LexerConfig + Drop, G: ChooseGoals>(
             read_next(lexer, chooser)?;
             Ok(1)
         }
-        _ => follow_any(lexer, chooser, command),
+        _ => follow_any::<C, G, JSX>(lexer, chooser, command),
     }
 }
