@@ -1,3 +1,2 @@
 pub mod PassLemmas
 pub mod Passes
-pub mod PlainLemmas

@@ -1,23 +1,15 @@
 -- What a lexer does that is driven by a chooser of goals: it follows the commands that are chosen.
-use Rattle.std.specs.Prelude.{◌≡◌, ℕ, true, List, [], ◌∷◌, ◌++◌, Some}
+use Rattle.std.specs.Prelude.{◌≡◌, ℕ, true, List, [], ◌∷◌, ◌++◌}
 use Rattle.js_text.specs.Lists.{with_last}
 use Rattle.js_kind.specs.TokenParts.{TokenParts}
 use Rattle.js_grammar.specs.Reads.{is_onward}
 use Rattle.js_grammar.specs.ReLexed.{fits}
 use Rattle.js_grammar.specs.declared.goal.Goal.{Goal}
-use Rattle.js_grammar.specs.declared.goal.Goal.TheVariants.{First, Next}
+use Rattle.js_grammar.specs.declared.goal.Goal.TheVariants.{First}
 use Rattle.js_lexer.specs.Lexer.{LexerState, LexesAgain, ReadsToken, token_or_default}
-use Rattle.js_session.specs.Effects.{effect_of}
-use Rattle.js_session.specs.declared.command.Command.{Command}
 use Rattle.js_session.specs.declared.command.Effect.{Effect}
 use Rattle.js_session.specs.declared.command.Effect.TheVariants.{Reads, Peeks, ReLexes, Opens, Rewinds, Commits}
-use Rattle.js_choose.specs.Rules.{Rule, is_final}
-
--- A rule by which a lexer reads on for the plain goal alone.
-abbrev pub IsPlain : Rule → Type 0
-IsPlain rule =
-    (text : List ℕ) (tokens : List TokenParts) (command : Command) (goal : Goal) → rule text tokens ≡ Some command
-    → effect_of command ≡ Reads goal → goal ≡ Next
+use Rattle.js_choose.specs.Rules.{is_final}
 
 -- A token was read on, and told to the chooser.
 pub record ReadsOn {G : Type 0} (is_told : G → List TokenParts → Type 0) (goal : Goal) (l k : LexerState) (c d : G)

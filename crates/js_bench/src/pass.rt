@@ -1,15 +1,13 @@
 //! One pass over a source: its tokens are read by the goals that are chosen, and no rows are made of them.
 
-ghost use Rattle.std.specs.Prelude.{◌≡◌, ◌<◌, ◌^◌, length, refl, Bool, true, false, IfOk};
+ghost use Rattle.std.specs.Prelude.{◌≡◌, ◌<◌, ◌^◌, length, refl, Bool, true, IfOk};
 ghost use Rattle.std.specs.Str.{IsUtf8};
 ghost use Rattle.js_lexer.specs.Lexer.{fresh};
 ghost use Rattle.js_bench.specs.Counts.{IsListingOf, IsPass, IsPassOver, counts_of_lists, rule_of};
-ghost use Rattle.js_bench.specs.Drive.{IsPlain};
 
-use crate::step::{follow, read_on};
+use crate::step::{follow, read_first};
 use js_auto::GoalChooser;
 use js_choose::ChooseGoals;
-use js_grammar::Goal;
 use js_jsx::JsxChooser;
 use js_kind::LexerConfig;
 use js_lexer::Lexer;
@@ -67,7 +65,7 @@ impl<const JSX: bool, const TOKENS: bool> LexerConfig for PassConfig<JSX, TOKENS
 
 /// A pass with a lexer that has read nothing: it counts what is live in the report of a session whose goals are chosen.
 #[inline(never)]
-fn pass_with<C: LexerConfig + Drop, G: ChooseGoals, const JSX: bool>(
+fn pass_with<C: LexerConfig + Drop, G: ChooseGoals>(
     alloc: Global,
     text: &str,
     mut lexer: Lexer<'_, C>,
@@ -75,14 +73,13 @@ fn pass_with<C: LexerConfig + Drop, G: ChooseGoals, const JSX: bool>(
     requires unread { lexer ≡ fresh text.now lexer.source_type lexer.collects }
     requires utf8 { IsUtf8 text.now }
     requires short { length text.now < 2 ^ 32 }
-    requires plain { JSX ≡ false → IsPlain G.choice }
     ensures { IfOk result (IsPassOver G.choice text.now lexer.entry.source_type lexer.entry.collects) }
 {
     let mut chooser = G::new(alloc);
-    read_on(&mut lexer, &mut chooser, Goal::First)?;
+    read_first(&mut lexer, &mut chooser)?;
     let mut tokens: u64 = 1;
     'tokens: while let Some(command) = chooser.command(text) {
-        tokens += follow::<C, G, JSX>(&mut lexer, &mut chooser, command)?;
+        tokens += follow(&mut lexer, &mut chooser, command)?;
     }
     Ok(PassCounts {
         tokens,
@@ -92,18 +89,17 @@ fn pass_with<C: LexerConfig + Drop, G: ChooseGoals, const JSX: bool>(
 }
 
 /// A pass with a lexer whose configuration is known before the program runs, as that of a parser is.
-fn pass_over<C: LexerConfig + Drop, G: ChooseGoals, const JSX: bool>(
+fn pass_over<C: LexerConfig + Drop, G: ChooseGoals>(
     alloc: Global,
     text: &str,
     source_type: SourceType,
     config: C,
 ) -> Result<PassCounts, AllocError>
-    requires short { length text.now < 2 ^ 32 }
-    requires plain { JSX ≡ false → IsPlain G.choice }
+    requires { length text.now < 2 ^ 32 }
     ensures { IfOk result (IsPassOver G.choice text.now source_type (C.collects config)) }
 {
     match Lexer::new(alloc, text, source_type, config) {
-        Ok(lexer) => pass_with::<C, G, JSX>(alloc, text, lexer),
+        Ok(lexer) => pass_with::<C, G>(alloc, text, lexer),
         Err(_) => Err(AllocError),
     }
 }
@@ -142,23 +138,12 @@ fn pass_by<G: ChooseGoals, const JSX: bool>(
     source_type: SourceType,
     kept: Kept,
 ) -> Result<PassCounts, AllocError>
-    requires short { length text.now < 2 ^ 32 }
-    requires plain { JSX ≡ false → IsPlain G.choice }
+    requires { length text.now < 2 ^ 32 }
     ensures { IfOk result (IsPass kept G.choice text.now source_type) }
 {
     match kept {
-        Kept::Nothing => pass_over::<_, G, JSX>(
-            alloc,
-            text,
-            source_type,
-            PassConfig::<JSX, false> {},
-        ),
-        Kept::Tokens => pass_over::<_, G, JSX>(
-            alloc,
-            text,
-            source_type,
-            PassConfig::<JSX, true> {},
-        ),
+        Kept::Nothing => pass_over::<_, G>(alloc, text, source_type, PassConfig::<JSX, false> {}),
+        Kept::Tokens => pass_over::<_, G>(alloc, text, source_type, PassConfig::<JSX, true> {}),
         Kept::Lists => pass_into_lists::<G>(alloc, text, source_type),
     }
 }

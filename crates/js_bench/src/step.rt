@@ -1,6 +1,6 @@
 //! The steps of a lexer that is driven by a chooser of goals.
 
-ghost use Rattle.std.specs.Prelude.{◌≡◌, ◌≤◌, true, false, None, OnOk, IfOk};
+ghost use Rattle.std.specs.Prelude.{◌≡◌, ◌≤◌, true, None, OnOk, IfOk};
 ghost use Rattle.js_kind.specs.TokenParts.{TokenParts};
 ghost use Rattle.js_grammar.specs.Reads.{is_onward};
 ghost use Rattle.js_grammar.specs.ReLexed.{fits};
@@ -23,11 +23,10 @@ fn read_token<C: LexerConfig + Drop>(
 ) -> Result<Token, AllocError>
     requires onward { is_onward goal ≡ true }
     requires other { goal ≡ Goal.Next → ⊥ }
-    requires first { goal ≡ Goal.First → lexer.old.last ≡ None }
+    requires later { goal ≡ Goal.First → ⊥ }
     ensures { IfOk result (λ token. ReadsToken goal lexer.old token lexer.new) }
 {
     match goal {
-        Goal::First => lexer.first_token(),
         Goal::JsxChild => lexer.next_jsx_child(),
         Goal::JsxAttributeValue => lexer.next_jsx_attribute_value(),
         _ => unreachable!(),
@@ -43,7 +42,7 @@ fn read_as_last<C: LexerConfig + Drop>(
 ) -> Result<(), AllocError>
     requires onward { is_onward goal ≡ true }
     requires other { goal ≡ Goal.Next → ⊥ }
-    requires first { goal ≡ Goal.First → lexer.old.last ≡ None }
+    requires later { goal ≡ Goal.First → ⊥ }
     ensures { OnOk result ((token : TokenParts) × ReadsToken goal lexer.old token lexer.new) }
 {
     let _token = read_token(lexer, goal)?;
@@ -52,20 +51,35 @@ fn read_as_last<C: LexerConfig + Drop>(
 
 /// Reads a token of a goal that goes on, other than the plain one, and tells it to the chooser.
 #[inline(always)]
-pub(crate) fn read_on<C: LexerConfig + Drop, G: ChooseGoals>(
+fn read_on<C: LexerConfig + Drop, G: ChooseGoals>(
     lexer: &mut Lexer<'_, C>,
     chooser: &mut G,
     goal: Goal,
 ) -> Result<(), AllocError>
     requires onward { is_onward goal ≡ true }
     requires other { goal ≡ Goal.Next → ⊥ }
-    requires first { goal ≡ Goal.First → lexer.old.last ≡ None }
+    requires later { goal ≡ Goal.First → ⊥ }
     ensures { OnOk result (ReadsOn G.is_told goal lexer.old lexer.new chooser.old chooser.new) }
 {
     // The last token is passed first: what was just asked of it is still known then.
     chooser.pass()?;
     read_as_last(lexer, goal)?;
     let token = lexer.last_token();
+    chooser.read_passed(&token);
+    Ok(())
+}
+
+/// Reads the first token, and tells it to the chooser.
+#[inline(always)]
+pub(crate) fn read_first<C: LexerConfig + Drop, G: ChooseGoals>(
+    lexer: &mut Lexer<'_, C>,
+    chooser: &mut G,
+) -> Result<(), AllocError>
+    requires { lexer.old.last ≡ None }
+    ensures { OnOk result (ReadsOn G.is_told Goal.First lexer.old lexer.new chooser.old chooser.new) }
+{
+    chooser.pass()?;
+    let token = lexer.first_token()?;
     chooser.read_passed(&token);
     Ok(())
 }
@@ -168,44 +182,22 @@ fn read_again<C: LexerConfig + Drop, G: ChooseGoals>(
     Ok(())
 }
 
-/// Reads a token of a goal that only a rule for JSX chooses to read on, and tells it to the chooser. For another rule no
-/// code is made of this.
-#[inline(always)]
-fn read_in_jsx<C: LexerConfig + Drop, G: ChooseGoals, const JSX: bool>(
-    lexer: &mut Lexer<'_, C>,
-    chooser: &mut G,
-    goal: Goal,
-) -> Result<(), AllocError>
-    requires onward { is_onward goal ≡ true }
-    requires other { goal ≡ Goal.Next → ⊥ }
-    requires later { goal ≡ Goal.First → ⊥ }
-    requires plain { JSX ≡ false → goal ≡ Goal.Next }
-    ensures { OnOk result (ReadsOn G.is_told goal lexer.old lexer.new chooser.old chooser.new) }
-{
-    if JSX {
-        read_on(lexer, chooser, goal)
-    } else {
-        unreachable!()
-    }
-}
-
 /// Follows a command that is chosen, and is not `Command::Next`.
 #[inline(always)]
-fn follow_any<C: LexerConfig + Drop, G: ChooseGoals, const JSX: bool>(
+fn follow_any<C: LexerConfig + Drop, G: ChooseGoals>(
     lexer: &mut Lexer<'_, C>,
     chooser: &mut G,
     command: Command,
 ) -> Result<u64, AllocError>
     requires other { command ≡ Command.Next → ⊥ }
     requires may { MayFollow (effect_of command) lexer.old }
-    requires plain { JSX ≡ false → (goal : Goal) → effect_of command ≡ Effect.Reads goal → goal ≡ Goal.Next }
     ensures follows { IfOk result (λ more.
         Follows G.is_told (effect_of command) more lexer.old lexer.new chooser.old chooser.new) }
     ensures one_at_most { IfOk result (λ more. more ≤ 1) }
 {
     match command.effect() {
         Effect::Reads(goal) => {
-            read_in_jsx::<C, G, JSX>(lexer, chooser, goal)?;
+            read_on(lexer, chooser, goal)?;
             Ok(1)
         }
         Effect::ReLexes(goal) => {
@@ -219,13 +211,12 @@ fn follow_any<C: LexerConfig + Drop, G: ChooseGoals, const JSX: bool>(
 /// Follows a command that is chosen, and tells how many more tokens were read then: one, or none where the last one was
 /// read again. Most steps read the next token, and that is compiled apart.
 #[inline(always)]
-pub(crate) fn follow<C: LexerConfig + Drop, G: ChooseGoals, const JSX: bool>(
+pub(crate) fn follow<C: LexerConfig + Drop, G: ChooseGoals>(
     lexer: &mut Lexer<'_, C>,
     chooser: &mut G,
     command: Command,
 ) -> Result<u64, AllocError>
-    requires may { MayFollow (effect_of command) lexer.old }
-    requires plain { JSX ≡ false → (goal : Goal) → effect_of command ≡ Effect.Reads goal → goal ≡ Goal.Next }
+    requires { MayFollow (effect_of command) lexer.old }
     ensures follows { IfOk result (λ more.
         Follows G.is_told (effect_of command) more lexer.old lexer.new chooser.old chooser.new) }
     ensures one_at_most { IfOk result (λ more. more ≤ 1) }
@@ -235,6 +226,6 @@ pub(crate) fn follow<C: LexerConfig + Drop, G: ChooseGoals, const JSX: bool>(
             read_next(lexer, chooser)?;
             Ok(1)
         }
-        _ => follow_any::<C, G, JSX>(lexer, chooser, command),
+        _ => follow_any(lexer, chooser, command),
     }
 }

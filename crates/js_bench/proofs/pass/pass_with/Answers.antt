@@ -9,23 +9,17 @@ pub tokens-init : goal.tokens-init
 tokens-init g c =
     let l = c.args.lexer in
     passes_start g.G.ChooseGoals.is_told g.G.ChooseGoals.choice c.args.text.now l.source_type l.collects
-    c.read_on.new.lexer c.new-chooser.result c.read_on.new.chooser c.requires.utf8 c.requires.short
-    (subst (λ old. ReadsOn g.G.ChooseGoals.is_told First old c.read_on.new.lexer c.new-chooser.result
-    c.read_on.new.chooser) c.requires.unread c.in_ok-read_on.ensures) c.new-chooser.ensures
+    c.read_first.new.lexer c.new-chooser.result c.read_first.new.chooser c.requires.utf8 c.requires.short
+    (subst (λ old. ReadsOn g.G.ChooseGoals.is_told First old c.read_first.new.lexer c.new-chooser.result
+    c.read_first.new.chooser) c.requires.unread c.in_ok-read_first.ensures) c.new-chooser.ensures
 
-pub follow-requires-clause-may : goal.follow-requires-clause-may
-follow-requires-clause-may g c =
+pub follow-requires : goal.follow-requires
+follow-requires g c =
     let l = c.args.lexer in
     passes_may g.G.ChooseGoals.choice (g.G.ChooseGoals.is_told c.tokens.chooser) c.args.text.now l.source_type
     l.collects c.tokens.tokens c.tokens.lexer c.in-Some.command g.met.G.ChooseGoals.is_rule c.requires.utf8
     c.tokens.invariant
     (sym (c.in-Some.ensures c.tokens.invariant.session.state.now.tokens c.tokens.invariant.is_told))
-
-pub follow-requires-clause-plain : goal.follow-requires-clause-plain
-follow-requires-clause-plain g c =
-    λ off onward effect. c.requires.plain off c.args.text.now c.tokens.invariant.session.state.now.tokens
-    c.in-Some.command onward
-    (sym (c.in-Some.ensures c.tokens.invariant.session.state.now.tokens c.tokens.invariant.is_told)) effect
 
 pub tokens-preserved : goal.tokens-preserved
 tokens-preserved g c =

@@ -3,12 +3,8 @@ use Rattle.js_session.specs.declared.command.Effect.TheVariants.{Reads}
 use Rattle.js_lists.proofs.DriveLemmas.{plain_is_next}
 use Rattle.js_bench.proofs.step.follow_any.Goals as goal
 
-pub read_in_jsx-requires-clause-other : goal.read_in_jsx-requires-clause-other
-read_in_jsx-requires-clause-other g c =
+pub read_on-requires-clause-other : goal.read_on-requires-clause-other
+read_on-requires-clause-other g c =
     λ plain. c.requires.other
     (plain_is_next c.args.command
     (sym c.effect.ensures ∙ c.in-Reads.is ∙ ap Reads plain))
-
-pub read_in_jsx-requires-clause-plain : goal.read_in_jsx-requires-clause-plain
-read_in_jsx-requires-clause-plain g c =
-    λ off. c.requires.plain off c.in-Reads.goal (sym c.effect.ensures ∙ c.in-Reads.is)
