@@ -1,4 +1,2 @@
-pub mod DriveLemmas
 pub mod PassLemmas
 pub mod Passes
-pub mod RowLemmas

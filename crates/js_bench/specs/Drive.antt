@@ -1,41 +1,47 @@
--- A lexer that is driven by the goals that are chosen stands for a session, though no rows are made.
-use Rattle.std.specs.Prelude.{◌≡◌, ℕ, ◌+◌, [], length, Some}
-use Rattle.std.specs.Str.{IsUtf8}
-use Rattle.js_lexer.specs.Lexer.{LexerState}
-use Rattle.js_session.specs.Live.{last_live, place_behind_last}
-use Rattle.js_session.specs.Report.{all_collected}
-use Rattle.js_session.specs.Session.{AddsRow, LieOnPlaces, SessionState}
-use Rattle.js_session.specs.declared.command.Command.{Command}
-use Rattle.js_auto.specs.Choice.{Chooser, choice, chooser_of}
+-- What a lexer does that is driven by a chooser of goals: it follows the commands that are chosen.
+use Rattle.std.specs.Prelude.{◌≡◌, ℕ, true, List, [], ◌∷◌, ◌++◌}
+use Rattle.js_text.specs.Lists.{with_last}
+use Rattle.js_kind.specs.TokenParts.{TokenParts}
+use Rattle.js_grammar.specs.Reads.{is_onward}
+use Rattle.js_grammar.specs.ReLexed.{fits}
+use Rattle.js_grammar.specs.declared.goal.Goal.{Goal}
+use Rattle.js_grammar.specs.declared.goal.Goal.TheVariants.{First}
+use Rattle.js_lexer.specs.Lexer.{LexerState, LexesAgain, ReadsToken, token_or_default}
+use Rattle.js_session.specs.declared.command.Effect.{Effect}
+use Rattle.js_session.specs.declared.command.Effect.TheVariants.{Reads, Peeks, ReLexes, Opens, Rewinds, Commits}
+use Rattle.js_choose.specs.Rules.{is_final}
 
--- They stand for the session: the lexer is behind the last live token, and has found what is live; and the chooser was
--- told the tokens that are live. No mark is open.
-pub record Drives (s : SessionState) (l : LexerState) (c : Chooser) : Type 0 where
-  pub text : l.text ≡ s.text
-  pub source_type : l.source_type ≡ s.source_type
-  pub collects : l.collects ≡ s.collects
-  pub place : l.place ≡ place_behind_last s.state.now
-  pub last : l.last ≡ last_live s.state.now
-  pub tokens : l.tokens ≡ all_collected s.collects s.state.now.tokens
-  pub findings : l.findings ≡ s.state.now.findings
-  pub told : c ≡ chooser_of s.state.now.tokens
-  pub unmarked : s.state.marks ≡ []
-  pub utf8 : IsUtf8 s.text
-  pub places : LieOnPlaces s
+-- A token was read on, and told to the chooser.
+pub record ReadsOn {G : Type 0} (is_told : G → List TokenParts → Type 0) (goal : Goal) (l k : LexerState) (c d : G)
+    : Type 0 where
+  pub token : TokenParts
+  pub reads : ReadsToken goal l token k
+  pub told : (tokens : List TokenParts) → is_told c tokens → is_told d (tokens ++ token ∷ [])
 
--- They stand for a session, in which this command is chosen.
-pub record DrivesTo (command : Command) (l : LexerState) (c : Chooser) : Type 0 where
-  pub session : SessionState
-  pub drives : Drives session l c
-  pub chosen : choice session.state.now.tokens ≡ Some command
+-- The last token was read again, and the chooser was told what stands in its place.
+pub record ReadsAgain {G : Type 0} (is_told : G → List TokenParts → Type 0) (goal : Goal) (l k : LexerState)
+    (c d : G) : Type 0 where
+  pub token : TokenParts
+  pub reads : LexesAgain goal l token k
+  pub told : (tokens : List TokenParts) → is_told c tokens → is_told d (with_last tokens token)
 
--- They stand for the session with a row of the command, in which so many more tokens are live.
-pub record DrivesOn (command : Command) (more : ℕ) (s : SessionState) (l : LexerState) (c : Chooser) : Type 0 where
-  pub session : SessionState
-  pub adds : AddsRow command s session
-  pub drives : Drives session l c
-  pub more_are : length session.state.now.tokens ≡ length s.state.now.tokens + more
+-- the lexer may follow an effect: it reads on, or reads the last token again for a goal that fits it and is a last one
+abbrev pub MayFollow : Effect → LexerState → Type 0
+MayFollow (Reads goal) l = (is_onward goal ≡ true) × (¬ (goal ≡ First))
+MayFollow (Peeks goal) l = ⊥
+MayFollow (ReLexes goal) l =
+    (is_final goal ≡ true) × (l.place ≡ (token_or_default l.last).end)
+    × (fits l.text goal (token_or_default l.last) ≡ true)
+MayFollow Opens l = ⊥
+MayFollow Rewinds l = ⊥
+MayFollow Commits l = ⊥
 
--- A step of the command: whatever session they stood for, they stand for that with one more row.
-abbrev pub MakesStep : Command → ℕ → LexerState → Chooser → LexerState → Chooser → Type 0
-MakesStep command more old c new d = (s : SessionState) → Drives s old c → DrivesOn command more s new d
+-- An effect was followed, by which so many tokens were read more: one, or none where the last one was read again.
+abbrev pub Follows : {G : Type 0} (is_told : G → List TokenParts → Type 0) → Effect → ℕ → LexerState → LexerState → G
+    → G → Type 0
+Follows is_told (Reads goal) more l k c d = (more ≡ 1) × ReadsOn is_told goal l k c d
+Follows is_told (Peeks goal) more l k c d = ⊥
+Follows is_told (ReLexes goal) more l k c d = (more ≡ 0) × ReadsAgain is_told goal l k c d
+Follows is_told Opens more l k c d = ⊥
+Follows is_told Rewinds more l k c d = ⊥
+Follows is_told Commits more l k c d = ⊥

@@ -31,7 +31,7 @@ fn bench_text(alloc: Global, source: &str, line: &BenchLine) -> Result<String, A
 {
     let mut text = String::new(alloc);
     'passes: for _ in 0..line.passes {
-        let counts = count_pass(alloc, source, line.source_type, line.tokens)?;
+        let counts = count_pass(alloc, source, line.source_type, line.kept, line.rule)?;
         push_pass(&mut text, &counts)?;
     }
     Ok(text)

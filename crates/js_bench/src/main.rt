@@ -5,6 +5,7 @@
 mod bench;
 mod pass;
 mod program;
+mod step;
 mod words;
 
 use js_process::{StdIn, StdOut, program_words};

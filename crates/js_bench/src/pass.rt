@@ -1,17 +1,39 @@
 //! One pass over a source: its tokens are read by the goals that are chosen, and no rows are made of them.
 
-ghost use Rattle.std.specs.Prelude.{◌≡◌, ◌<◌, ◌≤◌, ◌^◌, length, OnOk, IfOk};
+ghost use Rattle.std.specs.Prelude.{◌≡◌, ◌<◌, ◌^◌, length, refl, Bool, true, IfOk};
 ghost use Rattle.std.specs.Str.{IsUtf8};
 ghost use Rattle.js_lexer.specs.Lexer.{fresh};
-ghost use Rattle.js_bench.specs.Counts.{IsPassOver};
-ghost use Rattle.js_bench.specs.Drive.{DrivesTo, MakesStep};
+ghost use Rattle.js_bench.specs.Counts.{IsListingOf, IsPass, IsPassOver, counts_of_lists, rule_of};
 
+use crate::step::{follow, read_first};
 use js_auto::GoalChooser;
-use js_kind::{LexerConfig, NoTokensLexerConfig, TokensLexerConfig};
+use js_choose::ChooseGoals;
+use js_jsx::JsxChooser;
+use js_kind::LexerConfig;
 use js_lexer::Lexer;
-use js_session::Command;
+use js_lists::{LiveLists, chosen_lists};
 use js_text::SourceType;
 use std::alloc::{AllocError, Global};
+
+/// What a pass keeps of the tokens.
+#[derive(Clone, Copy, PartialEq, Eq, Debug)]
+pub enum Kept {
+    /// Nothing.
+    Nothing,
+    /// The list that the lexer collects.
+    Tokens,
+    /// The lists of what is live, with the values.
+    Lists,
+}
+
+/// The rule by which goals are chosen.
+#[derive(Clone, Copy, PartialEq, Eq, Debug)]
+pub enum GoalRule {
+    /// That of `GoalChooser`, which knows no JSX.
+    Auto,
+    /// That of `JsxChooser`.
+    Jsx,
+}
 
 /// What a pass found.
 #[derive(Clone, Copy, PartialEq, Eq, Debug)]
@@ -22,95 +44,42 @@ pub struct PassCounts {
     pub diagnostics: usize,
 }
 
-/// Reads the next token, which is chosen.
-fn read_next<C: LexerConfig + Drop>(
-    lexer: &mut Lexer<'_, C>,
-    chooser: &mut GoalChooser,
-) -> Result<(), AllocError>
-    requires { DrivesTo Command.Next lexer.old chooser.old }
-    ensures { OnOk result (MakesStep Command.Next 1 lexer.old chooser.old lexer.new chooser.new) }
-{
-    // The last token is passed first: what the loop has just asked of it is still known then.
-    chooser.pass()?;
-    let token = lexer.next_token()?;
-    chooser.read_passed(&token);
-    Ok(())
-}
+/// The configuration of a lexer that collects its tokens or not, with the rule by which its goals are chosen. Each of the
+/// four is a type of its own, so that the readings of each pass are compiled for it alone, as those of a parser are.
+#[derive(Clone, Copy, Default)]
+struct PassConfig<const JSX: bool, const TOKENS: bool> {}
 
-/// Reads the last token again, as a regular expression.
-fn read_expression<C: LexerConfig + Drop>(
-    lexer: &mut Lexer<'_, C>,
-    chooser: &mut GoalChooser,
-) -> Result<(), AllocError>
-    requires { DrivesTo Command.Regex lexer.old chooser.old }
-    ensures { OnOk result (MakesStep Command.Regex 0 lexer.old chooser.old lexer.new chooser.new) }
-{
-    let kind = lexer.last_token().kind();
-    let found = lexer.next_regex(kind)?;
-    chooser.read_again(&found.token);
-    Ok(())
-}
+impl<const JSX: bool, const TOKENS: bool> LexerConfig for PassConfig<JSX, TOKENS> {
+    const TOKENS_METHOD_IS_STATIC: bool = true;
 
-/// Reads the last token again, as a part of a template.
-fn read_part<C: LexerConfig + Drop>(
-    lexer: &mut Lexer<'_, C>,
-    chooser: &mut GoalChooser,
-) -> Result<(), AllocError>
-    requires { DrivesTo Command.TemplateTail lexer.old chooser.old }
-    ensures { OnOk result (MakesStep Command.TemplateTail 0 lexer.old chooser.old lexer.new chooser.new) }
-{
-    let token = lexer.next_template_substitution_tail()?;
-    chooser.read_again(&token);
-    Ok(())
-}
+    ghost TOKENS_METHOD_IS_STATIC = { true };
 
-/// Reads the token that is chosen, and tells how many more were read then: one, or none where the last one was read
-/// again.
-fn read_chosen<C: LexerConfig + Drop>(
-    lexer: &mut Lexer<'_, C>,
-    chooser: &mut GoalChooser,
-    command: Command,
-) -> Result<u64, AllocError>
-    requires { DrivesTo command lexer.old chooser.old }
-    ensures driven { IfOk result (λ more.
-        MakesStep command more lexer.old chooser.old lexer.new chooser.new) }
-    ensures one_at_most { IfOk result (λ more. more ≤ 1) }
-{
-    match command {
-        Command::Next => {
-            read_next(lexer, chooser)?;
-            Ok(1)
-        }
-        Command::Regex => {
-            read_expression(lexer, chooser)?;
-            Ok(0)
-        }
-        Command::TemplateTail => {
-            read_part(lexer, chooser)?;
-            Ok(0)
-        }
-        _ => unreachable!(),
+    ghost collects = { λ _. TOKENS };
+
+    ghost is_static = { λ _ a b. refl };
+
+    fn tokens(&self) -> bool {
+        TOKENS
     }
 }
 
 /// A pass with a lexer that has read nothing: it counts what is live in the report of a session whose goals are chosen.
-// Each configuration is compiled apart, as it is in a parser, which has one.
 #[inline(never)]
-fn pass_with<C: LexerConfig + Drop>(
+fn pass_with<C: LexerConfig + Drop, G: ChooseGoals>(
     alloc: Global,
+    text: &str,
     mut lexer: Lexer<'_, C>,
 ) -> Result<PassCounts, AllocError>
-    requires unread { lexer ≡ fresh lexer.text lexer.source_type lexer.collects }
-    requires utf8 { IsUtf8 lexer.text }
-    requires short { length lexer.text < 2 ^ 32 }
-    ensures { IfOk result (IsPassOver lexer.entry.text lexer.entry.source_type lexer.entry.collects) }
+    requires unread { lexer ≡ fresh text.now lexer.source_type lexer.collects }
+    requires utf8 { IsUtf8 text.now }
+    requires short { length text.now < 2 ^ 32 }
+    ensures { IfOk result (IsPassOver G.choice text.now lexer.entry.source_type lexer.entry.collects) }
 {
-    let mut chooser = GoalChooser::new(alloc);
-    let first = lexer.first_token()?;
-    chooser.read(&first)?;
+    let mut chooser = G::new(alloc);
+    read_first(&mut lexer, &mut chooser)?;
     let mut tokens: u64 = 1;
-    'tokens: while let Some(command) = chooser.command() {
-        tokens += read_chosen(&mut lexer, &mut chooser, command)?;
+    'tokens: while let Some(command) = chooser.command(text) {
+        tokens += follow(&mut lexer, &mut chooser, command)?;
     }
     Ok(PassCounts {
         tokens,
@@ -119,42 +88,79 @@ fn pass_with<C: LexerConfig + Drop>(
     })
 }
 
-/// A lexer over the text, with a configuration that is known before the program runs, as that of a parser is.
-fn lexer_over<'a, C: LexerConfig + Drop>(
+/// A pass with a lexer whose configuration is known before the program runs, as that of a parser is.
+fn pass_over<C: LexerConfig + Drop, G: ChooseGoals>(
     alloc: Global,
-    text: &'a str,
+    text: &str,
     source_type: SourceType,
     config: C,
-) -> Result<Lexer<'a, C>, AllocError>
+) -> Result<PassCounts, AllocError>
     requires { length text.now < 2 ^ 32 }
-    ensures unread { IfOk result (λ lexer. lexer ≡ fresh text.now source_type (C.collects config)) }
-    ensures utf8 { IsUtf8 text.now }
+    ensures { IfOk result (IsPassOver G.choice text.now source_type (C.collects config)) }
 {
     match Lexer::new(alloc, text, source_type, config) {
-        Ok(lexer) => Ok(lexer),
+        Ok(lexer) => pass_with::<C, G>(alloc, text, lexer),
         Err(_) => Err(AllocError),
     }
 }
 
-/// One pass over the text, with a lexer that collects its tokens, or does not.
+/// What is listed.
+fn listed(lists: &LiveLists) -> PassCounts
+    ensures { result ≡ counts_of_lists lists.now }
+{
+    PassCounts {
+        tokens: lists.tokens.len() as u64,
+        comments: lists.found.comments.len(),
+        diagnostics: lists.found.diagnostics.len(),
+    }
+}
+
+/// A pass that lists what is live.
+#[inline(never)]
+fn pass_into_lists<G: ChooseGoals>(
+    alloc: Global,
+    text: &str,
+    source_type: SourceType,
+) -> Result<PassCounts, AllocError>
+    ensures { IfOk result (IsListingOf G.choice text.now source_type) }
+{
+    match chosen_lists::<G>(alloc, text.as_bytes(), source_type) {
+        Ok(lists) => Ok(listed(&lists)),
+        // the source is UTF-8, and short enough
+        Err(_) => Err(AllocError),
+    }
+}
+
+/// A pass by the rule of a chooser, that of js_jsx or not.
+fn pass_by<G: ChooseGoals, const JSX: bool>(
+    alloc: Global,
+    text: &str,
+    source_type: SourceType,
+    kept: Kept,
+) -> Result<PassCounts, AllocError>
+    requires { length text.now < 2 ^ 32 }
+    ensures { IfOk result (IsPass kept G.choice text.now source_type) }
+{
+    match kept {
+        Kept::Nothing => pass_over::<_, G>(alloc, text, source_type, PassConfig::<JSX, false> {}),
+        Kept::Tokens => pass_over::<_, G>(alloc, text, source_type, PassConfig::<JSX, true> {}),
+        Kept::Lists => pass_into_lists::<G>(alloc, text, source_type),
+    }
+}
+
+/// One pass over the text, by a rule.
 pub fn count_pass(
     alloc: Global,
     text: &str,
     source_type: SourceType,
-    tokens: bool,
+    kept: Kept,
+    rule: GoalRule,
 ) -> Result<PassCounts, AllocError>
     requires { length text.now < 2 ^ 32 }
-    ensures { IfOk result (IsPassOver text.now source_type tokens) }
+    ensures { IfOk result (IsPass kept (rule_of rule) text.now source_type) }
 {
-    if tokens {
-        pass_with(
-            alloc,
-            lexer_over(alloc, text, source_type, TokensLexerConfig)?,
-        )
-    } else {
-        pass_with(
-            alloc,
-            lexer_over(alloc, text, source_type, NoTokensLexerConfig)?,
-        )
+    match rule {
+        GoalRule::Auto => pass_by::<GoalChooser, false>(alloc, text, source_type, kept),
+        GoalRule::Jsx => pass_by::<JsxChooser, true>(alloc, text, source_type, kept),
     }
 }

@@ -12,7 +12,7 @@ abbrev pub js_bench : List ℕ
 js_bench = codes "js_bench"
 
 abbrev pub js_bench_usage : List ℕ
-js_bench_usage = codes "usage: js_bench module|script|unambiguous tokens|no-tokens N"
+js_bench_usage = codes "usage: js_bench module|script|unambiguous tokens|no-tokens|lists N [jsx]"
 
 abbrev pub js_parse_example : List ℕ
 js_parse_example = codes "js_parse_example"

@@ -12,7 +12,8 @@ pub const EDIT_USAGE: &str =
 pub const BENCH: &str = "js_bench";
 
 /// What `js_bench` prints where its arguments are not valid.
-pub const BENCH_USAGE: &str = "usage: js_bench module|script|unambiguous tokens|no-tokens N";
+pub const BENCH_USAGE: &str =
+    "usage: js_bench module|script|unambiguous tokens|no-tokens|lists N [jsx]";
 
 /// The name of `js_parse_example`.
 pub const PARSE_EXAMPLE: &str = "js_parse_example";

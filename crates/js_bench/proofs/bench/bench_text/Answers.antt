@@ -4,11 +4,10 @@ use Rattle.js_bench.proofs.bench.bench_text.Goals as goal
 
 pub passes-preserved : goal.passes-preserved
 passes-preserved c =
-    one_more c.args.source.now c.args.line.now.source_type c.args.line.now.tokens c.passes.counter
-    (string_bytes c.passes.text) (string_bytes c.push_pass.new.text) c.in_ok-counts.counts c.passes.invariant
-    c.in_ok-counts.ensures c.in_ok-push_pass.ensures
+    one_more c.args.line.now c.args.source.now c.passes.counter (string_bytes c.passes.text)
+    (string_bytes c.push_pass.new.text) c.in_ok-counts.counts c.passes.invariant c.in_ok-counts.ensures
+    c.in_ok-push_pass.ensures
 
 pub passes-init : goal.passes-init
 passes-init c =
-    no_passes c.args.source.now c.args.line.now.source_type c.args.line.now.tokens (string_bytes c.new-text.result)
-    c.new-text.ensures.bytes
+    no_passes c.args.line.now c.args.source.now (string_bytes c.new-text.result) c.new-text.ensures.bytes
