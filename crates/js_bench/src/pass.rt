@@ -1,6 +1,6 @@
 //! One pass over a source: its tokens are read by the goals that are chosen, and no rows are made of them.
 
-ghost use Rattle.std.specs.Prelude.{◌≡◌, ◌<◌, ◌^◌, length, refl, Bool, true, IfOk};
+ghost use Rattle.std.specs.Prelude.{◌≡◌, ◌<◌, ◌^◌, length, refl, true, IfOk};
 ghost use Rattle.std.specs.Str.{IsUtf8};
 ghost use Rattle.js_lexer.specs.Lexer.{fresh};
 ghost use Rattle.js_bench.specs.Counts.{IsListingOf, IsPass, IsPassOver, counts_of_lists, rule_of};
