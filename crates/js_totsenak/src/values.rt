@@ -73,8 +73,9 @@ pub fn values_text(alloc: Global, source: &str, lists: &LiveLists) -> Result<Str
         → string_bytes text ≡ values_text source.now taken) }
 {
     let mut text = String::new(alloc);
+    let tokens = lists.tokens.as_slice();
     let mut index = 0;
-    for token in lists.tokens.as_slice() {
+    for token in tokens {
         push_listed(&mut text, source, lists, index, token)?;
         index = index_behind(index)?;
     }
