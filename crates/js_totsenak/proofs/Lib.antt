@@ -1,0 +1,3 @@
+mod SourceLemmas
+mod TakenLemmas
+mod ValueLemmas

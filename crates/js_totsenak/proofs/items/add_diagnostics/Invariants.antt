@@ -4,4 +4,5 @@ use Rattle.js_totsenak.proofs.items.add_diagnostics.Given as goal
 
 -- The items of the diagnostics so far were added.
 abbrev pub invariant-loop-diagnostic : goal.invariant-loop-diagnostic
-invariant-loop-diagnostic l = l.items.items ≡ l.initial.items.items ++ map diagnostic_item (take l.diagnostic-index l.diagnostics)
+invariant-loop-diagnostic l =
+    l.items.items ≡ l.initial.items.items ++ map diagnostic_item (take l.diagnostic-index l.diagnostics)

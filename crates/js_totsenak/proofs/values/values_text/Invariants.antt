@@ -5,8 +5,6 @@ use Rattle.js_totsenak.specs.Values.{values_text}
 use Rattle.js_totsenak.proofs.values.values_text.Given as goal
 
 -- The lines of the tokens so far were appended.
-abbrev pub invariant-loop-token : goal.invariant-loop-token
-invariant-loop-token l =
-    (l.index ≡ l.token-index)
-    × ((taken : List Taken) → HasTaken l.lists taken
-    → string_bytes l.text ≡ values_text l.source (take l.token-index taken))
+abbrev pub invariant-loop-index : goal.invariant-loop-index
+invariant-loop-index l =
+    (taken : List Taken) → HasTaken l.lists taken → string_bytes l.text ≡ values_text l.source (take l.index taken)
