@@ -1,3 +1,5 @@
+mod OrderLemmas
 mod SourceLemmas
 mod TakenLemmas
+mod ToldLemmas
 mod ValueLemmas
