@@ -69,18 +69,24 @@ same_order {X} key (x ∷ a) (y ∷ b) up vp e = by_head same
   where
     low : key y ≤ key x
     low = least key x y b (tied key x a) vp (sym (e x) ∙ own_tie key x a)
+
     high : key x ≤ key y
     high = least key y x a (tied key y b) up (e y ∙ own_tie key y b)
+
     tie_here : tie (key x) (key y) ≡ true
     tie_here = tie_same (key x) (key y) (le_antisymm high low)
+
     both : x ∷ tied key x a ≡ y ∷ tied key x b
     both =
         sym (own_tie key x a) ∙ e x ∙ ap (λ t. cond t (y ∷ tied key x b) (tied key x b)) tie_here
+
     same : x ≡ y
     same = let h = both in cc
+
     by_test : (t : Bool) (us vs : List X) → cond t (x ∷ us) us ≡ cond t (x ∷ vs) vs → us ≡ vs
     by_test true us vs h = cc
     by_test false us vs h = h
+
     by_head : x ≡ y → x ∷ a ≡ y ∷ b
     by_head is =
         let alike : (z : X) → tied key z (x ∷ a) ≡ tied key z (x ∷ b) =

@@ -44,9 +44,10 @@ same_check syntax name source t first second p q a b =
     let both =
     same_report syntax source t a.is_found.commands b.is_found.commands a.is_found.report b.is_found.report
     a.is_found.report_is b.is_found.report_is in
-    let found : a.found ≡ b.found = a.is_found.found_is ∙ ap live_found both.1 ∙ sym b.is_found.found_is in
-    (a.tells.text_is ∙ ap (check_text name source) found ∙ sym b.tells.text_is,
-    a.tells.faulty ∙ ap (λ (f : Findings). not (length f.diagnostics == 0)) found ∙ sym b.tells.faulty)
+    let found : a.found ≡ b.found = a.is_found.found_is ∙ ap live_found both.1 ∙ sym b.is_found.found_is in (
+      a.tells.text_is ∙ ap (check_text name source) found ∙ sym b.tells.text_is,
+      a.tells.faulty ∙ ap (λ (f : Findings). not (length f.diagnostics == 0)) found ∙ sym b.tells.faulty,
+    )
 
 same_tokens : (syntax : Syntax) (source : List ℕ) (t : SourceType) (first second : List ℕ)
     → HasTokens (rule_of syntax) source t first → HasTokens (rule_of syntax) source t second → first ≡ second
