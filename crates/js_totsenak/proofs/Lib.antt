@@ -1,6 +1,5 @@
 mod ItemLemmas
 mod OrderLemmas
-mod SourceLemmas
 mod TakenLemmas
 mod TextLemmas
 mod ToldLemmas

@@ -83,5 +83,5 @@ taken_within lists taken index h within = by (slice_get_cases taken index).1
   where
     by : ((x : Taken) × (index < length taken) × (slice_get taken index ≡ Some x) × (get_or taken index x ≡ x))
         ⊎ ((length taken ≤ index) × (slice_get taken index ≡ None)) → (x : Taken) × (slice_get taken index ≡ Some x)
-    by (inl there) = (there.0, there.2.0)
+    by (inl there) = (there.0, there.2)
     by (inr past) = absurd (omega (arith, past.0, within, many_taken lists taken h))

@@ -8,6 +8,13 @@ use crate::json::push_json_text;
 use std::alloc::AllocError;
 use std::fmt::Write;
 
+/// Appends a piece of an object.
+pub(crate) fn push_piece(text: &mut String, piece: &str) -> Result<(), AllocError>
+    ensures { OnOk result (string_bytes text.new ≡ string_bytes text.old ++ piece.now) }
+{
+    text.push_str(piece)
+}
+
 /// Appends what stands before the value of a member of this name.
 #[tactic(auto, unfolding(crate::specs::Members::member_head))]
 pub(crate) fn push_member_head(text: &mut String, name: &str) -> Result<(), AllocError>
