@@ -11,7 +11,7 @@ returns-clause-text c =
     let kind =
     two _ _ _ _ _ c.in_ok-push_piece.ensures
     (named _ _ _ _ c.in_ok-push_word.ensures (ap (word_member (codes "kind")) c.name.ensures)) in
-    let stretch = two _ _ _ _ _ kind c.in_ok-push_pieceetch.ensures.text in
+    let stretch = two _ _ _ _ _ kind c.in_ok-push_stretch.ensures.text in
     let content =
     two _ _ _ _ _ stretch (named _ _ _ _ c.in_ok-push_word-2.ensures (ap (word_member (codes "content")) c.name-2.ensures)) in
     let position =

@@ -15,5 +15,5 @@ returns-clause-text c =
     (named _ _ _ _ c.in_ok-push_word.ensures (ap (word_member (codes "kind")) (c.name.ensures ∙ ap kind_name c.kind.ensures))) in
     let stretch =
     two _ _ _ _ _ kind
-    (named _ _ _ _ c.in_ok-push_pieceetch.ensures.text (ap (stretch_members c.args.places.now.lines.text) c.span.ensures)) in
+    (named _ _ _ _ c.in_ok-push_stretch.ensures.text (ap (stretch_members c.args.places.now.lines.text) c.span.ensures)) in
     on_ok_weaker c.push_token_flags.result (λ h. two _ _ _ _ _ stretch h) c.push_token_flags.ensures
