@@ -8,5 +8,6 @@ unfolding diagnostic_head
 returns c =
     on_ok_weaker c.push_text.result
     (λ h. two _ _ _ _ _
-    (two _ _ _ _ _ (two _ _ _ _ _ c.in_ok-push_piece.ensures c.in_ok-push_word.ensures) c.in_ok-push_word-2.ensures) h)
+    (two _ _ _ _ _ (two _ _ _ _ _ c.in_ok-push_object_head.ensures c.in_ok-push_word.ensures)
+    c.in_ok-push_word-2.ensures) h)
     c.push_text.ensures

@@ -10,10 +10,10 @@ use Rattle.js_totsenak.proofs.item_json.push_token_head.Goals as goal
 pub returns-clause-text : goal.returns-clause-text
 unfolding token_head
 returns-clause-text c =
-    let kind =
-    two _ _ _ _ _ c.in_ok-push_piece.ensures
-    (named _ _ _ _ c.in_ok-push_word.ensures (ap (word_member (codes "kind")) (c.name.ensures ∙ ap kind_name c.kind.ensures))) in
-    let stretch =
-    two _ _ _ _ _ kind
-    (named _ _ _ _ c.in_ok-push_stretch.ensures.text (ap (stretch_members c.args.places.now.lines.text) c.span.ensures)) in
-    on_ok_weaker c.push_token_flags.result (λ h. two _ _ _ _ _ stretch h) c.push_token_flags.ensures
+    on_ok_weaker c.push_token_flags.result
+    (λ h. two _ _ _ _ _
+    (two _ _ _ _ _
+    (two _ _ _ _ _ c.in_ok-push_object_head.ensures
+    (named _ _ _ _ c.in_ok-push_word.ensures (ap (word_member (codes "kind")) (c.name.ensures ∙ ap kind_name c.kind.ensures))))
+    (named _ _ _ _ c.in_ok-push_stretch.ensures.text (ap (stretch_members c.args.places.now.lines.text) c.span.ensures))) h)
+    c.push_token_flags.ensures
