@@ -1,6 +1,6 @@
 //! Members of objects of JSON.
 
-ghost use Rattle.std.specs.Prelude.{◌≡◌, ◌++◌, OnOk, codes, string_bytes, chars};
+ghost use Rattle.std.specs.Prelude.{◌≡◌, ◌++◌, OnOk, string_bytes, chars};
 ghost use Rattle.js_totsenak.specs.Members.{flag_member, flag_text, member_head, null_member, number_member};
 ghost use Rattle.js_totsenak.specs.Members.{object_head, text_member, word_member};
 
