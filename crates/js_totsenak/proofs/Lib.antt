@@ -1,0 +1,6 @@
+mod ItemLemmas
+mod OrderLemmas
+mod TakenLemmas
+mod TextLemmas
+mod ToldLemmas
+mod ValueLemmas
