@@ -1,7 +1,8 @@
 -- What the command `check` tells of a source.
-use Rattle.std.specs.Prelude.{ℕ, ◌+◌, List, [], ◌++◌, codes, Option, Some, None}
+use Rattle.std.specs.Prelude.{◌≡◌, ℕ, ◌+◌, List, [], ◌++◌, codes, Option, Some, None}
 use Rattle.std.specs.Fmt.{decimal}
 use Rattle.std.specs.List.{flat_map}
+use Rattle.js_grammar.specs.Outcome.{Findings}
 use Rattle.js_text.specs.Diagnostic.{diagnostic_span}
 use Rattle.js_text.specs.declared.diagnostic.Diagnostic.{Diagnostic}
 use Rattle.js_text.specs.declared.span.Span.{Span}
@@ -12,12 +13,6 @@ use Rattle.js_lines.specs.declared.columns.Position.{Position}
 use Rattle.js_lines.specs.declared.line_ends.LineEnds.TheVariants.{EcmaScript}
 use Rattle.js_totsenak.specs.Excerpt.{excerpt, most_shown}
 use Rattle.js_totsenak.specs.Messages.{message_of, warning_message}
-
--- what was found in a source: its diagnostics, those that count in a module alone, and its warnings
-pub record Lists : Type 0 where
-  pub diagnostics : List Diagnostic
-  pub deferred : List Diagnostic
-  pub warnings : List Span
 
 -- a place behind a name, as `:3:14: `; lines and columns are counted from 1, columns in characters
 unfoldable pub place_text : Position → List ℕ
@@ -56,12 +51,14 @@ labelled_text name text label d = message_at name text (label ++ message_of d) (
 abbrev pub warning_text : List ℕ → List ℕ → Span → List ℕ
 warning_text name text span = message_at name text warning_message (Some span)
 
--- nothing was found
-abbrev pub nothing_found : Lists
-nothing_found = record { diagnostics = []; deferred = []; warnings = [] }
+-- nothing is told of what was found
+pub record IsClean (found : Findings) : Type 0 where
+  pub diagnostics : found.diagnostics ≡ []
+  pub deferred : found.deferred ≡ []
+  pub warnings : found.warnings ≡ []
 
 -- What is told of a source: a message for each diagnostic, for each that counts in a module alone, and for each warning.
-abbrev pub check_text : List ℕ → List ℕ → Lists → List ℕ
+abbrev pub check_text : List ℕ → List ℕ → Findings → List ℕ
 check_text name text found =
     flat_map (labelled_text name text []) found.diagnostics
     ++ flat_map (labelled_text name text (codes "warning: ")) found.deferred

@@ -1,36 +1,19 @@
 -- What the command `check` comes to for a source.
-use Rattle.std.specs.Prelude.{◌≡◌, ◌==◌, ℕ, Bool, false, not, List, length}
-use Rattle.js_auto.specs.Auto.{ReportOfChosen}
-use Rattle.js_session.specs.declared.command.Command.{Command}
-use Rattle.js_session.specs.declared.report.Report.{Report}
+use Rattle.std.specs.Prelude.{◌≡◌, ◌==◌, ℕ, Bool, not, List, length}
+use Rattle.js_choose.specs.Rules.{Rule}
+use Rattle.js_grammar.specs.Outcome.{Findings}
 use Rattle.js_text.specs.declared.source_type.SourceType.{SourceType}
-use Rattle.js_totsenak.specs.Check.{Lists, check_text}
-use Rattle.js_totsenak.specs.declared.check.Found.{Found}
+use Rattle.js_totsenak.specs.Check.{check_text}
+use Rattle.js_totsenak.specs.Found.{IsFound}
 
--- the lists of what was found
-abbrev pub lists_of : Found → Lists
-lists_of found = record {
-  diagnostics = found.diagnostics.now;
-  deferred = found.deferred.now;
-  warnings = found.warnings.now;
-}
+-- The text and the answer are those of what was found: what is told of it, and whether there is a diagnostic.
+pub record Tells (name source : List ℕ) (found : Findings) (text : List ℕ) (is_faulty : Bool) : Type 0 where
+  pub text_is : text ≡ check_text name source found
+  pub faulty : is_faulty ≡ not (length found.diagnostics == 0)
 
--- what a report has of a source's faults
-abbrev pub faults_of : Report → Lists
-faults_of report = record {
-  diagnostics = report.diagnostics;
-  deferred = report.deferred;
-  warnings = report.warnings;
-}
-
--- The text and the answer are those of a report: what is told of its faults, and whether there is a diagnostic.
-pub record Tells (name source : List ℕ) (report : Report) (text : List ℕ) (is_faulty : Bool) : Type 0 where
-  pub text_is : text ≡ check_text name source (faults_of report)
-  pub faulty : is_faulty ≡ not (length report.diagnostics == 0)
-
--- The text and the answer are those of the report of the source, whose goals are chosen by its tokens.
-pub record IsChecked (name source : List ℕ) (t : SourceType) (text : List ℕ) (is_faulty : Bool) : Type 0 where
-  pub commands : List Command
-  pub report : Report
-  pub report_is : ReportOfChosen source t false commands report
-  pub tells : Tells name source report text is_faulty
+-- The text and the answer are those of what is found of the source, whose goals the rule chooses.
+pub record IsChecked (rule : Rule) (name source : List ℕ) (t : SourceType) (text : List ℕ) (is_faulty : Bool)
+    : Type 0 where
+  pub found : Findings
+  pub is_found : IsFound rule source t found
+  pub tells : Tells name source found text is_faulty

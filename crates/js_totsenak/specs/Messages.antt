@@ -39,6 +39,10 @@ named_character (Some c) = number_text c
 unfoldable pub message_of : Diagnostic → List ℕ
 message_of d = fault_in_words d ++ named_character (diagnostic_character d)
 
--- what a user is told of a warning: each is of a `>` in the text of JSX
+-- what a warning is of, in words: each is of a `>` in the text of JSX
+abbrev pub warning_in_words : List ℕ
+warning_in_words = codes "a > in the text of JSX"
+
+-- what a user is told of a warning
 abbrev pub warning_message : List ℕ
-warning_message = codes "warning: a > in the text of JSX"
+warning_message = codes "warning: " ++ warning_in_words

@@ -3,41 +3,30 @@
 ghost use Rattle.std.specs.Prelude.{◌≡◌, ◌⊎◌, ◌++◌, ◌^◌, ◌<◌, codes, length, string_bytes, true};
 ghost use Rattle.std.specs.Prelude.{IfOk, OnOk, IfErr, IsOk};
 ghost use Rattle.std.specs.List.{flat_map};
+ghost use Rattle.js_choose.specs.Faults.{ChoiceCause};
 ghost use Rattle.js_choose.specs.declared.fault.ChoiceFault.{ChoiceFault};
 ghost use Rattle.js_lines.specs.declared.line_ends.LineEnds.TheVariants.{EcmaScript};
 ghost use Rattle.js_session.specs.Faults.{IsReadable};
-ghost use Rattle.js_auto.specs.Auto.{AutoCause};
-ghost use Rattle.js_totsenak.specs.Check.{check_text, excerpt_at, in_characters, labelled_text, message_at, nothing_found};
+ghost use Rattle.js_totsenak.specs.Check.{IsClean, check_text, excerpt_at, in_characters, labelled_text, message_at};
 ghost use Rattle.js_totsenak.specs.Check.{place_text, warning_text};
-ghost use Rattle.js_totsenak.specs.Checked.{IsChecked, lists_of, Tells};
+ghost use Rattle.js_totsenak.specs.Checked.{IsChecked, Tells};
 ghost use Rattle.js_totsenak.specs.Messages.{message_of};
 
 use crate::excerpt::push_excerpt;
+use crate::found::findings_of_source;
 use crate::message::{WARNING, push_message};
-use js_auto::auto_session;
-use js_choose::ChoiceFault;
+use js_choose::{ChoiceFault, ChooseGoals};
+use js_lexer::Findings;
 use js_lines::{ColumnUnit, LineCursor, LineEnds, LineTable, Position};
-use js_session::Report;
 use js_text::{Diagnostic, SourceType, Span};
 use std::alloc::{AllocError, Global};
 use std::fmt::Write;
 
-/// What was found in a source.
-#[derive(Clone, Copy)]
-pub struct Found<'l> {
-    pub diagnostics: &'l [Diagnostic],
-    /// Those that count in a module alone, where it is not settled whether the source is one.
-    pub deferred: &'l [Diagnostic],
-    pub warnings: &'l [Span],
-}
-
-impl Found<'_> {
-    /// Whether nothing was found.
-    fn is_empty(&self) -> bool
-        ensures { result ≡ true → lists_of self.now ≡ nothing_found }
-    {
-        self.diagnostics.is_empty() && self.deferred.is_empty() && self.warnings.is_empty()
-    }
+/// Whether nothing is told of what was found.
+fn is_clean(found: &Findings) -> bool
+    ensures { result ≡ true → IsClean found.now }
+{
+    found.diagnostics.is_empty() && found.deferred.is_empty() && found.warnings.is_empty()
 }
 
 /// The start of a source, where the messages about all of it stand.
@@ -109,7 +98,11 @@ fn push_message_at(
 }
 
 /// What is told of a diagnostic.
-fn told_of(alloc: Global, label: &str, diagnostic: &Diagnostic) -> Result<String, AllocError>
+pub(crate) fn told_of(
+    alloc: Global,
+    label: &str,
+    diagnostic: &Diagnostic,
+) -> Result<String, AllocError>
     ensures { IfOk result (λ told. string_bytes told ≡ label.now ++ message_of diagnostic.now) }
 {
     let mut told = String::from_str(alloc, label)?;
@@ -169,19 +162,33 @@ pub fn check_text(
     alloc: Global,
     name: &str,
     source: &str,
-    found: Found<'_>,
+    found: &Findings,
 ) -> Result<String, AllocError>
     requires { length source.now < 2 ^ 32 }
-    ensures { IfOk result (λ text. string_bytes text ≡ check_text name.now source.now (lists_of found.entry)) }
+    ensures { IfOk result (λ text. string_bytes text ≡ check_text name.now source.now found.now) }
 {
     let mut text = String::new(alloc);
-    if found.is_empty() {
+    if is_clean(found) {
         return Ok(text);
     }
     let lines = LineTable::new(alloc, source, LineEnds::EcmaScript)?;
-    push_faults(&mut text, alloc, name, &lines, "", found.diagnostics)?;
-    push_faults(&mut text, alloc, name, &lines, "warning: ", found.deferred)?;
-    push_warnings(&mut text, name, &lines, found.warnings)?;
+    push_faults(
+        &mut text,
+        alloc,
+        name,
+        &lines,
+        "",
+        found.diagnostics.as_slice(),
+    )?;
+    push_faults(
+        &mut text,
+        alloc,
+        name,
+        &lines,
+        "warning: ",
+        found.deferred.as_slice(),
+    )?;
+    push_warnings(&mut text, name, &lines, found.warnings.as_slice())?;
     Ok(text)
 }
 
@@ -193,49 +200,41 @@ pub struct Told {
     pub is_faulty: bool,
 }
 
-/// Checks what a session over a source with this name found.
-fn check_report(
+/// What is told of what was found in a source with this name, and whether there is a diagnostic.
+fn told_of_findings(
     alloc: Global,
     name: &str,
     source: &str,
-    report: &Report,
+    found: &Findings,
 ) -> Result<Told, AllocError>
     requires { length source.now < 2 ^ 32 }
-    ensures { IfOk result (λ checked.
-        Tells name.now source.now report.now (string_bytes checked.text) checked.is_faulty) }
+    ensures { IfOk result (λ told. Tells name.now source.now found.now (string_bytes told.text) told.is_faulty) }
 {
-    let found = Found {
-        diagnostics: report.diagnostics.as_slice(),
-        deferred: report.deferred.as_slice(),
-        warnings: report.warnings.as_slice(),
-    };
     Ok(Told {
         text: check_text(alloc, name, source, found)?,
-        is_faulty: !report.diagnostics.is_empty(),
+        is_faulty: !found.diagnostics.is_empty(),
     })
 }
 
-/// Checks a source with this name, whose goals are chosen by its tokens.
-pub fn check_source(
+/// Checks a source with this name, whose goals are chosen by the rule of a chooser.
+pub fn check_source<G: ChooseGoals>(
     alloc: Global,
     name: &str,
     source: &[u8],
     source_type: SourceType,
 ) -> Result<Told, ChoiceFault>
-    ensures checked { IfOk result (λ checked.
-        IsChecked name.now source.now source_type (string_bytes checked.text) checked.is_faulty) }
+    ensures checked { IfOk result (λ told.
+        IsChecked G.choice name.now source.now source_type (string_bytes told.text) told.is_faulty) }
     ensures ok { OnOk result (IsReadable source.now) }
-    // Each fault comes for its cause alone, and where its cause is there, nothing but a lack of memory comes in its
-    // place.
-    ensures cause { IfErr result (λ fault. (fault ≡ ChoiceFault.Memory) ⊎ AutoCause source.now fault) }
-    ensures exact { (fault : ChoiceFault) → AutoCause source.now fault
-        → (result ≡ Err fault) ⊎ (result ≡ Err ChoiceFault.Memory) }
+    // Each fault comes for its cause alone, and where the source has one, it comes.
+    ensures cause { IfErr result (λ fault. (fault ≡ ChoiceFault.Memory) ⊎ ChoiceCause source.now fault) }
+    ensures exact { (fault : ChoiceFault) → ChoiceCause source.now fault → result ≡ Err fault }
     ensures complete { IsReadable source.now → IsOk result ⊎ (result ≡ Err ChoiceFault.Memory) }
 {
-    let auto = auto_session(alloc, source, source_type, false)?;
+    let found = findings_of_source::<G>(alloc, source, source_type)?;
     let text = unsafe { str::from_utf8_unchecked(source) };
-    match check_report(alloc, name, text, &auto.report) {
-        Ok(checked) => Ok(checked),
+    match told_of_findings(alloc, name, text, &found) {
+        Ok(told) => Ok(told),
         Err(_) => Err(ChoiceFault::Memory),
     }
 }

@@ -10,6 +10,9 @@ use std::fmt::Write;
 /// What is told of a warning: each is of a `>` in the text of JSX.
 pub(crate) const WARNING: &str = "warning: a > in the text of JSX";
 
+/// The same without a label.
+pub(crate) const WARNING_IN_WORDS: &str = "a > in the text of JSX";
+
 /// What is at fault, in words. A diagnostic that names a character is told with its number behind these
 /// (`push_message`).
 pub fn fault_in_words(diagnostic: &Diagnostic) -> &'static str

@@ -4,6 +4,7 @@ ghost use Rattle.std.specs.Prelude.{◌≡◌, ◌<◌};
 ghost use Rattle.js_totsenak.specs.Run.{TellsOfBytes, TellsOfInput, status_of};
 
 use crate::command::{Command, tell};
+use crate::syntax::Syntax;
 use js_choose::ChoiceFault;
 use js_process::write_all::{WriteFault, write_piece};
 use js_process::{ByteIn, ByteOut, ReadFault, read_to_end};
@@ -28,14 +29,15 @@ pub enum RunFault {
 fn tell_of_bytes<O: ByteOut>(
     alloc: Global,
     command: Command,
+    syntax: Syntax,
     name: &str,
     source: &[u8],
     source_type: SourceType,
     output: &mut O,
 ) -> Result<bool, RunFault>
-    ensures { TellsOfBytes command name.now source.now source_type (O.state output.old) (O.state output.new) result }
+    ensures { TellsOfBytes command syntax name.now source.now source_type (O.state output.old) (O.state output.new) result }
 {
-    let told = match tell(alloc, command, name, source, source_type) {
+    let told = match tell(alloc, command, syntax, name, source, source_type) {
         Ok(told) => told,
         Err(ChoiceFault::Overlong) => return Err(RunFault::Overlong),
         Err(ChoiceFault::NotUtf8(at)) => return Err(RunFault::NotUtf8(at)),
@@ -53,16 +55,25 @@ fn tell_of_bytes<O: ByteOut>(
 pub fn tell_of_input<I: ByteIn, O: ByteOut>(
     alloc: Global,
     command: Command,
+    syntax: Syntax,
     name: &str,
     source_type: SourceType,
     input: &mut I,
     output: &mut O,
 ) -> Result<bool, RunFault>
-    ensures { TellsOfInput command name.now source_type (I.state input.old) (I.state input.new)
+    ensures { TellsOfInput command syntax name.now source_type (I.state input.old) (I.state input.new)
         (O.state output.old) (O.state output.new) result }
 {
     match read_to_end(alloc, input, u32::MAX as usize) {
-        Ok(source) => tell_of_bytes(alloc, command, name, source.as_slice(), source_type, output),
+        Ok(source) => tell_of_bytes(
+            alloc,
+            command,
+            syntax,
+            name,
+            source.as_slice(),
+            source_type,
+            output,
+        ),
         Err(ReadFault::Failed) => Err(RunFault::Unreadable),
         Err(ReadFault::TooLong) => Err(RunFault::Overlong),
         Err(ReadFault::Memory) => Err(RunFault::Memory),

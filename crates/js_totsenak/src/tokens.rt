@@ -1,19 +1,20 @@
 //! The command `tokens`: the tokens of a source, a line for each.
 
-ghost use Rattle.std.specs.Prelude.{◌≡◌, ◌⊎◌, ◌++◌, ◌^◌, ◌<◌, OnOk, IfOk, IfErr, IsOk, chars, length, string_bytes};
+ghost use Rattle.std.specs.Prelude.{◌≡◌, ◌⊎◌, ◌++◌, ◌^◌, ◌<◌, OnOk, IfOk, IfErr, IsOk, length, string_bytes};
+ghost use Rattle.js_choose.specs.Faults.{ChoiceCause};
 ghost use Rattle.js_choose.specs.declared.fault.ChoiceFault.{ChoiceFault};
-ghost use Rattle.js_session.specs.Faults.{IsReadable};
-ghost use Rattle.js_auto.specs.Auto.{AutoCause};
 ghost use Rattle.js_lines.specs.declared.line_ends.LineEnds.TheVariants.{EcmaScript};
+ghost use Rattle.js_session.specs.Faults.{IsReadable};
 ghost use Rattle.js_totsenak.specs.Check.{in_characters};
-ghost use Rattle.js_totsenak.specs.Tokens.{characters_of, HasTokens, place_head, token_line, tokens_text};
+ghost use Rattle.js_totsenak.specs.Tokens.{HasTokens, place_head, token_line, tokens_text};
 
 use crate::check::places_of;
 use crate::escaped::push_escaped;
-use js_auto::auto_session;
-use js_choose::ChoiceFault;
+use crate::stretch::stretch_of;
+use js_choose::{ChoiceFault, ChooseGoals};
 use js_kind::Token;
-use js_lines::{ColumnUnit, LineCursor, LineEnds, LineTable, Position};
+use js_lines::{LineCursor, LineEnds, LineTable, Position};
+use js_lists::chosen_lists;
 use js_text::SourceType;
 use std::alloc::{AllocError, Global};
 use std::fmt::Write;
@@ -26,16 +27,6 @@ fn push_place_head(text: &mut String, position: Position) -> Result<(), AllocErr
     let line = u64::from(position.line) + 1;
     let column = u64::from(position.column) + 1;
     write!(text, "{line}:{column} ")
-}
-
-/// The characters of a token.
-fn characters_of<'s>(source: &'s str, token: &Token) -> &'s str
-    requires { length source.now < 2 ^ 32 }
-    ensures { chars result.now ≡ characters_of source.now token.now }
-{
-    let behind = ColumnUnit::Bytes.split_at(source, token.start() as usize).1;
-    let length = token.end().saturating_sub(token.start());
-    ColumnUnit::Bytes.split_at(behind, length as usize).0
 }
 
 /// Appends the line of a token.
@@ -54,7 +45,7 @@ fn push_token(
     push_place_head(text, places.position(token.start()))?;
     text.push_str(token.kind().name())?;
     text.push_str(" ")?;
-    push_escaped(text, characters_of(source, token))?;
+    push_escaped(text, stretch_of(source, token.span()))?;
     text.push_str("\n")
 }
 
@@ -72,21 +63,21 @@ pub fn tokens_text(alloc: Global, source: &str, tokens: &[Token]) -> Result<Stri
     Ok(text)
 }
 
-/// The lines of the tokens of a source whose goals are chosen by them.
-pub fn tokens_of_source(
+/// The lines of the tokens of a source whose goals are chosen by the rule of a chooser.
+pub fn tokens_of_source<G: ChooseGoals>(
     alloc: Global,
     source: &[u8],
     source_type: SourceType,
 ) -> Result<String, ChoiceFault>
-    ensures tokens { IfOk result (λ text. HasTokens source.now source_type (string_bytes text)) }
-    ensures cause { IfErr result (λ fault. (fault ≡ ChoiceFault.Memory) ⊎ AutoCause source.now fault) }
-    ensures exact { (fault : ChoiceFault) → AutoCause source.now fault
-        → (result ≡ Err fault) ⊎ (result ≡ Err ChoiceFault.Memory) }
+    ensures tokens { IfOk result (λ text. HasTokens G.choice source.now source_type (string_bytes text)) }
+    ensures ok { OnOk result (IsReadable source.now) }
+    ensures cause { IfErr result (λ fault. (fault ≡ ChoiceFault.Memory) ⊎ ChoiceCause source.now fault) }
+    ensures exact { (fault : ChoiceFault) → ChoiceCause source.now fault → result ≡ Err fault }
     ensures complete { IsReadable source.now → IsOk result ⊎ (result ≡ Err ChoiceFault.Memory) }
 {
-    let auto = auto_session(alloc, source, source_type, false)?;
+    let lists = chosen_lists::<G>(alloc, source, source_type)?;
     let text = unsafe { str::from_utf8_unchecked(source) };
-    match tokens_text(alloc, text, auto.report.tokens.as_slice()) {
+    match tokens_text(alloc, text, lists.tokens.as_slice()) {
         Ok(lines) => Ok(lines),
         Err(_) => Err(ChoiceFault::Memory),
     }

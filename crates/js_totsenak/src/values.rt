@@ -1,18 +1,19 @@
 //! The command `values`: the strings and templates of a source, decoded, a line for each.
 
-ghost use Rattle.std.specs.Prelude.{◌≡◌, ◌⊎◌, ◌++◌, OnOk, IfOk, IfErr, IsOk, chars, string_bytes};
-ghost use Rattle.std.specs.List.{AllByRecursion, flat_map};
+ghost use Rattle.std.specs.Prelude.{◌≡◌, ◌⊎◌, ◌++◌, ◌^◌, ◌<◌, OnOk, IfOk, IfErr, IsOk, List, Some, length, slice_get};
+ghost use Rattle.std.specs.Prelude.{string_bytes};
+ghost use Rattle.js_choose.specs.Faults.{ChoiceCause};
 ghost use Rattle.js_choose.specs.declared.fault.ChoiceFault.{ChoiceFault};
+ghost use Rattle.js_lists.specs.Lists.{HasTaken};
+ghost use Rattle.js_lists.specs.Taken.{Taken, value_handed};
 ghost use Rattle.js_session.specs.Faults.{IsReadable};
-ghost use Rattle.js_session.specs.Report.{IsSliceOnPlaces};
-ghost use Rattle.js_auto.specs.Auto.{AutoCause};
-ghost use Rattle.js_totsenak.specs.Values.{HasValues, holds_text, json_character, value_json, value_line, values_text};
+ghost use Rattle.js_totsenak.specs.Values.{HasValues, holds_text, text_line, value_line, values_text};
 
-use crate::escaped::{push_json_string, push_json_units};
-use js_auto::auto_session;
-use js_choose::ChoiceFault;
-use js_kind::Kind;
-use js_session::{Row, RowValue};
+use crate::index::index_behind;
+use crate::value_json::{is_text, push_value_json};
+use js_choose::{ChoiceFault, ChooseGoals};
+use js_kind::{Kind, Token};
+use js_lists::{LiveLists, TokenValue, chosen_lists};
 use js_text::SourceType;
 use std::alloc::{AllocError, Global};
 
@@ -31,81 +32,70 @@ fn holds_text(kind: Kind) -> bool
     }
 }
 
-fn push_json_character(text: &mut String, c: char) -> Result<(), AllocError>
-    ensures { OnOk result (string_bytes text.new ≡ string_bytes text.old ++ json_character c) }
-{
-    let mut buf = [0; 2];
-    push_json_units(text, c.encode_utf16(&mut buf))
-}
-
-fn push_json_characters(text: &mut String, value: &str) -> Result<(), AllocError>
+/// Appends the line of a value, if it is a text.
+fn push_text(text: &mut String, source: &str, value: TokenValue<'_>) -> Result<(), AllocError>
+    requires { length source.now < 2 ^ 32 }
     ensures { OnOk result (string_bytes text.new
-        ≡ string_bytes text.old ++ flat_map json_character (chars value.now)) }
+        ≡ string_bytes text.old ++ text_line source.now (value_handed value.entry)) }
 {
-    for c in value.chars() {
-        push_json_character(text, c)?;
+    if !is_text(value) {
+        return Ok(());
     }
-    Ok(())
+    push_value_json(text, source, value)?;
+    text.push_str("\n")
 }
 
-/// Appends the line of a value.
-fn push_value(text: &mut String, source: &str, value: &RowValue) -> Result<(), AllocError>
-    requires { IsSliceOnPlaces source.now value.now }
-    ensures { OnOk result (string_bytes text.new ≡ string_bytes text.old ++ value_json source.now value.now) }
+/// Appends the line of the value of the listed token with this index, if it is a string or a part of a template.
+fn push_listed(
+    text: &mut String,
+    source: &str,
+    lists: &LiveLists,
+    index: u32,
+    token: &Token,
+) -> Result<(), AllocError>
+    requires short { length source.now < 2 ^ 32 }
+    requires listed { slice_get lists.now.tokens index ≡ Some token.now }
+    ensures { OnOk result ((taken : List Taken) (x : Taken) → HasTaken lists.now taken
+        → slice_get taken index ≡ Some x
+        → string_bytes text.new ≡ string_bytes text.old ++ value_line source.now x) }
 {
-    match value {
-        RowValue::Nothing | RowValue::Bad => Ok(()),
-        RowValue::Slice(span) => {
-            text.push_str("\"")?;
-            push_json_characters(text, &source[span.start as usize..span.end as usize])?;
-            text.push_str("\"\n")
-        }
-        RowValue::Units(units) => {
-            push_json_string(text, units.units())?;
-            text.push_str("\n")
-        }
-    }
-}
-
-/// Appends the line of the value that a row read.
-fn push_row(text: &mut String, source: &str, row: &Row) -> Result<(), AllocError>
-    requires { IsSliceOnPlaces source.now row.now.value }
-    ensures { OnOk result (string_bytes text.new ≡ string_bytes text.old ++ value_line source.now row.now) }
-{
-    if holds_text(row.token.kind()) {
-        push_value(text, source, &row.value)
+    if holds_text(token.kind()) {
+        push_text(text, source, lists.value(index))
     } else {
         Ok(())
     }
 }
 
-/// The lines of the strings and templates that rows of a source read.
-pub fn values_text(alloc: Global, source: &str, rows: &[Row]) -> Result<String, AllocError>
-    requires { AllByRecursion (λ row. IsSliceOnPlaces source.now row.value) rows.now }
-    ensures { IfOk result (λ text. string_bytes text ≡ values_text source.now rows.now) }
+/// The lines of the strings and templates among the tokens that are listed of a source.
+pub fn values_text(alloc: Global, source: &str, lists: &LiveLists) -> Result<String, AllocError>
+    requires { length source.now < 2 ^ 32 }
+    ensures { IfOk result (λ text. (taken : List Taken) → HasTaken lists.now taken
+        → string_bytes text ≡ values_text source.now taken) }
 {
     let mut text = String::new(alloc);
-    for row in rows {
-        push_row(&mut text, source, row)?;
+    let mut index = 0;
+    for token in lists.tokens.as_slice() {
+        push_listed(&mut text, source, lists, index, token)?;
+        index = index_behind(index)?;
     }
     Ok(text)
 }
 
-/// The lines of the strings and templates of a source whose goals are chosen by its tokens.
-pub fn values_of_source(
+/// The lines of the strings and templates of a source whose goals are chosen by the rule of a chooser.
+pub fn values_of_source<G: ChooseGoals>(
     alloc: Global,
     source: &[u8],
     source_type: SourceType,
 ) -> Result<String, ChoiceFault>
-    ensures values { IfOk result (λ text. HasValues source.now source_type (string_bytes text)) }
-    ensures cause { IfErr result (λ fault. (fault ≡ ChoiceFault.Memory) ⊎ AutoCause source.now fault) }
-    ensures exact { (fault : ChoiceFault) → AutoCause source.now fault
-        → (result ≡ Err fault) ⊎ (result ≡ Err ChoiceFault.Memory) }
+    ensures values { IfOk result (λ text. HasValues G.choice source.now source_type (string_bytes text)) }
+    ensures ok { OnOk result (IsReadable source.now) }
+    ensures cause { IfErr result (λ fault. (fault ≡ ChoiceFault.Memory) ⊎ ChoiceCause source.now fault) }
+    ensures exact { (fault : ChoiceFault) → ChoiceCause source.now fault → result ≡ Err fault }
     ensures complete { IsReadable source.now → IsOk result ⊎ (result ≡ Err ChoiceFault.Memory) }
 {
-    let auto = auto_session(alloc, source, source_type, false)?;
+    let lists = chosen_lists::<G>(alloc, source, source_type)?;
     let text = unsafe { str::from_utf8_unchecked(source) };
-    match values_text(alloc, text, auto.report.rows.as_slice()) {
+    match values_text(alloc, text, &lists) {
         Ok(lines) => Ok(lines),
         Err(_) => Err(ChoiceFault::Memory),
     }

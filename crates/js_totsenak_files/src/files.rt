@@ -3,7 +3,7 @@
 use js_process::{ByteOut, FlushAnswer, StdIn, StdOut};
 use js_text::SourceType;
 use js_totsenak::{
-    CLEAN, Command, NO_MEMORY, RunFault, UNWRITABLE, source_type_of, status_of, tell_of_input,
+    CLEAN, Command, NO_MEMORY, RunFault, Syntax, UNWRITABLE, source_type_of, status_of, tell_of_input,
 };
 use std::{fs, io};
 
@@ -26,15 +26,16 @@ fn tell_of_file<O: ByteOut>(
     name: &str,
     output: &mut O,
 ) -> Result<bool, RunFault> {
-    let source_type = source_type_of(said, name);
+    let syntax = Syntax::JavaScript;
+    let source_type = source_type_of(said, syntax, name);
     if name == "-" {
         let mut input = StdIn::new(rt.reader());
-        return tell_of_input(rt.alloc(), command, name, source_type, &mut input, output);
+        return tell_of_input(rt.alloc(), command, syntax, name, source_type, &mut input, output);
     }
     match fs::open(rt, name) {
         Ok(file) => {
             let mut input = StdIn::new(file);
-            tell_of_input(rt.alloc(), command, name, source_type, &mut input, output)
+            tell_of_input(rt.alloc(), command, syntax, name, source_type, &mut input, output)
         }
         Err(_) => Err(RunFault::Unreadable),
     }

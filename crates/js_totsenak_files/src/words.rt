@@ -3,7 +3,7 @@
 use clap::error::ErrorKind;
 use clap::{Arg, ArgAction, ArgMatches, Command, Error};
 use js_text::SourceType;
-use js_totsenak::{CLEAN, Command as Asked, NO_MEMORY, UNTOLD, UNWRITABLE};
+use js_totsenak::{CLEAN, Command as Asked, Format, NO_MEMORY, UNTOLD, UNWRITABLE};
 use std::alloc::{AllocError, Global};
 
 /// A command over sources: which type they are of, and their files.
@@ -50,7 +50,7 @@ pub(crate) fn read_words<'a>(alloc: Global, words: &'a [String]) -> Result<ArgMa
 /// What a command of this name asks of a source.
 pub(crate) fn asked_command(name: &str) -> Asked {
     match name {
-        "tokens" => Asked::Tokens,
+        "tokens" => Asked::Tokens(Format::Lines),
         "values" => Asked::Values,
         _ => Asked::Check,
     }

@@ -1,7 +1,7 @@
 //! What is told of sources, written out.
 
 use js_text::SourceType;
-use js_totsenak::{Command, tell};
+use js_totsenak::{Command, Format, Syntax, tell};
 use std::alloc::Global;
 use std::test::Fail;
 
@@ -33,13 +33,13 @@ static TOLD: [(Command, &'static str, &'static str, bool); 9] = [
         false,
     ),
     (
-        Command::Tokens,
+        Command::Tokens(Format::Lines),
         "é = `\\\n${1}`;\r\n/a\\/b/g",
         "1:1 Ident é\n1:3 Eq =\n1:5 TemplateHead `\\\\\\n${\n2:3 Decimal 1\n2:4 TemplateTail }`\n2:6 Semicolon ;\n3:1 RegExp \
         /a\\\\/b/g\n3:8 Eof \n",
         false,
     ),
-    (Command::Tokens, "", "1:1 Eof \n", false),
+    (Command::Tokens(Format::Lines), "", "1:1 Eof \n", false),
     (
         Command::Values,
         "'a\\n\"' + \"\\ud800é😀\" + `b${c}d` + e",
@@ -60,6 +60,7 @@ fn is_told(
     let told = tell(
         alloc,
         command,
+        Syntax::JavaScript,
         "f",
         source.as_bytes(),
         SourceType::Unambiguous,

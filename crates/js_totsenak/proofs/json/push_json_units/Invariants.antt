@@ -1,7 +1,7 @@
 use Rattle.std.proofs.Common.{◌≡◌, ◌++◌, take, string_bytes}
 use Rattle.std.specs.List.{flat_map}
-use Rattle.js_totsenak.specs.Escaped.{json_unit}
-use Rattle.js_totsenak.proofs.escaped.push_json_units.Given as goal
+use Rattle.js_totsenak.specs.Json.{json_unit}
+use Rattle.js_totsenak.proofs.json.push_json_units.Given as goal
 
 -- The units so far were appended.
 abbrev pub invariant-loop-unit : goal.invariant-loop-unit

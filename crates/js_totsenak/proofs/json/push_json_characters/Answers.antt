@@ -3,12 +3,12 @@ use Rattle.std.proofs.lemmas.List.{flat_map_more}
 use Rattle.std.proofs.lemmas.Iterator.{YieldsList-from_chars}
 use Rattle.std.proofs.lemmas.Iterator.Consumers.{YieldsList-end}
 use Rattle.std.specs.List.{flat_map}
-use Rattle.js_totsenak.specs.Values.{json_character}
-use Rattle.js_totsenak.proofs.values.push_json_characters.Goals as goal
+use Rattle.js_totsenak.specs.Json.{json_character}
+use Rattle.js_totsenak.proofs.json.push_json_characters.Goals as goal
 
 pub returns : goal.returns
 returns c =
-    let characters = YieldsList-from_chars c.args.value.now c.utf8.value cc in
+    let characters = YieldsList-from_chars c.args.characters.now c.utf8.characters cc in
     let done = YieldsList-end characters c.loop-c.yielded _ c.loop-c.yielded_by _ _ c.in-None.is c.next.ensures.steps in
     c.loop-c.invariant
     ∙ ap (λ cs. string_bytes c.args.text.now ++ flat_map json_character cs) (sym (map-id c.loop-c.yielded) ∙ done.0)

@@ -1,7 +1,7 @@
 use Rattle.std.proofs.Common.{◌≡◌, ◌++◌, string_bytes}
 use Rattle.std.specs.List.{flat_map}
-use Rattle.js_totsenak.specs.Values.{json_character}
-use Rattle.js_totsenak.proofs.values.push_json_characters.Given as goal
+use Rattle.js_totsenak.specs.Json.{json_character}
+use Rattle.js_totsenak.proofs.json.push_json_characters.Given as goal
 
 -- The characters so far were appended.
 abbrev pub invariant-loop-c : goal.invariant-loop-c

@@ -1,0 +1,15 @@
+-- What is found of a source.
+use Rattle.std.specs.Prelude.{◌≡◌, ℕ, false, List}
+use Rattle.js_choose.specs.Rules.{ReportBy, Rule}
+use Rattle.js_grammar.specs.Outcome.{Findings}
+use Rattle.js_lists.specs.LiveLists.{live_found}
+use Rattle.js_session.specs.declared.command.Command.{Command}
+use Rattle.js_session.specs.declared.report.Report.{Report}
+use Rattle.js_text.specs.declared.source_type.SourceType.{SourceType}
+
+-- It is what is live of what the report of the source has found, whose goals the rule chooses.
+pub record IsFound (rule : Rule) (source : List ℕ) (t : SourceType) (found : Findings) : Type 0 where
+  pub commands : List Command
+  pub report : Report
+  pub report_is : ReportBy rule source t false commands report
+  pub found_is : found ≡ live_found report
