@@ -9,8 +9,5 @@ use js_text::CommentContent;
 pub fn holds_licence(content: CommentContent) -> bool
     ensures { result ≡ holds_licence content }
 {
-    matches!(
-        content,
-        CommentContent::Legal | CommentContent::JsdocLegal
-    )
+    matches!(content, CommentContent::Legal | CommentContent::JsdocLegal)
 }

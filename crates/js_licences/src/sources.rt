@@ -86,12 +86,7 @@ impl Licences {
     }
 
     /// Adds those comments of a source that hold a licence, by its lines.
-    fn add_text(
-        &mut self,
-        name: &str,
-        source: &str,
-        comments: &[Comment],
-    ) -> Result<(), AllocError>
+    fn add_text(&mut self, name: &str, source: &str, comments: &[Comment]) -> Result<(), AllocError>
         requires { length source.now < 2 ^ 32 }
         ensures ok { OnOk result
             (self.new ≡ with_occurrences self.old (occurrences name.now source.now comments.now)) }

@@ -3,7 +3,8 @@
 use js_choose::ChoiceFault;
 use js_process::ReadFault;
 use js_process::write_all::WriteFault;
-use js_totsenak::{NO_MEMORY, RunFault, UNTOLD, UNWRITABLE, status_of};
+use js_totsenak::{RunFault, UNTOLD, UNWRITABLE, status_of};
+use std::alloc::AllocError;
 
 /// Why the program did not do with a file what was asked.
 #[derive(Clone, Copy)]
@@ -14,6 +15,12 @@ pub(crate) enum Fault {
     Jsx,
     /// It could not be written in place.
     NotReplaced,
+}
+
+impl From<AllocError> for Fault {
+    fn from(_error: AllocError) -> Fault {
+        Fault::Untold(RunFault::Memory)
+    }
 }
 
 impl From<RunFault> for Fault {
@@ -61,6 +68,11 @@ impl Fault {
         }
     }
 
+    /// Whether nothing more can be done: there is no memory, or the output has failed.
+    pub(crate) fn ends_run(self) -> bool {
+        matches!(self, Fault::Untold(RunFault::Memory | RunFault::Unwritable))
+    }
+
     /// Tells of it on standard error, in one line. Nobody is left to tell where this fails. Of an output that failed it
     /// is told at the end of the run.
     pub(crate) fn tell(self, rt: &HostRuntime, name: &str) {
@@ -76,15 +88,8 @@ impl Fault {
             }
             Fault::Untold(RunFault::Memory) => eprintln!(rt; "totsenak: out of memory"),
             Fault::Untold(RunFault::Unwritable) => Ok(()),
-            Fault::Jsx => {
-                eprintln!(rt; "totsenak: {name}: has JSX, and is not written anew")
-            }
+            Fault::Jsx => { eprintln!(rt; "totsenak: {name}: has JSX, and is not written anew") }
             Fault::NotReplaced => eprintln!(rt; "totsenak: {name}: cannot be written"),
         };
     }
-}
-
-/// Whether a run ends with the status: there is no memory, or what was told could not be written.
-pub(crate) fn ends_run(status: u8) -> bool {
-    status >= NO_MEMORY
 }

@@ -1,42 +1,62 @@
-//! Standard output, with what becomes of it at the end.
+//! Standard output, with what has become of it.
 
-use js_process::{ByteOut, FlushAnswer, StdOut};
-use js_totsenak::UNWRITABLE;
 use std::io::{self, ErrorKind, Write};
 
-/// A writer that notes whether its reader has gone.
-#[derive(Drop)]
-struct NotingWriter<W: Write + Drop> {
-    writer: W,
-    has_no_reader: bool,
+/// What has become of an output.
+#[derive(Clone, Copy)]
+pub(crate) enum Outcome {
+    /// It took all that was written.
+    Fine,
+    /// Its reader has gone.
+    Unread,
+    /// It failed.
+    Failed,
 }
 
-impl<W: Write + Drop> NotingWriter<W> {
-    fn note(&mut self, error: &io::Error) {
-        if error.kind() == ErrorKind::BrokenPipe {
-            self.has_no_reader = true;
-        }
+/// What has become of an output that answers so.
+fn outcome_of(error: &io::Error) -> Outcome {
+    match error.kind() {
+        ErrorKind::BrokenPipe => Outcome::Unread,
+        _ => Outcome::Failed,
     }
 }
 
-impl<W: Write + Drop> Write for NotingWriter<W> {
-    fn write(&mut self, buf: &[u8]) -> io::Result<usize> {
-        match self.writer.write(buf) {
-            Ok(count) => Ok(count),
-            Err(error) => {
-                self.note(&error);
-                Err(error)
-            }
+/// A writer that keeps in mind what has become of it.
+#[derive(Drop)]
+pub(crate) struct WatchedWriter<W: Write + Drop> {
+    writer: W,
+    outcome: Outcome,
+}
+
+impl<W: Write + Drop> WatchedWriter<W> {
+    pub(crate) fn new(writer: W) -> WatchedWriter<W> {
+        WatchedWriter {
+            writer,
+            outcome: Outcome::Fine,
         }
+    }
+
+    pub(crate) fn outcome(&self) -> Outcome {
+        self.outcome
+    }
+}
+
+impl<W: Write + Drop> Write for WatchedWriter<W> {
+    fn write(&mut self, buf: &[u8]) -> io::Result<usize> {
+        let written = self.writer.write(buf);
+        match &written {
+            Ok(0) => self.outcome = Outcome::Failed,
+            Ok(_) => {}
+            Err(error) => self.outcome = outcome_of(error),
+        }
+        written
     }
 
     fn flush(&mut self) -> io::Result<()> {
-        match self.writer.flush() {
-            Ok(()) => Ok(()),
-            Err(error) => {
-                self.note(&error);
-                Err(error)
-            }
+        let flushed = self.writer.flush();
+        if let Err(error) = &flushed {
+            self.outcome = outcome_of(error);
         }
+        flushed
     }
 }
