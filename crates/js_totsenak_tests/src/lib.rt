@@ -2,4 +2,6 @@
 #![tactic(auto)]
 
 #[cfg(test)]
+mod rewritten;
+#[cfg(test)]
 mod told;
