@@ -59,33 +59,31 @@ module _ {S : Type 0} (bytes : S → List ℕ) (text : List ℕ) where
           let within : suc i < suc (length (keys_of es)) = less in
           (f, later i (omega (arith, next)) (omega (arith, within)))
 
+  -- the index of the first entry with the text, or how many there are
+  abbrev place_in : List (S × List Place) → ℕ
+  place_in es = position_or_len (λ key. bytes_eq text (bytes key)) (keys_of es)
+
   -- what a look-up tells
   pub new_from_position : (es : List (S × List Place)) → position (λ key. bytes_eq text (bytes key)) (keys_of es) ≡ None
       → IsNew es
-  new_from_position es none = by_test (nat_lt place (length (keys_of es))) refl none
+  new_from_position es none = by_test (nat_lt (place_in es) (length (keys_of es))) refl none
     where
-      abbrev place : ℕ
-      place = position_or_len (λ key. bytes_eq text (bytes key)) (keys_of es)
-
-      by_test : (b : Bool) → nat_lt place (length (keys_of es)) ≡ b → cond b (Some place) None ≡ None → IsNew es
-      by_test true less f = absurd (let no : Some place ≡ None = f in cc)
+      by_test : (b : Bool) → nat_lt (place_in es) (length (keys_of es)) ≡ b → cond b (Some (place_in es)) None ≡ None → IsNew es
+      by_test true less f = absurd (let no : Some (place_in es) ≡ None = f in cc)
       by_test false less f =
-          new_within es (let far : length (keys_of es) ≤ place = grind (arith, nat_tests) in far)
+          new_within es (let far : length (keys_of es) ≤ place_in es = grind (arith, nat_tests) in far)
 
   pub first_from_position : (es : List (S × List Place)) (i : ℕ)
       → position (λ key. bytes_eq text (bytes key)) (keys_of es) ≡ Some i → IsFirstAt es i
-  first_from_position es i some = by_test (nat_lt place (length (keys_of es))) refl some
+  first_from_position es i some = by_test (nat_lt (place_in es) (length (keys_of es))) refl some
     where
-      abbrev place : ℕ
-      place = position_or_len (λ key. bytes_eq text (bytes key)) (keys_of es)
-
-      by_test : (b : Bool) → nat_lt place (length (keys_of es)) ≡ b → cond b (Some place) None ≡ Some i
+      by_test : (b : Bool) → nat_lt (place_in es) (length (keys_of es)) ≡ b → cond b (Some (place_in es)) None ≡ Some i
           → IsFirstAt es i
       by_test true less f =
-          let same : place ≡ i = some_is place i f in
+          let same : place_in es ≡ i = some_is (place_in es) i f in
           first_within es i same
           (subst (λ n. n < length (keys_of es)) same
-          (let within : place < length (keys_of es) = grind (arith, nat_tests) in within))
+          (let within : place_in es < length (keys_of es) = grind (arith, nat_tests) in within))
       by_test false less f = absurd (let no : None ≡ Some i = f in cc)
 
   -- a text that is new comes last
@@ -106,7 +104,7 @@ module _ {S : Type 0} (bytes : S → List ℕ) (text : List ℕ) where
   with_known (e ∷ es) zero place held at here =
       let same : e.1 ≡ held = some_is e.1 held here in
       rw at (
-        ap (λ ps. record { text = bytes e.0; places = ps ++ place ∷ [] } ∷ licences_in bytes es) same
+      ap (λ ps. record { text = bytes e.0; places = ps ++ place ∷ [] } ∷ licences_in bytes es) same
       )
   with_known (e ∷ es) (suc i) place held at here =
       let later = with_known es i place held at.1 here in

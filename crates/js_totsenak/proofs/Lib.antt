@@ -1,1 +1,4 @@
 mod ChosenAnew
+mod SourceLemmas
+mod TakenLemmas
+mod ValueLemmas

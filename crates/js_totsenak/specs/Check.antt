@@ -57,7 +57,8 @@ pub record IsClean (found : Findings) : Type 0 where
   pub deferred : found.deferred ≡ []
   pub warnings : found.warnings ≡ []
 
--- What is told of a source: a message for each diagnostic, for each that counts in a module alone, and for each warning.
+-- What is told of a source: a message for each diagnostic, for each that counts in a module alone, and for each
+-- warning.
 abbrev pub check_text : List ℕ → List ℕ → Findings → List ℕ
 check_text name text found =
     flat_map (labelled_text name text []) found.diagnostics

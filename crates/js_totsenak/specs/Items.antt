@@ -36,7 +36,8 @@ abbrev pub token_items : ℕ → List TokenParts → List Item
 token_items index [] = []
 token_items index (token ∷ tokens) = token_item index token ∷ token_items (suc index) tokens
 
--- The items of a source: its comments, its diagnostics, those that count in a module alone, its warnings and its tokens.
+-- The items of a source: its comments, its diagnostics, those that count in a module alone, its warnings and its
+-- tokens.
 abbrev pub items_of : Findings → List TokenParts → List Item
 items_of found tokens =
     map comment_item found.comments ++ map diagnostic_item found.diagnostics ++ map deferred_item found.deferred

@@ -16,12 +16,15 @@ use Rattle.js_totsenak.specs.declared.run.RunFault.TheVariants.{Unreadable, Over
 
 -- What telling of the bytes of a source with a name comes to: what a command tells of it is written, and whether it is
 -- faulty is answered; or there is a cause for which it is not.
-abbrev pub TellsOfBytes : Command → Syntax → List ℕ → List ℕ → SourceType → OutputState → OutputState → Result Bool RunFault → Type 0
+abbrev pub TellsOfBytes : Command → Syntax → List ℕ → List ℕ → SourceType → OutputState → OutputState
+    → Result Bool RunFault → Type 0
 TellsOfBytes command syntax name source t old new (Ok is_faulty) =
     (text : List ℕ) × IsTold (rule_of syntax) command name source t text is_faulty × WritesOn text old new
 TellsOfBytes command syntax name source t old new (Err Unreadable) = ⊥
-TellsOfBytes command syntax name source t old new (Err Overlong) = ChoiceCause source choice_fault.Overlong × (new ≡ old)
-TellsOfBytes command syntax name source t old new (Err (NotUtf8 at)) = ChoiceCause source (choice_fault.NotUtf8 at) × (new ≡ old)
+TellsOfBytes command syntax name source t old new (Err Overlong) =
+    ChoiceCause source choice_fault.Overlong × (new ≡ old)
+TellsOfBytes command syntax name source t old new (Err (NotUtf8 at)) =
+    ChoiceCause source (choice_fault.NotUtf8 at) × (new ≡ old)
 TellsOfBytes command syntax name source t old new (Err Memory) =
     (new ≡ old) ⊎ ((text : List ℕ) × (is_faulty : Bool) × IsTold (rule_of syntax) command name source t text is_faulty
     × StopsIn text old new write_fault.Memory)
@@ -40,8 +43,8 @@ GivesUpOn old new (Err Unwritable) = ⊥
 
 -- What telling of an input with a name comes to: it was not read to its end, and nothing was written; or all its bytes
 -- were read, and it is told of them.
-pub record TellsOfInput (command : Command) (syntax : Syntax) (name : List ℕ) (t : SourceType) (input input_new : InputState)
-    (output output_new : OutputState) (result : Result Bool RunFault) : Type 0 where
+pub record TellsOfInput (command : Command) (syntax : Syntax) (name : List ℕ) (t : SourceType)
+    (input input_new : InputState) (output output_new : OutputState) (result : Result Bool RunFault) : Type 0 where
   pub ends : (GivesUpOn input input_new result × (output_new ≡ output))
       ⊎ ((bytes : List ℕ) × Consumes input.left input_new.left bytes × IsAtEnd input_new.left
       × TellsOfBytes command syntax name bytes t output output_new result)

@@ -12,8 +12,8 @@ is_text (Slice span) = true
 is_text (Units units) = true
 is_text Bad = false
 
--- A value as JSON: a text as a string of its UTF-16 units, and `null` for a part of a template with an escape that stands
--- for nothing. A token of a kind that has no value has none in JSON.
+-- A value as JSON: a text as a string of its UTF-16 units, and `null` for a part of a template with an escape that
+-- stands for nothing. A token of a kind that has no value has none in JSON.
 abbrev pub value_json : List ℕ → RowValue → List ℕ
 value_json source Nothing = []
 value_json source (Slice span) = json_text (characters_between source span.start span.end)

@@ -33,8 +33,8 @@ value_line source x = if holds_text x.token.kind then text_line source x.value e
 abbrev pub values_text : List ℕ → List Taken → List ℕ
 values_text source taken = flat_map (value_line source) taken
 
--- The text is that of the live tokens of the report of the source, whose goals the rule chooses: each has the value that
--- the row has which read it.
+-- The text is that of the live tokens of the report of the source, whose goals the rule chooses: each has the value
+-- that the row has which read it.
 pub record HasValues (rule : Rule) (source : List ℕ) (t : SourceType) (text : List ℕ) : Type 0 where
   pub commands : List Command
   pub report : Report

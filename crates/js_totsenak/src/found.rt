@@ -21,10 +21,11 @@ struct FindingsTaker {
 
 impl TakeTokens for FindingsTaker {
     ghost use Rattle.std.specs.Prelude.{⊤};
+    ghost use Rattle.js_totsenak.specs.Found.{KeepsFound, KeepsNothing};
 
-    ghost takes = { λ old taken new. new ≡ old };
+    ghost takes = { KeepsNothing };
 
-    ghost ends = { λ old found new. new.found ≡ found };
+    ghost ends = { KeepsFound };
 
     ghost breaks_off = { λ _ _. ⊤ };
 

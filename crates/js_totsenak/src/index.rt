@@ -1,15 +1,15 @@
 //! Indices of tokens.
 
-ghost use Rattle.std.specs.Prelude.{◌≡◌, IfOk, suc};
+ghost use Rattle.std.specs.Prelude.{◌≡◌, IfOk};
 
 use std::alloc::AllocError;
 
-/// The index behind one. Of a token with one of 2^32 or more there is no memory.
-pub(crate) fn index_behind(index: u32) -> Result<u32, AllocError>
-    ensures { IfOk result (λ behind. behind ≡ suc index) }
+/// An index as lists of tokens take it. Of one of 2^32 or more there is no memory.
+pub(crate) fn list_index(index: usize) -> Result<u32, AllocError>
+    ensures { IfOk result (λ in_lists. in_lists ≡ index) }
 {
-    match index.checked_add(1) {
-        Some(behind) => Ok(behind),
-        None => Err(AllocError),
+    match u32::try_from(index) {
+        Ok(index) => Ok(index),
+        Err(_) => Err(AllocError),
     }
 }

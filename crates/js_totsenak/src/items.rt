@@ -1,10 +1,9 @@
 //! What is told of a source as JSON: its comments, its faults and its tokens, in order of place.
 
 ghost use Rattle.std.specs.Prelude.{◌≡◌, ◌++◌, ◌∷◌, [], OnOk, IfOk, map};
-ghost use Rattle.js_totsenak.specs.Items.{ArePlaced, comment_item, deferred_item, diagnostic_item, items_of, span_start};
-ghost use Rattle.js_totsenak.specs.Items.{token_items, warning_item};
+ghost use Rattle.js_totsenak.specs.Items.{ArePlaced, comment_item, deferred_item, diagnostic_item, items_of};
+ghost use Rattle.js_totsenak.specs.Items.{span_start, token_items, warning_item};
 
-use crate::index::index_behind;
 use js_kind::Token;
 use js_lists::LiveLists;
 use js_text::{Comment, Diagnostic, Span};
@@ -19,7 +18,7 @@ pub(crate) enum Subject {
     Deferred(Diagnostic),
     Warning(Span),
     /// The token with this index.
-    Token(u32),
+    Token(usize),
 }
 
 /// Something that is told of a source.
@@ -91,13 +90,11 @@ fn add_warnings(items: &mut Vec<Item>, warnings: &[Span]) -> Result<(), AllocErr
 fn add_tokens(items: &mut Vec<Item>, tokens: &[Token]) -> Result<(), AllocError>
     ensures { OnOk result (items.new.items ≡ items.old.items ++ token_items 0 tokens.now) }
 {
-    let mut index = 0;
-    for token in tokens {
+    for (index, token) in tokens.iter().enumerate() {
         items.push(Item {
             start: token.start(),
             subject: Subject::Token(index),
         })?;
-        index = index_behind(index)?;
     }
     Ok(())
 }

@@ -14,6 +14,7 @@ ghost use Rattle.js_totsenak.specs.ItemJson.{item_json, token_or_nothing};
 ghost use Rattle.js_totsenak.specs.ItemsText.{HasItems, IsItemsText};
 
 use crate::check::places_of;
+use crate::index::list_index;
 use crate::item_json::{push_comment, push_diagnostic, push_token, push_warning};
 use crate::items::{Item, Subject, placed_items};
 use js_choose::{ChoiceFault, ChooseGoals};
@@ -28,7 +29,7 @@ fn push_listed(
     source: &str,
     lists: &LiveLists,
     places: &mut LineCursor<'_, '_>,
-    index: u32,
+    index: usize,
 ) -> Result<(), AllocError>
     requires short { length source.now < 2 ^ 32 }
     requires places { places.old ≡ in_characters (record { text = source.now; ends = EcmaScript }) }
@@ -36,17 +37,18 @@ fn push_listed(
         ≡ string_bytes text.old ++ token_or_nothing source.now (slice_get taken index)) }
     ensures places { places.new ≡ places.old }
 {
-    match lists.tokens.as_slice().get(index as usize) {
-        Some(token) => push_token(
-            text,
-            source,
-            places,
-            token,
-            lists.value(index),
-            lists.regex(index),
-        ),
-        None => Ok(()),
-    }
+    let Some(token) = lists.tokens.as_slice().get(index) else {
+        return Ok(());
+    };
+    let index = list_index(index)?;
+    push_token(
+        text,
+        source,
+        places,
+        token,
+        lists.value(index),
+        lists.regex(index),
+    )
 }
 
 /// Appends the object of an item.
@@ -97,8 +99,8 @@ fn push_items(
     Ok(())
 }
 
-/// An object of JSON on a line of its own for each token, comment and diagnostic that is listed of a source, in order of
-/// place.
+/// An object of JSON on a line of its own for each token, comment and diagnostic that is listed of a source, in order
+/// of place.
 pub fn items_text(alloc: Global, source: &str, lists: &LiveLists) -> Result<String, AllocError>
     requires { length source.now < 2 ^ 32 }
     ensures { IfOk result (λ text. (taken : List Taken) → HasTaken lists.now taken

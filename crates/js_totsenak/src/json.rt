@@ -2,7 +2,8 @@
 
 ghost use Rattle.std.specs.Prelude.{◌≡◌, ◌++◌, ◌<◌, OnOk, true, codes, string_bytes, chars};
 ghost use Rattle.std.specs.List.{flat_map};
-ghost use Rattle.js_totsenak.specs.Json.{four_digits, is_json_itself, json_character, json_string, json_text, json_unit};
+ghost use Rattle.js_totsenak.specs.Json.{four_digits, is_json_itself, json_character, json_string, json_text};
+ghost use Rattle.js_totsenak.specs.Json.{json_unit};
 
 use std::alloc::AllocError;
 use std::fmt::Write;

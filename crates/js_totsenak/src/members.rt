@@ -1,8 +1,8 @@
 //! Members of objects of JSON.
 
 ghost use Rattle.std.specs.Prelude.{◌≡◌, ◌++◌, OnOk, codes, string_bytes, chars};
-ghost use Rattle.js_totsenak.specs.Members.{flag_member, flag_text, member_head, null_member, number_member, text_member};
-ghost use Rattle.js_totsenak.specs.Members.{word_member};
+ghost use Rattle.js_totsenak.specs.Members.{flag_member, flag_text, member_head, null_member, number_member};
+ghost use Rattle.js_totsenak.specs.Members.{text_member, word_member};
 
 use crate::json::push_json_text;
 use std::alloc::AllocError;

@@ -3,7 +3,8 @@
 ghost use Rattle.std.specs.Prelude.{◌≡◌, ◌++◌, OnOk, string_bytes};
 ghost use Rattle.js_lines.specs.declared.columns.ColumnUnit.TheVariants.{Characters};
 ghost use Rattle.js_lines.specs.declared.line_ends.LineEnds.TheVariants.{EcmaScript};
-ghost use Rattle.js_totsenak.specs.PlaceJson.{no_stretch, position_members, span_members, stretch_members, stretch_or_null};
+ghost use Rattle.js_totsenak.specs.PlaceJson.{no_stretch, position_members, span_members, stretch_members};
+ghost use Rattle.js_totsenak.specs.PlaceJson.{stretch_or_null};
 
 use crate::members::{push_null, push_number};
 use js_lines::{LineCursor, Position};

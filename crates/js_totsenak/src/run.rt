@@ -35,7 +35,8 @@ fn tell_of_bytes<O: ByteOut>(
     source_type: SourceType,
     output: &mut O,
 ) -> Result<bool, RunFault>
-    ensures { TellsOfBytes command syntax name.now source.now source_type (O.state output.old) (O.state output.new) result }
+    ensures { TellsOfBytes command syntax name.now source.now source_type (O.state output.old) (O.state output.new)
+        result }
 {
     let told = match tell(alloc, command, syntax, name, source, source_type) {
         Ok(told) => told,

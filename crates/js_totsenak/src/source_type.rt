@@ -17,8 +17,9 @@ fn type_by_name(name: &str) -> SourceType
     }
 }
 
-/// The type of a source: that which was said; or else a module, where it has JSX; or else by the ending of its name. One
-/// that ends in neither `.mjs` nor `.cjs` is read as a script, and faults that it has as a module alone are warned of.
+/// The type of a source: that which was said; or else a module, where it has JSX; or else by the ending of its name.
+/// One that ends in neither `.mjs` nor `.cjs` is read as a script, and faults that it has as a module alone are warned
+/// of.
 pub fn source_type_of(said: Option<SourceType>, syntax: Syntax, name: &str) -> SourceType
     ensures { result ≡ source_type_of said syntax name.now }
 {

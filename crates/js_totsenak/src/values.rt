@@ -9,7 +9,7 @@ ghost use Rattle.js_lists.specs.Taken.{Taken, value_handed};
 ghost use Rattle.js_session.specs.Faults.{IsReadable};
 ghost use Rattle.js_totsenak.specs.Values.{HasValues, holds_text, text_line, value_line, values_text};
 
-use crate::index::index_behind;
+use crate::index::list_index;
 use crate::value_json::{is_text, push_value_json};
 use js_choose::{ChoiceFault, ChooseGoals};
 use js_kind::{Kind, Token};
@@ -50,7 +50,7 @@ fn push_listed(
     text: &mut String,
     source: &str,
     lists: &LiveLists,
-    index: u32,
+    index: usize,
     token: &Token,
 ) -> Result<(), AllocError>
     requires short { length source.now < 2 ^ 32 }
@@ -59,11 +59,11 @@ fn push_listed(
         → slice_get taken index ≡ Some x
         → string_bytes text.new ≡ string_bytes text.old ++ value_line source.now x) }
 {
-    if holds_text(token.kind()) {
-        push_text(text, source, lists.value(index))
-    } else {
-        Ok(())
+    if !holds_text(token.kind()) {
+        return Ok(());
     }
+    let index = list_index(index)?;
+    push_text(text, source, lists.value(index))
 }
 
 /// The lines of the strings and templates among the tokens that are listed of a source.
@@ -73,10 +73,9 @@ pub fn values_text(alloc: Global, source: &str, lists: &LiveLists) -> Result<Str
         → string_bytes text ≡ values_text source.now taken) }
 {
     let mut text = String::new(alloc);
-    let mut index = 0;
-    for token in lists.tokens.as_slice() {
+    let tokens = lists.tokens.as_slice();
+    for (index, token) in tokens.iter().enumerate() {
         push_listed(&mut text, source, lists, index, token)?;
-        index = index_behind(index)?;
     }
     Ok(text)
 }

@@ -1,0 +1,8 @@
+use Rattle.std.proofs.Common.{◌≡◌, ◌++◌, map, take}
+use Rattle.js_totsenak.specs.Items.{diagnostic_item}
+use Rattle.js_totsenak.proofs.items.add_diagnostics.Given as goal
+
+-- The items of the diagnostics so far were added.
+abbrev pub invariant-loop-diagnostic : goal.invariant-loop-diagnostic
+invariant-loop-diagnostic l =
+    l.items.items ≡ l.initial.items.items ++ map diagnostic_item (take l.diagnostic-index l.diagnostics)
