@@ -13,8 +13,8 @@ pub(crate) enum Fault {
     Untold(RunFault),
     /// It has JSX, and was to be written anew.
     Jsx,
-    /// It could not be written in place.
-    NotReplaced,
+    /// What was made of it could not be written to a file, which was told already.
+    Unwritten,
 }
 
 impl From<AllocError> for Fault {
@@ -64,7 +64,7 @@ impl Fault {
         match self {
             Fault::Untold(fault) => status_of(Err(fault)),
             Fault::Jsx => UNTOLD,
-            Fault::NotReplaced => UNWRITABLE,
+            Fault::Unwritten => UNWRITABLE,
         }
     }
 
@@ -89,7 +89,7 @@ impl Fault {
             Fault::Untold(RunFault::Memory) => eprintln!(rt; "totsenak: out of memory"),
             Fault::Untold(RunFault::Unwritable) => Ok(()),
             Fault::Jsx => { eprintln!(rt; "totsenak: {name}: has JSX, and is not written anew") }
-            Fault::NotReplaced => eprintln!(rt; "totsenak: {name}: cannot be written"),
+            Fault::Unwritten => Ok(()),
         };
     }
 }

@@ -8,7 +8,8 @@ use crate::words::Sources;
 use js_licences::Licences;
 use js_process::ByteOut;
 use js_process::write_all::write_piece;
-use js_totsenak::{CLEAN, FAULTY, Format, Rewriting, Rewritten, Syntax, rewrite_source};
+use js_totsenak::{CLEAN, FAULTY, Format, Rewriting, Rewritten, RunFault, Syntax, rewrite_source};
+use std::io::ErrorKind;
 
 /// Where sources go that are written anew.
 #[derive(Clone, Copy)]
@@ -29,11 +30,18 @@ pub(crate) struct Anew<'w> {
     pub licences: Option<&'w str>,
 }
 
-/// Writes a text to a file.
+/// Writes a text to a file, or tells that it can't be written.
 fn write_whole(rt: &HostRuntime, name: &str, text: &str) -> Result<(), Fault> {
     match write_file(rt, name, text) {
         Ok(()) => Ok(()),
-        Err(_) => Err(Fault::NotReplaced),
+        Err(error) if error.kind() == ErrorKind::OutOfMemory => {
+            Err(Fault::Untold(RunFault::Memory))
+        }
+        Err(_) => {
+            // Nobody is left to tell where this fails.
+            let _ = eprintln!(rt; "totsenak: {name}: cannot be written");
+            Err(Fault::Unwritten)
+        }
     }
 }
 
