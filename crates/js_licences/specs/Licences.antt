@@ -1,5 +1,5 @@
 -- The licences of sources: which comments hold one, and what is collected of them.
-use Rattle.std.specs.Prelude.{◌≡◌, ℕ, ◌+◌, Bool, true, false, List, [], ◌∷◌, ◌++◌, bytes_eq, encode_utf8_all, filter}
+use Rattle.std.specs.Prelude.{◌≡◌, ℕ, ◌+◌, Bool, true, false, not, List, [], ◌∷◌, ◌++◌, bytes_eq, encode_utf8_all, filter}
 use Rattle.std.specs.Prelude.{fold, map, if◌then◌else◌}
 use Rattle.js_choose.specs.Rules.{ReportBy, Rule}
 use Rattle.js_lines.specs.Lines.{position_of}
@@ -72,6 +72,24 @@ with_occurrence (licence ∷ licences) x =
 -- the licences with more comments, one behind the other
 abbrev pub with_occurrences : List LicenceOf → List Occurrence → List LicenceOf
 with_occurrences licences xs = fold with_occurrence licences xs
+
+-- the places of the comments with a text, in order
+abbrev pub places_of : List ℕ → List Occurrence → List Place
+places_of text [] = []
+places_of text (x ∷ xs) = if bytes_eq x.text text then x.place ∷ places_of text xs else places_of text xs
+
+-- the comments with another text
+abbrev pub without_text : List ℕ → List Occurrence → List Occurrence
+without_text text xs = filter (λ (x : Occurrence). not (bytes_eq x.text text)) xs
+
+-- These are the licences of the comments: that of the first comment, with all places of its text, and then those of the
+-- comments with another text. So each text comes once, in the order in which the texts first come.
+abbrev pub AreLicencesOf : List Occurrence → List LicenceOf → Type 0
+AreLicencesOf xs [] = xs ≡ []
+AreLicencesOf [] (licence ∷ licences) = ⊥
+AreLicencesOf (x ∷ xs) (licence ∷ licences) =
+    (licence.text ≡ x.text) × (licence.places ≡ x.place ∷ places_of x.text xs)
+    × AreLicencesOf (without_text x.text xs) licences
 
 -- The licences of a source with a name were added: those of the live comments of its report, whose goals the rule
 -- chooses.

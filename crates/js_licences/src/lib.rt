@@ -2,6 +2,7 @@
 #![tactic(auto)]
 
 mod classes;
+pub mod laws;
 mod licences;
 mod sources;
 mod told;
