@@ -4,7 +4,7 @@ use crate::collecting::collect;
 use crate::output::{Outcome, WatchedWriter};
 use crate::rewriting::rewrite_each;
 use crate::telling::tell_of_each;
-use crate::words::{Asked, Sources, answer_for, asked, mistake_in, read_words};
+use crate::words::{Asked, Sources, answer_for, asked_of, mistake_in, read_words};
 use clap::ArgMatches;
 use js_process::{ByteOut, FlushAnswer, StdOut, program_words};
 use js_totsenak::{NO_MEMORY, UNTOLD, UNWRITABLE};
@@ -42,7 +42,7 @@ fn obey(rt: &HostRuntime, asked: &Asked<'_>, sources: &Sources<'_>) -> u8 {
 
 /// Does what the words of a command ask for, where that can be done.
 fn obey_command(rt: &HostRuntime, command: &str, matches: &ArgMatches<'_>) -> u8 {
-    let (asked, sources) = asked(command, matches);
+    let (asked, sources) = asked_of(command, matches);
     match mistake_in(&asked, &sources) {
         Some(mistake) => {
             let _ = eprintln!(rt; "totsenak: {mistake}");

@@ -63,7 +63,7 @@ fn writing_anew<'a>(alloc: Global, command: Command<'a>) -> Result<Command<'a>, 
 }
 
 /// The commands that tell of sources.
-fn telling<'a>(alloc: Global, program: Command<'a>) -> Result<Command<'a>, AllocError> {
+fn with_telling<'a>(alloc: Global, program: Command<'a>) -> Result<Command<'a>, AllocError> {
     let check = Command::new(alloc, "check").about("Tells what is at fault in sources");
     let tokens = Command::new(alloc, "tokens").about("Lists the tokens of sources");
     let values = Command::new(alloc, "values").about(
@@ -91,7 +91,7 @@ fn program<'a>(alloc: Global) -> Result<Command<'a>, AllocError> {
         .no_binary_name(true)
         .disable_help_subcommand(true)
         .subcommand_required(true);
-    telling(alloc, program)?
+    with_telling(alloc, program)?
         .subcommand(writing_anew(alloc, strip)?)?
         .subcommand(writing_anew(alloc, squeeze)?)
 }
@@ -177,7 +177,7 @@ pub(crate) enum Asked<'w> {
 }
 
 /// What the words of a command ask for, and of which sources.
-pub(crate) fn asked<'w>(command: &str, matches: &'w ArgMatches<'_>) -> (Asked<'w>, Sources<'w>) {
+pub(crate) fn asked_of<'w>(command: &str, matches: &'w ArgMatches<'_>) -> (Asked<'w>, Sources<'w>) {
     let asked = match command {
         "tokens" => Asked::Telling(Telling::Tokens(format_in(matches))),
         "values" => Asked::Telling(Telling::Values),
