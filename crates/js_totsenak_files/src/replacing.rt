@@ -72,12 +72,7 @@ pub(crate) fn write_file(rt: &HostRuntime, name: &str, text: &str) -> io::Result
     match fs::metadata(rt, name) {
         Ok(metadata) if metadata.is_file() => {
             let target = fs::canonicalize(rt, name)?;
-            replace(
-                rt,
-                target.as_path().to_string_lossy(),
-                text,
-                Some(metadata.permissions()),
-            )
+            replace(rt, target.as_os_str(), text, Some(metadata.permissions()))
         }
         Ok(_) => fs::write(rt, name, text),
         Err(error) if error.kind() == ErrorKind::NotFound => replace(rt, name, text, None),
