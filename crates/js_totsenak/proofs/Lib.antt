@@ -1,4 +1,6 @@
 mod ChosenAnew
+mod OrderLemmas
 mod SourceLemmas
 mod TakenLemmas
+mod ToldLemmas
 mod ValueLemmas

@@ -1,5 +1,6 @@
 -- The lines of a source's JSON: an object for each token, comment and diagnostic.
 use Rattle.std.specs.Prelude.{ℕ, List, [], ◌++◌, codes, chars, Option, Some, None, slice_get}
+use Rattle.std.specs.Prelude.{if◌then◌else◌}
 use Rattle.js_kind.specs.Kinds.{kind_name}
 use Rattle.js_kind.specs.TokenParts.{TokenParts}
 use Rattle.js_lists.specs.Taken.{Taken}
@@ -9,12 +10,11 @@ use Rattle.js_text.specs.declared.comment.Comment.{Comment}
 use Rattle.js_text.specs.declared.diagnostic.Diagnostic.{Diagnostic}
 use Rattle.js_text.specs.declared.span.Span.{Span}
 use Rattle.js_text.specs.declared.value.RowValue.{RowValue}
-use Rattle.js_text.specs.declared.value.RowValue.TheVariants.{Nothing, Slice, Units, Bad}
 use Rattle.js_totsenak.specs.Members.{flag_member, member_head, text_member, word_member}
 use Rattle.js_totsenak.specs.Messages.{message_of, warning_in_words}
 use Rattle.js_totsenak.specs.PlaceJson.{stretch_members, stretch_or_null}
 use Rattle.js_totsenak.specs.RegexJson.{regex_members}
-use Rattle.js_totsenak.specs.ValueJson.{value_json}
+use Rattle.js_totsenak.specs.ValueJson.{has_value, value_json}
 use Rattle.js_totsenak.specs.declared.items.Item.{Item}
 use Rattle.js_totsenak.specs.declared.items.Subject.{Subject}
 use Rattle.js_totsenak.specs.declared.items.Subject.TheVariants as subject
@@ -57,10 +57,8 @@ token_flags token =
 
 -- the member of a value: a token of a kind that has none has no such member
 abbrev pub value_member : List ℕ → RowValue → List ℕ
-value_member source Nothing = []
-value_member source (Slice span) = member_head (codes "value") ++ value_json source (Slice span)
-value_member source (Units units) = member_head (codes "value") ++ value_json source (Units units)
-value_member source Bad = member_head (codes "value") ++ value_json source Bad
+value_member source value =
+    if has_value value then member_head (codes "value") ++ value_json source value else []
 
 -- what the line of a token of the text begins with
 unfoldable pub token_head : List ℕ → TokenParts → List ℕ

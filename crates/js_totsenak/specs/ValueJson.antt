@@ -5,6 +5,13 @@ use Rattle.js_text.specs.declared.value.RowValue.TheVariants.{Nothing, Slice, Un
 use Rattle.js_totsenak.specs.Json.{json_string, json_text}
 use Rattle.js_totsenak.specs.Stretches.{characters_between}
 
+-- the token is of a kind that has a value
+abbrev pub has_value : RowValue → Bool
+has_value Nothing = false
+has_value (Slice span) = true
+has_value (Units units) = true
+has_value Bad = true
+
 -- the value is a text
 abbrev pub is_text : RowValue → Bool
 is_text Nothing = false

@@ -12,7 +12,7 @@ use crate::members::{push_flag, push_member_head, push_text, push_word};
 use crate::message::WARNING_IN_WORDS;
 use crate::place_json::{push_stretch, push_stretch_or_null};
 use crate::regex_json::push_regex;
-use crate::value_json::push_value_json;
+use crate::value_json::{has_value, push_value_json};
 use js_kind::Token;
 use js_lines::LineCursor;
 use js_lists::TokenValue;
@@ -122,13 +122,11 @@ fn push_value(text: &mut String, source: &str, value: TokenValue<'_>) -> Result<
     ensures { OnOk result (string_bytes text.new
         ≡ string_bytes text.old ++ value_member source.now (value_handed value.entry)) }
 {
-    match value {
-        TokenValue::Nothing => Ok(()),
-        value => {
-            push_member_head(text, "value")?;
-            push_value_json(text, source, value)
-        }
+    if !has_value(value) {
+        return Ok(());
     }
+    push_member_head(text, "value")?;
+    push_value_json(text, source, value)
 }
 
 /// Appends what the object of a token begins with.

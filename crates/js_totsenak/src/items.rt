@@ -116,7 +116,8 @@ fn items_of(alloc: Global, lists: &LiveLists) -> Result<Vec<Item>, AllocError>
 fn place(items: &mut Vec<Item>) -> Result<(), AllocError>
     ensures { OnOk result (ArePlaced items.old.items items.new.items) }
 {
-    items.sort_by_key(|item| item.start)
+    items.sort_by_key(|item| item.start)?;
+    Ok(())
 }
 
 /// The items of a source, in order of place.

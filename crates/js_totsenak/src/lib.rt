@@ -11,6 +11,7 @@ mod item_json;
 mod items;
 mod items_text;
 mod json;
+pub mod laws;
 mod members;
 mod message;
 mod place_json;

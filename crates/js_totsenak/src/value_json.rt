@@ -2,12 +2,22 @@
 
 ghost use Rattle.std.specs.Prelude.{◌≡◌, ◌++◌, ◌^◌, ◌<◌, OnOk, length, string_bytes};
 ghost use Rattle.js_lists.specs.Taken.{value_handed};
-ghost use Rattle.js_totsenak.specs.ValueJson.{is_text, value_json};
+ghost use Rattle.js_totsenak.specs.ValueJson.{has_value, is_text, value_json};
 
 use crate::json::{push_json_string, push_json_text};
 use crate::stretch::stretch_of;
 use js_lists::TokenValue;
 use std::alloc::AllocError;
+
+/// Whether there is a value.
+pub(crate) fn has_value(value: TokenValue<'_>) -> bool
+    ensures { result ≡ has_value (value_handed value.entry) }
+{
+    match value {
+        TokenValue::Nothing => false,
+        TokenValue::Slice(_) | TokenValue::Units(_) | TokenValue::Bad => true,
+    }
+}
 
 /// Whether a value is a text.
 pub(crate) fn is_text(value: TokenValue<'_>) -> bool

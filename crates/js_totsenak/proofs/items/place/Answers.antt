@@ -4,4 +4,8 @@ use Rattle.js_totsenak.specs.Items.{item_start}
 use Rattle.js_totsenak.proofs.items.place.Goals as goal
 
 pub returns : goal.returns
-returns c = ?
+returns c = record {
+  permutation = c.sort_by_key.ensures.permutation;
+  ordered = IsNonDecreasingBy-from_sort_by_key item_start _ c.in_ok-sort_by_key.ensures.sorted (λ a r q k. search rules);
+  stable = c.sort_by_key.ensures.stable item_start (answers_always _ _ _ (λ f a r g h. search rules));
+}
