@@ -8,7 +8,7 @@ ghost use Rattle.js_totsenak.specs.Syntaxes.{rule_of};
 ghost use Rattle.js_totsenak.specs.Told.{IsTold};
 
 use crate::check::{Told, check_source};
-use crate::items_text::items_of_source;
+use crate::item_lines::items_of_source;
 use crate::syntax::Syntax;
 use crate::tokens::tokens_of_source;
 use crate::values::values_of_source;

@@ -5,7 +5,7 @@ use Rattle.js_lists.specs.Lists.{HasTaken}
 use Rattle.js_lists.specs.Taken.{Taken}
 use Rattle.js_totsenak.specs.Check.{in_characters}
 use Rattle.js_totsenak.specs.ItemJson.{item_json}
-use Rattle.js_totsenak.proofs.items_text.push_items.Given as goal
+use Rattle.js_totsenak.proofs.item_lines.push_items.Given as goal
 
 -- The lines of the items so far were appended.
 abbrev pub invariant-loop-item : goal.invariant-loop-item
