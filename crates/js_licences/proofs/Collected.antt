@@ -1,8 +1,9 @@
 -- Comments that are added to a map from texts to places.
 use Rattle.std.proofs.Common.{◌≡◌, ℕ, zero, suc, ◌+◌, ◌<◌, ◌≤◌, Bool, true, false, not, List, [], ◌∷◌, ◌++◌, length, refl}
-use Rattle.std.proofs.Common.{ap, sym, subst, arith, cond, ◌∙◌, Option, Some, None}
+use Rattle.std.proofs.Common.{ap, sym, subst, arith, cond, ◌∙◌, Option, Some, None, append-nil, append_assoc, take}
+use Rattle.std.proofs.Common.{Result, Ok, Err, OnOk, OnErr}
 use Rattle.std.specs.Prelude.{bytes_eq, if◌then◌else◌, nat_lt, slice_get}
-use Rattle.std.specs.List.{position, position_or_len, prefix_len}
+use Rattle.std.specs.List.{flat_map, position, position_or_len, prefix_len}
 use Rattle.std.specs.Map.{keys_of, values_of}
 use Rattle.std.proofs.lemmas.Bool.Decides.{nat_tests}
 use Rattle.indexmap.specs.IndexMap.{insert_entry, set_value_at}
@@ -11,7 +12,7 @@ use Rattle.js_licences.specs.Licences.{LicenceOf, Occurrence, holds_licence, lic
 use Rattle.js_licences.specs.Licences.{with_occurrence, with_occurrences}
 use Rattle.js_licences.specs.declared.licences.Place.{Place}
 
-some_is : {A : Type 0} (x y : A) → Some x ≡ Some y → x ≡ y
+pub some_is : {A : Type 0} (x y : A) → Some x ≡ Some y → x ≡ y
 some_is x y e = cc
 
 module _ {S : Type 0} (bytes : S → List ℕ) (text : List ℕ) where
@@ -133,36 +134,71 @@ same_places [] i held here = refl
 same_places (e ∷ es) zero held here = ap (λ ps. (e.0, ps) ∷ es) (sym (some_is e.1 held here))
 same_places (e ∷ es) (suc i) held here = ap (λ rest. e ∷ rest) (same_places es i held here)
 
+-- the first entry with a text has places
+pub first_held : {S : Type 0} (bytes : S → List ℕ) (text : List ℕ) (es : List (S × List Place)) (i : ℕ)
+    → IsFirstAt bytes text es i → (held : List Place) × (slice_get (values_of es) i ≡ Some held)
+first_held bytes text [] i at = absurd at
+first_held bytes text (e ∷ es) zero at = (e.1, refl)
+first_held bytes text (e ∷ es) (suc i) at = first_held bytes text es i at.1
+
+pub on_ok : {A E P Q : Type 0} (r : Result A E) → (P → Q) → OnOk r P → OnOk r Q
+on_ok (Ok a) f h = f h
+on_ok (Err e) f h = h
+
+pub on_err : {A E P Q : Type 0} (r : Result A E) → (P → Q) → OnErr r P → OnErr r Q
+on_err (Ok a) f h = h
+on_err (Err e) f h = f h
+
 -- one more comment that holds a licence, or that holds none
 pub with_one_more : (licences : List LicenceOf) (name source : List ℕ) (comments : List Comment) (c : Comment)
     → holds_licence c.content ≡ true
     → with_occurrences licences (occurrences name source (comments ++ c ∷ []))
     ≡ with_occurrence (with_occurrences licences (occurrences name source comments)) (occurrence_of name source c)
 with_one_more licences name source [] c holds = rw holds refl
-with_one_more licences name source (first ∷ comments) c holds = by_test (holds_licence first.content) refl
+with_one_more licences name source (first ∷ comments) c holds =
+    by_test (holds_licence first.content) refl
+    (with_one_more (with_occurrence licences (occurrence_of name source first)) name source comments c holds)
+    (with_one_more licences name source comments c holds)
   where
     by_test : (b : Bool) → holds_licence first.content ≡ b
+        → with_occurrences (with_occurrence licences (occurrence_of name source first))
+        (occurrences name source (comments ++ c ∷ []))
+        ≡ with_occurrence (with_occurrences (with_occurrence licences (occurrence_of name source first))
+        (occurrences name source comments)) (occurrence_of name source c)
+        → with_occurrences licences (occurrences name source (comments ++ c ∷ []))
+        ≡ with_occurrence (with_occurrences licences (occurrences name source comments)) (occurrence_of name source c)
         → with_occurrences licences (occurrences name source (first ∷ (comments ++ c ∷ [])))
         ≡ with_occurrence (with_occurrences licences (occurrences name source (first ∷ comments)))
         (occurrence_of name source c)
-    by_test true f =
-        let later =
-        with_one_more (with_occurrence licences (occurrence_of name source first)) name source comments c holds in
-        rw f later
-    by_test false f = let later = with_one_more licences name source comments c holds in rw f later
+    by_test true f taken passed = rw f taken
+    by_test false f taken passed = rw f passed
 
 pub with_no_more : (licences : List LicenceOf) (name source : List ℕ) (comments : List Comment) (c : Comment)
     → holds_licence c.content ≡ false
     → with_occurrences licences (occurrences name source (comments ++ c ∷ []))
     ≡ with_occurrences licences (occurrences name source comments)
 with_no_more licences name source [] c holds = rw holds refl
-with_no_more licences name source (first ∷ comments) c holds = by_test (holds_licence first.content) refl
+with_no_more licences name source (first ∷ comments) c holds =
+    by_test (holds_licence first.content) refl
+    (with_no_more (with_occurrence licences (occurrence_of name source first)) name source comments c holds)
+    (with_no_more licences name source comments c holds)
   where
     by_test : (b : Bool) → holds_licence first.content ≡ b
+        → with_occurrences (with_occurrence licences (occurrence_of name source first))
+        (occurrences name source (comments ++ c ∷ []))
+        ≡ with_occurrences (with_occurrence licences (occurrence_of name source first))
+        (occurrences name source comments)
+        → with_occurrences licences (occurrences name source (comments ++ c ∷ []))
+        ≡ with_occurrences licences (occurrences name source comments)
         → with_occurrences licences (occurrences name source (first ∷ (comments ++ c ∷ [])))
         ≡ with_occurrences licences (occurrences name source (first ∷ comments))
-    by_test true f =
-        let later =
-        with_no_more (with_occurrence licences (occurrence_of name source first)) name source comments c holds in
-        rw f later
-    by_test false f = let later = with_no_more licences name source comments c holds in rw f later
+    by_test true f taken passed = rw f taken
+    by_test false f taken passed = rw f passed
+
+-- the texts of items up to one that is there
+pub one_text_more : {A : Type 0} (f : A → List ℕ) (xs : List A) (i : ℕ) (x : A) → slice_get xs i ≡ Some x
+    → flat_map f (take (suc i) xs) ≡ flat_map f (take i xs) ++ f x
+one_text_more f [] i x here = absurd (cc)
+one_text_more f (y ∷ ys) zero x here = append-nil (f y) ∙ ap f (some_is y x here)
+one_text_more f (y ∷ ys) (suc i) x here =
+    ap (λ rest. f y ++ rest) (one_text_more f ys i x here) ∙ sym (append_assoc (f y) (flat_map f (take i ys)) (f x))

@@ -15,28 +15,36 @@ first_takes : (licence : LicenceOf) (licences : List LicenceOf) (xs : List Occur
     ≡ with_places licence xs ∷ with_occurrences licences (without_text licence.text xs)
 first_takes licence licences [] =
     ap (λ places. record licence { places = places } ∷ licences) (sym (append-nil licence.places))
-first_takes licence licences (x ∷ xs) = by_test (bytes_eq x.text licence.text) refl
+first_takes licence licences (x ∷ xs) =
+    by_test (bytes_eq x.text licence.text) refl
+    (first_takes (record licence { places = licence.places ++ x.place ∷ [] }) licences xs)
+    (first_takes licence (with_occurrence licences x) xs)
   where
     by_test : (b : Bool) → bytes_eq x.text licence.text ≡ b
+        → with_occurrences (record licence { places = licence.places ++ x.place ∷ [] } ∷ licences) xs
+        ≡ with_places (record licence { places = licence.places ++ x.place ∷ [] }) xs
+        ∷ with_occurrences licences (without_text licence.text xs)
+        → with_occurrences (licence ∷ with_occurrence licences x) xs
+        ≡ with_places licence xs ∷ with_occurrences (with_occurrence licences x) (without_text licence.text xs)
         → with_occurrences (licence ∷ licences) (x ∷ xs)
         ≡ with_places licence (x ∷ xs) ∷ with_occurrences licences (without_text licence.text (x ∷ xs))
-    by_test true e =
-        let later = first_takes (record licence { places = licence.places ++ x.place ∷ [] }) licences xs in
+    by_test true e known new =
         let joined = append_assoc licence.places (x.place ∷ []) (places_of licence.text xs) in
         rw e (
-        later
+        known
         ∙ ap (λ places. record licence { places = places }
         ∷ with_occurrences licences (without_text licence.text xs)) joined
         )
-    by_test false e = let later = first_takes licence (with_occurrence licences x) xs in rw e later
+    by_test false e known new = rw e new
 
 fewer : (text : List ℕ) (xs : List Occurrence) → length (without_text text xs) ≤ length xs
 fewer text [] = omega arith
-fewer text (x ∷ xs) = by_test (bytes_eq x.text text) refl
+fewer text (x ∷ xs) = by_test (bytes_eq x.text text) refl (fewer text xs)
   where
-    by_test : (b : Bool) → bytes_eq x.text text ≡ b → length (without_text text (x ∷ xs)) ≤ length (x ∷ xs)
-    by_test true e = let less = fewer text xs in rw e (omega (arith, less))
-    by_test false e = let less = fewer text xs in rw e (omega (arith, less))
+    by_test : (b : Bool) → bytes_eq x.text text ≡ b → length (without_text text xs) ≤ length xs
+        → length (without_text text (x ∷ xs)) ≤ length (x ∷ xs)
+    by_test true e less = rw e (omega (arith, less))
+    by_test false e less = rw e (omega (arith, less))
 
 -- by a bound on how many comments there are
 once_within : (n : ℕ) (xs : List Occurrence) → length xs ≤ n → AreLicencesOf xs (with_occurrences [] xs)

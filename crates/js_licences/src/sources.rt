@@ -55,7 +55,8 @@ impl Licences {
         lines: &LineTable<'_>,
         comment: &Comment,
     ) -> Result<(), AllocError>
-        requires { lines.now.ends ≡ EcmaScript }
+        requires ends { lines.now.ends ≡ EcmaScript }
+        requires short { length lines.now.text < 2 ^ 32 }
         ensures ok { OnOk result
             (self.new ≡ with_occurrence self.old (occurrence_of name.now lines.now.text comment.now)) }
         ensures err { OnErr result (self.new ≡ self.old) }
@@ -72,7 +73,8 @@ impl Licences {
         lines: &LineTable<'_>,
         comments: &[Comment],
     ) -> Result<(), AllocError>
-        requires { lines.now.ends ≡ EcmaScript }
+        requires ends { lines.now.ends ≡ EcmaScript }
+        requires short { length lines.now.text < 2 ^ 32 }
         ensures ok { OnOk result
             (self.new ≡ with_occurrences self.old (occurrences name.now lines.now.text comments.now)) }
         ensures err { OnErr result (AddsSome self.old self.new) }

@@ -1,5 +1,6 @@
 mod ChosenAnew
 mod OrderLemmas
+mod ShownLemmas
 mod SourceLemmas
 mod TakenLemmas
 mod ToldLemmas
