@@ -11,6 +11,7 @@ use Rattle.js_text.specs.declared.source_type.SourceType.TheVariants.{Module, Sc
 use Rattle.js_kind.specs.Predicates.{is_eof}
 use Rattle.js_kind.specs.TokenParts.{TokenParts}
 use Rattle.js_kind.specs.declared.kind.Kind.{Kind}
+use Rattle.js_grammar.specs.Outcome.{Findings}
 use Rattle.js_grammar.specs.ReLexed.{fits}
 use Rattle.js_grammar.proofs.Reported.{append_nil}
 use Rattle.js_lexer.specs.Lexer.{token_or_default}
@@ -26,14 +27,17 @@ use Rattle.js_session.specs.Live.{live, outcome_of}
 use Rattle.js_session.specs.Report.{AreRows, HasMark, IsNotTaken, IsOfEffect, IsReLexed, IsRow, ReportOf, Run}
 use Rattle.js_session.proofs.LastingRuns.{lasting_steps}
 use Rattle.js_session.proofs.RunLemmas.{state_step}
+use Rattle.js_choose.proofs.ChosenLemmas.{one_list}
 use Rattle.js_choose.specs.LastTokens.{but_last, kind_before, last_kind}
 use Rattle.js_auto.specs.Auto.{ReportOfChosen}
 use Rattle.js_auto.specs.Braces.{braces}
-use Rattle.js_auto.specs.Choice.{begins_expression, choice, choice_behind, ends_substitution}
+use Rattle.js_auto.specs.Choice.{begins_expression, choice, choice_behind, choice_in, ends_substitution}
+use Rattle.js_auto.specs.DueLemmas.{each_is_due}
 use Rattle.js_auto.specs.declared.brace.Brace.{Brace}
 use Rattle.js_rewrite.specs.Faults.{first_bad, first_diagnosed, may_rewrite}
 use Rattle.js_rewrite.proofs.Causes.{IsSound}
 use Rattle.js_rewrite.proofs.Positions.{all_last}
+use Rattle.js_totsenak.specs.Checked.{IsChecked}
 
 -- where a test passes at no place
 
@@ -187,3 +191,20 @@ chosen_sound source t commands report is clean =
           (each_clean report.rows
           (rows_clean source t commands report report.rows refl (all_last t commands allowed) is.report_is clean));
     }
+
+-- a list of which it is false that it is not empty
+none_left : (diagnostics : List Diagnostic) → false ≡ not (length diagnostics == 0) → diagnostics ≡ []
+none_left [] e = refl
+none_left (d ∷ ds) e = absurd (cc)
+
+-- Where `check` finds no fault, the report has no diagnostic.
+pub unfaulty_clean : (name source : List ℕ) (t : SourceType) (text : List ℕ)
+    → IsChecked choice_in name source t text false → (commands : List Command) (report : Report)
+    → ReportOfChosen source t false commands report → report.diagnostics ≡ []
+unfaulty_clean name source t text checked commands report is =
+    let found = checked.is_found in
+    let same : report ≡ found.report =
+    (one_list choice_in each_is_due source t false commands found.commands report found.report is found.report_is).1 in
+    ap (λ (r : Report). r.diagnostics) same
+    ∙ sym (ap (λ (f : Findings). f.diagnostics) found.found_is)
+    ∙ none_left checked.found.diagnostics checked.tells.faulty

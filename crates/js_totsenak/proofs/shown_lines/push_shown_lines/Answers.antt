@@ -16,8 +16,7 @@ returns c =
 pub loop-c-preserved : goal.loop-c-preserved
 loop-c-preserved c =
     let old = string_bytes c.args.text.now in
-    let yielded = c.loop-c.yielded in
-    (
+    let yielded = c.loop-c.yielded in (
       c.in_ok-push_behind.ensures
           ∙ ap (λ bytes. bytes ++ shown_behind c.loop-c.before c.in-Some.c) c.loop-c.invariant.0
           ∙ ap (λ before. old ++ shown_lines yielded ++ shown_behind before c.in-Some.c) c.loop-c.invariant.1
