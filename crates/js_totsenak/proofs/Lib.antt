@@ -1,7 +1,9 @@
 mod ChosenAnew
+mod ItemLemmas
 mod OrderLemmas
 mod ShownLemmas
 mod SourceLemmas
 mod TakenLemmas
+mod TextLemmas
 mod ToldLemmas
 mod ValueLemmas

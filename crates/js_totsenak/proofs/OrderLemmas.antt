@@ -46,14 +46,14 @@ least {X} key x y [] rest up e = by (tie (key x) (key y)) refl e
     by : (b : Bool) → tie (key x) (key y) ≡ b → cond b (y ∷ []) [] ≡ x ∷ rest → key y ≤ key x
     by true t e = le_of_eq (sym (tie_is (key x) (key y) t))
     by false t e = absurd cc
-least {X} key x y (z ∷ zs) rest up e = by (tie (key x) (key y)) refl e
+least {X} key x y (z ∷ zs) rest up e =
+    by (tie (key x) (key y)) refl e (least key x z zs rest (IsNonDecreasingBy-drop key 1 (y ∷ z ∷ zs) up))
   where
     by : (b : Bool) → tie (key x) (key y) ≡ b → cond b (y ∷ tied key x (z ∷ zs)) (tied key x (z ∷ zs)) ≡ x ∷ rest
-        → key y ≤ key x
-    by true t e = le_of_eq (sym (tie_is (key x) (key y) t))
-    by false t e =
-        let next : key y ≤ key z = up 0 1 y (omega arith) (omega arith) in
-        le_trans next (least key x z zs rest (IsNonDecreasingBy-drop key 1 (y ∷ z ∷ zs) up) e)
+        → (tied key x (z ∷ zs) ≡ x ∷ rest → key z ≤ key x) → key y ≤ key x
+    by true t e further = le_of_eq (sym (tie_is (key x) (key y) t))
+    by false t e further =
+        let next : key y ≤ key z = up 0 1 y (omega arith) (omega arith) in le_trans next (further e)
 
 own_tie : {X : Type 0} (key : X → ℕ) (x : X) (xs : List X) → tied key x (x ∷ xs) ≡ x ∷ tied key x xs
 own_tie key x xs = ap (λ t. cond t (x ∷ tied key x xs) (tied key x xs)) (tie_same (key x) (key x) refl)
@@ -65,7 +65,9 @@ same_order {X} key [] [] up vp e = refl
 same_order {X} key [] (y ∷ b) up vp e = absurd (let no : [] ≡ y ∷ tied key y b = e y ∙ own_tie key y b in cc)
 same_order {X} key (x ∷ a) [] up vp e =
     absurd (let no : x ∷ tied key x a ≡ [] = sym (own_tie key x a) ∙ e x in cc)
-same_order {X} key (x ∷ a) (y ∷ b) up vp e = by_head same
+same_order {X} key (x ∷ a) (y ∷ b) up vp e =
+    by_head same
+    (same_order key a b (IsNonDecreasingBy-drop key 1 (x ∷ a) up) (IsNonDecreasingBy-drop key 1 (y ∷ b) vp))
   where
     low : key y ≤ key x
     low = least key x y b (tied key x a) vp (sym (e x) ∙ own_tie key x a)
@@ -77,8 +79,7 @@ same_order {X} key (x ∷ a) (y ∷ b) up vp e = by_head same
     tie_here = tie_same (key x) (key y) (le_antisymm high low)
 
     both : x ∷ tied key x a ≡ y ∷ tied key x b
-    both =
-        sym (own_tie key x a) ∙ e x ∙ ap (λ t. cond t (y ∷ tied key x b) (tied key x b)) tie_here
+    both = sym (own_tie key x a) ∙ e x ∙ ap (λ t. cond t (y ∷ tied key x b) (tied key x b)) tie_here
 
     same : x ≡ y
     same = let h = both in cc
@@ -87,13 +88,12 @@ same_order {X} key (x ∷ a) (y ∷ b) up vp e = by_head same
     by_test true us vs h = cc
     by_test false us vs h = h
 
-    by_head : x ≡ y → x ∷ a ≡ y ∷ b
-    by_head is =
+    by_head : x ≡ y → (((z : X) → tied key z a ≡ tied key z b) → a ≡ b) → x ∷ a ≡ y ∷ b
+    by_head is again =
         let alike : (z : X) → tied key z (x ∷ a) ≡ tied key z (x ∷ b) =
         λ z. e z ∙ ap (λ w. tied key z (w ∷ b)) (sym is) in
         let rest : a ≡ b =
-        same_order key a b (IsNonDecreasingBy-drop key 1 (x ∷ a) up) (IsNonDecreasingBy-drop key 1 (y ∷ b) vp)
-        (λ z. by_test (tie (key z) (key x)) (tied key z a) (tied key z b) (alike z)) in
+        again (λ z. by_test (tie (key z) (key x)) (tied key z a) (tied key z b) (alike z)) in
         ap (λ w. w ∷ a) is ∙ ap (λ ws. y ∷ ws) rest
 
 -- items are put in order in one way

@@ -1,10 +1,11 @@
 -- Tokens that were taken, by their indices.
 use Rattle.std.proofs.Common.{◌≡◌, ℕ, zero, suc, ◌+◌, ◌≤◌, Bool, true, false, List, [], ◌∷◌, ◌++◌, take, length, map}
-use Rattle.std.proofs.Common.{refl, sym, ◌∙◌, ap, subst, rw, Option, Some, None, add-one, append_assoc, append-nil}
+use Rattle.std.proofs.Common.{get_or, ◌⊎◌, inl, inr, refl, sym, ◌∙◌, ap, subst, ◌<◌, arith, Option, Some, None, add-one, append_assoc, append-nil}
 use Rattle.std.specs.List.{flat_map}
 use Rattle.std.specs.Prelude.{slice_get}
 use Rattle.std.proofs.lemmas.Grind.{flat_map-append}
-use Rattle.std.proofs.lemmas.List.{length-map, take_all}
+use Rattle.std.proofs.lemmas.List.{length-map}
+use Rattle.std.proofs.lemmas.Option.{slice_get_cases}
 use Rattle.js_kind.specs.TokenParts.{TokenParts}
 use Rattle.js_lists.specs.Lists.{HasTaken}
 use Rattle.js_lists.specs.Taken.{Taken}
@@ -59,7 +60,28 @@ lines_more line xs index x before old new at so_far one =
     one ∙ ap (λ ys. ys ++ line x) so_far ∙ append_assoc before (flat_map line (take index xs)) (line x)
     ∙ ap (λ ys. before ++ ys) (sym lines)
 
+-- the token that was taken, where one is listed
+pub same_token : (lists : LiveLists) (taken : List Taken) (index : ℕ) (token : TokenParts) (x : Taken)
+    → HasTaken lists taken → slice_get lists.tokens index ≡ Some token → slice_get taken index ≡ Some x
+    → x.token ≡ token
+same_token lists taken index token x h e at =
+    let t = listed_at lists taken index token h e in
+    let same : x ≡ t.item = some_same x t.item (sym at ∙ t.at) in ap (λ (y : Taken). y.token) same ∙ t.token_is
+  where
+    some_same : (x y : Taken) → Some x ≡ Some y → x ≡ y
+    some_same x y e = cc
+
 -- the lists have a token for each that was taken
 pub many_taken : (lists : LiveLists) (taken : List Taken) → HasTaken lists taken
     → length lists.tokens ≡ length taken
 many_taken lists taken h = ap length h.tokens ∙ length-map taken (λ (x : Taken). x.token)
+
+-- a token was taken with each index that a token has
+pub taken_within : (lists : LiveLists) (taken : List Taken) (index : ℕ) → HasTaken lists taken
+    → index < length lists.tokens → (x : Taken) × (slice_get taken index ≡ Some x)
+taken_within lists taken index h within = by (slice_get_cases taken index).1
+  where
+    by : ((x : Taken) × (index < length taken) × (slice_get taken index ≡ Some x) × (get_or taken index x ≡ x))
+        ⊎ ((length taken ≤ index) × (slice_get taken index ≡ None)) → (x : Taken) × (slice_get taken index ≡ Some x)
+    by (inl there) = (there.0, there.2.0)
+    by (inr past) = absurd (omega (arith, past.0, within, many_taken lists taken h))

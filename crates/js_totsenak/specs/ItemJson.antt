@@ -49,11 +49,14 @@ warning_json text span =
     diagnostic_head (codes "warning") (codes "RightAngleInJsxText") warning_in_words ++ stretch_members text span
     ++ codes "}\n"
 
+-- whether a token has an escape, and whether it is a number with separators
+unfoldable pub spelling_flags : TokenParts → List ℕ
+spelling_flags token =
+    flag_member (codes "escaped") token.escaped ++ flag_member (codes "separator") token.has_separator
+
 -- the flags of a token
 unfoldable pub token_flags : TokenParts → List ℕ
-token_flags token =
-    flag_member (codes "newline_before") token.is_on_new_line ++ flag_member (codes "escaped") token.escaped
-    ++ flag_member (codes "separator") token.has_separator
+token_flags token = flag_member (codes "newline_before") token.is_on_new_line ++ spelling_flags token
 
 -- the member of a value: a token of a kind that has none has no such member
 abbrev pub value_member : List ℕ → RowValue → List ℕ

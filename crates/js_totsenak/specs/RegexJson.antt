@@ -17,10 +17,11 @@ unfoldable pub flags_member : RegExpFlags → List ℕ
 flags_member flags =
     member_head (codes "flags") ++ codes "\"" ++ flat_map (flag_letter flags) (codes "dgimsuvy") ++ codes "\""
 
--- of a regular expression the offset at which its pattern ends, its flags, and whether one is unknown or stands
--- twice
+-- the flags, and whether one is unknown or stands twice
+unfoldable pub all_flags : RegexInfo → List ℕ
+all_flags info = flags_member info.flags ++ flag_member (codes "flags_error") info.flags_error
+
+-- of a regular expression the offset at which its pattern ends, and its flags
 abbrev pub regex_members : Option RegexInfo → List ℕ
 regex_members None = []
-regex_members (Some info) =
-    number_member (codes "pattern_end") info.pattern_end ++ flags_member info.flags
-    ++ flag_member (codes "flags_error") info.flags_error
+regex_members (Some info) = number_member (codes "pattern_end") info.pattern_end ++ all_flags info

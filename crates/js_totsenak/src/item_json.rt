@@ -5,7 +5,8 @@ ghost use Rattle.js_lines.specs.declared.columns.ColumnUnit.TheVariants.{Charact
 ghost use Rattle.js_lines.specs.declared.line_ends.LineEnds.TheVariants.{EcmaScript};
 ghost use Rattle.js_lists.specs.Taken.{taken_as, value_handed};
 ghost use Rattle.js_totsenak.specs.ItemJson.{comment_json, diagnostic_head, diagnostic_json, sides_members};
-ghost use Rattle.js_totsenak.specs.ItemJson.{token_flags, token_head, token_json, value_member, warning_json};
+ghost use Rattle.js_totsenak.specs.ItemJson.{spelling_flags, token_flags, token_head, token_json, value_member};
+ghost use Rattle.js_totsenak.specs.ItemJson.{warning_json};
 
 use crate::check::told_of;
 use crate::members::{push_flag, push_member_head, push_text, push_word};
@@ -106,14 +107,22 @@ pub(crate) fn push_warning(
     text.push_str("}\n")
 }
 
+/// Appends whether a token has an escape, and whether it has a separator of digits.
+#[tactic(auto, unfolding(crate::specs::ItemJson::spelling_flags))]
+fn push_spelling_flags(text: &mut String, token: &Token) -> Result<(), AllocError>
+    ensures { OnOk result (string_bytes text.new ≡ string_bytes text.old ++ spelling_flags token.now) }
+{
+    push_flag(text, "escaped", token.escaped())?;
+    push_flag(text, "separator", token.has_separator())
+}
+
 /// Appends the flags of a token.
 #[tactic(auto, unfolding(crate::specs::ItemJson::token_flags))]
 fn push_token_flags(text: &mut String, token: &Token) -> Result<(), AllocError>
     ensures { OnOk result (string_bytes text.new ≡ string_bytes text.old ++ token_flags token.now) }
 {
     push_flag(text, "newline_before", token.is_on_new_line())?;
-    push_flag(text, "escaped", token.escaped())?;
-    push_flag(text, "separator", token.has_separator())
+    push_spelling_flags(text, token)
 }
 
 /// Appends the member of a value, if there is one.

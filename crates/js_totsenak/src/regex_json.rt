@@ -2,7 +2,7 @@
 
 ghost use Rattle.std.specs.Prelude.{◌≡◌, ◌++◌, [], OnOk, codes, string_bytes, if◌then◌else◌};
 ghost use Rattle.std.specs.List.{flat_map};
-ghost use Rattle.js_totsenak.specs.RegexJson.{flag_letter, flags_member, regex_members};
+ghost use Rattle.js_totsenak.specs.RegexJson.{all_flags, flag_letter, flags_member, regex_members};
 
 use crate::members::{push_flag, push_member_head, push_number};
 use bitflags::Flags;
@@ -37,7 +37,7 @@ fn push_last_flags(text: &mut String, flags: RegExpFlags) -> Result<(), AllocErr
     push_if(text, flags.contains(RegExpFlags::Y), "y")
 }
 
-/// Appends the letters of the flags.
+/// Appends the letters of the flags as a member.
 #[tactic(auto, unfolding(crate::specs::RegexJson::flags_member))]
 fn push_flags(text: &mut String, flags: RegExpFlags) -> Result<(), AllocError>
     ensures { OnOk result (string_bytes text.new ≡ string_bytes text.old ++ flags_member flags) }
@@ -49,6 +49,15 @@ fn push_flags(text: &mut String, flags: RegExpFlags) -> Result<(), AllocError>
     text.push_str("\"")
 }
 
+/// Appends the flags, and whether one is unknown or stands twice.
+#[tactic(auto, unfolding(crate::specs::RegexJson::all_flags))]
+fn push_all_flags(text: &mut String, info: RegexInfo) -> Result<(), AllocError>
+    ensures { OnOk result (string_bytes text.new ≡ string_bytes text.old ++ all_flags info) }
+{
+    push_flags(text, info.flags)?;
+    push_flag(text, "flags_error", info.flags_error)
+}
+
 /// Appends what is known of a token as a regular expression, if it is one.
 pub(crate) fn push_regex(text: &mut String, regex: Option<RegexInfo>) -> Result<(), AllocError>
     ensures { OnOk result (string_bytes text.new ≡ string_bytes text.old ++ regex_members regex) }
@@ -57,8 +66,7 @@ pub(crate) fn push_regex(text: &mut String, regex: Option<RegexInfo>) -> Result<
         None => Ok(()),
         Some(info) => {
             push_number(text, "pattern_end", u64::from(info.pattern_end))?;
-            push_flags(text, info.flags)?;
-            push_flag(text, "flags_error", info.flags_error)
+            push_all_flags(text, info)
         }
     }
 }
