@@ -1,6 +1,6 @@
 -- A source without a diagnostic may be written anew with the commands that are chosen by its tokens.
 use Rattle.std.proofs.Common.{◌≡◌, ℕ, zero, suc, ◌+◌, Bool, true, false, not, List, [], ◌∷◌, ◌++◌, length, refl, sym, ◌∙◌, ap}
-use Rattle.std.proofs.Common.{append-nil, append_assoc, arith, cond, subst, take, Option, Some, None}
+use Rattle.std.proofs.Common.{true≢false, append-nil, append_assoc, arith, cond, subst, take, Option, Some, None}
 use Rattle.std.specs.Prelude.{◌==◌, MatchBool, if◌then◌else◌, nat_lt, slice_get}
 use Rattle.std.specs.List.{flat_map, list_all, position, position_or_len}
 use Rattle.std.proofs.lemmas.Bool.{and_parts}
@@ -101,7 +101,7 @@ pub chosen_allowed : (source : List ℕ) (t : SourceType) (collects : Bool) (com
     → ReportOfChosen source t collects commands report → first_bad t commands ≡ None
 chosen_allowed source t collects commands report is =
     no_position (λ command. not (may_rewrite t command)) commands
-    (λ i c here. choice_allowed t _ c (is.chosen.each i c here))
+    (λ i c here. choice_allowed t (live (take i commands) report.rows).tokens c (is.chosen.each i c here))
 
 -- the diagnostics that are live after rows that stay are those of the rows
 
@@ -195,7 +195,7 @@ chosen_sound source t commands report is clean =
 -- a list of which it is false that it is not empty
 none_left : (diagnostics : List Diagnostic) → false ≡ not (length diagnostics == 0) → diagnostics ≡ []
 none_left [] e = refl
-none_left (d ∷ ds) e = absurd (cc)
+none_left (d ∷ ds) e = absurd (let no : false ≡ true = e in true≢false (sym no))
 
 -- Where `check` finds no fault, the report has no diagnostic.
 pub unfaulty_clean : (name source : List ℕ) (t : SourceType) (text : List ℕ)
