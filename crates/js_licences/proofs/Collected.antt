@@ -1,14 +1,14 @@
 -- Comments that are added to a map from texts to places.
 use Rattle.std.proofs.Common.{◌≡◌, ℕ, zero, suc, ◌+◌, ◌<◌, ◌≤◌, Bool, true, false, not, List, [], ◌∷◌, ◌++◌, length, refl}
-use Rattle.std.proofs.Common.{ap, sym, subst, arith, cond, ◌∙◌, Option, Some, None, append-nil, append_assoc, take}
+use Rattle.std.proofs.Common.{ap, sym, subst, arith, cond, ◌∙◌, Some, None, append-nil, append_assoc, take}
 use Rattle.std.proofs.Common.{Result, Ok, Err, OnOk, OnErr}
-use Rattle.std.specs.Prelude.{bytes_eq, if◌then◌else◌, nat_lt, slice_get}
+use Rattle.std.specs.Prelude.{bytes_eq, nat_lt, slice_get}
 use Rattle.std.specs.List.{flat_map, position, position_or_len, prefix_len}
 use Rattle.std.specs.Map.{keys_of, values_of}
 use Rattle.std.proofs.lemmas.Bool.Decides.{nat_tests}
 use Rattle.indexmap.specs.IndexMap.{insert_entry, set_value_at}
 use Rattle.js_text.specs.declared.comment.Comment.{Comment}
-use Rattle.js_licences.specs.Licences.{LicenceOf, Occurrence, holds_licence, licences_in, occurrence_of, occurrences}
+use Rattle.js_licences.specs.Licences.{LicenceOf, holds_licence, licences_in, occurrence_of, occurrences}
 use Rattle.js_licences.specs.Licences.{with_occurrence, with_occurrences}
 use Rattle.js_licences.specs.declared.licences.Place.{Place}
 

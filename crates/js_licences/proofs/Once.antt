@@ -1,7 +1,7 @@
 -- Licences to which comments are added one by one have each text once.
-use Rattle.std.proofs.Common.{◌≡◌, ℕ, zero, suc, ◌≤◌, Bool, true, false, not, List, [], ◌∷◌, ◌++◌, length, refl, sym, ap}
+use Rattle.std.proofs.Common.{◌≡◌, ℕ, zero, suc, ◌≤◌, Bool, true, false, List, [], ◌∷◌, ◌++◌, length, refl, sym, ap}
 use Rattle.std.proofs.Common.{append-nil, append_assoc, arith, subst, ◌∙◌}
-use Rattle.std.specs.Prelude.{bytes_eq, filter}
+use Rattle.std.specs.Prelude.{bytes_eq}
 use Rattle.js_licences.specs.Licences.{AreLicencesOf, LicenceOf, Occurrence, places_of, with_occurrence, with_occurrences}
 use Rattle.js_licences.specs.Licences.{without_text}
 

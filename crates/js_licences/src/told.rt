@@ -1,6 +1,6 @@
 //! Licences as text: with the lines where each stands above it, or as JSON.
 
-ghost use Rattle.std.specs.Prelude.{◌≡◌, ◌++◌, chars, OnOk, IfOk, string_bytes};
+ghost use Rattle.std.specs.Prelude.{◌≡◌, ◌++◌, OnOk, IfOk, string_bytes};
 ghost use Rattle.js_licences.specs.Licences.{licence_seen};
 ghost use Rattle.js_licences.specs.Told.{further_places, licence_json, licence_lines, licences_json, licences_text};
 ghost use Rattle.js_licences.specs.Told.{place_json, place_line, places_json, places_lines};

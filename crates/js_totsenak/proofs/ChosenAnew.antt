@@ -21,7 +21,7 @@ use Rattle.js_session.specs.declared.command.Effect.{Effect}
 use Rattle.js_session.specs.declared.command.Effect.TheVariants.{Reads, Peeks, ReLexes, Opens, Rewinds, Commits}
 use Rattle.js_session.specs.declared.report.Report.{Report}
 use Rattle.js_session.specs.declared.row.Row.{Row}
-use Rattle.js_session.specs.Effects.{effect_of, is_lasting, is_step, lasts}
+use Rattle.js_session.specs.Effects.{effect_of, is_lasting, lasts}
 use Rattle.js_session.specs.Live.{Live, State, after_mark, after_row, last_live, state_after, state_after_first, with_re_lexed}
 use Rattle.js_session.specs.Live.{live, outcome_of}
 use Rattle.js_session.specs.Report.{AreRows, HasMark, IsNotTaken, IsOfEffect, IsReLexed, IsRow, ReportOf, Run}
@@ -34,7 +34,7 @@ use Rattle.js_auto.specs.Braces.{braces}
 use Rattle.js_auto.specs.Choice.{begins_expression, choice, choice_behind, choice_in, ends_substitution}
 use Rattle.js_auto.specs.DueLemmas.{each_is_due}
 use Rattle.js_auto.specs.declared.brace.Brace.{Brace}
-use Rattle.js_rewrite.specs.Faults.{first_bad, first_diagnosed, may_rewrite}
+use Rattle.js_rewrite.specs.Faults.{first_bad, may_rewrite}
 use Rattle.js_rewrite.proofs.Causes.{IsSound}
 use Rattle.js_rewrite.proofs.Positions.{all_last}
 use Rattle.js_totsenak.specs.Checked.{IsChecked}
