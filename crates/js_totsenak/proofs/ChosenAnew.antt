@@ -3,7 +3,7 @@ use Rattle.std.proofs.Common.{◌≡◌, ℕ, zero, suc, ◌+◌, Bool, true, fa
 use Rattle.std.proofs.Common.{true≢false, append-nil, append_assoc, arith, cond, subst, take, Option, Some, None}
 use Rattle.std.specs.Prelude.{◌==◌, MatchBool, if◌then◌else◌, nat_lt, slice_get}
 use Rattle.std.specs.List.{flat_map, list_all, position, position_or_len}
-use Rattle.std.proofs.lemmas.Bool.{and_parts}
+use Rattle.std.proofs.lemmas.Bool.{and_parts, eqb-true}
 use Rattle.std.proofs.lemmas.Bool.Decides.{nat_tests}
 use Rattle.js_text.specs.declared.diagnostic.Diagnostic.{Diagnostic}
 use Rattle.js_text.specs.declared.source_type.SourceType.{SourceType}
@@ -192,10 +192,17 @@ chosen_sound source t commands report is clean =
           (rows_clean source t commands report report.rows refl (all_last t commands allowed) is.report_is clean));
     }
 
+unless_not : (b : Bool) → false ≡ not b → b ≡ true
+unless_not true e = refl
+unless_not false e = absurd (true≢false (sym e))
+
+no_length : (diagnostics : List Diagnostic) → (length diagnostics == 0) ≡ true → diagnostics ≡ []
+no_length [] e = refl
+no_length (d ∷ ds) e = absurd (omega (arith, eqb-true (length (d ∷ ds)) 0 e))
+
 -- a list of which it is false that it is not empty
 none_left : (diagnostics : List Diagnostic) → false ≡ not (length diagnostics == 0) → diagnostics ≡ []
-none_left [] e = refl
-none_left (d ∷ ds) e = absurd (let no : false ≡ true = e in true≢false (sym no))
+none_left diagnostics e = no_length diagnostics (unless_not (length diagnostics == 0) e)
 
 -- Where `check` finds no fault, the report has no diagnostic.
 pub unfaulty_clean : (name source : List ℕ) (t : SourceType) (text : List ℕ)
