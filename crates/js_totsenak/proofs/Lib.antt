@@ -1,5 +1,8 @@
+mod ChosenAnew
 mod ItemLemmas
 mod OrderLemmas
+mod ShownLemmas
+mod SourceLemmas
 mod TakenLemmas
 mod TextLemmas
 mod ToldLemmas

@@ -11,7 +11,9 @@ pub mod Members
 pub mod Messages
 pub mod PlaceJson
 pub mod RegexJson
+pub mod Rewritten
 pub mod Run
+pub mod ShownLines
 pub mod SourceTypes
 pub mod Stretches
 pub mod Syntaxes

@@ -1,8 +1,14 @@
 //! The program `totsenak` as a library: its words, the files that they name, and its statuses.
 #![tactic(auto)]
 
-mod files;
+mod collecting;
+mod fault;
+mod output;
 mod program;
+mod reading;
+mod replacing;
+mod rewriting;
+mod telling;
 mod words;
 
 pub use program::totsenak_main;

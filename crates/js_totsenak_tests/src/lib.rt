@@ -9,4 +9,6 @@ mod names;
 #[cfg(test)]
 mod run;
 #[cfg(test)]
+mod rewritten;
+#[cfg(test)]
 mod told;

@@ -1,0 +1,3 @@
+/*! One */
+let a = 1; // @license Two
+/* none */

@@ -1,0 +1,4 @@
+let b; /*! One */
+/**
+ * @preserve Three
+ */

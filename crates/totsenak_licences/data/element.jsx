@@ -1,0 +1,1 @@
+let e = <p>/*! text */</p>; //! Four
