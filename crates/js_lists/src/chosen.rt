@@ -1,7 +1,7 @@
 //! Sources whose goals are chosen.
 
 ghost use Rattle.std.specs.Prelude.{◌≡◌, ◌≤◌, ◌<◌, ◌^◌, ◌⊎◌, ℕ, false, List, length, None, Err};
-ghost use Rattle.std.specs.Prelude.{IfOk, OnOk, OnErr, IfErr, IsOk};
+ghost use Rattle.std.specs.Prelude.{OnOk, OnErr, IfErr, IsOk};
 ghost use Rattle.std.specs.Str.{IsUtf8};
 ghost use Rattle.js_grammar.specs.TokenText.{text_start, text_end};
 ghost use Rattle.js_lexer.specs.Lexer.{fresh};
