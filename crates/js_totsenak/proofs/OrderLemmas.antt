@@ -1,5 +1,5 @@
 -- Items are put in order of place in one way.
-use Rattle.std.proofs.Common.{◌≡◌, ℕ, ◌<◌, ◌≤◌, Bool, true, false, not, ◌&&◌, cond, List, [], ◌∷◌, filter, length, refl, sym}
+use Rattle.std.proofs.Common.{◌≡◌, ℕ, ◌≤◌, Bool, true, false, not, ◌&&◌, cond, List, [], ◌∷◌, filter, refl, sym}
 use Rattle.std.proofs.Common.{◌∙◌, ap, subst, nat_cmp, nat_lt, is_lt, ◌==◌, Less, Equal, Greater, le_antisymm, le_of_eq}
 use Rattle.std.proofs.Common.{le_trans, le_refl, le-ltb, arith}
 use Rattle.std.proofs.lemmas.List.Sorted.{IsNonDecreasingBy-drop}

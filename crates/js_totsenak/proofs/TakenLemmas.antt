@@ -1,6 +1,6 @@
 -- Tokens that were taken, by their indices.
-use Rattle.std.proofs.Common.{◌≡◌, ℕ, zero, suc, ◌+◌, ◌≤◌, Bool, true, false, List, [], ◌∷◌, ◌++◌, take, length, map}
-use Rattle.std.proofs.Common.{get_or, ◌⊎◌, inl, inr, refl, sym, ◌∙◌, ap, subst, ◌<◌, arith, Option, Some, None, add-one, append_assoc, append-nil}
+use Rattle.std.proofs.Common.{◌≡◌, ℕ, zero, suc, ◌+◌, ◌≤◌, List, [], ◌∷◌, ◌++◌, take, length, map}
+use Rattle.std.proofs.Common.{get_or, ◌⊎◌, inl, inr, refl, sym, ◌∙◌, ap, ◌<◌, arith, Some, None, add-one, append_assoc, append-nil}
 use Rattle.std.specs.List.{flat_map}
 use Rattle.std.specs.Prelude.{slice_get}
 use Rattle.std.proofs.lemmas.Grind.{flat_map-append}
@@ -29,17 +29,6 @@ token_at (x ∷ xs) (suc index) token e =
 pub listed_at : (lists : LiveLists) (taken : List Taken) (index : ℕ) (token : TokenParts) → HasTaken lists taken
     → slice_get lists.tokens index ≡ Some token → TakenAt taken index token
 listed_at lists taken index token h e = token_at taken index token (ap (λ ts. slice_get ts index) (sym h.tokens) ∙ e)
-
-none_at : (taken : List Taken) (index : ℕ) → slice_get (map (λ (x : Taken). x.token) taken) index ≡ None
-    → slice_get taken index ≡ None
-none_at [] index e = refl
-none_at (x ∷ xs) zero e = absurd cc
-none_at (x ∷ xs) (suc index) e = none_at xs index e
-
--- where the lists have no token, none was taken
-pub unlisted_at : (lists : LiveLists) (taken : List Taken) (index : ℕ) → HasTaken lists taken
-    → slice_get lists.tokens index ≡ None → slice_get taken index ≡ None
-unlisted_at lists taken index h e = none_at taken index (ap (λ ts. slice_get ts index) (sym h.tokens) ∙ e)
 
 take_more : {A : Type 0} (xs : List A) (index : ℕ) (x : A) → slice_get xs index ≡ Some x
     → take (suc index) xs ≡ take index xs ++ x ∷ []
@@ -83,5 +72,5 @@ taken_within lists taken index h within = by (slice_get_cases taken index).1
   where
     by : ((x : Taken) × (index < length taken) × (slice_get taken index ≡ Some x) × (get_or taken index x ≡ x))
         ⊎ ((length taken ≤ index) × (slice_get taken index ≡ None)) → (x : Taken) × (slice_get taken index ≡ Some x)
-    by (inl there) = (there.0, there.2.0)
+    by (inl there) = (there.0, there.2)
     by (inr past) = absurd (omega (arith, past.0, within, many_taken lists taken h))

@@ -2,10 +2,9 @@
 use Rattle.std.proofs.Common.{◌≡◌, ◌==◌, ℕ, Bool, false, not, List, length, map, ◌∙◌, ap, sym, subst, flat_map}
 use Rattle.js_auto.specs.DueLemmas.{each_is_due as each_is_due_in_javascript}
 use Rattle.js_choose.proofs.ChosenLemmas.{one_list}
-use Rattle.js_choose.specs.Rules.{IsRule, ReportBy, Rule}
+use Rattle.js_choose.specs.Rules.{IsRule, ReportBy}
 use Rattle.js_grammar.specs.Outcome.{Findings}
 use Rattle.js_jsx.specs.DueLemmas.{each_is_due as each_is_due_in_jsx}
-use Rattle.js_kind.specs.TokenParts.{TokenParts}
 use Rattle.js_lists.specs.LiveLists.{live_found, live_taken}
 use Rattle.js_lists.specs.Taken.{Taken}
 use Rattle.js_session.specs.declared.command.Command.{Command as Step}

@@ -1,5 +1,5 @@
 -- The lines of the values of tokens that were taken.
-use Rattle.std.proofs.Common.{◌≡◌, ℕ, Bool, true, false, List, [], ◌++◌, ◌∙◌, ap, sym, append-nil, refl, if◌then◌else◌}
+use Rattle.std.proofs.Common.{◌≡◌, ℕ, true, List, [], ◌++◌, ◌∙◌, ap, sym, if◌then◌else◌}
 use Rattle.js_kind.specs.TokenParts.{TokenParts}
 use Rattle.js_lists.specs.Taken.{Taken}
 use Rattle.js_text.specs.declared.value.RowValue.{RowValue}
@@ -13,10 +13,3 @@ line_of_text source x token value old new is holds same e =
     let test : holds_text x.token.kind ≡ true = ap (λ (t : TokenParts). holds_text t.kind) is ∙ holds in
     e ∙ ap (λ v. old ++ text_line source v) same
     ∙ ap (λ b. old ++ (if b then text_line source x.value else [])) (sym test)
-
--- no other token has a line
-pub line_of_none : (source : List ℕ) (x : Taken) (token : TokenParts) (old : List ℕ)
-    → x.token ≡ token → holds_text token.kind ≡ false → old ≡ old ++ value_line source x
-line_of_none source x token old is holds =
-    let test : holds_text x.token.kind ≡ false = ap (λ (t : TokenParts). holds_text t.kind) is ∙ holds in
-    sym (append-nil old) ∙ ap (λ b. old ++ (if b then text_line source x.value else [])) (sym test)

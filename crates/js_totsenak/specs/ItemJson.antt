@@ -10,7 +10,7 @@ use Rattle.js_text.specs.declared.comment.Comment.{Comment}
 use Rattle.js_text.specs.declared.diagnostic.Diagnostic.{Diagnostic}
 use Rattle.js_text.specs.declared.span.Span.{Span}
 use Rattle.js_text.specs.declared.value.RowValue.{RowValue}
-use Rattle.js_totsenak.specs.Members.{flag_member, member_head, text_member, word_member}
+use Rattle.js_totsenak.specs.Members.{flag_member, member_head, object_head, text_member, word_member}
 use Rattle.js_totsenak.specs.Messages.{message_of, warning_in_words}
 use Rattle.js_totsenak.specs.PlaceJson.{stretch_members, stretch_or_null}
 use Rattle.js_totsenak.specs.RegexJson.{regex_members}
@@ -27,14 +27,14 @@ sides_members c =
 -- the line of a comment of the text
 unfoldable pub comment_json : List ℕ → Comment → List ℕ
 comment_json text c =
-    codes "{\"type\":\"comment\"" ++ word_member (codes "kind") (comment_kind_name c.kind)
+    object_head (codes "comment") ++ word_member (codes "kind") (comment_kind_name c.kind)
     ++ stretch_members text c.span ++ word_member (codes "content") (comment_content_name c.content)
     ++ word_member (codes "position") (comment_position_name c.position) ++ sides_members c ++ codes "}\n"
 
 -- what the line of a diagnostic begins with: how grave it is, its name, and what a user is told of it
 unfoldable pub diagnostic_head : List ℕ → List ℕ → List ℕ → List ℕ
 diagnostic_head severity name message =
-    codes "{\"type\":\"diagnostic\"" ++ word_member (codes "severity") severity ++ word_member (codes "name") name
+    object_head (codes "diagnostic") ++ word_member (codes "severity") severity ++ word_member (codes "name") name
     ++ text_member (codes "message") (chars message)
 
 -- the line of a diagnostic of the text
@@ -66,7 +66,7 @@ value_member source value =
 -- what the line of a token of the text begins with
 unfoldable pub token_head : List ℕ → TokenParts → List ℕ
 token_head text token =
-    codes "{\"type\":\"token\"" ++ word_member (codes "kind") (kind_name token.kind)
+    object_head (codes "token") ++ word_member (codes "kind") (kind_name token.kind)
     ++ stretch_members text (record { start = token.start; end = token.end }) ++ token_flags token
 
 -- the line of a token of the text

@@ -3,6 +3,10 @@ use Rattle.std.specs.Prelude.{ℕ, Bool, List, ◌++◌, codes, if◌then◌else
 use Rattle.std.specs.Fmt.{decimal}
 use Rattle.js_totsenak.specs.Json.{json_text}
 
+-- what an object of a type begins with
+unfoldable pub object_head : List ℕ → List ℕ
+object_head object_type = codes "{\"type\":\"" ++ object_type ++ codes "\""
+
 -- what stands before the value of a member
 unfoldable pub member_head : List ℕ → List ℕ
 member_head name = codes ",\"" ++ name ++ codes "\":"

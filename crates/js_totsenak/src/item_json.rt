@@ -9,7 +9,9 @@ ghost use Rattle.js_totsenak.specs.ItemJson.{spelling_flags, token_flags, token_
 ghost use Rattle.js_totsenak.specs.ItemJson.{warning_json};
 
 use crate::check::told_of;
-use crate::members::{push_flag, push_member_head, push_text, push_word};
+use crate::members::{
+    push_flag, push_member_head, push_object_head, push_piece, push_text, push_word,
+};
 use crate::message::WARNING_IN_WORDS;
 use crate::place_json::{push_stretch, push_stretch_or_null};
 use crate::regex_json::push_regex;
@@ -42,13 +44,13 @@ pub(crate) fn push_comment(
         ≡ string_bytes text.old ++ comment_json places.old.lines.text comment.now) }
     ensures places { places.new ≡ places.old }
 {
-    text.push_str("{\"type\":\"comment\"")?;
+    push_object_head(text, "comment")?;
     push_word(text, "kind", comment.kind.name())?;
     push_stretch(text, places, comment.span)?;
     push_word(text, "content", comment.content.name())?;
     push_word(text, "position", comment.position.name())?;
     push_sides(text, comment)?;
-    text.push_str("}\n")
+    push_piece(text, "}\n")
 }
 
 /// Appends what the object of a diagnostic begins with.
@@ -62,7 +64,7 @@ fn push_diagnostic_head(
     ensures { OnOk result (string_bytes text.new
         ≡ string_bytes text.old ++ diagnostic_head severity.now name.now message.now) }
 {
-    text.push_str("{\"type\":\"diagnostic\"")?;
+    push_object_head(text, "diagnostic")?;
     push_word(text, "severity", severity)?;
     push_word(text, "name", name)?;
     push_text(text, "message", message)
@@ -104,7 +106,7 @@ pub(crate) fn push_warning(
 {
     push_diagnostic_head(text, "warning", "RightAngleInJsxText", WARNING_IN_WORDS)?;
     push_stretch(text, places, span)?;
-    text.push_str("}\n")
+    push_piece(text, "}\n")
 }
 
 /// Appends whether a token has an escape, and whether it has a separator of digits.
@@ -151,7 +153,7 @@ fn push_token_head(
         ≡ string_bytes text.old ++ token_head places.old.lines.text token.now) }
     ensures places { places.new ≡ places.old }
 {
-    text.push_str("{\"type\":\"token\"")?;
+    push_object_head(text, "token")?;
     push_word(text, "kind", token.kind().name())?;
     push_stretch(text, places, token.span())?;
     push_token_flags(text, token)

@@ -1,6 +1,6 @@
 //! What is told of a source as JSON: its comments, its faults and its tokens, in order of place.
 
-ghost use Rattle.std.specs.Prelude.{◌≡◌, ◌++◌, ◌∷◌, [], OnOk, IfOk, map};
+ghost use Rattle.std.specs.Prelude.{◌≡◌, ◌++◌, OnOk, IfOk, map};
 ghost use Rattle.js_totsenak.specs.Items.{ArePlaced, comment_item, deferred_item, diagnostic_item, items_of};
 ghost use Rattle.js_totsenak.specs.Items.{span_start, token_items, warning_item};
 

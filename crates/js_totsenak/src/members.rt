@@ -1,12 +1,29 @@
 //! Members of objects of JSON.
 
-ghost use Rattle.std.specs.Prelude.{◌≡◌, ◌++◌, OnOk, codes, string_bytes, chars};
+ghost use Rattle.std.specs.Prelude.{◌≡◌, ◌++◌, OnOk, string_bytes, chars};
 ghost use Rattle.js_totsenak.specs.Members.{flag_member, flag_text, member_head, null_member, number_member};
-ghost use Rattle.js_totsenak.specs.Members.{text_member, word_member};
+ghost use Rattle.js_totsenak.specs.Members.{object_head, text_member, word_member};
 
 use crate::json::push_json_text;
 use std::alloc::AllocError;
 use std::fmt::Write;
+
+/// Appends a piece of an object.
+pub(crate) fn push_piece(text: &mut String, piece: &str) -> Result<(), AllocError>
+    ensures { OnOk result (string_bytes text.new ≡ string_bytes text.old ++ piece.now) }
+{
+    text.push_str(piece)
+}
+
+/// Appends what an object of this type begins with.
+#[tactic(auto, unfolding(crate::specs::Members::object_head))]
+pub(crate) fn push_object_head(text: &mut String, object_type: &str) -> Result<(), AllocError>
+    ensures { OnOk result (string_bytes text.new ≡ string_bytes text.old ++ object_head object_type.now) }
+{
+    text.push_str("{\"type\":\"")?;
+    text.push_str(object_type)?;
+    text.push_str("\"")
+}
 
 /// Appends what stands before the value of a member of this name.
 #[tactic(auto, unfolding(crate::specs::Members::member_head))]

@@ -7,5 +7,7 @@ pub returns : goal.returns
 unfolding diagnostic_head
 returns c =
     on_ok_weaker c.push_text.result
-    (λ h. two c.in_ok-push_str.ensures.bytes (two c.in_ok-push_word.ensures (two c.in_ok-push_word-2.ensures h)))
+    (λ h. two _ _ _ _ _
+    (two _ _ _ _ _ (two _ _ _ _ _ c.in_ok-push_object_head.ensures c.in_ok-push_word.ensures)
+    c.in_ok-push_word-2.ensures) h)
     c.push_text.ensures

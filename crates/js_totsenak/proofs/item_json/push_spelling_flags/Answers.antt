@@ -9,5 +9,5 @@ pub returns : goal.returns
 unfolding spelling_flags
 returns c =
     on_ok_weaker c.push_flag-2.result
-    (λ h. two (named c.in_ok-push_flag.ensures (ap (flag_member (codes "escaped")) c.escaped.ensures))
-    (named h (ap (flag_member (codes "separator")) c.has_separator.ensures))) c.push_flag-2.ensures
+    (λ h. two _ _ _ _ _ (named _ _ _ _ c.in_ok-push_flag.ensures (ap (flag_member (codes "escaped")) c.escaped.ensures))
+    (named _ _ _ _ h (ap (flag_member (codes "separator")) c.has_separator.ensures))) c.push_flag-2.ensures

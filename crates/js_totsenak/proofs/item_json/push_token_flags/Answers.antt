@@ -9,6 +9,6 @@ pub returns : goal.returns
 unfolding token_flags
 returns c =
     on_ok_weaker c.push_spelling_flags.result
-    (λ h. two
-    (named c.in_ok-push_flag.ensures (ap (flag_member (codes "newline_before")) c.is_on_new_line.ensures)) h)
+    (λ h. two _ _ _ _ _
+    (named _ _ _ _ c.in_ok-push_flag.ensures (ap (flag_member (codes "newline_before")) c.is_on_new_line.ensures)) h)
     c.push_spelling_flags.ensures

@@ -11,9 +11,9 @@ pub returns-clause-text : goal.returns-clause-text
 unfolding token_head
 returns-clause-text c =
     on_ok_weaker c.push_token_flags.result
-    (λ h. two c.in_ok-push_str.ensures.bytes
-    (two
-    (named c.in_ok-push_word.ensures (ap (word_member (codes "kind")) (c.name.ensures ∙ ap kind_name c.kind.ensures)))
-    (two
-    (named c.in_ok-push_stretch.ensures.text (ap (stretch_members c.args.places.now.lines.text) c.span.ensures)) h)))
+    (λ h. two _ _ _ _ _
+    (two _ _ _ _ _
+    (two _ _ _ _ _ c.in_ok-push_object_head.ensures
+    (named _ _ _ _ c.in_ok-push_word.ensures (ap (word_member (codes "kind")) (c.name.ensures ∙ ap kind_name c.kind.ensures))))
+    (named _ _ _ _ c.in_ok-push_stretch.ensures.text (ap (stretch_members c.args.places.now.lines.text) c.span.ensures))) h)
     c.push_token_flags.ensures

@@ -5,4 +5,4 @@ use Rattle.js_totsenak.proofs.regex_json.push_all_flags.Goals as goal
 
 pub returns : goal.returns
 unfolding all_flags
-returns c = on_ok_weaker c.push_flag.result (λ h. two c.in_ok-push_flags.ensures h) c.push_flag.ensures
+returns c = on_ok_weaker c.push_flag.result (λ h. two _ _ _ _ _ c.in_ok-push_flags.ensures h) c.push_flag.ensures

@@ -8,6 +8,6 @@ use Rattle.js_totsenak.proofs.regex_json.push_regex.Goals as goal
 pub returns-in_ok-push_number-in-Some : goal.returns-in_ok-push_number-in-Some
 returns-in_ok-push_number-in-Some c =
     on_ok_weaker c.push_all_flags.result
-    (λ h. named
-    (two (named c.in_ok-push_number-in-Some.ensures (ap (number_member (codes "pattern_end")) c.from.ensures)) h)
+    (λ h. named _ _ _ _
+    (two _ _ _ _ _ (named _ _ _ _ c.in_ok-push_number-in-Some.ensures (ap (number_member (codes "pattern_end")) c.from.ensures)) h)
     (ap regex_members (sym c.in-Some.is))) c.push_all_flags.ensures
