@@ -2,7 +2,6 @@ mod ChosenAnew
 mod ItemLemmas
 mod OrderLemmas
 mod ShownLemmas
-mod SourceLemmas
 mod TakenLemmas
 mod TextLemmas
 mod ToldLemmas
