@@ -140,7 +140,7 @@ def run_help(holder, words):
 
 def run_outputs(holder):
     """An output that fails, and one whose reader has gone."""
-    many = b'a;' * 400000
+    many = b'a;' * 20000
     with open('/dev/full', 'wb') as full:
         ran = subprocess.run([holder.totsenak, 'tokens'], input=many, stdout=full, stderr=subprocess.PIPE)
     holder.same('full output', (ran.returncode, ran.stderr), (4, b'totsenak: cannot write the output\n'))
