@@ -7,8 +7,8 @@ mod json;
 #[cfg(test)]
 mod names;
 #[cfg(test)]
-mod run;
-#[cfg(test)]
 mod rewritten;
+#[cfg(test)]
+mod run;
 #[cfg(test)]
 mod told;
