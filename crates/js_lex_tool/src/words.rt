@@ -1,4 +1,4 @@
-//! The words of the program.
+//! What the words of the program ask for: a session over the input, generated lines, or a source that is written anew.
 
 ghost use Rattle.std.specs.Prelude.{◌≡◌, ◌≤◌, ◌++◌, IfOk, IfSome, OnOk, map, replicate, string_bytes};
 ghost use Rattle.js_lex_tool.specs.Generated.{most_lines};

@@ -29,7 +29,7 @@ use Rattle.js_grammar.proofs.Texts.{goal_reads_text}
 use Rattle.js_reader.specs.Decoded.{Values, AreValues, Keeps, HasValue}
 use Rattle.js_grammar.proofs.GoalWays.{goal_reads_span, goal_reads_places}
 use Rattle.js_reader.specs.Found.{findings_in, lists_added}
-use Rattle.js_lexer.specs.Lexer.{LexerState, IsOnPlaces, IsSound, IsRestored, collected, ReadsOutcome, ReadsToken}
+use Rattle.js_lexer.specs.Lexer.{LexerState, StandsAt, IsOnPlaces, IsSound, IsRestored, collected, ReadsOutcome, ReadsToken}
 use Rattle.js_lexer.specs.Lexer.{Checkpoint, checkpoint_of, checkpoint_with_errors_of, put_back, put_errors_back}
 use Rattle.js_lexer.specs.Lexer.{rewound, BeginsAlike, GoesOnFrom, with_diagnostics, with_comments}
 use Rattle.js_lexer.specs.Lexer.{LexesAgain, last_read, token_or_default, range_before, trivia_before}
@@ -44,7 +44,7 @@ use Rattle.js_source.specs.Source.{At}
 
 -- the reader of a lexer, and what it has found, before a reading of the goal
 pub record IsReaderOf (goal : Goal) (l : LexerState) (r : Reader) (found : FindingsBuilder) : Type 0 where
-  pub source : r.source ≡ record { text = l.text; place = l.place }
+  pub source : StandsAt l r.source
   pub source_type : r.source_type ≡ l.source_type
   -- but for comments and irregular white space, which the builder of trivia keeps
   pub listed : l.findings
@@ -111,7 +111,7 @@ pub reader_is : (goal : Goal) (r : Reader) (found : FindingsBuilder) (last : Opt
     → IsReaderOf goal (state_of r found last values) (record r { line_has_ended = line_has_ended })
     (record found { trivia = cleared })
 reader_is goal r found last values line_has_ended cleared sound e = record {
-  source = refl;
+  source = record { text = refl; place = refl };
   source_type = refl;
   listed = refl;
   between = between_is goal r.source last found.trivia cleared values sound e;
@@ -155,7 +155,7 @@ pub told_of : (goal : Goal) (l : LexerState) (old : Reader) (before : FindingsBu
     (after : FindingsBuilder) → IsReaderOf goal l old before → (r : ReadsWithGap goal l.last old before token new after)
     → AddsGap l.last l.source_type l.place r.read.outcome before after
 told_of goal l old before token new after is r =
-    subst (λ (a : At). AddsGap l.last l.source_type a.place r.read.outcome before after) is.source
+    subst (λ (n : ℕ). AddsGap l.last l.source_type n r.read.outcome before after) is.source.place
     (subst (λ t. AddsGap l.last t old.source.place r.read.outcome before after) is.source_type r.gap)
 
 pub held_now : (goal : Goal) (l : LexerState) (old : Reader) (before : FindingsBuilder) (token : TokenParts)
@@ -218,8 +218,9 @@ goal_of_lexer : (l : LexerState) (r : Reader) (before : FindingsBuilder) (new : 
     (token : TokenParts) → IsReaderOf goal l r before → (reads : ReadsGoal goal l.last r token new)
     → GoalReads l.text l.source_type goal l.last l.place reads.outcome
 goal_of_lexer l r before new goal token is reads =
-    subst (λ (a : At). GoalReads a.text l.source_type goal l.last a.place reads.outcome) is.source
-    (subst (λ t. GoalReads r.source.text t goal l.last r.source.place reads.outcome) is.source_type reads.reads)
+    subst (λ s. GoalReads s l.source_type goal l.last l.place reads.outcome) is.source.text
+    (subst (λ (n : ℕ). GoalReads r.source.text l.source_type goal l.last n reads.outcome) is.source.place
+    (subst (λ t. GoalReads r.source.text t goal l.last r.source.place reads.outcome) is.source_type reads.reads))
 
 -- what a reading gives
 pub reads_outcome : (l : LexerState) (r : Reader) (before : FindingsBuilder) (new : Reader) (goal : Goal)
@@ -281,7 +282,7 @@ reads_token old new r before reader after trivia goal token values u b is with_g
           agrees_with_grammar old.text old.source_type goal old.last old.place reads.outcome plain
           (goal_of_lexer old r before reader goal token is reads);
       after = record {
-        text = ap (λ x. x.text) e ∙ reads.text ∙ ap (λ a. a.text) is.source;
+        text = ap (λ x. x.text) e ∙ reads.text ∙ is.source.text;
         source_type = ap (λ x. x.source_type) e ∙ reads.source_type ∙ is.source_type;
         collects = ap (λ x. x.collects) e;
         place = ap (λ x. x.place) e ∙ reads.end ∙ ap (λ x. x.end) reads.token_is;
@@ -335,7 +336,7 @@ told_again previous token trivia now here values sound e = (
 -- a token that was read again, as contracts see it
 abbrev pub reads_again : (old new : LexerState) (r : Reader) (goal : Goal) (token : TokenParts) (reader : Reader)
     (told later : List Diagnostic) (comments : List Comment) (last : TokenParts) (values : Values)
-    → IsUtf8 old.text → r.source ≡ record { text = old.text; place = old.place } → r.source_type ≡ old.source_type
+    → IsUtf8 old.text → StandsAt old r.source → r.source_type ≡ old.source_type
     → told ≡ old.findings.diagnostics → is_onward goal ≡ false
     → ReadsWithoutGap goal old.last r told token reader later → Keeps old.decoded values
     → HasValue old.text values token
@@ -354,8 +355,9 @@ reads_again old new r goal token reader told later comments last values u source
     same last_is e =
     let reads = alone.read in
     let here : GoalReads old.text old.source_type goal old.last old.place reads.outcome =
-    subst (λ (a : At). GoalReads a.text old.source_type goal old.last a.place reads.outcome) source
-    (subst (λ t. GoalReads r.source.text t goal old.last r.source.place reads.outcome) source_type reads.reads) in
+    subst (λ s. GoalReads s old.source_type goal old.last old.place reads.outcome) source.text
+    (subst (λ (n : ℕ). GoalReads r.source.text old.source_type goal old.last n reads.outcome) source.place
+    (subst (λ t. GoalReads r.source.text t goal old.last r.source.place reads.outcome) source_type reads.reads)) in
     let places = goal_reads_places old.text old.source_type goal old.last old.place reads.outcome u here in
     let span = goal_reads_span old.text old.source_type goal old.last old.place reads.outcome u here in
     let reported : later ≡ old.findings.diagnostics ++ reads.outcome.findings.diagnostics =
@@ -372,7 +374,7 @@ reads_again old new r goal token reader told later comments last values u source
         spelling = goal_reads_spelling old.text old.source_type goal old.last old.place reads.outcome here;
       };
       after = record {
-        text = ap (λ x. x.text) e ∙ reads.text ∙ ap (λ a. a.text) source;
+        text = ap (λ x. x.text) e ∙ reads.text ∙ source.text;
         source_type = ap (λ x. x.source_type) e ∙ reads.source_type ∙ source_type;
         collects = ap (λ x. x.collects) e;
         place = ap (λ x. x.place) e ∙ reads.end ∙ ap (λ x. x.end) reads.token_is;

@@ -5,13 +5,14 @@ use Rattle.js_places.specs.Reserved.{Reserved}
 use Rattle.js_kind.specs.TokenParts.{TokenParts}
 use Rattle.js_grammar.specs.declared.goal.Goal.TheVariants.{Next}
 use Rattle.js_source.specs.Source.{At}
+use Rattle.js_source.proofs.Places.{same_at}
 use Rattle.js_trivia.specs.Attachment.{Attachment}
 use Rattle.js_trivia.specs.Trivia.{Trivia, IsSettled as IsSettledBuilder}
 use Rattle.js_reader.specs.Decoded.{Values}
 use Rattle.js_reader.specs.Simple.{MeetsByte}
 use Rattle.js_reader.specs.declared.findings_builder.FindingsBuilder.{FindingsBuilder}
 use Rattle.js_reader.specs.declared.reader.Reader.{Reader}
-use Rattle.js_lexer.specs.Lexer.{LexerState, IsSettled, IsSound, ReadsToken, last_read, lexer_of}
+use Rattle.js_lexer.specs.Lexer.{LexerState, HoldsHere, IsSettled, IsSound, ReadsToken, last_read, lexer_of}
 
 -- where the builder is settled, a token was read
 pub read_if_settled : (here : At) (last : Option TokenParts) (trivia : Trivia) (decoded : Values)
@@ -37,6 +38,14 @@ pub meets_if_settled : (b : ℕ) (here copied : At) (last : Option TokenParts) (
 meets_if_settled b here copied last trivia decoded source line_has_ended h s same meets =
     subst (λ had. MeetsByte b here had source line_has_ended) (sym (read_if_settled here last trivia decoded h s))
     (subst (λ (a : At). MeetsByte b a false source line_has_ended) same meets)
+
+-- what holds of a lexer's place holds of its reader's source
+pub holds_at : (holds : At → Type 0) (l now : LexerState) (source : At) → l ≡ now → source.text ≡ l.text
+    → source.place ≡ l.place → HoldsHere now holds → holds source
+holds_at holds l now source same text place here =
+    subst holds (same_at here.0 source
+    (here.1.0.text ∙ ap (λ (s : LexerState). s.text) (sym same) ∙ sym text)
+    (here.1.0.place ∙ ap (λ (s : LexerState). s.place) (sym same) ∙ sym place)) here.1.1
 
 -- and where one was read, and no range is held, the builder is settled
 pub settled_builder : (here : At) (last : Option TokenParts) (trivia : Trivia) (decoded : Values)

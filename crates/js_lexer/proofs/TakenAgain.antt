@@ -136,7 +136,8 @@ reads_taken {goal} {token} {collects} {tokens} {now} {values} {more} has_read ol
     told in
     reads_again (lexer_of collects old found has_read tokens values) (lexer_of collects new after has_read now more)
     old goal token new found.errors errors trivia.attachment.attached trivia.attachment.previous more
-    (subst IsUtf8 r.reads.read.text r.utf8) refl refl refl r.again r.reads (r.keeps.kept sound.are_values) r.has_value same.0
+    (subst IsUtf8 r.reads.read.text r.utf8) (record { text = refl; place = refl }) refl refl r.again r.reads
+    (r.keeps.kept sound.are_values) r.has_value same.0
     (told_last token found.trivia trivia told)
     (rw (
       was_read has_read found.trivia.attachment.previous r.before r.last_is,

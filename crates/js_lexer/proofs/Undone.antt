@@ -3,7 +3,8 @@ use Rattle.std.proofs.Common.{◌≡◌, ◌≤◌, Bool, List, [], length, refl
 use Rattle.js_places.specs.Reserved.{Reserved}
 use Rattle.js_text.specs.declared.diagnostic.Diagnostic.{Diagnostic}
 use Rattle.js_kind.specs.TokenParts.{TokenParts}
-use Rattle.js_source.specs.Source.{At}
+use Rattle.js_source.proofs.Places.{back_at}
+use Rattle.js_source.specs.Source.{At, GoesTo}
 use Rattle.js_trivia.specs.Attachment.{Attachment}
 use Rattle.js_trivia.specs.Trivia.{Trivia, AreRangesUpTo, GrewFrom, cut_to, held, lengths_of}
 use Rattle.js_trivia.specs.declared.lengths.TriviaLengths.{TriviaLengths}
@@ -59,9 +60,10 @@ found_again before now back h e =
 
 -- And the source stands where it stood.
 pub stands_again : {start : ReadingStart} (before : FindingsBuilder) (old between new : At)
-    → start ≡ start_of old before → between.text ≡ old.text → new ≡ record between { place = start.position }
+    → start ≡ start_of old before → between.text ≡ old.text → GoesTo start.position between new
     → new ≡ old
-stands_again before old between new start_is text e = e ∙ rw (text, start_is) refl
+stands_again before old between new start_is text to =
+    back_at old between new _ to text (ap (λ (s : ReadingStart). s.position) start_is)
 
 -- a lexer of which all went back
 pub undone : (collects has_read : Bool) (old new : Reader) (found back : FindingsBuilder) (tokens now : Reserved TokenParts)

@@ -115,8 +115,13 @@ pub record IsSettled (l : LexerState) : Type 0 where
   pub no_without_side_effects : l.no_side_effects_comments ≡ None
 
 -- the place of a lexer in its text
-abbrev pub here : LexerState → At
-here l = record { text = l.text; place = l.place }
+pub record StandsAt (l : LexerState) (at : At) : Type 0 where
+  pub text : at.text ≡ l.text
+  pub place : at.place ≡ l.place
+
+-- what holds of it
+abbrev pub HoldsHere : LexerState → (At → Type 0) → Type 0
+HoldsHere l holds = (at : At) × (StandsAt l at × holds at)
 
 -- the token, or the default token where none was read yet
 abbrev pub token_or_default : Option TokenParts → TokenParts

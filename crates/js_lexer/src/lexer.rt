@@ -11,7 +11,6 @@ ghost use Rattle.js_grammar.specs.Outcome.{AreWithin, found_since, lengths_of};
 ghost use Rattle.js_grammar.specs.TokenText.{text_start, text_end};
 ghost use Rattle.js_grammar.specs.Reads.{is_onward};
 ghost use Rattle.js_kind.specs.TokenParts.{TokenParts};
-ghost use Rattle.js_source.specs.Source.{IsPlaced};
 ghost use Rattle.js_trivia.specs.Trivia.{handle_token, AreRangesUpTo};
 ghost use Rattle.js_reader.specs.Decoded.{Keeps, KeepsValues, HasValue, value_of, GivesDecoded, GivesPart, GivesText};
 ghost use Rattle.js_reader.specs.Decoded.{GivesTemplate, GivesStretch};
@@ -179,13 +178,11 @@ fn read_and_collect(
     tokens: &mut ReservedList<Token>,
     collects: bool,
 ) -> Result<Token, AllocError>
-    requires placed { IsPlaced reader.old.source }
     requires onward { is_onward goal ≡ true }
     ensures ok { IfOk result (λ token. (previous : Option TokenParts)
         → line_has_ended_behind previous ≡ reader.old.line_has_ended
         → ReadsWithGap goal previous reader.old found.old token reader.new found.new) }
     ensures tokens { IfOk result (λ token. tokens.new ≡ with_token collects token tokens.old) }
-    ensures placed { OnOk result (IsPlaced reader.new.source) }
     ensures value { IfOk result (λ token. HasValue reader.old.source.text decoded.new token) }
     ensures kept { KeepsValues reader.old.source.text decoded.old decoded.new }
     ensures grown { Grows found.old found.new }

@@ -1,7 +1,6 @@
 //! The calls of js_reader that can report lack of memory, where there is enough.
 
 ghost use Rattle.std.specs.Prelude.{◌<◌, ◌^◌, length};
-ghost use Rattle.js_source.specs.Source.{IsPlaced};
 
 use js_grammar::Goal;
 use js_kind::{Kind, Token};
@@ -16,7 +15,6 @@ use std::test::Fail;
 /// A reader at the start of a text.
 fn reader_over(alloc: Global, text: &str, source_type: SourceType) -> Reader<'_>
     requires { length text.now < 2 ^ 32 }
-    ensures { IsPlaced result.source }
 {
     Reader {
         source: Source::new(text),
@@ -41,20 +39,14 @@ fn read_behind_gap(
     reader: &mut Reader<'_>,
     found: &mut FindingsBuilder,
     decoded: &mut DecodedValues,
-) -> Result<Token, AllocError>
-    requires { IsPlaced reader.old.source }
-{
+) -> Result<Token, AllocError> {
     let mut errors = DiagnosticList::new_in(reader.alloc);
     reader.skip_whole_gap(found)?;
-    // The source is between characters, as everywhere.
-    let _place = reader.source.position();
     reader.read_here(&mut errors, decoded)
 }
 
 /// Reads a token.
-fn read(call: Call, reader: &mut Reader<'_>) -> Result<Token, AllocError>
-    requires { IsPlaced reader.old.source }
-{
+fn read(call: Call, reader: &mut Reader<'_>) -> Result<Token, AllocError> {
     let mut found = FindingsBuilder::new_in(reader.alloc);
     let mut decoded = DecodedValues::new_in(reader.alloc);
     match call {
@@ -85,9 +77,7 @@ fn tokens(rt: HostRuntime) -> Result<(), Fail> {
 }
 
 /// Skips the piece of a gap that begins here, and tells whether there is one.
-fn skip(reader: &mut Reader<'_>) -> Result<bool, AllocError>
-    requires { IsPlaced reader.old.source }
-{
+fn skip(reader: &mut Reader<'_>) -> Result<bool, AllocError> {
     let mut found = FindingsBuilder::new_in(reader.alloc);
     match reader.source.peek_char() {
         Some('/') => reader.skip_comment(&mut found),
@@ -128,9 +118,7 @@ fn pieces_of_gaps(rt: HostRuntime) -> Result<(), Fail> {
 }
 
 /// Skips a line comment up to the end of its line.
-fn skip_line(reader: &mut Reader<'_>) -> Result<bool, AllocError>
-    requires { IsPlaced reader.old.source }
-{
+fn skip_line(reader: &mut Reader<'_>) -> Result<bool, AllocError> {
     let mut found = FindingsBuilder::new_in(reader.alloc);
     reader.skip_opened_line(&mut found, CommentKind::Line)
 }
@@ -144,9 +132,7 @@ fn a_line_comment(rt: HostRuntime) -> Result<(), Fail> {
 }
 
 /// Reads a regular expression at the start of the text, if a `/` is next there.
-fn read_expression(reader: &mut Reader<'_>) -> Result<Option<RegexToken>, AllocError>
-    requires { IsPlaced reader.old.source }
-{
+fn read_expression(reader: &mut Reader<'_>) -> Result<Option<RegexToken>, AllocError> {
     let mut errors = DiagnosticList::new_in(reader.alloc);
     let start = reader.source.offset();
     match reader.source.peek_char() {
@@ -164,9 +150,7 @@ fn a_regular_expression(rt: HostRuntime) -> Result<(), Fail> {
 }
 
 /// Reads the next part of a template behind a `}`, if one is next.
-fn read_part(reader: &mut Reader<'_>) -> Result<Option<Token>, AllocError>
-    requires { IsPlaced reader.old.source }
-{
+fn read_part(reader: &mut Reader<'_>) -> Result<Option<Token>, AllocError> {
     let mut errors = DiagnosticList::new_in(reader.alloc);
     let mut decoded = DecodedValues::new_in(reader.alloc);
     let start = reader.source.offset();

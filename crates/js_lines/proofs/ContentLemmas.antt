@@ -148,13 +148,12 @@ passes_past ends old new c cs f e none =
     passes_more ends old (c ∷ cs) cs (subst (PassesContent ends old) e f) (passes_character ends c cs none)
 
 -- the place behind a character that was read
-pub place_behind : (s t : At) (c : ℕ) → Reads s t c → CharAt s.text s.place c t.place → IsPlaced t
+pub place_behind : (s t : At) (c : ℕ) → Reads s t c → CharAt s.text s.place c t.place
     → t.place ≡ s.place + len_utf8 c
-place_behind s t c reads at placed =
-    let u : IsUtf8 s.text = subst IsUtf8 reads.text placed.utf8 in
+place_behind s t c reads at =
     omega (
       arith,
-      place_past s.text s.place t.place (c ∷ []) u at.from at.to at.here,
+      place_past s.text s.place t.place (c ∷ []) s.placed.utf8 at.from at.to at.here,
       sym (bytes_length (c ∷ [])),
     )
 
@@ -185,12 +184,11 @@ pub stops_at_ends : (c : ℕ) → is_line_terminator c ≡ true → matches_char
 stops_at_ends = line_terminator_matches (four_bytes LINE_END_BYTES) refl refl refl
 
 -- the content of a line, from the bytes that it begins
-pub content_is : (ends : LineEnds) (bytes : List ℕ) (s : At) → IsPlaced s → s.text ≡ bytes
+pub content_is : (ends : LineEnds) (bytes : List ℕ) (s : At) → s.text ≡ bytes
     → chars bytes ≡ line_content ends (chars bytes) ++ rest s
     → chars (take s.place bytes) ≡ line_content ends (chars bytes)
-content_is ends bytes s placed same content =
-    let there : IsPlaced (record { text = bytes; place = s.place }) =
-    subst (λ t. IsPlaced (record { text = t; place = s.place })) same placed in
+content_is ends bytes s same content =
+    let there = subst (λ t. IsPlaced t s.place) same s.placed in
     let left : from_place s.text s.place ≡ from_place bytes s.place = ap (λ t. from_place t s.place) same in
     let whole : chars bytes ≡ chars (take s.place bytes) ++ from_place bytes s.place =
     ap chars (sym (take-append-drop s.place bytes))

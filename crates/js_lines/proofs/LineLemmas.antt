@@ -12,8 +12,8 @@ use Rattle.std.proofs.lemmas.Str.{IsUtf8-take, IsUtf8-between, IsCharBoundary-st
 use Rattle.std.proofs.lemmas.Str.{chars_from_encodes, len_utf8_bounds}
 use Rattle.js_text.proofs.TextLemmas.{past_character}
 use Rattle.js_text.specs.Characters.{from_place}
-use Rattle.js_source.proofs.Places.{at_start, between, cut_between, moved, past, rest_bytes, step_placed, step_rest}
-use Rattle.js_source.specs.Source.{At, IsPlaced, rest}
+use Rattle.js_source.proofs.Places.{at_place, at_start, between, cut_between, next_place, past, rest_bytes, step_placed, step_rest}
+use Rattle.js_source.specs.Source.{At, rest}
 use Rattle.js_lines.proofs.ColumnLemmas.{bytes_length, front-le, length_in-append, length_in-le, IsTooLong, front_is}
 use Rattle.js_lines.specs.Columns.{length_in}
 use Rattle.js_lines.specs.Lines.{AreLineStarts, Lines, ends_line, lines_ended, last_line, line_starts, starts_behind}
@@ -24,14 +24,14 @@ use Rattle.js_lines.specs.declared.columns.ColumnUnit.TheVariants.{Bytes}
 use Rattle.js_lines.specs.declared.line_ends.LineEnds.{LineEnds}
 
 -- the place and the bytes of what is left make up the text
-pub place_left : (s : At) → IsPlaced s → s.place + length_in Bytes (rest s) ≡ length s.text
-place_left s h =
+pub place_left : (s : At) → s.place + length_in Bytes (rest s) ≡ length s.text
+place_left s =
     omega (
       arith,
       bytes_length (rest s),
-      ap length (rest_bytes s h),
+      ap length (rest_bytes s),
       length-drop s.place s.text,
-      h.boundary.0,
+      s.placed.boundary.0,
     )
 
 -- An offset is rounded down to a place between characters: the characters before and behind it are those of that place.
@@ -304,10 +304,10 @@ line_begins ends text starts xs ys are whole = (within, begins)
         let bytes : length_in Bytes xs ≡ length_in Bytes (end.0 ++ last_line ends xs ys) = ap (length_in Bytes) end.1 in
         let place : 0 + length (encode_utf8_all end.0) ≡ get_or starts (lines_ended ends xs ys) 0 =
         omega (arith, there, sum, parts, bytes, bytes_length end.0) in
-        let start : At = record { text = text; place = 0 } in
+        let start = at_place text 0 (at_start text are.utf8 are.short) in
         let all : rest start ≡ end.0 ++ (last_line ends xs ys ++ ys) =
         whole ∙ ap (λ zs. zs ++ ys) end.1 ∙ append_assoc end.0 (last_line ends xs ys) ys in
-        let behind = past end.0 (last_line ends xs ys ++ ys) start (at_start text are.utf8 are.short) all in
+        let behind = past end.0 (last_line ends xs ys ++ ys) start all in
         subst (LineBegins ends text xs ys) place (record {
           onward = omega (arith, parts, bytes, bytes_length end.0);
           boundary = behind.0.boundary;
@@ -323,12 +323,11 @@ chars_between text from to xs u le f t e =
     (sym (between text from to u le f t xs e)))
 
 -- each line begins between characters
-pub starts_bounded : (ends : LineEnds) (s : At) (cs : List ℕ) (k : ℕ) → IsPlaced s → rest s ≡ cs
+pub starts_bounded : (ends : LineEnds) (s : At) (cs : List ℕ) (k : ℕ) → rest s ≡ cs
     → k < length (starts_behind ends s.place cs) → IsCharBoundary s.text (get_or (starts_behind ends s.place cs) k 0)
-starts_bounded ends s [] k h e lt = absurd (omega arith)
-starts_bounded ends s (c ∷ cs) k h e lt =
-    by_test (ends_line ends c cs) k
-    (λ j. starts_bounded ends (moved s (len_utf8 c)) cs j (step_placed s c cs h e) (step_rest s c cs h e)) lt
+starts_bounded ends s [] k e lt = absurd (omega arith)
+starts_bounded ends s (c ∷ cs) k e lt =
+    by_test (ends_line ends c cs) k (λ j. starts_bounded ends (next_place s c cs e) cs j (step_rest s c cs e)) lt
   where
     by_test : (b : Bool) (k : ℕ)
         → ((j : ℕ) → j < length (starts_behind ends (s.place + len_utf8 c) cs)
@@ -337,7 +336,7 @@ starts_bounded ends s (c ∷ cs) k h e lt =
         else starts_behind ends (s.place + len_utf8 c) cs)
         → IsCharBoundary s.text (get_or (if b then (s.place + len_utf8 c)
         ∷ starts_behind ends (s.place + len_utf8 c) cs else starts_behind ends (s.place + len_utf8 c) cs) k 0)
-    by_test true zero more lt = (step_placed s c cs h e).boundary
+    by_test true zero more lt = (step_placed s c cs e).boundary
     by_test true (suc k) more lt = more k (omega arith)
     by_test false k more lt = more k lt
 
@@ -357,8 +356,7 @@ start_bounded ends text starts k start are found =
     by_number : (j : ℕ) → j < length (line_starts ends text) → IsCharBoundary text (get_or (line_starts ends text) j 0)
     by_number zero lt = IsCharBoundary-start text are.utf8
     by_number (suc j) lt =
-        starts_bounded ends (record { text = text; place = 0 }) (chars text) j (at_start text are.utf8 are.short) refl
-        (omega arith)
+        starts_bounded ends (at_place text 0 (at_start text are.utf8 are.short)) (chars text) j refl (omega arith)
 
 -- the view of a table tells where its lines begin
 pub of_view : (text starts : List ℕ) (ends : LineEnds) (lines : Lines) → record { text = text; ends = ends } ≡ lines
@@ -426,8 +424,8 @@ pub cut_in_two : (text xs ys : List ℕ) (p : ℕ) → IsUtf8 text → length te
     → p ≡ length_in Bytes xs
     → IsCharBoundary text p × (chars (take p text) ≡ xs) × (chars (drop p text) ≡ ys)
 cut_in_two text xs ys p u short whole at =
-    let start : At = record { text = text; place = 0 } in
-    let behind = past xs ys start (at_start text u short) whole in
+    let start = at_place text 0 (at_start text u short) in
+    let behind = past xs ys start whole in
     let place : 0 + length (encode_utf8_all xs) ≡ p = omega (arith, at, bytes_length xs) in
     let found = subst (λ n. IsCharBoundary text n × (from_place text n ≡ ys)) place (behind.0.boundary, behind.1) in
     let halves : chars text ≡ chars (take p text) ++ from_place text p =

@@ -63,8 +63,6 @@ fn advance_to_match(source: &mut Source<'_>) -> Option<char>
     ensures none { IfNone result (rest source.new ≡ []) }
     ensures some { IfSome result (λ c. BeginsWith c (rest source.new)) }
 {
-    // The source is between characters, as everywhere.
-    let _place = source.position();
     source.advance_to_one_of(LINE_END_BYTES)?;
     source.peek_char()
 }

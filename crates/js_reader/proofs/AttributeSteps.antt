@@ -14,7 +14,7 @@ use Rattle.js_grammar.specs.Reading.{reported_at}
 use Rattle.js_grammar.specs.StringItems.{is_quote}
 use Rattle.js_grammar.specs.declared.goal.Goal.TheVariants.{JsxAttributeValue}
 use Rattle.js_grammar.proofs.GoalReadings.{attribute_is_read}
-use Rattle.js_source.specs.Source.{rest, IsPlaced}
+use Rattle.js_source.specs.Source.{rest}
 use Rattle.js_spell.specs.Goals.{SpellsJsxString}
 use Rattle.js_reader.specs.Found.{Extends}
 use Rattle.js_reader.specs.Goals.{ReadsAttributeHere, ReadsStringHere}
@@ -27,31 +27,28 @@ use Rattle.js_reader.proofs.GoalSteps.{ReadTo, goes_on, read_from, token_of}
 
 -- a string that was read here
 pub string_here : {before after : List Diagnostic} (old new : Reader) (kind : Kind) (token : TokenParts)
-    → IsPlaced new.source
     → SpellsJsxString old.source new.source before after kind → new.source_type ≡ old.source_type
     → token ≡ read_token old.line_has_ended old.source.place new.source.place kind
     → ReadsStringHere old before token new after
-string_here old new kind token placed spells source_type is = record {
+string_here old new kind token spells source_type is = record {
   text = spells.spells.text;
   source_type = source_type;
   found = spells.found;
   read = spells.read;
   token_is = is ∙ ap (read_token old.line_has_ended old.source.place new.source.place) (sym spells.spells.kind_is);
   left = spells.spells.left;
-  placed = placed;
   errors = spells.spells.reports;
 }
 
 -- which goes on
-pub string_ordered : {before after : List Diagnostic} (old new : Reader) (kind : Kind) → IsPlaced old.source
-    → IsPlaced new.source → SpellsJsxString old.source new.source before after kind
+pub string_ordered : {before after : List Diagnostic} (old new : Reader) (kind : Kind)
+    → SpellsJsxString old.source new.source before after kind
     → old.source.place ≤ new.source.place
-string_ordered old new kind h g spells =
+string_ordered old new kind spells =
     let to : ReadTo old.source.text old.source.place (jsx_string_reading (rest old.source)) spells.found new.source =
     record {
       same = spells.spells.text;
-      placed = g;
-      boundary = h.boundary;
+      boundary = old.source.placed.boundary;
       read_is = spells.read;
       left = spells.spells.left;
       all = attribute_is_read (rest old.source);
@@ -59,11 +56,11 @@ string_ordered old new kind h g spells =
     goes_on to
 
 string_goal : (previous : Option TokenParts) (old : Reader) (before : FindingsBuilder) (mid : Reader)
-    (told : FindingsBuilder) (new : Reader) (later : List Diagnostic) (token : TokenParts) → IsPlaced old.source
-    → IsPlaced mid.source → line_has_ended_behind previous ≡ old.line_has_ended → SkipsWholeGap old before mid told
+    (told : FindingsBuilder) (new : Reader) (later : List Diagnostic) (token : TokenParts)
+    → line_has_ended_behind previous ≡ old.line_has_ended → SkipsWholeGap old before mid told
     → ReadsStringHere mid told.errors token new later
     → ReadsWithGap JsxAttributeValue previous old before token new (record told { errors = later })
-string_goal previous old before mid told new later token f h first gap read =
+string_goal previous old before mid told new later token first gap read =
     let t = old.source_type in
     let pieces = gap.skips.pieces in
     let start : ℕ = mid.source.place in
@@ -74,8 +71,7 @@ string_goal previous old before mid told new later token f h first gap read =
     new.source =
     record {
       same = read.text ∙ text;
-      placed = read.placed;
-      boundary = subst (λ (u : List ℕ). IsCharBoundary u start) text h.boundary;
+      boundary = subst (λ (u : List ℕ). IsCharBoundary u start) text mid.source.placed.boundary;
       read_is = ap jsx_string_reading (sym there) ∙ read.read;
       left = read.left;
       all = attribute_is_read (from_place old.source.text start);
@@ -99,17 +95,17 @@ string_goal previous old before mid told new later token f h first gap read =
             });
       };
       gap =
-          gap_told previous old before mid told outcome (reported_at start read.found) later f h gap refl refl
+          gap_told previous old before mid told outcome (reported_at start read.found) later gap refl refl
           read.errors;
     }
 
 plain_goal : (previous : Option TokenParts) (old : Reader) (before : FindingsBuilder) (mid : Reader)
-    (told : FindingsBuilder) (new : Reader) (later : List Diagnostic) (token : TokenParts) → IsPlaced old.source
-    → IsPlaced mid.source → line_has_ended_behind previous ≡ old.line_has_ended → SkipsWholeGap old before mid told
+    (told : FindingsBuilder) (new : Reader) (later : List Diagnostic) (token : TokenParts)
+    → line_has_ended_behind previous ≡ old.line_has_ended → SkipsWholeGap old before mid told
     → begins is_quote (rest mid.source) ≡ false → ReadsTokenHere mid told.errors token new later
     → ReadsWithGap JsxAttributeValue previous old before token new (record told { errors = later })
-plain_goal previous old before mid told new later token f h first gap none read =
-    let behind = token_behind previous old before mid told new later token f h first gap read in
+plain_goal previous old before mid told new later token first gap none read =
+    let behind = token_behind previous old before mid told new later token first gap read in
     record {
       read = record {
         text = behind.text;
@@ -126,14 +122,14 @@ plain_goal previous old before mid told new later token f h first gap none read 
 
 -- The value of an attribute behind the gap that was skipped.
 pub attribute_goal : (previous : Option TokenParts) (old : Reader) (before : FindingsBuilder) (mid : Reader)
-    (told : FindingsBuilder) (new : Reader) (later : List Diagnostic) (token : TokenParts) → IsPlaced old.source
-    → IsPlaced mid.source → line_has_ended_behind previous ≡ old.line_has_ended → SkipsWholeGap old before mid told
+    (told : FindingsBuilder) (new : Reader) (later : List Diagnostic) (token : TokenParts)
+    → line_has_ended_behind previous ≡ old.line_has_ended → SkipsWholeGap old before mid told
     → ReadsAttributeHere mid told.errors token new later
     → ReadsWithGap JsxAttributeValue previous old before token new (record told { errors = later })
-attribute_goal previous old before mid told new later token f h first gap (string read) =
-    string_goal previous old before mid told new later token f h first gap read
-attribute_goal previous old before mid told new later token f h first gap (plain none read) =
-    plain_goal previous old before mid told new later token f h first gap none read
+attribute_goal previous old before mid told new later token first gap (string read) =
+    string_goal previous old before mid told new later token first gap read
+attribute_goal previous old before mid told new later token first gap (plain none read) =
+    plain_goal previous old before mid told new later token first gap none read
 
 pub attribute_reports : {before after : List Diagnostic} {token : TokenParts} (old new : Reader)
     → ReadsAttributeHere old before token new after → Extends before after

@@ -16,7 +16,7 @@ use Rattle.js_grammar.specs.GapItems.{comment}
 use Rattle.js_grammar.specs.PieceItems.{found_comment, block_kind}
 use Rattle.js_grammar.proofs.GapLemmas.{cuts}
 use Rattle.js_grammar.proofs.PieceLemmas.{piece-block_comment, piece-slash}
-use Rattle.js_source.specs.Source.{At, rest, IsPlaced, BeginsWith}
+use Rattle.js_source.specs.Source.{At, rest, BeginsWith}
 use Rattle.js_source.proofs.Places.{begins_with}
 use Rattle.js_trivia.specs.Trivia.{Trivia, add_comment, found_in, is_licensed_in}
 use Rattle.js_spell.specs.Comments.{HasNoAt, ReadsCut}
@@ -85,7 +85,7 @@ two_bytes : (length (lib.Utf8.encodes (codes "/*")) ≡ 2) × (length (lib.Utf8.
 unfolding lib.Utf8.encode
 two_bytes = (refl, refl)
 
-module _ (old mid new : At) (inside is_plain : Bool) (h : IsPlaced old) (g : IsPlaced new)
+module _ (old mid new : At) (inside is_plain : Bool)
     (takes : TakesSequence (codes "/*") old true mid) (text : new.text ≡ mid.text)
     (cuts : ReadsCut (cut_behind (codes "*/") (rest mid)) new
     (Some (record { line_has_ended = inside; is_plain = is_plain }))) where
@@ -97,9 +97,9 @@ module _ (old mid new : At) (inside is_plain : Bool) (h : IsPlaced old) (g : IsP
       let same : new.text ≡ old.text = text ∙ takes.0 in
       let front = block_front.0 in
       record {
-        utf8 = h.utf8;
-        start = h.boundary;
-        end = subst (λ (u : List ℕ). IsCharBoundary u new.place) same g.boundary;
+        utf8 = old.placed.utf8;
+        start = old.placed.boundary;
+        end = subst (λ (u : List ℕ). IsCharBoundary u new.place) same new.placed.boundary;
         here =
             takes.1
             ∙ ap (λ cs. codes "/*" ++ cs)
@@ -115,8 +115,7 @@ module _ (old mid new : At) (inside is_plain : Bool) (h : IsPlaced old) (g : IsP
   pub block_unlicensed : (is_plain ≡ true → HasNoAt mid.text mid.place (new.place - 2)) → not is_plain ≡ false
       → is_licensed_in old.text (kind_by inside) (record { start = old.place; end = new.place }) ≡ false
   block_unlicensed plain e =
-      unlicensed (kind_by inside) old mid new.place (codes "/*") h takes
-      (two_bytes.0 ∙ sym (opens_with_two inside))
+      unlicensed (kind_by inside) old mid new.place (codes "/*") takes (two_bytes.0 ∙ sym (opens_with_two inside))
       (λ k low high. plain (not_not is_plain e) k low (omega (arith, high, closes_with_two inside)))
 
 -- no line ends in the mark of a block comment
@@ -127,7 +126,7 @@ mark_has_no_line_end cs = refl
 -- a block comment that ends
 pub block_skipped : (old : Reader) (before : FindingsBuilder) (mid : At) (new : Reader) (trivia : Trivia)
     (inside is_plain : Bool)
-    → IsPlaced old.source → IsPlaced new.source → TakesSequence (codes "/*") old.source true mid
+    → TakesSequence (codes "/*") old.source true mid
     → new.source.text ≡ mid.text
     → ReadsCut (cut_behind (codes "*/") (rest mid)) new.source
     (Some (record { line_has_ended = inside; is_plain = is_plain }))
@@ -138,11 +137,11 @@ pub block_skipped : (old : Reader) (before : FindingsBuilder) (mid : At) (new : 
     (found_in old.source.text (kind_by inside) (record { start = old.source.place; end = new.source.place }))
     before.trivia
     → SkipsSome old before new (record before { trivia = trivia })
-block_skipped old before mid new trivia inside is_plain h g takes text cuts source_type line_has_ended told =
+block_skipped old before mid new trivia inside is_plain takes text cuts source_type line_has_ended told =
     let after : FindingsBuilder = record before { trivia = trivia } in
     let cut = cuts.0 in
-    let marked = block_marked old.source mid new.source inside is_plain h g takes text cuts in
-    let front = block_front old.source mid new.source inside is_plain h g takes text cuts in
+    let marked = block_marked old.source mid new.source inside is_plain takes text cuts in
+    let front = block_front old.source mid new.source inside is_plain takes text cuts in
     let x : Piece = record {
       kind = multi_line_comment;
       text = codes "/*" ++ cut.front;
@@ -162,8 +161,7 @@ block_skipped old before mid new trivia inside is_plain h g takes text cuts sour
       line_has_ended = ap (λ b. old.line_has_ended || b) has_line_end ∙ sym line_has_ended;
       left = cuts.3;
       place =
-          on_to old.source new.source x.text h g (text ∙ takes.0)
-          (takes.1
+          on_to old.source new.source x.text (text ∙ takes.0) (takes.1
           ∙ ap (λ cs. codes "/*" ++ cs)
           (parts_of (rest mid) cut cuts.1 ∙ ap (λ cs. cut.front ++ cs) cuts.3)
           ∙ sym (append_assoc (codes "/*") cut.front (rest new.source)));
@@ -177,7 +175,7 @@ block_skipped old before mid new trivia inside is_plain h g takes text cuts sour
           ∙ ap (λ k. found_comment old.source.place k x) (sym kind)));
       ends_line = refl;
     } in
-    some_skipped old before new after p g
+    some_skipped old before new after p
 
 -- a `/` that begins no comment
 pub no_block : (old : Reader) → BeginsWith 47 (rest old.source) → is_prefix (codes "//") (rest old.source) ≡ false

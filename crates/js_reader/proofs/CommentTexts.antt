@@ -17,7 +17,7 @@ use Rattle.js_grammar.specs.CommentClasses.{class_of}
 use Rattle.js_grammar.specs.Gap.{Piece}
 use Rattle.js_grammar.specs.GapItems.{found_at}
 use Rattle.js_grammar.specs.PieceItems.{content_characters, found_comment, piece_length}
-use Rattle.js_source.specs.Source.{At, IsPlaced}
+use Rattle.js_source.specs.Source.{At}
 use Rattle.js_spell.specs.Comments.{HasNoAt}
 use Rattle.js_spell.specs.Sequences.{TakesSequence}
 use Rattle.js_trivia.specs.Trivia.{IsPlacedIn, found_in, is_licensed_in}
@@ -155,14 +155,14 @@ module _ (text : List ℕ) (kind : CommentKind) (p q : ℕ) (mark inside close :
       (sym characters ∙ ap (content_characters kind) (sym e))
 
 -- a comment without `@` between its marks holds no licence
-pub unlicensed : (kind : CommentKind) (old mid : At) (to : ℕ) (mark : List ℕ) → IsPlaced old
-    → TakesSequence mark old true mid → length (encode_utf8_all mark) ≡ opening_length kind
+pub unlicensed : (kind : CommentKind) (old mid : At) (to : ℕ) (mark : List ℕ) → TakesSequence mark old true mid
+    → length (encode_utf8_all mark) ≡ opening_length kind
     → HasNoAt mid.text mid.place (to - closing_length kind)
     → is_licensed_in old.text kind (record { start = old.place; end = to }) ≡ false
-unlicensed kind old mid to mark h takes size none =
+unlicensed kind old mid to mark takes size none =
     let behind : mid.place ≡ old.place + opening_length kind =
-    place_past old.text old.place mid.place mark h.utf8 h.boundary
-    (subst (λ (t : List ℕ). IsCharBoundary t mid.place) takes.0 takes.3.boundary)
+    place_past old.text old.place mid.place mark old.placed.utf8 old.placed.boundary
+    (subst (λ (t : List ℕ). IsCharBoundary t mid.place) takes.0 mid.placed.boundary)
     (takes.1 ∙ ap (λ t. mark ++ from_place t mid.place) takes.0)
     ∙ ap (λ n. old.place + n) size in
     none_between old.text (old.place + opening_length kind) (to - closing_length kind)

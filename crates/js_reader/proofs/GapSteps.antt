@@ -1,4 +1,5 @@
 -- The steps of reading a gap, piece by piece.
+use Rattle.js_source.proofs.Places.{at_boundary, same_at}
 use Rattle.std.proofs.Common.{◌≡◌, ℕ, ◌+◌, ◌<◌, Bool, true, false, not, ◌&&◌, ◌==◌, List, [], ◌∷◌, ◌++◌, length}
 use Rattle.std.proofs.Common.{refl, sym, ◌∙◌, ap, subst, arith, append-nil, Some, None}
 use Rattle.std.specs.Char.{len_utf8, encode_utf8}
@@ -15,7 +16,7 @@ use Rattle.js_grammar.specs.GapItems.{line_end}
 use Rattle.js_grammar.specs.PieceItems.{piece_length, piece_span, is_line_comment, is_separator, listed_if}
 use Rattle.js_grammar.proofs.GapLemmas.{piece_takes, all_pieces-cons, all_pieces-nil}
 use Rattle.js_grammar.proofs.PieceLemmas.{piece-white, piece-line_terminator}
-use Rattle.js_source.specs.Source.{At, rest, IsPlaced, Reads}
+use Rattle.js_source.specs.Source.{At, rest, Reads}
 use Rattle.js_source.specs.Runs.{IsRun, PassesRun, TellsClass}
 use Rattle.js_trivia.specs.Trivia.{Trivia, calls, handle_newline}
 use Rattle.js_reader.specs.Gaps.{AddsPieces, IsAtLineEnd}
@@ -77,30 +78,29 @@ piece_shorter behind old before ends new after p =
     (piece_takes old.source_type old.line_has_ended (rest old.source) p.x p.is_next)
 
 pub some_skipped : (old : Reader) (before : FindingsBuilder) (new : Reader) (after : FindingsBuilder)
-    → IsBehindPiece false old before false new after → IsPlaced new.source → SkipsSome old before new after
-some_skipped old before new after p g = record {
+    → IsBehindPiece false old before false new after → SkipsSome old before new after
+some_skipped old before new after p = record {
   text = p.text;
   source_type = p.source_type;
   leads = piece_leads false old before false new after p;
   fewer = piece_shorter false old before false new after p;
-  placed = g;
 }
 
 -- the way from a place to a later one
-pub on_to : (old new : At) (xs : List ℕ) → IsPlaced old → IsPlaced new → new.text ≡ old.text
+pub on_to : (old new : At) (xs : List ℕ) → new.text ≡ old.text
     → rest old ≡ xs ++ rest new → new.place ≡ old.place + length (encode_utf8_all xs)
-on_to old new xs h g text here =
-    place_past old.text old.place new.place xs h.utf8 h.boundary
-    (subst (λ (u : List ℕ). IsCharBoundary u new.place) text g.boundary)
+on_to old new xs text here =
+    place_past old.text old.place new.place xs old.placed.utf8 old.placed.boundary
+    (subst (λ (u : List ℕ). IsCharBoundary u new.place) text new.placed.boundary)
     (here ∙ ap (λ u. xs ++ from_place u new.place) text)
 
 -- and that over a character
-pub character_on : (old new : At) (c : ℕ) → IsPlaced old → IsPlaced new → new.text ≡ old.text
+pub character_on : (old new : At) (c : ℕ) → new.text ≡ old.text
     → rest old ≡ c ∷ rest new → old.place < new.place
-character_on old new c h g text here =
+character_on old new c text here =
     omega (
       arith,
-      on_to old new (c ∷ []) h g text here,
+      on_to old new (c ∷ []) text here,
       ap length (append-nil (encode_utf8 c)),
       length-encode c,
       (len_utf8_bounds c).0,
@@ -174,7 +174,6 @@ piece_from old mid new before told after true same e s =
       source_type = there.source_type ∙ same.stays.source_type;
       leads = λ later found g. gap_from false old mid later before found same (there.leads later found g);
       fewer = subst (λ (a : At). length (rest new.source) < length (rest a)) same.source there.fewer;
-      placed = there.placed;
     }
 piece_from old mid new before told after false same e s = (
   record {
@@ -190,7 +189,7 @@ piece_from old mid new before told after false same e s = (
       ∙ ap (λ (a : At). piece mid.source_type mid.line_has_ended (rest a)) (sym same.source) ∙ s.2,
 )
 
-module _ (old : Reader) (before : FindingsBuilder) (source : At) (c : ℕ) (h : IsPlaced old.source) (g : IsPlaced source)
+module _ (old : Reader) (before : FindingsBuilder) (source : At) (c : ℕ)
     (text : source.text ≡ old.source.text) (here : rest old.source ≡ c ∷ rest source) where
   -- a character of white space
   pub white_skipped : (trivia : Trivia) → is_white_space c ≡ true
@@ -200,7 +199,7 @@ module _ (old : Reader) (before : FindingsBuilder) (source : At) (c : ℕ) (h : 
       → IsBehindPiece false old before false (record old { source = source }) (record before { trivia = trivia })
   white_skipped trivia white told =
       let x = one_character white_space old.line_has_ended c (rest source) in
-      let place : source.place ≡ old.source.place + piece_length x = on_to old.source source (c ∷ []) h g text here in
+      let place : source.place ≡ old.source.place + piece_length x = on_to old.source source (c ∷ []) text here in
       record {
         text = text;
         source_type = refl;
@@ -231,7 +230,7 @@ module _ (old : Reader) (before : FindingsBuilder) (source : At) (c : ℕ) (h : 
       (record before { trivia = trivia })
   line_end_skipped behind trivia dark ends told =
       let x = one_character line_terminator true c (rest source) in
-      let place : source.place ≡ old.source.place + piece_length x = on_to old.source source (c ∷ []) h g text here in
+      let place : source.place ≡ old.source.place + piece_length x = on_to old.source source (c ∷ []) text here in
       let listed = listed_if (is_separator c && not behind) (piece_span old.source.place x) in
       record {
         text = text;
@@ -292,20 +291,17 @@ not_false false e = absurd (cc)
 
 -- the line end behind a line comment
 pub end_of_line : (old : Reader) (before : FindingsBuilder) (source : At) (c : ℕ) (trivia : Trivia)
-    → IsPlaced old.source
-    → IsPlaced source → Reads old.source source c → IsAtLineEnd (rest old.source)
+    → Reads old.source source c → IsAtLineEnd (rest old.source)
     → trivia ≡ handle_newline before.trivia
     → SkipsEndOfLine old before (record old { source = source; line_has_ended = true })
     (record before { trivia = trivia })
-end_of_line old before source c trivia h g reads end told =
+end_of_line old before source c trivia reads end told =
     let after : FindingsBuilder = record before { trivia = trivia } in
     let ends : is_line_terminator c ≡ true =
     not_false (is_line_terminator c) (sym (ap (begins (λ d. not (is_line_terminator d))) reads.here) ∙ end) in
     let span : Span = record { start = old.source.place; end = source.place } in
     let p : IsBehindPiece true old before false (record old { source = source; line_has_ended = true }) after =
-    line_end_skipped old before source c h g reads.text reads.here true trivia
-    (line_end_is_dark c ends) ends
-    (told
+    line_end_skipped old before source c reads.text reads.here true trivia (line_end_is_dark c ends) ends (told
     ∙ ap (λ b. handle_newline (calls (listed_if b span) before.trivia)) (sym (and_false (is_separator c)))) in
     record {
       text = p.text;
@@ -347,45 +343,44 @@ end_of_text old before source same none =
 
 -- LF
 pub line_feed_skipped : (old : Reader) (before : FindingsBuilder) (source : At) (trivia : Trivia)
-    → IsPlaced old.source
-    → IsPlaced source → source.text ≡ old.source.text → rest old.source ≡ 10 ∷ rest source
+    → source.text ≡ old.source.text → rest old.source ≡ 10 ∷ rest source
     → trivia ≡ handle_newline before.trivia
     → SkipsSome old before (record old { source = source; line_has_ended = true }) (record before { trivia = trivia })
 unfolding is_white_space is_irregular_whitespace is_line_terminator is_separator
-line_feed_skipped old before source trivia h g text here told =
+line_feed_skipped old before source trivia text here told =
     some_skipped old before (record old { source = source; line_has_ended = true }) (record before { trivia = trivia })
-    (line_end_skipped old before source 10 h g text here false trivia refl refl told) g
+    (line_end_skipped old before source 10 text here false trivia refl refl told)
 
 -- TABs and SPs
 blank_run : (table : List Bool) → TellsClass is_blank table → (run : List ℕ) (old : Reader) (source : At)
     (found : FindingsBuilder)
-    → IsRun table run → IsPlaced old.source → IsPlaced source → source.text ≡ old.source.text
+    → IsRun table run → source.text ≡ old.source.text
     → rest old.source ≡ run ++ rest source → Leads false old found false (record old { source = source }) found
-blank_run table tells [] old source found all h g text here later after s =
+blank_run table tells [] old source found all text here later after s =
     let place : old.source.place ≡ source.place =
-    place_unique old.source.text old.source.place source.place h.utf8 h.boundary
-    (subst (λ (u : List ℕ). IsCharBoundary u source.place) text g.boundary)
+    place_unique old.source.text old.source.place source.place old.source.placed.utf8 old.source.placed.boundary
+    (subst (λ (u : List ℕ). IsCharBoundary u source.place) text source.placed.boundary)
     (here ∙ ap (λ u. from_place u source.place) text) in
-    let same : source ≡ old.source = rw (text, ← place) refl in
+    let same : source ≡ old.source = same_at source old.source text (sym place) in
     subst (λ (a : At). SkipsGap false (record old { source = a }) found later after) same s
-blank_run table tells (b ∷ bs) old source found all h g text here later after s =
-    let past = past_character old.source.text old.source.place b (bs ++ rest source) h.utf8 h.boundary here in
-    let mid : At = record { text = old.source.text; place = old.source.place + len_utf8 b } in
-    let placed : IsPlaced mid = record { utf8 = h.utf8; short = h.short; boundary = past.0 } in
+blank_run table tells (b ∷ bs) old source found all text here later after s =
+    let past = past_character old.source.text old.source.place b (bs ++ rest source) old.source.placed.utf8
+    old.source.placed.boundary here in
+    let mid = at_boundary old.source (old.source.place + len_utf8 b) past.0 in
     let blank : is_blank b ≡ true = sym (tells.tells b all.0) ∙ all.1 in
     let p : IsBehindPiece false old found false (record old { source = mid }) found =
-    white_skipped old found mid b h placed refl (here ∙ ap (λ cs. b ∷ cs) (sym past.1)) found.trivia
+    white_skipped old found mid b refl (here ∙ ap (λ cs. b ∷ cs) (sym past.1)) found.trivia
     (blank_is_white b blank) (rw (blank_is_plain b blank) refl) in
     piece_leads false old found false (record old { source = mid }) found p later after
-    (blank_run table tells bs (record old { source = mid }) source found all.2 placed g text past.1 later after s)
+    (blank_run table tells bs (record old { source = mid }) source found all.2 text past.1 later after s)
 
 pub blanks_lead : (table : List Bool) → TellsClass is_blank table
     → (old : Reader) (source : At) (found : FindingsBuilder)
-    → IsPlaced old.source → IsPlaced source → source.text ≡ old.source.text
+    → source.text ≡ old.source.text
     → PassesRun table old.source.text old.source.place source.place
     → Leads false old found false (record old { source = source }) found
-blanks_lead table tells old source found h g text run =
-    blank_run table tells run.run old source found run.all h g text
+blanks_lead table tells old source found text run =
+    blank_run table tells run.run old source found run.all text
     (run.here ∙ ap (λ u. run.run ++ from_place u source.place) (sym text))
 
 -- a reader that is as another but for its tables has the same longest gaps

@@ -29,9 +29,8 @@ use Rattle.js_grammar.proofs.Marks.{one_byte}
 use Rattle.js_grammar.proofs.NumberItems.{true_or_false}
 use Rattle.js_grammar.proofs.NumberSound.{first_is}
 use Rattle.js_grammar.proofs.Spans.{taken_end}
-use Rattle.js_source.proofs.Places.{cut_between}
-use Rattle.js_source.specs.Runs.{place_of}
-use Rattle.js_source.specs.Source.{At, rest, IsPlaced, StepsPast}
+use Rattle.js_source.proofs.Places.{cut_between, at_boundary}
+use Rattle.js_source.specs.Source.{At, rest, StepsFrom}
 use Rattle.js_spell.specs.Goals.{SpellsAngle, SpellsJsxName}
 use Rattle.js_spell.specs.RegularExpression.{SpellsExpression}
 use Rattle.js_spell.specs.Spells.{ReadsAs}
@@ -47,7 +46,6 @@ use Rattle.js_reader.proofs.TriviaSteps.{lists_none}
 -- This was read of a token from the start on, without a flag, and the source stands behind it.
 pub record ReadTo (text : List ℕ) (start : ℕ) (read : Option Reading) (found : Reading) (new : At) : Type 0 where
   pub same : new.text ≡ text
-  pub placed : IsPlaced new
   pub boundary : IsCharBoundary text start
   pub read_is : read ≡ Some found
   pub left : found.rest ≡ rest new
@@ -62,8 +60,8 @@ is_read {text} {start} {read} {found} r = found_is_read (from_place text start) 
 pub ends_there : {text : List ℕ} {start : ℕ} {read : Option Reading} {found : Reading} {new : At}
     → ReadTo text start read found new → new.place ≡ start + size_of found
 ends_there {text} {start} {found} {new} r =
-    taken_end text start new.place found (subst IsUtf8 r.same r.placed.utf8) r.boundary
-    (subst (λ (u : List ℕ). IsCharBoundary u new.place) r.same r.placed.boundary)
+    taken_end text start new.place found (subst IsUtf8 r.same new.placed.utf8) r.boundary
+    (subst (λ (u : List ℕ). IsCharBoundary u new.place) r.same new.placed.boundary)
     (r.left ∙ ap (λ u. from_place u new.place) r.same) (is_read r).taken
 
 -- and not before its start
@@ -80,7 +78,7 @@ read_from {text} {start} {found} {new} line_has_ended r = record {
   read_is = r.read_is;
   end =
       subst (IsCharBoundary text) (ends_there r)
-      (subst (λ (u : List ℕ). IsCharBoundary u new.place) r.same r.placed.boundary);
+      (subst (λ (u : List ℕ). IsCharBoundary u new.place) r.same new.placed.boundary);
   rest = r.left ∙ ap (λ u. from_place u new.place) r.same ∙ ap (from_place text) (ends_there r);
   outcome_is = refl;
 }
@@ -117,32 +115,28 @@ goal_read {start} {found} goal before old new line_has_ended kind token to sourc
 
 -- The source stands behind a mark with which a token starts.
 pub record IsBehindMark (mark start : ℕ) (old : Reader) (mid : At) : Type 0 where
-  pub placed : IsPlaced old.source
   pub boundary : IsCharBoundary old.source.text start
   pub same : mid.text ≡ old.source.text
   pub here : from_place old.source.text start ≡ mark ∷ rest mid
 
-pub behind_mark : (mark start : ℕ) (old : Reader) (mid : At) → IsPlaced old.source
-    → IsCharBoundary old.source.text start
+pub behind_mark : (mark start : ℕ) (old : Reader) (mid : At) → IsCharBoundary old.source.text start
     → begins (λ c. c == mark) (from_place old.source.text start) ≡ true
-    → StepsPast (place_of old.source.text start) mid → IsBehindMark mark start old mid
-behind_mark mark start old mid placed boundary begun past =
+    → StepsFrom old.source.text start mid → IsBehindMark mark start old mid
+behind_mark mark start old mid boundary begun past =
     let here = first_is mark (from_place old.source.text start) begun in
     let step = past mark (drop 1 (from_place old.source.text start)) here in
     record {
-      placed = placed;
       boundary = boundary;
       same = step.0;
       here = here ∙ ap (λ t. mark ∷ t) (sym step.1);
     }
 
 -- which is one byte
-pub mark_passed : (mark start : ℕ) (old : Reader) (mid : At) → mark < 128 → IsPlaced mid
-    → IsBehindMark mark start old mid → start + 1 ≡ mid.place
-mark_passed mark start old mid low placed behind =
-    sym
-    (leads_to (place_of old.source.text start) mid (mark ∷ [])
-    (record { utf8 = behind.placed.utf8; short = behind.placed.short; boundary = behind.boundary }) placed behind.same
+pub mark_passed : (mark start : ℕ) (old : Reader) (mid : At) → mark < 128 → IsBehindMark mark start old mid
+    → start + 1 ≡ mid.place
+mark_passed mark start old mid low behind =
+    sym (leads_to (at_boundary old.source start behind.boundary) mid (mark ∷ [])
+    behind.same
     behind.here
     ∙ ap (λ n. start + n) (one_byte mark low))
 
@@ -156,13 +150,11 @@ expression_kind behind =
 -- a regular expression
 expression_to : {told later : List Diagnostic} (start : ℕ) (old new : Reader) (mid : At) (info : RegexInfo)
     → IsBehindMark slash start old mid
-    → IsPlaced new.source
     → SpellsExpression (regular_expression (rest mid)) start mid new.source told later info
     → ReadTo old.source.text start (regular_expression_reading (from_place old.source.text start))
     (regular_expression (rest mid)) new.source
-expression_to start old new mid info behind placed spells = record {
+expression_to start old new mid info behind spells = record {
   same = spells.text ∙ behind.same;
-  placed = placed;
   boundary = behind.boundary;
   read_is = ap regular_expression_reading behind.here;
   left = spells.left;
@@ -170,16 +162,16 @@ expression_to start old new mid info behind placed spells = record {
 }
 
 pub expression_ordered : {told later : List Diagnostic} (start : ℕ) (old new : Reader) (mid : At) (info : RegexInfo)
-    → IsBehindMark slash start old mid → IsPlaced new.source
-    → SpellsExpression (regular_expression (rest mid)) start mid new.source told later info
+    → IsBehindMark slash start old mid → SpellsExpression (regular_expression (rest mid)) start mid new.source told
+    later info
     → start ≤ new.source.place
-expression_ordered start old new mid info behind placed spells =
-    goes_on (expression_to start old new mid info behind placed spells)
+expression_ordered start old new mid info behind spells =
+    goes_on (expression_to start old new mid info behind spells)
 
 pub expression_goal : {told later : List Diagnostic} (start : ℕ) (old new : Reader) (mid : At) (info : RegexInfo)
     (token : TokenParts)
-    → IsBehindMark slash start old mid → IsPlaced new.source
-    → SpellsExpression (regular_expression (rest mid)) start mid new.source told later info
+    → IsBehindMark slash start old mid → SpellsExpression (regular_expression (rest mid)) start mid new.source told
+    later info
     → new.source_type ≡ old.source_type → token ≡ read_token false start new.source.place RegExp
     → (before : TokenParts) → before.start ≡ start
     → ReadsExpression before old told
@@ -190,8 +182,8 @@ pub expression_goal : {told later : List Diagnostic} (start : ℕ) (old new : Re
       flags_error = info.flags_error;
     })
     new later
-expression_goal start old new mid info token behind placed spells source_type is before at =
-    let to = expression_to start old new mid info behind placed spells in
+expression_goal start old new mid info token behind spells source_type is before at =
+    let to = expression_to start old new mid info behind spells in
     record {
       reads =
           goal_read RegularExpression (Some before) old new false RegExp token to source_type is
@@ -203,14 +195,12 @@ expression_goal start old new mid info token behind placed spells source_type is
 
 -- angles
 angle_to : (mark start : ℕ) (kinds : List Kind) (kind : Kind) (old new : Reader) (mid : At)
-    → list_all is_angle kinds ≡ true → IsBehindMark mark start old mid → IsPlaced new.source
-    → new.source.text ≡ mid.text
+    → list_all is_angle kinds ≡ true → IsBehindMark mark start old mid → new.source.text ≡ mid.text
     → angle_reading kinds (mark ∷ rest mid) ≡ Some (read_up_to kind (mark ∷ rest mid) (rest new.source))
     → ReadTo old.source.text start (angle_reading kinds (from_place old.source.text start))
     (read_up_to kind (mark ∷ rest mid) (rest new.source)) new.source
-angle_to mark start kinds kind old new mid are behind placed text read = record {
+angle_to mark start kinds kind old new mid are behind text read = record {
   same = text ∙ behind.same;
-  placed = placed;
   boundary = behind.boundary;
   read_is = ap (angle_reading kinds) behind.here ∙ read;
   left = refl;
@@ -235,42 +225,39 @@ angle_read goal mark start kinds kind old new mid token before to source_type is
     (read_from false to)))
 
 pub angle_ordered : (start : ℕ) (old new : Reader) (mid : At) (kind : Kind)
-    → IsBehindMark greater_than_sign start old mid → IsPlaced new.source → SpellsAngle mid new.source kind
+    → IsBehindMark greater_than_sign start old mid → SpellsAngle mid new.source kind
     → start ≤ new.source.place
-angle_ordered start old new mid kind behind placed spells =
-    goes_on
-    (angle_to greater_than_sign start right_angles kind old new mid angles.longest behind placed spells.text
+angle_ordered start old new mid kind behind spells =
+    goes_on (angle_to greater_than_sign start right_angles kind old new mid angles.longest behind spells.text
     spells.read)
 
 pub angle_goal : (start : ℕ) (old new : Reader) (mid : At) (kind : Kind) (token : TokenParts)
-    → IsBehindMark greater_than_sign start old mid → IsPlaced new.source → SpellsAngle mid new.source kind
+    → IsBehindMark greater_than_sign start old mid → SpellsAngle mid new.source kind
     → new.source_type ≡ old.source_type
     → token ≡ read_token false start new.source.place kind → (before : TokenParts) → before.start ≡ start
     → ReadsSilently RightAngle (Some before) old token new
-angle_goal start old new mid kind token behind placed spells source_type is before at =
+angle_goal start old new mid kind token behind spells source_type is before at =
     angle_read RightAngle greater_than_sign start right_angles kind old new mid token before
-    (angle_to greater_than_sign start right_angles kind old new mid angles.longest behind placed spells.text
+    (angle_to greater_than_sign start right_angles kind old new mid angles.longest behind spells.text
     spells.read)
     source_type is at (λ o r. r)
 
 pub left_angle_goal : (start : ℕ) (old new : Reader) (token : TokenParts)
-    → IsBehindMark less_than_sign start old new.source → IsPlaced new.source
-    → new.source_type ≡ old.source_type
+    → IsBehindMark less_than_sign start old new.source → new.source_type ≡ old.source_type
     → token ≡ read_token false start new.source.place LAngle → (before : TokenParts) → before.start ≡ start
     → ReadsSilently TypeScriptLeftAngle (Some before) old token new
-left_angle_goal start old new token behind placed source_type is before at =
+left_angle_goal start old new token behind source_type is before at =
     angle_read TypeScriptLeftAngle less_than_sign start first_left_angle LAngle old new new.source token before
-    (angle_to less_than_sign start first_left_angle LAngle old new new.source angles.left behind placed refl refl)
+    (angle_to less_than_sign start first_left_angle LAngle old new new.source angles.left behind refl refl)
     source_type is at (λ o r. r)
 
 pub right_angle_goal : (start : ℕ) (old new : Reader) (token : TokenParts)
-    → IsBehindMark greater_than_sign start old new.source → IsPlaced new.source
-    → new.source_type ≡ old.source_type
+    → IsBehindMark greater_than_sign start old new.source → new.source_type ≡ old.source_type
     → token ≡ read_token false start new.source.place RAngle → (before : TokenParts) → before.start ≡ start
     → ReadsSilently TypeScriptRightAngle (Some before) old token new
-right_angle_goal start old new token behind placed source_type is before at =
+right_angle_goal start old new token behind source_type is before at =
     angle_read TypeScriptRightAngle greater_than_sign start first_right_angle RAngle old new new.source token before
-    (angle_to greater_than_sign start first_right_angle RAngle old new new.source angles.right behind placed refl
+    (angle_to greater_than_sign start first_right_angle RAngle old new new.source angles.right behind refl
     refl) source_type is at (λ o r. r)
 
 -- the characters between two places
@@ -284,15 +271,13 @@ between text start end utf8 first last ordered = (
 )
 
 -- a name of JSX
-name_to : (start : ℕ) (part : List ℕ) (old : Reader) (new : At) (end : ℕ) → IsPlaced new
-    → IsCharBoundary old.source.text start
+name_to : (start : ℕ) (part : List ℕ) (old : Reader) (new : At) (end : ℕ) → IsCharBoundary old.source.text start
     → from_place old.source.text start ≡ part ++ from_place old.source.text end
     → end ≡ old.source.place → SpellsJsxName old.source new true
     → ReadTo old.source.text start (jsx_name_reading part (from_place old.source.text end))
     (jsx_name_up_to part (rest old.source) (rest new)) new
-name_to start part old new end g boundary here at spells = record {
+name_to start part old new end boundary here at spells = record {
   same = spells.0;
-  placed = g;
   boundary = boundary;
   read_is = ap (λ n. jsx_name_reading part (from_place old.source.text n)) at ∙ spells.1 part;
   left = refl;
@@ -301,12 +286,13 @@ name_to start part old new end g boundary here at spells = record {
       (jsx_name_is_read part (from_place old.source.text end));
 }
 
-pub name_ordered : (start : ℕ) (old : Reader) (new : At) → IsPlaced old.source → IsPlaced new
-    → IsCharBoundary old.source.text start → start ≤ old.source.place → SpellsJsxName old.source new true
+pub name_ordered : (start : ℕ) (old : Reader) (new : At) → IsCharBoundary old.source.text start
+    → start ≤ old.source.place → SpellsJsxName old.source new true
     → start ≤ new.place
-name_ordered start old new h g boundary ordered spells =
-    let part = between old.source.text start old.source.place h.utf8 boundary h.boundary ordered in
-    goes_on (name_to start part.0 old new old.source.place g boundary part.1 refl spells)
+name_ordered start old new boundary ordered spells =
+    let part = between old.source.text start old.source.place old.source.placed.utf8 boundary
+    old.source.placed.boundary ordered in
+    goes_on (name_to start part.0 old new old.source.place boundary part.1 refl spells)
 
 hyphen_there : (part text : List ℕ) (found : Reading) → jsx_name_reading part text ≡ Some found
     → begins (λ c. c == hyphen_minus) text ≡ true
@@ -327,15 +313,16 @@ no_hyphen text none =
       | inr other ↦ other
     ]
 
-pub name_goal : (start : ℕ) (old new : Reader) (token : TokenParts) → IsPlaced old.source → IsPlaced new.source
-    → IsCharBoundary old.source.text start → start ≤ old.source.place → SpellsJsxName old.source new.source true
+pub name_goal : (start : ℕ) (old new : Reader) (token : TokenParts) → IsCharBoundary old.source.text start
+    → start ≤ old.source.place → SpellsJsxName old.source new.source true
     → new.source_type ≡ old.source_type
     → token ≡ read_token false start new.source.place Ident → ReadsNameOn start old (Some token) new
-name_goal start old new token h g boundary ordered spells source_type is = (
+name_goal start old new token boundary ordered spells source_type is = (
   hyphen_there [] (rest old.source) (jsx_name_up_to [] (rest old.source) (rest new.source)) (spells.1 []),
   λ before at end told.
-      let part = between old.source.text start before.end h.utf8 boundary (there before end) (far before end) in
-      let to = name_to start part.0 old new.source before.end g boundary part.1 end spells in
+      let part = between old.source.text start before.end old.source.placed.utf8 boundary (there before end) (far
+      before end) in
+      let to = name_to start part.0 old new.source before.end boundary part.1 end spells in
       goal_read JsxIdentifier (Some before) old new false Ident token to source_type is refl
       (sym (append-nil told))
       (record {
@@ -352,31 +339,28 @@ name_goal start old new token h g boundary ordered spells source_type is = (
 )
   where
     there : (before : TokenParts) → before.end ≡ old.source.place → IsCharBoundary old.source.text before.end
-    there before end = subst (IsCharBoundary old.source.text) (sym end) h.boundary
+    there before end = subst (IsCharBoundary old.source.text) (sym end) old.source.placed.boundary
 
     far : (before : TokenParts) → before.end ≡ old.source.place → start ≤ before.end
     far before end = subst (λ (n : ℕ). start ≤ n) (sym end) ordered
 
 -- what stands between two tags
-child_to : {told later : List Diagnostic} (old new : Reader) (kind : Kind) → IsPlaced old.source
-    → IsPlaced new.source
+child_to : {told later : List Diagnostic} (old new : Reader) (kind : Kind)
     → ReadsAs (jsx_child_reading (rest old.source)) old.source.place old.source new.source told later kind
     → ReadTo old.source.text old.source.place (Some (jsx_child_reading (rest old.source)))
     (jsx_child_reading (rest old.source)) new.source
-child_to old new kind h g spells = record {
+child_to old new kind spells = record {
   same = spells.text;
-  placed = g;
-  boundary = h.boundary;
+  boundary = old.source.placed.boundary;
   read_is = refl;
   left = spells.left;
   all = child_is_read (rest old.source);
 }
 
-pub child_ordered : {told later : List Diagnostic} (old new : Reader) (kind : Kind) → IsPlaced old.source
-    → IsPlaced new.source
+pub child_ordered : {told later : List Diagnostic} (old new : Reader) (kind : Kind)
     → ReadsAs (jsx_child_reading (rest old.source)) old.source.place old.source new.source told later kind
     → old.source.place ≤ new.source.place
-child_ordered old new kind h g spells = goes_on (child_to old new kind h g spells)
+child_ordered old new kind spells = goes_on (child_to old new kind spells)
 
 -- what is found there
 child_added : (found : FindingsBuilder) (later : List Diagnostic) (warned : List Span) (errors : List Diagnostic)
@@ -398,16 +382,16 @@ child_grows found later warned errors warnings reports warns = record {
 }
 
 pub child_goal : (old new : Reader) (found : FindingsBuilder) (later : List Diagnostic) (warned : List Span)
-    (kind : Kind) (token : TokenParts) → IsPlaced old.source → IsPlaced new.source
-    → ReadsAs (jsx_child_reading (rest old.source)) old.source.place old.source new.source found.errors later kind
+    (kind : Kind) (token : TokenParts) → ReadsAs (jsx_child_reading (rest old.source)) old.source.place old.source
+    new.source found.errors later kind
     → warned ≡ found.warnings ++ jsx_child_warnings old.source.place (rest old.source)
     → new.source_type ≡ old.source_type
     → token ≡ read_token old.line_has_ended old.source.place new.source.place kind
     → (before : Option TokenParts) → line_has_ended_behind before ≡ old.line_has_ended
     → ReadsWithGap JsxChild before old found token new (record found { errors = later; warnings = warned })
-child_goal old new found later warned kind token h g spells warns source_type is before same =
+child_goal old new found later warned kind token spells warns source_type is before same =
     let read = jsx_child_reading (rest old.source) in
-    let to = child_to old new kind h g spells in
+    let to = child_to old new kind spells in
     let child = outcome_at old.line_has_ended old.source.place read in
     record {
       read = record {

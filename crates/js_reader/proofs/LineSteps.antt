@@ -17,7 +17,7 @@ use Rattle.js_grammar.specs.Outcome.{piece_deferred, piece_diagnostics, html_def
 use Rattle.js_grammar.specs.PieceItems.{is_line_comment, items_of_kind, found_comment}
 use Rattle.js_grammar.proofs.PieceLemmas.{piece-angle, piece-minus, piece-line_comment}
 use Rattle.js_grammar.proofs.Tests.{prefix_of}
-use Rattle.js_source.specs.Source.{At, rest, IsPlaced, BeginsWith}
+use Rattle.js_source.specs.Source.{At, rest, BeginsWith}
 use Rattle.js_source.proofs.Places.{begins_with}
 use Rattle.js_trivia.specs.Trivia.{Trivia, add_comment, found_in, is_licensed_in}
 use Rattle.js_spell.specs.Comments.{HasNoAt}
@@ -30,7 +30,7 @@ use Rattle.js_reader.proofs.CommentTexts.{IsMarked, line_mark, placed_in, found_
 use Rattle.js_reader.proofs.GapSteps.{IsBehindPiece, piece_leads, piece_shorter, on_to}
 use Rattle.js_reader.proofs.TriviaSteps.{adds_piece, silently_added}
 
-module _ (kind : CommentKind) (line : is_line_kind kind ≡ true) (old mid new : At) (h : IsPlaced old) (g : IsPlaced new)
+module _ (kind : CommentKind) (line : is_line_kind kind ≡ true) (old mid new : At)
     (takes : TakesSequence (opening_sequence kind) old true mid) (text : new.text ≡ mid.text)
     (left : rest new ≡ from_first is_line_terminator (rest mid)) where
   inside : List ℕ
@@ -44,9 +44,9 @@ module _ (kind : CommentKind) (line : is_line_kind kind ≡ true) (old mid new :
       let same : new.text ≡ old.text = text ∙ takes.0 in
       let inside = before_first is_line_terminator (rest mid) in
       record {
-        utf8 = h.utf8;
-        start = h.boundary;
-        end = subst (λ (u : List ℕ). IsCharBoundary u new.place) same g.boundary;
+        utf8 = old.placed.utf8;
+        start = old.placed.boundary;
+        end = subst (λ (u : List ℕ). IsCharBoundary u new.place) same new.placed.boundary;
         here =
             takes.1
             ∙ ap (λ cs. opening_sequence kind ++ cs)
@@ -73,22 +73,22 @@ module _ (kind : CommentKind) (line : is_line_kind kind ≡ true) (old mid new :
       → not is_plain ≡ false → is_licensed_in old.text kind (record { start = old.place; end = new.place }) ≡ false
   line_unlicensed true plain e =
       let mark = line_mark kind line in
-      unlicensed kind old mid new.place (opening_sequence kind) h takes mark.bytes
+      unlicensed kind old mid new.place (opening_sequence kind) takes mark.bytes
       (λ k low high. plain refl k low (omega (arith, high, mark.unclosed)))
   line_unlicensed false plain e = absurd (cc)
 
 -- what is told of a line comment
 pub behind_line : (kind : CommentKind) → is_line_kind kind ≡ true → (old : Reader) (before : FindingsBuilder)
-    (mid : At) (new : Reader) (trivia : Trivia) → IsPlaced old.source → IsPlaced new.source
-    → TakesSequence (opening_sequence kind) old.source true mid → new.source.text ≡ mid.text
+    (mid : At) (new : Reader) (trivia : Trivia) → TakesSequence (opening_sequence kind) old.source true mid
+    → new.source.text ≡ mid.text
     → rest new.source ≡ from_first is_line_terminator (rest mid)
     → new.source_type ≡ old.source_type → new.line_has_ended ≡ old.line_has_ended
     → trivia
     ≡ add_comment
     (found_in old.source.text kind (record { start = old.source.place; end = new.source.place })) before.trivia
     → IsBehindLine kind old before new (record before { trivia = trivia })
-behind_line kind line old before mid new trivia h g takes text left source_type line_has_ended told =
-    let marked = line_marked kind line old.source mid new.source h g takes text left in
+behind_line kind line old before mid new trivia takes text left source_type line_has_ended told =
+    let marked = line_marked kind line old.source mid new.source takes text left in
     let placed =
     placed_in old.source.text kind old.source.place new.source.place (opening_sequence kind)
     (before_first is_line_terminator (rest mid)) [] marked in
@@ -97,7 +97,7 @@ behind_line kind line old before mid new trivia h g takes text left source_type 
       stays = record { source_type = source_type; line_has_ended = line_has_ended };
       behind = rest mid;
       here = takes.1;
-      left = line_left kind line old.source mid new.source h g takes text left;
+      left = line_left kind line old.source mid new.source takes text left;
       onward = omega (arith, placed.marks);
       told =
           ap (λ (s : Trivia). record before { trivia = s })
@@ -106,20 +106,19 @@ behind_line kind line old before mid new trivia h g takes text left source_type 
           (found_is old.source.text kind old.source.place new.source.place (opening_sequence kind)
           (before_first is_line_terminator (rest mid)) [] marked
           (line_comment single_line_comment old.line_has_ended (rest old.source))
-          (line_text kind line old.source mid new.source h g takes text left)));
+          (line_text kind line old.source mid new.source takes text left)));
     }
 
 -- a line comment as a piece of this kind
 pub line_piece : (kind : CommentKind) (piece_is : PieceKind) (behind : Bool) (old : Reader) (before : FindingsBuilder)
-    (new : Reader) (after : FindingsBuilder) (more : FindingsBuilder) → IsPlaced old.source → IsPlaced new.source
-    → IsBehindLine kind old before new after
+    (new : Reader) (after : FindingsBuilder) (more : FindingsBuilder) → IsBehindLine kind old before new after
     → piece old.source_type old.line_has_ended (rest old.source)
     ≡ Some (line_comment piece_is old.line_has_ended (rest old.source))
     → ((place : ℕ) (x : Piece) → items_of_kind piece_is place behind x ≡ comment (found_comment place kind x) ∷ [])
     → is_line_comment piece_is ≡ true → ((place : ℕ) → piece_diagnostics place piece_is ≡ [])
     → more ≡ record after { deferred = after.deferred ++ piece_deferred old.source_type old.source.place piece_is }
     → IsBehindPiece behind old before true new more
-line_piece kind piece_is behind old before new after more h g line is items ends silent more_is =
+line_piece kind piece_is behind old before new after more line is items ends silent more_is =
     let x = line_comment piece_is old.line_has_ended (rest old.source) in
     let defers = piece_deferred old.source_type old.source.place piece_is in
     let tells : List Item = comment (found_comment old.source.place kind x) ∷ [] in
@@ -131,7 +130,7 @@ line_piece kind piece_is behind old before new after more h g line is items ends
       line_has_ended = sym line.stays.line_has_ended;
       left = sym line.left;
       place =
-          on_to old.source new.source x.text h g line.text
+          on_to old.source new.source x.text line.text
           (sym (before_from is_line_terminator (rest old.source)) ∙ ap (λ cs. x.text ++ cs) (sym line.left));
       adds =
           adds_piece behind old.source_type old.source.place x before more [] defers tells (silent old.source.place)
@@ -144,13 +143,12 @@ line_piece kind piece_is behind old before new after more h g line is items ends
 -- a line comment, and the line end behind it
 pub line_skipped : (old : Reader) (before : FindingsBuilder) (mid : Reader) (told : FindingsBuilder) (new : Reader)
     (after : FindingsBuilder) → IsBehindPiece false old before true mid told → SkipsEndOfLine mid told new after
-    → IsPlaced new.source → SkipsSome old before new after
-line_skipped old before mid told new after p end g = record {
+    → SkipsSome old before new after
+line_skipped old before mid told new after p end = record {
   text = end.text ∙ p.text;
   source_type = end.source_type ∙ p.source_type;
   leads = λ later found s. piece_leads false old before true mid told p later found (end.leads later found s);
   fewer = omega (arith, end.fewer, piece_shorter false old before true mid told p);
-  placed = g;
 }
 
 -- behind a line comment a line ends
@@ -171,10 +169,10 @@ at_line_end kind old before new after line =
 
 -- a comment that begins with `//`
 pub slashes : (old : Reader) (before : FindingsBuilder) (new : Reader) (after : FindingsBuilder)
-    → IsPlaced old.source → IsPlaced new.source → IsBehindLine Line old before new after
+    → IsBehindLine Line old before new after
     → IsBehindPiece false old before true new after
-slashes old before new after h g line =
-    line_piece Line single_line_comment false old before new after after h g line
+slashes old before new after line =
+    line_piece Line single_line_comment false old before new after after line
     (ap (piece old.source_type old.line_has_ended) line.here
     ∙ piece-line_comment old.source_type old.line_has_ended line.behind
     ∙ ap (λ cs. Some (line_comment single_line_comment old.line_has_ended cs)) (sym line.here)) (λ place x. refl) refl
@@ -214,7 +212,7 @@ html_reports HtmlOpen e old = refl
 html_reports HtmlClose e old = refl
 
 pub html_piece : (kind : CommentKind) → is_html kind ≡ true → (old : Reader) (before : FindingsBuilder) (new : Reader)
-    (after more : FindingsBuilder) → IsPlaced old.source → IsPlaced new.source → IsBehindLine kind old before new after
+    (after more : FindingsBuilder) → IsBehindLine kind old before new after
     → IsOnlyPiece kind old
     → more
     ≡ record after {
@@ -224,11 +222,10 @@ pub html_piece : (kind : CommentKind) → is_html kind ≡ true → (old : Reade
           (record { start = old.source.place; end = old.source.place + opening_length kind });
     }
     → IsBehindPiece false old before true new more
-html_piece kind html old before new after more h g line only more_is =
+html_piece kind html old before new after more line only more_is =
     let begins : is_prefix (opening_sequence kind) (rest old.source) ≡ true =
     ap (is_prefix (opening_sequence kind)) line.here ∙ prefix_of (opening_sequence kind) line.behind in
-    line_piece kind (piece_kind kind) false old before new after more h g line
-    (only
+    line_piece kind (piece_kind kind) false old before new after more line (only
     ∙ ap (λ b. if b then Some (line_comment (piece_kind kind) old.line_has_ended (rest old.source)) else None) begins)
     (html_items kind html) (html_ends kind html) (html_silent kind html)
     (more_is ∙ ap (λ ds. record after { deferred = after.deferred ++ ds }) (html_reports kind html old))

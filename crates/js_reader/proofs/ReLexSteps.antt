@@ -5,7 +5,7 @@ use Rattle.js_text.specs.Characters.{from_place}
 use Rattle.js_text.specs.declared.diagnostic.Diagnostic.{Diagnostic}
 use Rattle.js_text.proofs.TextLemmas.{place_past}
 use Rattle.js_kind.specs.TokenParts.{TokenParts}
-use Rattle.js_source.specs.Source.{rest, IsPlaced}
+use Rattle.js_source.specs.Source.{rest}
 use Rattle.js_grammar.specs.Goals.{ReadsPart, next_part}
 use Rattle.js_grammar.specs.Outcome.{outcome_at}
 use Rattle.js_grammar.specs.Reading.{size_of}
@@ -15,6 +15,7 @@ use Rattle.js_grammar.proofs.Marks.{one_byte}
 use Rattle.js_grammar.proofs.Spans.{part_is_taken, taken_end}
 use Rattle.js_grammar.proofs.Values.{IsValued}
 use Rattle.js_kind.specs.declared.kind.Kind.TheVariants.{TemplateMiddle, TemplateTail}
+use Rattle.js_source.proofs.Places.{at_boundary}
 use Rattle.js_spell.specs.Spells.{Spells}
 use Rattle.js_spell.specs.declared.spelt.Spelt.{Spelt}
 use Rattle.js_reader.specs.Decoded.{KeepsPart, Values}
@@ -25,8 +26,6 @@ use Rattle.js_reader.proofs.SpeltSteps.{IsKept, next_part_valued, value_kept}
 -- The reader stands behind a `}` at the start, and reads a part of a template there.
 pub record ReadsPartBehind (start : ℕ) (old : Reader) (before : List Diagnostic) (new : Reader)
     (after : List Diagnostic) (was now : TokenParts) (spelt : Spelt) : Type 0 where
-  pub old_placed : IsPlaced old.source
-  pub new_placed : IsPlaced new.source
   pub there : IsCharBoundary old.source.text start
   pub here : from_place old.source.text start ≡ right_curly_bracket ∷ rest old.source
   pub spells : Spells (next_part (right_curly_bracket ∷ rest old.source)) start old.source new.source before
@@ -35,15 +34,13 @@ pub record ReadsPartBehind (start : ℕ) (old : Reader) (before : List Diagnosti
 
 pub behind_curly_bracket : {before after : List Diagnostic} {was now : TokenParts} {spelt : Spelt} (start told : ℕ)
     (old new : Reader)
-    → IsPlaced old.source → IsPlaced new.source → IsCharBoundary old.source.text start
+    → IsCharBoundary old.source.text start
     → from_place old.source.text start ≡ right_curly_bracket ∷ rest old.source → told ≡ start
     → Spells (next_part (right_curly_bracket ∷ rest old.source)) told old.source new.source before after was now
     spelt
     → new.source_type ≡ old.source_type → ReadsPartBehind start old before new after was now spelt
-behind_curly_bracket {before} {after} {was} {now} {spelt} start told old new h g there here same spells
+behind_curly_bracket {before} {after} {was} {now} {spelt} start told old new there here same spells
     source_type = record {
-      old_placed = h;
-      new_placed = g;
       there = there;
       here = here;
       spells =
@@ -54,10 +51,11 @@ behind_curly_bracket {before} {after} {was} {now} {spelt} start told old new h g
     }
 
 -- the place behind the `}`
-pub behind_curly : (start : ℕ) (old : Reader) → IsPlaced old.source → IsCharBoundary old.source.text start
+pub behind_curly : (start : ℕ) (old : Reader) → IsCharBoundary old.source.text start
     → from_place old.source.text start ≡ right_curly_bracket ∷ rest old.source → start + 1 ≡ old.source.place
-behind_curly start old h there e =
-    sym (place_past old.source.text start old.source.place (right_curly_bracket ∷ []) h.utf8 there h.boundary e
+behind_curly start old there e =
+    sym (place_past old.source.text start old.source.place (right_curly_bracket ∷ []) old.source.placed.utf8 there
+    old.source.placed.boundary e
     ∙ ap (λ n. start + n) (one_byte right_curly_bracket (omega arith)))
 
 -- the token that was read
@@ -77,8 +75,8 @@ part_end : {start : ℕ} {old new : Reader} {before after : List Diagnostic} {wa
     → new.source.place ≡ start + size_of (next_part (from_place old.source.text start))
 part_end {start} {old} {new} read =
     taken_end old.source.text start new.source.place (next_part (from_place old.source.text start))
-    read.old_placed.utf8 read.there
-    (subst (λ (u : List ℕ). IsCharBoundary u new.source.place) read.spells.read.text read.new_placed.boundary)
+    old.source.placed.utf8 read.there
+    (subst (λ (u : List ℕ). IsCharBoundary u new.source.place) read.spells.read.text new.source.placed.boundary)
     (rw read.here (read.spells.read.left ∙ ap (λ u. from_place u new.source.place) read.spells.read.text))
     (rw read.here (part_is_taken TemplateMiddle TemplateTail right_curly_bracket (rest old.source)))
 
@@ -107,7 +105,7 @@ reads_next_part {start} {old} {new} {before} {after} {was} {now} {spelt} token r
       here = read.here;
       end =
           subst (IsCharBoundary old.source.text) end
-          (subst (λ (u : List ℕ). IsCharBoundary u new.source.place) spells.read.text read.new_placed.boundary);
+          (subst (λ (u : List ℕ). IsCharBoundary u new.source.place) spells.read.text new.source.placed.boundary);
       rest =
           spells.read.left ∙ ap (λ u. from_place u new.source.place) spells.read.text
           ∙ ap (from_place old.source.text) end;
@@ -137,10 +135,10 @@ reads_next_part {start} {old} {new} {before} {after} {was} {now} {spelt} token r
 
 -- and its value is kept
 pub next_part_kept : {start : ℕ} {old new : Reader} {before after : List Diagnostic} {was now : TokenParts}
-    {spelt : Spelt} (values kept : Values) → ReadsPartBehind start old before new after was now spelt
+    {spelt : Spelt} (values kept : Values) (read : ReadsPartBehind start old before new after was now spelt)
     → KeepsPart start spelt.value values kept
-    → IsKept (record { text = old.source.text; place = start }) values kept spelt.kind now.escaped
+    → IsKept (at_boundary old.source start read.there) values kept spelt.kind now.escaped
 next_part_kept {start} {old} values kept read keeps =
-    value_kept (record { text = old.source.text; place = start }) values kept start
+    value_kept (at_boundary old.source start read.there) values kept start
     (subst (λ h. IsValued true h (next_part (right_curly_bracket ∷ rest old.source))) (sym read.here)
     (next_part_valued (rest old.source))) refl read.spells keeps

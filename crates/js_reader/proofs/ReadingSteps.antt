@@ -14,7 +14,7 @@ use Rattle.js_text.specs.declared.source_type.SourceType.{SourceType}
 use Rattle.js_kind.specs.TokenParts.{TokenParts, default_parts}
 use Rattle.js_kind.specs.declared.kind.Kind.{Kind}
 use Rattle.js_kind.specs.declared.kind.Kind.TheVariants.{HashbangComment}
-use Rattle.js_source.specs.Source.{At, rest, IsPlaced}
+use Rattle.js_source.specs.Source.{At, rest}
 use Rattle.js_text.specs.declared.diagnostic.Diagnostic.{Diagnostic}
 use Rattle.js_grammar.specs.Gap.{Piece, WholeGap, is_prefix, is_reported, line_comment, whole_gap_piece, Pieces}
 use Rattle.js_grammar.specs.Gap.PieceKind.{reported_comment}
@@ -111,13 +111,13 @@ lexeme_recovered old new before after r rec nothing source_type errors = record 
 }
 
 -- What was read leads on: by its size.
-pub lexeme_onward : {before after : List Diagnostic} {l : Lexeme} (old new : Reader) → IsPlaced old.source
-    → IsPlaced new.source → ReadsLexeme old before l new after → old.source.place ≤ new.source.place
-lexeme_onward old new h g r =
+pub lexeme_onward : {before after : List Diagnostic} {l : Lexeme} (old new : Reader)
+    → ReadsLexeme old before l new after → old.source.place ≤ new.source.place
+lexeme_onward old new r =
     let there : IsCharBoundary old.source.text new.source.place =
-    subst (λ (u : List ℕ). IsCharBoundary u new.source.place) r.text g.boundary in
-    (taken_span old.source.text old.source.place new.source.place r.reading h.utf8 h.boundary there
-    (r.behind ∙ ap (λ u. from_place u new.source.place) r.text)
+    subst (λ (u : List ℕ). IsCharBoundary u new.source.place) r.text new.source.placed.boundary in
+    (taken_span old.source.text old.source.place new.source.place r.reading old.source.placed.utf8
+    old.source.placed.boundary there (r.behind ∙ ap (λ u. from_place u new.source.place) r.text)
     (here_is_taken old.source_type old.line_has_ended (rest old.source) r.reading r.here)).0
 
 -- the pieces of a gap have bytes
@@ -184,13 +184,13 @@ gap_to previous old before mid after first gap =
 
 -- and what was told of it, where a token behind it starts there, and nothing else was found but what is reported
 pub gap_told : (previous : Option TokenParts) (old : Reader) (before : FindingsBuilder) (mid : Reader)
-    (told : FindingsBuilder) (outcome : Outcome) (ds later : List Diagnostic) → IsPlaced old.source
-    → IsPlaced mid.source → (gap : SkipsWholeGap old before mid told) → outcome.token.start ≡ mid.source.place
+    (told : FindingsBuilder) (outcome : Outcome) (ds later : List Diagnostic)
+    → (gap : SkipsWholeGap old before mid told) → outcome.token.start ≡ mid.source.place
     → outcome.findings
     ≡ joined (gap_findings old.source_type previous old.source.place gap.skips.pieces outcome.token) (reports ds)
     → later ≡ told.errors ++ ds
     → AddsGap previous old.source_type old.source.place outcome before (record told { errors = later })
-gap_told previous old before mid told outcome ds later f h gap start found reports =
+gap_told previous old before mid told outcome ds later gap start found reports =
     let t = old.source_type in
     let pieces = gap.skips.pieces in
     let findings = gap_findings t previous old.source.place pieces outcome.token in
@@ -203,13 +203,12 @@ gap_told previous old before mid told outcome ds later f h gap start found repor
           pieces_have_bytes t old.line_has_ended (rest old.source) pieces mid.line_has_ended (rest mid.source)
           gap.skips.pieces_are;
       up_to =
-          omega
-          (arith, start, ends_behind old.source.place pieces, pieces_lead false old before mid told f h gap.skips);
+          omega (arith, start, ends_behind old.source.place pieces, pieces_lead false old before mid told gap.skips);
       comments = ap (λ (x : Findings). x.comments) found ∙ append-nil findings.comments;
       irregular = ap (λ (x : Findings). x.irregular) found ∙ append-nil findings.irregular;
       added =
           ap (λ es. record told { errors = es }) reports
-          ∙ ap (λ (f : FindingsBuilder). record f { errors = f.errors ++ ds }) gap.skips.adds
+          ∙ ap (λ (h : FindingsBuilder). record h { errors = h.errors ++ ds }) gap.skips.adds
           ∙ ap (λ es. record before { errors = es; deferred = before.deferred ++ deferred; trivia = trivia })
           (append_assoc before.errors errors ds)
           ∙ ap (λ es. record before {
@@ -222,27 +221,28 @@ gap_told previous old before mid told outcome ds later f h gap start found repor
     }
 
 -- the place behind the token that was read here
-pub token_end : {mid new : Reader} {before after : List Diagnostic} {token : TokenParts} → IsPlaced mid.source
+pub token_end : {mid new : Reader} {before after : List Diagnostic} {token : TokenParts}
     → (there : ReadsTokenHere mid before token new after)
     → new.source.place ≡ mid.source.place + size_of there.reads.reading
-token_end {mid} {new} h there =
+token_end {mid} {new} there =
     let read = there.reads in
-    taken_end mid.source.text mid.source.place new.source.place read.reading h.utf8 h.boundary
-    (subst (λ (u : List ℕ). IsCharBoundary u new.source.place) read.text there.placed.boundary)
+    taken_end mid.source.text mid.source.place new.source.place read.reading mid.source.placed.utf8
+    mid.source.placed.boundary
+    (subst (λ (u : List ℕ). IsCharBoundary u new.source.place) read.text new.source.placed.boundary)
     (read.behind ∙ ap (λ u. from_place u new.source.place) read.text)
     (here_is_taken mid.source_type mid.line_has_ended (rest mid.source) read.reading read.here)
 
 -- the token that stands behind a whole gap
 abbrev pub token_behind : (previous : Option TokenParts) (old : Reader) (before : FindingsBuilder) (mid : Reader)
-    (told : FindingsBuilder) (new : Reader) (later : List Diagnostic) (token : TokenParts) → IsPlaced old.source
-    → IsPlaced mid.source → line_has_ended_behind previous ≡ old.line_has_ended
+    (told : FindingsBuilder) (new : Reader) (later : List Diagnostic) (token : TokenParts)
+    → line_has_ended_behind previous ≡ old.line_has_ended
     → SkipsWholeGap old before mid told → ReadsTokenHere mid told.errors token new later
     → ReadsBehind previous old before token new (record told { errors = later })
-token_behind previous old before mid told new later token f h first gap there =
+token_behind previous old before mid told new later token first gap there =
     let read = there.reads in
     let text : new.source.text ≡ old.source.text = read.text ∙ gap.skips.text in
     let start = mid.source.place in
-    let end = token_end h there in
+    let end = token_end there in
     let pieces = gap.skips.pieces in
     let t = old.source_type in
     let outcome =
@@ -259,10 +259,10 @@ token_behind previous old before mid told new later token f h first gap there =
         pieces = pieces;
         line_has_ended = mid.line_has_ended;
         gap = gap_to previous old before mid told first gap;
-        start = subst (λ (u : List ℕ). IsCharBoundary u start) gap.skips.text h.boundary;
+        start = subst (λ (u : List ℕ). IsCharBoundary u start) gap.skips.text mid.source.placed.boundary;
         end =
             subst (IsCharBoundary old.source.text) end
-            (subst (λ (u : List ℕ). IsCharBoundary u new.source.place) text there.placed.boundary);
+            (subst (λ (u : List ℕ). IsCharBoundary u new.source.place) text new.source.placed.boundary);
         reading = read.reading;
         here =
             subst
@@ -276,7 +276,7 @@ token_behind previous old before mid told new later token f h first gap there =
         outcome_is = refl;
       };
       gap =
-          gap_told previous old before mid told outcome (reported_at start read.reading) later f h gap refl refl
+          gap_told previous old before mid told outcome (reported_at start read.reading) later gap refl refl
           read.errors;
     }
 
@@ -285,12 +285,12 @@ begins_at_start : (text : List ℕ) (place : ℕ) → place ≡ 0
 begins_at_start text place e = rw e refl
 
 pub hashbang_read : (old new : Reader) (mid : At) (token : TokenParts) (end : ℕ) → old.source.place ≡ 0
-    → IsPlaced new.source → StaysWithin old new → TakesSequence (codes "#!") old.source true mid
+    → StaysWithin old new → TakesSequence (codes "#!") old.source true mid
     → new.source.text ≡ mid.text → rest new.source ≡ from_first is_line_terminator (rest mid) → end ≡ new.source.place
     → token
     ≡ record default_parts { start = 0; end = end; kind = HashbangComment; is_on_new_line = new.line_has_ended }
     → IsHashbangRead old token new
-hashbang_read old new mid token end start g within takes same to f e =
+hashbang_read old new mid token end start within takes same to f e =
     let text : new.source.text ≡ old.source.text = same ∙ takes.0 in
     let here : from_place old.source.text 0 ≡ codes "#!" ++ rest mid =
     ap (from_place old.source.text) (sym start) ∙ takes.1 in
@@ -299,7 +299,7 @@ hashbang_read old new mid token end start g within takes same to f e =
     ∙ sym (ap (from_first is_line_terminator) here ∙ from_first-hashbang (rest mid)) in
     let boundary : IsCharBoundary old.source.text end =
     subst (λ (n : ℕ). IsCharBoundary old.source.text n) (sym f)
-    (subst (λ (u : List ℕ). IsCharBoundary u new.source.place) text g.boundary) in
+    (subst (λ (u : List ℕ). IsCharBoundary u new.source.place) text new.source.placed.boundary) in
     let made : TokenParts =
     record default_parts { start = 0; end = end; kind = HashbangComment; is_on_new_line = new.line_has_ended } in
     let whole : IsHashbangRead old made new = record {

@@ -1,4 +1,5 @@
 -- The steps of readings that need the source alone.
+use Rattle.js_source.proofs.Places.{same_at}
 use Rattle.std.proofs.Common.{◌≡◌, ◌<◌, ◌≤◌, ◌&&◌, ◌||◌, ◌==◌, not, ℕ, zero, suc, Bool, true, false, List, [], ◌∷◌}
 use Rattle.std.proofs.Common.{refl, sym, ◌∙◌, ap, subst}
 use Rattle.std.proofs.Common.{arith, Option, Some, None}
@@ -7,7 +8,7 @@ use Rattle.std.proofs.lemmas.Bool.{ne_eqb, eqb-true, leb-true, leb-false}
 use Rattle.std.specs.Char.{is_ascii_digit}
 use Rattle.js_text.proofs.CharacterLemmas.{start_in_ascii}
 use Rattle.js_text.specs.Ascii.{grave_accent, number_sign}
-use Rattle.js_text.specs.Characters.{begins, is_identifier_start}
+use Rattle.js_text.specs.Characters.{begins, from_place, is_identifier_start}
 use Rattle.js_text.specs.declared.comment.Comment.{Comment}
 use Rattle.js_text.specs.declared.diagnostic.Diagnostic.{Diagnostic}
 use Rattle.js_text.specs.declared.source_type.SourceType.{SourceType}
@@ -25,8 +26,8 @@ use Rattle.js_grammar.proofs.Flags.{punctuator_unflagged}
 use Rattle.js_grammar.proofs.GapLemmas.{none_behind, unreported}
 use Rattle.js_grammar.proofs.NumberClasses.{all_below, below}
 use Rattle.js_grammar.proofs.PieceLemmas.{piece-other, piece-minus, piece-angle}
-use Rattle.js_source.specs.Runs.{PassesRun, TellsClass, place_of}
-use Rattle.js_source.specs.Source.{At, rest, Reads, IsPlaced, HasFirstByte, HasFirstTwoBytes}
+use Rattle.js_source.specs.Runs.{PassesRun, TellsClass}
+use Rattle.js_source.specs.Source.{At, rest, Reads, IsPlaced, HasFirstByte, HasFirstTwoBytes, GoesTo}
 use Rattle.js_source.specs.Search.{matches_at}
 use Rattle.js_spell.specs.Name.{SpellsUnescapedName, SpellsUnescapedPrivateName}
 use Rattle.js_spell.specs.Numeric.{SpellsUnseparatedNumber}
@@ -54,32 +55,30 @@ use Rattle.js_reader.proofs.SpeltSteps.{string_here, template_here}
 use Rattle.js_reader.proofs.WholeSteps.{whole_at_once}
 
 -- nothing was passed yet
-pub none_passed : (start : At) (ended : Bool) → IsPlaced start → PassesPieces start ended start ended
-none_passed start ended h = record { from = h; placed = h; ends = 0; leads = λ r before later found skips. skips }
+pub none_passed : (start : At) (ended : Bool) → PassesPieces start ended start ended
+none_passed start ended = record { ends = 0; leads = λ r before later found skips. skips }
 
 -- a run of blanks
 pub blanks_passed : (table : List Bool) → TellsClass is_blank table → (start now next : At) (had has : Bool)
-    → PassesPieces start had now has → IsPlaced next → next.text ≡ now.text
+    → PassesPieces start had now has → next.text ≡ now.text
     → PassesRun table now.text now.place next.place → PassesPieces start had next has
-blanks_passed table tells start now next had has s g text run = record {
-  from = s.from;
-  placed = g;
+blanks_passed table tells start now next had has s text run = record {
   ends = s.ends;
   leads = λ r before later found skips.
       s.leads r before later found
-      (blanks_lead table tells (moved r now has) next (ends_told s.ends before) s.placed g text run later found skips);
+      (blanks_lead table tells (moved r now has) next (ends_told s.ends before) text run later found skips);
 }
 
 -- a run of one character
 run_of_one : (table : List Bool) (now next : At) (b : ℕ) → b < 128 → matches_at table b ≡ true
-    → rest now ≡ b ∷ rest next → next.text ≡ now.text → now.place ≤ next.place → IsPlaced next
+    → rest now ≡ b ∷ rest next → next.text ≡ now.text → now.place ≤ next.place
     → PassesRun table now.text now.place next.place
-run_of_one table now next b small has here text onward g = record {
+run_of_one table now next b small has here text onward = record {
   onward = onward;
-  placed = subst (λ t. IsPlaced (place_of t next.place)) text g;
+  placed = subst (λ t. IsPlaced t next.place) text next.placed;
   run = b ∷ [];
   all = (small, has, tt);
-  here = here ∙ ap (λ t. b ∷ rest (place_of t next.place)) text;
+  here = here ∙ ap (λ t. b ∷ from_place t next.place) text;
 }
 
 pub blank_is_ascii : (table : List Bool) (b : ℕ) → TellsClass is_blank table → matches_at table b ≡ true → b < 128
@@ -88,30 +87,26 @@ blank_is_ascii table b tells is = small_of table b tells.ascii is
 -- one blank
 pub blank_passed : (table : List Bool) → TellsClass is_blank table → (start now next : At) (had has : Bool) (b : ℕ)
     → PassesPieces start had now has → matches_at table b ≡ true → rest now ≡ b ∷ rest next → next.text ≡ now.text
-    → now.place ≤ next.place → IsPlaced next → PassesPieces start had next has
-blank_passed table tells start now next had has b s is here text onward g =
-    blanks_passed table tells start now next had has s g text
-    (run_of_one table now next b (blank_is_ascii table b tells is) is here text onward g)
+    → now.place ≤ next.place → PassesPieces start had next has
+blank_passed table tells start now next had has b s is here text onward =
+    blanks_passed table tells start now next had has s text
+    (run_of_one table now next b (blank_is_ascii table b tells is) is here text onward)
 
 -- a line feed
 pub line_feed_passed : (start now next : At) (had has : Bool) → PassesPieces start had now has
-    → rest now ≡ 10 ∷ rest next → next.text ≡ now.text → IsPlaced next → PassesPieces start had next true
-line_feed_passed start now next had has s here text g = record {
-  from = s.from;
-  placed = g;
+    → rest now ≡ 10 ∷ rest next → next.text ≡ now.text → PassesPieces start had next true
+line_feed_passed start now next had has s here text = record {
   ends = suc s.ends;
   leads = λ r before later found skips.
       s.leads r before later found
       ((line_feed_skipped (moved r now has) (ends_told s.ends before) next (ends_told (suc s.ends) before).trivia
-      s.placed g text here refl).leads later found skips);
+      text here refl).leads later found skips);
 }
 
 -- the gap has ended
 pub gap_passed : (start now : At) (had has : Bool) → PassesPieces start had now has → EndsGap has (rest now)
     → PassesSimpleGap start had now has
 gap_passed start now had has s ends = record {
-  from = s.from;
-  placed = s.placed;
   ends = s.ends;
   skips = λ r before.
       let none = none_behind r.source_type has (rest now) (ends r.source_type) in
@@ -296,7 +291,7 @@ behind_simple_gap previous r old had mid has before token new later first gap th
     goal_behind Next previous (moved r old had) before token new (record (ends_told gap.ends before) { errors = later })
     refl refl
     (token_behind previous (moved r old had) before (moved r mid has) (ends_told gap.ends before) new later token
-    gap.from gap.placed first (gap.skips r before) there)
+    first (gap.skips r before) there)
 
 -- line ends that no comment stands between are forgotten at the next token
 step : (attached pending : List Comment) (saw for_comment : Bool) (previous token : TokenParts) → pending ≡ []
@@ -346,10 +341,9 @@ token_moves_on old new r = record {
 }
 
 -- a source that goes to the place of another one over the same text is that
-pub moved_on : (old new behind : At) (place : ℕ) → new ≡ record old { place = place } → place ≡ behind.place
+pub moved_on : (old new behind : At) (place : ℕ) → GoesTo place old new → place ≡ behind.place
     → behind.text ≡ old.text → new ≡ behind
-moved_on old new behind place is at text =
-    is ∙ ap (λ n. place_of old.text n) at ∙ ap (λ t. place_of t behind.place) (sym text)
+moved_on old new behind place to at text = same_at new behind (to.text ∙ sym text) (to.there ∙ at)
 
 -- a token that was read behind a simple gap is one of the same text
 pub plain_text : (r : Reader) (before : FindingsBuilder) (old : At) (had : Bool) (token : TokenParts) (new : At)
@@ -359,20 +353,20 @@ plain_text r before old had token new p = (p.here r []).reads.text ∙ (p.gap.sk
 -- and that of a simple spelling is one of a token
 pub simple_token : (old mid new : At) (had has : Bool) (kind : Kind) (token : TokenParts)
     → PassesSimpleGap old had mid has
-    → SpellsSimply has mid new kind → IsPlaced new → token ≡ lexeme_token mid.place new.place (simple_lexeme kind has)
+    → SpellsSimply has mid new kind → token ≡ lexeme_token mid.place new.place (simple_lexeme kind has)
     → ReadsSimpleToken old had token new
-simple_token old mid new had has kind token gap spells g is = record {
+simple_token old mid new had has kind token gap spells is = record {
   mid = mid;
   line_has_ended = has;
   gap = gap;
-  here = λ r errors. record { lexeme = simple_lexeme kind has; reads = spells r errors; token_is = is; placed = g };
+  here = λ r errors. record { lexeme = simple_lexeme kind has; reads = spells r errors; token_is = is };
   escaped = ap (λ t. t.escaped) is;
 }
 
-pub simple_onward : (ended : Bool) (old new : At) (kind : Kind) (r : Reader) → IsPlaced old → IsPlaced new
-    → SpellsSimply ended old new kind → old.place ≤ new.place
-simple_onward ended old new kind r h g spells =
-    lexeme_onward (moved r old ended) (moved r new ended) h g (spells r [])
+pub simple_onward : (ended : Bool) (old new : At) (kind : Kind) (r : Reader) → SpellsSimply ended old new kind
+    → old.place ≤ new.place
+simple_onward ended old new kind r spells =
+    lexeme_onward (moved r old ended) (moved r new ended) (spells r [])
 
 -- where a gap has ended, whatever source it is
 pub gap_ends : (r : Reader) (before : FindingsBuilder) (old : At) (had : Bool) (new : At) (has : Bool)
@@ -387,21 +381,21 @@ simple_string ended old new kind begun spells r =
     λ errors. lexeme_as here (moved r new ended) (string_here here begun) refl refl (spells errors default_parts) refl
 
 -- a template, or its first part, without an escape
-pub simple_template : (ended : Bool) (old mid new : At) (kind : Kind) → IsPlaced old → IsPlaced mid
-    → Reads old mid grave_accent → SpellsUnescapedPart TemplateHead NoSubstitutionTemplate mid new kind
+pub simple_template : (ended : Bool) (old mid new : At) (kind : Kind) → Reads old mid grave_accent
+    → SpellsUnescapedPart TemplateHead NoSubstitutionTemplate mid new kind
     → SpellsSimply ended old new kind
-simple_template ended old mid new kind h g reads spells r =
+simple_template ended old mid new kind reads spells r =
     let here = moved r old ended in
-    let behind = behind_mark grave_accent old mid (omega arith) h g reads in
+    let behind = behind_mark grave_accent old mid (omega arith) reads in
     λ errors. lexeme_as here (moved r new ended) (template_here here mid reads) refl reads.text
     (spells grave_accent old.place behind errors default_parts) refl
 
 -- a private name without an escape
-pub simple_private : (ended : Bool) (old mid new : At) (kind : Kind) → IsPlaced old → IsPlaced mid
-    → Reads old mid number_sign → SpellsUnescapedPrivateName mid new kind → SpellsSimply ended old new kind
-simple_private ended old mid new kind h g reads spells r =
+pub simple_private : (ended : Bool) (old mid new : At) (kind : Kind) → Reads old mid number_sign
+    → SpellsUnescapedPrivateName mid new kind → SpellsSimply ended old new kind
+simple_private ended old mid new kind reads spells r =
     let here = moved r old ended in
-    let behind = behind_mark number_sign old mid (omega arith) h g reads in
+    let behind = behind_mark number_sign old mid (omega arith) reads in
     λ errors. lexeme_as here (moved r new ended) (private_here here mid reads) refl reads.text
     (spells old.place behind errors default_parts) refl
 
@@ -432,7 +426,7 @@ spelled_from r here new kind same spells none =
     subst (λ (a : At). SpellsFor r r.line_has_ended a new kind) same
     (spells (subst (λ (a : At). whole_gap_piece r.source_type r.line_has_ended (rest a) ≡ None) (sym same) none))
 
-pub spelled_onward : (r : Reader) (new : At) (kind : Kind) → IsPlaced r.source → IsPlaced new
-    → SpellsFor r r.line_has_ended r.source new kind → r.source.place ≤ new.place
-spelled_onward r new kind h g spells =
-    lexeme_onward r (moved r new r.line_has_ended) h g (spells [])
+pub spelled_onward : (r : Reader) (new : At) (kind : Kind) → SpellsFor r r.line_has_ended r.source new kind
+    → r.source.place ≤ new.place
+spelled_onward r new kind spells =
+    lexeme_onward r (moved r new r.line_has_ended) (spells [])

@@ -10,7 +10,7 @@ use Rattle.js_kind.specs.TokenParts.{TokenParts}
 use Rattle.js_kind.specs.declared.kind.Kind.{Kind}
 use Rattle.js_kind.specs.declared.kind.Kind.TheVariants.{NoSubstitutionTemplate, TemplateHead, TemplateMiddle}
 use Rattle.js_kind.specs.declared.kind.Kind.TheVariants.{TemplateTail}
-use Rattle.js_source.specs.Source.{At, rest, Reads, IsPlaced, BeginsWith, StepsPast}
+use Rattle.js_source.specs.Source.{At, rest, Reads, BeginsWith, StepsPast}
 use Rattle.js_grammar.specs.Goals.{ReadsHere, next_part}
 use Rattle.js_grammar.specs.Name.{begins_name, name_reading, private_reading}
 use Rattle.js_grammar.specs.Number.{begins_number}
@@ -288,7 +288,7 @@ takes_backquote old mid begun past =
     record { text = after.0; here = here ∙ ap (λ ds. grave_accent ∷ ds) (sym after.1) }
 
 -- which is one byte
-pub behind_mark : (mark : ℕ) (old mid : At) → mark < 128 → IsPlaced old → IsPlaced mid → Reads old mid mark
+pub behind_mark : (mark : ℕ) (old mid : At) → mark < 128 → Reads old mid mark
     → old.place + 1 ≡ mid.place
-behind_mark mark old mid low h g reads =
-    sym (leads_to old mid (mark ∷ []) h g reads.text reads.here ∙ ap (λ n. old.place + n) (one_byte mark low))
+behind_mark mark old mid low reads =
+    sym (leads_to old mid (mark ∷ []) reads.text reads.here ∙ ap (λ n. old.place + n) (one_byte mark low))

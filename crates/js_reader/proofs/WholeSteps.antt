@@ -9,7 +9,7 @@ use Rattle.js_text.specs.declared.comment.CommentKind.TheVariants.{HtmlOpen}
 use Rattle.js_text.specs.declared.diagnostic.Diagnostic.TheVariants.{HtmlCommentInModule}
 use Rattle.js_text.specs.declared.source_type.SourceType.{SourceType}
 use Rattle.js_text.proofs.TextLemmas.{place_past, length-from_first, before_from}
-use Rattle.js_source.specs.Source.{At, rest, IsPlaced}
+use Rattle.js_source.specs.Source.{At, rest}
 use Rattle.js_grammar.specs.Gap.{Piece, piece, is_prefix, line_comment, is_reported, whole_gap_piece, Pieces}
 use Rattle.js_grammar.specs.Gap.PieceKind.{reported_comment}
 use Rattle.js_grammar.specs.Reading.{place_behind}
@@ -30,30 +30,31 @@ use Rattle.js_reader.proofs.TriviaSteps.{nothing_added}
 
 -- the place behind the pieces that were skipped
 pub pieces_lead : (behind : Bool) (old : Reader) (before : FindingsBuilder) (new : Reader) (after : FindingsBuilder)
-    → IsPlaced old.source → IsPlaced new.source → (s : SkipsPieces behind old before new after)
+    → (s : SkipsPieces behind old before new after)
     → new.source.place ≡ place_behind old.source.place (piece_texts s.pieces)
-pieces_lead behind old before new after h g s =
+pieces_lead behind old before new after s =
     let there : IsCharBoundary old.source.text new.source.place =
-    subst (λ (u : List ℕ). IsCharBoundary u new.source.place) s.text g.boundary in
+    subst (λ (u : List ℕ). IsCharBoundary u new.source.place) s.text new.source.placed.boundary in
     let way : rest old.source ≡ piece_texts s.pieces ++ from_place old.source.text new.source.place =
     pieces_text old.source_type old.line_has_ended (rest old.source) s.pieces new.line_has_ended
     (rest new.source) s.pieces_are
     ∙ ap (λ u. piece_texts s.pieces ++ from_place u new.source.place) s.text in
-    place_past old.source.text old.source.place new.source.place (piece_texts s.pieces) h.utf8 h.boundary there way
+    place_past old.source.text old.source.place new.source.place (piece_texts s.pieces) old.source.placed.utf8
+    old.source.placed.boundary there way
 
 -- pieces, and then more pieces
 pub skips_further : (behind : Bool) (old : Reader) (before : FindingsBuilder) (mid : Reader) (told : FindingsBuilder)
-    (new : Reader) (after : FindingsBuilder) → IsPlaced old.source → IsPlaced mid.source
-    → SkipsPieces behind old before mid told → ((ends : Bool) → SkipsPieces ends mid told new after)
+    (new : Reader) (after : FindingsBuilder) → SkipsPieces behind old before mid told → ((ends : Bool)
+    → SkipsPieces ends mid told new after)
     → SkipsPieces behind old before new after
-skips_further behind old before mid told new after h g a all =
+skips_further behind old before mid told new after a all =
     let b = all (ends_line behind a.pieces) in
     let later : Pieces (whole_gap_piece old.source_type) mid.line_has_ended
     (rest mid.source) b.pieces new.line_has_ended (rest new.source) =
     subst
     (λ t. Pieces (whole_gap_piece t) mid.line_has_ended (rest mid.source) b.pieces new.line_has_ended
     (rest new.source)) a.source_type b.pieces_are in
-    let there = pieces_lead behind old before mid told h g a in
+    let there = pieces_lead behind old before mid told a in
     let adds : AddsPieces (ends_line behind a.pieces) old.source_type
     (place_behind old.source.place (piece_texts a.pieces)) b.pieces told after =
     subst (λ t. AddsPieces (ends_line behind a.pieces) t (place_behind old.source.place (piece_texts a.pieces)) b.pieces
@@ -102,14 +103,13 @@ line_shorter here left behind e f =
 
 -- a reported comment, and the longest gap behind it
 pub reported_skips : (old : Reader) (before : FindingsBuilder) (line told : Reader) (found noted : FindingsBuilder)
-    (new : Reader) (after : FindingsBuilder) → IsPlaced old.source → IsPlaced line.source
-    → is_module old.source_type ≡ true → old.line_has_ended ≡ true
+    (new : Reader) (after : FindingsBuilder) → is_module old.source_type ≡ true → old.line_has_ended ≡ true
     → IsBehindLine HtmlOpen old before line found
     → told.source ≡ line.source → told.source_type ≡ line.source_type → told.line_has_ended ≡ line.line_has_ended
     → noted
     ≡ noting (HtmlCommentInModule (record { start = old.source.place; end = old.source.place + 4 }) ∷ []) found
     → SkipsGap true told noted new after → SkipsReported old before true new after
-reported_skips old before line told found noted new after h g module_is line_ended is source source_type line_has_ended
+reported_skips old before line told found noted new after module_is line_ended is source source_type line_has_ended
     noted_is gap =
     let t = old.source_type in
     let comment = line_comment reported_comment old.line_has_ended (rest old.source) in
@@ -124,7 +124,7 @@ reported_skips old before line told found noted new after h g module_is line_end
     let same_line : told.line_has_ended ≡ old.line_has_ended = line_has_ended ∙ is.stays.line_has_ended in
     let place : told.source.place ≡ old.source.place + piece_length comment =
     ap (λ (a : At). a.place) source
-    ∙ on_to old.source line.source comment.text h g is.text
+    ∙ on_to old.source line.source comment.text is.text
     (sym (before_from is_line_terminator (rest old.source)) ∙ ap (λ cs. comment.text ++ cs) (sym is.left)) in
     let whole =
     whole_pieces_of told.source_type told.line_has_ended (rest told.source) pieces new.line_has_ended
@@ -199,22 +199,19 @@ skips_none old before =
 pub record SkipsSoFar (old : Reader) (before : FindingsBuilder) (now : Reader) (found : FindingsBuilder) : Type 0 where
   pub skips : SkipsPieces false old before now found
   pub no_piece : piece now.source_type now.line_has_ended (rest now.source) ≡ None
-  pub placed : IsPlaced now.source
   pub grown : Grows before found
 
-pub none_so_far : (old : Reader) (before : FindingsBuilder) → IsPlaced old.source
-    → piece old.source_type old.line_has_ended (rest old.source) ≡ None → SkipsSoFar old before old before
-none_so_far old before h none =
-    record { skips = skips_none old before; no_piece = none; placed = h; grown = grows_none before }
+pub none_so_far : (old : Reader) (before : FindingsBuilder) → piece old.source_type old.line_has_ended (rest
+    old.source) ≡ None → SkipsSoFar old before old before
+none_so_far old before none =
+    record { skips = skips_none old before; no_piece = none; grown = grows_none before }
 
-pub so_far : (old mid new : Reader) (before found after : FindingsBuilder) → IsPlaced old.source
-    → SkipsSoFar old before mid found → SkipsReported mid found true new after → IsPlaced new.source
-    → Grows found after → SkipsSoFar old before new after
-so_far old mid new before found after h s r g grown =
+pub so_far : (old mid new : Reader) (before found after : FindingsBuilder) → SkipsSoFar old before mid found
+    → SkipsReported mid found true new after → Grows found after → SkipsSoFar old before new after
+so_far old mid new before found after s r grown =
     record {
-      skips = skips_further false old before mid found new after h s.placed s.skips r.0;
+      skips = skips_further false old before mid found new after s.skips r.0;
       no_piece = r.1;
-      placed = g;
       grown = grows_on before found after s.grown grown;
     }
 
@@ -239,14 +236,14 @@ any_flag ends t line_had_ended cs place (x ∷ xs) line_has_ended left before af
     by_test false e = absurd (let both : None ≡ Some x = sym none ∙ sym (unreported t line_had_ended cs e) ∙ h.0 in cc)
 
 -- a longest gap, and then the rest of the whole gap
-pub whole_behind : (old mid new : Reader) (before found after : FindingsBuilder) → IsPlaced old.source
-    → IsPlaced mid.source → SkipsGap false old before mid found → SkipsWholeGap mid found new after
+pub whole_behind : (old mid new : Reader) (before found after : FindingsBuilder)
+    → SkipsGap false old before mid found → SkipsWholeGap mid found new after
     → SkipsWholeGap old before new after
-whole_behind old mid new before found after h g gap whole =
+whole_behind old mid new before found after gap whole =
     let rest_of = whole.skips in
     record {
       skips =
-          skips_further false old before mid found new after h g (gap_pieces old mid before found gap) (λ ends. record {
+          skips_further false old before mid found new after (gap_pieces old mid before found gap) (λ ends. record {
             text = rest_of.text;
             source_type = rest_of.source_type;
             pieces = rest_of.pieces;

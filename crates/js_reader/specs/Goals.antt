@@ -6,7 +6,7 @@ use Rattle.js_text.specs.declared.diagnostic.Diagnostic.{Diagnostic}
 use Rattle.js_text.specs.declared.reg_exp_flags.RegexInfo.{RegexInfo}
 use Rattle.js_kind.specs.TokenParts.{TokenParts}
 use Rattle.js_grammar.specs.declared.goal.Goal.TheVariants.{JsxIdentifier, RegularExpression}
-use Rattle.js_source.specs.Source.{rest, IsPlaced}
+use Rattle.js_source.specs.Source.{rest}
 use Rattle.js_grammar.specs.Jsx.{jsx_string_reading}
 use Rattle.js_grammar.specs.Reading.{Reading, reported_at}
 use Rattle.js_grammar.specs.StringItems.{is_quote}
@@ -41,7 +41,6 @@ pub record ReadsStringHere (old : Reader) (before : List Diagnostic) (token : To
   pub read : jsx_string_reading (rest old.source) ≡ Some found
   pub token_is : token ≡ read_token old.line_has_ended old.source.place new.source.place found.kind
   pub left : found.rest ≡ rest new.source
-  pub placed : IsPlaced new.source
   pub errors : after ≡ before ++ reported_at old.source.place found
 
 -- The value of an attribute was read where the reader stood: a string, or the token that is there.

@@ -31,7 +31,7 @@ use Rattle.js_reader.specs.Gaps.{AddsPieces, opening_sequence, piece_kind}
 use Rattle.js_reader.specs.declared.findings_builder.FindingsBuilder.{FindingsBuilder}
 use Rattle.js_reader.specs.declared.lexeme.Lexeme.{Lexeme}
 use Rattle.js_reader.specs.declared.reader.Reader.{Reader}
-use Rattle.js_source.specs.Source.{rest, IsPlaced}
+use Rattle.js_source.specs.Source.{rest}
 
 -- Nothing but the place of the source may have changed.
 pub record StaysWithin (old new : Reader) : Type 0 where
@@ -64,7 +64,6 @@ pub record SkipsSome (old : Reader) (before : FindingsBuilder) (new : Reader) (a
   pub source_type : new.source_type ≡ old.source_type
   pub leads : Leads false old before false new after
   pub fewer : length (rest new.source) < length (rest old.source)
-  pub placed : IsPlaced new.source
 
 -- Pieces of a gap were skipped; or none begins here, and nothing has changed.
 abbrev pub SkipsPiece : Reader → FindingsBuilder → Bool → Reader → FindingsBuilder → Type 0
@@ -195,7 +194,6 @@ pub record ReadsTokenHere (old : Reader) (before : List Diagnostic) (token : Tok
   pub lexeme : Lexeme
   pub reads : ReadsLexeme old before lexeme new after
   pub token_is : token ≡ lexeme_token old.source.place new.source.place lexeme
-  pub placed : IsPlaced new.source
 
 -- What was found is that of the outcome, and the gap before its token was told of; `previous` is the token before it,
 -- if

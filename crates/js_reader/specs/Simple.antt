@@ -6,7 +6,7 @@ use Rattle.js_text.specs.declared.source_type.SourceType.{SourceType}
 use Rattle.js_grammar.specs.Gap.{whole_gap_piece}
 use Rattle.js_kind.specs.TokenParts.{TokenParts}
 use Rattle.js_kind.specs.declared.kind.Kind.{Kind}
-use Rattle.js_source.specs.Source.{At, rest, IsPlaced, HasFirstByte}
+use Rattle.js_source.specs.Source.{At, rest, HasFirstByte}
 use Rattle.js_trivia.specs.Trivia.{Trivia, handle_newline}
 use Rattle.js_reader.specs.Reader.{simple_lexeme, Leads, SkipsWholeGap, ReadsLexeme, ReadsTokenHere}
 use Rattle.js_reader.specs.declared.findings_builder.FindingsBuilder.{FindingsBuilder}
@@ -29,8 +29,6 @@ ends_told n found = record found { trivia = after_ends n found.trivia }
 
 -- Pieces of a gap were passed of which there is nothing to tell but line ends, whatever reader stands there.
 pub record PassesPieces (old : At) (line_had_ended : Bool) (new : At) (line_has_ended : Bool) : Type 0 where
-  pub from : IsPlaced old
-  pub placed : IsPlaced new
   pub ends : ℕ
   pub leads : (r : Reader) (before : FindingsBuilder)
       → Leads false (moved r old line_had_ended) before false (moved r new line_has_ended) (ends_told ends before)
@@ -43,8 +41,6 @@ pub record GoesOnWithGap (old : At) (line_had_ended : Bool) (new : At) (line_has
 
 -- A whole gap was passed in which there is nothing to tell of but line ends, whatever reader stands there.
 pub record PassesSimpleGap (old : At) (line_had_ended : Bool) (new : At) (line_has_ended : Bool) : Type 0 where
-  pub from : IsPlaced old
-  pub placed : IsPlaced new
   pub ends : ℕ
   pub skips : (r : Reader) (before : FindingsBuilder)
       → SkipsWholeGap (moved r old line_had_ended) before (moved r new line_has_ended) (ends_told ends before)

@@ -5,7 +5,6 @@ ghost use Rattle.std.specs.Str.{IsCharBoundary};
 ghost use Rattle.js_text.specs.Ascii.{greater_than_sign, less_than_sign};
 ghost use Rattle.js_text.specs.Characters.{begins, from_place};
 ghost use Rattle.js_kind.specs.TokenParts.{TokenParts};
-ghost use Rattle.js_source.specs.Source.{IsPlaced};
 ghost use Rattle.js_reader.specs.Reader.{ReadsSilently};
 
 use crate::reader::Reader;
@@ -17,12 +16,10 @@ use js_spell::read_right_angle;
 impl Reader<'_> {
     /// Reads the longest punctuator that begins with the `>` at the offset.
     pub fn read_longest_right_angle(&mut self, start: u32) -> Token
-        requires placed { IsPlaced self.old.source }
         requires boundary { IsCharBoundary self.old.source.text start }
         requires here { begins (λ c. c == greater_than_sign) (from_place self.old.source.text start) ≡ true }
-        ensures reads { (before : TokenParts) → before.start ≡ start
+        ensures { (before : TokenParts) → before.start ≡ start
             → ReadsSilently Goal.RightAngle (Some before) self.old result self.new }
-        ensures placed { IsPlaced self.new.source }
     {
         go_behind(&mut self.source, start);
         let kind = read_right_angle(&mut self.source);
@@ -31,12 +28,10 @@ impl Reader<'_> {
 
     /// Reads the `<` at the offset alone.
     pub fn read_left_angle(&mut self, start: u32) -> Token
-        requires placed { IsPlaced self.old.source }
         requires boundary { IsCharBoundary self.old.source.text start }
         requires here { begins (λ c. c == less_than_sign) (from_place self.old.source.text start) ≡ true }
-        ensures reads { (before : TokenParts) → before.start ≡ start
+        ensures { (before : TokenParts) → before.start ≡ start
             → ReadsSilently Goal.TypeScriptLeftAngle (Some before) self.old result self.new }
-        ensures placed { IsPlaced self.new.source }
     {
         go_behind(&mut self.source, start);
         token_from(&self.source, start, Kind::LAngle, false)
@@ -44,12 +39,10 @@ impl Reader<'_> {
 
     /// Reads the `>` at the offset alone.
     pub fn read_right_angle(&mut self, start: u32) -> Token
-        requires placed { IsPlaced self.old.source }
         requires boundary { IsCharBoundary self.old.source.text start }
         requires here { begins (λ c. c == greater_than_sign) (from_place self.old.source.text start) ≡ true }
-        ensures reads { (before : TokenParts) → before.start ≡ start
+        ensures { (before : TokenParts) → before.start ≡ start
             → ReadsSilently Goal.TypeScriptRightAngle (Some before) self.old result self.new }
-        ensures placed { IsPlaced self.new.source }
     {
         go_behind(&mut self.source, start);
         token_from(&self.source, start, Kind::RAngle, false)

@@ -6,7 +6,7 @@ ghost use Rattle.js_text.specs.Ascii.{slash, less_than_sign, hyphen_minus};
 ghost use Rattle.js_text.specs.Characters.{is_white_space, is_line_terminator};
 ghost use Rattle.js_text.specs.declared.source_type.SourceType.{SourceType};
 ghost use Rattle.js_grammar.specs.Gap.{piece, is_reported};
-ghost use Rattle.js_source.specs.Source.{rest, BeginsWith, IsPlaced};
+ghost use Rattle.js_source.specs.Source.{rest, BeginsWith};
 ghost use Rattle.js_source.specs.Runs.{PassesRun, TellsClass};
 ghost use Rattle.js_reader.specs.Found.{Grows};
 ghost use Rattle.js_reader.specs.Gaps.{BeginsNoPiece};
@@ -35,7 +35,6 @@ pub fn skip_blanks(source: &mut Source<'_>, table: &[bool; 256])
     ensures text { source.new.text ≡ source.old.text }
     ensures run { PassesRun table.now source.old.text source.old.place source.new.place }
     ensures fewer { length (rest source.new) ≤ length (rest source.old) }
-    ensures placed { IsPlaced source.new }
 {
     source.pass_ascii(table);
 }
@@ -57,7 +56,6 @@ fn is_none_reported(source: &Source<'_>, line_has_ended: bool) -> bool
 impl Reader<'_> {
     /// Reads a character of white space or a line terminator.
     fn skip_character(&mut self, found: &mut FindingsBuilder, c: char) -> Result<bool, AllocError>
-        requires placed { IsPlaced self.old.source }
         requires next { BeginsWith c (rest self.old.source) }
         requires slash { c ≡ slash → ⊥ }
         requires angle { c ≡ less_than_sign → ⊥ }
@@ -78,7 +76,6 @@ impl Reader<'_> {
     /// Reads a piece of any form; `skip_piece` has the common forms first.
     #[inline(never)]
     fn skip_any_piece(&mut self, found: &mut FindingsBuilder) -> Result<bool, AllocError>
-        requires placed { IsPlaced self.old.source }
         ensures ok { IfOk result (λ skipped. SkipsPiece self.old found.old skipped self.new found.new) }
         ensures grown { Grows found.old found.new }
         ensures err { OnErr result (MovesOn self.old self.new) }
@@ -95,7 +92,6 @@ impl Reader<'_> {
     /// Skips the piece of a gap that begins here, and tells whether one does.
     #[inline(always)]
     fn skip_piece(&mut self, found: &mut FindingsBuilder) -> Result<bool, AllocError>
-        requires placed { IsPlaced self.old.source }
         ensures ok { IfOk result (λ skipped. SkipsPiece self.old found.old skipped self.new found.new) }
         ensures grown { Grows found.old found.new }
         ensures err { OnErr result (MovesOn self.old self.new) }
@@ -115,9 +111,7 @@ impl Reader<'_> {
     /// Skips the longest gap.
     #[inline(always)]
     fn skip_gap(&mut self, found: &mut FindingsBuilder) -> Result<(), AllocError>
-        requires { IsPlaced self.old.source }
         ensures ok { OnOk result (SkipsGap false self.old found.old self.new found.new) }
-        ensures placed { OnOk result (IsPlaced self.new.source) }
         ensures grown { Grows found.old found.new }
         ensures err { OnErr result (MovesOn self.old self.new) }
     {
@@ -131,9 +125,7 @@ impl Reader<'_> {
     /// Reads and reports a comment that a module may not have, with the gap behind it, and tells whether there is one.
     #[inline(never)]
     fn skip_reported(&mut self, found: &mut FindingsBuilder) -> Result<bool, AllocError>
-        requires { IsPlaced self.old.source }
         ensures ok { IfOk result (λ skipped. SkipsReported self.old found.old skipped self.new found.new) }
-        ensures placed { OnOk result (IsPlaced self.new.source) }
         ensures grown { Grows found.old found.new }
         ensures err { OnErr result (MovesOn self.old self.new) }
     {
@@ -157,8 +149,7 @@ impl Reader<'_> {
     /// Goes on with a whole gap, where a longest gap without reported comments has ended.
     #[inline(never)]
     fn skip_all_reported(&mut self, found: &mut FindingsBuilder) -> Result<(), AllocError>
-        requires placed { IsPlaced self.old.source }
-        requires gap { piece self.old.source_type self.old.line_has_ended (rest self.old.source) ≡ None }
+        requires { piece self.old.source_type self.old.line_has_ended (rest self.old.source) ≡ None }
         ensures ok { OnOk result (SkipsWholeGap self.old found.old self.new found.new) }
         ensures grown { Grows found.old found.new }
         ensures err { OnErr result (MovesOn self.old self.new) }
@@ -170,7 +161,6 @@ impl Reader<'_> {
     /// Skips a whole gap, and reports the comments in it that a module may not have. Most gaps have none.
     #[inline(always)]
     pub fn skip_whole_gap(&mut self, found: &mut FindingsBuilder) -> Result<(), AllocError>
-        requires { IsPlaced self.old.source }
         ensures ok { OnOk result (SkipsWholeGap self.old found.old self.new found.new) }
         ensures grown { Grows found.old found.new }
         ensures err { OnErr result (MovesOn self.old self.new) }

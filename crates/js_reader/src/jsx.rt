@@ -1,11 +1,11 @@
 //! Reading parts of JSX.
 
-ghost use Rattle.std.specs.Prelude.{◌≡◌, ◌≤◌, true, IfOk, OnErr, OnOk, Option, None};
+ghost use Rattle.std.specs.Prelude.{◌≡◌, ◌≤◌, true, IfOk, OnErr, Option, None};
 ghost use Rattle.std.specs.Str.{IsCharBoundary};
 ghost use Rattle.js_kind.specs.TokenParts.{TokenParts};
 ghost use Rattle.js_grammar.specs.Gap.{whole_gap_piece};
 ghost use Rattle.js_grammar.specs.Goals.{line_has_ended_behind};
-ghost use Rattle.js_source.specs.Source.{rest, IsPlaced};
+ghost use Rattle.js_source.specs.Source.{rest};
 ghost use Rattle.js_text.specs.Characters.{begins};
 ghost use Rattle.js_grammar.specs.StringItems.{is_quote};
 ghost use Rattle.js_reader.specs.Decoded.{HasValue, KeepsValues};
@@ -38,11 +38,9 @@ impl Reader<'_> {
     /// Reads a name of JSX on, that begins at the offset and whose part up to the first `-` ends here. None: no `-` is
     /// next, and nothing was read.
     pub fn read_jsx_name(&mut self, start: u32) -> Option<Token>
-        requires placed { IsPlaced self.old.source }
         requires boundary { IsCharBoundary self.old.source.text start }
         requires ordered { start ≤ self.old.source.place }
-        ensures reads { ReadsNameOn start self.old result self.new }
-        ensures placed { IsPlaced self.new.source }
+        ensures { ReadsNameOn start self.old result self.new }
     {
         if !read_jsx_identifier(&mut self.source) {
             return None;
@@ -52,13 +50,11 @@ impl Reader<'_> {
 
     /// Reads what stands between two tags of JSX.
     pub fn read_child(&mut self, found: &mut FindingsBuilder) -> Result<Token, AllocError>
-        requires { IsPlaced self.old.source }
         ensures ok { IfOk result (λ token. (previous : Option TokenParts)
             → line_has_ended_behind previous ≡ self.old.line_has_ended
             → ReadsWithGap Goal.JsxChild previous self.old found.old token self.new found.new) }
         ensures grown { Grows found.old found.new }
         ensures err { OnErr result (MovesOn self.old self.new) }
-        ensures placed { IsPlaced self.new.source }
     {
         let start = self.source.offset();
         let kind = read_jsx_child(&mut self.source, &mut found.errors, &mut found.warnings)?;
@@ -67,11 +63,9 @@ impl Reader<'_> {
 
     /// Reads the string of an attribute that is next.
     fn read_attribute_string(&mut self, errors: &mut DiagnosticList) -> Result<Token, AllocError>
-        requires placed { IsPlaced self.old.source }
-        requires quote { begins is_quote (rest self.old.source) ≡ true }
+        requires { begins is_quote (rest self.old.source) ≡ true }
         ensures ok { IfOk result (λ token. ReadsStringHere self.old errors.old token self.new errors.new) }
         ensures err { OnErr result (ReadsInPart self.old errors.old self.new errors.new) }
-        ensures placed { IsPlaced self.new.source }
     {
         let start = self.source.offset();
         let kind = read_jsx_string(&mut self.source, errors)?;
@@ -84,10 +78,8 @@ impl Reader<'_> {
         errors: &mut DiagnosticList,
         decoded: &mut DecodedValues,
     ) -> Result<Token, AllocError>
-        requires gap { whole_gap_piece self.old.source_type self.old.line_has_ended (rest self.old.source) ≡ None }
-        requires placed { IsPlaced self.old.source }
+        requires { whole_gap_piece self.old.source_type self.old.line_has_ended (rest self.old.source) ≡ None }
         ensures ok { IfOk result (λ token. ReadsAttributeHere self.old errors.old token self.new errors.new) }
-        ensures placed { OnOk result (IsPlaced self.new.source) }
         ensures value { IfOk result (λ token. HasValue self.old.source.text decoded.new token) }
         ensures kept { KeepsValues self.old.source.text decoded.old decoded.new }
         ensures err { OnErr result (ReadsInPart self.old errors.old self.new errors.new) }
@@ -104,19 +96,15 @@ impl Reader<'_> {
         found: &mut FindingsBuilder,
         decoded: &mut DecodedValues,
     ) -> Result<Token, AllocError>
-        requires { IsPlaced self.old.source }
         ensures ok { IfOk result (λ token. (previous : Option TokenParts)
             → line_has_ended_behind previous ≡ self.old.line_has_ended
             → ReadsWithGap Goal.JsxAttributeValue previous self.old found.old token self.new found.new) }
         ensures grown { Grows found.old found.new }
-        ensures placed { OnOk result (IsPlaced self.new.source) }
         ensures value { IfOk result (λ token. HasValue self.old.source.text decoded.new token) }
         ensures kept { KeepsValues self.old.source.text decoded.old decoded.new }
         ensures err { OnErr result (MovesOn self.old self.new) }
     {
         self.skip_whole_gap(found)?;
-        // The source is between characters, as everywhere.
-        let _place = self.source.position();
         self.read_attribute(&mut found.errors, decoded)
     }
 }

@@ -8,7 +8,7 @@ ghost use Rattle.js_text.specs.Comment.{is_line_kind, opening_length};
 ghost use Rattle.js_grammar.specs.Gap.{is_prefix};
 ghost use Rattle.js_grammar.specs.Outcome.{html_deferred};
 ghost use Rattle.js_grammar.specs.PieceItems.{is_separator, listed_if};
-ghost use Rattle.js_source.specs.Source.{rest, BeginsWith, HasFirstByte, IsPlaced};
+ghost use Rattle.js_source.specs.Source.{rest, BeginsWith, HasFirstByte};
 ghost use Rattle.js_trivia.specs.Trivia.{calls};
 ghost use Rattle.js_reader.specs.Found.{Grows};
 ghost use Rattle.js_reader.specs.Gaps.{opening_sequence, is_html, IsAtLineEnd};
@@ -93,10 +93,8 @@ impl Reader<'_> {
         found: &mut FindingsBuilder,
         kind: CommentKind,
     ) -> Result<bool, AllocError>
-        requires placed { IsPlaced self.old.source }
-        requires kind { is_line_kind kind ≡ true }
+        requires { is_line_kind kind ≡ true }
         ensures ok { IfOk result (λ skipped. SkipsOpenedLine kind self.old found.old skipped self.new found.new) }
-        ensures placed { OnOk result (IsPlaced self.new.source) }
         ensures grown { Grows found.old found.new }
         ensures err { OnErr result (MovesOn self.old self.new) }
     {
@@ -116,10 +114,8 @@ impl Reader<'_> {
     /// Goes past the line end behind a line comment, which is not listed.
     #[inline(always)]
     pub fn skip_end_of_line(&mut self, found: &mut FindingsBuilder)
-        requires placed { IsPlaced self.old.source }
-        requires end { IsAtLineEnd (rest self.old.source) }
+        requires { IsAtLineEnd (rest self.old.source) }
         ensures ends { SkipsEndOfLine self.old found.old self.new found.new }
-        ensures placed { IsPlaced self.new.source }
         ensures grown { Grows found.old found.new }
     {
         if let Some(_) = self.source.next_char() {
@@ -131,8 +127,7 @@ impl Reader<'_> {
     /// Reads the LF that is next.
     #[inline(always)]
     pub fn skip_line_feed(&mut self, found: &mut FindingsBuilder)
-        requires placed { IsPlaced self.old.source }
-        requires next { HasFirstByte line_feed (rest self.old.source) }
+        requires { HasFirstByte line_feed (rest self.old.source) }
         ensures skips { SkipsSome self.old found.old self.new found.new }
         ensures grown { Grows found.old found.new }
     {
@@ -147,7 +142,6 @@ impl Reader<'_> {
         found: &mut FindingsBuilder,
         c: char,
     ) -> Result<bool, AllocError>
-        requires placed { IsPlaced self.old.source }
         requires next { BeginsWith c (rest self.old.source) }
         requires white { is_white_space c ≡ true }
         ensures ok { IfOk result (λ skipped. SkipsPiece self.old found.old skipped self.new found.new) }
@@ -167,7 +161,6 @@ impl Reader<'_> {
         found: &mut FindingsBuilder,
         c: char,
     ) -> Result<bool, AllocError>
-        requires placed { IsPlaced self.old.source }
         requires next { BeginsWith c (rest self.old.source) }
         requires dark { is_white_space c ≡ false }
         requires ends { is_line_terminator c ≡ true }
@@ -187,7 +180,6 @@ impl Reader<'_> {
     /// Reads a comment that begins with `/*`, where one stands here and ends.
     #[inline(always)]
     fn skip_block_comment(&mut self, found: &mut FindingsBuilder) -> Result<bool, AllocError>
-        requires placed { IsPlaced self.old.source }
         requires next { BeginsWith slash (rest self.old.source) }
         requires no_line { is_prefix (opening_sequence CommentKind.Line) (rest self.old.source) ≡ false }
         ensures ok { IfOk result (λ skipped. SkipsPiece self.old found.old skipped self.new found.new) }
@@ -220,8 +212,7 @@ impl Reader<'_> {
     /// Reads a comment, where one begins with the `/` that is next.
     #[inline(always)]
     pub fn skip_comment(&mut self, found: &mut FindingsBuilder) -> Result<bool, AllocError>
-        requires placed { IsPlaced self.old.source }
-        requires next { BeginsWith slash (rest self.old.source) }
+        requires { BeginsWith slash (rest self.old.source) }
         ensures ok { IfOk result (λ skipped. SkipsPiece self.old found.old skipped self.new found.new) }
         ensures grown { Grows found.old found.new }
         ensures err { OnErr result (MovesOn self.old self.new) }
@@ -239,7 +230,6 @@ impl Reader<'_> {
         found: &mut FindingsBuilder,
         kind: CommentKind,
     ) -> Result<bool, AllocError>
-        requires placed { IsPlaced self.old.source }
         requires kind { is_html kind ≡ true }
         requires is { IsOnlyPiece kind self.old }
         ensures ok { IfOk result (λ skipped. SkipsPiece self.old found.old skipped self.new found.new) }
@@ -258,8 +248,7 @@ impl Reader<'_> {
 
     /// Reads a comment that begins with `<!--`, in a source that may have it.
     pub fn skip_html_open(&mut self, found: &mut FindingsBuilder) -> Result<bool, AllocError>
-        requires placed { IsPlaced self.old.source }
-        requires next { BeginsWith less_than_sign (rest self.old.source) }
+        requires { BeginsWith less_than_sign (rest self.old.source) }
         ensures ok { IfOk result (λ skipped. SkipsPiece self.old found.old skipped self.new found.new) }
         ensures grown { Grows found.old found.new }
         ensures err { OnErr result (MovesOn self.old self.new) }
@@ -272,8 +261,7 @@ impl Reader<'_> {
 
     /// Reads a comment that begins with `-->`, where a line has ended in a source that may have it.
     pub fn skip_html_close(&mut self, found: &mut FindingsBuilder) -> Result<bool, AllocError>
-        requires placed { IsPlaced self.old.source }
-        requires next { BeginsWith hyphen_minus (rest self.old.source) }
+        requires { BeginsWith hyphen_minus (rest self.old.source) }
         ensures ok { IfOk result (λ skipped. SkipsPiece self.old found.old skipped self.new found.new) }
         ensures grown { Grows found.old found.new }
         ensures err { OnErr result (MovesOn self.old self.new) }

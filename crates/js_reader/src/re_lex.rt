@@ -1,11 +1,11 @@
 //! Readings of goals that begin where the last token does.
 
-ghost use Rattle.std.specs.Prelude.{◌≡◌, ◌∷◌, IfOk, OnOk, OnErr, Some};
+ghost use Rattle.std.specs.Prelude.{◌≡◌, ◌∷◌, IfOk, OnErr, Some};
 ghost use Rattle.std.specs.Str.{IsCharBoundary};
 ghost use Rattle.js_text.specs.Characters.{from_place};
 ghost use Rattle.js_grammar.specs.UnicodeEscape.{right_curly_bracket};
 ghost use Rattle.js_kind.specs.TokenParts.{TokenParts};
-ghost use Rattle.js_source.specs.Source.{rest, IsPlaced};
+ghost use Rattle.js_source.specs.Source.{rest};
 ghost use Rattle.js_reader.specs.Decoded.{HasValue, KeepsValues};
 ghost use Rattle.js_reader.specs.Reader.{ReadsWithoutGap, ReadsInPart};
 
@@ -28,12 +28,10 @@ impl Reader<'_> {
         errors: &mut DiagnosticList,
         decoded: &mut DecodedValues,
     ) -> Result<Token, AllocError>
-        requires placed { IsPlaced self.old.source }
         requires begins { IsCharBoundary self.old.source.text start }
         requires here { from_place self.old.source.text start ≡ right_curly_bracket ∷ rest self.old.source }
         ensures ok { IfOk result (λ token. (before : TokenParts) → before.start ≡ start
             → ReadsWithoutGap Goal.TemplateTail (Some before) self.old errors.old token self.new errors.new) }
-        ensures placed { OnOk result (IsPlaced self.new.source) }
         ensures value { IfOk result (λ token. HasValue self.old.source.text decoded.new token) }
         ensures kept { KeepsValues self.old.source.text decoded.old decoded.new }
         ensures err { OnErr result (ReadsInPart self.old errors.old self.new errors.new) }

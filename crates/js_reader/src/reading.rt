@@ -15,7 +15,7 @@ ghost use Rattle.js_grammar.specs.Reads.{is_onward};
 ghost use Rattle.js_grammar.specs.StringItems.{is_quote};
 ghost use Rattle.js_kind.specs.TokenParts.{TokenParts, default_parts};
 ghost use Rattle.js_source.specs.Runs.{TellsClass};
-ghost use Rattle.js_source.specs.Source.{rest, IsPlaced, BeginsWith};
+ghost use Rattle.js_source.specs.Source.{rest, BeginsWith};
 ghost use Rattle.js_reader.specs.Decoded.{HasValue, HasValueHere, KeepsValues, KeepsSpelt, KeepsPart};
 ghost use Rattle.js_reader.specs.Found.{Grows};
 ghost use Rattle.js_reader.specs.Reader.{ReadsTokenHere, ReadsLexeme, ReadsBehind, ReadsWithGap, ReadsHashbang};
@@ -135,7 +135,6 @@ impl Reader<'_> {
     fn recover(&mut self, errors: &mut DiagnosticList) -> Result<Lexeme, AllocError>
         requires gap { whole_gap_piece self.old.source_type self.old.line_has_ended (rest self.old.source) ≡ None }
         requires nothing { NothingHere self.old.source_type self.old.line_has_ended (rest self.old.source) }
-        requires placed { IsPlaced self.old.source }
         ensures ok { IfOk result (λ lexeme. ReadsLexeme self.old errors.old lexeme self.new errors.new) }
         ensures unescaped { IfOk result (λ lexeme. lexeme.escaped ≡ false) }
         ensures err { OnErr result (ReadsInPart self.old errors.old self.new errors.new) }
@@ -165,8 +164,7 @@ impl Reader<'_> {
     /// Reads the number that begins here, good or at fault.
     #[inline(always)]
     fn read_number(&mut self, errors: &mut DiagnosticList) -> Result<Lexeme, AllocError>
-        requires begun { begins_number (rest self.old.source) ≡ true }
-        requires placed { IsPlaced self.old.source }
+        requires { begins_number (rest self.old.source) ≡ true }
         ensures ok { IfOk result (λ lexeme. ReadsLexeme self.old errors.old lexeme self.new errors.new) }
         ensures unescaped { IfOk result (λ lexeme. lexeme.escaped ≡ false) }
         ensures err { OnErr result (ReadsInPart self.old errors.old self.new errors.new) }
@@ -205,8 +203,7 @@ impl Reader<'_> {
         errors: &mut DiagnosticList,
         decoded: &mut DecodedValues,
     ) -> Result<Lexeme, AllocError>
-        requires begun { begins is_quote (rest self.old.source) ≡ true }
-        requires placed { IsPlaced self.old.source }
+        requires { begins is_quote (rest self.old.source) ≡ true }
         ensures ok { IfOk result (λ lexeme. ReadsLexeme self.old errors.old lexeme self.new errors.new) }
         ensures value { IfOk result (λ lexeme. HasValueHere self.old.source decoded.new lexeme.kind lexeme.escaped) }
         ensures kept { KeepsValues self.old.source.text decoded.old decoded.new }
@@ -238,8 +235,7 @@ impl Reader<'_> {
         errors: &mut DiagnosticList,
         decoded: &mut DecodedValues,
     ) -> Result<Lexeme, AllocError>
-        requires begun { begins (λ c. c == grave_accent) (rest self.old.source) ≡ true }
-        requires placed { IsPlaced self.old.source }
+        requires { begins (λ c. c == grave_accent) (rest self.old.source) ≡ true }
         ensures ok { IfOk result (λ lexeme. ReadsLexeme self.old errors.old lexeme self.new errors.new) }
         ensures value { IfOk result (λ lexeme. HasValueHere self.old.source decoded.new lexeme.kind lexeme.escaped) }
         ensures kept { KeepsValues self.old.source.text decoded.old decoded.new }
@@ -264,7 +260,6 @@ impl Reader<'_> {
     #[inline(always)]
     fn read_other(&mut self, errors: &mut DiagnosticList) -> Result<Lexeme, AllocError>
         requires gap { whole_gap_piece self.old.source_type self.old.line_has_ended (rest self.old.source) ≡ None }
-        requires placed { IsPlaced self.old.source }
         requires some { rest self.old.source ≢ [] }
         requires no_name { begins_name (rest self.old.source) ≡ false }
         requires no_private_name { begins (λ c. c == number_sign) (rest self.old.source) ≡ false }
@@ -285,7 +280,6 @@ impl Reader<'_> {
     #[inline(always)]
     fn read_symbol(&mut self, errors: &mut DiagnosticList) -> Result<Lexeme, AllocError>
         requires gap { whole_gap_piece self.old.source_type self.old.line_has_ended (rest self.old.source) ≡ None }
-        requires placed { IsPlaced self.old.source }
         requires some { rest self.old.source ≢ [] }
         requires no_name { begins_name (rest self.old.source) ≡ false }
         requires no_private_name { begins (λ c. c == number_sign) (rest self.old.source) ≡ false }
@@ -309,7 +303,6 @@ impl Reader<'_> {
         decoded: &mut DecodedValues,
     ) -> Result<Lexeme, AllocError>
         requires gap { whole_gap_piece self.old.source_type self.old.line_has_ended (rest self.old.source) ≡ None }
-        requires placed { IsPlaced self.old.source }
         requires some { rest self.old.source ≢ [] }
         requires no_name { begins_name (rest self.old.source) ≡ false }
         ensures ok { IfOk result (λ lexeme. ReadsLexeme self.old errors.old lexeme self.new errors.new) }
@@ -336,8 +329,7 @@ impl Reader<'_> {
         errors: &mut DiagnosticList,
         decoded: &mut DecodedValues,
     ) -> Result<Lexeme, AllocError>
-        requires begun { begins_name (rest self.old.source) ≡ true }
-        requires placed { IsPlaced self.old.source }
+        requires { begins_name (rest self.old.source) ≡ true }
         ensures ok { IfOk result (λ lexeme. ReadsLexeme self.old errors.old lexeme self.new errors.new) }
         ensures value { IfOk result (λ lexeme. HasValueHere self.old.source decoded.new lexeme.kind lexeme.escaped) }
         ensures kept { KeepsValues self.old.source.text decoded.old decoded.new }
@@ -357,8 +349,7 @@ impl Reader<'_> {
         errors: &mut DiagnosticList,
         decoded: &mut DecodedValues,
     ) -> Result<Lexeme, AllocError>
-        requires begun { BeginsWith number_sign (rest self.old.source) }
-        requires placed { IsPlaced self.old.source }
+        requires { BeginsWith number_sign (rest self.old.source) }
         ensures ok { IfOk result (λ lexeme. ReadsLexeme self.old errors.old lexeme self.new errors.new) }
         ensures value { IfOk result (λ lexeme. HasValueHere self.old.source decoded.new lexeme.kind lexeme.escaped) }
         ensures kept { KeepsValues self.old.source.text decoded.old decoded.new }
@@ -384,8 +375,7 @@ impl Reader<'_> {
         errors: &mut DiagnosticList,
         decoded: &mut DecodedValues,
     ) -> Result<Lexeme, AllocError>
-        requires gap { whole_gap_piece self.old.source_type self.old.line_has_ended (rest self.old.source) ≡ None }
-        requires placed { IsPlaced self.old.source }
+        requires { whole_gap_piece self.old.source_type self.old.line_has_ended (rest self.old.source) ≡ None }
         ensures ok { IfOk result (λ lexeme. ReadsLexeme self.old errors.old lexeme self.new errors.new) }
         ensures value { IfOk result (λ lexeme. HasValueHere self.old.source decoded.new lexeme.kind lexeme.escaped) }
         ensures kept { KeepsValues self.old.source.text decoded.old decoded.new }
@@ -405,8 +395,7 @@ impl Reader<'_> {
         errors: &mut DiagnosticList,
         decoded: &mut DecodedValues,
     ) -> Result<Lexeme, AllocError>
-        requires gap { whole_gap_piece self.old.source_type self.old.line_has_ended (rest self.old.source) ≡ None }
-        requires placed { IsPlaced self.old.source }
+        requires { whole_gap_piece self.old.source_type self.old.line_has_ended (rest self.old.source) ≡ None }
         ensures ok { IfOk result (λ lexeme. ReadsLexeme self.old errors.old lexeme self.new errors.new) }
         ensures value { IfOk result (λ lexeme. HasValueHere self.old.source decoded.new lexeme.kind lexeme.escaped) }
         ensures kept { KeepsValues self.old.source.text decoded.old decoded.new }
@@ -432,10 +421,8 @@ impl Reader<'_> {
         errors: &mut DiagnosticList,
         decoded: &mut DecodedValues,
     ) -> Result<Token, AllocError>
-        requires gap { whole_gap_piece self.old.source_type self.old.line_has_ended (rest self.old.source) ≡ None }
-        requires placed { IsPlaced self.old.source }
+        requires { whole_gap_piece self.old.source_type self.old.line_has_ended (rest self.old.source) ≡ None }
         ensures ok { IfOk result (λ token. ReadsTokenHere self.old errors.old token self.new errors.new) }
-        ensures placed { OnOk result (IsPlaced self.new.source) }
         ensures value { IfOk result (λ token. HasValue self.old.source.text decoded.new token) }
         ensures kept { KeepsValues self.old.source.text decoded.old decoded.new }
         ensures err { OnErr result (ReadsInPart self.old errors.old self.new errors.new) }
@@ -450,8 +437,7 @@ impl Reader<'_> {
     /// tried before.
     #[inline(always)]
     fn read_simple(&mut self, was_tried: bool) -> Option<Token>
-        requires gap { whole_gap_piece self.old.source_type self.old.line_has_ended (rest self.old.source) ≡ None }
-        requires placed { IsPlaced self.old.source }
+        requires { whole_gap_piece self.old.source_type self.old.line_has_ended (rest self.old.source) ≡ None }
         ensures some { (errors : List Diagnostic)
             → IfSome result (λ token. ReadsTokenHere self.old errors token self.new errors) }
         ensures escaped { IfSome result (λ token. token.escaped ≡ false) }
@@ -479,19 +465,15 @@ impl Reader<'_> {
         found: &mut FindingsBuilder,
         decoded: &mut DecodedValues,
     ) -> Result<Token, AllocError>
-        requires placed { IsPlaced self.old.source }
         ensures ok { IfOk result (λ token. (previous : Option TokenParts)
             → line_has_ended_behind previous ≡ self.old.line_has_ended
             → ReadsBehind previous self.old found.old token self.new found.new) }
         ensures grown { Grows found.old found.new }
-        ensures placed { OnOk result (IsPlaced self.new.source) }
         ensures value { IfOk result (λ token. HasValue self.old.source.text decoded.new token) }
         ensures kept { KeepsValues self.old.source.text decoded.old decoded.new }
         ensures err { OnErr result (MovesOn self.old self.new) }
     {
         self.skip_whole_gap(found)?;
-        // The source is between characters, as everywhere.
-        let _place = self.source.position();
         // Behind a gap with nothing to tell of, `next_token` of a lexer has tried that.
         match self.read_simple(found.trivia.is_settled()) {
             Some(token) => Ok(token),
@@ -501,8 +483,7 @@ impl Reader<'_> {
 
     /// Reads a hashbang comment, where one stands at the start of the text (ECMA-262 12.5).
     fn read_hashbang(&mut self) -> Option<Token>
-        ensures reads { ReadsHashbang self.old result self.new }
-        ensures placed { IfSome result (λ _. IsPlaced self.new.source) }
+        ensures { ReadsHashbang self.old result self.new }
     {
         if self.source.offset() != 0 {
             return None;
@@ -523,13 +504,11 @@ impl Reader<'_> {
         found: &mut FindingsBuilder,
         decoded: &mut DecodedValues,
     ) -> Result<Token, AllocError>
-        requires placed { IsPlaced self.old.source }
-        requires onward { is_onward goal ≡ true }
+        requires { is_onward goal ≡ true }
         ensures ok { IfOk result (λ token. (previous : Option TokenParts)
             → line_has_ended_behind previous ≡ self.old.line_has_ended
             → ReadsWithGap goal previous self.old found.old token self.new found.new) }
         ensures grown { Grows found.old found.new }
-        ensures placed { OnOk result (IsPlaced self.new.source) }
         ensures value { IfOk result (λ token. HasValue self.old.source.text decoded.new token) }
         ensures kept { KeepsValues self.old.source.text decoded.old decoded.new }
         ensures err { OnErr result (MovesOn self.old self.new) }

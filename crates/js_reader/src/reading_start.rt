@@ -1,8 +1,8 @@
 //! Where readings begin, and the way back.
 
+ghost use Rattle.js_source.specs.Source.{GoesTo};
 ghost use Rattle.std.specs.Prelude.{◌≡◌, []};
 ghost use Rattle.std.specs.Str.{IsCharBoundary};
-ghost use Rattle.js_source.specs.Source.{IsPlaced};
 ghost use Rattle.js_trivia.specs.Trivia.{AreRangesUpTo};
 ghost use Rattle.js_reader.specs.Found.{HasFound, found_up_to, start_of};
 
@@ -24,7 +24,6 @@ impl ReadingStart {
         ensures start { result ≡ start_of source.now found.now }
         ensures ranges { AreRangesUpTo result.found.trivia.comments result.found.trivia.pure_range
             result.found.trivia.no_side_effects }
-        ensures placed { IsPlaced source.now }
     {
         ReadingStart {
             position: source.position(),
@@ -36,7 +35,7 @@ impl ReadingStart {
     pub fn go_back(self, source: &mut Source<'_>, found: &mut FindingsBuilder)
         requires boundary { IsCharBoundary source.old.text self.position }
         requires found { HasFound self.found found.old }
-        ensures source { source.new ≡ record source.old { place = self.position } }
+        ensures source { GoesTo self.position source.old source.new }
         ensures found { found.new ≡ found_up_to self.found found.old }
     {
         source.set_position(self.position);

@@ -5,7 +5,6 @@ ghost use Rattle.std.specs.Str.{IsCharBoundary};
 ghost use Rattle.js_text.specs.Ascii.{slash};
 ghost use Rattle.js_text.specs.Characters.{begins, from_place};
 ghost use Rattle.js_kind.specs.TokenParts.{TokenParts};
-ghost use Rattle.js_source.specs.Source.{IsPlaced};
 ghost use Rattle.js_reader.specs.Goals.{ReadsExpression};
 ghost use Rattle.js_reader.specs.Reader.{ReadsInPart};
 
@@ -34,13 +33,11 @@ impl Reader<'_> {
         start: u32,
         errors: &mut DiagnosticList,
     ) -> Result<RegexToken, AllocError>
-        requires placed { IsPlaced self.old.source }
         requires boundary { IsCharBoundary self.old.source.text start }
         requires here { begins (λ c. c == slash) (from_place self.old.source.text start) ≡ true }
         ensures ok { IfOk result (λ found. (before : TokenParts) → before.start ≡ start
             → ReadsExpression before self.old errors.old found self.new errors.new) }
         ensures err { OnErr result (ReadsInPart self.old errors.old self.new errors.new) }
-        ensures placed { IsPlaced self.new.source }
     {
         go_behind(&mut self.source, start);
         let info = read_regular_expression(&mut self.source, errors, start)?;

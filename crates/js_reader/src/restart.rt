@@ -2,8 +2,7 @@
 
 ghost use Rattle.std.specs.Prelude.{◌≡◌, ◌≤◌};
 ghost use Rattle.std.specs.Str.{IsCharBoundary};
-ghost use Rattle.js_source.specs.Source.{IsPlaced, StepsPast};
-ghost use Rattle.js_source.specs.Runs.{place_of};
+ghost use Rattle.js_source.specs.Source.{StepsFrom};
 ghost use Rattle.js_reader.specs.Reader.{read_token};
 
 use js_kind::{Kind, Token};
@@ -13,9 +12,8 @@ use js_text::Span;
 /// Goes behind the character that stands at the offset.
 pub fn go_behind(source: &mut Source<'_>, start: u32)
     requires { IsCharBoundary source.old.text start }
-    ensures past { StepsPast (place_of source.old.text start) source.new }
+    ensures past { StepsFrom source.old.text start source.new }
     ensures onward { start ≤ source.new.place }
-    ensures placed { IsPlaced source.new }
 {
     match source.position_at(start) {
         Some(position) => source.set_position(position),

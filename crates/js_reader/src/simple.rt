@@ -7,7 +7,7 @@ ghost use Rattle.js_text.specs.Ascii.{grave_accent, line_feed, number_sign};
 ghost use Rattle.js_text.specs.Characters.{is_identifier_part, is_identifier_start};
 ghost use Rattle.js_grammar.specs.Gap.{whole_gap_piece};
 ghost use Rattle.js_grammar.specs.StringItems.{is_quote};
-ghost use Rattle.js_source.specs.Source.{At, rest, IsPlaced, HasFirstByte};
+ghost use Rattle.js_source.specs.Source.{At, rest, HasFirstByte};
 ghost use Rattle.js_source.specs.Search.{matches_at};
 ghost use Rattle.js_source.specs.Runs.{TellsClass};
 ghost use Rattle.js_reader.specs.Simple.{EndsAt, EndsGapInAscii, GoesOnWithGap, PassesPieces, SpellsFor, SpellsSimply};
@@ -59,8 +59,7 @@ fn ends_gap(source: &Source<'_>, symbols: &[bool; 256], b: u8, line_has_ended: b
 /// Passes the TAB or the SP that is next, if one is.
 #[inline(always)]
 fn pass_blank(source: &mut Source<'_>, blanks: &[bool; 256])
-    requires blanks { TellsClass is_blank blanks.now }
-    requires placed { IsPlaced source.old }
+    requires { TellsClass is_blank blanks.now }
     ensures { (start : At) (had has : Bool) → PassesPieces start had source.old has
         → PassesPieces start had source.new has }
 {
@@ -135,7 +134,6 @@ pub fn pass_simple_gap(
     tables: &ByteTables,
     line_has_ended: &mut bool,
 ) -> GapEnd
-    requires placed { IsPlaced source.old }
     ensures { EndsAt result source.old line_has_ended.old source.new line_has_ended.new }
 {
     pass_blank(source, &tables.blanks);
@@ -164,11 +162,9 @@ fn is_quote(b: u8) -> bool
 /// Reads the template that is next, or its first part, where nothing in it is escaped.
 #[inline(always)]
 fn read_unescaped_template(source: &mut Source<'_>) -> Option<Kind>
-    requires placed { IsPlaced source.old }
-    requires next { HasFirstByte grave_accent (rest source.old) }
+    requires { HasFirstByte grave_accent (rest source.old) }
     ensures spells { (line_has_ended : Bool) → IfSome result (SpellsSimply line_has_ended source.old source.new) }
     ensures text { source.new.text ≡ source.old.text }
-    ensures placed { IsPlaced source.new }
 {
     source.next_ascii(b'`');
     read_unescaped_part(source, Kind::TemplateHead, Kind::NoSubstitutionTemplate)
@@ -177,11 +173,9 @@ fn read_unescaped_template(source: &mut Source<'_>) -> Option<Kind>
 /// Reads the private name that is next, where it begins with an ASCII character and no escape stands in it.
 #[inline(always)]
 fn read_unescaped_private(source: &mut Source<'_>) -> Option<Kind>
-    requires placed { IsPlaced source.old }
-    requires next { HasFirstByte number_sign (rest source.old) }
+    requires { HasFirstByte number_sign (rest source.old) }
     ensures spells { (line_has_ended : Bool) → IfSome result (SpellsSimply line_has_ended source.old source.new) }
     ensures text { source.new.text ≡ source.old.text }
-    ensures placed { IsPlaced source.new }
 {
     source.next_ascii(b'#');
     read_unescaped_private_name(source)
@@ -191,12 +185,10 @@ fn read_unescaped_private(source: &mut Source<'_>) -> Option<Kind>
 /// next.
 #[inline(always)]
 fn read_value(source: &mut Source<'_>, b: u8) -> Option<Kind>
-    requires placed { IsPlaced source.old }
     requires ascii { b < 128 }
     requires next { HasFirstByte b (rest source.old) }
     ensures spells { (line_has_ended : Bool) → IfSome result (SpellsSimply line_has_ended source.old source.new) }
     ensures text { source.new.text ≡ source.old.text }
-    ensures placed { IsPlaced source.new }
 {
     if is_quote(b) {
         return read_unescaped_string(source, b);
@@ -217,7 +209,6 @@ fn read_value(source: &mut Source<'_>, b: u8) -> Option<Kind>
 /// separators, that begins with the ASCII character `b`, which is next.
 #[inline(always)]
 pub fn read_simple_symbol(source: &mut Source<'_>, b: u8) -> Option<Kind>
-    requires placed { IsPlaced source.old }
     requires ascii { b < 128 }
     requires next { HasFirstByte b (rest source.old) }
     ensures spells { (r : Reader) (line_has_ended : Bool)
@@ -239,7 +230,6 @@ pub fn read_simple_symbol(source: &mut Source<'_>, b: u8) -> Option<Kind>
 #[inline(always)]
 pub fn read_simple_name(source: &mut Source<'_>, parts: &[bool; 256], b: u8) -> Option<Kind>
     requires parts { TellsClass is_identifier_part parts.now }
-    requires placed { IsPlaced source.old }
     requires ascii { b < 128 }
     requires next { HasFirstByte b (rest source.old) }
     requires begun { is_identifier_start b ≡ true }
@@ -252,7 +242,6 @@ pub fn read_simple_name(source: &mut Source<'_>, parts: &[bool; 256], b: u8) -> 
 /// Reads what `read_simple_name` or `read_simple_symbol` does.
 #[inline(always)]
 pub fn read_simple_spelling(source: &mut Source<'_>, tables: &ByteTables, b: u8) -> Option<Kind>
-    requires placed { IsPlaced source.old }
     requires ascii { b < 128 }
     requires next { HasFirstByte b (rest source.old) }
     ensures spells { (r : Reader) (line_has_ended : Bool)

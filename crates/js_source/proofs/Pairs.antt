@@ -13,7 +13,7 @@ use Rattle.js_source.specs.Source.{At, rest, IsPlaced, HasFirstByte}
 use Rattle.js_source.specs.declared.four.FourBytes.{FourBytes}
 use Rattle.js_source.specs.declared.pair.BytePair.{BytePair}
 use Rattle.js_source.proofs.Fours.{block_passed, not_true, HasFour}
-use Rattle.js_source.proofs.Places.{moved, step, step_rest, step_placed, first_byte_at, placed_ascii, reads_ascii}
+use Rattle.js_source.proofs.Places.{at_place, next_place, step, step_rest, first_byte_at, placed_ascii, here_ascii}
 use Rattle.js_source.proofs.Stops.{byte_at, first_at, later_of, scalar_spelled}
 
 -- nothing is passed yet
@@ -99,69 +99,70 @@ none_left pair four text from at is_clean p short k low is = by_test (ltb k at) 
     by_test false e = omega (arith, ltb-false k at e, is.within)
 
 -- an ASCII byte is a character
-there : (b : ℕ) (s : At) → IsPlaced s → b < 128 → s.place < length s.text → get_or s.text s.place 0 ≡ b
-    → IsPlaced (moved s 1) × (rest s ≡ b ∷ rest (moved s 1))
-there b s h small within same =
-    let first = subst (λ x. HasFirstByte x (rest s)) same (first_byte_at s h within) in
-    (placed_ascii s b h small first, (reads_ascii s b h small first).here)
+there : (b : ℕ) (s : At) → b < 128 → s.place < length s.text → get_or s.text s.place 0 ≡ b
+    → IsPlaced s.text (s.place + 1) × (rest s ≡ b ∷ from_place s.text (s.place + 1))
+there b s small within same =
+    let first = subst (λ x. HasFirstByte x (rest s)) same (first_byte_at s within) in
+    (placed_ascii s b small first, here_ascii s b small first)
 
 -- an ASCII character is its byte
-byte_of : (b : ℕ) (s : At) → IsPlaced s → b < 128 → begins (λ c. c == b) (rest s) ≡ true
-    → IsPlaced (moved s 1) × (rest s ≡ b ∷ rest (moved s 1)) × (s.place < length s.text)
+byte_of : (b : ℕ) (s : At) → b < 128 → begins (λ c. c == b) (rest s) ≡ true
+    → IsPlaced s.text (s.place + 1) × (rest s ≡ b ∷ from_place s.text (s.place + 1)) × (s.place < length s.text)
     × (get_or s.text s.place 0 ≡ b)
-byte_of b s h small t = by_rest (rest s) refl t
+byte_of b s small t = by_rest (rest s) refl t
   where
     by_rest : (cs : List ℕ) → rest s ≡ cs → begins (λ c. c == b) cs ≡ true
-        → IsPlaced (moved s 1) × (rest s ≡ b ∷ rest (moved s 1)) × (s.place < length s.text)
+        → IsPlaced s.text (s.place + 1) × (rest s ≡ b ∷ from_place s.text (s.place + 1)) × (s.place < length s.text)
         × (get_or s.text s.place 0 ≡ b)
     by_rest [] e t = absurd (cc)
     by_rest (c ∷ cs) e t =
         let is : c ≡ b = eqb-true c b t in
-        let within = (first_at s c cs h e).0 in
-        let byte = subst (HasFirstByte (get_or s.text s.place 0)) e (first_byte_at s h within) in
+        let within = (first_at s c cs e).0 in
+        let byte = subst (HasFirstByte (get_or s.text s.place 0)) e (first_byte_at s within) in
         let same : get_or s.text s.place 0 ≡ b = sym (byte.1 (omega (arith, is, small))) ∙ is in
-        let next = there b s h small within same in
+        let next = there b s small within same in
         (next.0, next.1, within, same)
 
 drop_1 : (b : ℕ) (xs ys : List ℕ) → xs ≡ b ∷ ys → drop 1 xs ≡ ys
 drop_1 b xs ys e = ap (drop 1) e
 
 -- where the characters are a pair, so are the bytes
-pair_here : (pair : BytePair) (s : At) → pair.first < 128 → pair.second < 128 → IsPlaced s
+pair_here : (pair : BytePair) (s : At) → pair.first < 128 → pair.second < 128
     → begins_pair pair (rest s) ≡ true → IsPairAt pair s.text s.place
-pair_here pair s f g h t =
+pair_here pair s f g t =
     let both = and_parts _ _ t in
-    let first = byte_of pair.first s h f both.0 in
-    let second = byte_of pair.second (moved s 1) first.0 g
-    (ap (begins (λ c. c == pair.second)) (sym (drop_1 pair.first (rest s) (rest (moved s 1)) first.1)) ∙ both.1) in
+    let first = byte_of pair.first s f both.0 in
+    let second = byte_of pair.second (at_place _ _ first.0) g
+    (ap (begins (λ c. c == pair.second)) (sym (drop_1 pair.first (rest s) _ first.1)) ∙ both.1) in
     record { within = omega (arith, second.2); first = first.3; second = second.3 }
 
 -- and where the bytes are, so are the characters
-pair_there : (pair : BytePair) (s : At) → pair.first < 128 → pair.second < 128 → IsPlaced s
+pair_there : (pair : BytePair) (s : At) → pair.first < 128 → pair.second < 128
     → IsPairAt pair s.text s.place
-    → IsPlaced (moved s 2) × (rest s ≡ pair.first ∷ pair.second ∷ rest (moved s 2)) × (begins_pair pair (rest s) ≡ true)
-pair_there pair s f g h at =
-    let first = there pair.first s h f (omega (arith, at.within)) at.first in
-    let second = there pair.second (moved s 1) first.0 g (omega (arith, at.within)) at.second in
+    → IsPlaced s.text (s.place + 2) × (rest s ≡ pair.first ∷ pair.second ∷ from_place s.text (s.place + 2))
+    × (begins_pair pair (rest s) ≡ true)
+pair_there pair s f g at =
+    let first = there pair.first s f (omega (arith, at.within)) at.first in
+    let second = there pair.second (at_place _ _ first.0) g (omega (arith, at.within)) at.second in
     let two : s.place + 1 + 1 ≡ s.place + 2 = omega arith in
     let whole : rest s ≡ pair.first ∷ pair.second ∷ from_place s.text (s.place + 2) =
     first.1 ∙ ap (λ xs. pair.first ∷ xs) second.1 ∙ ap (λ p. pair.first ∷ pair.second ∷ from_place s.text p) two in (
-      subst (λ p. IsPlaced (record { text = s.text; place = p })) two second.0,
+      subst (IsPlaced s.text) two second.0,
       whole,
       ap (begins_pair pair) whole
           ∙ rw (eq-eqb pair.first pair.first refl, eq-eqb pair.second pair.second refl) refl,
     )
 
 -- an ASCII byte stands in no other character
-past_other : (s : At) (c : ℕ) (cs : List ℕ) (to b : ℕ) → IsPlaced s → rest s ≡ c ∷ cs → s.place < to → b < 128
+past_other : (s : At) (c : ℕ) (cs : List ℕ) (to b : ℕ) → rest s ≡ c ∷ cs → s.place < to → b < 128
     → get_or s.text to 0 ≡ b → s.place + len_utf8 c ≤ to
-past_other s c cs to b h e more small same = by_test (ltb (to - s.place) (length (encode_utf8 c))) refl
+past_other s c cs to b e more small same = by_test (ltb (to - s.place) (length (encode_utf8 c))) refl
   where
     inside : (k : ℕ) → 0 < k → k < length (encode_utf8 c) → s.place + k ≡ to → ⊥
     inside zero some lt at = omega arith
     inside (suc k) some lt at =
-        let byte = byte_at s c cs h e (suc k) lt in
-        let later = later_of (encode_utf8 c) k (scalar_spelled c (step s c cs h e).1).later lt in
+        let byte = byte_at s c cs e (suc k) lt in
+        let later = later_of (encode_utf8 c) k (scalar_spelled c (step s c cs e).1).later lt in
         let at_to : get_or s.text to 0 ≡ get_or (encode_utf8 c) (suc k) 0 =
         sym (ap (λ i. get_or s.text i 0) at) ∙ byte.1 in
         omega (arith, later.0, at_to, same, small)
@@ -174,19 +175,19 @@ past_other s c cs to b h e more small same = by_test (ltb (to - s.place) (length
 -- The first pair, in characters: what stands from it on, and what is said of what stands before it.
 pub record IsFirstPair (pair : BytePair) (four : FourBytes) (text : List ℕ) (to : ℕ) (is_clean : Bool) (cs : List ℕ)
     : Type 0 where
-  pub placed : IsPlaced (record { text = text; place = to + 2 })
+  pub placed : IsPlaced text (to + 2)
   pub from : from_pair pair cs ≡ pair.first ∷ pair.second ∷ from_place text (to + 2)
   pub clean : is_clean ≡ true → list_any (matches_char (four_bytes four)) (before_pair pair cs) ≡ false
 
 pub first_pair : (pair : BytePair) (four : FourBytes) (s : At) (to : ℕ) (is_clean : Bool) (cs : List ℕ)
-    → pair.first < 128 → pair.second < 128 → HasFour four (four_bytes four) → IsPlaced s → rest s ≡ cs
+    → pair.first < 128 → pair.second < 128 → HasFour four (four_bytes four) → rest s ≡ cs
     → PassesPairs pair four s.text s.place to is_clean → IsPairAt pair s.text to
     → IsFirstPair pair four s.text to is_clean cs
-first_pair pair four s to is_clean [] f g has h e p at =
-    absurd (subst (HasFirstByte (get_or s.text s.place 0)) e (first_byte_at s h (omega (arith, p.onward, at.within))))
-first_pair pair four s to is_clean (c ∷ cs) f g has h e p at =
+first_pair pair four s to is_clean [] f g has e p at =
+    absurd (subst (HasFirstByte (get_or s.text s.place 0)) e (first_byte_at s (omega (arith, p.onward, at.within))))
+first_pair pair four s to is_clean (c ∷ cs) f g has e p at =
     by_test (ltb s.place to) refl
-    (first_pair pair four (moved s (len_utf8 c)) to is_clean cs f g has (step_placed s c cs h e) (step_rest s c cs h e))
+    (first_pair pair four (next_place s c cs e) to is_clean cs f g has (step_rest s c cs e))
   where
     by_test : (x : Bool) → ltb s.place to ≡ x
         → (PassesPairs pair four s.text (s.place + len_utf8 c) to is_clean → IsPairAt pair s.text to
@@ -194,10 +195,10 @@ first_pair pair four s to is_clean (c ∷ cs) f g has h e p at =
         → IsFirstPair pair four s.text to is_clean (c ∷ cs)
     by_test false t more =
         let same : s.place ≡ to = omega (arith, p.onward, ltb-false s.place to t) in
-        let found = pair_there pair s f g h (subst (IsPairAt pair s.text) (sym same) at) in
+        let found = pair_there pair s f g (subst (IsPairAt pair s.text) (sym same) at) in
         let here : begins_pair pair (c ∷ cs) ≡ true = sym (ap (begins_pair pair) e) ∙ found.2 in
         record {
-          placed = subst (λ q. IsPlaced (record { text = s.text; place = q + 2 })) same found.0;
+          placed = subst (λ q. IsPlaced s.text (q + 2)) same found.0;
           from =
               rw here
               (sym e ∙ found.1 ∙ ap (λ q. pair.first ∷ pair.second ∷ from_place s.text (q + 2)) same);
@@ -206,16 +207,15 @@ first_pair pair four s to is_clean (c ∷ cs) f g has h e p at =
     by_test true t more =
         let less = ltb-true s.place to t in
         let other : begins_pair pair (c ∷ cs) ≡ false =
-        not_true _ (λ is. p.before s.place (omega arith) less
-        (pair_here pair s f g h (ap (begins_pair pair) e ∙ is))) in
-        let past = past_other s c cs to pair.first h e less f at.first in
+        not_true _ (λ is. p.before s.place (omega arith) less (pair_here pair s f g (ap (begins_pair pair) e ∙ is))) in
+        let past = past_other s c cs to pair.first e less f at.first in
         let inner = more (record {
           onward = past;
           within = p.within;
           before = λ k low high. p.before k (omega (arith, low)) high;
           clean = λ is k low high. p.clean is k (omega (arith, low)) high;
         }) at in
-        let first = (first_at s c cs h e).1 in
+        let first = (first_at s c cs e).1 in
         record {
           placed = inner.placed;
           from = rw other inner.from;
@@ -226,11 +226,11 @@ first_pair pair four s to is_clean (c ∷ cs) f g has h e p at =
         }
 
 -- where there is none, there is none in characters
-pub no_pair : (pair : BytePair) (s : At) (cs : List ℕ) → pair.first < 128 → pair.second < 128 → IsPlaced s
+pub no_pair : (pair : BytePair) (s : At) (cs : List ℕ) → pair.first < 128 → pair.second < 128
     → rest s ≡ cs → HasNoPair pair s.text s.place → from_pair pair cs ≡ []
-no_pair pair s [] f g h e none = refl
-no_pair pair s (c ∷ cs) f g h e none =
+no_pair pair s [] f g e none = refl
+no_pair pair s (c ∷ cs) f g e none =
     let other : begins_pair pair (c ∷ cs) ≡ false =
-    not_true _ (λ is. none s.place (omega arith) (pair_here pair s f g h (ap (begins_pair pair) e ∙ is))) in
+    not_true _ (λ is. none s.place (omega arith) (pair_here pair s f g (ap (begins_pair pair) e ∙ is))) in
     let later : HasNoPair pair s.text (s.place + len_utf8 c) = λ k low. none k (omega (arith, low)) in
-    rw other (no_pair pair (moved s (len_utf8 c)) cs f g (step_placed s c cs h e) (step_rest s c cs h e) later)
+    rw other (no_pair pair (next_place s c cs e) cs f g (step_rest s c cs e) later)

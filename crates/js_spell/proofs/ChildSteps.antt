@@ -14,7 +14,7 @@ use Rattle.js_grammar.proofs.GoalReadings.{leaves_from_first}
 use Rattle.js_grammar.proofs.NumberItems.{true_or_false}
 use Rattle.js_grammar.proofs.ReadingLemmas.{by_choice, taken_is}
 use Rattle.js_grammar.proofs.Reported.{place_behind-append}
-use Rattle.js_source.specs.Source.{At, rest, IsPlaced, Reads}
+use Rattle.js_source.specs.Source.{At, rest, Reads}
 use Rattle.js_source.proofs.Places.{begins_with}
 use Rattle.js_spell.specs.Goals.{IsAtChildEnd, PassesChild, StopsAt, WarnsInPart, ends_of, text_warnings}
 use Rattle.js_spell.specs.declared.jsx.Text.TheVariants.{Child}
@@ -106,11 +106,11 @@ pub record PassesRun (old new : At) : Type 0 where
   pub left : from_first ends_jsx_text (rest old) ≡ from_first ends_jsx_text (rest new)
   pub angles : angles_to_end old.place (rest old) ≡ angles_to_end new.place (rest new)
 
-pub run_passed : (old new : At) → IsPlaced old → IsPlaced new → new.text ≡ old.text
+pub run_passed : (old new : At) → new.text ≡ old.text
     → rest new ≡ from_first (ends_of Child) (rest old) → PassesRun old new
-run_passed old new h g text left =
+run_passed old new text left =
     let run = skips old.place (rest old) in
-    let place = leads_to old new run.run h g text (run.here ∙ ap (λ t. run.run ++ t) (sym left)) in
+    let place = leads_to old new run.run text (run.here ∙ ap (λ t. run.run ++ t) (sym left)) in
     record {
       left = run.left ∙ ap (from_first ends_jsx_text) (sym left);
       angles = run.angles ∙ ap (λ p. angles_to_end p (from_first (ends_of Child) (rest old))) (sym place)
@@ -127,16 +127,16 @@ pub angle_left : (old new : At) → Reads old new greater_than_sign
 angle_left old new read =
     ap (from_first ends_jsx_text) read.here ∙ from_first-cons ends_jsx_text greater_than_sign (rest new) refl
 
-pub angle_place : (old new : At) → IsPlaced old → IsPlaced new → Reads old new greater_than_sign
+pub angle_place : (old new : At) → Reads old new greater_than_sign
     → new.place ≡ old.place + 1
-angle_place old new h g read =
-    leads_to old new (greater_than_sign ∷ []) h g read.text read.here ∙ one_byte old.place
+angle_place old new read =
+    leads_to old new (greater_than_sign ∷ []) read.text read.here ∙ one_byte old.place
 
-pub angles_left : (old new : At) → IsPlaced old → IsPlaced new → Reads old new greater_than_sign
+pub angles_left : (old new : At) → Reads old new greater_than_sign
     → angles_to_end old.place (rest old)
     ≡ stretch old.place new.place ∷ angles_to_end new.place (rest new)
-angles_left old new h g read =
-    let place = angle_place old new h g read in
+angles_left old new read =
+    let place = angle_place old new read in
     ap (angles_to_end old.place) read.here ∙ angles_past old.place greater_than_sign (rest new) refl
     ∙ ap (λ p. stretch old.place (old.place + 1) ∷ angles_to_end p (rest new)) (one_byte old.place)
     ∙ ap (λ p. stretch old.place p ∷ angles_to_end p (rest new)) (sym place)
@@ -150,11 +150,11 @@ pub record WarnsUpTo (at now : At) (before after : List Span) : Type 0 where
 pub warns_nothing : (at : At) (before : List Span) → WarnsUpTo at at before before
 warns_nothing at before = record { more = []; warnings = sym (append-nil before); all = refl }
 
-pub warns_of_angle : (at now mid new : At) (before between after : List Span) (start end : ℕ) → IsPlaced mid
-    → IsPlaced new → WarnsUpTo at now before between → PassesRun now mid → Reads mid new greater_than_sign
+pub warns_of_angle : (at now mid new : At) (before between after : List Span) (start end : ℕ)
+    → WarnsUpTo at now before between → PassesRun now mid → Reads mid new greater_than_sign
     → start ≡ mid.place → end ≡ new.place
     → after ≡ between ++ stretch start end ∷ [] → WarnsUpTo at new before after
-warns_of_angle at now mid new before between after start end h g warned run read from to e =
+warns_of_angle at now mid new before between after start end warned run read from to e =
     let span : stretch start end ≡ stretch mid.place new.place =
     ap (λ n. stretch n end) from ∙ ap (stretch mid.place) to in
     let added = stretch mid.place new.place ∷ [] in
@@ -162,7 +162,7 @@ warns_of_angle at now mid new before between after start end h g warned run read
       more = warned.more ++ added;
       warnings = e ∙ ap (λ s. between ++ s ∷ []) span ∙ ap (λ ss. ss ++ added) warned.warnings
           ∙ append_assoc before warned.more added;
-      all = warned.all ∙ ap (λ ss. warned.more ++ ss) (run.angles ∙ angles_left mid new h g read)
+      all = warned.all ∙ ap (λ ss. warned.more ++ ss) (run.angles ∙ angles_left mid new read)
           ∙ sym (append_assoc warned.more added (angles_to_end new.place (rest new)));
     }
 

@@ -12,7 +12,7 @@ use Rattle.std.proofs.lemmas.Str.{chars-encodes, scalars-chars}
 use Rattle.js_text.specs.Characters.{from_first, from_place, is_line_terminator}
 use Rattle.js_text.proofs.TextLemmas.{length-from_first}
 use Rattle.js_source.specs.Pairs.{before_pair, begins_pair, from_pair}
-use Rattle.js_source.specs.Source.{At, rest, BeginsWith, IsPlaced, SpellsBetween, StepsPast}
+use Rattle.js_source.specs.Source.{At, rest, BeginsWith, SpellsBetween, StepsPast}
 use Rattle.js_source.proofs.Places.{rest_utf8}
 use Rattle.js_source.specs.Search.{matches_char}
 use Rattle.js_source.proofs.Skips.{from_first-from_first, line_terminator_matches}
@@ -171,15 +171,15 @@ scalars_of_front (x ∷ xs) ys h =
     rw (both.0, scalars_of_front xs ys both.1) refl
 
 -- The characters of the comment, from its text.
-pub comment_characters : (old new : At) (text : List ℕ) → IsPlaced old → new.text ≡ old.text
+pub comment_characters : (old new : At) (text : List ℕ) → new.text ≡ old.text
     → from_pair block_end (rest old) ≡ 42 ∷ 47 ∷ rest new → SpellsBetween old.text old.place new.place text
     → list_any is_line_terminator (chars text) ≡ list_any is_line_terminator (before_pair block_end (rest old))
-comment_characters old new text h same e spells =
+comment_characters old new text same e spells =
     let front = before_pair block_end (rest old) ++ codes "*/" in
     let whole : rest old ≡ front ++ rest new = cut_whole (rest old) (rest new) e in
     let bytes : text ≡ encode_utf8_all front =
     spells front (whole ∙ ap (λ t. front ++ from_place t new.place) same) in
-    let scalars = scalars_of_front front (rest new) (sym (ap all_scalars whole) ∙ scalars-chars _ (rest_utf8 old h)) in
+    let scalars = scalars_of_front front (rest new) (sym (ap all_scalars whole) ∙ scalars-chars _ (rest_utf8 old)) in
     ap (λ t. list_any is_line_terminator (chars t)) bytes
     ∙ ap (list_any is_line_terminator) (chars-encodes front scalars)
     ∙ ends_in_front (before_pair block_end (rest old))

@@ -29,7 +29,7 @@ use Rattle.js_grammar.proofs.EscapeCases.{zero_alone, octal_escape_is, digit_esc
 use Rattle.js_grammar.proofs.EscapeCases.{digit_escape_itself, escape_at_end, escape_is_one}
 use Rattle.js_grammar.proofs.Tests.{and_false}
 use Rattle.js_grammar.proofs.UnicodeEscapes.{digits_taken, behind, below_digit}
-use Rattle.js_source.specs.Source.{At, rest, Reads, IsPlaced}
+use Rattle.js_source.specs.Source.{At, rest, Reads}
 use Rattle.js_spell.specs.Escape.{TakesDigit, TakesDigits, ReadsEscapeOf, ReadsEscape}
 use Rattle.js_spell.specs.Escape.{escaped_units, escaped_fault}
 use Rattle.js_spell.specs.declared.escape.Escaped.{Escaped}
@@ -220,13 +220,13 @@ tail_of b cs [] ys e h = absurd (omega arith)
 tail_of b cs (x ∷ xs) ys e h = ap (drop 1) e
 
 -- an escape ends no earlier than it begins
-pub escape_moves_on : (t : Bool) (c : ℕ) (old mid new : At) (found : Escaped) → IsPlaced old → IsPlaced new
-    → Reads old mid c → ReadsEscapeOf (escape t (c ∷ rest mid)) mid new found
+pub escape_moves_on : (t : Bool) (c : ℕ) (old mid new : At) (found : Escaped) → Reads old mid c
+    → ReadsEscapeOf (escape t (c ∷ rest mid)) mid new found
     → old.place ≤ new.place
-escape_moves_on t c old mid new found h g read escaped =
+escape_moves_on t c old mid new found read escaped =
     let item = escape t (rest old) in
     let head = (escape_is_one t (rest old)).head in
     let left : item.rest ≡ rest new = ap (λ cs. (escape t cs).rest) read.here ∙ escaped.left in
     let here : rest old ≡ drop 1 item.text ++ rest new =
     tail_of backslash (rest old) item.text item.rest head.here head.some ∙ ap (λ cs. drop 1 item.text ++ cs) left in
-    omega (arith, leads_to old new (drop 1 item.text) h g (escaped.text ∙ read.text) here)
+    omega (arith, leads_to old new (drop 1 item.text) (escaped.text ∙ read.text) here)

@@ -5,7 +5,7 @@ use Rattle.std.proofs.Common.{append_assoc, append-nil, arith, ◌≤◌}
 use Rattle.js_text.specs.Characters.{begins, before_first}
 use Rattle.js_text.specs.declared.diagnostic.Diagnostic.{Diagnostic}
 use Rattle.js_text.specs.declared.diagnostic.Diagnostic.TheVariants.{InvalidNumberEnd}
-use Rattle.js_source.specs.Source.{At, rest, IsPlaced, BeginsWith, StepsPast}
+use Rattle.js_source.specs.Source.{At, rest, BeginsWith, StepsPast}
 use Rattle.js_grammar.specs.Reading.{Reading, moved_diagnostic, moved_diagnostics, place_behind, reported_at}
 use Rattle.js_grammar.specs.Number.{may_not_follow_number}
 use Rattle.js_grammar.specs.NumberReads.{is_no_start, invalid_end, invalid_number_end, number_items, items_text}
@@ -32,19 +32,18 @@ split c [] h = absurd h
 split c (d ∷ ds) h = ap (λ e. e ∷ ds) h
 
 -- the characters that may not follow, and what is reported over them
-pub bad_end_read : (old mid skipped new : At) (before after : List Diagnostic) (c start end : ℕ) → IsPlaced old
-    → IsPlaced skipped
+pub bad_end_read : (old mid skipped new : At) (before after : List Diagnostic) (c start end : ℕ)
     → BeginsWith c (rest old) → StepsPast old mid → may_not_follow_number c ≡ true → skipped.text ≡ mid.text
     → rest mid ≡ before_first is_no_start (rest mid) ++ rest skipped → new.text ≡ skipped.text → rest new ≡ []
     → start ≡ old.place → end ≡ skipped.place
     → after ≡ before ++ (InvalidNumberEnd (record { start = start; end = end }) ∷ [])
     → ReadsBadEnd old new before after true
-bad_end_read old mid skipped new before after c start end h k first past bad moved passed ended nothing s e reports =
+bad_end_read old mid skipped new before after c start end first past bad moved passed ended nothing s e reports =
     let step = past c (drop 1 (rest old)) (split c (rest old) first) in
     let here : rest old ≡ c ∷ rest mid = split c (rest old) first ∙ ap (λ t. c ∷ t) (sym step.1) in
     let xs : List ℕ = c ∷ before_first is_no_start (rest mid) in
     let whole : rest old ≡ xs ++ rest skipped = here ∙ ap (λ t. c ∷ t) passed in
-    let place = leads_to old skipped xs h k (moved ∙ step.0) whole in
+    let place = leads_to old skipped xs (moved ∙ step.0) whole in
     let over : xs ≡ invalid_end (rest old) = ap invalid_end (sym here) in
     let from : InvalidNumberEnd (record { start = start; end = end })
     ≡ InvalidNumberEnd (record { start = old.place; end = end }) =
@@ -100,10 +99,9 @@ bad_end_at place text number =
 
 -- and one that does not
 pub bad_number_read : (old mid new : At) (before during after : List Diagnostic) (g : Bool) (kind : Kind)
-    → IsPlaced old → IsPlaced mid
     → ReadsCut old mid before during false g kind (number_items (rest old)) → ReadsBadEnd mid new during after true
     → ReadsNumber old new before after Eof g
-bad_number_read old mid new before during after g kind h k cut end =
+bad_number_read old mid new before during after g kind cut end =
     let number = number_items (rest old) in
     let bad = read_badly (rest old) number (ap (begins may_not_follow_number) cut.left ∙ end.0) in
     let first = missing_digits old.place number.items in
@@ -112,7 +110,7 @@ bad_number_read old mid new before during after g kind h k cut end =
       | inl none ↦
           (let not : begins may_not_follow_number (rest mid) ≡ false = ap (begins may_not_follow_number) none in
           absurd (clash (rest mid) end.0 not))
-      | inr here ↦ leads_to old mid (items_text number.items) h k cut.text here
+      | inr here ↦ leads_to old mid (items_text number.items) cut.text here
     ] in
     record {
       read = record {
@@ -178,26 +176,25 @@ number_broken old new before after broken =
 
 -- where items were read, the source stands no further back
 cut_onward : (old new : At) (before after : List Diagnostic) (f g : Bool) (kind : Kind) (number : Items)
-    → IsPlaced old → IsPlaced new → ReadsCut old new before after f g kind number → old.place ≤ new.place
-cut_onward old new before after f g kind number h k cut =
+    → ReadsCut old new before after f g kind number → old.place ≤ new.place
+cut_onward old new before after f g kind number cut =
     elim cut.here [
       | inl none ↦
           omega (
             arith,
-            leads_to old new (rest old) h k cut.text
+            leads_to old new (rest old) cut.text
                 (sym (append-nil (rest old)) ∙ ap (λ t. rest old ++ t) (sym none)),
           )
-      | inr here ↦ omega (arith, leads_to old new (items_text number.items) h k cut.text here)
+      | inr here ↦ omega (arith, leads_to old new (items_text number.items) cut.text here)
     ]
 
 -- Its items were read, and then its end broke off, which has reported nothing.
 pub number_end_broken : (old mid new : At) (before during after : List Diagnostic) (g : Bool) (kind : Kind)
-    → IsPlaced old → IsPlaced mid
     → ReadsCut old mid before during false g kind (number_items (rest old)) → BreaksOff [] mid new during after
     → BreaksOff (reported_at old.place (number_reading (rest old))) old new before after
-number_end_broken old mid new before during after g kind h k cut broken =
+number_end_broken old mid new before during after g kind cut broken =
     let told = missing_digits old.place (number_items (rest old)).items in
     number_broken old new before after
     (broken_behind told [] told old mid new before during after cut.text
-    (cut_onward old mid before during false g kind (number_items (rest old)) h k cut) cut.reports
+    (cut_onward old mid before during false g kind (number_items (rest old)) cut) cut.reports
     (sym (append-nil told)) broken)

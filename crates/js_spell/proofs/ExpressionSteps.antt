@@ -23,7 +23,7 @@ use Rattle.js_grammar.proofs.GoalReadings.{FindsParts, finds_body_characters, fi
 use Rattle.js_grammar.proofs.NumberItems.{true_or_false}
 use Rattle.js_grammar.proofs.NumberSound.{first_is}
 use Rattle.js_source.specs.Runs.{IsRun, PassesRun, TellsClass}
-use Rattle.js_source.specs.Source.{At, rest, HasFirstByte, IsPlaced, StepsPast}
+use Rattle.js_source.specs.Source.{At, rest, HasFirstByte, StepsPast}
 use Rattle.js_source.proofs.RunSteps.{from_first-run}
 use Rattle.js_spell.specs.RegularExpression.{IsAtLineEnd, PassesBackslash, PassesBody, PassesClass, PassesParts}
 use Rattle.js_spell.specs.RegularExpression.{StaysInLine, is_line_end, marks, part_of}
@@ -347,24 +347,24 @@ body_breaks_in_class old mid behind new passed opened past onward unclosed =
     )
 
 -- the bytes up to a place lead there
-pub size_to : (old new : At) (kind : Kind) → IsPlaced old → IsPlaced new → new.text ≡ old.text
+pub size_to : (old new : At) (kind : Kind) → new.text ≡ old.text
     → Leaves (rest old) (rest new) → old.place + size_of (read_up_to kind (rest old) (rest new)) ≡ new.place
-size_to old new kind h g text left =
+size_to old new kind text left =
     omega (
       arith,
-      leads_to old new left.0 h g text left.1,
+      leads_to old new left.0 text left.1,
       ap (λ xs. length (encode_utf8_all xs)) (taken_is (rest old) left.0 (rest new) left.1),
     )
 
 -- and so do those from a mark of one byte on, which stands before
-pub size_from_mark : (mark start : ℕ) (old new : At) (kind : Kind) → mark < 128 → start + 1 ≡ old.place → IsPlaced old
-    → IsPlaced new → new.text ≡ old.text → Leaves (rest old) (rest new)
+pub size_from_mark : (mark start : ℕ) (old new : At) (kind : Kind) → mark < 128 → start + 1 ≡ old.place
+    → new.text ≡ old.text → Leaves (rest old) (rest new)
     → start + size_of (read_up_to kind (mark ∷ rest old) (rest new)) ≡ new.place
-size_from_mark mark start old new kind low begun h g text left =
+size_from_mark mark start old new kind low begun text left =
     omega (
       arith,
       begun,
-      leads_to old new left.0 h g text left.1,
+      leads_to old new left.0 text left.1,
       ap (λ xs. length (encode_utf8_all xs))
           (taken_is (mark ∷ rest old) (mark ∷ left.0) (rest new) (ap (λ t. mark ∷ t) left.1)),
       one_byte mark low,

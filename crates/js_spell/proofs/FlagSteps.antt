@@ -25,7 +25,7 @@ use Rattle.std.specs.Char.{encode_utf8}
 use Rattle.std.specs.Str.{encode_utf8_all}
 use Rattle.std.proofs.Common.{add-zero, length-append, subst}
 use Rattle.js_source.specs.Runs.{TellsClass}
-use Rattle.js_source.specs.Source.{At, rest, HasFirstByte, IsPlaced, StepsPast}
+use Rattle.js_source.specs.Source.{At, rest, HasFirstByte, StepsPast}
 use Rattle.js_source.proofs.Places.{ascii_next, begins_with}
 use Rattle.js_grammar.proofs.NumberItems.{true_or_false}
 use Rattle.js_source.specs.Search.{matches_at}
@@ -157,21 +157,21 @@ flags_read pattern_end old new before after flags flags_error info behind h ends
     info_of f e = record { pattern_end = pattern_end; flags = f; flags_error = e }
 
 -- a letter is a part of names in ASCII
-pub letter_taken : (old new : At) (b : ℕ) → IsPlaced old → IsPlaced new → b < 128 → is_identifier_part b ≡ true
+pub letter_taken : (old new : At) (b : ℕ) → b < 128 → is_identifier_part b ≡ true
     → HasFirstByte b (rest old) → StepsPast old new → TakesLetter old new b
-letter_taken old new b h g low part first past =
+letter_taken old new b low part first past =
     let next = begins_with b (rest old) (ascii_next b (rest old) low first) in
     let step = past b next.0 next.1 in
     let here : rest old ≡ b ∷ rest new = next.1 ∙ ap (λ t. b ∷ t) (sym step.1) in
     record {
       read = record { text = step.0; here = here };
       is_letter = rw (part, lt-ltb b 128 low) refl;
-      place = leads_to old new (b ∷ []) h g step.0 here ∙ ap (λ n. old.place + n) (one_byte b low);
+      place = leads_to old new (b ∷ []) step.0 here ∙ ap (λ n. old.place + n) (one_byte b low);
     }
 
 -- the place of a letter has one behind it
-pub letter_place : (old new : At) (b at : ℕ) → at ≡ old.place → IsPlaced new → TakesLetter old new b → at + 1 < 2 ^ 32
-letter_place old new b at is placed taken = omega (arith, is, taken.place, placed.boundary.0, placed.short)
+pub letter_place : (old new : At) (b at : ℕ) → at ≡ old.place → TakesLetter old new b → at + 1 < 2 ^ 32
+letter_place old new b at is taken = omega (arith, is, taken.place, new.placed.boundary.0, new.placed.short)
 
 -- the table of parts has ASCII characters alone
 pub low_letter : (table : List Bool) (b : ℕ) → TellsClass is_identifier_part table → matches_at table b ≡ true → b < 128
@@ -199,13 +199,13 @@ letters_broken pattern_end old now new before between after flags flags_error b 
 }
 
 -- the `/` that ends a pattern
-pub slash_passed : (old mid new : At) (pattern_end : ℕ) → pattern_end ≡ mid.place → IsPlaced mid → IsPlaced new
-    → PassesBody old mid true → StepsPast mid new → pattern_end + 1 ≡ new.place
-slash_passed old mid new pattern_end is h g passed past =
+pub slash_passed : (old mid new : At) (pattern_end : ℕ) → pattern_end ≡ mid.place → PassesBody old mid true
+    → StepsPast mid new → pattern_end + 1 ≡ new.place
+slash_passed old mid new pattern_end is passed past =
     let here = first_is slash (rest mid) passed.1 in
     let step = past slash (drop 1 (rest mid)) here in
     let way =
-    leads_to mid new (slash ∷ []) h g step.0 (here ∙ ap (λ t. slash ∷ t) (sym step.1)) in
+    leads_to mid new (slash ∷ []) step.0 (here ∙ ap (λ t. slash ∷ t) (sym step.1)) in
     omega (arith, is, way, one_byte slash (omega arith))
 
 -- Where a body that a `/` ends was passed, and the `/` behind it.
@@ -215,10 +215,10 @@ record IsClosed (start : ℕ) (old mid behind : At) (pattern_end : ℕ) : Type 0
   pub step : drop 1 (rest mid) ≡ rest behind
   pub end : start + size_of (read_up_to RegExp (slash ∷ rest old) (rest mid)) ≡ pattern_end
 
-closed_read : (start : ℕ) (old mid behind : At) (pattern_end : ℕ) → IsPlaced old → IsPlaced mid
-    → start + 1 ≡ old.place → pattern_end ≡ mid.place → PassesBody old mid true → StepsPast mid behind
+closed_read : (start : ℕ) (old mid behind : At) (pattern_end : ℕ) → start + 1 ≡ old.place → pattern_end ≡ mid.place
+    → PassesBody old mid true → StepsPast mid behind
     → IsClosed start old mid behind pattern_end
-closed_read start old mid behind pattern_end h g begun ends passed past =
+closed_read start old mid behind pattern_end begun ends passed past =
     let here = first_is slash (rest mid) passed.1 in
     let step = past slash (drop 1 (rest mid)) here in
     let closed : begins (λ c. c == slash) (behind_body (rest old)) ≡ true =
@@ -229,7 +229,7 @@ closed_read start old mid behind pattern_end h g begun ends passed past =
           ∙ ap (with_flags_behind (slash ∷ rest old)) passed.0;
       step = sym step.1;
       end =
-          size_from_mark slash start old mid RegExp (omega arith) begun h g passed.2.text
+          size_from_mark slash start old mid RegExp (omega arith) begun passed.2.text
           (subst (Leaves (rest old)) passed.0 (body_leaves (rest old)))
           ∙ sym ends;
     }
@@ -247,12 +247,12 @@ told_of_flags start old mid behind pattern_end closed =
 
 -- A body that a `/` ends, and the flags behind it.
 pub expression_closed : (start : ℕ) (old mid behind new : At) (before after : List Diagnostic) (info : RegexInfo)
-    (pattern_end : ℕ) → IsPlaced old → IsPlaced mid → start + 1 ≡ old.place → pattern_end ≡ mid.place
+    (pattern_end : ℕ) → start + 1 ≡ old.place → pattern_end ≡ mid.place
     → PassesBody old mid true → StepsPast mid behind
     → SpellsFlags pattern_end behind new before after info
     → SpellsExpression (regular_expression (rest old)) start old new before after info
-expression_closed start old mid behind new before after info pattern_end h g begun ends passed past flags =
-    let closed = closed_read start old mid behind pattern_end h g begun ends passed past in
+expression_closed start old mid behind new before after info pattern_end begun ends passed past flags =
+    let closed = closed_read start old mid behind pattern_end begun ends passed past in
     let size = size_of (read_up_to RegExp (slash ∷ rest old) (rest mid)) in
     let letters = before_first ends_flags (drop 1 (rest mid)) in
     let told = told_of_flags start old mid behind pattern_end closed in
@@ -278,12 +278,12 @@ expression_closed start old mid behind new before after info pattern_end h g beg
 
 -- Flags that broke off, behind a body that a `/` ends.
 pub flags_broken : (start : ℕ) (old mid behind new : At) (before after : List Diagnostic) (pattern_end : ℕ)
-    → IsPlaced old → IsPlaced mid → start + 1 ≡ old.place → pattern_end ≡ mid.place
+    → start + 1 ≡ old.place → pattern_end ≡ mid.place
     → PassesBody old mid true → StepsPast mid behind → mid.place ≤ behind.place
     → BreaksOff (flags_told pattern_end (rest behind)) behind new before after
     → BreaksOff (reported_at start (regular_expression (rest old))) old new before after
-flags_broken start old mid behind new before after pattern_end h g begun ends passed past onward broken =
-    let closed = closed_read start old mid behind pattern_end h g begun ends passed past in
+flags_broken start old mid behind new before after pattern_end begun ends passed past onward broken =
+    let closed = closed_read start old mid behind pattern_end begun ends passed past in
     rw (told_of_flags start old mid behind pattern_end closed)
     (broken_later (flags_told pattern_end (rest behind)) old behind new before after
     (closed.text ∙ passed.2.text) (omega (arith, passed.2.onward, onward)) broken)
@@ -299,10 +299,10 @@ body_broken start old mid new before after passed broken =
 
 -- A body that has no end.
 pub expression_broken : (start : ℕ) (old mid new : At) (before after : List Diagnostic) (info : RegexInfo)
-    → IsPlaced old → IsPlaced new → start + 1 ≡ old.place → PassesBody old mid false
+    → start + 1 ≡ old.place → PassesBody old mid false
     → BreaksLine start mid new before after info
     → SpellsExpression (regular_expression (rest old)) start old new before after info
-expression_broken start old mid new before after info h g begun passed breaks =
+expression_broken start old mid new before after info begun passed breaks =
     let whole = slash ∷ rest old in
     let text : breaks.behind.text ≡ old.text = breaks.same ∙ passed.1.text in
     let read : regular_expression (rest old) ≡ unterminated_expression whole =
@@ -317,12 +317,12 @@ expression_broken start old mid new before after info h g begun passed breaks =
     let reported : start + size_of (read_up_to RegExp whole (drop 1 (from_first is_line_terminator (rest old))))
     ≡ breaks.behind.place =
     ap (λ t. start + size_of (read_up_to RegExp whole t)) line
-    ∙ size_from_mark slash start old breaks.behind RegExp (omega arith) begun h breaks.placed text left in
+    ∙ size_from_mark slash start old breaks.behind RegExp (omega arith) begun text left in
     let end : start + place_behind 0 whole ≡ new.place =
     omega (
       arith,
       begun,
-      leads_to old new (rest old) h g (breaks.text ∙ passed.1.text)
+      leads_to old new (rest old) (breaks.text ∙ passed.1.text)
           (sym (append-nil (rest old)) ∙ ap (λ t. rest old ++ t) (sym breaks.nothing)),
       one_byte slash (omega arith),
       length-append (encode_utf8 slash) (encode_utf8_all (rest old)),

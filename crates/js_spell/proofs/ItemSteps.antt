@@ -26,7 +26,7 @@ use Rattle.js_grammar.proofs.StringSteps.{one_item, no_items_here, items_before-
 use Rattle.js_grammar.proofs.StringSteps.{string_units-append, item_reports-append, good_ones, good_ones_not_bad}
 use Rattle.js_grammar.proofs.StringSteps.{carriage_return_two, carriage_return_one, template_value_good}
 use Rattle.js_grammar.proofs.StringSteps.{template_value_bad}
-use Rattle.js_source.specs.Source.{At, rest, Reads, IsPlaced, HasFirstByte, StepsPast}
+use Rattle.js_source.specs.Source.{At, rest, Reads, HasFirstByte, StepsPast}
 use Rattle.js_spell.specs.Escape.{ReadsEscape}
 use Rattle.js_spell.specs.Strings.{in_template, item_of, ordinary_here, escape_here, PassesCharacters}
 use Rattle.js_spell.specs.Strings.{ReadsItems, ReadsOneItem, ReadsValue, value_of, told_value, StopIs}
@@ -52,10 +52,11 @@ scalars_front (x ∷ xs) ys e = front_of_and _ (scalars (xs ++ ys)) (scalars xs)
     front_of_and false b c f e = absurd (cc)
 
 -- the characters of a stretch of the source are what its bytes spell
-pub stretch_chars : (at : At) (xs ys bytes : List ℕ) → IsPlaced at → rest at ≡ xs ++ ys → bytes ≡ encode_utf8_all xs
+pub stretch_chars : (at : At) (xs ys bytes : List ℕ) → rest at ≡ xs ++ ys → bytes ≡ encode_utf8_all xs
     → chars bytes ≡ xs
-stretch_chars at xs ys bytes placed here e =
-    let whole = scalars-chars (drop at.place at.text) (IsUtf8-drop at.text at.place placed.utf8 placed.boundary) in
+stretch_chars at xs ys bytes here e =
+    let whole = scalars-chars (drop at.place at.text) (IsUtf8-drop at.text at.place at.placed.utf8 at.placed.boundary)
+    in
     ap chars e ∙ chars-encodes xs (scalars_front xs ys (ap scalars (sym here) ∙ whole))
 
 -- characters that stand for themselves, and their units
@@ -77,14 +78,14 @@ ordinary_items_read literal start old new us vs reports plain added = record {
 }
 
 pub copied : (literal : Literal) (start : ℕ) (old new : At) (us vs bytes : List ℕ) (reports : List Diagnostic)
-    → IsPlaced old → (plain : PassesCharacters literal old new) → vs ≡ us ++ units_of (chars bytes)
+    → (plain : PassesCharacters literal old new) → vs ≡ us ++ units_of (chars bytes)
     → bytes ≡ encode_utf8_all (string_text plain.ordinary.items)
     → ReadsItems literal start old new us vs reports reports false
-copied literal start old new us vs bytes reports placed plain added spelled =
+copied literal start old new us vs bytes reports plain added spelled =
     ordinary_items_read literal start old new us vs reports plain
     (added
     ∙ ap (λ cs. us ++ units_of cs)
-    (stretch_chars old (string_text plain.ordinary.items) (rest new) bytes placed plain.ordinary.here spelled))
+    (stretch_chars old (string_text plain.ordinary.items) (rest new) bytes plain.ordinary.here spelled))
 
 -- nothing yet
 pub no_items_read : (literal : Literal) (start : ℕ) (at : At) (us : List ℕ) (reports : List Diagnostic)
@@ -101,14 +102,14 @@ no_items_read literal start at us reports = record {
 
 -- items, and then more
 pub items_then : (literal : Literal) (start : ℕ) (old mid new : At) (us vs ws : List ℕ)
-    (before between after : List Diagnostic) (first_bad second_bad : Bool) → IsPlaced old → IsPlaced mid
-    → ReadsItems literal start old mid us vs before between first_bad
+    (before between after : List Diagnostic) (first_bad second_bad : Bool) → ReadsItems literal start old mid us vs
+    before between first_bad
     → ReadsItems literal start mid new vs ws between after second_bad
     → ReadsItems literal start old new us ws before after (first_bad || second_bad)
-items_then literal start old mid new us vs ws before between after first_bad second_bad h g first second =
+items_then literal start old mid new us vs ws before between after first_bad second_bad first second =
     let texts = string_text-append first.items second.items in
     let t = in_template literal in
-    let place = leads_to old mid (string_text first.items) h g first.text first.here in
+    let place = leads_to old mid (string_text first.items) first.text first.here in
     let first_reports = item_reports t start old.place first.items in
     record {
       text = second.text ∙ first.text;
@@ -136,15 +137,14 @@ items_then literal start old mid new us vs ws before between after first_bad sec
 
 -- Items were read, and then those behind them broke off.
 pub items_broken : (literal : Literal) (start : ℕ) (old mid new : At) (us vs : List ℕ)
-    (before between after : List Diagnostic) (bad : Bool) → IsPlaced old → IsPlaced mid
-    → ReadsItems literal start old mid us vs before between bad
+    (before between after : List Diagnostic) (bad : Bool) → ReadsItems literal start old mid us vs before between bad
     → BreaksOff (items_told literal start mid) mid new between after
     → BreaksOff (items_told literal start old) old new before after
-items_broken literal start old mid new us vs before between after bad h g read broken =
+items_broken literal start old mid new us vs before between after bad read broken =
     let t = in_template literal in
     let more = all_items (item_of literal) (rest mid) in
     let first = item_reports t start old.place read.items in
-    let place = leads_to old mid (string_text read.items) h g read.text read.here in
+    let place = leads_to old mid (string_text read.items) read.text read.here in
     let told : items_told literal start old ≡ first ++ items_told literal start mid =
     ap (λ (found : StringItems). item_reports t start old.place found.items) read.found
     ∙ item_reports-append t start old.place read.items more.items
@@ -154,22 +154,22 @@ items_broken literal start old mid new us vs before between after bad h g read b
 
 -- Characters that stand for themselves were passed, and then the items behind them broke off.
 pub plain_broken : (literal : Literal) (start : ℕ) (old mid new : At) (before after : List Diagnostic)
-    → IsPlaced old → IsPlaced mid → PassesCharacters literal old mid
+    → PassesCharacters literal old mid
     → BreaksOff (items_told literal start mid) mid new before after
     → BreaksOff (items_told literal start old) old new before after
-plain_broken literal start old mid new before after h g plain broken =
+plain_broken literal start old mid new before after plain broken =
     let us = units_of (string_text plain.ordinary.items) in
-    items_broken literal start old mid new [] us before before after false h g
+    items_broken literal start old mid new [] us before before after false
     (ordinary_items_read literal start old mid [] us before plain refl) broken
 
 -- All items were read, and then what ends them broke off, which has reported nothing.
 pub end_broken : (literal : Literal) (start : ℕ) (old mid new : At) (before between after : List Diagnostic)
-    (value : SpeltValue) → IsPlaced old → IsPlaced mid → ReadsValue literal start old mid before between value
+    (value : SpeltValue) → ReadsValue literal start old mid before between value
     → BreaksOff [] mid new between after → BreaksOff (items_told literal start old) old new before after
-end_broken literal start old mid new before between after value h g read broken =
+end_broken literal start old mid new before between after value read broken =
     let t = in_template literal in
     let first = item_reports t start old.place read.items in
-    let place = leads_to old mid (string_text read.items) h g read.text read.here in
+    let place = leads_to old mid (string_text read.items) read.text read.here in
     broken_behind (items_told literal start old) [] first old mid new before between after read.text
     (omega (arith, place)) read.reports
     (ap (λ (found : StringItems). item_reports t start old.place found.items) read.found ∙ sym (append-nil first))
@@ -177,15 +177,15 @@ end_broken literal start old mid new before between after value h g read broken 
 
 -- one item
 pub one_item_read : (literal : Literal) (start : ℕ) (old new : At) (us vs : List ℕ) (before after : List Diagnostic)
-    (bad : Bool) (item : StringItem) → IsPlaced old → IsPlaced new → new.text ≡ old.text
+    (bad : Bool) (item : StringItem) → new.text ≡ old.text
     → item_of literal (rest old) ≡ Some item → item.rest ≡ rest new → vs ≡ us ++ item.units
     → after ≡ before ++ fault_reports (in_template literal) start old.place new.place item.fault
     → is_bad_escape item.fault ≡ bad
     → ReadsOneItem literal start old new us vs before after bad
-one_item_read literal start old new us vs before after bad item h g text found left added reported is_bad =
+one_item_read literal start old new us vs before after bad item text found left added reported is_bad =
     let head = heads_of literal (rest old) item found in
     let here : rest old ≡ item.text ++ rest new = head.here ∙ ap (λ cs. item.text ++ cs) left in
-    let place = leads_to old new item.text h g text here in
+    let place = leads_to old new item.text text here in
     let t = in_template literal in
     record {
       shorter = omega (arith, ap length here, length-append item.text (rest new), head.some);
@@ -211,12 +211,11 @@ one_item_read literal start old new us vs before after bad item h g text found l
 
 -- a good escape, or one that the source ends
 pub good_escape_read : (literal : Literal) (start : ℕ) (old mid new : At) (us vs : List ℕ)
-    (before after : List Diagnostic) (is_template is_good : Bool) → IsPlaced old → IsPlaced new
-    → begins (λ c. c == backslash) (rest old) ≡ true
+    (before after : List Diagnostic) (is_template is_good : Bool) → begins (λ c. c == backslash) (rest old) ≡ true
     → StepsPast old mid → is_template ≡ in_template literal → is_good ≡ true
     → ReadsEscape is_template start mid new us vs before after is_good
     → ReadsOneItem literal start old new us vs before after false
-good_escape_read literal start old mid new us vs before after is_template is_good h g next past e good escape_read =
+good_escape_read literal start old mid new us vs before after is_template is_good next past e good escape_read =
     let read : ReadsEscape (in_template literal) start mid new us vs before after true =
     subst (λ b. ReadsEscape (in_template literal) start mid new us vs before after b) good
     (subst (λ b. ReadsEscape b start mid new us vs before after is_good) e escape_read) in
@@ -224,7 +223,7 @@ good_escape_read literal start old mid new us vs before after is_template is_goo
     let step = past backslash (drop 1 (rest old)) here in
     let t = in_template literal in
     let behind : rest old ≡ backslash ∷ rest mid = here ∙ ap (λ cs. backslash ∷ cs) (sym step.1) in
-    one_item_read literal start old new us vs before after false (escape t (rest mid)) h g (read.text ∙ step.0)
+    one_item_read literal start old new us vs before after false (escape t (rest mid)) (read.text ∙ step.0)
     (escape_item_here literal (rest old) (rest mid) behind) read.left read.units
     (read.reports ∙ ap (λ xs. before ++ xs) (same t (escape t (rest mid)).fault read.good)) read.good
   where
@@ -241,13 +240,13 @@ bad_is bad_escape e = refl
 bad_is unfinished_escape e = absurd (cc)
 
 pub bad_escape_read : (literal : Literal) (start : ℕ) (old mid new : At) (us vs : List ℕ)
-    (before between after : List Diagnostic) (is_template is_good : Bool) → IsPlaced old → IsPlaced new
-    → begins (λ c. c == backslash) (rest old) ≡ true
+    (before between after : List Diagnostic) (is_template is_good : Bool) → begins (λ c. c == backslash) (rest old) ≡
+    true
     → StepsPast old mid → is_template ≡ in_template literal → is_good ≡ false
     → ReadsEscape is_template start mid new us vs before between is_good
     → after ≡ between ++ fault_reports (in_template literal) start old.place new.place bad_escape
     → ReadsOneItem literal start old new us vs before after true
-bad_escape_read literal start old mid new us vs before between after is_template is_good h g next past e bad_one
+bad_escape_read literal start old mid new us vs before between after is_template is_good next past e bad_one
     escape_read reported =
     let read : ReadsEscape (in_template literal) start mid new us vs before between false =
     subst (λ b. ReadsEscape (in_template literal) start mid new us vs before between b) bad_one
@@ -259,18 +258,18 @@ bad_escape_read literal start old mid new us vs before between after is_template
     let bad = bad_is (escape t (rest mid)).fault read.good in
     let unchanged : between ≡ before =
     read.reports ∙ ap (λ fault. before ++ fault_reports true start mid.place new.place fault) bad ∙ append-nil before in
-    one_item_read literal start old new us vs before after true (escape t (rest mid)) h g (read.text ∙ step.0)
+    one_item_read literal start old new us vs before after true (escape t (rest mid)) (read.text ∙ step.0)
     (escape_item_here literal (rest old) (rest mid) behind) read.left read.units
     (reported ∙ ap (λ xs. xs ++ fault_reports t start old.place new.place bad_escape) unchanged
     ∙ ap (λ fault. before ++ fault_reports t start old.place new.place fault) (sym bad)) read.good
 
 -- CR, and perhaps LF
 pub line_end_read : (b : Bool) (start : ℕ) (old mid new : At) (us vs : List ℕ) (reports : List Diagnostic)
-    → IsPlaced old → IsPlaced new → begins (λ c. c == carriage_return) (rest old) ≡ true → StepsPast old mid
+    → begins (λ c. c == carriage_return) (rest old) ≡ true → StepsPast old mid
     → MatchBool b (Reads mid new line_feed) ((begins (λ d. d == line_feed) (rest mid) ≡ false) × (new ≡ mid))
     → vs ≡ us ++ (line_feed ∷ [])
     → ReadsOneItem Template start old new us vs reports reports false
-line_end_read b start old mid new us vs reports h g next past lf added =
+line_end_read b start old mid new us vs reports next past lf added =
     let here = first_is carriage_return (rest old) next in
     let step = past carriage_return (drop 1 (rest old)) here in
     let behind : rest old ≡ carriage_return ∷ rest mid = here ∙ ap (λ cs. carriage_return ∷ cs) (sym step.1) in
@@ -283,12 +282,12 @@ line_end_read b start old mid new us vs reports h g next past lf added =
     cases true found text read =
         let two = carriage_return_two (rest mid) (ap (begins (λ d. d == line_feed)) read.here) in
         one_item_read Template start old new us vs reports reports false
-        (line_end_item (carriage_return ∷ line_feed ∷ []) (drop 1 (rest mid))) h g (read.text ∙ text)
+        (line_end_item (carriage_return ∷ line_feed ∷ []) (drop 1 (rest mid))) (read.text ∙ text)
         (found ∙ ap Some two) (ap (drop 1) read.here) added (sym (append-nil reports)) refl
     cases false found text (none, same) =
         let one = carriage_return_one (rest mid) none in
         one_item_read Template start old new us vs reports reports false
-        (line_end_item (carriage_return ∷ []) (rest mid)) h g (ap (λ a. a.text) same ∙ text)
+        (line_end_item (carriage_return ∷ []) (rest mid)) (ap (λ a. a.text) same ∙ text)
         (found ∙ ap Some one) (ap rest (sym same)) added (sym (append-nil reports)) refl
 
 differs : (b c d : ℕ) (cs : List ℕ) → d < 128 → b ≢ d → HasFirstByte b (c ∷ cs) → (c == d) ≡ false
@@ -359,15 +358,15 @@ escaped_found literal text e =
 
 pub decoded_value_read : (literal : Literal) (start : ℕ) (old mid new : At) (us vs : List ℕ)
     (before after : List Diagnostic) (bad : Bool)
-    → IsPlaced old → IsPlaced mid → (plain : PassesCharacters literal old mid)
+    → (plain : PassesCharacters literal old mid)
     → us ≡ units_of (string_text plain.ordinary.items)
     → escape_here literal (rest mid) ≡ true
     → ReadsItems literal start mid new us vs before after bad
     → item_of literal (rest new) ≡ None
     → ReadsValue literal start old new before after (decoded_value literal bad vs)
-decoded_value_read literal start old mid new us vs before after bad h g plain added marked read end =
+decoded_value_read literal start old mid new us vs before after bad plain added marked read end =
     let first = ordinary_items_read literal start old mid [] us before plain added in
-    let all = items_then literal start old mid new [] us vs before before after false bad h g first read in
+    let all = items_then literal start old mid new [] us vs before before after false bad first read in
     let nothing = no_items_here (item_of literal) (rest new) end in
     let behind : all_items (item_of literal) (rest mid) ≡ record { items = read.items; rest = rest new } =
     read.found ∙ ap (items_before read.items) nothing
@@ -414,10 +413,9 @@ pub silent_in_template : (literal : Literal) (start place end : ℕ) (reports : 
     → reports ≡ reports ++ fault_reports (in_template literal) start place end bad_escape
 silent_in_template literal start place end reports t = rw t (sym (append-nil reports))
 
-pub passes_onward : (literal : Literal) (old new : At) → IsPlaced old → IsPlaced new
-    → PassesCharacters literal old new → old.place ≤ new.place
-passes_onward literal old new h g plain =
-    omega (arith, leads_to old new (string_text plain.ordinary.items) h g plain.text plain.ordinary.here)
+pub passes_onward : (literal : Literal) (old new : At) → PassesCharacters literal old new → old.place ≤ new.place
+passes_onward literal old new plain =
+    omega (arith, leads_to old new (string_text plain.ordinary.items) plain.text plain.ordinary.here)
 
 pub on_ok_map : {T E : Type 0} (r : Result T E) (P Q : Type 0) → (P → Q) → OnOk r P → OnOk r Q
 on_ok_map (Ok x) P Q f p = f p
@@ -435,17 +433,17 @@ is_template Template e = refl
 
 -- one more turn of the loop over items
 pub one_more_turn : (literal : Literal) (start : ℕ) (old here mid new : At) (us vs ws xs : List ℕ)
-    (before between after : List Diagnostic) (bad is_good all : Bool) → IsPlaced old → IsPlaced here → IsPlaced mid
-    → ReadsItems literal start old here us vs before between bad
+    (before between after : List Diagnostic) (bad is_good all : Bool) → ReadsItems literal start old here us vs before
+    between bad
     → ReadsOneItem literal start here mid vs ws between after (not is_good)
     → ReadsItems literal start mid new ws xs after after false
     → all ≡ (bad || not is_good)
     → ReadsItems literal start old new us xs before after all
-one_more_turn literal start old here mid new us vs ws xs before between after bad is_good all h g m so_far one copied
+one_more_turn literal start old here mid new us vs ws xs before between after bad is_good all so_far one copied
     e =
     subst (λ b. ReadsItems literal start old new us xs before after b) (or_false (bad || not is_good) ∙ sym e)
-    (items_then literal start old mid new us ws xs before after after (bad || not is_good) false h m
-    (items_then literal start old here mid us vs ws before between after bad (not is_good) h g so_far one.read)
+    (items_then literal start old mid new us ws xs before after after (bad || not is_good) false
+    (items_then literal start old here mid us vs ws before between after bad (not is_good) so_far one.read)
     copied)
   where
     or_false : (b : Bool) → (b || false) ≡ b

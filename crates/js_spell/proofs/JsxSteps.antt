@@ -26,7 +26,7 @@ use Rattle.js_grammar.specs.UnicodeEscape.{left_curly_bracket}
 use Rattle.js_grammar.proofs.NumberItems.{true_or_false}
 use Rattle.js_source.specs.Runs.{PassesRun, TellsClass}
 use Rattle.js_source.specs.Search.{matches_at}
-use Rattle.js_source.specs.Source.{At, rest, HasFirstByte, IsPlaced, Reads, StepsPast, BeginsWith}
+use Rattle.js_source.specs.Source.{At, rest, HasFirstByte, Reads, StepsPast, BeginsWith}
 use Rattle.js_source.proofs.Places.{ascii_next, begins_with}
 use Rattle.js_source.proofs.RunSteps.{from_first-run}
 use Rattle.js_spell.specs.Spells.{ReadsAs}
@@ -248,12 +248,12 @@ text_before old new b left next =
     let found = begins_with b (rest new) next in
     (found.0, found.1, ap (jsx_text_before (rest old)) (sym left ∙ found.1))
 
-pub text_before_other : (old new : At) (before after : List Diagnostic) (b at : ℕ) → IsPlaced old → IsPlaced new
-    → new.text ≡ old.text → rest new ≡ from_first ends_jsx_text (rest old)
+pub text_before_other : (old new : At) (before after : List Diagnostic) (b at : ℕ) → new.text ≡ old.text
+    → rest new ≡ from_first ends_jsx_text (rest old)
     → BeginsWith b (rest new) → begins_child b ≡ false → at ≡ new.place
     → after ≡ before ++ UnexpectedJsxEnd b (empty_span at) ∷ []
     → ReadsAs (jsx_text_reading (rest old)) old.place old new before after Eof
-text_before_other old new before after b at h g text left next none is e =
+text_before_other old new before after b at text left next none is e =
     let found = text_before old new b left next in
     let size = size_of (read_up_to Eof (rest old) (b ∷ found.0)) in
     let read : jsx_text_reading (rest old)
@@ -261,7 +261,7 @@ text_before_other old new before after b at h g text left next none is e =
     let leaves : Leaves (rest old) (rest new) =
     subst (Leaves (rest old)) (sym left) (leaves_from_first ends_jsx_text (rest old)) in
     let place : old.place + size ≡ at =
-    ap (λ t. old.place + size_of (read_up_to Eof (rest old) t)) (sym found.1) ∙ size_to old new Eof h g text leaves
+    ap (λ t. old.place + size_of (read_up_to Eof (rest old) t)) (sym found.1) ∙ size_to old new Eof text leaves
     ∙ sym is in
     record {
       text = text;
@@ -331,14 +331,14 @@ string_closed old mid here new within errors b is quote text left stop past =
 behind_from_start : (place : ℕ) (text : List ℕ) → place_behind place text ≡ place + place_behind 0 text
 behind_from_start place text = omega arith
 
-pub string_open : (old mid new : At) (within : Text) (before after : List Diagnostic) (start : ℕ) → IsPlaced old
-    → IsPlaced new → begins is_quote (rest old) ≡ true → TakesJsxQuote old mid within → new.text ≡ mid.text
+pub string_open : (old mid new : At) (within : Text) (before after : List Diagnostic) (start : ℕ)
+    → begins is_quote (rest old) ≡ true → TakesJsxQuote old mid within → new.text ≡ mid.text
     → rest new ≡ from_first (ends_of within) (rest mid) → rest new ≡ [] → start ≡ old.place
     → after ≡ before ++ UnterminatedString (stretch start new.place) ∷ []
     → SpellsJsxString old new before after Eof
-string_open old mid new within before after start h g is quote text left none at e =
+string_open old mid new within before after start is quote text left none at e =
     let whole : new.place ≡ place_behind old.place (rest old) =
-    leads_to old new (rest old) h g (text ∙ quote.read.text)
+    leads_to old new (rest old) (text ∙ quote.read.text)
     (sym (append-nil (rest old)) ∙ ap (λ t. rest old ++ t) (sym none)) in
     record {
       found = jsx_string_before (rest old) [];

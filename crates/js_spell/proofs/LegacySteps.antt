@@ -4,7 +4,7 @@ use Rattle.std.proofs.Common.{arith, append_assoc}
 use Rattle.js_text.specs.Ascii.{low_line}
 use Rattle.js_text.specs.Characters.{begins, from_place}
 use Rattle.js_text.specs.declared.diagnostic.Diagnostic.{Diagnostic}
-use Rattle.js_source.specs.Source.{At, rest, IsPlaced}
+use Rattle.js_source.specs.Source.{At, rest}
 use Rattle.js_source.specs.Search.{matches_at}
 use Rattle.js_source.specs.Runs.{IsRun, PassesRun, TellsClass}
 use Rattle.js_grammar.specs.Number.{Item, whole, are_digits}
@@ -111,11 +111,10 @@ legacy_octal_read old new reports flag p =
       kind_is = refl;
     })
 
-pub legacy_decimal_read : (old mid new : At) (before after : List Diagnostic) (f g : Bool) (kind : Kind) → IsPlaced old
-    → IsPlaced mid
+pub legacy_decimal_read : (old mid new : At) (before after : List Diagnostic) (f g : Bool) (kind : Kind)
     → PassesUnseparatedDigits old false mid → ReadsEnd mid new before after f g kind (behind_digits (rest mid))
     → ReadsEnd old new before after f g kind (legacy_items (rest old))
-legacy_decimal_read old mid new before after f g kind p q passed end =
+legacy_decimal_read old mid new before after f g kind passed end =
     let some : are_digits 8 (unseparated_digits (rest old)).text ≡ false =
     ap (λ (i : Item). are_digits 8 i.text) passed.item ∙ passed.octal in
     let found : legacy_items (rest old) ≡ items-cons (whole passed.characters (rest mid)) (behind_digits (rest mid)) =
@@ -123,24 +122,23 @@ legacy_decimal_read old mid new before after f g kind p q passed end =
     rw found (record {
       items =
           items_append old mid new before before after f f g (whole passed.characters (rest mid) ∷ [])
-          (behind_digits (rest mid)).items p q
+          (behind_digits (rest mid)).items
           (whole_item_read old mid before f passed.characters (rest mid) passed.text passed.here passed.separator)
           end.items;
       left = end.left;
       kind_is = end.kind_is;
     })
 
-pub legacy_broken : (old mid new : At) (before after : List Diagnostic) → IsPlaced old → IsPlaced mid
-    → PassesUnseparatedDigits old false mid
+pub legacy_broken : (old mid new : At) (before after : List Diagnostic) → PassesUnseparatedDigits old false mid
     → BreaksOff (missing_digits mid.place (behind_digits (rest mid)).items) mid new before after
     → BreaksOff (missing_digits old.place (legacy_items (rest old)).items) old new before after
-legacy_broken old mid new before after p q passed broken =
+legacy_broken old mid new before after passed broken =
     let some : are_digits 8 (unseparated_digits (rest old)).text ≡ false =
     ap (λ (i : Item). are_digits 8 i.text) passed.item ∙ passed.octal in
     let found : legacy_items (rest old) ≡ items-cons (whole passed.characters (rest mid)) (behind_digits (rest mid)) =
     legacy_decimal_items (rest old) some ∙ ap (λ (i : Item). items-cons i (behind_digits i.rest)) passed.item in
     rw found
     (items_broken old mid new before before after false false (whole passed.characters (rest mid) ∷ [])
-    (behind_digits (rest mid)).items p q
+    (behind_digits (rest mid)).items
     (whole_item_read old mid before false passed.characters (rest mid) passed.text passed.here passed.separator)
     broken)

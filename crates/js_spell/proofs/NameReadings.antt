@@ -23,7 +23,7 @@ use Rattle.js_text.specs.declared.diagnostic.Diagnostic.TheVariants.{InvalidChar
 use Rattle.js_text.specs.declared.diagnostic.Diagnostic.TheVariants.{UnicodeEscapeSequence}
 use Rattle.js_text.specs.declared.span.Span.{Span}
 use Rattle.js_text.proofs.TextLemmas.{before_from}
-use Rattle.js_source.specs.Source.{At, rest, IsPlaced, StepsPast, Reads, HasFirstByte}
+use Rattle.js_source.specs.Source.{At, rest, StepsPast, Reads, HasFirstByte}
 use Rattle.js_grammar.specs.Name.{NameItem, NameFault, CutsInto, items_text, items_value, items_report, item_report}
 use Rattle.js_grammar.specs.Name.{fault_report, ordinary_item, is_no_part, name_item, escape_item, name_reading}
 use Rattle.js_grammar.specs.Name.{begins_name, contains_escape, items_reading, name_items, name_value}
@@ -99,12 +99,12 @@ module _ (position : Position) (old mid new : At) (decoding : Decoding)
     );
   }
 
-  behind_mark : IsPlaced old → IsPlaced mid → mid.place ≡ old.place + 1
-  behind_mark h k =
-      omega (arith, leads_to old mid (backslash ∷ []) h k step.0 at_mark, one_byte)
+  behind_mark : mid.place ≡ old.place + 1
+  behind_mark =
+      omega (arith, leads_to old mid (backslash ∷ []) step.0 at_mark, one_byte)
 
-  behind_escape : IsPlaced old → IsPlaced new → new.place ≡ place_behind old.place item.text
-  behind_escape h k = leads_to old new item.text h k (decodes.text ∙ step.0) whole
+  behind_escape : new.place ≡ place_behind old.place item.text
+  behind_escape = leads_to old new item.text (decodes.text ∙ step.0) whole
 
   behind_first : (taken : List ℕ) × (rest mid ≡ taken ++ rest new)
   behind_first =
@@ -122,58 +122,53 @@ module _ (position : Position) (old mid new : At) (decoding : Decoding)
         length-append behind_first.0 (rest new),
       )
 
-  pub escape_onward : IsPlaced mid → IsPlaced new → mid.place ≤ new.place
-  escape_onward h k =
-      omega (arith, leads_to mid new behind_first.0 h k decodes.text behind_first.1)
+  pub escape_onward : mid.place ≤ new.place
+  escape_onward =
+      omega (arith, leads_to mid new behind_first.0 decodes.text behind_first.1)
 
   -- what is wrong with it was not reported
-  pub escape_unreported : (before after : List Diagnostic) → IsPlaced old → IsPlaced mid → IsPlaced new
-      → after ≡ before → BreaksOff [] old new before after
-  escape_unreported before after h m k e =
-      unreported [] old new before after (decodes.text ∙ step.0) (omega (arith, behind_mark h m, escape_onward m k)) e
+  pub escape_unreported : (before after : List Diagnostic) → after ≡ before → BreaksOff [] old new before after
+  escape_unreported before after e =
+      unreported [] old new before after (decodes.text ∙ step.0) (omega (arith, behind_mark, escape_onward)) e
 
-  pub escape_read : (before after : List Diagnostic) (c : Option ℕ) → IsPlaced old → IsPlaced new
-      → value_of_decoding decoding ≡ option_to_list c
+  pub escape_read : (before after : List Diagnostic) (c : Option ℕ) → value_of_decoding decoding ≡ option_to_list c
       → after ≡ before ++ reported old.place new.place (fault_of_decoding decoding)
       → ReadsEscape position old new before after c
-  escape_read before after c h k value report = record {
+  escape_read before after c value report = record {
     item = item;
     goes_on = goes;
     reports =
         report
-        ∙ ap (λ end. before ++ reported old.place end (fault_of_decoding decoding)) (behind_escape h k)
+        ∙ ap (λ end. before ++ reported old.place end (fault_of_decoding decoding)) (behind_escape)
         ∙ ap (λ o. before ++ reported old.place (place_behind old.place item.text) o) (sym decodes.fault);
     value = decodes.value ∙ value;
     is_escape = (escape_takes (class_of position) (rest mid)).is_escape;
     fewer = escape_fewer;
   }
 
-  pub character_read : (errors : List Diagnostic) (c : ℕ) → IsPlaced old → IsPlaced new → decoding ≡ Character c
+  pub character_read : (errors : List Diagnostic) (c : ℕ) → decoding ≡ Character c
       → ReadsEscape position old new errors errors (Some c)
-  character_read errors c h k is =
-      escape_read errors errors (Some c) h k (ap value_of_decoding is)
-      (sym (append-nil errors)
+  character_read errors c is =
+      escape_read errors errors (Some c) (ap value_of_decoding is) (sym (append-nil errors)
       ∙ ap (λ d. errors ++ reported old.place new.place (fault_of_decoding d)) (sym is))
 
-  pub bad_read : (before after : List Diagnostic) (span : Span) → IsPlaced old → IsPlaced mid → IsPlaced new
-      → decoding ≡ Bad → span ≡ record { start = mid.place; end = new.place }
+  pub bad_read : (before after : List Diagnostic) (span : Span) → decoding ≡ Bad
+      → span ≡ record { start = mid.place; end = new.place }
       → after ≡ before ++ UnicodeEscapeSequence span ∷ []
       → ReadsEscape position old new before after None
-  bad_read before after span h m k is s report =
-      escape_read before after None h k (ap value_of_decoding is)
-      (report
+  bad_read before after span is s report =
+      escape_read before after None (ap value_of_decoding is) (report
       ∙ ap (λ (t : Span). before ++ UnicodeEscapeSequence t ∷ []) s
       ∙ ap (λ (start : ℕ). before ++ UnicodeEscapeSequence (record { start = start; end = new.place }) ∷ [])
-      (behind_mark h m)
+      (behind_mark)
       ∙ ap (λ d. before ++ reported old.place new.place (fault_of_decoding d)) (sym is))
 
-  pub not_allowed_read : (before after : List Diagnostic) (c : ℕ) (span : Span) → IsPlaced old → IsPlaced new
-      → decoding ≡ NotAllowed c → span ≡ record { start = new.place; end = new.place }
+  pub not_allowed_read : (before after : List Diagnostic) (c : ℕ) (span : Span) → decoding ≡ NotAllowed c
+      → span ≡ record { start = new.place; end = new.place }
       → after ≡ before ++ InvalidCharacter c span ∷ []
       → ReadsEscape position old new before after None
-  not_allowed_read before after c span h k is s report =
-      escape_read before after None h k (ap value_of_decoding is)
-      (report
+  not_allowed_read before after c span is s report =
+      escape_read before after None (ap value_of_decoding is) (report
       ∙ ap (λ (t : Span). before ++ InvalidCharacter c t ∷ []) s
       ∙ ap (λ d. before ++ reported old.place new.place (fault_of_decoding d)) (sym is))
 
@@ -243,12 +238,11 @@ reports_append place (x ∷ xs) ys =
 
 pub then_read : (from : Position) (old : At) (to : Position) (mid : At) (last : Position) (new : At)
     (before during after : List Diagnostic) (was between now : List ℕ) (first_has second_has : Bool)
-    → IsPlaced old → IsPlaced mid
     → ReadsItems from old to mid before during was between first_has
     → ReadsItems to mid last new during after between now second_has
     → ReadsItems from old last new before after was now (first_has || second_has)
-then_read from old to mid last new before during after was between now first_has second_has h k a b =
-    let place = leads_to old mid (items_text a.items) h k a.goes_on.text a.goes_on.here in
+then_read from old to mid last new before during after was between now first_has second_has a b =
+    let place = leads_to old mid (items_text a.items) a.goes_on.text a.goes_on.here in
     record {
       items = a.items ++ b.items;
       goes_on = record {
@@ -281,14 +275,14 @@ then_read from old to mid last new before during after was between now first_has
 
 -- Items were read, and then those behind them broke off.
 pub items_broken : (from : Position) (old : At) (to : Position) (mid new : At)
-    (before during after : List Diagnostic) (was between : List ℕ) (has_escape : Bool) → IsPlaced old → IsPlaced mid
-    → ReadsItems from old to mid before during was between has_escape
+    (before during after : List Diagnostic) (was between : List ℕ) (has_escape : Bool) → ReadsItems from old to mid
+    before during was between has_escape
     → BreaksOff (items_told to mid) mid new during after → BreaksOff (items_told from old) old new before after
-items_broken from old to mid new before during after was between has_escape h k read broken =
+items_broken from old to mid new before during after was between has_escape read broken =
     let items = read.items in
     let more = name_items (class_of to) (rest mid) in
     let cut = items_cut (class_of to) (rest mid) in
-    let place = leads_to old mid (items_text items) h k read.goes_on.text read.goes_on.here in
+    let place = leads_to old mid (items_text items) read.goes_on.text read.goes_on.here in
     let told : items_told from old ≡ items_report old.place items ++ items_told to mid =
     ap (items_report old.place)
     (cut_items (class_of from) (rest old) (items ++ more) cut.rest (read.goes_on.go_on more cut.rest cut.cut))
@@ -299,12 +293,12 @@ items_broken from old to mid new before during after was between has_escape h k 
 
 -- An escape was read, and then what is behind it broke off.
 pub escape_broken : (position : Position) (old mid new : At) (before during after : List Diagnostic) (c : Option ℕ)
-    → IsPlaced old → IsPlaced mid → ReadsEscape position old mid before during c
+    → ReadsEscape position old mid before during c
     → BreaksOff (items_told Later mid) mid new during after → BreaksOff (items_told position old) old new before after
-escape_broken position old mid new before during after c h k read broken =
+escape_broken position old mid new before during after c read broken =
     let items = read.item ∷ [] in
     items_broken position old Later mid new before during after [] (encode_utf8_all (items_value items))
-    (list_any (λ (item : NameItem). item.is_escape) items) h k (record {
+    (list_any (λ (item : NameItem). item.is_escape) items) (record {
       items = items;
       goes_on = read.goes_on;
       reports = read.reports ∙ ap (λ ds. before ++ ds) (sym (append-nil (item_report old.place read.item)));
@@ -315,11 +309,11 @@ escape_broken position old mid new before during after c h k read broken =
 -- parts that stand for themselves, behind what was read
 pub parts_added : (from : Position) (old mid new : At) (before after : List Diagnostic) (was between now : List ℕ)
     (has_escape : Bool)
-    → IsPlaced old → IsPlaced mid → ReadsItems from old Later mid before after was between has_escape
+    → ReadsItems from old Later mid before after was between has_escape
     → PassesParts mid new between now
     → ReadsItems from old Later new before after was now (has_escape || false)
-parts_added from old mid new before after was between now has_escape h k so_far passes =
-    then_read from old Later mid Later new before after after was between now has_escape false h k so_far
+parts_added from old mid new before after was between now has_escape so_far passes =
+    then_read from old Later mid Later new before after after was between now has_escape false so_far
     (plain_read Later mid Later new after between now passes.characters passes.goes_on passes.value)
 
 pub parts_fewer : (old new : At) (was now : List ℕ) → PassesParts old new was now
@@ -331,12 +325,11 @@ parts_fewer old new was now passes =
 -- a name, read on from its first escape, behind its beginning without one
 pub name_decoded : (from : Position) (old mid new : At) (before during after : List Diagnostic)
     (was between now : List ℕ) (has_escape : Bool)
-    → IsPlaced old → IsPlaced mid
     → ReadsItems from old Later mid before during was between true
     → ReadsToEnd Later mid new during after between now has_escape
     → ReadsToEnd from old new before after was now true
-name_decoded from old mid new before during after was between now has_escape h k first more = record {
-  read = then_read from old Later mid Later new before during after was between now true has_escape h k first more.read;
+name_decoded from old mid new before during after was between now has_escape first more = record {
+  read = then_read from old Later mid Later new before during after was between now true has_escape first more.read;
   end = more.end;
 }
 
@@ -406,19 +399,18 @@ unescaped_spelled old new errors was now Later plain spelt passes none spells fl
 -- and one with escapes
 pub escaped_spelled : (old mid new : At) (before after : List Diagnostic) (was now : TokenParts) (to : Position)
     (plain : List ℕ) (spelt : Spelt)
-    → IsPlaced old → IsPlaced mid
     → PassesUnescaped old to mid
     → ((xs : List ℕ) → from_place mid.text old.place ≡ xs ++ rest mid → plain ≡ encode_utf8_all xs)
     → SpellsDecoded to mid new before after plain spelt
     → now ≡ record was { escaped = true; has_separator = false }
     → Spells (name_reading (rest old)) old.place old new before after was now spelt
-escaped_spelled old mid new before after was now to plain spelt h k passes spells decodes flags =
+escaped_spelled old mid new before after was now to plain spelt passes spells decodes flags =
     let xs = passes.characters in
     let values = ordinary_values xs in
     let whole : from_place mid.text old.place ≡ xs ++ rest mid =
     ap (λ u. from_place u old.place) passes.goes_on.text ∙ passes.goes_on.here
     ∙ ap (λ t. t ++ rest mid) values.text in
-    let read = then_read First old to mid Later new before before after [] plain decodes.text false true h k
+    let read = then_read First old to mid Later new before before after [] plain decodes.text false true
     (plain_read First old to mid before [] plain xs passes.goes_on (spells xs whole)) decodes.read.read in
     let characters = items_value read.items in
     let same : characters ≡ chars decodes.text =
@@ -438,26 +430,25 @@ reports_of_name place text =
     ap (moved_diagnostics place) (name_report text) ∙ sym (items_report_moved place 0 items)
     ∙ ap (λ n. items_report n items) (add-zero place)
 
-pub name_broken : (old mid new : At) (before after : List Diagnostic) (to : Position) → IsPlaced old → IsPlaced mid
-    → PassesUnescaped old to mid → BreaksOff (items_told to mid) mid new before after
+pub name_broken : (old mid new : At) (before after : List Diagnostic) (to : Position) → PassesUnescaped old to mid
+    → BreaksOff (items_told to mid) mid new before after
     → BreaksOff (reported_at old.place (name_reading (rest old))) old new before after
-name_broken old mid new before after to h k passes broken =
+name_broken old mid new before after to passes broken =
     let xs = passes.characters in
     rw (reports_of_name old.place (rest old))
-    (items_broken First old to mid new before before after [] (encode_utf8_all xs) false h k
+    (items_broken First old to mid new before before after [] (encode_utf8_all xs) false
     (plain_read First old to mid before [] (encode_utf8_all xs) xs passes.goes_on refl) broken)
 
 -- no name follows a `#`
-pub character_reported : (old new : At) (before after : List Diagnostic) (c : ℕ) (sp : Span) → IsPlaced old
-    → IsPlaced new → Reads old new c
+pub character_reported : (old new : At) (before after : List Diagnostic) (c : ℕ) (sp : Span) → Reads old new c
     → sp ≡ span old.place new.place → after ≡ before ++ InvalidCharacter c sp ∷ []
     → ReportsNoName old before after Eof
-character_reported old new before after c sp h k read s report = record {
+character_reported old new before after c sp read s report = record {
   report = InvalidCharacter c (span 1 (place_behind 1 (c ∷ [])));
   read = rw read.here refl;
   reports = λ start at.
       let end : new.place ≡ start + place_behind 1 (c ∷ []) =
-      omega (arith, at, leads_to old new (c ∷ []) h k read.text read.here) in
+      omega (arith, at, leads_to old new (c ∷ []) read.text read.here) in
       report ∙ ap (λ (t : Span). before ++ InvalidCharacter c t ∷ []) s
       ∙ ap (λ (p : ℕ). before ++ InvalidCharacter c (span p new.place) ∷ []) (sym at)
       ∙ ap (λ (p : ℕ). before ++ InvalidCharacter c (span (start + 1) p) ∷ []) end;

@@ -9,7 +9,7 @@ use Rattle.std.proofs.lemmas.Bool.{ltb-true, ltb-false, eqb-true}
 use Rattle.std.proofs.lemmas.Bool.Decides.{nat_tests}
 use Rattle.js_text.specs.Ascii.{full_stop, low_line}
 use Rattle.js_text.specs.Characters.{begins, from_place}
-use Rattle.js_source.specs.Source.{At, rest, HasFirstByte, Reads, IsPlaced}
+use Rattle.js_source.specs.Source.{At, rest, HasFirstByte, Reads}
 use Rattle.js_text.proofs.TextLemmas.{place_past}
 use Rattle.js_text.specs.declared.diagnostic.Diagnostic.{Diagnostic}
 use Rattle.std.specs.Str.{IsCharBoundary}
@@ -239,13 +239,14 @@ pub flag_set : (b : Bool) → true ≡ (b || passed_separator Separator)
 flag_set b = or_true b
 
 -- a place behind characters that were passed
-pub leads_to : (old new : At) (xs : List ℕ) → IsPlaced old → IsPlaced new → new.text ≡ old.text
+pub leads_to : (old new : At) (xs : List ℕ) → new.text ≡ old.text
     → rest old ≡ xs ++ rest new
     → new.place ≡ place_behind old.place xs
-leads_to old new xs h g text e =
+leads_to old new xs text e =
     let there : IsCharBoundary old.text new.place =
-    subst (λ (u : List ℕ). IsCharBoundary u new.place) text g.boundary in
-    place_past old.text old.place new.place xs h.utf8 h.boundary there (e ∙ ap (λ u. xs ++ from_place u new.place) text)
+    subst (λ (u : List ℕ). IsCharBoundary u new.place) text new.placed.boundary in
+    place_past old.text old.place new.place xs old.placed.utf8 old.placed.boundary there (e ∙ ap (λ u. xs ++
+    from_place u new.place) text)
 
 -- a run, as it is read of what was passed
 run_item : (radix : ℕ) (old : At) (item : Item) → begins (is_digit_of radix) (rest old) ≡ true
@@ -287,12 +288,11 @@ run_whole_read radix old new reports before after digit groups =
 
 pub run_broken_read : (radix : ℕ) (old new : At) (reports more : List Diagnostic) (before after : Bool)
     → begins (is_digit_of radix) (rest old) ≡ true
-    → PassesGroups radix old Broken new before after → IsPlaced old → IsPlaced new
-    → more ≡ reports ++ (missing_digit new.place (rest new) ∷ [])
+    → PassesGroups radix old Broken new before after → more ≡ reports ++ (missing_digit new.place (rest new) ∷ [])
     → ReadsRun radix old new reports more before after false
-run_broken_read radix old new reports more before after digit groups h g e =
+run_broken_read radix old new reports more before after digit groups e =
     let item = run_item radix old (broken groups.characters (rest new)) digit groups.item in
-    let place = leads_to old new groups.characters h g groups.text groups.here in
+    let place = leads_to old new groups.characters groups.text groups.here in
     record {
       items = record {
         text = groups.text;
@@ -306,11 +306,11 @@ run_broken_read radix old new reports more before after digit groups h g e =
 
 -- a run in which a digit is missing, where that was not reported
 pub run_unreported : (radix : ℕ) (old new : At) (before after : List Diagnostic) (f g : Bool) (passed : Passed)
-    → IsPlaced old → IsPlaced new → PassesGroups radix old passed new f g → after ≡ before
+    → PassesGroups radix old passed new f g → after ≡ before
     → BreaksOff [] old new before after
-run_unreported radix old new before after f g passed h k groups e =
+run_unreported radix old new before after f g passed groups e =
     unreported [] old new before after groups.text
-    (omega (arith, leads_to old new groups.characters h k groups.text groups.here)) e
+    (omega (arith, leads_to old new groups.characters groups.text groups.here)) e
 
 -- the mark of an exponent
 pub exponent_marks : (is_exponent_indicator 101 ≡ true) × (is_exponent_indicator 69 ≡ true)
@@ -348,11 +348,10 @@ missing_digits-append place (x ∷ xs) ys =
     ]
 
 pub items_append : (old mid new : At) (before during after : List Diagnostic) (f g h : Bool) (xs ys : List Item)
-    → IsPlaced old → IsPlaced mid
     → ReadsItems old mid before during f g xs → ReadsItems mid new during after g h ys
     → ReadsItems old new before after f h (xs ++ ys)
-items_append old mid new before during after f g h xs ys old_placed mid_placed a b =
-    let place = leads_to old mid (items_text xs) old_placed mid_placed a.text a.here in
+items_append old mid new before during after f g h xs ys a b =
+    let place = leads_to old mid (items_text xs) a.text a.here in
     record {
       text = b.text ∙ a.text;
       here =
@@ -423,10 +422,10 @@ no_exponent_read old reports flag without none =
 
 pub exponent_read : (old marked signed new : At) (before after : List Diagnostic) (f g is_whole : Bool)
     (without kind : Kind)
-    → IsPlaced old → IsPlaced signed → TakesExponentIndicator old marked → TakesSign marked signed kind
+    → TakesExponentIndicator old marked → TakesSign marked signed kind
     → ReadsRun 10 signed new before after f g is_whole
     → ReadsEnd old new before after f g kind (exponent_or without (rest old))
-exponent_read old marked signed new before after f g is_whole without kind h k taken sign digits =
+exponent_read old marked signed new before after f g is_whole without kind taken sign digits =
     let found : exponent_or without (rest old) ≡ exponent_items taken.mark (sign_of (rest marked)) (rest marked) =
     ap (exponent_or without) taken.read.here ∙ exponent_there without taken.mark (rest marked) taken.is in
     let xs = taken.mark ∷ sign_text (sign_of (rest marked)) in
@@ -435,17 +434,17 @@ exponent_read old marked signed new before after f g is_whole without kind h k t
     (sign_has_no_separator taken.mark (sign_of (rest marked)) taken.is) in
     let all =
     items_append old signed new before before after f f g (whole xs (rest signed) ∷ [])
-    (run 10 (rest signed) ∷ []) h k first digits.items in
+    (run 10 (rest signed) ∷ []) first digits.items in
     rw (found, exponent_items_of taken.mark (sign_of (rest marked)) (rest marked), sign.left)
     (record { items = all; left = digits.left; kind_is = sign.kind_is })
 
 -- Items were read, and then those behind them broke off.
 pub items_broken : (old mid new : At) (before during after : List Diagnostic) (f g : Bool) (xs ys : List Item)
-    → IsPlaced old → IsPlaced mid → ReadsItems old mid before during f g xs
+    → ReadsItems old mid before during f g xs
     → BreaksOff (missing_digits mid.place ys) mid new during after
     → BreaksOff (missing_digits old.place (xs ++ ys)) old new before after
-items_broken old mid new before during after f g xs ys h k read broken =
-    let place = leads_to old mid (items_text xs) h k read.text read.here in
+items_broken old mid new before during after f g xs ys read broken =
+    let place = leads_to old mid (items_text xs) read.text read.here in
     broken_behind (missing_digits old.place (xs ++ ys)) (missing_digits mid.place ys) (missing_digits old.place xs) old
     mid new before during after read.text (omega (arith, place)) read.reports
     (missing_digits-append old.place xs ys
@@ -458,29 +457,27 @@ point_items_of cs = refl
 
 -- a fraction
 pub fraction_read : (old mid new : At) (before during after : List Diagnostic) (f g h is_whole : Bool) (kind : Kind)
-    → IsPlaced old → IsPlaced mid
     → begins (is_digit_of 10) (rest old) ≡ true → ReadsRun 10 old mid before during f g is_whole
     → ReadsEnd mid new during after g h kind (exponent_or Float (rest mid))
     → ReadsPart old new before after f h (fraction_items (rest old))
-fraction_read old mid new before during after f g h is_whole kind p q digit digits end =
+fraction_read old mid new before during after f g h is_whole kind digit digits end =
     let later : ReadsEnd mid new during after g h kind (exponent_or Float (run 10 (rest old)).rest) =
     rw digits.left end in
     rw (fraction_there (rest old) digit) (record {
       items =
           items_append old mid new before during after f g h (run 10 (rest old) ∷ [])
-          (exponent_or Float (run 10 (rest old)).rest).items p q digits.items later.items;
+          (exponent_or Float (run 10 (rest old)).rest).items digits.items later.items;
       left = later.left;
     })
 
 pub fraction_broken : (old mid new : At) (before during after : List Diagnostic) (f g is_whole : Bool)
-    → IsPlaced old → IsPlaced mid
     → begins (is_digit_of 10) (rest old) ≡ true → ReadsRun 10 old mid before during f g is_whole
     → BreaksOff [] mid new during after
     → BreaksOff (missing_digits old.place (fraction_items (rest old)).items) old new before after
-fraction_broken old mid new before during after f g is_whole p q digit digits broken =
+fraction_broken old mid new before during after f g is_whole digit digits broken =
     let more = (exponent_or Float (run 10 (rest old)).rest).items in
     rw (fraction_there (rest old) digit)
-    (items_broken old mid new before during after f g (run 10 (rest old) ∷ []) more p q digits.items
+    (items_broken old mid new before during after f g (run 10 (rest old) ∷ []) more digits.items
     (broken_first (missing_digits mid.place more) mid new during after broken))
 
 pub no_fraction_read : (old new : At) (before after : List Diagnostic) (f g : Bool) (kind : Kind)
@@ -491,43 +488,39 @@ no_fraction_read old new before after f g kind none end =
     rw (fraction_missing (rest old) none) (record { items = end.items; left = end.left })
 
 -- a point
-pub point_read : (old mid new : At) (before after : List Diagnostic) (f g : Bool) → IsPlaced old → IsPlaced mid
-    → Reads old mid full_stop
+pub point_read : (old mid new : At) (before after : List Diagnostic) (f g : Bool) → Reads old mid full_stop
     → ReadsPart mid new before after f g (fraction_items (rest mid))
     → ReadsEnd old new before after f g Float (point_items (rest old))
-point_read old mid new before after f g p q read part =
+point_read old mid new before after f g read part =
     let first = whole_item_read old mid before f (codes ".") (rest mid) read.text read.here refl in
     rw (read.here, point_items_of (rest mid)) (record {
-      items = items_append old mid new before before after f f g _ _ p q first part.items;
+      items = items_append old mid new before before after f f g _ _ first part.items;
       left = part.left;
       kind_is = refl;
     })
 
-pub point_broken : (old mid new : At) (before after : List Diagnostic) → IsPlaced old → IsPlaced mid
-    → Reads old mid full_stop
+pub point_broken : (old mid new : At) (before after : List Diagnostic) → Reads old mid full_stop
     → BreaksOff (missing_digits mid.place (fraction_items (rest mid)).items) mid new before after
     → BreaksOff (missing_digits old.place (point_items (rest old)).items) old new before after
-point_broken old mid new before after p q read broken =
+point_broken old mid new before after read broken =
     let first = whole_item_read old mid before false (codes ".") (rest mid) read.text read.here refl in
     rw (read.here, point_items_of (rest mid))
     (items_broken old mid new before before after false false (whole (codes ".") (rest mid) ∷ [])
-    (fraction_items (rest mid)).items p q first broken)
+    (fraction_items (rest mid)).items first broken)
 
-pub behind_point_broken : (old mid new : At) (before after : List Diagnostic) → IsPlaced old → IsPlaced mid
-    → Reads old mid full_stop
+pub behind_point_broken : (old mid new : At) (before after : List Diagnostic) → Reads old mid full_stop
     → BreaksOff (missing_digits mid.place (fraction_items (rest mid)).items) mid new before after
     → BreaksOff (missing_digits old.place (behind_digits (rest old)).items) old new before after
-behind_point_broken old mid new before after p q read broken =
+behind_point_broken old mid new before after read broken =
     rw (behind_digits_point (rest old) (ap (begins (λ c. c == full_stop)) read.here))
-    (point_broken old mid new before after p q read broken)
+    (point_broken old mid new before after read broken)
 
-pub behind_point_read : (old mid new : At) (before after : List Diagnostic) (f g : Bool) → IsPlaced old → IsPlaced mid
-    → Reads old mid full_stop
+pub behind_point_read : (old mid new : At) (before after : List Diagnostic) (f g : Bool) → Reads old mid full_stop
     → ReadsPart mid new before after f g (fraction_items (rest mid))
     → ReadsEnd old new before after f g Float (behind_digits (rest old))
-behind_point_read old mid new before after f g p q read part =
+behind_point_read old mid new before after f g read part =
     rw (behind_digits_point (rest old) (ap (begins (λ c. c == full_stop)) read.here))
-    (point_read old mid new before after f g p q read part)
+    (point_read old mid new before after f g read part)
 
 pub behind_other_read : (old new : At) (before after : List Diagnostic) (f g : Bool) (kind : Kind)
     → begins (λ c. c == full_stop) (rest old) ≡ false
@@ -568,35 +561,34 @@ decimal_items_of text = refl
 
 -- a decimal number
 pub decimal_read : (old mid new : At) (before during after : List Diagnostic) (f g h : Bool) (kind : Kind)
-    → IsPlaced old → IsPlaced mid
     → ReadsInteger old mid before during f g
     → ReadsEnd mid new during after g h kind (suffix_or DecimalBigInt (behind_digits (rest mid)) (rest mid))
     → ReadsEnd old new before after f h kind (decimal_items (rest old))
-decimal_read old mid new before during after f g h kind p q first end =
+decimal_read old mid new before during after f g h kind first end =
     let left = (integer (rest old)).rest in
     let later : ReadsEnd mid new during after g h kind (suffix_or DecimalBigInt (behind_digits left) left) =
     rw first.left end in
     rw (decimal_items_of (rest old)) (record {
       items =
           items_append old mid new before during after f g h (integer (rest old) ∷ [])
-          (suffix_or DecimalBigInt (behind_digits left) left).items p q first.items later.items;
+          (suffix_or DecimalBigInt (behind_digits left) left).items first.items later.items;
       left = later.left;
       kind_is = later.kind_is;
     })
 
 pub decimal_broken : (old mid new : At) (before during after : List Diagnostic) (f g : Bool)
-    → IsPlaced old → IsPlaced mid → ReadsInteger old mid before during f g
+    → ReadsInteger old mid before during f g
     → begins (λ c. c == 110) (rest mid) ≡ false
     → BreaksOff (missing_digits mid.place (behind_digits (rest mid)).items) mid new during after
     → BreaksOff (missing_digits old.place (decimal_items (rest old)).items) old new before after
-decimal_broken old mid new before during after f g p q first none broken =
+decimal_broken old mid new before during after f g first none broken =
     let left = (integer (rest old)).rest in
     let more = suffix_or DecimalBigInt (behind_digits left) left in
     let found : more ≡ behind_digits (rest mid) =
     ap (λ t. suffix_or DecimalBigInt (behind_digits t) t) first.left
     ∙ suffix_missing DecimalBigInt (behind_digits (rest mid)) (rest mid) none in
     rw (decimal_items_of (rest old))
-    (items_broken old mid new before during after f g (integer (rest old) ∷ []) more.items p q first.items
+    (items_broken old mid new before during after f g (integer (rest old) ∷ []) more.items first.items
     (subst (λ (number : Items). BreaksOff (missing_digits mid.place number.items) mid new during after) (sym found)
     broken))
 

@@ -11,7 +11,7 @@ use Rattle.js_text.specs.declared.diagnostic.Diagnostic.TheVariants.{InvalidChar
 use Rattle.js_text.specs.declared.diagnostic.Diagnostic.TheVariants.{UnterminatedMultiLineComment}
 use Rattle.js_text.proofs.TextLemmas.{place_past}
 use Rattle.js_kind.specs.declared.kind.Kind.TheVariants.{Eof, Undetermined}
-use Rattle.js_source.specs.Source.{At, rest, IsPlaced, Reads}
+use Rattle.js_source.specs.Source.{At, rest, Reads, GoesTo}
 use Rattle.js_grammar.specs.Gap.{is_prefix}
 use Rattle.js_grammar.specs.Reading.{moved_span, place_behind}
 use Rattle.js_grammar.specs.Name.{begins_name}
@@ -49,13 +49,14 @@ unfolding is_line_terminator
 mark_has_no_line_end cs = refl
 
 -- a place behind characters that were passed
-pub leads_to : (old new : At) (xs : List ℕ) → IsPlaced old → IsPlaced new → new.text ≡ old.text
+pub leads_to : (old new : At) (xs : List ℕ) → new.text ≡ old.text
     → rest old ≡ xs ++ rest new
     → new.place ≡ place_behind old.place xs
-leads_to old new xs h g text e =
+leads_to old new xs text e =
     let there : IsCharBoundary old.text new.place =
-    subst (λ (u : List ℕ). IsCharBoundary u new.place) text g.boundary in
-    place_past old.text old.place new.place xs h.utf8 h.boundary there (e ∙ ap (λ u. xs ++ from_place u new.place) text)
+    subst (λ (u : List ℕ). IsCharBoundary u new.place) text new.placed.boundary in
+    place_past old.text old.place new.place xs old.placed.utf8 old.placed.boundary there (e ∙ ap (λ u. xs ++
+    from_place u new.place) text)
 
 if_true : (b : Bool) (x y : Option Reading) → b ≡ true → (if b then x else y) ≡ x
 if_true b x y e = rw e refl
@@ -72,8 +73,8 @@ span_moved place n =
     ap (λ (m : ℕ). record { start = m; end = place + n }) start
     ∙ ap (λ (m : ℕ). record { start = place + 0; end = m }) end
 
-pub unterminated : (line_has_ended : Bool) (old mid new : At) (b : Bool) (start end : ℕ) → IsPlaced old → IsPlaced new
-    → TakesSequence (codes "/*") old true mid → new ≡ record mid { place = length mid.text }
+pub unterminated : (line_has_ended : Bool) (old mid new : At) (b : Bool) (start end : ℕ)
+    → TakesSequence (codes "/*") old true mid → GoesTo (length mid.text) mid new
     → rest new ≡ [] → b ≡ (list_any is_line_terminator (rest mid) || line_has_ended) → start ≡ old.place
     → end ≡ new.place
     → Recovers line_has_ended old
@@ -82,8 +83,8 @@ pub unterminated : (line_has_ended : Bool) (old mid new : At) (b : Bool) (start 
       is_on_new_line = b;
       diagnostic = UnterminatedMultiLineComment (record { start = start; end = end });
     }) new
-unterminated line_has_ended old mid new b start end h g takes e none line s f =
-    let text : new.text ≡ old.text = ap (λ a. a.text) e ∙ takes.0 in
+unterminated line_has_ended old mid new b start end takes e none line s f =
+    let text : new.text ≡ old.text = e.text ∙ takes.0 in
     let begun : is_prefix (codes "/*") (rest old) ≡ true =
     ap (is_prefix (codes "/*")) takes.1 ∙ prefix_of (codes "/*") (rest mid) in
     let line_is : list_any is_line_terminator (rest old) ≡ list_any is_line_terminator (rest mid) =
@@ -96,9 +97,8 @@ unterminated line_has_ended old mid new b start end h g takes e none line s f =
       recovery = if_true (is_prefix (codes "/*") (rest old)) _ _ begun ∙ rw none refl;
       line = line ∙ ap (λ x. x || line_has_ended) (sym line_is);
       reported =
-          rw (s, f, leads_to old new (rest old) h g text whole)
-          (ap UnterminatedMultiLineComment (span_moved old.place _));
-      onward = subst (λ (n : ℕ). old.place ≤ n) (sym (ap (λ a. a.place) e ∙ ap length takes.0)) (h.boundary.0);
+          rw (s, f, leads_to old new (rest old) text whole) (ap UnterminatedMultiLineComment (span_moved old.place _));
+      onward = subst (λ (n : ℕ). old.place ≤ n) (sym (e.there ∙ ap length takes.0)) (old.placed.boundary.0);
     }
 
 -- where no comment, no name and no number begins
@@ -113,24 +113,23 @@ no_mark old e f n q =
     ∙ if_not (begins (λ c. c == number_sign) (rest old)) _ _ none.1 ∙ if_not (begins_number (rest old)) _ _ n
     ∙ if_not (begins begins_quoted (rest old)) _ _ q
 
-pub binary : (line_has_ended : Bool) (old mid new : At) (c : ℕ) → IsPlaced old
-    → is_prefix (codes "/*") (rest old) ≡ false
+pub binary : (line_has_ended : Bool) (old mid new : At) (c : ℕ) → is_prefix (codes "/*") (rest old) ≡ false
     → begins begins_named (rest old) ≡ false → begins_number (rest old) ≡ false
     → begins begins_quoted (rest old) ≡ false → Reads old mid c → c ≡ 0xFFFD
-    → new ≡ record mid { place = length mid.text } → rest new ≡ []
+    → GoesTo (length mid.text) mid new → rest new ≡ []
     → Recovers line_has_ended old
     (record { kind = Eof; is_on_new_line = line_has_ended; diagnostic = FileAppearsToBeBinary }) new
-binary line_has_ended old mid new c h e f n q reads same to none =
+binary line_has_ended old mid new c e f n q reads same to none =
     let begun : begins (λ d. d == 0xFFFD) (rest old) ≡ true =
     ap (begins (λ d. d == 0xFFFD)) (reads.here ∙ ap (λ d. d ∷ rest mid) same) in
     record {
-      text = ap (λ a. a.text) to ∙ reads.text;
+      text = to.text ∙ reads.text;
       line_ended = false;
       fault = FileAppearsToBeBinary;
       recovery = no_mark old e f n q ∙ if_true (begins (λ d. d == 0xFFFD) (rest old)) _ _ begun ∙ rw none refl;
       line = refl;
       reported = refl;
-      onward = subst (λ (n : ℕ). old.place ≤ n) (sym (ap (λ a. a.place) to ∙ ap length reads.text)) (h.boundary.0);
+      onward = subst (λ (n : ℕ). old.place ≤ n) (sym (to.there ∙ ap length reads.text)) (old.placed.boundary.0);
     }
 
 -- what some reading of a character tells of it
@@ -148,8 +147,8 @@ pub some_text : (old : At) → IsSome (recovered (rest old)) → rest old ≢ []
 some_text old some none =
     let no : is_some (recovered []) ≡ true = subst (λ xs. is_some (recovered xs) ≡ true) none some in absurd (cc)
 
-pub invalid : (line_has_ended : Bool) (old new : At) (c start end : ℕ) → IsPlaced old → IsPlaced new
-    → is_prefix (codes "/*") (rest old) ≡ false → begins begins_named (rest old) ≡ false
+pub invalid : (line_has_ended : Bool) (old new : At) (c start end : ℕ) → is_prefix (codes "/*") (rest old) ≡ false
+    → begins begins_named (rest old) ≡ false
     → begins_number (rest old) ≡ false → begins begins_quoted (rest old) ≡ false
     → IsSome (recovered (rest old)) → Reads old new c → (c ≡ 0xFFFD → ⊥)
     → old.place ≤ new.place
@@ -160,7 +159,7 @@ pub invalid : (line_has_ended : Bool) (old new : At) (c start end : ℕ) → IsP
       is_on_new_line = line_has_ended;
       diagnostic = InvalidCharacter c (record { start = start; end = end });
     }) new
-invalid line_has_ended old new c start end h g e f n q some reads other onward s t =
+invalid line_has_ended old new c start end e f n q some reads other onward s t =
     let begun : begins (λ d. d == 0xFFFD) (rest old) ≡ false =
     ap (begins (λ d. d == 0xFFFD)) reads.here ∙ ne_eqb c 0xFFFD other in
     let same =
@@ -174,7 +173,7 @@ invalid line_has_ended old new c start end h g e f n q some reads other onward s
       recovery = same ∙ character_at c (rest new) there ∙ rw reads.here refl;
       line = refl;
       reported =
-          rw (s, t, leads_to old new (c ∷ []) h g reads.text reads.here)
+          rw (s, t, leads_to old new (c ∷ []) reads.text reads.here)
           (ap (InvalidCharacter c) (span_moved old.place _));
       onward = onward;
     }

@@ -31,7 +31,7 @@ use Rattle.js_grammar.proofs.Tests.{and_true}
 use Rattle.js_grammar.proofs.StringSteps.{string_terminated, string_unterminated, part_with_tail}
 use Rattle.js_grammar.proofs.StringSteps.{part_with_substitution, part_unterminated, template_value_bad}
 use Rattle.js_grammar.proofs.StringSteps.{template_value_good}
-use Rattle.js_source.specs.Source.{At, rest, Reads, ReadsTwo, IsPlaced, StepsPast}
+use Rattle.js_source.specs.Source.{At, rest, Reads, ReadsTwo, StepsPast}
 use Rattle.js_spell.specs.Breaks.{BreaksOff}
 use Rattle.js_spell.specs.Strings.{in_template, item_of, quote_of, ReadsValue, value_of, told_value, Unterminated}
 use Rattle.js_spell.specs.Strings.{EndsString, EndsPart, is_elsewhere, TakesQuote}
@@ -151,7 +151,7 @@ open_at t start text items left =
 -- and of items behind which the mark is missing
 pub open_spells : (whole : List ℕ) (t : Bool) (start : ℕ) (old mid here new : At)
     (before between after : List Diagnostic) (was now : TokenParts) (spelt : Spelt) (items : List StringItem)
-    → IsPlaced mid → IsPlaced new → mid.text ≡ old.text → here.text ≡ mid.text → mid.place ≡ start + 1
+    → mid.text ≡ old.text → here.text ≡ mid.text → mid.place ≡ start + 1
     → rest mid ≡ string_text items ++ rest here
     → between ≡ before ++ item_reports t start mid.place items
     → Unterminated start here new between after
@@ -159,14 +159,14 @@ pub open_spells : (whole : List ℕ) (t : Bool) (start : ℕ) (old mid here new 
     → spelt ≡ record { kind = Undetermined; value = Plain }
     → Spells (unterminated t whole (record { items = items; rest = rest here })) start old new before after was now
     spelt
-open_spells whole t start old mid here new before between after was now spelt items h g text text_here at is reported
+open_spells whole t start old mid here new before between after was now spelt items text text_here at is reported
     missing flags parts =
     let all = string_text items ++ take 1 (rest here) in
     let behind : rest mid ≡ all ++ rest new =
     is ∙ ap (λ cs. string_text items ++ cs) (first_and_rest (rest here))
     ∙ sym (append_assoc (string_text items) (take 1 (rest here)) (drop 1 (rest here)))
     ∙ ap (λ cs. all ++ cs) missing.left in
-    let end = leads_to mid new all h g (missing.text ∙ text_here) behind ∙ ap (λ p. place_behind p all) at in
+    let end = leads_to mid new all (missing.text ∙ text_here) behind ∙ ap (λ p. place_behind p all) at in
     let reports = item_reports t start (start + 1) items in
     record {
       read = record {
@@ -231,10 +231,10 @@ behind_quote SingleQuoted place = refl
 behind_quote Template place = refl
 
 -- the place behind the quote
-pub place_of_items : (start : ℕ) (old mid : At) (literal : Literal) → IsPlaced old → IsPlaced mid → start ≡ old.place
+pub place_of_items : (start : ℕ) (old mid : At) (literal : Literal) → start ≡ old.place
     → TakesQuote old mid literal → mid.place ≡ start + 1
-place_of_items start old mid literal h g e quote =
-    leads_to old mid (quote_of literal ∷ []) h g quote.read.text quote.read.here ∙ behind_quote literal old.place
+place_of_items start old mid literal e quote =
+    leads_to old mid (quote_of literal ∷ []) quote.read.text quote.read.here ∙ behind_quote literal old.place
     ∙ ap (λ p. p + 1) (sym e)
 
 -- What is reported of a string begins with what is reported of its items.
@@ -267,14 +267,14 @@ quoted_string text behind Template string e = absurd (cc)
 
 -- The items of a string broke off, behind its quote.
 pub string_broken : (start : ℕ) (old mid new : At) (before after : List Diagnostic) (literal : Literal)
-    → IsPlaced old → IsPlaced mid → start ≡ old.place → TakesQuote old mid literal
+    → start ≡ old.place → TakesQuote old mid literal
     → BreaksOff (items_told literal start mid) mid new before after
     → BreaksOff (reported_at start (quoted_reading (rest old))) old new before after
-string_broken start old mid new before after literal h g e taken broken =
+string_broken start old mid new before after literal e taken broken =
     let q = quote_of literal in
     let all = all_items (item_of literal) (rest mid) in
     let found = reports_of_string q start (q ∷ rest mid) (string_items q (rest mid)) in
-    let at = place_of_items start old mid literal h g e taken in
+    let at = place_of_items start old mid literal e taken in
     let told : reported_at start (quoted_reading (rest old)) ≡ items_told literal start mid ++ found.0 =
     ap (reported_at start) (quoted_string (rest old) (rest mid) literal taken.string taken.read.here) ∙ found.1
     ∙ ap (λ (xs : StringItems). item_reports false start (start + 1) xs.items ++ found.0)
@@ -288,13 +288,13 @@ string_broken start old mid new before after literal h g e taken broken =
 
 pub string_closed : (start : ℕ) (old mid here new : At) (before between after : List Diagnostic)
     (was now : TokenParts) (spelt : Spelt) (literal : Literal) (value : SpeltValue) (quote : ℕ)
-    → IsPlaced old → IsPlaced mid → start ≡ old.place → TakesQuote old mid literal
+    → start ≡ old.place → TakesQuote old mid literal
     → ReadsValue literal start mid here before between value → quote ≡ quote_of literal
     → EndsString quote start here new between after true
     → now ≡ record was { escaped = is_elsewhere value; has_separator = false }
     → spelt ≡ record { kind = Str; value = value }
     → Spells (quoted_reading (rest old)) start old new before after was now spelt
-string_closed start old mid here new before between after was now spelt literal value quote h g e taken read is_quote
+string_closed start old mid here new before between after was now spelt literal value quote e taken read is_quote
     (end, same) flags parts =
     let q = quote_of literal in
     let text = q ∷ rest mid in
@@ -322,20 +322,19 @@ string_closed start old mid here new before between after was now spelt literal 
       diagnostics = refl;
     })
     (end.text ∙ read.text ∙ taken.read.text) (ap (drop 1) closing)
-    (place_of_items start old mid literal h g e taken) value_is
-    (value_elsewhere literal read.items value read.value_is)
+    (place_of_items start old mid literal e taken) value_is (value_elsewhere literal read.items value read.value_is)
     (same ∙ read.reports ∙ ap (λ t. before ++ item_reports t start mid.place read.items) taken.string)
     flags parts)
 
 pub string_open : (start : ℕ) (old mid here new : At) (before between after : List Diagnostic)
     (was now : TokenParts) (spelt : Spelt) (literal : Literal) (value : SpeltValue) (quote : ℕ)
-    → IsPlaced old → IsPlaced mid → IsPlaced new → start ≡ old.place → TakesQuote old mid literal
+    → start ≡ old.place → TakesQuote old mid literal
     → ReadsValue literal start mid here before between value → quote ≡ quote_of literal
     → EndsString quote start here new between after false
     → now ≡ record was { escaped = false; has_separator = false }
     → spelt ≡ record { kind = Undetermined; value = Plain }
     → Spells (quoted_reading (rest old)) start old new before after was now spelt
-string_open start old mid here new before between after was now spelt literal value quote h g n e taken read is_quote
+string_open start old mid here new before between after was now spelt literal value quote e taken read is_quote
     (none, missing) flags parts =
     let q = quote_of literal in
     let text = q ∷ rest mid in
@@ -347,10 +346,8 @@ string_open start old mid here new before between after was now spelt literal va
     ∙ ap (string_of_items q text) found
     ∙ string_unterminated q text (record { items = read.items; rest = rest here })
     (ap (λ d. begins (λ c. c == d) (rest here)) (sym is_quote) ∙ none) in
-    rw whole
-    (open_spells text false start old mid here new before between after was now spelt read.items g n
-    taken.read.text read.text
-    (place_of_items start old mid literal h g e taken) read.here
+    rw whole (open_spells text false start old mid here new before between after was now spelt read.items
+    taken.read.text read.text (place_of_items start old mid literal e taken) read.here
     (read.reports ∙ ap (λ t. before ++ item_reports t start mid.place read.items) taken.string)
     missing flags parts)
 
@@ -447,19 +444,18 @@ part_substituted substitute tail opening start old here new before between after
 
 pub part_open : (substitute tail : Kind) (opening start : ℕ) (old here new : At)
     (before between after : List Diagnostic) (was now : TokenParts) (spelt : Spelt) (value : SpeltValue)
-    → IsPlaced old → IsPlaced new → start + 1 ≡ old.place → ReadsValue Template start old here before between value
+    → start + 1 ≡ old.place → ReadsValue Template start old here before between value
     → EndsPart start here new between after Missing
     → now ≡ record was { escaped = false; has_separator = false }
     → spelt ≡ record { kind = Undetermined; value = Plain }
     → Spells (template_part_reading substitute tail (opening ∷ rest old)) start old new before after was now spelt
-part_open substitute tail opening start old here new before between after was now spelt value h g e read
+part_open substitute tail opening start old here new before between after was now spelt value e read
     (none, not_begun, missing) flags parts =
     let text = opening ∷ rest old in
     let items : StringItems = record { items = read.items; rest = rest here } in
     let whole = ap (part_of_items substitute tail text) read.found
     ∙ part_unterminated substitute tail text items none not_begun in
-    rw whole
-    (open_spells text true start old old here new before between after was now spelt read.items h g refl read.text
+    rw whole (open_spells text true start old old here new before between after was now spelt read.items refl read.text
     (sym e) read.here read.reports missing flags parts)
 
 -- `${` was taken
@@ -479,19 +475,19 @@ quote_is_no_escape SingleQuoted cs = refl
 quote_is_no_escape Template cs = refl
 
 pub unescaped_string : (quote b : ℕ) (old mid here new : At) (errors : List Diagnostic) (token : TokenParts)
-    (literal : Literal) → IsPlaced old → IsPlaced mid → in_template literal ≡ false
+    (literal : Literal) → in_template literal ≡ false
     → quote_of literal ≡ quote → Reads old mid quote → PassesCharacters literal mid here
     → ordinary_here literal (rest here) ≡ false → b ≡ quote → Reads here new b
     → Spells (quoted_reading (rest old)) old.place old new errors errors token
     (record token { escaped = false; has_separator = false }) (record { kind = Str; value = Plain })
-unescaped_string quote b old mid here new errors token literal h g string is taken passes all same closing =
+unescaped_string quote b old mid here new errors token literal string is taken passes all same closing =
     let end : Reads here new quote = subst (λ q. Reads here new q) same closing in
     let none : escape_here literal (rest here) ≡ false =
     ap (escape_here literal) (end.here ∙ ap (λ q. q ∷ rest new) (sym is)) ∙ quote_is_no_escape literal (rest new) in
     string_closed old.place old mid here new errors errors errors token
     (record token { escaped = false; has_separator = false })
     (record { kind = Str; value = Plain }) literal Plain quote
-    h g refl (record { string = string; read = subst (λ q. Reads old mid q) (sym is) taken })
+    refl (record { string = string; read = subst (λ q. Reads old mid q) (sym is) taken })
     (plain_value_read literal old.place mid here errors passes all none) (sym is) (end, refl) refl refl
 
 -- A part of a template without an escape and without a CR that its mark ends.

@@ -16,7 +16,7 @@ use Rattle.js_kind.specs.declared.kind.Kind.TheVariants.{Decimal, Float, Decimal
 use Rattle.js_source.proofs.Classes.{same, same_true}
 use Rattle.js_source.specs.Runs.{PassesRun, TellsClass}
 use Rattle.js_source.specs.Search.{matches_at}
-use Rattle.js_source.specs.Source.{At, rest, Reads, IsPlaced, HasFirstByte}
+use Rattle.js_source.specs.Source.{At, rest, Reads, HasFirstByte}
 use Rattle.js_grammar.specs.Number.{may_not_follow_number, digit_zero, latin_small_letter_n, is_exponent_indicator}
 use Rattle.js_grammar.specs.NumberReads.{exponent_or}
 use Rattle.js_grammar.specs.NumberReads.{behind_digits, decimal_items, fraction_items, number_items, suffix_or, base_at}
@@ -121,33 +121,27 @@ digit_passed table b old new tells text run stops small first is =
     by_run (x ∷ xs) e = omega (arith, ap length e, length-append xs (rest new))
 
 -- a fraction, and none
-pub fraction_passed : (table : List Bool) (old mid new : At) (errors : List Diagnostic) (kind : Kind) → IsPlaced old
-    → IsPlaced mid → TellsClass (is_digit_of 10) table → mid.text ≡ old.text
+pub fraction_passed : (table : List Bool) (old mid new : At) (errors : List Diagnostic) (kind : Kind)
+    → TellsClass (is_digit_of 10) table → mid.text ≡ old.text
     → PassesRun table old.text old.place mid.place
     → begins (matches_at table) (rest mid) ≡ false → begins (is_digit_of 10) (rest old) ≡ true
     → FollowsInteger (rest mid) → ReadsEnd mid new errors errors false false kind (exponent_or Float (rest mid))
     → ReadsPart old new errors errors false false (fraction_items (rest old))
-fraction_passed table old mid new errors kind h g tells text run stops digit follows end =
-    fraction_read old mid new errors errors errors false false false true kind h g digit
+fraction_passed table old mid new errors kind tells text run stops digit follows end =
+    fraction_read old mid new errors errors errors false false false true kind digit
     (plain_run_read 10 table old mid errors (omega arith) tells text run stops digit follows.separator) end
 
 -- an exponent
 pub exponent_passed : (table : List Bool) (old marked signed new : At) (errors : List Diagnostic) (without kind : Kind)
-    → IsPlaced old → IsPlaced signed → TakesExponentIndicator old marked → TakesSign marked signed kind
+    → TakesExponentIndicator old marked → TakesSign marked signed kind
     → TellsClass (is_digit_of 10) table → new.text ≡ signed.text → PassesRun table signed.text signed.place new.place
     → begins (matches_at table) (rest new) ≡ false → begins (is_digit_of 10) (rest signed) ≡ true
     → begins may_not_follow_number (rest new) ≡ false
     → ReadsEnd old new errors errors false false kind (exponent_or without (rest old))
-exponent_passed table old marked signed new errors without kind h g mark sign tells text run stops digit end =
-    exponent_read old marked signed new errors errors false false true without kind h g mark sign
+exponent_passed table old marked signed new errors without kind mark sign tells text run stops digit end =
+    exponent_read old marked signed new errors errors false false true without kind mark sign
     (plain_run_read 10 table signed new errors (omega arith) tells text run stops digit
     ((ends_number (rest new) end).run 10 (omega arith)).separator)
-
--- back to where the source stood
-pub put_back : (old mid new : At) (place : ℕ) → mid.text ≡ old.text → place ≡ old.place
-    → new ≡ record mid { place = place } → new ≡ old
-put_back old mid new place text at e =
-    e ∙ ap (λ t. record { text = t; place = place }) text ∙ ap (λ p. record { text = old.text; place = p }) at
 
 -- in ASCII letters, digits and two marks may not follow a number, and nothing else
 abbrev is_ascii_follower : ℕ → Bool
@@ -179,14 +173,14 @@ exponent_follows old mid mark =
     follows_integer (rest old) (no_prefix_mark (rest old) (ap (begins is_exponent_indicator) mark.read.here ∙ mark.is))
 
 -- what is read of it
-pub behind_point : (old mid new : At) (errors : List Diagnostic) → IsPlaced old → IsPlaced mid → Reads old mid full_stop
+pub behind_point : (old mid new : At) (errors : List Diagnostic) → Reads old mid full_stop
     → ReadsPart mid new errors errors false false (fraction_items (rest mid))
     → ReadsEnd old new errors errors false false Float
     (suffix_or DecimalBigInt (behind_digits (rest old)) (rest old))
-behind_point old mid new errors h g read part =
+behind_point old mid new errors read part =
     no_suffix_read old new errors errors false false DecimalBigInt Float (behind_digits (rest old))
     (ap (begins (λ c. c == latin_small_letter_n)) read.here)
-    (behind_point_read old mid new errors errors false false h g read part)
+    (behind_point_read old mid new errors errors false false read part)
 
 pub behind_exponent : (old new : At) (errors : List Diagnostic) (kind : Kind)
     → begins (λ c. c == full_stop) (rest old) ≡ false → begins (λ c. c == latin_small_letter_n) (rest old) ≡ false
@@ -198,37 +192,37 @@ behind_exponent old new errors kind no_point no_suffix end =
 
 -- a number with a prefix, and the suffix of one
 pub prefixed_suffix : (prefix : Prefix) (radix : ℕ) (table : List Bool) (old mid here new : At)
-    (errors : List Diagnostic) → radix ≡ (base_of_prefix prefix).radix → radix ≤ 16 → IsPlaced old → IsPlaced mid
-    → IsPlaced here → (p : HasPrefix prefix (rest old)) → mid.text ≡ old.text → rest mid ≡ p.behind
+    (errors : List Diagnostic) → radix ≡ (base_of_prefix prefix).radix → radix ≤ 16
+    → (p : HasPrefix prefix (rest old)) → mid.text ≡ old.text → rest mid ≡ p.behind
     → TellsClass (is_digit_of radix) table → here.text ≡ mid.text → PassesRun table mid.text mid.place here.place
     → begins (matches_at table) (rest here) ≡ false → begins (is_digit_of radix) (rest mid) ≡ true
     → Reads here new latin_small_letter_n
     → ReadsCut old new errors errors false false (base_of_prefix prefix).big_kind (number_items (rest old))
-prefixed_suffix prefix radix table old mid here new errors is small h g k p text behind tells same run stops digit
+prefixed_suffix prefix radix table old mid here new errors is small p text behind tells same run stops digit
     read =
     let base = base_of_prefix prefix in
     let digits : ReadsRun base.radix mid here errors errors false false true =
     subst (λ (r : ℕ). ReadsRun r mid here errors errors false false true) is
     (plain_run_read radix table mid here errors small tells same run stops digit
     (ap (begins (λ c. c == low_line)) read.here)) in
-    prefixed_read prefix old mid new errors errors false false base.big_kind h g p text behind
-    (prefix_big_read base mid here new errors errors false false g k digits read)
+    prefixed_read prefix old mid new errors errors false false base.big_kind p text behind
+    (prefix_big_read base mid here new errors errors false false digits read)
 
 pub prefixed_alone : (prefix : Prefix) (radix : ℕ) (table : List Bool) (old mid here : At)
-    (errors : List Diagnostic) → radix ≡ (base_of_prefix prefix).radix → radix ≤ 16 → IsPlaced old → IsPlaced mid
-    → IsPlaced here → (p : HasPrefix prefix (rest old)) → mid.text ≡ old.text → rest mid ≡ p.behind
+    (errors : List Diagnostic) → radix ≡ (base_of_prefix prefix).radix → radix ≤ 16
+    → (p : HasPrefix prefix (rest old)) → mid.text ≡ old.text → rest mid ≡ p.behind
     → TellsClass (is_digit_of radix) table → here.text ≡ mid.text → PassesRun table mid.text mid.place here.place
     → begins (matches_at table) (rest here) ≡ false → begins (is_digit_of radix) (rest mid) ≡ true
     → begins may_not_follow_number (rest here) ≡ false
     → ReadsCut old here errors errors false false (base_of_prefix prefix).kind (number_items (rest old))
-prefixed_alone prefix radix table old mid here errors is small h g k p text behind tells same run stops digit end =
+prefixed_alone prefix radix table old mid here errors is small p text behind tells same run stops digit end =
     let base = base_of_prefix prefix in
     let ends = ends_number (rest here) end in
     let digits : ReadsRun base.radix mid here errors errors false false true =
     subst (λ (r : ℕ). ReadsRun r mid here errors errors false false true) is
     (plain_run_read radix table mid here errors small tells same run stops digit (ends.run radix small).separator) in
-    prefixed_read prefix old mid here errors errors false false base.kind h g p text behind
-    (prefix_plain_read base mid here errors errors false false g k digits ends.suffix)
+    prefixed_read prefix old mid here errors errors false false base.kind p text behind
+    (prefix_plain_read base mid here errors errors false false digits ends.suffix)
 
 -- where nothing but its `0` would be left of a number, it has not ended
 zero_is_one : is_ascii_follower digit_zero ≡ true
@@ -243,14 +237,14 @@ prefix_goes_on prefix cs p end =
     cc
 
 -- the whole number
-pub decimal_cut : (old mid new : At) (errors : List Diagnostic) (kind : Kind) → IsPlaced old → IsPlaced mid
+pub decimal_cut : (old mid new : At) (errors : List Diagnostic) (kind : Kind)
     → number_items (rest old) ≡ decimal_items (rest old) → ReadsInteger old mid errors errors false false
     → ReadsEnd mid new errors errors false false kind
     (suffix_or DecimalBigInt (behind_digits (rest mid)) (rest mid))
     → ReadsCut old new errors errors false false kind (number_items (rest old))
-decimal_cut old mid new errors kind h g items integer end =
+decimal_cut old mid new errors kind items integer end =
     led_read old new errors errors false false kind (decimal_items (rest old)) items
-    (decimal_read old mid new errors errors errors false false false kind h g integer end)
+    (decimal_read old mid new errors errors errors false false false kind integer end)
 
 pub unseparated_number : (old new : At) (errors : List Diagnostic) (token : TokenParts) (kind : Kind)
     → ReadsCut old new errors errors false false kind (number_items (rest old))

@@ -15,7 +15,7 @@ use Rattle.js_grammar.specs.RegularExpression.{is_flag_character}
 use Rattle.js_grammar.specs.RegularExpression.{left_square_bracket, with_letters}
 use Rattle.js_grammar.specs.RegularExpression.{letter_reports, no_flags, right_square_bracket, with_letter}
 use Rattle.js_grammar.specs.StringItems.{stretch}
-use Rattle.js_source.specs.Source.{At, rest, IsPlaced, Reads}
+use Rattle.js_source.specs.Source.{At, rest, Reads}
 use Rattle.js_spell.specs.declared.regular_expression.Within.{Within}
 use Rattle.js_spell.specs.declared.regular_expression.Within.TheVariants.{Body, Class}
 use Rattle.js_spell.specs.declared.regular_expression.Stop.{Stop}
@@ -101,7 +101,6 @@ pub record AddsLetter (flags_before flags_after : RegExpFlags) (at letter : ℕ)
 pub record BreaksLine (start : ℕ) (old new : At) (before after : List Diagnostic) (info : RegexInfo) : Type 0 where
   pub text : new.text ≡ old.text
   pub behind : At
-  pub placed : IsPlaced behind
   pub same : behind.text ≡ old.text
   pub onward : old.place ≤ behind.place
   pub stepped : rest behind ≡ drop 1 (rest old)

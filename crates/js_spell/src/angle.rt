@@ -2,7 +2,6 @@
 
 ghost use Rattle.std.specs.Prelude.{◌≤◌};
 ghost use Rattle.js_text.specs.Characters.{begins};
-ghost use Rattle.js_source.specs.Source.{IsPlaced};
 ghost use Rattle.js_spell.specs.Goals.{SpellsAngle, TakesEquals};
 
 use js_kind::Kind;
@@ -12,7 +11,6 @@ use js_source::Source;
 fn with_equals(source: &mut Source<'_>, alone: Kind, assigned: Kind) -> Kind
     ensures takes { TakesEquals source.old source.new alone assigned result }
     ensures onward { source.old.place ≤ source.new.place }
-    ensures placed { IsPlaced source.new }
 {
     if source.advance_if_ascii_eq(b'=') {
         assigned
@@ -24,8 +22,7 @@ fn with_equals(source: &mut Source<'_>, alone: Kind, assigned: Kind) -> Kind
 /// Reads the longest punctuator that begins with `>`, behind this, and gives its kind: one of `>`, `>=`, `>>`, `>>=`,
 /// `>>>` and `>>>=`.
 pub fn read_right_angle(source: &mut Source<'_>) -> Kind
-    ensures reads { SpellsAngle source.old source.new result }
-    ensures placed { IsPlaced source.new }
+    ensures { SpellsAngle source.old source.new result }
 {
     if !source.advance_if_ascii_eq(b'>') {
         return with_equals(source, Kind::RAngle, Kind::GtEq);

@@ -9,7 +9,7 @@ ghost use Rattle.js_kind.specs.Digits.{is_digit_of};
 ghost use Rattle.js_grammar.specs.StringItems.{line_continuation, digits_escape, octal_escape, digit_in_template};
 ghost use Rattle.js_grammar.specs.StringItems.{digit_escape, single_character, further_octal_digits, escape, stretch};
 ghost use Rattle.js_grammar.specs.UnicodeEscape.{hex_digits, unicode_escape, last_code_point};
-ghost use Rattle.js_source.specs.Source.{rest, IsPlaced};
+ghost use Rattle.js_source.specs.Source.{rest};
 ghost use Rattle.js_spell.specs.Escape.{ReadsEscapeOf, ReadsEscape};
 
 use crate::unicode_escape::{read_hex_digits, read_unicode_escape, take_digit};
@@ -31,9 +31,7 @@ pub(crate) enum Escaped {
 
 /// Passes what belongs to a line continuation behind its first character.
 fn pass_line_continuation(source: &mut Source<'_>, c: char) -> Escaped
-    requires { IsPlaced source.old }
-    ensures read { ReadsEscapeOf (line_continuation c (rest source.old)) source.old source.new result }
-    ensures placed { IsPlaced source.new }
+    ensures { ReadsEscapeOf (line_continuation c (rest source.old)) source.old source.new result }
 {
     if c == '\r' {
         source.advance_if_ascii_eq(b'\n');
@@ -43,9 +41,7 @@ fn pass_line_continuation(source: &mut Source<'_>, c: char) -> Escaped
 
 /// Reads the digits behind a `\x`.
 fn read_hex_escape(source: &mut Source<'_>, letter: char) -> Escaped
-    requires { IsPlaced source.old }
-    ensures read { ReadsEscapeOf (digits_escape letter (hex_digits 2 (rest source.old))) source.old source.new result }
-    ensures placed { IsPlaced source.new }
+    ensures { ReadsEscapeOf (digits_escape letter (hex_digits 2 (rest source.old))) source.old source.new result }
 {
     match read_hex_digits(source, 2) {
         Some(unit) => Escaped::CodePoint(unit),
@@ -55,10 +51,8 @@ fn read_hex_escape(source: &mut Source<'_>, letter: char) -> Escaped
 
 /// Reads what stands behind a `\u`.
 fn read_code_point_escape(source: &mut Source<'_>, letter: char) -> Escaped
-    requires { IsPlaced source.old }
-    ensures read { ReadsEscapeOf
+    ensures { ReadsEscapeOf
         (digits_escape letter (unicode_escape (rest source.old))) source.old source.new result }
-    ensures placed { IsPlaced source.new }
 {
     match read_unicode_escape(source) {
         Some(code_point) => Escaped::CodePoint(code_point),
@@ -76,10 +70,8 @@ fn further_octal_digits(value: u32) -> u32
 
 /// Reads an octal escape behind its first digit.
 fn read_octal_escape(source: &mut Source<'_>, first: char) -> Escaped
-    requires placed { IsPlaced source.old }
-    requires digit { is_digit_of 8 first ≡ true }
-    ensures read { ReadsEscapeOf (octal_escape first (rest source.old)) source.old source.new result }
-    ensures placed { IsPlaced source.new }
+    requires { is_digit_of 8 first ≡ true }
+    ensures { ReadsEscapeOf (octal_escape first (rest source.old)) source.old source.new result }
 {
     let mut value = first as u32 - '0' as u32;
     'digits: for _ in 0..further_octal_digits(value) {
@@ -93,9 +85,7 @@ fn read_octal_escape(source: &mut Source<'_>, first: char) -> Escaped
 
 /// Reads what belongs to an escape in a template behind its first digit.
 fn read_digit_in_template(source: &mut Source<'_>, first: char) -> Escaped
-    requires { IsPlaced source.old }
-    ensures read { ReadsEscapeOf (digit_in_template first (rest source.old)) source.old source.new result }
-    ensures placed { IsPlaced source.new }
+    ensures { ReadsEscapeOf (digit_in_template first (rest source.old)) source.old source.new result }
 {
     if first != '0' {
         return Escaped::Bad;
@@ -125,10 +115,8 @@ fn single_character(c: char) -> char
 
 /// Reads what belongs to an escape behind its first digit.
 fn read_digit_escape(source: &mut Source<'_>, first: char, in_template: bool) -> Escaped
-    requires placed { IsPlaced source.old }
-    requires digit { is_digit_of 10 first ≡ true }
-    ensures read { ReadsEscapeOf (digit_escape in_template first (rest source.old)) source.old source.new result }
-    ensures placed { IsPlaced source.new }
+    requires { is_digit_of 10 first ≡ true }
+    ensures { ReadsEscapeOf (digit_escape in_template first (rest source.old)) source.old source.new result }
 {
     if in_template {
         return read_digit_in_template(source, first);
@@ -141,9 +129,7 @@ fn read_digit_escape(source: &mut Source<'_>, first: char, in_template: bool) ->
 
 /// Reads what belongs to an escape behind the first character that follows its `\`.
 fn read_escape_of(source: &mut Source<'_>, first: char, in_template: bool) -> Escaped
-    requires { IsPlaced source.old }
-    ensures read { ReadsEscapeOf (escape in_template (first ∷ rest source.old)) source.old source.new result }
-    ensures placed { IsPlaced source.new }
+    ensures { ReadsEscapeOf (escape in_template (first ∷ rest source.old)) source.old source.new result }
 {
     if is_line_terminator(first) {
         return pass_line_continuation(source, first);
@@ -196,15 +182,13 @@ pub fn read_escape(
     token: &Token,
     in_template: bool,
 ) -> Result<bool, AllocError>
-    requires placed { IsPlaced source.old }
-    requires start { token.now.start ≤ source.old.place }
+    requires { token.now.start ≤ source.old.place }
     ensures ok { IfOk result (ReadsEscape
         in_template token.now.start source.old source.new text.old text.new errors.old errors.new) }
     ensures text { OnErr result (text.new ≡ text.old) }
     ensures errors { OnErr result (errors.new ≡ errors.old) }
     ensures same_text { source.new.text ≡ source.old.text }
     ensures onward { source.old.place ≤ source.new.place }
-    ensures placed { IsPlaced source.new }
 {
     let first = match source.next_char() {
         Some(first) => first,

@@ -5,7 +5,7 @@ ghost use Rattle.std.specs.Prelude.{OnErr};
 ghost use Rattle.js_text.specs.Ascii.{backslash, carriage_return};
 ghost use Rattle.js_text.specs.Characters.{begins};
 ghost use Rattle.js_text.specs.declared.diagnostic.Diagnostic.{Diagnostic};
-ghost use Rattle.js_source.specs.Source.{rest, IsPlaced};
+ghost use Rattle.js_source.specs.Source.{rest, At, GoesTo};
 ghost use Rattle.js_spell.specs.Breaks.{BreaksOff};
 ghost use Rattle.js_spell.specs.Strings.{ordinary_here, ReadsItems, ReadsOneItem, ReadsStopItem, ReadsValue};
 ghost use Rattle.js_spell.specs.Strings.{StopIs, PassesCharacters, escape_here, is_end, item_of, decoded_value};
@@ -15,7 +15,6 @@ ghost use Rattle.std.specs.Str.{IsCharBoundary};
 ghost use Rattle.js_text.specs.declared.diagnostic.Diagnostic.TheVariants.{InvalidEscapeSequence};
 ghost use Rattle.js_grammar.specs.StringItems.{stretch};
 ghost use Rattle.js_source.specs.Source.{HasFirstByte};
-ghost use Rattle.js_source.specs.Runs.{place_of};
 ghost use Rattle.js_spell.specs.declared.ordinary.Literal.TheVariants.{Template};
 
 use crate::escape::read_escape;
@@ -32,13 +31,11 @@ fn copy_characters(
     literal: Literal,
     text: &mut JSStrBuilder,
 ) -> Result<(), AllocError>
-    requires { IsPlaced source.old }
     ensures ok { OnOk result ((start : ℕ) (errors : List Diagnostic)
         → ReadsItems literal start source.old source.new text.old text.new errors errors false) }
     ensures all { ordinary_here literal (rest source.new) ≡ false }
     ensures same_text { source.new.text ≡ source.old.text }
     ensures onward { source.old.place ≤ source.new.place }
-    ensures placed { IsPlaced source.new }
 {
     let from = source.position();
     pass_characters(source, literal);
@@ -67,14 +64,12 @@ fn read_escape_item(
     errors: &mut DiagnosticList,
     token: &Token,
 ) -> Result<bool, AllocError>
-    requires placed { IsPlaced source.old }
     requires start { token.now.start ≤ source.old.place }
     requires escape { begins (λ c. c == backslash) (rest source.old) ≡ true }
     ensures ok { IfOk result (λ is_good. ReadsOneItem literal token.now.start source.old source.new
         text.old text.new errors.old errors.new (not is_good)) }
     ensures err { OnErr result (BreaksOff [] source.old source.new errors.old errors.new) }
     ensures onward { source.old.place ≤ source.new.place }
-    ensures placed { IsPlaced source.new }
 {
     let from = source.offset();
     source.next_char();
@@ -90,13 +85,11 @@ fn read_escape_item(
 
 /// Reads the CR that is next in a template, and a LF behind it: both stand for one LF.
 fn read_carriage_return(source: &mut Source<'_>, text: &mut JSStrBuilder) -> Result<(), AllocError>
-    requires placed { IsPlaced source.old }
-    requires next { begins (λ c. c == carriage_return) (rest source.old) ≡ true }
+    requires { begins (λ c. c == carriage_return) (rest source.old) ≡ true }
     ensures ok { OnOk result ((start : ℕ) (errors : List Diagnostic)
         → ReadsOneItem Template start source.old source.new text.old text.new errors errors false) }
     ensures same_text { source.new.text ≡ source.old.text }
     ensures onward { source.old.place ≤ source.new.place }
-    ensures placed { IsPlaced source.new }
 {
     source.next_char();
     source.advance_if_ascii_eq(b'\n');
@@ -155,14 +148,12 @@ fn read_marked_item(
     errors: &mut DiagnosticList,
     token: &Token,
 ) -> Result<Option<bool>, AllocError>
-    requires placed { IsPlaced source.old }
     requires start { token.now.start ≤ source.old.place }
     requires marked { ordinary_here literal (rest source.old) ≡ false }
     ensures ok { IfOk result (ReadsStopItem literal token.now.start source.old source.new
         text.old text.new errors.old errors.new) }
     ensures err { OnErr result (BreaksOff [] source.old source.new errors.old errors.new) }
     ensures onward { source.old.place ≤ source.new.place }
-    ensures placed { IsPlaced source.new }
 {
     match find_stop(literal, source.peek_byte()) {
         Stop::Escape => {
@@ -186,7 +177,6 @@ fn read_items(
     errors: &mut DiagnosticList,
     token: &Token,
 ) -> Result<bool, AllocError>
-    requires placed { IsPlaced source.old }
     requires start { token.now.start ≤ source.old.place }
     requires marked { ordinary_here literal (rest source.old) ≡ false }
     ensures ok { IfOk result (ReadsItems literal token.now.start source.old source.new
@@ -195,7 +185,6 @@ fn read_items(
     ensures err { OnErr result (BreaksOff (items_told literal token.now.start source.old)
         source.old source.new errors.old errors.new) }
     ensures onward { source.old.place ≤ source.new.place }
-    ensures placed { IsPlaced source.new }
 {
     let mut has_bad = false;
     'items: while let Some(is_good) = read_marked_item(source, literal, text, errors, token)? {
@@ -229,19 +218,16 @@ fn read_decoded(
     errors: &mut DiagnosticList,
     token: &Token,
 ) -> Result<SpeltValue, AllocError>
-    requires placed { IsPlaced source.old }
     requires boundary { IsCharBoundary source.old.text from }
     requires ordered { from ≤ source.old.place }
     requires start { token.now.start ≤ from }
-    requires passed { PassesCharacters literal (place_of source.old.text from) source.old }
     requires marked { ordinary_here literal (rest source.old) ≡ false }
     requires escaped { escape_here literal (rest source.old) ≡ true }
-    ensures ok { IfOk result (ReadsValue literal token.now.start (place_of source.old.text from) source.new
-        errors.old errors.new) }
+    ensures ok { IfOk result (λ value. (at : At) → GoesTo from source.old at → PassesCharacters literal at source.old
+        → ReadsValue literal token.now.start at source.new errors.old errors.new value) }
     ensures err { OnErr result (BreaksOff (items_told literal token.now.start source.old)
         source.old source.new errors.old errors.new) }
     ensures onward { source.old.place ≤ source.new.place }
-    ensures placed { IsPlaced source.new }
 {
     let front = source.str_from_pos_to_current(from);
     let mut text = JSStrBuilder::with_capacity_in(alloc, front.len() + front.len() / 2)?;
@@ -260,13 +246,11 @@ pub(crate) fn read_value(
     errors: &mut DiagnosticList,
     token: &Token,
 ) -> Result<SpeltValue, AllocError>
-    requires placed { IsPlaced source.old }
-    requires start { token.now.start ≤ source.old.place }
+    requires { token.now.start ≤ source.old.place }
     ensures ok { IfOk result (ReadsValue literal token.now.start source.old source.new errors.old errors.new) }
     ensures err { OnErr result (BreaksOff (items_told literal token.now.start source.old)
         source.old source.new errors.old errors.new) }
     ensures onward { source.old.place ≤ source.new.place }
-    ensures placed { IsPlaced source.new }
 {
     let from = source.position();
     let next = pass_to_mark(source, literal);

@@ -7,7 +7,7 @@ ghost use Rattle.js_grammar.specs.Jsx.{jsx_text_reading};
 ghost use Rattle.js_grammar.specs.Reading.{reported_at};
 ghost use Rattle.js_grammar.specs.StringItems.{is_quote};
 ghost use Rattle.js_source.specs.Runs.{TellsClass};
-ghost use Rattle.js_source.specs.Source.{rest, IsPlaced};
+ghost use Rattle.js_source.specs.Source.{rest};
 ghost use Rattle.js_spell.specs.Spells.{ReadsAs};
 ghost use Rattle.js_spell.specs.Goals.{SpellsJsxName, SpellsJsxString, StopsAt, TakesJsxQuote};
 ghost use Rattle.js_spell.specs.Goals.{ends_of, jsx_string_reports, text_warnings, PassesChild, WarnsInPart};
@@ -22,11 +22,9 @@ use std::alloc::AllocError;
 
 /// Goes to the first character that is no part of a name of JSX.
 fn skip_jsx_parts(source: &mut Source<'_>)
-    requires { IsPlaced source.old }
     ensures text { source.new.text ≡ source.old.text }
     ensures rest { rest source.new ≡ from_first ends_jsx_name (rest source.old) }
     ensures onward { source.old.place ≤ source.new.place }
-    ensures placed { IsPlaced source.new }
 {
     skip_parts(source);
     'parts: while source.advance_if_ascii_eq(b'-') {
@@ -37,8 +35,7 @@ fn skip_jsx_parts(source: &mut Source<'_>)
 /// Reads a name of JSX on, behind its part up to the first `-`: all parts of names and all `-` that follow. False: no
 /// `-` is next, and nothing was read.
 pub fn read_jsx_identifier(source: &mut Source<'_>) -> bool
-    ensures reads { SpellsJsxName source.old source.new result }
-    ensures placed { IsPlaced source.new }
+    ensures { SpellsJsxName source.old source.new result }
 {
     if !source.advance_if_ascii_eq(b'-') {
         return false;
@@ -102,13 +99,11 @@ fn table_of(within: Text) -> &'static [bool; 256]
 
 /// Goes to the character that ends the run of text, and gives it. None: the source ends before one.
 fn pass_text(source: &mut Source<'_>, within: Text) -> Option<u8>
-    requires { IsPlaced source.old }
     ensures text { source.new.text ≡ source.old.text }
     ensures rest { rest source.new ≡ from_first (ends_of within) (rest source.old) }
     ensures onward { source.old.place ≤ source.new.place }
     ensures none { IfNone result (rest source.new ≡ []) }
     ensures some { IfSome result (λ b. StopsAt within b (rest source.new)) }
-    ensures placed { IsPlaced source.new }
 {
     let table = table_of(within);
     'characters: loop {
@@ -129,13 +124,11 @@ fn begins_child(b: u8) -> bool
 
 /// Goes to the character that ends the text of a child, and gives it. Each `>` on the way is warned of.
 fn pass_child(source: &mut Source<'_>, warnings: &mut SpanList) -> Result<Option<u8>, AllocError>
-    requires { IsPlaced source.old }
     ensures ok { IfOk result (PassesChild source.old source.new warnings.old warnings.new) }
     ensures text { source.new.text ≡ source.old.text }
     ensures onward { source.old.place ≤ source.new.place }
     ensures err { OnErr result (WarnsInPart (text_warnings source.old.place (rest source.old)) warnings.old
         warnings.new) }
-    ensures placed { IsPlaced source.new }
 {
     'angles: loop {
         let end = pass_text(source, Text::Child);
@@ -153,14 +146,12 @@ fn read_jsx_text(
     errors: &mut DiagnosticList,
     warnings: &mut SpanList,
 ) -> Result<Kind, AllocError>
-    requires { IsPlaced source.old }
     ensures ok { IfOk result (ReadsAs (jsx_text_reading (rest source.old)) source.old.place source.old source.new
         errors.old errors.new) }
     ensures warned { OnOk result (warnings.new ≡ warnings.old ++ text_warnings source.old.place (rest source.old)) }
     ensures err { OnErr result (BreaksOff [] source.old source.new errors.old errors.new) }
     ensures in_part { OnErr result (WarnsInPart (text_warnings source.old.place (rest source.old)) warnings.old
         warnings.new) }
-    ensures placed { IsPlaced source.new }
 {
     let b = match pass_child(source, warnings)? {
         Some(b) => b,
@@ -183,7 +174,6 @@ pub fn read_jsx_child(
     errors: &mut DiagnosticList,
     warnings: &mut SpanList,
 ) -> Result<Kind, AllocError>
-    requires { IsPlaced source.old }
     ensures ok { IfOk result (ReadsAs (jsx_child_reading (rest source.old)) source.old.place source.old source.new
         errors.old errors.new) }
     ensures warned { OnOk result (warnings.new
@@ -192,7 +182,6 @@ pub fn read_jsx_child(
         source.old source.new errors.old errors.new) }
     ensures in_part { OnErr result (WarnsInPart (jsx_child_warnings source.old.place (rest source.old)) warnings.old
         warnings.new) }
-    ensures placed { IsPlaced source.new }
 {
     if source.advance_if_ascii_eq(b'<') {
         return Ok(Kind::LAngle);
@@ -205,11 +194,9 @@ pub fn read_jsx_child(
 
 /// Takes the quote that is next.
 fn take_quote(source: &mut Source<'_>) -> Text
-    requires placed { IsPlaced source.old }
-    requires quote { begins is_quote (rest source.old) ≡ true }
+    requires { begins is_quote (rest source.old) ≡ true }
     ensures quote { TakesJsxQuote source.old source.new result }
     ensures onward { source.old.place ≤ source.new.place }
-    ensures placed { IsPlaced source.new }
 {
     if source.advance_if_ascii_eq(b'"') {
         return Text::DoubleQuoted;
@@ -224,12 +211,10 @@ pub fn read_jsx_string(
     source: &mut Source<'_>,
     errors: &mut DiagnosticList,
 ) -> Result<Kind, AllocError>
-    requires placed { IsPlaced source.old }
-    requires quote { begins is_quote (rest source.old) ≡ true }
+    requires { begins is_quote (rest source.old) ≡ true }
     ensures ok { IfOk result (SpellsJsxString source.old source.new errors.old errors.new) }
     ensures err { OnErr result (BreaksOff (jsx_string_reports source.old.place (rest source.old))
         source.old source.new errors.old errors.new) }
-    ensures placed { IsPlaced source.new }
 {
     let start = source.offset();
     let within = take_quote(source);

@@ -13,7 +13,7 @@ ghost use Rattle.js_spell.specs.Name.{behind_sign};
 ghost use Rattle.js_spell.specs.Spells.{Spells};
 ghost use Rattle.js_kind.specs.Keywords.{name_kind};
 ghost use Rattle.js_source.specs.Runs.{TellsClass};
-ghost use Rattle.js_source.specs.Source.{rest, IsPlaced, BeginsWith, HasFirstByte};
+ghost use Rattle.js_source.specs.Source.{rest, BeginsWith, HasFirstByte};
 ghost use Rattle.js_spell.specs.Name.{class_of, PassesUnescaped, DecodesEscape, DecodesUnicode, ReadsEscape};
 ghost use Rattle.js_spell.specs.Name.{ReadsItems};
 ghost use Rattle.js_spell.specs.Name.{PassesParts, ReadsToEnd, SpellsDecoded, ReportsNoName};
@@ -103,7 +103,6 @@ fn pass_parts(source: &mut Source<'_>) -> Option<char>
     ensures part { IfSome result (λ c. is_identifier_part c ≡ true) }
     ensures onward { source.old.place ≤ source.new.place }
     ensures fewer { length (rest source.new) ≤ length (rest source.old) }
-    ensures placed { IsPlaced source.new }
 {
     let b = source.pass_ascii(name_parts())?;
     if b < 128 {
@@ -119,11 +118,9 @@ fn pass_parts(source: &mut Source<'_>) -> Option<char>
 /// Goes to the first character that is no part of a name.
 #[inline(always)]
 pub(crate) fn skip_parts(source: &mut Source<'_>)
-    requires { IsPlaced source.old }
     ensures text { source.new.text ≡ source.old.text }
     ensures rest { rest source.new ≡ from_first is_no_part (rest source.old) }
     ensures onward { source.old.place ≤ source.new.place }
-    ensures placed { IsPlaced source.new }
 {
     while let Some(c) = pass_parts(source) {
         source.pass_char(c);
@@ -134,11 +131,9 @@ pub(crate) fn skip_parts(source: &mut Source<'_>)
 /// the source stands then.
 #[inline(always)]
 fn pass_unescaped(source: &mut Source<'_>) -> Position
-    requires placed { IsPlaced source.old }
-    requires begun { begins_name (rest source.old) ≡ true }
+    requires { begins_name (rest source.old) ≡ true }
     ensures passes { PassesUnescaped source.old result source.new }
     ensures onward { source.old.place ≤ source.new.place }
-    ensures placed { IsPlaced source.new }
 {
     if begins_ascii(source, b'\\') {
         return Position::First;
@@ -150,11 +145,9 @@ fn pass_unescaped(source: &mut Source<'_>) -> Position
 
 /// Takes the escape of a low surrogate by four digits, if one is next, or some of what is.
 fn take_low_surrogate(source: &mut Source<'_>) -> bool
-    requires { IsPlaced source.old }
     ensures text { source.new.text ≡ source.old.text }
     ensures taken { MatchBool result (rest source.old ≡ low_surrogate_escape (rest source.old) ++ rest source.new)
         (low_surrogate_escape (rest source.old) ≡ []) }
-    ensures placed { IsPlaced source.new }
 {
     if !source.advance_if_ascii_eq(b'\\') {
         return false;
@@ -170,10 +163,8 @@ fn take_low_surrogate(source: &mut Source<'_>) -> bool
 
 /// Passes the escape of a low surrogate by four digits, if one is next.
 fn pass_low_surrogate(source: &mut Source<'_>)
-    requires { IsPlaced source.old }
     ensures text { source.new.text ≡ source.old.text }
     ensures passed { rest source.old ≡ low_surrogate_escape (rest source.old) ++ rest source.new }
-    ensures placed { IsPlaced source.new }
 {
     let start = source.position();
     if !take_low_surrogate(source) {
@@ -183,9 +174,7 @@ fn pass_low_surrogate(source: &mut Source<'_>)
 
 /// Reads an escape behind its `\u`.
 fn decode_unicode(source: &mut Source<'_>, position: Position) -> Decoding
-    requires { IsPlaced source.old }
-    ensures decodes { DecodesUnicode position source.old result source.new }
-    ensures placed { IsPlaced source.new }
+    ensures { DecodesUnicode position source.old result source.new }
 {
     let is_braced = begins_ascii(source, b'{');
     let value = match read_unicode_escape(source) {
@@ -209,9 +198,7 @@ fn decode_unicode(source: &mut Source<'_>, position: Position) -> Decoding
 
 /// Reads an escape behind its `\`.
 fn decode_escape(source: &mut Source<'_>, position: Position) -> Decoding
-    requires { IsPlaced source.old }
-    ensures decodes { DecodesEscape position source.old result source.new }
-    ensures placed { IsPlaced source.new }
+    ensures { DecodesEscape position source.old result source.new }
 {
     if !source.advance_if_ascii_eq(b'u') {
         source.next_char();
@@ -226,11 +213,9 @@ fn read_escape(
     errors: &mut DiagnosticList,
     position: Position,
 ) -> Result<Option<char>, AllocError>
-    requires placed { IsPlaced source.old }
-    requires begun { begins (λ c. c == backslash) (rest source.old) ≡ true }
+    requires { begins (λ c. c == backslash) (rest source.old) ≡ true }
     ensures ok { IfOk result (λ c. ReadsEscape position source.old source.new errors.old errors.new c) }
     ensures err { OnErr result (BreaksOff [] source.old source.new errors.old errors.new) }
-    ensures placed { IsPlaced source.new }
 {
     source.next_char();
     let start = source.offset();
@@ -257,14 +242,12 @@ fn read_escape_into(
     position: Position,
     decoded: &mut String,
 ) -> Result<(), AllocError>
-    requires placed { IsPlaced source.old }
-    requires begun { begins (λ c. c == backslash) (rest source.old) ≡ true }
+    requires { begins (λ c. c == backslash) (rest source.old) ≡ true }
     ensures ok { OnOk result (ReadsItems position source.old Later source.new errors.old errors.new
         (string_bytes decoded.old) (string_bytes decoded.new) true) }
     ensures fewer { OnOk result (length (rest source.new) < length (rest source.old)) }
     ensures err { OnErr result (BreaksOff (items_told position source.old)
         source.old source.new errors.old errors.new) }
-    ensures placed { IsPlaced source.new }
 {
     if let Some(c) = read_escape(source, errors, position)? {
         decoded.push(c)?;
@@ -274,11 +257,9 @@ fn read_escape_into(
 
 /// Reads the parts that are next and stand for themselves, and adds them to the text.
 fn read_parts_into(source: &mut Source<'_>, decoded: &mut String) -> Result<(), AllocError>
-    requires { IsPlaced source.old }
     ensures text { source.new.text ≡ source.old.text }
     ensures onward { source.old.place ≤ source.new.place }
     ensures ok { OnOk result (PassesParts source.old source.new (string_bytes decoded.old) (string_bytes decoded.new)) }
-    ensures placed { IsPlaced source.new }
 {
     let start = source.position();
     skip_parts(source);
@@ -291,11 +272,9 @@ fn read_rest_into(
     errors: &mut DiagnosticList,
     decoded: &mut String,
 ) -> Result<(), AllocError>
-    requires { IsPlaced source.old }
     ensures ok { OnOk result ((has_escape : Bool) × ReadsToEnd Later source.old source.new errors.old errors.new
         (string_bytes decoded.old) (string_bytes decoded.new) has_escape) }
     ensures err { OnErr result (BreaksOff (items_told Later source.old) source.old source.new errors.old errors.new) }
-    ensures placed { IsPlaced source.new }
 {
     'parts: loop {
         read_parts_into(source, decoded)?;
@@ -314,13 +293,11 @@ fn decode_name(
     position: Position,
     front: &str,
 ) -> Result<String, AllocError>
-    requires placed { IsPlaced source.old }
-    requires begun { begins (λ c. c == backslash) (rest source.old) ≡ true }
+    requires { begins (λ c. c == backslash) (rest source.old) ≡ true }
     ensures ok { IfOk result (λ text. ReadsToEnd position source.old source.new errors.old errors.new
         front.now (string_bytes text) true) }
     ensures err { OnErr result (BreaksOff (items_told position source.old)
         source.old source.new errors.old errors.new) }
-    ensures placed { IsPlaced source.new }
 {
     let mut decoded = String::with_capacity(alloc, front.len() + MORE_BYTES)?;
     decoded.push_str(front)?;
@@ -351,13 +328,11 @@ fn read_escaped_name(
     position: Position,
     front: &str,
 ) -> Result<Spelt, AllocError>
-    requires placed { IsPlaced source.old }
-    requires begun { begins (λ c. c == backslash) (rest source.old) ≡ true }
+    requires { begins (λ c. c == backslash) (rest source.old) ≡ true }
     ensures ok { IfOk result (λ spelt.
         SpellsDecoded position source.old source.new errors.old errors.new front.now spelt) }
     ensures err { OnErr result (BreaksOff (items_told position source.old)
         source.old source.new errors.old errors.new) }
-    ensures placed { IsPlaced source.new }
 {
     let text = decode_name(alloc, source, errors, position, front)?;
     spell_decoded(alloc, text.as_str())
@@ -374,15 +349,13 @@ pub fn read_name(
     errors: &mut DiagnosticList,
     token: &mut Token,
 ) -> Result<Spelt, AllocError>
-    requires placed { IsPlaced source.old }
-    requires begun { begins_name (rest source.old) ≡ true }
+    requires { begins_name (rest source.old) ≡ true }
     ensures ok { IfOk result (λ spelt.
         Spells (name_reading (rest source.old)) source.old.place source.old source.new errors.old errors.new token.old
         token.new spelt) }
     ensures err { OnErr result (BreaksOff (reported_at source.old.place (name_reading (rest source.old)))
         source.old source.new errors.old errors.new) }
     ensures token { OnErr result (token.new ≡ token.old) }
-    ensures placed { IsPlaced source.new }
 {
     let start = source.position();
     let position = pass_unescaped(source);
@@ -404,7 +377,6 @@ pub fn read_name(
 /// The place of the first character that is no part of a name, if that is no `\`.
 #[inline(never)]
 fn end_without_escape(source: Source<'_>) -> Option<SourcePosition>
-    requires { IsPlaced source }
     ensures none { IfNone result
         (begins (λ c. c == backslash) (from_first is_no_part (rest source.entry)) ≡ true) }
     ensures rest { IfSome result (λ end. from_place source.entry.text end
@@ -425,7 +397,6 @@ fn end_without_escape(source: Source<'_>) -> Option<SourcePosition>
 /// stands in it; most names have ASCII characters alone, and end before a character that stands before `\`.
 #[inline(always)]
 fn pass_name(source: &mut Source<'_>, parts: &[bool; 256], b: u8) -> bool
-    requires placed { IsPlaced source.old }
     requires parts { TellsClass is_identifier_part parts.now }
     requires ascii { b < 128 }
     requires next { HasFirstByte b (rest source.old) }
@@ -436,7 +407,6 @@ fn pass_name(source: &mut Source<'_>, parts: &[bool; 256], b: u8) -> bool
     ensures none { result ≡ false → MeetsEscape (rest source.old) }
     ensures text { source.new.text ≡ source.old.text }
     ensures onward { source.old.place ≤ source.new.place }
-    ensures placed { IsPlaced source.new }
 {
     source.next_ascii(b);
     let next = match source.pass_ascii(parts) {
@@ -461,7 +431,6 @@ fn pass_name(source: &mut Source<'_>, parts: &[bool; 256], b: u8) -> bool
 /// bytes.
 #[inline(always)]
 pub fn read_unescaped_name_by(source: &mut Source<'_>, parts: &[bool; 256], b: u8) -> Option<Kind>
-    requires placed { IsPlaced source.old }
     requires parts { TellsClass is_identifier_part parts.now }
     requires ascii { b < 128 }
     requires next { HasFirstByte b (rest source.old) }
@@ -470,7 +439,6 @@ pub fn read_unescaped_name_by(source: &mut Source<'_>, parts: &[bool; 256], b: u
     ensures some { IfSome result (SpellsUnescapedName source.old source.new) }
     ensures none { IfNone result (MeetsEscape (rest source.old)) }
     ensures text { source.new.text ≡ source.old.text }
-    ensures placed { IsPlaced source.new }
 {
     let start = source.position();
     if !pass_name(source, parts, b) {
@@ -485,14 +453,12 @@ pub fn read_unescaped_name_by(source: &mut Source<'_>, parts: &[bool; 256], b: u
 /// None: one does, and the source stands somewhere in the same text.
 #[inline(always)]
 pub fn read_unescaped_name(source: &mut Source<'_>, b: u8) -> Option<Kind>
-    requires placed { IsPlaced source.old }
     requires ascii { b < 128 }
     requires next { HasFirstByte b (rest source.old) }
     requires begun { begins_name (rest source.old) ≡ true }
     ensures some { IfSome result (SpellsUnescapedName source.old source.new) }
     ensures none { IfNone result (MeetsEscape (rest source.old)) }
     ensures text { source.new.text ≡ source.old.text }
-    ensures placed { IsPlaced source.new }
 {
     if b == b'\\' {
         return None;
@@ -526,11 +492,9 @@ fn is_unescaped_start(b: u8) -> bool
 /// (ECMA-262 12.7). None: something else stands there, and the source stands somewhere in the same text.
 #[inline(always)]
 pub fn read_unescaped_private_name(source: &mut Source<'_>) -> Option<Kind>
-    requires { IsPlaced source.old }
     ensures some { IfSome result (SpellsUnescapedPrivateName source.old source.new) }
     ensures none { IfNone result (MeetsNoUnescapedName (rest source.old)) }
     ensures text { source.new.text ≡ source.old.text }
-    ensures placed { IsPlaced source.new }
 {
     let b = source.peek_byte()?;
     if !is_unescaped_start(b) {
@@ -542,12 +506,10 @@ pub fn read_unescaped_private_name(source: &mut Source<'_>) -> Option<Kind>
 
 /// Reports that no name follows a `#`, and gives the kind of the token.
 fn report_no_name(source: &mut Source<'_>, errors: &mut DiagnosticList) -> Result<Kind, AllocError>
-    requires { IsPlaced source.old }
     ensures text { source.new.text ≡ source.old.text }
     ensures onward { source.old.place ≤ source.new.place }
     ensures ok { IfOk result (λ kind. ReportsNoName source.old errors.old errors.new kind) }
     ensures err { OnErr result (errors.new ≡ errors.old) }
-    ensures placed { IsPlaced source.new }
 {
     let start = source.offset();
     match source.next_char() {
@@ -574,14 +536,12 @@ pub fn read_private_name(
     errors: &mut DiagnosticList,
     token: &mut Token,
 ) -> Result<Spelt, AllocError>
-    requires { IsPlaced source.old }
     ensures ok { IfOk result (λ spelt. (start : ℕ) → start + 1 ≡ source.old.place
         → Spells (behind_sign (rest source.old)) start source.old source.new errors.old errors.new token.old token.new
         spelt) }
     ensures err { OnErr result ((start : ℕ) → start + 1 ≡ source.old.place
         → BreaksOff (reported_at start (behind_sign (rest source.old))) source.old source.new errors.old errors.new) }
     ensures token { OnErr result (token.new ≡ token.old) }
-    ensures placed { IsPlaced source.new }
 {
     if begins_name(source) {
         let spelt = read_name(alloc, source, errors, token)?;

@@ -10,7 +10,7 @@ ghost use Rattle.js_grammar.specs.NumberReads.{decimal_items, legacy_items, numb
 ghost use Rattle.js_grammar.specs.NumberReads.{number_reading};
 ghost use Rattle.js_grammar.specs.Reading.{reported_at};
 ghost use Rattle.js_spell.specs.Spells.{Spells};
-ghost use Rattle.js_source.specs.Source.{rest, IsPlaced};
+ghost use Rattle.js_source.specs.Source.{rest};
 ghost use Rattle.js_spell.specs.Numeric.{radix_of_digits, PassesDigits, PassesUnseparatedDigits, PassesGroups, end_of};
 ghost use Rattle.js_spell.specs.Breaks.{BreaksOff};
 ghost use Rattle.js_spell.specs.Numeric.{ReadsRun, ReadsPart, ReadsInteger, ReadsEnd, ReadsCut, ReadsBadEnd};
@@ -93,8 +93,7 @@ pub(crate) fn begins_digit(source: &Source<'_>, digits: Digits) -> bool
 /// Passes the digits that are next, and a separator behind them.
 #[inline(always)]
 fn pass_digits(source: &mut Source<'_>, digits: Digits) -> Passed
-    ensures passes { PassesDigits (radix_of_digits digits) source.old result source.new }
-    ensures placed { IsPlaced source.new }
+    ensures { PassesDigits (radix_of_digits digits) source.old result source.new }
 {
     source.pass_ascii(table_of(digits));
     if !source.advance_if_ascii_eq(b'_') {
@@ -123,10 +122,8 @@ fn report_missing_digit(source: &Source<'_>, errors: &mut DiagnosticList) -> Res
 /// Passes the rest of a run, which a digit begins, and tells whether it is whole.
 #[inline(always)]
 fn pass_groups(source: &mut Source<'_>, has_separator: &mut bool, digits: Digits) -> bool
-    requires { IsPlaced source.old }
-    ensures passes { PassesGroups
+    ensures { PassesGroups
         (radix_of_digits digits) source.old (end_of result) source.new has_separator.old has_separator.new }
-    ensures placed { IsPlaced source.new }
 {
     'groups: loop {
         match pass_digits(source, digits) {
@@ -147,11 +144,9 @@ fn read_run(
     has_separator: &mut bool,
     digits: Digits,
 ) -> Result<bool, AllocError>
-    requires { IsPlaced source.old }
     ensures ok { IfOk result (ReadsRun
         (radix_of_digits digits) source.old source.new errors.old errors.new has_separator.old has_separator.new) }
     ensures err { OnErr result (BreaksOff [] source.old source.new errors.old errors.new) }
-    ensures placed { IsPlaced source.new }
 {
     if !begins_digit(source, digits) {
         report_missing_digit(source, errors)?;
@@ -170,7 +165,6 @@ pub(crate) fn take_exponent_mark(source: &mut Source<'_>) -> bool
     ensures cases { MatchBool result (TakesExponentIndicator source.old source.new)
         ((begins is_exponent_indicator (rest source.old) ≡ false) × (source.new ≡ source.old)) }
     ensures onward { source.old.place ≤ source.new.place }
-    ensures placed { IsPlaced source.new }
 {
     if source.advance_if_ascii_eq(b'e') {
         return true;
@@ -183,7 +177,6 @@ pub(crate) fn take_exponent_mark(source: &mut Source<'_>) -> bool
 pub(crate) fn take_sign(source: &mut Source<'_>) -> Kind
     ensures sign { TakesSign source.old source.new result }
     ensures onward { source.old.place ≤ source.new.place }
-    ensures placed { IsPlaced source.new }
 {
     if source.advance_if_ascii_eq(b'-') {
         return Kind::NegativeExponential;
@@ -199,11 +192,9 @@ fn read_exponent_or(
     has_separator: &mut bool,
     without: Kind,
 ) -> Result<Kind, AllocError>
-    requires { IsPlaced source.old }
     ensures ok { IfOk result (λ kind. ReadsEnd source.old source.new errors.old errors.new
         has_separator.old has_separator.new kind (exponent_or without (rest source.old))) }
     ensures err { OnErr result (BreaksOff [] source.old source.new errors.old errors.new) }
-    ensures placed { IsPlaced source.new }
 {
     if !take_exponent_mark(source) {
         return Ok(without);
@@ -219,12 +210,10 @@ fn read_fraction(
     errors: &mut DiagnosticList,
     has_separator: &mut bool,
 ) -> Result<(), AllocError>
-    requires { IsPlaced source.old }
     ensures ok { OnOk result (ReadsPart source.old source.new errors.old errors.new
         has_separator.old has_separator.new (fraction_items (rest source.old))) }
     ensures err { OnErr result (BreaksOff (missing_digits source.old.place (fraction_items (rest source.old)).items)
         source.old source.new errors.old errors.new) }
-    ensures placed { IsPlaced source.new }
 {
     if !begins_digit(source, Digits::Decimal) {
         read_exponent_or(source, errors, has_separator, Kind::Float)?;
@@ -241,12 +230,10 @@ fn read_behind_digits(
     errors: &mut DiagnosticList,
     has_separator: &mut bool,
 ) -> Result<Kind, AllocError>
-    requires { IsPlaced source.old }
     ensures ok { IfOk result (λ kind. ReadsEnd source.old source.new errors.old errors.new
         has_separator.old has_separator.new kind (behind_digits (rest source.old))) }
     ensures err { OnErr result (BreaksOff (missing_digits source.old.place (behind_digits (rest source.old)).items)
         source.old source.new errors.old errors.new) }
-    ensures placed { IsPlaced source.new }
 {
     if source.advance_if_ascii_eq(b'.') {
         read_fraction(source, errors, has_separator)?;
@@ -261,11 +248,9 @@ fn read_integer(
     errors: &mut DiagnosticList,
     has_separator: &mut bool,
 ) -> Result<(), AllocError>
-    requires { IsPlaced source.old }
     ensures ok { OnOk result (ReadsInteger source.old source.new errors.old errors.new
         has_separator.old has_separator.new) }
     ensures err { OnErr result (BreaksOff [] source.old source.new errors.old errors.new) }
-    ensures placed { IsPlaced source.new }
 {
     if source.advance_if_ascii_eq(b'0') {
         return Ok(());
@@ -280,12 +265,10 @@ fn read_decimal(
     errors: &mut DiagnosticList,
     has_separator: &mut bool,
 ) -> Result<Kind, AllocError>
-    requires { IsPlaced source.old }
     ensures ok { IfOk result (λ kind. ReadsEnd source.old source.new errors.old errors.new
         has_separator.old has_separator.new kind (decimal_items (rest source.old))) }
     ensures err { OnErr result (BreaksOff (missing_digits source.old.place (decimal_items (rest source.old)).items)
         source.old source.new errors.old errors.new) }
-    ensures placed { IsPlaced source.new }
 {
     read_integer(source, errors, has_separator)?;
     if source.advance_if_ascii_eq(b'n') {
@@ -296,8 +279,7 @@ fn read_decimal(
 
 /// Passes the digits that are next, and tells whether all are octal.
 fn pass_unseparated_digits(source: &mut Source<'_>) -> bool
-    ensures passes { PassesUnseparatedDigits source.old result source.new }
-    ensures placed { IsPlaced source.new }
+    ensures { PassesUnseparatedDigits source.old result source.new }
 {
     source.pass_ascii(table_of(Digits::Octal));
     if !begins_digit(source, Digits::Decimal) {
@@ -313,12 +295,10 @@ fn read_legacy(
     errors: &mut DiagnosticList,
     has_separator: &mut bool,
 ) -> Result<Kind, AllocError>
-    requires { IsPlaced source.old }
     ensures ok { IfOk result (λ kind. ReadsEnd source.old source.new errors.old errors.new
         has_separator.old has_separator.new kind (legacy_items (rest source.old))) }
     ensures err { OnErr result (BreaksOff (missing_digits source.old.place (legacy_items (rest source.old)).items)
         source.old source.new errors.old errors.new) }
-    ensures placed { IsPlaced source.new }
 {
     if pass_unseparated_digits(source) {
         return Ok(Kind::Octal);
@@ -334,11 +314,9 @@ fn read_behind_prefix(
     has_separator: &mut bool,
     prefix: Prefix,
 ) -> Result<Kind, AllocError>
-    requires { IsPlaced source.old }
     ensures ok { IfOk result (λ kind. ReadsCut source.old source.new errors.old errors.new
         has_separator.old has_separator.new kind (behind_base (base_of_prefix prefix) (rest source.old))) }
     ensures err { OnErr result (BreaksOff [] source.old source.new errors.old errors.new) }
-    ensures placed { IsPlaced source.new }
 {
     let is_whole = read_run(source, errors, has_separator, prefix.digits())?;
     if !is_whole {
@@ -397,12 +375,10 @@ fn read_items(
     errors: &mut DiagnosticList,
     has_separator: &mut bool,
 ) -> Result<Kind, AllocError>
-    requires { IsPlaced source.old }
     ensures ok { IfOk result (λ kind. ReadsCut source.old source.new errors.old errors.new
         has_separator.old has_separator.new kind (number_items (rest source.old))) }
     ensures err { OnErr result (BreaksOff (missing_digits source.old.place (number_items (rest source.old)).items)
         source.old source.new errors.old errors.new) }
-    ensures placed { IsPlaced source.new }
 {
     if source.advance_if_ascii_eq(b'.') {
         read_fraction(source, errors, has_separator)?;
@@ -421,11 +397,9 @@ fn read_items(
 
 /// Passes the characters that are next and begin names.
 fn skip_starts(source: &mut Source<'_>)
-    requires { IsPlaced source.old }
     ensures text { source.new.text ≡ source.old.text }
     ensures passed { rest source.old ≡ before_first is_no_start (rest source.old) ++ rest source.new }
     ensures onward { source.old.place ≤ source.new.place }
-    ensures placed { IsPlaced source.new }
 {
     'starts: while let Some(c) = source.peek_char() {
         if !is_identifier_start(c) {
@@ -448,10 +422,8 @@ fn may_not_follow(c: char) -> bool
 
 /// Reads what follows a number and may not, and all that is left of the source, if such a text is next; and tells so.
 fn read_bad_end(source: &mut Source<'_>, errors: &mut DiagnosticList) -> Result<bool, AllocError>
-    requires { IsPlaced source.old }
     ensures ok { IfOk result (λ is_bad. ReadsBadEnd source.old source.new errors.old errors.new is_bad) }
     ensures err { OnErr result (BreaksOff [] source.old source.new errors.old errors.new) }
-    ensures placed { IsPlaced source.new }
 {
     match source.peek_char() {
         Some(c) if may_not_follow(c) => {}
@@ -475,12 +447,10 @@ struct Numeral {
 
 /// Reads the number that is next, with what follows it and may not.
 fn read_numeral(source: &mut Source<'_>, errors: &mut DiagnosticList) -> Result<Numeral, AllocError>
-    requires { IsPlaced source.old }
     ensures ok { IfOk result (λ numeral.
         ReadsNumber source.old source.new errors.old errors.new numeral.kind numeral.has_separator) }
     ensures err { OnErr result (BreaksOff (reported_at source.old.place (number_reading (rest source.old)))
         source.old source.new errors.old errors.new) }
-    ensures placed { IsPlaced source.new }
 {
     let mut has_separator = false;
     let kind = read_items(source, errors, &mut has_separator)?;
@@ -505,14 +475,12 @@ pub fn read_number(
     errors: &mut DiagnosticList,
     token: &mut Token,
 ) -> Result<Spelt, AllocError>
-    requires { IsPlaced source.old }
     ensures ok { IfOk result (λ spelt.
         Spells (number_reading (rest source.old)) source.old.place source.old source.new errors.old errors.new token.old
         token.new spelt) }
     ensures err { OnErr result (BreaksOff (reported_at source.old.place (number_reading (rest source.old)))
         source.old source.new errors.old errors.new) }
     ensures token { OnErr result (token.new ≡ token.old) }
-    ensures placed { IsPlaced source.new }
 {
     let numeral = read_numeral(source, errors)?;
     token.set_escaped(false);

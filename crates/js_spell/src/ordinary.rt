@@ -6,9 +6,9 @@ ghost use Rattle.js_grammar.specs.Gap.{is_prefix};
 ghost use Rattle.js_grammar.specs.UnicodeEscape.{left_curly_bracket};
 ghost use Rattle.std.specs.Str.{IsCharBoundary};
 ghost use Rattle.js_text.specs.Characters.{from_place};
-ghost use Rattle.js_source.specs.Runs.{TellsClass, place_of};
-ghost use Rattle.js_source.specs.Source.{rest, IsPlaced, HasFirstByte};
-ghost use Rattle.js_spell.specs.Strings.{in_template, ordinary_here, stops, PassesCharacters, StopsAt};
+ghost use Rattle.js_source.specs.Runs.{TellsClass};
+ghost use Rattle.js_source.specs.Source.{rest, HasFirstByte};
+ghost use Rattle.js_spell.specs.Strings.{in_template, ordinary_here, stops, PassesCharacters, StopsAt, IsOrdinaryBefore};
 
 use js_source::{Source, SourcePosition, of_each_byte};
 
@@ -80,11 +80,9 @@ fn table_of(literal: Literal) -> &'static [bool; 256]
 /// Passes the characters that stand for themselves wherever they stand, and gives the byte that is next.
 #[inline(always)]
 fn pass_ordinary(source: &mut Source<'_>, literal: Literal) -> Option<u8>
-    requires { IsPlaced source.old }
     ensures passes { PassesCharacters literal source.old source.new }
     ensures none { IfNone result (rest source.new ≡ []) }
     ensures some { IfSome result (λ b. StopsAt literal b (rest source.new)) }
-    ensures placed { IsPlaced source.new }
 {
     let table = table_of(literal);
     'characters: loop {
@@ -123,12 +121,10 @@ pub(crate) fn begins_substitution(source: &Source<'_>) -> bool
 /// Passes the characters that stand for themselves, and gives the byte that is next.
 #[inline(always)]
 pub(crate) fn pass_characters(source: &mut Source<'_>, literal: Literal) -> Option<u8>
-    requires { IsPlaced source.old }
     ensures passes { PassesCharacters literal source.old source.new }
     ensures all { ordinary_here literal (rest source.new) ≡ false }
     ensures none { IfNone result (rest source.new ≡ []) }
     ensures some { IfSome result (λ b. HasFirstByte b (rest source.new)) }
-    ensures placed { IsPlaced source.new }
 {
     'characters: loop {
         match pass_ordinary(source, literal) {
@@ -149,8 +145,7 @@ pub(crate) fn pass_characters(source: &mut Source<'_>, literal: Literal) -> Opti
 /// The place of the first character that does not stand for itself.
 #[inline(never)]
 fn end_of_characters(source: Source<'_>, literal: Literal) -> SourcePosition
-    requires { IsPlaced source }
-    ensures passes { PassesCharacters literal source.entry (place_of source.entry.text result) }
+    ensures passes { IsOrdinaryBefore literal (rest source.entry) (from_place source.entry.text result) }
     ensures all { ordinary_here literal (from_place source.entry.text result) ≡ false }
     ensures boundary { IsCharBoundary source.entry.text result }
 {
@@ -163,12 +158,10 @@ fn end_of_characters(source: Source<'_>, literal: Literal) -> SourcePosition
 /// alone.
 #[inline(always)]
 pub(crate) fn pass_to_mark(source: &mut Source<'_>, literal: Literal) -> Option<u8>
-    requires { IsPlaced source.old }
     ensures passes { PassesCharacters literal source.old source.new }
     ensures all { ordinary_here literal (rest source.new) ≡ false }
     ensures none { IfNone result (rest source.new ≡ []) }
     ensures some { IfSome result (λ b. HasFirstByte b (rest source.new)) }
-    ensures placed { IsPlaced source.new }
 {
     let b = source.pass_ascii(table_of(literal))?;
     if b < 128 {

@@ -8,7 +8,7 @@ ghost use Rattle.js_grammar.specs.Number.{begins_number};
 ghost use Rattle.js_grammar.specs.Quoted.{begins_quoted};
 ghost use Rattle.js_grammar.specs.Recovery.{recovered};
 ghost use Rattle.js_grammar.specs.Spelling.{begins_named};
-ghost use Rattle.js_source.specs.Source.{rest};
+ghost use Rattle.js_source.specs.Source.{rest, GoesTo};
 ghost use Rattle.js_spell.specs.Recovery.{Recovers};
 
 use crate::comment::skip_line;
@@ -27,7 +27,7 @@ pub struct Recovered {
 
 /// Goes to the end, and tells whether a line terminator stands on the way.
 fn skip_to_end(source: &mut Source<'_>) -> bool
-    ensures end { source.new ≡ record source.old { place = length source.old.text } }
+    ensures end { GoesTo (length source.old.text) source.old source.new }
     ensures nothing { rest source.new ≡ [] }
     ensures line_end { result ≡ list_any is_line_terminator (rest source.old) }
 {

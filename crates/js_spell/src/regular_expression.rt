@@ -7,7 +7,7 @@ ghost use Rattle.js_text.specs.Characters.{begins, is_line_terminator};
 ghost use Rattle.js_grammar.specs.RegularExpression.{is_flag_character};
 ghost use Rattle.js_grammar.specs.Reading.{reported_at};
 ghost use Rattle.js_grammar.specs.RegularExpression.{regular_expression};
-ghost use Rattle.js_source.specs.Source.{rest, IsPlaced, BeginsWith};
+ghost use Rattle.js_source.specs.Source.{rest, BeginsWith};
 ghost use Rattle.js_source.specs.Runs.{TellsClass};
 ghost use Rattle.js_spell.specs.Breaks.{BreaksOff};
 ghost use Rattle.js_spell.specs.RegularExpression.{PassesParts, StopIs, marks, PassesBackslash};
@@ -136,10 +136,8 @@ fn begins_line_end(source: &Source<'_>) -> bool
 /// Passes the characters that stand for themselves, and tells what is next.
 #[inline(always)]
 fn pass_characters(source: &mut Source<'_>, within: Within) -> Stop
-    requires { IsPlaced source.old }
     ensures passes { PassesParts within source.old source.new }
     ensures stop { StopIs within result (rest source.new) }
-    ensures placed { IsPlaced source.new }
 {
     let table = table_of(within);
     'characters: loop {
@@ -161,10 +159,8 @@ fn pass_characters(source: &mut Source<'_>, within: Within) -> Stop
 /// Passes the `\` that is next and the character behind it, and tells whether there is one that ends no line; if not,
 /// only the `\` is passed.
 fn pass_backslash_sequence(source: &mut Source<'_>) -> bool
-    requires placed { IsPlaced source.old }
-    requires next { begins (λ c. c == backslash) (rest source.old) ≡ true }
-    ensures passes { PassesBackslash source.old source.new result }
-    ensures placed { IsPlaced source.new }
+    requires { begins (λ c. c == backslash) (rest source.old) ≡ true }
+    ensures { PassesBackslash source.old source.new result }
 {
     source.next_char();
     match source.peek_char() {
@@ -178,9 +174,7 @@ fn pass_backslash_sequence(source: &mut Source<'_>) -> bool
 
 /// Passes a class behind its `[`, and tells whether a `]` ends it; if not, the source stands where the line ends.
 fn pass_class(source: &mut Source<'_>) -> bool
-    requires { IsPlaced source.old }
-    ensures passes { PassesClass source.old source.new result }
-    ensures placed { IsPlaced source.new }
+    ensures { PassesClass source.old source.new result }
 {
     'class: loop {
         match pass_characters(source, Within::Class) {
@@ -202,9 +196,7 @@ fn pass_class(source: &mut Source<'_>) -> bool
 /// Passes the body of a regular expression, and tells whether a `/` ends it, which is next then; if not, the source
 /// stands where the line ends.
 fn pass_body(source: &mut Source<'_>) -> bool
-    requires { IsPlaced source.old }
-    ensures passes { PassesBody source.old source.new result }
-    ensures placed { IsPlaced source.new }
+    ensures { PassesBody source.old source.new result }
 {
     'body: loop {
         match pass_characters(source, Within::Body) {
@@ -227,10 +219,8 @@ fn pass_body(source: &mut Source<'_>) -> bool
 
 /// Takes the next letter of flags, if there is one.
 fn take_letter(source: &mut Source<'_>) -> Option<u8>
-    requires { IsPlaced source.old }
     ensures none { IfNone result ((begins is_flag_character (rest source.old) ≡ false) × (source.new ≡ source.old)) }
     ensures some { IfSome result (TakesLetter source.old source.new) }
-    ensures placed { IsPlaced source.new }
 {
     let b = source.peek_byte()?;
     if !name_parts()[b as usize] {
@@ -275,13 +265,11 @@ fn read_flags(
     errors: &mut DiagnosticList,
     pattern_end: u32,
 ) -> Result<RegexInfo, AllocError>
-    requires placed { IsPlaced source.old }
-    requires behind { pattern_end + 1 ≡ source.old.place }
+    requires { pattern_end + 1 ≡ source.old.place }
     ensures ok { IfOk result (SpellsFlags pattern_end source.old source.new
         errors.old errors.new) }
     ensures err { OnErr result (BreaksOff (flags_told pattern_end (rest source.old))
         source.old source.new errors.old errors.new) }
-    ensures placed { IsPlaced source.new }
 {
     let mut flags = RegExpFlags::empty();
     let mut flags_error = false;
@@ -305,11 +293,9 @@ fn report_unterminated(
     errors: &mut DiagnosticList,
     start: u32,
 ) -> Result<RegexInfo, AllocError>
-    requires placed { IsPlaced source.old }
-    requires start { start ≤ source.old.place }
+    requires { start ≤ source.old.place }
     ensures ok { IfOk result (BreaksLine start source.old source.new errors.old errors.new) }
     ensures err { OnErr result (BreaksOff [] source.old source.new errors.old errors.new) }
-    ensures placed { IsPlaced source.new }
 {
     source.next_char();
     let span = Span::new(start, source.offset());
@@ -330,13 +316,11 @@ pub fn read_regular_expression(
     errors: &mut DiagnosticList,
     start: u32,
 ) -> Result<RegexInfo, AllocError>
-    requires placed { IsPlaced source.old }
-    requires start { start + 1 ≡ source.old.place }
+    requires { start + 1 ≡ source.old.place }
     ensures ok { IfOk result (SpellsExpression (regular_expression (rest source.old)) start source.old source.new
         errors.old errors.new) }
     ensures err { OnErr result (BreaksOff (reported_at start (regular_expression (rest source.old)))
         source.old source.new errors.old errors.new) }
-    ensures placed { IsPlaced source.new }
 {
     if !pass_body(source) {
         return report_unterminated(source, errors, start);

@@ -5,7 +5,7 @@ ghost use Rattle.js_text.specs.Characters.{begins};
 ghost use Rattle.js_grammar.specs.Quoted.{quoted_reading};
 ghost use Rattle.js_grammar.specs.Reading.{reported_at};
 ghost use Rattle.js_grammar.specs.StringItems.{is_quote};
-ghost use Rattle.js_source.specs.Source.{rest, IsPlaced, Reads, HasFirstByte};
+ghost use Rattle.js_source.specs.Source.{rest, Reads, HasFirstByte};
 ghost use Rattle.js_spell.specs.Breaks.{BreaksOff};
 ghost use Rattle.js_spell.specs.Spells.{Spells};
 ghost use Rattle.js_spell.specs.Strings.{in_template, quote_of, TakesQuote, EndsString};
@@ -22,10 +22,8 @@ use std::alloc::{AllocError, Global};
 
 /// Takes the quote that is next.
 fn take_quote(source: &mut Source<'_>) -> Literal
-    requires placed { IsPlaced source.old }
-    requires quote { begins is_quote (rest source.old) ≡ true }
-    ensures quote { TakesQuote source.old source.new result }
-    ensures placed { IsPlaced source.new }
+    requires { begins is_quote (rest source.old) ≡ true }
+    ensures { TakesQuote source.old source.new result }
 {
     if source.advance_if_ascii_eq(b'"') {
         return Literal::DoubleQuoted;
@@ -53,11 +51,9 @@ fn end_string(
     start: u32,
 ) -> Result<bool, AllocError>
     requires ascii { quote < 128 }
-    requires placed { IsPlaced source.old }
     requires start { start ≤ source.old.place }
     ensures ok { IfOk result (EndsString quote start source.old source.new errors.old errors.new) }
     ensures err { OnErr result (BreaksOff [] source.old source.new errors.old errors.new) }
-    ensures placed { IsPlaced source.new }
 {
     if source.advance_if_ascii_eq(quote) {
         return Ok(true);
@@ -76,7 +72,6 @@ pub fn read_string(
     errors: &mut DiagnosticList,
     token: &mut Token,
 ) -> Result<Spelt, AllocError>
-    requires placed { IsPlaced source.old }
     requires quote { begins is_quote (rest source.old) ≡ true }
     requires start { token.old.start ≡ source.old.place }
     ensures ok { IfOk result (Spells (quoted_reading (rest source.old)) token.old.start
@@ -84,7 +79,6 @@ pub fn read_string(
     ensures err { OnErr result (BreaksOff (reported_at token.old.start (quoted_reading (rest source.old)))
         source.old source.new errors.old errors.new) }
     ensures token { OnErr result (token.new ≡ token.old) }
-    ensures placed { IsPlaced source.new }
 {
     let literal = take_quote(source);
     let value = read_value(alloc, source, literal, errors, token)?;
@@ -113,14 +107,12 @@ fn literal_of(quote: u8) -> Literal
 /// (ECMA-262 12.9.4). None: it is another, and the source stands somewhere in the same text.
 #[inline(always)]
 pub fn read_unescaped_string(source: &mut Source<'_>, quote: u8) -> Option<Kind>
-    requires placed { IsPlaced source.old }
     requires ascii { quote < 128 }
     requires next { HasFirstByte quote (rest source.old) }
     requires quote { is_quote quote ≡ true }
     ensures some { IfSome result (SpellsUnescapedString source.old source.new) }
     ensures none { IfNone result (MeetsNoQuote quote (rest source.old)) }
     ensures text { source.new.text ≡ source.old.text }
-    ensures placed { IsPlaced source.new }
 {
     let literal = literal_of(quote);
     source.next_ascii(quote);

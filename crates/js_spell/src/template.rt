@@ -1,7 +1,7 @@
 //! Reading the parts of templates (ECMA-262 12.9.6).
 
 ghost use Rattle.std.specs.Prelude.{◌≡◌, ℕ, ◌+◌, ◌≤◌, ◌==◌, [], ◌∷◌, IfOk, IfNone, IfSome, OnErr};
-ghost use Rattle.js_source.specs.Source.{rest, IsPlaced};
+ghost use Rattle.js_source.specs.Source.{rest};
 ghost use Rattle.js_grammar.specs.Reading.{reported_at};
 ghost use Rattle.js_grammar.specs.Template.{template_part_reading};
 ghost use Rattle.js_spell.specs.Breaks.{BreaksOff};
@@ -34,11 +34,9 @@ fn end_part(
     errors: &mut DiagnosticList,
     start: u32,
 ) -> Result<PartEnd, AllocError>
-    requires placed { IsPlaced source.old }
-    requires start { start ≤ source.old.place }
+    requires { start ≤ source.old.place }
     ensures ok { IfOk result (EndsPart start source.old source.new errors.old errors.new) }
     ensures err { OnErr result (BreaksOff [] source.old source.new errors.old errors.new) }
-    ensures placed { IsPlaced source.new }
 {
     if source.advance_if_ascii_eq(b'`') {
         return Ok(PartEnd::Tail);
@@ -64,8 +62,7 @@ pub fn read_template_part(
     substitute: Kind,
     tail: Kind,
 ) -> Result<Spelt, AllocError>
-    requires placed { IsPlaced source.old }
-    requires start { token.old.start + 1 ≡ source.old.place }
+    requires { token.old.start + 1 ≡ source.old.place }
     ensures ok { IfOk result (λ spelt. (opening : ℕ)
         → Spells (template_part_reading substitute tail (opening ∷ rest source.old)) token.old.start
         source.old source.new errors.old errors.new token.old token.new spelt) }
@@ -73,7 +70,6 @@ pub fn read_template_part(
         (reported_at token.old.start (template_part_reading substitute tail (opening ∷ rest source.old)))
         source.old source.new errors.old errors.new) }
     ensures token { OnErr result (token.new ≡ token.old) }
-    ensures placed { IsPlaced source.new }
 {
     let value = read_value(alloc, source, Literal::Template, errors, token)?;
     match end_part(source, errors, token.start())? {
@@ -88,11 +84,9 @@ pub fn read_template_part(
 /// backquote. None: it is another part, and the source stands somewhere in the same text.
 #[inline(always)]
 pub fn read_unescaped_part(source: &mut Source<'_>, substitute: Kind, tail: Kind) -> Option<Kind>
-    requires { IsPlaced source.old }
     ensures some { IfSome result (SpellsUnescapedPart substitute tail source.old source.new) }
     ensures none { IfNone result (MeetsNoPartEnd (rest source.old)) }
     ensures text { source.new.text ≡ source.old.text }
-    ensures placed { IsPlaced source.new }
 {
     let b = pass_to_mark(source, Literal::Template)?;
     if b == b'`' {

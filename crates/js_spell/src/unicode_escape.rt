@@ -4,7 +4,7 @@ ghost use Rattle.std.specs.Prelude.{◌≡◌, ◌≤◌, ◌<◌, ◌^◌, true
 ghost use Rattle.std.specs.Char.{digit_value};
 ghost use Rattle.js_kind.specs.Digits.{is_digit_of};
 ghost use Rattle.js_grammar.specs.UnicodeEscape.{hex_digits, braced_digits, unicode_escape, last_code_point};
-ghost use Rattle.js_source.specs.Source.{rest, IsPlaced};
+ghost use Rattle.js_source.specs.Source.{rest};
 ghost use Rattle.js_spell.specs.Escape.{TellsValues, TakesDigit, ReadsUnicodeEscape};
 
 use js_source::Source;
@@ -14,12 +14,10 @@ const LAST_CODE_POINT: u32 = 0x10FFFF;
 
 /// Takes a digit of the radix, if one is next, and gives its value.
 pub(crate) fn take_digit(source: &mut Source<'_>, radix: u32) -> Option<u32>
-    requires placed { IsPlaced source.old }
     requires least { 2 ≤ radix }
     requires greatest { radix ≤ 16 }
     ensures digit { TakesDigit radix source.old source.new result }
     ensures value { IfSome result (λ value. value < radix) }
-    ensures placed { IsPlaced source.new }
 {
     let value = source.peek_char()?.to_digit(radix)?;
     source.next_char();
@@ -64,10 +62,8 @@ fn hex_value(b: u8) -> Option<u32>
 /// Takes a hexadecimal digit, if one is next, and gives its value.
 #[inline(always)]
 fn take_hex_digit(source: &mut Source<'_>) -> Option<u32>
-    requires { IsPlaced source.old }
     ensures digit { TakesDigit 16 source.old source.new result }
     ensures value { IfSome result (λ value. value < 16) }
-    ensures placed { IsPlaced source.new }
 {
     let b = source.peek_byte()?;
     let value = hex_value(b)?;
@@ -77,11 +73,9 @@ fn take_hex_digit(source: &mut Source<'_>) -> Option<u32>
 
 /// Reads just so many hexadecimal digits and gives their value, or reads those that are there.
 pub(crate) fn read_hex_digits(source: &mut Source<'_>, count: u32) -> Option<u32>
-    requires few { count ≤ 4 }
-    requires placed { IsPlaced source.old }
+    requires { count ≤ 4 }
     ensures read { ReadsUnicodeEscape (hex_digits count (rest source.old)) source.old source.new result }
     ensures small { IfSome result (λ value. value < 16 ^ count) }
-    ensures placed { IsPlaced source.new }
 {
     let mut value = 0;
     'digits: for _ in 0..count {
@@ -92,10 +86,8 @@ pub(crate) fn read_hex_digits(source: &mut Source<'_>, count: u32) -> Option<u32
 
 /// Reads the digits of a code point behind a `{`, and the `}`.
 fn read_braced_digits(source: &mut Source<'_>) -> Option<u32>
-    requires { IsPlaced source.old }
     ensures read { ReadsUnicodeEscape (braced_digits (rest source.old)) source.old source.new result }
     ensures small { IfSome result (λ value. value ≤ last_code_point) }
-    ensures placed { IsPlaced source.new }
 {
     let mut value = take_hex_digit(source)?;
     'digits: while let Some(digit) = take_hex_digit(source) {
@@ -115,10 +107,8 @@ fn read_braced_digits(source: &mut Source<'_>) -> Option<u32>
 /// code point, which may be a surrogate; None: the escape is none, and breaks off before the first character that does
 /// not fit, or behind the digit that passes 10FFFF.
 pub(crate) fn read_unicode_escape(source: &mut Source<'_>) -> Option<u32>
-    requires { IsPlaced source.old }
     ensures read { ReadsUnicodeEscape (unicode_escape (rest source.old)) source.old source.new result }
     ensures small { IfSome result (λ value. value ≤ last_code_point) }
-    ensures placed { IsPlaced source.new }
 {
     if source.advance_if_ascii_eq(b'{') {
         return read_braced_digits(source);

@@ -8,7 +8,7 @@ ghost use Rattle.js_kind.specs.declared.kind.Kind.TheVariants.{DecimalBigInt};
 ghost use Rattle.js_grammar.specs.Number.{may_not_follow_number};
 ghost use Rattle.js_grammar.specs.NumberReads.{behind_digits, decimal_items, exponent_or, fraction_items};
 ghost use Rattle.js_grammar.specs.NumberReads.{number_items, suffix_or};
-ghost use Rattle.js_source.specs.Source.{rest, IsPlaced, HasFirstByte};
+ghost use Rattle.js_source.specs.Source.{rest, HasFirstByte};
 ghost use Rattle.js_spell.specs.Numeric.{ReadsInteger, ReadsPart, ReadsEnd, ReadsCut, SpellsUnseparatedNumber, MayGoOn};
 ghost use Rattle.js_spell.specs.Numeric.{FollowsInteger, HasPrefix};
 
@@ -21,7 +21,6 @@ use js_source::Source;
 /// Passes an integer without separators, which begins with the digit `b`: `0`, or all digits.
 #[inline(always)]
 fn pass_integer(source: &mut Source<'_>, b: u8)
-    requires placed { IsPlaced source.old }
     requires ascii { b < 128 }
     requires next { HasFirstByte b (rest source.old) }
     requires digit { is_digit_of 10 b ≡ true }
@@ -31,7 +30,6 @@ fn pass_integer(source: &mut Source<'_>, b: u8)
         → number_items (rest source.old) ≡ decimal_items (rest source.old) }
     ensures fewer { length (rest source.new) < length (rest source.old) }
     ensures text { source.new.text ≡ source.old.text }
-    ensures placed { IsPlaced source.new }
 {
     if b == b'0' {
         source.next_ascii(b);
@@ -43,12 +41,10 @@ fn pass_integer(source: &mut Source<'_>, b: u8)
 /// Passes an exponent, if one is next that has a digit, and gives the kind that it makes of a number of the kind.
 #[inline(always)]
 fn pass_exponent_or(source: &mut Source<'_>, without: Kind) -> Kind
-    requires { IsPlaced source.old }
     ensures reads { begins may_not_follow_number (rest source.new) ≡ false → (errors : List Diagnostic)
         → ReadsEnd source.old source.new errors errors false false result (exponent_or without (rest source.old)) }
     ensures follows { begins may_not_follow_number (rest source.new) ≡ false → FollowsInteger (rest source.old) }
     ensures text { source.new.text ≡ source.old.text }
-    ensures placed { IsPlaced source.new }
 {
     let start = source.position();
     if !take_exponent_mark(source) {
@@ -66,11 +62,9 @@ fn pass_exponent_or(source: &mut Source<'_>, without: Kind) -> Kind
 /// Passes the digits that are next behind a point, and an exponent.
 #[inline(always)]
 fn pass_fraction(source: &mut Source<'_>)
-    requires { IsPlaced source.old }
     ensures reads { begins may_not_follow_number (rest source.new) ≡ false → (errors : List Diagnostic)
         → ReadsPart source.old source.new errors errors false false (fraction_items (rest source.old)) }
     ensures text { source.new.text ≡ source.old.text }
-    ensures placed { IsPlaced source.new }
 {
     if begins_digit(source, Digits::Decimal) {
         source.pass_ascii(table_of(Digits::Decimal));
@@ -84,13 +78,11 @@ fn pass_fraction(source: &mut Source<'_>)
 /// gives the number's kind.
 #[inline(always)]
 fn read_behind_integer(source: &mut Source<'_>) -> Kind
-    requires { IsPlaced source.old }
     ensures reads { begins may_not_follow_number (rest source.new) ≡ false → (errors : List Diagnostic)
         → ReadsEnd source.old source.new errors errors false false result
         (suffix_or DecimalBigInt (behind_digits (rest source.old)) (rest source.old)) }
     ensures follows { begins may_not_follow_number (rest source.new) ≡ false → FollowsInteger (rest source.old) }
     ensures text { source.new.text ≡ source.old.text }
-    ensures placed { IsPlaced source.new }
 {
     if source.advance_if_ascii_eq(b'.') {
         pass_fraction(source);
@@ -106,12 +98,10 @@ fn read_behind_integer(source: &mut Source<'_>) -> Kind
 /// does not move.
 #[inline(always)]
 fn read_prefixed(source: &mut Source<'_>, prefix: Prefix) -> Kind
-    requires placed { IsPlaced source.old }
-    requires prefix { HasPrefix prefix (rest source.old) }
+    requires { HasPrefix prefix (rest source.old) }
     ensures reads { begins may_not_follow_number (rest source.new) ≡ false → (errors : List Diagnostic)
         → ReadsCut source.old source.new errors errors false false result (number_items (rest source.old)) }
     ensures text { source.new.text ≡ source.old.text }
-    ensures placed { IsPlaced source.new }
 {
     let start = source.position();
     source.next_char();
@@ -131,14 +121,12 @@ fn read_prefixed(source: &mut Source<'_>, prefix: Prefix) -> Kind
 /// Reads the decimal number that is next and begins with the digit `b`, and gives its kind.
 #[inline(always)]
 fn read_decimal(source: &mut Source<'_>, b: u8) -> Kind
-    requires placed { IsPlaced source.old }
     requires ascii { b < 128 }
     requires next { HasFirstByte b (rest source.old) }
     requires digit { is_digit_of 10 b ≡ true }
     ensures reads { begins may_not_follow_number (rest source.new) ≡ false → (errors : List Diagnostic)
         → ReadsCut source.old source.new errors errors false false result (number_items (rest source.old)) }
     ensures text { source.new.text ≡ source.old.text }
-    ensures placed { IsPlaced source.new }
 {
     pass_integer(source, b);
     read_behind_integer(source)
@@ -147,14 +135,12 @@ fn read_decimal(source: &mut Source<'_>, b: u8) -> Kind
 /// Reads the number that is next and begins with the digit `b`, and gives its kind.
 #[inline(always)]
 fn read_items(source: &mut Source<'_>, b: u8) -> Kind
-    requires placed { IsPlaced source.old }
     requires ascii { b < 128 }
     requires next { HasFirstByte b (rest source.old) }
     requires digit { is_digit_of 10 b ≡ true }
     ensures reads { begins may_not_follow_number (rest source.new) ≡ false → (errors : List Diagnostic)
         → ReadsCut source.old source.new errors errors false false result (number_items (rest source.old)) }
     ensures text { source.new.text ≡ source.old.text }
-    ensures placed { IsPlaced source.new }
 {
     if b == b'0' {
         if let Lead::Prefix(prefix) = find_lead(source) {
@@ -191,14 +177,12 @@ fn ends_number(source: &Source<'_>) -> bool
 /// character past ASCII follows it (ECMA-262 12.9.3). None: it goes on where the source stands then, in the same text.
 #[inline(always)]
 pub fn read_unseparated_number(source: &mut Source<'_>, b: u8) -> Option<Kind>
-    requires placed { IsPlaced source.old }
     requires ascii { b < 128 }
     requires next { HasFirstByte b (rest source.old) }
     requires digit { is_digit_of 10 b ≡ true }
     ensures some { IfSome result (SpellsUnseparatedNumber source.old source.new) }
     ensures none { IfNone result (MayGoOn (rest source.new)) }
     ensures text { source.new.text ≡ source.old.text }
-    ensures placed { IsPlaced source.new }
 {
     let kind = read_items(source, b);
     if !ends_number(source) {

@@ -212,7 +212,6 @@ fn strings_of_attributes(rt: HostRuntime) -> Result<(), Fail> {
         let begins = quote_is_next(&source);
         assert!(rt; begins, "{text}");
         if begins {
-            let _place = source.position();
             let read = read_jsx_string(&mut source, &mut errors)?;
             assert!(rt; read.is_same(kind), "{text}");
             assert_eq!(rt; source.offset(), end, "{text}");

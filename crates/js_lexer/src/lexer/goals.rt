@@ -110,8 +110,6 @@ impl<C: LexerConfig + Drop> Lexer<'_, C> {
         ensures token { ReadsName self.old result self.new }
         ensures places { StaysInPlaces self.old self.new }
     {
-        // The text is UTF-8, so the name lies on places.
-        let _place = self.reader.source.position();
         let token = self.reader.read_jsx_name(start)?;
         let collects = self.config.tokens();
         take_again(&mut self.found.trivia, &mut self.tokens, collects, token);

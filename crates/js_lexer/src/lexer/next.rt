@@ -5,7 +5,7 @@ ghost use Rattle.js_text.specs.Characters.{is_identifier_start};
 ghost use Rattle.js_reader.specs.Decoded.{Keeps};
 ghost use Rattle.js_reader.specs.Simple.{MeetsByte, PassesSimpleGap, ReadsSimpleToken, SpellsSimply};
 ghost use Rattle.js_lexer.specs.Places.{ReadsInPlaces};
-ghost use Rattle.js_lexer.specs.Lexer.{here, is_hashbang, ReadsNext, ReadsToken, IsRestored, IsSettled};
+ghost use Rattle.js_lexer.specs.Lexer.{HoldsHere, is_hashbang, ReadsNext, ReadsToken, IsRestored, IsSettled};
 
 use super::{Lexer, collect_other};
 use js_grammar::Goal;
@@ -46,7 +46,8 @@ impl<'a, C: LexerConfig + Drop> Lexer<'a, C> {
         b: u8,
     ) -> Result<Token, AllocError>
         requires settled { IsSettled self.old }
-        requires meets { MeetsByte b (here self.old) (is_none self.old.last) source line_has_ended }
+        requires meets { HoldsHere self.old (λ at.
+            MeetsByte b at (is_none self.old.last) source line_has_ended) }
         requires begun { is_identifier_start b ≡ true }
         ensures ok { IfOk result (λ token. ReadsToken Goal.Next self.old token self.new) }
         ensures err { OnErr result (IsRestored self.old self.new) }
@@ -69,7 +70,8 @@ impl<'a, C: LexerConfig + Drop> Lexer<'a, C> {
         b: u8,
     ) -> Result<Token, AllocError>
         requires settled { IsSettled self.old }
-        requires meets { MeetsByte b (here self.old) (is_none self.old.last) source line_has_ended }
+        requires meets { HoldsHere self.old (λ at.
+            MeetsByte b at (is_none self.old.last) source line_has_ended) }
         ensures ok { IfOk result (λ token. ReadsToken Goal.Next self.old token self.new) }
         ensures err { OnErr result (IsRestored self.old self.new) }
         ensures kept { Keeps self.old.decoded self.new.decoded }
@@ -92,7 +94,8 @@ impl<'a, C: LexerConfig + Drop> Lexer<'a, C> {
         line_has_ended: bool,
     ) -> Result<Token, AllocError>
         requires settled { IsSettled self.old }
-        requires gap { PassesSimpleGap (here self.old) (is_none self.old.last) source line_has_ended }
+        requires gap { HoldsHere self.old (λ at.
+            PassesSimpleGap at (is_none self.old.last) source line_has_ended) }
         requires spells { SpellsSimply line_has_ended source behind kind }
         ensures ok { IfOk result (λ token. ReadsToken Goal.Next self.old token self.new) }
         ensures err { OnErr result (IsRestored self.old self.new) }
@@ -110,7 +113,7 @@ impl<'a, C: LexerConfig + Drop> Lexer<'a, C> {
     #[inline(always)]
     fn take_simple(&mut self, source: Source<'a>, token: Token) -> Result<(), AllocError>
         requires settled { IsSettled self.old }
-        requires reads { ReadsSimpleToken (here self.old) (is_none self.old.last) token source }
+        requires reads { HoldsHere self.old (λ at. ReadsSimpleToken at (is_none self.old.last) token source) }
         requires other { is_hashbang token.kind ≡ false }
         ensures ok { OnOk result (ReadsToken Goal.Next self.old token self.new) }
         ensures err { OnErr result (IsRestored self.old self.new) }

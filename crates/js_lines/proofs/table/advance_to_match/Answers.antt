@@ -10,9 +10,9 @@ same_end : (c : After-advance_to_one_of)
     → c.args.source.now.place + length_in Bytes (rest c.args.source.now)
     ≡ c.advance_to_one_of.new.self.place + length_in Bytes (rest c.advance_to_one_of.new.self)
 same_end c =
-    place_left c.args.source.now c.position-place.ensures.placed
+    place_left c.args.source.now
     ∙ ap length (sym c.advance_to_one_of.ensures.text)
-    ∙ sym (place_left c.advance_to_one_of.new.self c.advance_to_one_of.ensures.placed)
+    ∙ sym (place_left c.advance_to_one_of.new.self)
 
 pub returns-in_err-advance_to_one_of-clause-bytes : goal.returns-in_err-advance_to_one_of-clause-bytes
 returns-in_err-advance_to_one_of-clause-bytes c =

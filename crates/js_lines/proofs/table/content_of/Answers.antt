@@ -10,11 +10,11 @@ returns-clause-characters c =
     let ends = c.args.ends in
     let bytes = c.args.text.now in
     let new = c.pass_content.new.source in
-    let start : rest c.new-source.result ≡ chars bytes = ap rest c.new-source.ensures.start in
-    let text : new.text ≡ bytes = c.pass_content.ensures.text ∙ ap (λ s. s.text) c.new-source.ensures.start in
+    let start : rest c.new-source.result ≡ chars bytes = c.new-source.ensures.characters in
+    let text : new.text ≡ bytes = c.pass_content.ensures.text ∙ c.new-source.ensures.text in
     let content : chars bytes ≡ line_content ends (chars bytes) ++ rest new =
     sym start ∙ c.pass_content.ensures.content ∙ ap (λ cs. line_content ends cs ++ rest new) start in
     let whole : new.place - 0 ≡ new.place = omega arith in
     let cut : c.range.result.now ≡ take new.place bytes =
     c.range.ensures.value ∙ ap (λ n. take (n - 0) bytes) c.offset.ensures.place ∙ ap (λ n. take n bytes) whole in
-    ap chars cut ∙ content_is ends bytes new c.offset.ensures.placed text content
+    ap chars cut ∙ content_is ends bytes new text content

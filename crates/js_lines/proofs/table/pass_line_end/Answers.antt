@@ -29,7 +29,7 @@ behind : (c : After-pass_char)
     → c.pass_char.new.self.place ≡ c.advance_to_match.new.source.place + len_utf8 c.in-Some.c
 behind c =
     place_behind c.advance_to_match.new.source c.pass_char.new.self c.in-Some.c c.pass_char.ensures.reads
-    c.pass_char.ensures.at c.pass_char.ensures.placed
+    c.pass_char.ensures.at
 
 pub returns-then-ends_behind-clause-some : goal.returns-then-ends_behind-clause-some
 returns-then-ends_behind-clause-some c =

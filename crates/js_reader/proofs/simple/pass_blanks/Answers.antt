@@ -15,6 +15,5 @@ returns c =
       passes = λ start had so_far.
           blanks_passed c.args.blanks.now c.requires.blanks start mid c.skip_blanks.new.source had has
           (blank_passed c.args.blanks.now c.requires.blanks start c.args.source.now mid had has c.args.b so_far
-          c.requires.blank reads.here reads.text c.next_ascii.ensures.onward c.next_ascii.ensures.placed)
-          blanks.placed blanks.text blanks.run;
+          c.requires.blank reads.here reads.text c.next_ascii.ensures.onward) blanks.text blanks.run;
     }

@@ -11,6 +11,5 @@ returns c =
       fewer = omega (arith, blanks.fewer, ap length reads.here);
       passes = λ start had so_far.
           blanks_passed c.args.blanks.now c.requires.blanks start mid c.skip_blanks.new.source had _
-          (line_feed_passed start c.args.source.now mid had _ so_far reads.here reads.text c.next_ascii.ensures.placed)
-          blanks.placed blanks.text blanks.run;
+          (line_feed_passed start c.args.source.now mid had _ so_far reads.here reads.text) blanks.text blanks.run;
     }

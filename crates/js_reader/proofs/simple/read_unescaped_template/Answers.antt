@@ -6,4 +6,4 @@ pub returns-clause-spells : goal.returns-clause-spells
 returns-clause-spells c = λ ended.
     IfSome_then c.read_unescaped_part.result c.read_unescaped_part.ensures.some
     (λ kind spells. simple_template ended c.args.source.now c.next_ascii.new.self c.read_unescaped_part.new.source kind
-    c.requires.placed c.next_ascii.ensures.placed c.next_ascii.ensures.reads spells)
+    c.next_ascii.ensures.reads spells)

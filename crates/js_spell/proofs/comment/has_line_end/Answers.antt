@@ -8,7 +8,7 @@ use Rattle.js_spell.proofs.comment.has_line_end.Goals as goal
 pub returns : goal.returns
 returns c =
     let found : rest c.skip_line.new.source ≡ from_first is_line_terminator (chars c.args.text.now) =
-    c.skip_line.ensures.rest ∙ ap (λ s. from_first is_line_terminator (rest s)) c.new-source.ensures.start in
+    c.skip_line.ensures.rest ∙ ap (from_first is_line_terminator) c.new-source.ensures.characters in
     ends_line (chars c.args.text.now) c.is_eof.result
     (λ ended. sym found ∙ c.is_eof.ensures.characters.0 ended)
     (λ going none.

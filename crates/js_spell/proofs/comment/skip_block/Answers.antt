@@ -7,7 +7,8 @@ use Rattle.js_spell.proofs.comment.skip_block.Goals as goal
 
 pub has_line_end-requires : goal.has_line_end-requires
 has_line_end-requires c =
-    rw c.str_from_pos_to_current.ensures.bytes (short_between _ _ _ (2 ^ 32) c.advance_behind_pair.ensures.placed.short)
+    rw c.str_from_pos_to_current.ensures.bytes (short_between _ _ _ (2 ^ 32)
+    c.advance_behind_pair.new.self.placed.short)
 
 pub returns-then-not-is_plain-clause-cut : goal.returns-then-not-is_plain-clause-cut
 returns-then-not-is_plain-clause-cut c =
@@ -20,7 +21,7 @@ returns-then-not-is_plain-clause-cut c =
     (subst (λ t. SpellsBetween t c.position-start.result new.place text) c.advance_behind_pair.ensures.text
     c.str_from_pos_to_current.ensures.characters) in
     block_found old new c.has_line_end.result c.in_ok-is_plain.is_plain found
-    (sym (comment_characters old new text c.position-start.ensures.placed c.advance_behind_pair.ensures.text found
+    (sym (comment_characters old new text c.advance_behind_pair.ensures.text found
     spells) ∙ sym c.has_line_end.ensures)
 
 pub returns-else-not-is_plain-clause-cut : goal.returns-else-not-is_plain-clause-cut

@@ -15,28 +15,20 @@ pub returns-in_err-push_code_point-in-CodePoint-clause-onward
     : goal.returns-in_err-push_code_point-in-CodePoint-clause-onward
 returns-in_err-push_code_point-in-CodePoint-clause-onward c =
     escape_moves_on c.args.in_template c.in-Some.first c.args.source.now c.next_char.new.self
-    c.read_escape_of.new.source
-    c.read_escape_of.result c.requires.placed c.read_escape_of.ensures.placed c.in-Some.ensures.some
-    c.read_escape_of.ensures.read
+    c.read_escape_of.new.source c.read_escape_of.result c.in-Some.ensures.some c.read_escape_of.ensures
 
 pub returns-in-Nothing-clause-onward : goal.returns-in-Nothing-clause-onward
 returns-in-Nothing-clause-onward c =
     escape_moves_on c.args.in_template c.in-Some.first c.args.source.now c.next_char.new.self
-    c.read_escape_of.new.source
-    c.read_escape_of.result c.requires.placed c.read_escape_of.ensures.placed c.in-Some.ensures.some
-    c.read_escape_of.ensures.read
+    c.read_escape_of.new.source c.read_escape_of.result c.in-Some.ensures.some c.read_escape_of.ensures
 
 pub returns-in-Bad-clause-onward : goal.returns-in-Bad-clause-onward
 returns-in-Bad-clause-onward c =
     escape_moves_on c.args.in_template c.in-Some.first c.args.source.now c.next_char.new.self
-    c.read_escape_of.new.source
-    c.read_escape_of.result c.requires.placed c.read_escape_of.ensures.placed c.in-Some.ensures.some
-    c.read_escape_of.ensures.read
+    c.read_escape_of.new.source c.read_escape_of.result c.in-Some.ensures.some c.read_escape_of.ensures
 
 pub returns-in_ok-push_code_point-in-CodePoint-clause-onward
     : goal.returns-in_ok-push_code_point-in-CodePoint-clause-onward
 returns-in_ok-push_code_point-in-CodePoint-clause-onward c =
     escape_moves_on c.args.in_template c.in-Some.first c.args.source.now c.next_char.new.self
-    c.read_escape_of.new.source
-    c.read_escape_of.result c.requires.placed c.read_escape_of.ensures.placed c.in-Some.ensures.some
-    c.read_escape_of.ensures.read
+    c.read_escape_of.new.source c.read_escape_of.result c.in-Some.ensures.some c.read_escape_of.ensures

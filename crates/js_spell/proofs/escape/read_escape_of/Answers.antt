@@ -7,43 +7,40 @@ use Rattle.js_grammar.proofs.EscapeCases.{escape_of_character}
 use Rattle.js_spell.proofs.DecodeSteps.{known_read, character_read}
 use Rattle.js_spell.proofs.escape.read_escape_of.Goals as goal
 
-pub returns-then-is_line_terminator-clause-read : goal.returns-then-is_line_terminator-clause-read
-returns-then-is_line_terminator-clause-read c =
+pub returns-then-is_line_terminator : goal.returns-then-is_line_terminator
+returns-then-is_line_terminator c =
     known_read _ _ c.args.source.now c.pass_line_continuation.new.source c.pass_line_continuation.result
     (escape_of_line c.args.in_template c.args.first (rest c.args.source.now) (sym c.if-is_line_terminator.ensures))
-    c.pass_line_continuation.ensures.read
+    c.pass_line_continuation.ensures
 
-pub returns-then-first-eq120-clause-read : goal.returns-then-first-eq120-clause-read
-returns-then-first-eq120-clause-read c =
+pub returns-then-first-eq120 : goal.returns-then-first-eq120
+returns-then-first-eq120 c =
     known_read _ _ c.args.source.now c.read_hex_escape.new.source c.read_hex_escape.result
     (escape_by_unit c.args.in_template c.args.first (rest c.args.source.now) (sym c.if-is_line_terminator.ensures)
-    (eq-eqb c.args.first 120 c.if-first-eq120.true))
-    c.read_hex_escape.ensures.read
+    (eq-eqb c.args.first 120 c.if-first-eq120.true)) c.read_hex_escape.ensures
 
-pub returns-then-first-eq117-clause-read : goal.returns-then-first-eq117-clause-read
-returns-then-first-eq117-clause-read c =
+pub returns-then-first-eq117 : goal.returns-then-first-eq117
+returns-then-first-eq117 c =
     known_read _ _ c.args.source.now c.read_code_point_escape.new.source c.read_code_point_escape.result
     (escape_by_code_point c.args.in_template c.args.first (rest c.args.source.now)
     (sym c.if-is_line_terminator.ensures) (ne_eqb c.args.first 120 c.if-first-eq120.false)
-    (eq-eqb c.args.first 117 c.if-first-eq117.true))
-    c.read_code_point_escape.ensures.read
+    (eq-eqb c.args.first 117 c.if-first-eq117.true)) c.read_code_point_escape.ensures
 
-pub read_digit_escape-requires-clause-digit : goal.read_digit_escape-requires-clause-digit
+pub read_digit_escape-requires : goal.read_digit_escape-requires
 unfolding is_digit_of
-read_digit_escape-requires-clause-digit c = sym c.if-is_digit.ensures.value
+read_digit_escape-requires c = sym c.if-is_digit.ensures.value
 
-pub returns-then-is_digit-clause-read : goal.returns-then-is_digit-clause-read
+pub returns-then-is_digit : goal.returns-then-is_digit
 unfolding is_digit_of
-returns-then-is_digit-clause-read c =
+returns-then-is_digit c =
     known_read _ _ c.args.source.now c.read_digit_escape.new.source c.read_digit_escape.result
     (escape_by_digit c.args.in_template c.args.first (rest c.args.source.now) (sym c.if-is_line_terminator.ensures)
     (ne_eqb c.args.first 120 c.if-first-eq120.false) (ne_eqb c.args.first 117 c.if-first-eq117.false)
-    (sym c.if-is_digit.ensures.value))
-    c.read_digit_escape.ensures.read
+    (sym c.if-is_digit.ensures.value)) c.read_digit_escape.ensures
 
-pub returns-clause-read : goal.returns-clause-read
+pub returns : goal.returns
 unfolding is_digit_of
-returns-clause-read c =
+returns c =
     known_read _ _ c.args.source.now c.args.source.now _
     (escape_of_character c.args.in_template c.args.first (rest c.args.source.now) (sym c.if-is_line_terminator.ensures)
     (ne_eqb c.args.first 120 c.if-first-eq120.false) (ne_eqb c.args.first 117 c.if-first-eq117.false)

@@ -12,16 +12,15 @@ first_value first e = omega (arith, digit_value_digit first (octal_digit_range f
 
 pub overflow_sub-value : goal.overflow_sub-value
 overflow_sub-value c =
-    let range = octal_digit_range c.args.first c.requires.digit in
+    let range = octal_digit_range c.args.first c.requires in
     omega (arith, digit_value_digit c.args.first range)
 
 pub digits-init : goal.digits-init
 digits-init c = record {
   taken =
-      first_octal_digit c.args.first (c.args.first - 48) c.args.source.now c.requires.digit
-      (first_value c.args.first c.requires.digit);
+      first_octal_digit c.args.first (c.args.first - 48) c.args.source.now c.requires
+      (first_value c.args.first c.requires);
   within = omega arith;
-  placed = c.requires.placed;
 }
 
 pub overflow_mul-value : goal.overflow_mul-value
@@ -41,9 +40,9 @@ overflow_add-value c =
           c.digits.invariant.taken (omega (arith, c.digits-test.true, c.further_octal_digits-end.ensures.few)),
     )
 
-pub returns-in-None-clause-read : goal.returns-in-None-clause-read
-returns-in-None-clause-read c =
-    let most = c.further_octal_digits-end.ensures.count c.args.first (sym (first_value c.args.first c.requires.digit))
+pub returns-in-None : goal.returns-in-None
+returns-in-None c =
+    let most = c.further_octal_digits-end.ensures.count c.args.first (sym (first_value c.args.first c.requires))
     in
     octal_stopped c.args.first c.args.source.now c.digits.source c.take_digit.new.source c.digits.counter
     c.digits.value c.digits.invariant.taken (omega (arith, most, c.digits-test.true))
@@ -55,12 +54,11 @@ digits-preserved c = record {
       more_digits 8 (c.args.first ∷ []) c.args.source.now c.digits.source c.take_digit.new.source c.digits.counter
       c.digits.value c.in-Some.digit c.digits.invariant.taken c.in-Some.ensures.digit;
   within = omega (arith, c.digits-test.true);
-  placed = c.in-Some.ensures.placed;
 }
 
-pub returns-clause-read : goal.returns-clause-read
-returns-clause-read c =
-    let most = c.further_octal_digits-end.ensures.count c.args.first (sym (first_value c.args.first c.requires.digit))
+pub returns : goal.returns
+returns c =
+    let most = c.further_octal_digits-end.ensures.count c.args.first (sym (first_value c.args.first c.requires))
     in
     octal_whole c.args.first c.args.source.now c.digits.source c.digits.counter c.digits.value
     c.digits.invariant.taken (omega (arith, most, c.digits-test.false, c.digits.invariant.within))

@@ -9,8 +9,8 @@ str_from_pos_to_current-requires-clause-ordered c =
     omega (
       arith,
       c.position-from.ensures.place,
-      passes_onward c.args.literal c.args.source.now c.pass_characters.new.source c.requires
-          c.pass_characters.ensures.placed c.pass_characters.ensures.passes,
+      passes_onward c.args.literal c.args.source.now c.pass_characters.new.source
+          c.pass_characters.ensures.passes,
     )
 
 pub returns-clause-ok : goal.returns-clause-ok
@@ -22,11 +22,10 @@ returns-clause-ok c =
     on_ok_map c.push_str.result _ _
     (λ added start errors.
     copied c.args.literal start c.args.source.now new c.args.text.now c.push_str.new.self
-    c.str_from_pos_to_current.result.now errors c.requires plain added
+    c.str_from_pos_to_current.result.now errors plain added
     (c.str_from_pos_to_current.ensures.characters (string_text plain.ordinary.items) here))
     c.push_str.ensures.ok
 
 pub returns-clause-onward : goal.returns-clause-onward
 returns-clause-onward c =
-    passes_onward c.args.literal c.args.source.now c.pass_characters.new.source c.requires
-    c.pass_characters.ensures.placed c.pass_characters.ensures.passes
+    passes_onward c.args.literal c.args.source.now c.pass_characters.new.source c.pass_characters.ensures.passes

@@ -2,30 +2,24 @@ use Rattle.std.proofs.Common.{ap, ◌∙◌, ◌++◌}
 use Rattle.std.specs.Str.{chars}
 use Rattle.js_text.specs.JsStr.{units_of}
 use Rattle.js_grammar.specs.StringItems.{string_text}
-use Rattle.js_source.specs.Runs.{place_of}
-use Rattle.js_source.specs.Source.{rest, IsPlaced}
+use Rattle.js_source.specs.Source.{rest}
 use Rattle.std.proofs.Common.{arith, refl}
+use Rattle.js_source.proofs.Places.{same_rest}
 use Rattle.js_spell.proofs.BreakSteps.{on_err, unreported}
 use Rattle.js_spell.proofs.ItemSteps.{decoded_value_read, stretch_chars}
 use Rattle.js_spell.proofs.items.read_decoded.Goals as goal
 
 pub returns-clause-ok : goal.returns-clause-ok
-returns-clause-ok c =
-    let from = place_of c.args.source.now.text c.args.from in
-    let plain = c.requires.passed in
+returns-clause-ok c = λ from at plain.
     let cs = string_text plain.ordinary.items in
-    let placed : IsPlaced from = record {
-      utf8 = c.requires.placed.utf8;
-      short = c.requires.placed.short;
-      boundary = c.requires.boundary;
-    } in
-    let spelled = c.str_from_pos_to_current-front.ensures.characters cs plain.ordinary.here in
-    let chars_are = stretch_chars from cs (rest c.args.source.now) c.str_from_pos_to_current-front.result.now placed
+    let here = same_rest c.args.source.now from c.args.from at.text at.there in
+    let spelled = c.str_from_pos_to_current-front.ensures.characters cs (here ∙ plain.ordinary.here) in
+    let chars_are = stretch_chars from cs (rest c.args.source.now) c.str_from_pos_to_current-front.result.now
     plain.ordinary.here spelled in
     rw c.decoded.ensures
     (decoded_value_read c.args.literal c.args.token.now.start from c.args.source.now c.read_items.new.source
     c.push_str.new.self c.read_items.new.text c.args.errors.now c.read_items.new.errors c.in_ok-has_bad.has_bad
-    placed c.requires.placed plain (c.in_ok-push_str.ensures.ok
+    plain (c.in_ok-push_str.ensures.ok
     ∙ ap (λ us. us ++ units_of (chars c.str_from_pos_to_current-front.result.now)) c.in_ok-text.ensures
     ∙ ap units_of chars_are) c.requires.escaped
     c.in_ok-has_bad.ensures.ok c.in_ok-has_bad.ensures.ended)

@@ -8,7 +8,7 @@ pub returns-then-is_good-clause-ok : goal.returns-then-is_good-clause-ok
 returns-then-is_good-clause-ok c =
     good_escape_read c.args.literal c.args.token.now.start c.args.source.now c.next_char.new.self
     c.read_escape.new.source c.args.text.now c.read_escape.new.text c.args.errors.now c.read_escape.new.errors
-    c.is_template.result c.in_ok-is_good.is_good c.requires.placed c.read_escape.ensures.placed c.requires.escape
+    c.is_template.result c.in_ok-is_good.is_good c.requires.escape
     c.next_char.ensures.past c.is_template.ensures c.if-is_good.true c.in_ok-is_good.ensures.ok
 
 pub returns-in_ok-report_bad_escape-clause-ok : goal.returns-in_ok-report_bad_escape-clause-ok
@@ -19,8 +19,7 @@ returns-in_ok-report_bad_escape-clause-ok c =
     c.in_ok-report_bad_escape.ensures.ok in
     bad_escape_read c.args.literal c.args.token.now.start c.args.source.now c.next_char.new.self
     c.read_escape.new.source c.args.text.now c.read_escape.new.text c.args.errors.now c.read_escape.new.errors
-    c.report_bad_escape.new.errors
-    c.is_template.result c.in_ok-is_good.is_good c.requires.placed c.read_escape.ensures.placed c.requires.escape
+    c.report_bad_escape.new.errors c.is_template.result c.in_ok-is_good.is_good c.requires.escape
     c.next_char.ensures.past c.is_template.ensures c.if-is_good.false c.in_ok-is_good.ensures.ok reported
 
 pub returns-else-not-is_template-clause-ok : goal.returns-else-not-is_template-clause-ok
@@ -30,8 +29,7 @@ returns-else-not-is_template-clause-ok c =
     (sym c.is_template-2.ensures ∙ c.if-not-is_template.false) in
     bad_escape_read c.args.literal c.args.token.now.start c.args.source.now c.next_char.new.self
     c.read_escape.new.source c.args.text.now c.read_escape.new.text c.args.errors.now c.read_escape.new.errors
-    c.read_escape.new.errors
-    c.is_template.result c.in_ok-is_good.is_good c.requires.placed c.read_escape.ensures.placed c.requires.escape
+    c.read_escape.new.errors c.is_template.result c.in_ok-is_good.is_good c.requires.escape
     c.next_char.ensures.past c.is_template.ensures c.if-is_good.false c.in_ok-is_good.ensures.ok reported
 
 pub returns-in_err-is_good-clause-err : goal.returns-in_err-is_good-clause-err

@@ -21,9 +21,8 @@ items-preserved c =
           one_more_turn c.args.literal c.args.token.now.start c.args.source.now c.items.source
           c.read_marked_item.new.source c.copy_characters.new.source c.args.text.now c.items.text
           c.read_marked_item.new.text c.copy_characters.new.text c.args.errors.now c.items.errors
-          c.read_marked_item.new.errors c.items.has_bad c.in-Some.is_good c.either-has_bad.result c.requires.placed
-          c.items.invariant.placed c.read_marked_item.ensures.placed c.items.invariant.read one copied
-          c.either-has_bad.ensures;
+          c.read_marked_item.new.errors c.items.has_bad c.in-Some.is_good c.either-has_bad.result
+          c.items.invariant.read one copied c.either-has_bad.ensures;
       marked = c.copy_characters.ensures.all;
       onward =
           omega (
@@ -32,7 +31,6 @@ items-preserved c =
             c.read_marked_item.ensures.onward,
             c.copy_characters.ensures.onward,
           );
-      placed = c.copy_characters.ensures.placed;
     }
 
 pub returns-in_err-is_good-clause-err : goal.returns-in_err-is_good-clause-err
@@ -40,8 +38,7 @@ returns-in_err-is_good-clause-err c =
     let start = c.args.token.now.start in
     on_err c.from_residual.result _
     (items_broken c.args.literal start c.args.source.now c.items.source c.read_marked_item.new.source c.args.text.now
-    c.items.text c.args.errors.now c.items.errors c.read_marked_item.new.errors c.items.has_bad c.requires.placed
-    c.items.invariant.placed c.items.invariant.read
+    c.items.text c.args.errors.now c.items.errors c.read_marked_item.new.errors c.items.has_bad c.items.invariant.read
     (broken_first (items_told c.args.literal start c.items.source) c.items.source c.read_marked_item.new.source
     c.items.errors c.read_marked_item.new.errors c.in_err-is_good.ensures.err))
 
@@ -53,10 +50,8 @@ returns-in_err-copy_characters-clause-err c =
     let one = rw c.in-Some.is at c.in_ok-is_good.ensures.ok in
     on_err c.from_residual-in_err-copy_characters.result _
     (items_broken c.args.literal start c.args.source.now c.items.source new c.args.text.now c.items.text
-    c.args.errors.now c.items.errors c.read_marked_item.new.errors c.items.has_bad c.requires.placed
-    c.items.invariant.placed c.items.invariant.read
+    c.args.errors.now c.items.errors c.read_marked_item.new.errors c.items.has_bad c.items.invariant.read
     (items_broken c.args.literal start c.items.source mid new c.items.text c.read_marked_item.new.text c.items.errors
-    c.read_marked_item.new.errors c.read_marked_item.new.errors _ c.items.invariant.placed
-    c.read_marked_item.ensures.placed one.read
-    (unreported (items_told c.args.literal start mid) mid new c.read_marked_item.new.errors
+    c.read_marked_item.new.errors c.read_marked_item.new.errors _
+    one.read (unreported (items_told c.args.literal start mid) mid new c.read_marked_item.new.errors
     c.read_marked_item.new.errors c.copy_characters.ensures.same_text c.copy_characters.ensures.onward refl)))

@@ -1,6 +1,6 @@
 use Rattle.std.proofs.Common.{arith, sym}
 use Rattle.js_source.specs.Source.{rest}
-use Rattle.std.proofs.lemmas.Result.{on_err_weaker}
+use Rattle.std.proofs.lemmas.Result.{IfOk-weaker, on_err_weaker}
 use Rattle.js_spell.proofs.ItemSteps.{plain_broken}
 use Rattle.js_spell.proofs.ItemSteps.{plain_value_read, passes_onward, mark_end, mark_not_end, match_option}
 use Rattle.js_spell.proofs.items.read_value.Goals as goal
@@ -17,16 +17,15 @@ returns-then-is_end-clause-ok c =
 
 pub returns-then-is_end-clause-onward : goal.returns-then-is_end-clause-onward
 returns-then-is_end-clause-onward c =
-    passes_onward c.args.literal c.args.source.now c.pass_to_mark-next.new.source c.requires.placed
-    c.pass_to_mark-next.ensures.placed c.pass_to_mark-next.ensures.passes
+    passes_onward c.args.literal c.args.source.now c.pass_to_mark-next.new.source c.pass_to_mark-next.ensures.passes
 
 pub read_decoded-requires-clause-ordered : goal.read_decoded-requires-clause-ordered
 read_decoded-requires-clause-ordered c =
     omega (
       arith,
       c.position-from.ensures.place,
-      passes_onward c.args.literal c.args.source.now c.pass_to_mark-next.new.source c.requires.placed
-          c.pass_to_mark-next.ensures.placed c.pass_to_mark-next.ensures.passes,
+      passes_onward c.args.literal c.args.source.now c.pass_to_mark-next.new.source
+          c.pass_to_mark-next.ensures.passes,
     )
 
 pub read_decoded-requires-clause-escaped : goal.read_decoded-requires-clause-escaped
@@ -42,8 +41,8 @@ returns-clause-onward c =
     omega (
       arith,
       c.read_decoded.ensures.onward,
-      passes_onward c.args.literal c.args.source.now c.pass_to_mark-next.new.source c.requires.placed
-          c.pass_to_mark-next.ensures.placed c.pass_to_mark-next.ensures.passes,
+      passes_onward c.args.literal c.args.source.now c.pass_to_mark-next.new.source
+          c.pass_to_mark-next.ensures.passes,
     )
 
 pub returns-clause-err : goal.returns-clause-err
@@ -51,5 +50,10 @@ returns-clause-err c =
     let mid = c.pass_to_mark-next.new.source in
     on_err_weaker c.read_decoded.result
     (λ broken. plain_broken c.args.literal c.args.token.now.start c.args.source.now mid c.read_decoded.new.source
-    c.args.errors.now c.read_decoded.new.errors c.requires.placed c.pass_to_mark-next.ensures.placed
-    c.pass_to_mark-next.ensures.passes broken) c.read_decoded.ensures.err
+    c.args.errors.now c.read_decoded.new.errors c.pass_to_mark-next.ensures.passes broken) c.read_decoded.ensures.err
+
+pub returns-clause-ok : goal.returns-clause-ok
+returns-clause-ok c =
+    let passes = c.pass_to_mark-next.ensures.passes in
+    IfOk-weaker c.read_decoded.result _ _ (λ value read. read c.args.source.now
+    (record { text = sym passes.text; there = sym c.position-from.ensures.place }) passes) c.read_decoded.ensures.ok

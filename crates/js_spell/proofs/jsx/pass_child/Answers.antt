@@ -14,7 +14,6 @@ angles-init c = record {
   left = refl;
   warned = warns_nothing c.args.source.now c.args.warnings.now;
   onward = omega arith;
-  placed = c.requires;
 }
 
 pub returns-then-not-advance_if_ascii_eq-clause-ok :
@@ -28,8 +27,7 @@ returns-then-not-advance_if_ascii_eq-clause-ok c =
     let no_angle = c.if-not-advance_if_ascii_eq.ensures.cases in
     subst (λ (new : At). PassesChild at new c.args.warnings.now c.angles.warnings end) (sym no_angle.1)
     (child_passed at now mid c.args.warnings.now c.angles.warnings end c.angles.invariant.text
-    c.angles.invariant.left c.angles.invariant.warned ends.text
-    (run_passed now mid c.angles.invariant.placed ends.placed ends.text ends.rest)
+    c.angles.invariant.left c.angles.invariant.warned ends.text (run_passed now mid ends.text ends.rest)
     (ends_here end (rest mid) no_angle.0 ends.none ends.some))
 
 pub returns-then-not-advance_if_ascii_eq-clause-text :
@@ -64,13 +62,13 @@ angles-preserved c =
     let new = c.advance_if_ascii_eq.new.self in
     let ends = c.pass_text-end.ensures in
     let read = c.if-not-advance_if_ascii_eq.ensures.cases in
-    let run = run_passed now mid c.angles.invariant.placed ends.placed ends.text ends.rest in
+    let run = run_passed now mid ends.text ends.rest in
     record {
       text = read.text ∙ ends.text ∙ c.angles.invariant.text;
       left = c.angles.invariant.left ∙ run.left ∙ angle_left mid new read;
       warned =
           warns_of_angle c.args.source.now now mid new c.args.warnings.now c.angles.warnings c.push.new.self
-          c.offset-start.result c.offset.result ends.placed c.advance_if_ascii_eq.ensures.placed
+          c.offset-start.result c.offset.result
           c.angles.invariant.warned run read c.offset-start.ensures.place c.offset.ensures.place
           (c.in_ok-push.ensures.ok ∙ ap (λ span. c.angles.warnings ++ span ∷ []) c.new.ensures);
       onward =
@@ -80,7 +78,6 @@ angles-preserved c =
             ends.onward,
             c.advance_if_ascii_eq.ensures.onward,
           );
-      placed = c.advance_if_ascii_eq.ensures.placed;
     }
 
 pub returns-in_err-push-clause-text : goal.returns-in_err-push-clause-text

@@ -39,5 +39,4 @@ characters-preserved c =
           c.next_char.ensures.past;
       onward =
           omega (arith, c.characters.invariant.onward, c.pass_ascii.ensures.run.onward, c.next_char.ensures.onward);
-      placed = c.next_char.ensures.placed;
     }

@@ -1,6 +1,6 @@
 use Rattle.std.proofs.Common.{◌≡◌, ◌≤◌, length}
 use Rattle.js_text.specs.Characters.{from_first}
-use Rattle.js_source.specs.Source.{rest, IsPlaced}
+use Rattle.js_source.specs.Source.{rest}
 use Rattle.js_spell.specs.Goals.{ends_of}
 use Rattle.js_spell.proofs.jsx.pass_text.Given as goal
 
@@ -10,7 +10,6 @@ invariant-characters l = record {
   text : l.source.text ≡ l.initial.source.text;
   left : from_first (ends_of l.fn.within) (rest l.initial.source) ≡ from_first (ends_of l.fn.within) (rest l.source);
   onward : l.initial.source.place ≤ l.source.place;
-  placed : IsPlaced l.source;
 }
 
 abbrev pub decreases-characters : goal.decreases-characters

@@ -10,14 +10,14 @@ report_unterminated-requires c =
 pub returns-in-Some-clause-ok : goal.returns-in-Some-clause-ok
 returns-in-Some-clause-ok c =
     string_closed c.args.source.now c.take_quote-within.new.source c.pass_text.new.source c.next_char.new.self
-    c.take_quote-within.result c.args.errors.now c.in-Some._quote c.requires.quote c.take_quote-within.ensures.quote
+    c.take_quote-within.result c.args.errors.now c.in-Some._quote c.requires c.take_quote-within.ensures.quote
     c.pass_text.ensures.text c.pass_text.ensures.rest c.in-Some.ensures.some c.next_char.ensures.past
 
 pub returns-in_ok-report_unterminated-in-None-clause-ok : goal.returns-in_ok-report_unterminated-in-None-clause-ok
 returns-in_ok-report_unterminated-in-None-clause-ok c =
     string_open c.args.source.now c.take_quote-within.new.source c.pass_text.new.source c.take_quote-within.result
-    c.args.errors.now c.report_unterminated.new.errors c.offset-start.result c.requires.placed
-    c.pass_text.ensures.placed c.requires.quote c.take_quote-within.ensures.quote c.pass_text.ensures.text
+    c.args.errors.now c.report_unterminated.new.errors c.offset-start.result
+    c.requires c.take_quote-within.ensures.quote c.pass_text.ensures.text
     c.pass_text.ensures.rest c.in-None.ensures.none c.offset-start.ensures.place
     c.in_ok-report_unterminated-in-None.ensures.ok
 

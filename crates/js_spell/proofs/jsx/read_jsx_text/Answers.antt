@@ -10,7 +10,7 @@ use Rattle.js_source.specs.Source.{rest}
 pub returns-clause-ok : goal.returns-clause-ok
 returns-clause-ok c =
     text_before_other c.args.source.now c.pass_child.new.source c.args.errors.now c.push.new.self c.in-Some.b _
-    c.requires c.pass_child.ensures.placed c.pass_child.ensures.text c.in_ok-b.ensures.ok.left
+    c.pass_child.ensures.text c.in_ok-b.ensures.ok.left
     (subst (λ (end : Option ℕ). IsAtChildEnd end (rest c.pass_child.new.source)) c.in-Some.is
     c.in_ok-b.ensures.ok.end_is).0 (sym c.if-begins_child.ensures) c.offset.ensures.place
     (c.in_ok-push.ensures.ok

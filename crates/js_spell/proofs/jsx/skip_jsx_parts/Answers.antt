@@ -12,7 +12,6 @@ parts-init c = record {
       past_parts (rest c.args.source.now) ∙ ap (from_first ends_jsx_name) (sym c.skip_parts.ensures.rest);
   none = ap (begins is_identifier_part) c.skip_parts.ensures.rest ∙ no_part_begins (rest c.args.source.now);
   onward = c.skip_parts.ensures.onward;
-  placed = c.skip_parts.ensures.placed;
 }
 
 pub parts-smaller : goal.parts-smaller
@@ -37,5 +36,4 @@ parts-preserved c =
             c.advance_if_ascii_eq.ensures.onward,
             c.skip_parts-in-parts.ensures.onward,
           );
-      placed = c.skip_parts-in-parts.ensures.placed;
     }

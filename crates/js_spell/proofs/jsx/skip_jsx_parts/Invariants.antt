@@ -1,6 +1,6 @@
 use Rattle.std.proofs.Common.{◌≡◌, ◌≤◌, false, length}
 use Rattle.js_text.specs.Characters.{begins, from_first, is_identifier_part}
-use Rattle.js_source.specs.Source.{rest, IsPlaced}
+use Rattle.js_source.specs.Source.{rest}
 use Rattle.js_grammar.specs.Jsx.{ends_jsx_name}
 use Rattle.js_spell.proofs.jsx.skip_jsx_parts.Given as goal
 
@@ -11,7 +11,6 @@ invariant-parts l = record {
   left : from_first ends_jsx_name (rest l.fn.source) ≡ from_first ends_jsx_name (rest l.source);
   none : begins is_identifier_part (rest l.source) ≡ false;
   onward : l.fn.source.place ≤ l.source.place;
-  placed : IsPlaced l.source;
 }
 
 abbrev pub decreases-parts : goal.decreases-parts

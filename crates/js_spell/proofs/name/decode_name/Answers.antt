@@ -14,7 +14,6 @@ returns-clause-ok c =
     name_decoded c.args.position c.args.source.now c.read_escape_into.new.source c.read_rest_into.new.source
     c.args.errors.now c.read_escape_into.new.errors c.read_rest_into.new.errors c.args.front.now
     (string_bytes c.read_escape_into.new.decoded) (string_bytes c.read_rest_into.new.decoded) more.0
-    c.requires.placed c.read_escape_into.ensures.placed
     (subst
     (λ bytes. ReadsItems c.args.position c.args.source.now Later c.read_escape_into.new.source c.args.errors.now
     c.read_escape_into.new.errors bytes (string_bytes c.read_escape_into.new.decoded) true)
@@ -26,7 +25,7 @@ returns-in_err-read_rest_into-clause-err c =
     on_err c.from_residual-in_err-read_rest_into.result _
     (items_broken c.args.position c.args.source.now Later c.read_escape_into.new.source c.read_rest_into.new.source
     c.args.errors.now c.read_escape_into.new.errors c.read_rest_into.new.errors (string_bytes c.push_str.new.self)
-    (string_bytes c.read_escape_into.new.decoded) true c.requires.placed c.read_escape_into.ensures.placed
+    (string_bytes c.read_escape_into.new.decoded) true
     c.in_ok-read_escape_into.ensures.ok c.in_err-read_rest_into.ensures.err)
 
 pub returns-in_err-decoded-clause-err : goal.returns-in_err-decoded-clause-err

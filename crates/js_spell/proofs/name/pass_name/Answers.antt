@@ -2,7 +2,7 @@ use Rattle.std.proofs.Common.{◌≡◌, ◌<◌, ℕ, Bool, true, false, List, 
 use Rattle.js_text.specs.Ascii.{backslash}
 use Rattle.js_text.specs.Characters.{begins, from_first, from_place, is_identifier_part}
 use Rattle.js_grammar.specs.Name.{is_no_part}
-use Rattle.js_source.proofs.Places.{ascii_next, steps_past}
+use Rattle.js_source.proofs.Places.{ascii_next, same_rest, steps_past}
 use Rattle.js_source.specs.Runs.{PassesRun, TellsClass}
 use Rattle.js_source.specs.Search.{matches_at}
 use Rattle.js_source.specs.Source.{At, HasFirstByte, rest}
@@ -43,14 +43,15 @@ pub returns-in-Some-end_without_escape-clause-passes : goal.returns-in-Some-end_
 returns-in-Some-end_without_escape-clause-passes c = λ same.
     let mid = c.next_ascii.new.self in
     let end = c.in-Some-end_without_escape.end in
-    rw c.set_position.ensures
-    (plain_passed c.args.source.now mid (record c.pass_ascii.new.self { place = end }) c.requires.begun
+    plain_passed c.args.source.now mid c.set_position.new.self c.requires.begun
     (other_first c.args.b c.args.source.now mid c.next_ascii.ensures.reads c.requires.unescaped)
-    (steps_past _ _ _ c.next_ascii.ensures.reads) c.pass_ascii.ensures.text
-    (subst (λ (here : At). from_place here.text end ≡ from_first is_no_part (rest here)) c.here.ensures.same
+    (steps_past _ _ _ c.next_ascii.ensures.reads) (c.set_position.ensures.text ∙ c.pass_ascii.ensures.text)
+    (sym (same_rest c.pass_ascii.new.self c.set_position.new.self end c.set_position.ensures.text
+    c.set_position.ensures.there)
+    ∙ subst (λ (here : At). from_place here.text end ≡ from_first is_no_part (rest here)) c.here.ensures.same
     c.in-Some-end_without_escape.ensures.rest
     ∙ parts_passed c.args.parts.now mid c.pass_ascii.new.self c.requires.parts c.pass_ascii.ensures.text
-    c.pass_ascii.ensures.run))
+    c.pass_ascii.ensures.run)
 
 pub returns-in-None-end_without_escape-clause-none : goal.returns-in-None-end_without_escape-clause-none
 returns-in-None-end_without_escape-clause-none c = λ same.

@@ -8,6 +8,6 @@ returns-then-begins_ascii-clause-passes c =
 
 pub returns-clause-passes : goal.returns-clause-passes
 returns-clause-passes c =
-    plain_passed c.args.source.now c.next_char.new.self c.skip_parts.new.source c.requires.begun
+    plain_passed c.args.source.now c.next_char.new.self c.skip_parts.new.source c.requires
     (sym c.begins_ascii.ensures ∙ c.if-begins_ascii.false) c.next_char.ensures.past c.skip_parts.ensures.text
     c.skip_parts.ensures.rest

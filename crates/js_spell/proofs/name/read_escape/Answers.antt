@@ -7,18 +7,15 @@ use Rattle.js_spell.proofs.name.read_escape.Goals as goal
 pub returns-in-Character-clause-ok : goal.returns-in-Character-clause-ok
 returns-in-Character-clause-ok c =
     character_read c.args.position c.args.source.now c.next_char.new.self c.decode_escape-decoding.new.source
-    c.decode_escape-decoding.result c.requires.begun c.next_char.ensures.past c.decode_escape-decoding.ensures.decodes
-    c.args.errors.now c.in-Character.c c.requires.placed c.decode_escape-decoding.ensures.placed
-    c.in-Character.is
+    c.decode_escape-decoding.result c.requires c.next_char.ensures.past c.decode_escape-decoding.ensures
+    c.args.errors.now c.in-Character.c c.in-Character.is
 
 pub new-span-requires : goal.new-span-requires
 new-span-requires c =
     omega (
       arith,
       escape_onward c.args.position c.args.source.now c.next_char.new.self c.decode_escape-decoding.new.source
-          c.decode_escape-decoding.result c.requires.begun c.next_char.ensures.past
-          c.decode_escape-decoding.ensures.decodes
-          c.next_char.ensures.placed c.decode_escape-decoding.ensures.placed,
+          c.decode_escape-decoding.result c.requires c.next_char.ensures.past c.decode_escape-decoding.ensures,
       c.offset-start.ensures.place,
       c.offset-end.ensures.place,
     )
@@ -26,18 +23,16 @@ new-span-requires c =
 pub returns-in_ok-push-in-NotAllowed-clause-ok : goal.returns-in_ok-push-in-NotAllowed-clause-ok
 returns-in_ok-push-in-NotAllowed-clause-ok c =
     not_allowed_read c.args.position c.args.source.now c.next_char.new.self c.decode_escape-decoding.new.source
-    c.decode_escape-decoding.result c.requires.begun c.next_char.ensures.past c.decode_escape-decoding.ensures.decodes
-    c.args.errors.now c.push.new.self c.in-NotAllowed.c c.empty-span.result c.requires.placed
-    c.decode_escape-decoding.ensures.placed c.in-NotAllowed.is
+    c.decode_escape-decoding.result c.requires c.next_char.ensures.past c.decode_escape-decoding.ensures
+    c.args.errors.now c.push.new.self c.in-NotAllowed.c c.empty-span.result c.in-NotAllowed.is
     (c.empty-span.ensures ∙ span_is c.offset-end.ensures.place c.offset-end.ensures.place)
     c.in_ok-push-in-NotAllowed.ensures.ok
 
 pub returns-in_ok-push-in-Bad-clause-ok : goal.returns-in_ok-push-in-Bad-clause-ok
 returns-in_ok-push-in-Bad-clause-ok c =
     bad_read c.args.position c.args.source.now c.next_char.new.self c.decode_escape-decoding.new.source
-    c.decode_escape-decoding.result c.requires.begun c.next_char.ensures.past c.decode_escape-decoding.ensures.decodes
-    c.args.errors.now c.push-in-Bad.new.self c.new-span.result c.requires.placed c.next_char.ensures.placed
-    c.decode_escape-decoding.ensures.placed c.in-Bad.is
+    c.decode_escape-decoding.result c.requires c.next_char.ensures.past c.decode_escape-decoding.ensures
+    c.args.errors.now c.push-in-Bad.new.self c.new-span.result c.in-Bad.is
     (c.new-span.ensures ∙ span_is c.offset-start.ensures.place c.offset-end.ensures.place)
     c.in_ok-push-in-Bad.ensures.ok
 
@@ -45,14 +40,12 @@ pub returns-in_err-push-in-NotAllowed-clause-err : goal.returns-in_err-push-in-N
 returns-in_err-push-in-NotAllowed-clause-err c =
     on_err c.from_residual.result _
     (escape_unreported c.args.position c.args.source.now c.next_char.new.self c.decode_escape-decoding.new.source
-    c.decode_escape-decoding.result c.requires.begun c.next_char.ensures.past c.decode_escape-decoding.ensures.decodes
-    c.args.errors.now c.push.new.self c.requires.placed c.next_char.ensures.placed
-    c.decode_escape-decoding.ensures.placed c.in_err-push-in-NotAllowed.ensures.err)
+    c.decode_escape-decoding.result c.requires c.next_char.ensures.past c.decode_escape-decoding.ensures
+    c.args.errors.now c.push.new.self c.in_err-push-in-NotAllowed.ensures.err)
 
 pub returns-in_err-push-in-Bad-clause-err : goal.returns-in_err-push-in-Bad-clause-err
 returns-in_err-push-in-Bad-clause-err c =
     on_err c.from_residual-in_err-push-in-Bad.result _
     (escape_unreported c.args.position c.args.source.now c.next_char.new.self c.decode_escape-decoding.new.source
-    c.decode_escape-decoding.result c.requires.begun c.next_char.ensures.past c.decode_escape-decoding.ensures.decodes
-    c.args.errors.now c.push-in-Bad.new.self c.requires.placed c.next_char.ensures.placed
-    c.decode_escape-decoding.ensures.placed c.in_err-push-in-Bad.ensures.err)
+    c.decode_escape-decoding.result c.requires c.next_char.ensures.past c.decode_escape-decoding.ensures
+    c.args.errors.now c.push-in-Bad.new.self c.in_err-push-in-Bad.ensures.err)

@@ -17,5 +17,4 @@ returns-in_err-push-clause-err c =
     let after = c.read_escape.new.errors in
     on_err c.from_residual-in_err-push.result _
     (escape_broken c.args.position c.args.source.now new new c.args.errors.now after after c.in_ok-c.field-0
-    c.requires.placed c.read_escape.ensures.placed c.in_ok-c.ensures.ok
-    (unreported (items_told Later new) new new after after refl (omega arith) refl))
+    c.in_ok-c.ensures.ok (unreported (items_told Later new) new new after after refl (omega arith) refl))

@@ -12,5 +12,5 @@ returns-clause-err c =
     let after = c.decode_name.new.errors in
     on_err c.spell_decoded.result _
     (items_broken c.args.position c.args.source.now Later new new c.args.errors.now after after c.args.front.now
-    (string_bytes c.in_ok-text.text) true c.requires.placed c.decode_name.ensures.placed c.in_ok-text.ensures.ok.read
+    (string_bytes c.in_ok-text.text) true c.in_ok-text.ensures.ok.read
     (unreported (items_told Later new) new new after after refl (omega arith) refl))

@@ -19,8 +19,8 @@ pub returns-clause-ok : goal.returns-clause-ok
 returns-clause-ok c =
     escaped_spelled c.args.source.now c.pass_unescaped-position.new.source c.read_escaped_name.new.source
     c.args.errors.now c.read_escaped_name.new.errors c.args.token.now c.set_has_separator-2.new.self
-    c.pass_unescaped-position.result c.str_from_pos_to_current-front.result.now c.in_ok-spelt.spelt c.requires.placed
-    c.pass_unescaped-position.ensures.placed c.pass_unescaped-position.ensures.passes
+    c.pass_unescaped-position.result c.str_from_pos_to_current-front.result.now c.in_ok-spelt.spelt
+    c.pass_unescaped-position.ensures.passes
     (rw c.position-start.ensures.place at c.str_from_pos_to_current-front.ensures.characters)
     c.in_ok-spelt.ensures.ok
     (c.set_has_separator-2.ensures
@@ -30,6 +30,5 @@ pub returns-in_err-spelt-clause-err : goal.returns-in_err-spelt-clause-err
 returns-in_err-spelt-clause-err c =
     on_err c.from_residual.result _
     (name_broken c.args.source.now c.pass_unescaped-position.new.source c.read_escaped_name.new.source c.args.errors.now
-    c.read_escaped_name.new.errors c.pass_unescaped-position.result c.requires.placed
-    c.pass_unescaped-position.ensures.placed
+    c.read_escaped_name.new.errors c.pass_unescaped-position.result
     c.pass_unescaped-position.ensures.passes c.in_err-spelt.ensures.err)

@@ -16,8 +16,7 @@ returns-then-not-begins_ascii-clause-ok c =
         read =
             parts_added Later c.args.source.now c.parts.source c.read_parts_into.new.source c.args.errors.now
             c.parts.errors (string_bytes c.args.decoded.now) (string_bytes c.parts.decoded)
-            (string_bytes c.read_parts_into.new.decoded) c.parts.invariant.has_escape c.requires
-            c.parts.invariant.placed c.parts.invariant.read passes;
+            (string_bytes c.read_parts_into.new.decoded) c.parts.invariant.has_escape c.parts.invariant.read passes;
         end =
             ended (rest c.read_parts_into.new.source) passes.stops
             (sym c.begins_ascii.ensures ∙ c.if-not-begins_ascii.true);
@@ -40,13 +39,11 @@ parts-preserved c = record {
       then_read Later c.args.source.now Later c.read_parts_into.new.source Later c.read_escape_into.new.source
       c.args.errors.now c.parts.errors c.read_escape_into.new.errors (string_bytes c.args.decoded.now)
       (string_bytes c.read_parts_into.new.decoded) (string_bytes c.read_escape_into.new.decoded)
-      (c.parts.invariant.has_escape || false) true c.requires c.read_parts_into.ensures.placed
+      (c.parts.invariant.has_escape || false) true
       (parts_added Later c.args.source.now c.parts.source c.read_parts_into.new.source c.args.errors.now
       c.parts.errors (string_bytes c.args.decoded.now) (string_bytes c.parts.decoded)
-      (string_bytes c.read_parts_into.new.decoded) c.parts.invariant.has_escape c.requires
-      c.parts.invariant.placed c.parts.invariant.read c.in_ok-read_parts_into.ensures.ok)
-      c.in_ok-read_escape_into.ensures.ok;
-  placed = c.read_escape_into.ensures.placed;
+      (string_bytes c.read_parts_into.new.decoded) c.parts.invariant.has_escape
+      c.parts.invariant.read c.in_ok-read_parts_into.ensures.ok) c.in_ok-read_escape_into.ensures.ok;
 }
 
 pub returns-in_err-read_parts_into-clause-err : goal.returns-in_err-read_parts_into-clause-err
@@ -55,7 +52,7 @@ returns-in_err-read_parts_into-clause-err c =
     on_err c.from_residual.result _
     (items_broken Later c.args.source.now Later mid c.read_parts_into.new.source c.args.errors.now c.parts.errors
     c.parts.errors (string_bytes c.args.decoded.now) (string_bytes c.parts.decoded) c.parts.invariant.has_escape
-    c.requires c.parts.invariant.placed c.parts.invariant.read
+    c.parts.invariant.read
     (unreported (items_told Later mid) mid c.read_parts_into.new.source c.parts.errors c.parts.errors
     c.read_parts_into.ensures.text c.read_parts_into.ensures.onward refl))
 
@@ -65,8 +62,8 @@ returns-in_err-read_escape_into-clause-err c =
     on_err c.from_residual-in_err-read_escape_into.result _
     (items_broken Later c.args.source.now Later mid c.read_escape_into.new.source c.args.errors.now c.parts.errors
     c.read_escape_into.new.errors (string_bytes c.args.decoded.now) (string_bytes c.read_parts_into.new.decoded)
-    (c.parts.invariant.has_escape || false) c.requires c.read_parts_into.ensures.placed
+    (c.parts.invariant.has_escape || false)
     (parts_added Later c.args.source.now c.parts.source mid c.args.errors.now c.parts.errors
     (string_bytes c.args.decoded.now) (string_bytes c.parts.decoded) (string_bytes c.read_parts_into.new.decoded)
-    c.parts.invariant.has_escape c.requires c.parts.invariant.placed c.parts.invariant.read
+    c.parts.invariant.has_escape c.parts.invariant.read
     c.in_ok-read_parts_into.ensures.ok) c.in_err-read_escape_into.ensures.err)

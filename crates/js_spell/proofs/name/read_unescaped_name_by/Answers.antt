@@ -14,7 +14,7 @@ returns-clause-some c = λ errors token.
     let old = c.args.source.now in
     let new = c.pass_name.new.source in
     let begun : IsCharBoundary new.text old.place =
-    subst (λ text. IsCharBoundary text old.place) (sym passed.text) c.requires.placed.boundary in
+    subst (λ text. IsCharBoundary text old.place) (sym passed.text) old.placed.boundary in
     let whole : c.as_bytes.result.now ≡ new.text = c.as_bytes.ensures.value ∙ c.whole.ensures.text in
     let from : c.offset_of-from.result ≡ old.place = c.offset_of-from.ensures ∙ c.position-start.ensures.place in
     let kind : c.match_keyword_between.result ≡ name_kind (slice_range new.text old.place new.place) =
@@ -22,4 +22,4 @@ returns-clause-some c = λ errors token.
     unescaped_spelled old new errors token (record token { escaped = false; has_separator = false }) Later
     (slice_range new.text old.place new.place) (record { kind = c.match_keyword_between.result; value = Plain })
     (passed.passes refl) (passed.ends refl)
-    (between new.text old.place new.place passed.placed.utf8 passed.onward begun passed.placed.boundary) refl kind refl
+    (between new.text old.place new.place new.placed.utf8 passed.onward begun new.placed.boundary) refl kind refl

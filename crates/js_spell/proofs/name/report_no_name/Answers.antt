@@ -5,7 +5,7 @@ use Rattle.js_spell.proofs.name.report_no_name.Goals as goal
 pub returns-in_ok-push-in-Some-clause-ok : goal.returns-in_ok-push-in-Some-clause-ok
 returns-in_ok-push-in-Some-clause-ok c =
     character_reported c.args.source.now c.next_char.new.self c.args.errors.now c.push.new.self c.in-Some.c
-    c.new-span.result c.requires c.next_char.ensures.placed c.in-Some.ensures.some
+    c.new-span.result c.in-Some.ensures.some
     (c.new-span.ensures ∙ span_is c.offset-start.ensures.place c.offset.ensures.place)
     c.in_ok-push-in-Some.ensures.ok
 

@@ -12,8 +12,7 @@ use Rattle.js_spell.proofs.numeric.read_behind_digits.Goals as goal
 pub returns-then-advance_if_ascii_eq-clause-ok : goal.returns-then-advance_if_ascii_eq-clause-ok
 returns-then-advance_if_ascii_eq-clause-ok c =
     behind_point_read c.args.source.now c.advance_if_ascii_eq.new.self c.read_fraction.new.source c.args.errors.now
-    c.read_fraction.new.errors
-    c.args.has_separator.now c.read_fraction.new.has_separator c.requires c.advance_if_ascii_eq.ensures.placed
+    c.read_fraction.new.errors c.args.has_separator.now c.read_fraction.new.has_separator
     c.if-advance_if_ascii_eq.ensures.cases c.in_ok-read_fraction.ensures.ok
 
 pub returns-clause-ok : goal.returns-clause-ok
@@ -33,8 +32,7 @@ pub returns-in_err-read_fraction-clause-err : goal.returns-in_err-read_fraction-
 returns-in_err-read_fraction-clause-err c =
     on_err c.from_residual.result _
     (behind_point_broken c.args.source.now c.advance_if_ascii_eq.new.self c.read_fraction.new.source c.args.errors.now
-    c.read_fraction.new.errors c.requires c.advance_if_ascii_eq.ensures.placed c.if-advance_if_ascii_eq.ensures.cases
-    c.in_err-read_fraction.ensures.err)
+    c.read_fraction.new.errors c.if-advance_if_ascii_eq.ensures.cases c.in_err-read_fraction.ensures.err)
 
 pub returns-clause-err : goal.returns-clause-err
 returns-clause-err c =

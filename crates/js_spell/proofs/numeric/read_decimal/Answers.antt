@@ -14,8 +14,7 @@ returns-then-advance_if_ascii_eq-clause-ok c =
     let mid = c.read_integer.new.source in
     decimal_read c.args.source.now mid c.advance_if_ascii_eq.new.self c.args.errors.now c.read_integer.new.errors
     c.read_integer.new.errors
-    c.args.has_separator.now c.read_integer.new.has_separator c.read_integer.new.has_separator DecimalBigInt c.requires
-    c.read_integer.ensures.placed
+    c.args.has_separator.now c.read_integer.new.has_separator c.read_integer.new.has_separator DecimalBigInt
     c.in_ok-read_integer.ensures.ok
     (suffix_read mid c.advance_if_ascii_eq.new.self c.read_integer.new.errors c.read_integer.new.has_separator
     DecimalBigInt (behind_digits (rest mid))
@@ -29,8 +28,7 @@ returns-clause-ok c =
     (λ kind end.
     decimal_read c.args.source.now mid c.read_behind_digits.new.source c.args.errors.now c.read_integer.new.errors
     c.read_behind_digits.new.errors
-    c.args.has_separator.now c.read_integer.new.has_separator c.read_behind_digits.new.has_separator kind c.requires
-    c.read_integer.ensures.placed
+    c.args.has_separator.now c.read_integer.new.has_separator c.read_behind_digits.new.has_separator kind
     c.in_ok-read_integer.ensures.ok
     (no_suffix_read mid c.read_behind_digits.new.source c.read_integer.new.errors c.read_behind_digits.new.errors
     c.read_integer.new.has_separator
@@ -56,7 +54,7 @@ returns-clause-err c =
     let none = c.if-advance_if_ascii_eq.ensures.cases in
     on_err_weaker c.read_behind_digits.result
     (λ broken. decimal_broken c.args.source.now mid new c.args.errors.now c.read_integer.new.errors
-    c.read_behind_digits.new.errors c.args.has_separator.now c.read_integer.new.has_separator c.requires
-    c.read_integer.ensures.placed c.in_ok-read_integer.ensures.ok none.0
+    c.read_behind_digits.new.errors c.args.has_separator.now c.read_integer.new.has_separator
+    c.in_ok-read_integer.ensures.ok none.0
     (subst (λ (at : At). BreaksOff (missing_digits at.place (behind_digits (rest at)).items) at new
     c.read_integer.new.errors c.read_behind_digits.new.errors) none.1 broken)) c.read_behind_digits.ensures.err

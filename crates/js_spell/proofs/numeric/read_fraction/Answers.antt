@@ -17,8 +17,7 @@ returns-clause-ok c =
     fraction_read c.args.source.now c.read_run.new.source c.read_exponent_or-2.new.source c.args.errors.now
     c.read_run.new.errors
     c.read_exponent_or-2.new.errors c.args.has_separator.now c.read_run.new.has_separator
-    c.read_exponent_or-2.new.has_separator
-    c.in_ok-read_run.field-0 c.in_ok-read_exponent_or-2.field-0 c.requires c.read_run.ensures.placed
+    c.read_exponent_or-2.new.has_separator c.in_ok-read_run.field-0 c.in_ok-read_exponent_or-2.field-0
     (sym c.if-not-begins_digit.ensures) c.in_ok-read_run.ensures.ok c.in_ok-read_exponent_or-2.ensures.ok
 
 pub returns-in_err-read_exponent_or-clause-err : goal.returns-in_err-read_exponent_or-clause-err
@@ -39,5 +38,5 @@ returns-in_err-read_exponent_or-2-clause-err c =
     on_err c.from_residual-in_err-read_exponent_or-2.result _
     (fraction_broken c.args.source.now c.read_run.new.source c.read_exponent_or-2.new.source c.args.errors.now
     c.read_run.new.errors c.read_exponent_or-2.new.errors c.args.has_separator.now c.read_run.new.has_separator
-    c.in_ok-read_run.field-0 c.requires c.read_run.ensures.placed (sym c.if-not-begins_digit.ensures)
+    c.in_ok-read_run.field-0 (sym c.if-not-begins_digit.ensures)
     c.in_ok-read_run.ensures.ok c.in_err-read_exponent_or-2.ensures.err)

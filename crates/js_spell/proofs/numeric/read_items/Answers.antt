@@ -11,8 +11,7 @@ use Rattle.js_spell.proofs.numeric.read_items.Goals as goal
 pub returns-then-advance_if_ascii_eq-clause-ok : goal.returns-then-advance_if_ascii_eq-clause-ok
 returns-then-advance_if_ascii_eq-clause-ok c =
     pointed_read c.args.source.now c.advance_if_ascii_eq.new.self c.read_fraction.new.source c.args.errors.now
-    c.read_fraction.new.errors
-    c.args.has_separator.now c.read_fraction.new.has_separator c.requires c.advance_if_ascii_eq.ensures.placed
+    c.read_fraction.new.errors c.args.has_separator.now c.read_fraction.new.has_separator
     c.if-advance_if_ascii_eq.ensures.cases c.in_ok-read_fraction.ensures.ok
 
 pub returns-in-Prefix-clause-ok : goal.returns-in-Prefix-clause-ok
@@ -30,17 +29,14 @@ returns-in-Prefix-clause-ok c =
     c.args.has_separator.now
     c.read_behind_prefix.new.has_separator kind (number_items (rest at))) none.1
     (prefixed_read c.in-Prefix.prefix start mid c.read_behind_prefix.new.source c.args.errors.now
-    c.read_behind_prefix.new.errors
-    c.args.has_separator.now c.read_behind_prefix.new.has_separator kind c.advance_if_ascii_eq.ensures.placed
-    c.next_char-in-Prefix.ensures.placed prefix (second.0 ∙ first.0) second.1 cut))
-    c.read_behind_prefix.ensures.ok
+    c.read_behind_prefix.new.errors c.args.has_separator.now c.read_behind_prefix.new.has_separator kind
+    prefix (second.0 ∙ first.0) second.1 cut)) c.read_behind_prefix.ensures.ok
 
 pub returns-in_err-read_fraction-clause-err : goal.returns-in_err-read_fraction-clause-err
 returns-in_err-read_fraction-clause-err c =
     on_err c.from_residual.result _
     (pointed_broken c.args.source.now c.advance_if_ascii_eq.new.self c.read_fraction.new.source c.args.errors.now
-    c.read_fraction.new.errors c.requires c.advance_if_ascii_eq.ensures.placed c.if-advance_if_ascii_eq.ensures.cases
-    c.in_err-read_fraction.ensures.err)
+    c.read_fraction.new.errors c.if-advance_if_ascii_eq.ensures.cases c.in_err-read_fraction.ensures.err)
 
 pub returns-in-Prefix-clause-err : goal.returns-in-Prefix-clause-err
 returns-in-Prefix-clause-err c =

@@ -17,17 +17,15 @@ returns-in_err-report_missing_digit-2-clause-err c =
     on_err c.from_residual-in_err-report_missing_digit-2.result _
     (run_unreported (radix_of_digits c.args.digits) c.args.source.now c.pass_groups-is_whole.new.source
     c.args.errors.now c.report_missing_digit-then-not-is_whole.new.errors c.args.has_separator.now
-    c.pass_groups-is_whole.new.has_separator Broken c.requires c.pass_groups-is_whole.ensures.placed
-    c.if-not-is_whole.ensures.passes c.in_err-report_missing_digit-2.ensures.err)
+    c.pass_groups-is_whole.new.has_separator Broken
+    c.if-not-is_whole.ensures c.in_err-report_missing_digit-2.ensures.err)
 
 pub returns-in_ok-report_missing_digit-2-clause-ok : goal.returns-in_ok-report_missing_digit-2-clause-ok
 returns-in_ok-report_missing_digit-2-clause-ok c =
     rw c.if-not-is_whole.true
     (run_broken_read (radix_of_digits c.args.digits) c.args.source.now c.pass_groups-is_whole.new.source
     c.args.errors.now c.report_missing_digit-then-not-is_whole.new.errors c.args.has_separator.now
-    c.pass_groups-is_whole.new.has_separator
-    (sym c.if-not-begins_digit.ensures) c.if-not-is_whole.ensures.passes c.requires
-    c.pass_groups-is_whole.ensures.placed
+    c.pass_groups-is_whole.new.has_separator (sym c.if-not-begins_digit.ensures) c.if-not-is_whole.ensures
     c.in_ok-report_missing_digit-2.ensures.ok)
 
 pub returns-else-not-is_whole-clause-ok : goal.returns-else-not-is_whole-clause-ok
@@ -36,4 +34,4 @@ returns-else-not-is_whole-clause-ok c =
     (run_whole_read
     (radix_of_digits c.args.digits) c.args.source.now c.pass_groups-is_whole.new.source c.args.errors.now
     c.args.has_separator.now c.pass_groups-is_whole.new.has_separator
-    (sym c.if-not-begins_digit.ensures) c.if-not-is_whole.ensures.passes)
+    (sym c.if-not-begins_digit.ensures) c.if-not-is_whole.ensures)

@@ -1,6 +1,6 @@
 use Rattle.std.proofs.Common.{◌≡◌, ℕ, List, ◌++◌, ◌≤◌, length}
 use Rattle.js_text.specs.Characters.{before_first}
-use Rattle.js_source.specs.Source.{rest, IsPlaced}
+use Rattle.js_source.specs.Source.{rest}
 use Rattle.js_grammar.specs.NumberReads.{is_no_start}
 use Rattle.js_spell.proofs.numeric.skip_starts.Given as goal
 
@@ -11,7 +11,6 @@ invariant-starts l = record {
   passed : (left : List ℕ) → rest l.source ≡ before_first is_no_start (rest l.source) ++ left
       → rest l.initial.source ≡ before_first is_no_start (rest l.initial.source) ++ left;
   onward : l.initial.source.place ≤ l.source.place;
-  placed : IsPlaced l.source;
 }
 
 abbrev pub decreases-starts : goal.decreases-starts

@@ -8,7 +8,7 @@ use Rattle.js_spell.proofs.ordinary.pass_characters.Goals as goal
 pub returns-in-None-clause-passes : goal.returns-in-None-clause-passes
 returns-in-None-clause-passes c =
     passes_then c.args.literal c.args.source.now c.characters.source c.pass_ordinary.new.source
-    c.characters.invariant.passes c.pass_ordinary.ensures.passes
+    c.characters.invariant c.pass_ordinary.ensures.passes
 
 pub returns-in-None-clause-all : goal.returns-in-None-clause-all
 returns-in-None-clause-all c = nothing_ordinary c.args.literal _ c.in-None.ensures.none
@@ -16,7 +16,7 @@ returns-in-None-clause-all c = nothing_ordinary c.args.literal _ c.in-None.ensur
 pub returns-then-b-ne36-clause-passes : goal.returns-then-b-ne36-clause-passes
 returns-then-b-ne36-clause-passes c =
     passes_then c.args.literal c.args.source.now c.characters.source c.pass_ordinary.new.source
-    c.characters.invariant.passes c.pass_ordinary.ensures.passes
+    c.characters.invariant c.pass_ordinary.ensures.passes
 
 pub returns-then-b-ne36-clause-all : goal.returns-then-b-ne36-clause-all
 returns-then-b-ne36-clause-all c =
@@ -30,7 +30,7 @@ returns-then-b-ne36-clause-some c =
 pub returns-then-begins_substitution-clause-passes : goal.returns-then-begins_substitution-clause-passes
 returns-then-begins_substitution-clause-passes c =
     passes_then c.args.literal c.args.source.now c.characters.source c.pass_ordinary.new.source
-    c.characters.invariant.passes c.pass_ordinary.ensures.passes
+    c.characters.invariant c.pass_ordinary.ensures.passes
 
 pub returns-then-begins_substitution-clause-all : goal.returns-then-begins_substitution-clause-all
 returns-then-begins_substitution-clause-all c =
@@ -44,13 +44,9 @@ returns-then-begins_substitution-clause-some c =
 pub characters-preserved : goal.characters-preserved
 characters-preserved c =
     let mid = c.pass_ordinary.new.source in
-    record {
-      passes =
-          passes_then c.args.literal c.args.source.now c.characters.source c.next_char.new.self
-          c.characters.invariant.passes
-          (passes_then c.args.literal c.characters.source mid c.next_char.new.self c.pass_ordinary.ensures.passes
-          (passes_past c.args.literal mid c.next_char.new.self c.next_char.ensures.past
-          (dollar_is_ordinary c.args.literal c.in-Some.b (rest mid) c.in-Some.ensures.some c.if-b-ne36.false
-          (sym c.if-begins_substitution.ensures))));
-      placed = c.next_char.ensures.placed;
-    }
+    passes_then c.args.literal c.args.source.now c.characters.source c.next_char.new.self
+    c.characters.invariant
+    (passes_then c.args.literal c.characters.source mid c.next_char.new.self c.pass_ordinary.ensures.passes
+    (passes_past c.args.literal mid c.next_char.new.self c.next_char.ensures.past
+    (dollar_is_ordinary c.args.literal c.in-Some.b (rest mid) c.in-Some.ensures.some c.if-b-ne36.false
+    (sym c.if-begins_substitution.ensures))))

@@ -4,14 +4,14 @@ use Rattle.js_spell.proofs.ordinary.pass_ordinary.Goals as goal
 pub returns-in-None-clause-passes : goal.returns-in-None-clause-passes
 returns-in-None-clause-passes c =
     passes_then c.args.literal c.args.source.now c.characters.source c.pass_ascii.new.self
-    c.characters.invariant.passes
+    c.characters.invariant
     (passes_run c.args.literal c.table_of-table.result.now c.characters.source c.pass_ascii.new.self
     c.table_of-table.ensures c.pass_ascii.ensures.text c.pass_ascii.ensures.run)
 
 pub returns-then-b-lt128-clause-passes : goal.returns-then-b-lt128-clause-passes
 returns-then-b-lt128-clause-passes c =
     passes_then c.args.literal c.args.source.now c.characters.source c.pass_ascii.new.self
-    c.characters.invariant.passes
+    c.characters.invariant
     (passes_run c.args.literal c.table_of-table.result.now c.characters.source c.pass_ascii.new.self
     c.table_of-table.ensures c.pass_ascii.ensures.text c.pass_ascii.ensures.run)
 
@@ -23,14 +23,10 @@ returns-then-b-lt128-clause-some c =
 pub characters-preserved : goal.characters-preserved
 characters-preserved c =
     let mid = c.pass_ascii.new.self in
-    record {
-      passes =
-          passes_then c.args.literal c.args.source.now c.characters.source c.next_char.new.self
-          c.characters.invariant.passes
-          (passes_then c.args.literal c.characters.source mid c.next_char.new.self
-          (passes_run c.args.literal c.table_of-table.result.now c.characters.source mid
-          c.table_of-table.ensures c.pass_ascii.ensures.text c.pass_ascii.ensures.run)
-          (passes_past c.args.literal mid c.next_char.new.self c.next_char.ensures.past
-          (ordinary_wide c.args.literal c.in-Some.b _ c.if-b-lt128.false c.in-Some.ensures.some)));
-      placed = c.next_char.ensures.placed;
-    }
+    passes_then c.args.literal c.args.source.now c.characters.source c.next_char.new.self
+    c.characters.invariant
+    (passes_then c.args.literal c.characters.source mid c.next_char.new.self
+    (passes_run c.args.literal c.table_of-table.result.now c.characters.source mid
+    c.table_of-table.ensures c.pass_ascii.ensures.text c.pass_ascii.ensures.run)
+    (passes_past c.args.literal mid c.next_char.new.self c.next_char.ensures.past
+    (ordinary_wide c.args.literal c.in-Some.b _ c.if-b-lt128.false c.in-Some.ensures.some)))

@@ -1,7 +1,7 @@
 use Rattle.std.proofs.Common.{subst}
-use Rattle.js_source.specs.Runs.{place_of}
-use Rattle.js_source.specs.Source.{At}
-use Rattle.js_spell.specs.Strings.{PassesCharacters}
+use Rattle.js_text.specs.Characters.{from_place}
+use Rattle.js_source.specs.Source.{At, rest}
+use Rattle.js_spell.specs.Strings.{IsOrdinaryBefore}
 use Rattle.js_spell.proofs.OrdinaryCharacters.{passes_then, passes_run}
 use Rattle.js_spell.proofs.ordinary.pass_to_mark.Goals as goal
 
@@ -20,8 +20,10 @@ returns-clause-passes c =
     let mid = c.pass_ascii.new.self in
     passes_then c.args.literal c.args.source.now mid c.set_position.new.self
     (passes_run c.args.literal c.table_of.result.now c.args.source.now mid c.table_of.ensures
-    c.pass_ascii.ensures.text c.pass_ascii.ensures.run)
-    (rw c.set_position.ensures
-    (subst
-    (λ (here : At). PassesCharacters c.args.literal here (place_of here.text c.end_of_characters-end.result))
-    c.here.ensures.same c.end_of_characters-end.ensures.passes))
+    c.pass_ascii.ensures.text c.pass_ascii.ensures.run) (record {
+      text = c.set_position.ensures.text;
+      ordinary = rw (c.set_position.ensures.text, c.set_position.ensures.there) (subst
+          (λ (here : At). IsOrdinaryBefore c.args.literal (rest here)
+          (from_place here.text c.end_of_characters-end.result))
+          c.here.ensures.same c.end_of_characters-end.ensures.passes);
+    })

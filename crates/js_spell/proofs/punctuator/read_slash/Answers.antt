@@ -3,6 +3,7 @@ use Rattle.js_grammar.specs.Punctuators.{unrestricted, slash}
 use Rattle.js_grammar.proofs.LongestPunctuators.{listed, longest, none_slash}
 use Rattle.js_kind.specs.declared.kind.Kind.TheVariants.{SlashEq}
 use Rattle.js_source.specs.Source.{rest}
+use Rattle.js_source.proofs.Places.{back_at}
 use Rattle.js_spell.proofs.SequenceSteps.{behind}
 use Rattle.js_spell.proofs.punctuator.read_slash.Goals as goal
 
@@ -19,8 +20,8 @@ returns-then-advance_if_ascii_eq-2 c = λ t line_has_ended.
     let first = behind 47 c.args.source.now c.next_char.new.self c.requires c.next_char.ensures.past in
     let second = c.if-advance_if_ascii_eq.ensures.cases in
     let third = c.if-advance_if_ascii_eq-2.ensures.cases in (
-      c.set_position.ensures
-          ∙ rw (third.text, second.1, first.0, c.position-start.ensures.place) refl,
+      back_at c.args.source.now c.advance_if_ascii_eq-else-advance_if_ascii_eq.new.self c.set_position.new.self c.position-start.result
+          c.set_position.ensures (third.text ∙ ap (λ s. s.text) second.1 ∙ first.0) c.position-start.ensures.place,
       rw (first.1, ← second.1, third.here)
           (none_slash t line_has_ended (rest c.advance_if_ascii_eq-else-advance_if_ascii_eq.new.self)),
     )

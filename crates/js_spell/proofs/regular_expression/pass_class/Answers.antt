@@ -7,37 +7,32 @@ use Rattle.js_spell.proofs.ExpressionSteps.{class_breaks, class_breaks_at_backsl
 use Rattle.js_spell.proofs.ExpressionSteps.{passes_then}
 use Rattle.js_spell.proofs.regular_expression.pass_class.Goals as goal
 
-pub returns-in-Closing-clause-passes : goal.returns-in-Closing-clause-passes
-returns-in-Closing-clause-passes c =
+pub returns-in-Closing : goal.returns-in-Closing
+returns-in-Closing c =
     let mid = c.pass_characters.new.source in
     class_closes c.args.source.now mid c.next_char.new.self
-    (passes_then Class c.args.source.now c.class.source mid c.class.invariant.passes c.pass_characters.ensures.passes)
+    (passes_then Class c.args.source.now c.class.source mid c.class.invariant c.pass_characters.ensures.passes)
     (subst (λ (s : Stop). StopIs Class s (rest mid)) c.in-Closing.is c.pass_characters.ensures.stop)
     c.next_char.ensures.past c.next_char.ensures.onward
 
-pub returns-then-not-pass_backslash_sequence-clause-passes :
-    goal.returns-then-not-pass_backslash_sequence-clause-passes
-returns-then-not-pass_backslash_sequence-clause-passes c =
+pub returns-then-not-pass_backslash_sequence : goal.returns-then-not-pass_backslash_sequence
+returns-then-not-pass_backslash_sequence c =
     let mid = c.pass_characters.new.source in
     class_breaks_at_backslash c.args.source.now mid c.pass_backslash_sequence.new.source
-    (passes_then Class c.args.source.now c.class.source mid c.class.invariant.passes c.pass_characters.ensures.passes)
-    c.if-not-pass_backslash_sequence.ensures.passes
+    (passes_then Class c.args.source.now c.class.source mid c.class.invariant c.pass_characters.ensures.passes)
+    c.if-not-pass_backslash_sequence.ensures
 
 pub class-preserved : goal.class-preserved
 class-preserved c =
     let mid = c.pass_characters.new.source in
     let new = c.pass_backslash_sequence.new.source in
-    record {
-      passes =
-          passes_then Class c.args.source.now c.class.source new c.class.invariant.passes
-          (passes_then Class c.class.source mid new c.pass_characters.ensures.passes
-          (passes_backslash Class mid new c.if-not-pass_backslash_sequence.ensures.passes).0);
-      placed = c.pass_backslash_sequence.ensures.placed;
-    }
+    passes_then Class c.args.source.now c.class.source new c.class.invariant
+    (passes_then Class c.class.source mid new c.pass_characters.ensures.passes
+    (passes_backslash Class mid new c.if-not-pass_backslash_sequence.ensures).0)
 
-pub returns-in-LineEnd-clause-passes : goal.returns-in-LineEnd-clause-passes
-returns-in-LineEnd-clause-passes c =
+pub returns-in-LineEnd : goal.returns-in-LineEnd
+returns-in-LineEnd c =
     let mid = c.pass_characters.new.source in
     class_breaks c.args.source.now mid
-    (passes_then Class c.args.source.now c.class.source mid c.class.invariant.passes c.pass_characters.ensures.passes)
+    (passes_then Class c.args.source.now c.class.source mid c.class.invariant c.pass_characters.ensures.passes)
     (subst (λ (s : Stop). StopIs Class s (rest mid)) c.in-LineEnd.is c.pass_characters.ensures.stop)

@@ -14,19 +14,18 @@ letters-init c = record {
       no_letters c.args.source.now c.args.errors.now c.empty-flags.result
       (bits_are_none c.empty-flags.result (c.empty-flags.ensures tt));
   at = c.offset-at.ensures.place;
-  placed = c.offset-at.ensures.placed;
 }
 
 pub add_letter-requires : goal.add_letter-requires
 add_letter-requires c =
     letter_place c.letters.source c.take_letter.new.source c.in-Some.letter c.letters.at c.letters.invariant.at
-    c.take_letter.ensures.placed c.in-Some.ensures.some
+    c.in-Some.ensures.some
 
 pub returns-in_err-is_faulty-clause-err : goal.returns-in_err-is_faulty-clause-err
 returns-in_err-is_faulty-clause-err c =
     on_err c.from_residual.result _
     (letters_broken c.args.pattern_end c.args.source.now c.letters.source c.take_letter.new.source c.args.errors.now
-    c.letters.errors c.add_letter.new.errors c.letters.flags c.letters.flags_error c.in-Some.letter c.requires.behind
+    c.letters.errors c.add_letter.new.errors c.letters.flags c.letters.flags_error c.in-Some.letter c.requires
     c.letters.invariant.reads c.in-Some.ensures.some c.in_err-is_faulty.ensures.err)
 
 pub letters-preserved : goal.letters-preserved
@@ -44,14 +43,13 @@ letters-preserved c =
           c.add_letter.new.errors c.letters.flags c.add_letter.new.flags c.letters.flags_error
           c.in_ok-is_faulty.is_faulty c.in-Some.letter c.letters.invariant.reads c.in-Some.ensures.some adds);
       at = c.offset-at-in-Some.ensures.place;
-      placed = c.take_letter.ensures.placed;
     }
 
 pub returns-clause-ok : goal.returns-clause-ok
 returns-clause-ok c =
     let same = c.in_default.ensures.none.1 in
     flags_read c.args.pattern_end c.args.source.now c.take_letter.new.source c.args.errors.now c.letters.errors
-    c.letters.flags c.letters.flags_error _ c.requires.behind
+    c.letters.flags c.letters.flags_error _ c.requires
     (subst (λ s. ReadsLetters c.args.source.now s c.args.errors.now c.letters.errors c.letters.flags
     c.letters.flags_error) (sym same) c.letters.invariant.reads)
     (ap (λ s. begins is_flag_character (rest s)) same ∙ c.in_default.ensures.none.0) refl

@@ -7,3 +7,15 @@ returns-in_err-push-clause-err c =
     on_err c.from_residual.result _
     (unreported [] c.args.source.now c.next_char.new.self c.args.errors.now c.push.new.self
     (search rules) (omega arith) (search rules))
+
+pub returns-clause-ok : goal.returns-clause-ok
+returns-clause-ok c = record {
+  text = search rules;
+  behind = c.next_char.new.self;
+  same = search rules;
+  onward = search rules;
+  stepped = search rules;
+  reports = search rules;
+  nothing = search rules;
+  info_is = search rules;
+}

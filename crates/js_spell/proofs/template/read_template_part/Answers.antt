@@ -22,7 +22,7 @@ returns-in-Tail-clause-ok c =
     part_closed c.args.substitute c.args.tail opening c.args.token.now.start c.args.source.now here new
     c.args.errors.now
     between
-    after c.args.token.now c.spell.new.token c.spell.result c.in_ok-value.value c.requires.start
+    after c.args.token.now c.spell.new.token c.spell.result c.in_ok-value.value c.requires
     c.in_ok-value.ensures.ok ends c.spell.ensures.flags c.spell.ensures.parts
 
 pub returns-in-Substitution-clause-ok : goal.returns-in-Substitution-clause-ok
@@ -38,7 +38,7 @@ returns-in-Substitution-clause-ok c =
     λ opening.
     part_substituted c.args.substitute c.args.tail opening c.args.token.now.start c.args.source.now here new
     c.args.errors.now between after c.args.token.now c.spell-in-Substitution.new.token c.spell-in-Substitution.result
-    c.in_ok-value.value c.requires.start c.in_ok-value.ensures.ok ends c.spell-in-Substitution.ensures.flags
+    c.in_ok-value.value c.requires c.in_ok-value.ensures.ok ends c.spell-in-Substitution.ensures.flags
     c.spell-in-Substitution.ensures.parts
 
 pub returns-in-Missing-clause-ok : goal.returns-in-Missing-clause-ok
@@ -54,24 +54,21 @@ returns-in-Missing-clause-ok c =
     λ opening.
     part_open c.args.substitute c.args.tail opening c.args.token.now.start c.args.source.now here new
     c.args.errors.now between
-    after c.args.token.now c.spell-in-Missing.new.token c.spell-in-Missing.result c.in_ok-value.value c.requires.placed
-    c.end_part.ensures.placed c.requires.start c.in_ok-value.ensures.ok ends c.spell-in-Missing.ensures.flags
-    c.spell-in-Missing.ensures.parts
+    after c.args.token.now c.spell-in-Missing.new.token c.spell-in-Missing.result c.in_ok-value.value
+    c.requires c.in_ok-value.ensures.ok ends c.spell-in-Missing.ensures.flags c.spell-in-Missing.ensures.parts
 
 pub returns-in_err-value-clause-err : goal.returns-in_err-value-clause-err
 returns-in_err-value-clause-err c =
     on_err c.from_residual.result _
     (λ opening. part_broken c.args.substitute c.args.tail opening c.args.token.now.start c.args.source.now
-    c.read_value.new.source
-    c.args.errors.now c.read_value.new.errors c.requires.start c.in_err-value.ensures.err)
+    c.read_value.new.source c.args.errors.now c.read_value.new.errors c.requires c.in_err-value.ensures.err)
 
 pub returns-in_err-end_part-clause-err : goal.returns-in_err-end_part-clause-err
 returns-in_err-end_part-clause-err c =
     let new = c.end_part.new.source in
     on_err c.from_residual-in_err-end_part.result _
     (λ opening. part_broken c.args.substitute c.args.tail opening c.args.token.now.start c.args.source.now new
-    c.args.errors.now
-    c.end_part.new.errors c.requires.start
+    c.args.errors.now c.end_part.new.errors c.requires
     (end_broken Template c.args.token.now.start c.args.source.now c.read_value.new.source new c.args.errors.now
-    c.read_value.new.errors c.end_part.new.errors c.in_ok-value.value c.requires.placed c.read_value.ensures.placed
+    c.read_value.new.errors c.end_part.new.errors c.in_ok-value.value
     c.in_ok-value.ensures.ok c.in_err-end_part.ensures.err))

@@ -16,7 +16,6 @@ digits-init c = record {
   taken =
       first_of_code_point c.args.source.now c.take_hex_digit.new.source c.in_ok-value.value c.in_ok-value.ensures.digit;
   small = omega (arith, c.in_ok-value.ensures.value);
-  placed = c.take_hex_digit.ensures.placed;
 }
 
 pub returns-then-value-gt-LAST_CODE_POINT-clause-read : goal.returns-then-value-gt-LAST_CODE_POINT-clause-read
@@ -31,7 +30,6 @@ digits-preserved c = record {
       c.in-Some.digit c.digits.invariant.taken c.in-Some.ensures.digit
       (omega (arith, c.if-value-gt-LAST_CODE_POINT.false));
   small = omega (arith, c.if-value-gt-LAST_CODE_POINT.false);
-  placed = c.in-Some.ensures.placed;
 }
 
 pub returns-then-advance_if_ascii_eq-clause-read : goal.returns-then-advance_if_ascii_eq-clause-read

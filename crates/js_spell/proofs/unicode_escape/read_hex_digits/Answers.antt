@@ -10,10 +10,10 @@ pub overflow_mul-value : goal.overflow_mul-value
 overflow_mul-value c =
     omega (
       arith,
-      c.requires.few,
+      c.requires,
       c.digits-test.true,
       hex_value_fits c.args.source.now c.digits.source c.digits.counter c.digits.value c.digits.invariant.taken
-          (omega (arith, c.requires.few, c.digits-test.true)),
+          (omega (arith, c.requires, c.digits-test.true)),
     )
 
 pub overflow_add-value : goal.overflow_add-value
@@ -22,7 +22,7 @@ overflow_add-value c =
       arith,
       c.in_ok-value.ensures.value,
       hex_value_fits c.args.source.now c.digits.source c.digits.counter c.digits.value c.digits.invariant.taken
-          (omega (arith, c.requires.few, c.digits-test.true)),
+          (omega (arith, c.requires, c.digits-test.true)),
     )
 
 pub returns-in_err-value-clause-read : goal.returns-in_err-value-clause-read
@@ -37,7 +37,6 @@ digits-preserved c = record {
       more_digits 16 [] c.args.source.now c.digits.source c.take_hex_digit.new.source c.digits.counter c.digits.value
       c.in_ok-value.field-0 c.digits.invariant.taken c.in_ok-value.ensures.digit;
   within = omega (arith, c.digits-test.true);
-  placed = c.take_hex_digit.ensures.placed;
 }
 
 pub returns-clause-read : goal.returns-clause-read

@@ -1,5 +1,4 @@
 use Rattle.std.proofs.Common.{◌≤◌, []}
-use Rattle.js_source.specs.Source.{IsPlaced}
 use Rattle.js_spell.specs.Escape.{TakesDigits}
 use Rattle.js_spell.proofs.unicode_escape.read_hex_digits.Given as goal
 
@@ -8,5 +7,4 @@ abbrev pub invariant-digits : goal.invariant-digits
 invariant-digits l = record {
   taken : TakesDigits 16 [] l.initial.source l.source l.counter l.value;
   within : l.counter ≤ l.count;
-  placed : IsPlaced l.source;
 }

@@ -6,7 +6,7 @@ use Rattle.js_spell.proofs.unseparated_number.pass_fraction.Goals as goal
 pub returns-then-begins_digit-clause-reads : goal.returns-then-begins_digit-clause-reads
 returns-then-begins_digit-clause-reads c = λ end errors.
     fraction_passed c.table_of.result.now c.args.source.now c.pass_ascii.new.self c.pass_exponent_or.new.source errors
-    c.pass_exponent_or.result c.requires c.pass_ascii.ensures.placed c.table_of.ensures c.pass_ascii.ensures.text
+    c.pass_exponent_or.result c.table_of.ensures c.pass_ascii.ensures.text
     c.pass_ascii.ensures.run c.pass_ascii.ensures.stops (sym c.if-begins_digit.ensures)
     (c.pass_exponent_or.ensures.follows end) (c.pass_exponent_or.ensures.reads end errors)
 

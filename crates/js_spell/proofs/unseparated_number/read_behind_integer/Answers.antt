@@ -11,9 +11,8 @@ use Rattle.js_spell.proofs.unseparated_number.read_behind_integer.Goals as goal
 
 pub returns-then-advance_if_ascii_eq-clause-reads : goal.returns-then-advance_if_ascii_eq-clause-reads
 returns-then-advance_if_ascii_eq-clause-reads c = λ end errors.
-    behind_point c.args.source.now c.advance_if_ascii_eq.new.self c.pass_fraction.new.source errors c.requires
-    c.advance_if_ascii_eq.ensures.placed c.if-advance_if_ascii_eq.ensures.cases
-    (c.pass_fraction.ensures.reads end errors)
+    behind_point c.args.source.now c.advance_if_ascii_eq.new.self c.pass_fraction.new.source errors
+    c.if-advance_if_ascii_eq.ensures.cases (c.pass_fraction.ensures.reads end errors)
 
 pub returns-then-advance_if_ascii_eq-clause-follows : goal.returns-then-advance_if_ascii_eq-clause-follows
 returns-then-advance_if_ascii_eq-clause-follows c = λ end.

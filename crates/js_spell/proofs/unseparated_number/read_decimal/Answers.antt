@@ -5,6 +5,5 @@ pub returns-clause-reads : goal.returns-clause-reads
 returns-clause-reads c = λ end errors.
     let follows = c.read_behind_integer.ensures.follows end in
     decimal_cut c.args.source.now c.pass_integer.new.source c.read_behind_integer.new.source errors
-    c.read_behind_integer.result c.requires.placed c.pass_integer.ensures.placed
-    (c.pass_integer.ensures.items follows) (c.pass_integer.ensures.reads follows errors)
+    c.read_behind_integer.result (c.pass_integer.ensures.items follows) (c.pass_integer.ensures.reads follows errors)
     (c.read_behind_integer.ensures.reads end errors)

@@ -10,20 +10,20 @@ invariant_of-self-2 g c =
     sound_taken _ c.self.inside.reader c.read_jsx_name.new.self c.self.inside.found
     (record c.self.inside.found { trivia = c.take_again.new.trivia })
     (plainly _ c.self.inside.reader c.read_jsx_name.new.self behind.token name_is_plain behind.last
-    (c.in_ok-token.ensures.reads.1 behind.token behind.start_is (sym behind.place) _)
-    c.read_jsx_name.ensures.placed.utf8) c.self.invariant c.take_again.ensures.last
+    (c.in_ok-token.ensures.1 behind.token behind.start_is (sym behind.place) _)
+    c.read_jsx_name.new.self.source.placed.utf8) c.self.invariant c.take_again.ensures.last
 
 pub returns-clause-token : goal.returns-clause-token
 returns-clause-token g c =
     let behind = rw (← c.self.view_is) at c.requires in
     let tokens = rw c.tokens-collects.ensures at c.take_again.ensures.collected in
     rw (← c.self.view_is) (
-      c.in_ok-token.ensures.reads.0,
+      c.in_ok-token.ensures.0,
       reads_taken _ c.self.inside.reader c.read_jsx_name.new.self c.self.inside.found
           c.self.inside.found.errors c.take_again.new.trivia
           (plainly _ c.self.inside.reader c.read_jsx_name.new.self behind.token name_is_plain behind.last
-          (c.in_ok-token.ensures.reads.1 behind.token behind.start_is (sym behind.place) _)
-          c.read_jsx_name.ensures.placed.utf8) c.self.invariant c.take_again.ensures.last tokens,
+          (c.in_ok-token.ensures.1 behind.token behind.start_is (sym behind.place) _)
+          c.read_jsx_name.new.self.source.placed.utf8) c.self.invariant c.take_again.ensures.last tokens,
     )
 
 pub returns-clause-places : goal.returns-clause-places

@@ -8,4 +8,4 @@ returns-clause-token g c = search rules
 pub returns-clause-places : goal.returns-clause-places
 returns-clause-places g c =
     rw (returns-clause-token g c, ← c.self.view_is)
-    (default_lies _ _ c.position-place.ensures.placed.utf8 c.self.invariant.last_lies)
+    (default_lies _ _ c.self.inside.reader.source.placed.utf8 c.self.invariant.last_lies)

@@ -27,7 +27,7 @@ invariant_of-self g c =
     sound_taken _ c.self.inside.reader c.read_next_part-read.new.self c.self.inside.found
     (record c.self.inside.found { errors = c.read_next_part-read.new.errors; trivia = c.take_again.new.trivia })
     (part_again _ c.self.inside.reader c.read_next_part-read.new.self behind.token behind.last
-    (c.in-Ok.ensures.ok behind.token (sym start)) c.in-Ok.ensures.placed.utf8 c.in-Ok.ensures.kept
+    (c.in-Ok.ensures.ok behind.token (sym start)) c.read_next_part-read.new.self.source.placed.utf8 c.in-Ok.ensures.kept
     c.in-Ok.ensures.value) c.self.invariant c.take_again.ensures.last
 
 pub returns-in-Ok-clause-ok : goal.returns-in-Ok-clause-ok
@@ -41,7 +41,7 @@ returns-in-Ok-clause-ok g c =
     (reads_taken _ c.self.inside.reader c.read_next_part-read.new.self c.self.inside.found
     c.read_next_part-read.new.errors c.take_again.new.trivia
     (part_again _ c.self.inside.reader c.read_next_part-read.new.self behind.token behind.last
-    (c.in-Ok.ensures.ok behind.token (sym start)) c.in-Ok.ensures.placed.utf8 c.in-Ok.ensures.kept
+    (c.in-Ok.ensures.ok behind.token (sym start)) c.read_next_part-read.new.self.source.placed.utf8 c.in-Ok.ensures.kept
     c.in-Ok.ensures.value) c.self.invariant c.take_again.ensures.last tokens)
 
 pub returns-in-Ok-clause-places : goal.returns-in-Ok-clause-places
@@ -53,7 +53,7 @@ returns-in-Ok-clause-places g c =
 pub go_back-requires-clause-boundary : goal.go_back-requires-clause-boundary
 go_back-requires-clause-boundary g c =
     rw (c.start_behind_reports-start.ensures.start, c.position-position.ensures.place, c.in-Err.ensures.err.moves.text)
-    c.position-position.ensures.placed.boundary
+    c.self.inside.reader.source.placed.boundary
 
 pub go_back-requires-clause-found : goal.go_back-requires-clause-found
 go_back-requires-clause-found g c =

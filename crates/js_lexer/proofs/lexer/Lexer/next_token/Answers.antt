@@ -10,10 +10,15 @@ read_name_here-requires-clause-settled g c =
 
 pub read_name_here-requires-clause-meets : goal.read_name_here-requires-clause-meets
 read_name_here-requires-clause-meets g c =
-    rw (← c.self.view_is)
-    (meets_if_settled c.in-Name.b c.self.inside.reader.source _ _ c.self.inside.found.trivia c.self.inside.decoded
-    c.pass_simple_gap.new.source c.pass_simple_gap.new.line_has_ended c.self.invariant
-    (c.if-not-is_settled.ensures refl) c.here-source.ensures.same c.in-Name.ensures.0)
+    rw (← c.self.view_is) (
+      c.self.inside.reader.source,
+      (
+        record { text = refl; place = refl },
+        meets_if_settled c.in-Name.b c.self.inside.reader.source _ _ c.self.inside.found.trivia c.self.inside.decoded
+            c.pass_simple_gap.new.source c.pass_simple_gap.new.line_has_ended c.self.invariant
+            (c.if-not-is_settled.ensures refl) c.here-source.ensures.same c.in-Name.ensures.0,
+      ),
+    )
 
 pub read_symbol_here-requires-clause-settled : goal.read_symbol_here-requires-clause-settled
 read_symbol_here-requires-clause-settled g c =
@@ -23,7 +28,12 @@ read_symbol_here-requires-clause-settled g c =
 
 pub read_symbol_here-requires-clause-meets : goal.read_symbol_here-requires-clause-meets
 read_symbol_here-requires-clause-meets g c =
-    rw (← c.self.view_is)
-    (meets_if_settled c.in-Symbol.b c.self.inside.reader.source _ _ c.self.inside.found.trivia c.self.inside.decoded
-    c.pass_simple_gap.new.source c.pass_simple_gap.new.line_has_ended c.self.invariant
-    (c.if-not-is_settled.ensures refl) c.here-source.ensures.same c.in-Symbol.ensures)
+    rw (← c.self.view_is) (
+      c.self.inside.reader.source,
+      (
+        record { text = refl; place = refl },
+        meets_if_settled c.in-Symbol.b c.self.inside.reader.source _ _ c.self.inside.found.trivia c.self.inside.decoded
+            c.pass_simple_gap.new.source c.pass_simple_gap.new.line_has_ended c.self.invariant
+            (c.if-not-is_settled.ensures refl) c.here-source.ensures.same c.in-Symbol.ensures,
+      ),
+    )

@@ -9,30 +9,30 @@ pub overflow_sub-start : goal.overflow_sub-start
 overflow_sub-start g c =
     (behind_one less_than_sign c.offset.result _ c.self.inside.reader c.self.inside.found
     (rw (← c.self.view_is) at c.requires.behind) (rw (← c.self.view_is) at c.requires.bytes) refl
-    c.self.invariant c.offset.ensures.placed.utf8 c.offset.ensures.place).0
+    c.self.invariant c.self.inside.reader.source.placed.utf8 c.offset.ensures.place).0
 
 pub read_left_angle-token-requires-clause-boundary : goal.read_left_angle-token-requires-clause-boundary
 read_left_angle-token-requires-clause-boundary g c =
     (behind_one less_than_sign c.offset.result _ c.self.inside.reader c.self.inside.found
     (rw (← c.self.view_is) at c.requires.behind) (rw (← c.self.view_is) at c.requires.bytes) refl
-    c.self.invariant c.offset.ensures.placed.utf8 c.offset.ensures.place).1.boundary
+    c.self.invariant c.self.inside.reader.source.placed.utf8 c.offset.ensures.place).1.boundary
 
 pub read_left_angle-token-requires-clause-here : goal.read_left_angle-token-requires-clause-here
 read_left_angle-token-requires-clause-here g c =
     (behind_one less_than_sign c.offset.result _ c.self.inside.reader c.self.inside.found
     (rw (← c.self.view_is) at c.requires.behind) (rw (← c.self.view_is) at c.requires.bytes) refl
-    c.self.invariant c.offset.ensures.placed.utf8 c.offset.ensures.place).1.here
+    c.self.invariant c.self.inside.reader.source.placed.utf8 c.offset.ensures.place).1.here
 
 pub invariant_of-self : goal.invariant_of-self
 invariant_of-self g c =
     let starts =
     behind_one less_than_sign c.offset.result _ c.self.inside.reader c.self.inside.found
     (rw (← c.self.view_is) at c.requires.behind) (rw (← c.self.view_is) at c.requires.bytes) refl
-    c.self.invariant c.offset.ensures.placed.utf8 c.offset.ensures.place in
+    c.self.invariant c.self.inside.reader.source.placed.utf8 c.offset.ensures.place in
     sound_taken _ c.self.inside.reader c.read_left_angle-token.new.self c.self.inside.found
     (record c.self.inside.found { trivia = c.take_again.new.trivia })
     (from_mark _ c.self.inside.reader c.read_left_angle-token.new.self left_is_plain starts.1
-    c.read_left_angle-token.ensures.reads c.read_left_angle-token.ensures.placed.utf8) c.self.invariant
+    c.read_left_angle-token.ensures c.read_left_angle-token.new.self.source.placed.utf8) c.self.invariant
     c.take_again.ensures.last
 
 pub returns-clause-token : goal.returns-clause-token
@@ -40,13 +40,13 @@ returns-clause-token g c =
     let starts =
     behind_one less_than_sign c.offset.result _ c.self.inside.reader c.self.inside.found
     (rw (← c.self.view_is) at c.requires.behind) (rw (← c.self.view_is) at c.requires.bytes) refl
-    c.self.invariant c.offset.ensures.placed.utf8 c.offset.ensures.place in
+    c.self.invariant c.self.inside.reader.source.placed.utf8 c.offset.ensures.place in
     let tokens = rw c.tokens-collects.ensures at c.take_again.ensures.collected in
     rw (← c.self.view_is)
     (reads_taken _ c.self.inside.reader c.read_left_angle-token.new.self c.self.inside.found
     c.self.inside.found.errors c.take_again.new.trivia
     (from_mark _ c.self.inside.reader c.read_left_angle-token.new.self left_is_plain starts.1
-    c.read_left_angle-token.ensures.reads c.read_left_angle-token.ensures.placed.utf8) c.self.invariant
+    c.read_left_angle-token.ensures c.read_left_angle-token.new.self.source.placed.utf8) c.self.invariant
     c.take_again.ensures.last tokens)
 
 pub returns-clause-places : goal.returns-clause-places

@@ -14,7 +14,7 @@ invariant_of-self g c =
     let l = state_of c.self.inside.reader c.self.inside.found _ c.self.inside.decoded in
     rw c.take_token.ensures.read
     (sound_after c.args.goal l _ _ c.in-Ok.token c.read_and_collect-read.new.reader c.read_and_collect-read.new.found
-    c.take_token.new.trivia c.read_and_collect-read.new.decoded c.in-Ok.ensures.placed.utf8
+    c.take_token.new.trivia c.read_and_collect-read.new.decoded c.read_and_collect-read.new.reader.source.placed.utf8
     (c.in-Ok.ensures.kept.are_values c.self.invariant.are_values)
     (reader_is c.args.goal c.self.inside.reader c.self.inside.found _ c.self.inside.decoded
     (not c.self.inside.has_read) c.begin_reading.new.trivia c.self.invariant cleared)
@@ -22,7 +22,7 @@ invariant_of-self g c =
 
 pub go_back-requires-clause-boundary : goal.go_back-requires-clause-boundary
 go_back-requires-clause-boundary g c =
-    rw (c.of-start.ensures.start, c.in-Err.ensures.err.text) c.of-start.ensures.placed.boundary
+    rw (c.of-start.ensures.start, c.in-Err.ensures.err.text) c.self.inside.reader.source.placed.boundary
 
 pub go_back-requires-clause-found : goal.go_back-requires-clause-found
 go_back-requires-clause-found g c =
@@ -56,9 +56,10 @@ returns-in-Ok-clause-ok g c =
     rw (← c.self.view_is, tokens, c.take_token.ensures.read)
     (reads_token _ _ _ _ c.read_and_collect-read.new.reader c.read_and_collect-read.new.found c.take_token.new.trivia
     c.args.goal c.in-Ok.token c.read_and_collect-read.new.decoded
-    (subst IsUtf8 read.read.text c.in-Ok.ensures.placed.utf8) c.of-start.ensures.placed.boundary
+    (subst IsUtf8 read.read.text c.read_and_collect-read.new.reader.source.placed.utf8)
+    c.self.inside.reader.source.placed.boundary
     record {
-      source = refl;
+      source = record { text = refl; place = refl };
       source_type = refl;
       listed = refl;
       between =

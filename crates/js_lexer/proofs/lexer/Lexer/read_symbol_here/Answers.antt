@@ -11,4 +11,8 @@ take_spelled-requires-clause-spells g c = λ r.
     subst (λ (a : At). SpellsFor r ended a c.read_simple_symbol.new.source c.in-Some.kind) same
     (c.in-Some.ensures.spells r ended
     (subst (λ (a : At). whole_gap_piece r.source_type ended (rest a) ≡ None) (sym same)
-    (c.requires.meets.ends r.source_type)))
+    (c.requires.meets.1.1.ends r.source_type)))
+
+pub take_spelled-requires-clause-gap : goal.take_spelled-requires-clause-gap
+take_spelled-requires-clause-gap g c =
+    let meets = c.requires.meets in (meets.0, (meets.1.0, meets.1.1.gap))

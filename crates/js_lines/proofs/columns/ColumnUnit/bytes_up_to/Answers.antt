@@ -12,15 +12,12 @@ loop-c-preserved c =
     let new = c.pass_char.new.self in
     let fits : width_in unit c.in-Some.c ≤ c.loop-c.left =
     omega (arith, c.width_of-width.ensures, c.if-left-width.false) in
-    let step = (front_step unit c.loop-c.left c.in-Some.c (rest new) fits).0 in (
-      c.pass_char.ensures.placed,
-      omega (
-        arith,
-        c.loop-c.invariant.1,
-        ap (λ cs. length_in Bytes (front_within unit c.loop-c.left cs)) c.pass_char.ensures.reads.here,
-        ap (length_in Bytes) step,
-        ap (λ n. length_in Bytes (front_within unit (c.loop-c.left - n) (rest new))) c.width_of-width.ensures,
-        place_behind c.loop-c.source new c.in-Some.c c.pass_char.ensures.reads c.pass_char.ensures.at
-            c.pass_char.ensures.placed,
-      ),
+    let step = (front_step unit c.loop-c.left c.in-Some.c (rest new) fits).0 in
+    omega (
+      arith,
+      c.loop-c.invariant,
+      ap (λ cs. length_in Bytes (front_within unit c.loop-c.left cs)) c.pass_char.ensures.reads.here,
+      ap (length_in Bytes) step,
+      ap (λ n. length_in Bytes (front_within unit (c.loop-c.left - n) (rest new))) c.width_of-width.ensures,
+      place_behind c.loop-c.source new c.in-Some.c c.pass_char.ensures.reads c.pass_char.ensures.at,
     )

@@ -9,8 +9,8 @@ pub returns-clause-ok : goal.returns-clause-ok
 returns-clause-ok c =
     IfOk-weaker c.read_attribute.result _ _
     (λ token read previous first. attribute_goal previous c.args.self.now c.args.found.now c.skip_whole_gap.new.self
-    c.skip_whole_gap.new.found c.read_attribute.new.self c.read_attribute.new.errors token c.requires
-    c.position-place.ensures.placed first c.in_ok-skip_whole_gap.ensures.ok read) c.read_attribute.ensures.ok
+    c.skip_whole_gap.new.found c.read_attribute.new.self c.read_attribute.new.errors token
+    first c.in_ok-skip_whole_gap.ensures.ok read) c.read_attribute.ensures.ok
 
 pub returns-clause-err : goal.returns-clause-err
 returns-clause-err c =

@@ -11,17 +11,15 @@ use Rattle.js_reader.proofs.reader.Reader.read_behind_gap.Goals as goal
 pub returns-in-Some-clause-ok : goal.returns-in-Some-clause-ok
 returns-in-Some-clause-ok c = λ previous first.
     token_behind previous c.args.self.now c.args.found.now c.skip_whole_gap.new.self c.skip_whole_gap.new.found
-    c.read_simple.new.self c.skip_whole_gap.new.found.errors c.in-Some.token c.requires.placed
-    c.position-place.ensures.placed first c.in_ok-skip_whole_gap.ensures.ok
-    (c.in-Some.ensures.some c.skip_whole_gap.new.found.errors)
+    c.read_simple.new.self c.skip_whole_gap.new.found.errors c.in-Some.token
+    first c.in_ok-skip_whole_gap.ensures.ok (c.in-Some.ensures.some c.skip_whole_gap.new.found.errors)
 
 pub returns-in-None-clause-ok : goal.returns-in-None-clause-ok
 returns-in-None-clause-ok c =
     IfOk-weaker c.read_here.result _ _
     (λ token read previous first. token_behind previous c.args.self.now c.args.found.now c.skip_whole_gap.new.self
-    c.skip_whole_gap.new.found c.read_here.new.self c.read_here.new.errors token c.requires.placed
-    c.position-place.ensures.placed first c.in_ok-skip_whole_gap.ensures.ok
-    (subst
+    c.skip_whole_gap.new.found c.read_here.new.self c.read_here.new.errors token
+    first c.in_ok-skip_whole_gap.ensures.ok (subst
     (λ (r : Reader).
     ReadsTokenHere r c.skip_whole_gap.new.found.errors token c.read_here.new.self c.read_here.new.errors)
     c.in-None.ensures.none read))
@@ -43,6 +41,3 @@ returns-in-None-clause-grown c =
     (on_err_weaker c.read_here.result (λ part. part.errors) c.read_here.ensures.err) in
     grows_on c.args.found.now found _ c.skip_whole_gap.ensures.grown
     (grows_reports found c.read_here.new.errors found.deferred reports (extends_none found.deferred))
-
-pub returns-in-Some-clause-placed : goal.returns-in-Some-clause-placed
-returns-in-Some-clause-placed c = (c.in-Some.ensures.some c.skip_whole_gap.new.found.errors).placed

@@ -19,14 +19,14 @@ returns-in-Some-clause-ok c = λ previous line_has_ended.
     c.read_hashbang.new.self
     c.args.found.now) (sym c.in-First.is)
     (goal_hashbang previous c.args.self.now c.read_hashbang.new.self c.args.found.now c.in-Some.token line_has_ended
-    c.in-Some.ensures.reads)
+    c.in-Some.ensures)
 
 pub returns-in-Some-clause-grown : goal.returns-in-Some-clause-grown
 returns-in-Some-clause-grown c = grows_none c.args.found.now
 
 pub returns-in-None-clause-ok : goal.returns-in-None-clause-ok
 returns-in-None-clause-ok c =
-    let same = c.in-None.ensures.reads in
+    let same = c.in-None.ensures in
     let none : begins_hashbang c.args.goal c.args.self.now.source.text c.args.self.now.source.place ≡ false =
     ap (λ g. begins_hashbang g c.args.self.now.source.text c.args.self.now.source.place) c.in-First.is ∙ same.0 in
     goal_answers c.args.goal c.args.self.now c.read_hashbang.new.self c.args.found.now c.read_behind_gap.new.self

@@ -8,17 +8,13 @@ token_from-requires c =
     let mid = c.go_behind.new.source in
     angle_ordered c.args.start c.args.self.now
     (record c.args.self.now { source = c.read_right_angle-kind.new.source }) mid c.read_right_angle-kind.result
-    (behind_mark greater_than_sign c.args.start c.args.self.now mid c.requires.placed c.requires.boundary
-    c.requires.here c.go_behind.ensures.past) c.read_right_angle-kind.ensures.placed
-    c.read_right_angle-kind.ensures.reads
+    (behind_mark greater_than_sign c.args.start c.args.self.now mid c.requires.boundary
+    c.requires.here c.go_behind.ensures.past) c.read_right_angle-kind.ensures
 
-pub returns-clause-reads : goal.returns-clause-reads
-returns-clause-reads c =
+pub returns : goal.returns
+returns c =
     let mid = c.go_behind.new.source in
     angle_goal c.args.start c.args.self.now
     (record c.args.self.now { source = c.read_right_angle-kind.new.source }) mid c.read_right_angle-kind.result
-    c.token_from.result
-    (behind_mark greater_than_sign c.args.start c.args.self.now mid c.requires.placed c.requires.boundary
-    c.requires.here c.go_behind.ensures.past) c.read_right_angle-kind.ensures.placed
-    c.read_right_angle-kind.ensures.reads
-    refl c.token_from.ensures
+    c.token_from.result (behind_mark greater_than_sign c.args.start c.args.self.now mid c.requires.boundary
+    c.requires.here c.go_behind.ensures.past) c.read_right_angle-kind.ensures refl c.token_from.ensures

@@ -9,7 +9,7 @@ returns-clause-ok c =
     rw c.lexeme_of.ensures
     (lexeme_of_number c.args.self.now
     (record c.args.self.now { source = c.read_number.new.source })
-    c.requires.begun refl c.in_ok-spelt.ensures.ok refl)
+    c.requires refl c.in_ok-spelt.ensures.ok refl)
 
 pub returns-clause-unescaped : goal.returns-clause-unescaped
 returns-clause-unescaped c =

@@ -9,8 +9,8 @@ pub returns-clause-ok : goal.returns-clause-ok
 returns-clause-ok c =
     let old = c.args.self.now in
     let mid = c.next_char.new.self in
-    let reads = takes_sign old.source mid c.requires.begun c.next_char.ensures.past in
-    let behind = behind_mark number_sign old.source mid (omega arith) c.requires.placed c.next_char.ensures.placed
+    let reads = takes_sign old.source mid c.requires c.next_char.ensures.past in
+    let behind = behind_mark number_sign old.source mid (omega arith)
     reads in
     rw c.lexeme_of.ensures
     (lexeme_as old (record old { source = c.read_private_name.new.source })
@@ -21,8 +21,8 @@ returns-clause-kept c =
     let at = c.start-start.ensures ∙ ap (λ t. t.start) c.token_here-token.ensures in
     let old = c.args.self.now in
     let mid = c.next_char.new.self in
-    let reads = takes_sign old.source mid c.requires.begun c.next_char.ensures.past in
-    let behind = behind_mark number_sign old.source mid (omega arith) c.requires.placed c.next_char.ensures.placed
+    let reads = takes_sign old.source mid c.requires c.next_char.ensures.past in
+    let behind = behind_mark number_sign old.source mid (omega arith)
     reads in
     (value_kept old.source c.args.decoded.now c.keep_value.new.decoded c.start-start.result
     (private_here old mid reads).valued at
@@ -33,8 +33,8 @@ returns-clause-value c =
     let at = c.start-start.ensures ∙ ap (λ t. t.start) c.token_here-token.ensures in
     let old = c.args.self.now in
     let mid = c.next_char.new.self in
-    let reads = takes_sign old.source mid c.requires.begun c.next_char.ensures.past in
-    let behind = behind_mark number_sign old.source mid (omega arith) c.requires.placed c.next_char.ensures.placed
+    let reads = takes_sign old.source mid c.requires c.next_char.ensures.past in
+    let behind = behind_mark number_sign old.source mid (omega arith)
     reads in
     rw c.lexeme_of.ensures
     (value_kept old.source c.args.decoded.now c.keep_value.new.decoded c.start-start.result
@@ -45,8 +45,8 @@ pub returns-in_err-kind-clause-err : goal.returns-in_err-kind-clause-err
 returns-in_err-kind-clause-err c =
     let old = c.args.self.now in
     let mid = c.next_char.new.self in
-    let reads = takes_sign old.source mid c.requires.begun c.next_char.ensures.past in
-    let behind = behind_mark number_sign old.source mid (omega arith) c.requires.placed c.next_char.ensures.placed
+    let reads = takes_sign old.source mid c.requires c.next_char.ensures.past in
+    let behind = behind_mark number_sign old.source mid (omega arith)
     reads in
     let p = err_from_is_err_and c.from_residual.result c.from_residual.ensures.1 in
     rw p.1
@@ -57,8 +57,8 @@ pub returns-in_err-keep_value-clause-err : goal.returns-in_err-keep_value-clause
 returns-in_err-keep_value-clause-err c =
     let old = c.args.self.now in
     let mid = c.next_char.new.self in
-    let reads = takes_sign old.source mid c.requires.begun c.next_char.ensures.past in
-    let behind = behind_mark number_sign old.source mid (omega arith) c.requires.placed c.next_char.ensures.placed
+    let reads = takes_sign old.source mid c.requires c.next_char.ensures.past in
+    let behind = behind_mark number_sign old.source mid (omega arith)
     reads in
     let p = err_from_is_err_and c.from_residual-in_err-keep_value.result c.from_residual-in_err-keep_value.ensures.1 in
     rw p.1

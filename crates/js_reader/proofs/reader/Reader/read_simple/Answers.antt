@@ -9,9 +9,9 @@ new-span-requires c =
     let r = c.args.self.now in
     let spells =
     spelled_from r c.here-source.result c.read_simple_spelling.new.source c.in_ok-kind.kind c.here-source.ensures.same
-    (λ none. rw c.in_ok-kind.was at (c.read_simple_spelling.ensures.spells r r.line_has_ended none)) c.requires.gap in
+    (λ none. rw c.in_ok-kind.was at (c.read_simple_spelling.ensures.spells r r.line_has_ended none)) c.requires in
     rw (c.offset-start.ensures.place, c.offset.ensures.place)
-    (spelled_onward r c.read_simple_spelling.new.source c.in_ok-kind.kind c.requires.placed c.offset.ensures.placed
+    (spelled_onward r c.read_simple_spelling.new.source c.in_ok-kind.kind
     spells)
 
 pub new-requires : goal.new-requires
@@ -19,9 +19,9 @@ new-requires c =
     let r = c.args.self.now in
     let spells =
     spelled_from r c.here-source.result c.read_simple_spelling.new.source c.in_ok-kind.kind c.here-source.ensures.same
-    (λ none. rw c.in_ok-kind.was at (c.read_simple_spelling.ensures.spells r r.line_has_ended none)) c.requires.gap in
+    (λ none. rw c.in_ok-kind.was at (c.read_simple_spelling.ensures.spells r r.line_has_ended none)) c.requires in
     rw (c.new-span.ensures, c.offset-start.ensures.place, c.offset.ensures.place)
-    (spelled_onward r c.read_simple_spelling.new.source c.in_ok-kind.kind c.requires.placed c.offset.ensures.placed
+    (spelled_onward r c.read_simple_spelling.new.source c.in_ok-kind.kind
     spells)
 
 pub returns-clause-some : goal.returns-clause-some
@@ -34,10 +34,9 @@ returns-clause-some c = λ errors.
           spelled_from r c.here-source.result c.read_simple_spelling.new.source c.in_ok-kind.kind
           c.here-source.ensures.same
           (λ none. rw c.in_ok-kind.was at (c.read_simple_spelling.ensures.spells r r.line_has_ended none))
-          c.requires.gap errors;
+          c.requires errors;
       token_is =
           c.new.ensures ∙ ap (λ s. lexeme_token s.start s.end lexeme) c.new-span.ensures
           ∙ ap (λ n. lexeme_token n c.offset.result lexeme) c.offset-start.ensures.place
           ∙ ap (λ n. lexeme_token r.source.place n lexeme) c.offset.ensures.place;
-      placed = c.offset.ensures.placed;
     }

@@ -1,6 +1,6 @@
 use Rattle.std.proofs.Common.{refl, sym, subst, ◌≡◌, ◌≢◌, ◌==◌, [], false}
 use Rattle.js_grammar.specs.Name.{begins_name}
-use Rattle.js_source.specs.Source.{At, rest, IsPlaced}
+use Rattle.js_source.specs.Source.{At, rest}
 use Rattle.js_grammar.specs.Gap.{whole_gap_piece}
 use Rattle.js_grammar.specs.Punctuators.{NoPunctuator}
 use Rattle.js_grammar.proofs.Flags.{punctuator_unflagged}
@@ -40,7 +40,6 @@ read_other-requires c =
       no_template =
           subst (λ (a : At). begins (λ c. c == grave_accent) (rest a) ≡ false) (sym none.0) c.requires.no_template;
       no_punctuator = subst (λ (a : At). NoPunctuator t line_has_ended (rest a)) (sym none.0) none.1;
-      placed = subst (λ (a : At). IsPlaced a) (sym none.0) c.requires.placed;
     }
 
 pub returns-in-None-clause-ok : goal.returns-in-None-clause-ok

@@ -5,7 +5,7 @@ use Rattle.js_reader.proofs.WholeSteps.{none_so_far, so_far}
 use Rattle.js_reader.proofs.reader.Reader.skip_all_reported.Goals as goal
 
 pub loop-init : goal.loop-init
-loop-init c = none_so_far c.args.self.now c.args.found.now c.requires.placed c.requires.gap
+loop-init c = none_so_far c.args.self.now c.args.found.now c.requires
 
 pub returns-in_err-skip_reported-clause-grown : goal.returns-in_err-skip_reported-clause-grown
 returns-in_err-skip_reported-clause-grown c =
@@ -15,8 +15,6 @@ returns-in_err-skip_reported-clause-grown c =
 pub loop-preserved : goal.loop-preserved
 loop-preserved c =
     so_far c.args.self.now c.loop.self c.skip_reported.new.self c.args.found.now c.loop.found c.skip_reported.new.found
-    c.requires.placed c.loop.invariant
-    (subst
+    c.loop.invariant (subst
     (λ (b : Bool). SkipsReported c.loop.self c.loop.found b c.skip_reported.new.self c.skip_reported.new.found)
-    c.if-branch.true c.in_ok-skip_reported.ensures.ok) c.in_ok-skip_reported.ensures.placed
-    c.skip_reported.ensures.grown
+    c.if-branch.true c.in_ok-skip_reported.ensures.ok) c.skip_reported.ensures.grown

@@ -1,3 +1,4 @@
+use Rattle.js_source.proofs.Places.{back_at}
 use Rattle.std.proofs.Common.{refl, ◌∙◌, [], ◌∷◌}
 use Rattle.js_grammar.specs.GapItems.{comment}
 use Rattle.js_reader.proofs.BlockSteps.{block_marked, block_skipped, block_unlicensed, no_block, no_block_end}
@@ -23,8 +24,7 @@ add_searched_comment-requires-clause-placed c =
     rw (same, c.offset-start.ensures.place, c.offset-end.ensures.place, c.block_kind-kind.ensures)
     (placed_in _ _ _ _ _ _ _
     (block_marked c.args.self.now.source c.advance_if_sequence.new.source c.skip_block.new.source
-    c.in-Some.block.line_has_ended c.in-Some.block.is_plain c.requires.placed c.offset-end.ensures.placed takes
-    c.skip_block.ensures.text c.in-Some.ensures.cut))
+    c.in-Some.block.line_has_ended c.in-Some.block.is_plain takes c.skip_block.ensures.text c.in-Some.ensures.cut))
 
 pub add_searched_comment-requires-clause-licensed : goal.add_searched_comment-requires-clause-licensed
 add_searched_comment-requires-clause-licensed c =
@@ -32,7 +32,7 @@ add_searched_comment-requires-clause-licensed c =
     let same = c.whole-text.ensures.text ∙ c.skip_block.ensures.text ∙ takes.0 in
     rw (same, c.offset-start.ensures.place, c.offset-end.ensures.place, c.block_kind-kind.ensures)
     (block_unlicensed c.args.self.now.source c.advance_if_sequence.new.source c.skip_block.new.source
-    c.in-Some.block.line_has_ended c.in-Some.block.is_plain c.requires.placed c.offset-end.ensures.placed takes
+    c.in-Some.block.line_has_ended c.in-Some.block.is_plain takes
     c.skip_block.ensures.text c.in-Some.ensures.cut c.in-Some.ensures.plain)
 
 pub returns-in_err-add_searched_comment-in-Some-clause-grown
@@ -45,8 +45,7 @@ returns-in_ok-add_searched_comment-in-Some-clause-ok c =
     let takes = c.if-not-advance_if_sequence.ensures in
     let same = c.whole-text.ensures.text ∙ c.skip_block.ensures.text ∙ takes.0 in
     block_skipped c.args.self.now c.args.found.now c.advance_if_sequence.new.source _ _
-    c.in-Some.block.line_has_ended c.in-Some.block.is_plain c.requires.placed c.offset-end.ensures.placed takes
-    c.skip_block.ensures.text c.in-Some.ensures.cut refl
+    c.in-Some.block.line_has_ended c.in-Some.block.is_plain takes c.skip_block.ensures.text c.in-Some.ensures.cut refl
     c.either-self.ensures
     (rw (same, c.offset-start.ensures.place, c.offset-end.ensures.place, c.block_kind-kind.ensures)
     at c.in_ok-add_searched_comment-in-Some.ensures.ok)
@@ -61,8 +60,8 @@ returns-in-None-clause-ok c =
     let takes = c.if-not-advance_if_sequence.ensures in (
       record {
         source =
-            c.set_position.ensures
-            ∙ rw (c.skip_block.ensures.text, takes.0, c.position-position.ensures.place) refl;
+            back_at c.args.self.now.source c.skip_block.new.source c.set_position.new.self c.position-position.result
+            c.set_position.ensures (c.skip_block.ensures.text ∙ takes.0) c.position-position.ensures.place;
         stays = record { source_type = refl; line_has_ended = refl };
       },
       refl,

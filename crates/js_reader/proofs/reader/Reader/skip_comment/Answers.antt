@@ -7,8 +7,8 @@ use Rattle.js_reader.proofs.LineSteps.{at_line_end, slashes, line_skipped}
 use Rattle.js_reader.proofs.TriviaSteps.{grows_on}
 use Rattle.js_reader.proofs.reader.Reader.skip_comment.Goals as goal
 
-pub skip_end_of_line-requires-clause-end : goal.skip_end_of_line-requires-clause-end
-skip_end_of_line-requires-clause-end c =
+pub skip_end_of_line-requires : goal.skip_end_of_line-requires
+skip_end_of_line-requires c =
     at_line_end Line c.args.self.now c.args.found.now c.skip_opened_line.new.self c.skip_opened_line.new.found
     (subst (λ (b : Bool). SkipsOpenedLine Line c.args.self.now c.args.found.now b c.skip_opened_line.new.self
     c.skip_opened_line.new.found) c.if-branch.true c.in_ok-skip_opened_line.ensures.ok)
@@ -20,8 +20,8 @@ returns-then-branch-clause-ok c =
     c.skip_opened_line.new.found) c.if-branch.true c.in_ok-skip_opened_line.ensures.ok in
     line_skipped c.args.self.now c.args.found.now c.skip_opened_line.new.self c.skip_opened_line.new.found
     c.skip_end_of_line.new.self c.skip_end_of_line.new.found
-    (slashes c.args.self.now c.args.found.now c.skip_opened_line.new.self c.skip_opened_line.new.found c.requires.placed
-    c.in_ok-skip_opened_line.ensures.placed line) c.skip_end_of_line.ensures.ends c.skip_end_of_line.ensures.placed
+    (slashes c.args.self.now c.args.found.now c.skip_opened_line.new.self c.skip_opened_line.new.found
+    line) c.skip_end_of_line.ensures.ends
 
 pub returns-then-branch-clause-grown : goal.returns-then-branch-clause-grown
 returns-then-branch-clause-grown c =

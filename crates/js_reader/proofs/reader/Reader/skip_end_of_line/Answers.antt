@@ -6,8 +6,8 @@ use Rattle.js_reader.proofs.reader.Reader.skip_end_of_line.Goals as goal
 
 pub returns-in-Some-clause-ends : goal.returns-in-Some-clause-ends
 returns-in-Some-clause-ends c =
-    end_of_line c.args.self.now c.args.found.now c.next_char.new.self _ _ c.requires.placed c.next_char.ensures.placed
-    c.in-Some.ensures.some c.requires.end c.handle_newline.ensures
+    end_of_line c.args.self.now c.args.found.now c.next_char.new.self _ _
+    c.in-Some.ensures.some c.requires c.handle_newline.ensures
 
 pub returns-in-Some-clause-grown : goal.returns-in-Some-clause-grown
 returns-in-Some-clause-grown c = grows_by c.args.found.now _ (line_end ∷ []) c.handle_newline.ensures

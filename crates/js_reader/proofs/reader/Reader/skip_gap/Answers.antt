@@ -8,14 +8,13 @@ pub loop-self-init : goal.loop-self-init
 loop-self-init c =
     let blanks = c.skip_blanks.ensures in
     record {
-      placed = blanks.placed;
       text = blanks.text;
       source_type = refl;
       leads =
           leads_to c.args.self.now (record c.args.self.now { source = c.skip_blanks.new.source }) _
           c.args.found.now c.args.found.now
           (blanks_lead c.args.self.now.tables.blanks c.args.self.now.tables.gap_blanks c.args.self.now
-          c.skip_blanks.new.source c.args.found.now c.requires blanks.placed blanks.text blanks.run)
+          c.skip_blanks.new.source c.args.found.now blanks.text blanks.run)
           (record { source = refl; stays = record { source_type = refl; line_has_ended = refl } });
       grown = grows_none c.args.found.now;
     }
@@ -37,10 +36,9 @@ loop-self-preserved c =
     (record c.skip_piece.new.self { source = c.skip_blanks-in-loop-self.new.source }) _
     c.skip_piece.new.found c.skip_piece.new.found
     (blanks_lead c.skip_piece.new.self.tables.blanks c.skip_piece.new.self.tables.gap_blanks c.skip_piece.new.self
-    c.skip_blanks-in-loop-self.new.source c.skip_piece.new.found some.placed blanks.placed blanks.text blanks.run)
+    c.skip_blanks-in-loop-self.new.source c.skip_piece.new.found blanks.text blanks.run)
     (record { source = refl; stays = record { source_type = refl; line_has_ended = refl } }) in
     record {
-      placed = blanks.placed;
       text = blanks.text ∙ some.text ∙ inv.text;
       source_type = some.source_type ∙ inv.source_type;
       leads = λ later found s. inv.leads later found (some.leads later found (passes later found s));

@@ -7,7 +7,7 @@ pub returns-then-is_module-clause-ok : goal.returns-then-is_module-clause-ok
 returns-then-is_module-clause-ok c = (
   record { source = refl; stays = record { source_type = refl; line_has_ended = refl } },
   refl,
-  no_close_in_module c.args.self.now c.requires.next (sym c.is_module.ensures ∙ c.if-is_module.true),
+  no_close_in_module c.args.self.now c.requires (sym c.is_module.ensures ∙ c.if-is_module.true),
 )
 
 pub returns-then-is_module-clause-grown : goal.returns-then-is_module-clause-grown
@@ -17,7 +17,7 @@ pub returns-then-not-self-clause-ok : goal.returns-then-not-self-clause-ok
 returns-then-not-self-clause-ok c = (
   record { source = refl; stays = record { source_type = refl; line_has_ended = refl } },
   refl,
-  no_close_in_line c.args.self.now c.requires.next c.if-not-self.true,
+  no_close_in_line c.args.self.now c.requires c.if-not-self.true,
 )
 
 pub returns-then-not-self-clause-grown : goal.returns-then-not-self-clause-grown
@@ -25,4 +25,4 @@ returns-then-not-self-clause-grown c = grows_none c.args.found.now
 
 pub skip_html_comment-requires-clause-is : goal.skip_html_comment-requires-clause-is
 skip_html_comment-requires-clause-is c =
-    close_only c.args.self.now c.requires.next (sym c.is_module.ensures ∙ c.if-is_module.false) c.if-not-self.false
+    close_only c.args.self.now c.requires (sym c.is_module.ensures ∙ c.if-is_module.false) c.if-not-self.false

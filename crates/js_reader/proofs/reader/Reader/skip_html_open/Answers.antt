@@ -7,7 +7,7 @@ pub returns-then-is_module-clause-ok : goal.returns-then-is_module-clause-ok
 returns-then-is_module-clause-ok c = (
   record { source = refl; stays = record { source_type = refl; line_has_ended = refl } },
   refl,
-  no_open_in_module c.args.self.now c.requires.next (sym c.is_module.ensures ∙ c.if-is_module.true),
+  no_open_in_module c.args.self.now c.requires (sym c.is_module.ensures ∙ c.if-is_module.true),
 )
 
 pub returns-then-is_module-clause-grown : goal.returns-then-is_module-clause-grown
@@ -15,4 +15,4 @@ returns-then-is_module-clause-grown c = grows_none c.args.found.now
 
 pub skip_html_comment-requires-clause-is : goal.skip_html_comment-requires-clause-is
 skip_html_comment-requires-clause-is c =
-    open_only c.args.self.now c.requires.next (sym c.is_module.ensures ∙ c.if-is_module.false)
+    open_only c.args.self.now c.requires (sym c.is_module.ensures ∙ c.if-is_module.false)

@@ -6,9 +6,8 @@ use Rattle.js_reader.proofs.reader.Reader.skip_line_feed.Goals as goal
 
 pub returns-clause-skips : goal.returns-clause-skips
 returns-clause-skips c =
-    line_feed_skipped c.args.self.now c.args.found.now c.next_ascii.new.self _ c.requires.placed
-    c.next_ascii.ensures.placed c.next_ascii.ensures.reads.text c.next_ascii.ensures.reads.here
-    c.handle_newline.ensures
+    line_feed_skipped c.args.self.now c.args.found.now c.next_ascii.new.self _
+    c.next_ascii.ensures.reads.text c.next_ascii.ensures.reads.here c.handle_newline.ensures
 
 pub returns-clause-grown : goal.returns-clause-grown
 returns-clause-grown c = grows_by c.args.found.now _ (line_end ∷ []) c.handle_newline.ensures

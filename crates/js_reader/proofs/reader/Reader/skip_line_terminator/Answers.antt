@@ -11,8 +11,7 @@ pub list_if-requires : goal.list_if-requires
 list_if-requires c =
     let after = behind c.args.c c.args.self.now.source c.next_char.new.self c.requires.next c.next_char.ensures.past in
     rw (c.new-span.ensures, c.offset-start.ensures.place, c.offset.ensures.place)
-    (character_on c.args.self.now.source c.next_char.new.self c.args.c c.requires.placed c.next_char.ensures.placed
-    after.0 after.1)
+    (character_on c.args.self.now.source c.next_char.new.self c.args.c after.0 after.1)
 
 pub returns-in_err-list_if-clause-grown : goal.returns-in_err-list_if-clause-grown
 returns-in_err-list_if-clause-grown c = grows_by c.args.found.now _ [] c.in_err-list_if.ensures.err
@@ -28,9 +27,8 @@ returns-clause-ok c =
       c.offset.ensures.place,
     ) at c.in_ok-list_if.ensures.ok in
     some_skipped c.args.self.now c.args.found.now _ _
-    (line_end_skipped c.args.self.now c.args.found.now c.next_char.new.self c.args.c c.requires.placed
-    c.next_char.ensures.placed after.0 after.1 _ _ c.requires.dark c.requires.ends
-    (c.handle_newline.ensures ∙ ap handle_newline listed)) c.next_char.ensures.placed
+    (line_end_skipped c.args.self.now c.args.found.now c.next_char.new.self c.args.c
+    after.0 after.1 _ _ c.requires.dark c.requires.ends (c.handle_newline.ensures ∙ ap handle_newline listed))
 
 pub returns-clause-grown : goal.returns-clause-grown
 returns-clause-grown c =

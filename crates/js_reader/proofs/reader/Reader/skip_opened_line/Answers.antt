@@ -14,17 +14,16 @@ add_searched_comment-requires-clause-placed c =
     let same = c.whole-text.ensures.text ∙ c.skip_line-is_plain.ensures.text ∙ takes.0 in
     rw (same, c.offset-start.ensures.place, c.offset-end.ensures.place)
     (placed_in _ _ _ _ _ _ _
-    (line_marked c.args.kind c.requires.kind c.args.self.now.source c.advance_if_sequence.new.source
-    c.skip_line-is_plain.new.source c.requires.placed c.offset-end.ensures.placed takes
-    c.skip_line-is_plain.ensures.text c.skip_line-is_plain.ensures.rest))
+    (line_marked c.args.kind c.requires c.args.self.now.source c.advance_if_sequence.new.source
+    c.skip_line-is_plain.new.source takes c.skip_line-is_plain.ensures.text c.skip_line-is_plain.ensures.rest))
 
 pub add_searched_comment-requires-clause-licensed : goal.add_searched_comment-requires-clause-licensed
 add_searched_comment-requires-clause-licensed c =
     let takes = rw c.opening_sequence.ensures at c.if-not-advance_if_sequence.ensures in
     let same = c.whole-text.ensures.text ∙ c.skip_line-is_plain.ensures.text ∙ takes.0 in
     rw (same, c.offset-start.ensures.place, c.offset-end.ensures.place)
-    (line_unlicensed c.args.kind c.requires.kind c.args.self.now.source c.advance_if_sequence.new.source
-    c.skip_line-is_plain.new.source c.requires.placed c.offset-end.ensures.placed takes
+    (line_unlicensed c.args.kind c.requires c.args.self.now.source c.advance_if_sequence.new.source
+    c.skip_line-is_plain.new.source takes
     c.skip_line-is_plain.ensures.text c.skip_line-is_plain.ensures.rest c.skip_line-is_plain.result
     c.skip_line-is_plain.ensures.plain)
 
@@ -36,9 +35,8 @@ pub returns-clause-ok : goal.returns-clause-ok
 returns-clause-ok c =
     let takes = rw c.opening_sequence.ensures at c.if-not-advance_if_sequence.ensures in
     let same = c.whole-text.ensures.text ∙ c.skip_line-is_plain.ensures.text ∙ takes.0 in
-    behind_line c.args.kind c.requires.kind c.args.self.now c.args.found.now c.advance_if_sequence.new.source _ _
-    c.requires.placed c.offset-end.ensures.placed takes c.skip_line-is_plain.ensures.text
-    c.skip_line-is_plain.ensures.rest refl refl
+    behind_line c.args.kind c.requires c.args.self.now c.args.found.now c.advance_if_sequence.new.source _ _
+    takes c.skip_line-is_plain.ensures.text c.skip_line-is_plain.ensures.rest refl refl
     (rw (same, c.offset-start.ensures.place, c.offset-end.ensures.place) at c.in_ok-add_searched_comment.ensures.ok)
 
 pub returns-clause-grown : goal.returns-clause-grown

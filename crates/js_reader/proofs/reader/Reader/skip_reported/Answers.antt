@@ -25,8 +25,8 @@ returns-in_err-push-clause-err c =
     rw p.1
     (stays c.args.self.now _ line.text line.stays.source_type)
 
-pub skip_end_of_line-requires-clause-end : goal.skip_end_of_line-requires-clause-end
-skip_end_of_line-requires-clause-end c =
+pub skip_end_of_line-requires : goal.skip_end_of_line-requires
+skip_end_of_line-requires c =
     at_line_end HtmlOpen c.args.self.now c.args.found.now c.skip_opened_line.new.self c.skip_opened_line.new.found
     (subst (λ (b : Bool). SkipsOpenedLine HtmlOpen c.args.self.now c.args.found.now b c.skip_opened_line.new.self
     c.skip_opened_line.new.found) c.if-not-branch.false c.in_ok-skip_opened_line.ensures.ok)
@@ -49,7 +49,6 @@ returns-clause-ok c =
     c.skip_opened_line.new.found) c.if-not-branch.false c.in_ok-skip_opened_line.ensures.ok in
     reported_skips c.args.self.now c.args.found.now c.skip_opened_line.new.self _ c.skip_opened_line.new.found
     (record c.skip_opened_line.new.found { errors = c.push.new.self }) c.skip_gap.new.self c.skip_gap.new.found
-    c.requires c.in_ok-skip_opened_line.ensures.placed
     (sym c.is_module.ensures ∙ c.if-not-is_module.false) c.if-not-self.false line refl refl refl
     (ap (λ ds. record c.skip_opened_line.new.found { errors = ds })
     (c.in_ok-push.ensures.ok

@@ -10,8 +10,7 @@ returns-then-is_none_reported-clause-ok c =
 pub returns-in-Ok-clause-ok : goal.returns-in-Ok-clause-ok
 returns-in-Ok-clause-ok c =
     whole_behind c.args.self.now c.skip_gap.new.self c.skip_all_reported.new.self c.args.found.now c.skip_gap.new.found
-    c.skip_all_reported.new.found c.requires c.in_ok-skip_gap.ensures.placed c.in_ok-skip_gap.ensures.ok
-    c.in-Ok.ensures.ok
+    c.skip_all_reported.new.found c.in_ok-skip_gap.ensures.ok c.in-Ok.ensures.ok
 
 pub returns-in-Ok-clause-grown : goal.returns-in-Ok-clause-grown
 returns-in-Ok-clause-grown c =

@@ -8,5 +8,8 @@ returns-clause-characters c =
     rw (← c.self.view_is) (
       λ t. let e : c.self.inside.place ≡ length c.self.inside.text.now = search (rules, tests) in
           ap (from_place c.self.inside.text.now) e ∙ nothing_at_end c.self.inside.text.now,
-      λ e. let there = at_end_only _ _ c.self.invariant.utf8 c.self.invariant.boundary e in search (rules, tests),
+      λ e. let there = at_end_only _ _ c.self.inside.placed.utf8 c.self.inside.placed.boundary e in search (
+        rules,
+        tests,
+      ),
     )

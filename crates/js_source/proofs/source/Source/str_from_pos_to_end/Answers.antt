@@ -6,5 +6,5 @@ pub returns-clause-characters : goal.returns-clause-characters
 returns-clause-characters c =
     rw (← c.self.view_is, ← c.pos.view_is) (
     c.range_from.ensures.value
-    ∙ sym (bytes_from _ _ c.self.invariant.utf8 (rw (← c.self.view_is, ← c.pos.view_is) at c.requires))
+    ∙ sym (bytes_from _ _ c.self.inside.placed.utf8 (rw (← c.self.view_is, ← c.pos.view_is) at c.requires))
     )
