@@ -1,15 +1,10 @@
--- What the table of notable kinds tells, and what is known behind a last token of another kind.
-use Rattle.std.proofs.Common.{◌≡◌, ◌==◌, Bool, true, false, List, ◌∷◌, map, refl, sym, ◌∙◌, ap, Option, Some, None}
-use Rattle.std.specs.Option.{option_map}
-use Rattle.std.specs.Prelude.{slice_get, slice_index_or}
+-- What is known behind a last token that is not of a notable kind.
+use Rattle.std.proofs.Common.{◌≡◌, ◌==◌, Bool, true, false, List, ◌∷◌, refl, sym, ap, Option, Some, None}
 use Rattle.std.proofs.lemmas.Bool.{or_parts}
-use Rattle.std.proofs.lemmas.Option.{slice_get-map}
 use Rattle.js_kind.specs.Kinds.{is_one_of, number}
 use Rattle.js_kind.specs.Predicates.{is_eof}
 use Rattle.js_kind.specs.declared.kind.Kind.{Kind}
 use Rattle.js_kind.specs.declared.kind.Kind.TheVariants.{Eof, LCurly, RCurly, TemplateHead, TemplateTail}
-use Rattle.js_kind.specs.declared.kind.TheConstants.Kind.{VARIANTS}
-use Rattle.js_kind.proofs.KindNumbers.{kind_at_number}
 use Rattle.js_grammar.specs.ReLexed.{again_kinds}
 use Rattle.js_grammar.specs.declared.goal.Goal.TheVariants.{RegularExpression}
 use Rattle.js_session.specs.declared.command.Command.TheVariants.{Next}
@@ -17,25 +12,7 @@ use Rattle.js_auto.specs.declared.brace.Brace.{Brace}
 use Rattle.js_auto.specs.declared.brace.BraceEffect.TheVariants.{Leaves}
 use Rattle.js_auto.specs.Braces.{after_effect, effect_of, open_behind}
 use Rattle.js_auto.specs.Choice.{Chooser, choice_behind, kept_last}
-use Rattle.js_auto.specs.Notable.{TellsNotable, is_notable, notable_kinds}
-
--- What a test tells of a kind stands at its number in the list of what it tells of all.
-at_number : (test : Kind → Bool) (kind : Kind) → slice_get (map test VARIANTS) (number kind) ≡ Some (test kind)
-at_number test kind = slice_get-map test VARIANTS (number kind) ∙ ap (option_map test) (kind_at_number kind)
-
--- A table that computes tells of each kind whether it is notable.
-pub tells_notable : (table : List Bool)
-    → map (λ kind. slice_index_or table (number kind) false) VARIANTS ≡ map (is_one_of notable_kinds) VARIANTS
-    → TellsNotable table
-tells_notable table all =
-    record {
-      tells = λ kind.
-          let in_table = at_number (λ k. slice_index_or table (number k) false) kind in
-          let is = at_number (is_one_of notable_kinds) kind in
-          let same : Some (slice_index_or table (number kind) false) ≡ Some (is_one_of notable_kinds kind) =
-          sym in_table ∙ (ap (λ xs. slice_get xs (number kind)) all ∙ is)
-          in cc;
-    }
+use Rattle.js_auto.specs.Notable.{is_notable, notable_kinds}
 
 -- the kinds of tokens that are read again as regular expressions
 abbrev slashes : List Kind

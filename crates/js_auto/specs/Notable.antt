@@ -1,6 +1,6 @@
 -- The kinds of tokens that change what the choice of goals does next.
-use Rattle.std.specs.Prelude.{◌≡◌, Bool, false, List, ◌∷◌, slice_index_or, Option, Some, None}
-use Rattle.js_kind.specs.Kinds.{is_one_of, number}
+use Rattle.std.specs.Prelude.{Bool, false, List, ◌∷◌, Option, Some, None}
+use Rattle.js_kind.specs.Kinds.{is_one_of}
 use Rattle.js_kind.specs.declared.kind.Kind.{Kind}
 use Rattle.js_kind.specs.declared.kind.Kind.TheVariants.{Eof, LCurly, RCurly, TemplateHead, TemplateTail}
 use Rattle.js_grammar.specs.ReLexed.{again_kinds}
@@ -14,7 +14,3 @@ notable_kinds = Eof ∷ LCurly ∷ RCurly ∷ TemplateHead ∷ TemplateTail ∷ 
 abbrev pub is_notable : Option Kind → Bool
 is_notable None = false
 is_notable (Some kind) = is_one_of notable_kinds kind
-
--- The table tells of each kind, at the place of its number, whether it is notable.
-pub record TellsNotable (table : List Bool) : Type 0 where
-  pub tells : (kind : Kind) → slice_index_or table (number kind) false ≡ is_one_of notable_kinds kind

@@ -2,7 +2,8 @@
 
 ghost use Rattle.std.specs.Prelude.{◌≡◌};
 ghost use Rattle.js_kind.specs.Kinds.{is_one_of};
-ghost use Rattle.js_auto.specs.Notable.{TellsNotable, notable_kinds};
+ghost use Rattle.js_choose.specs.KindTables.{TellsKinds};
+ghost use Rattle.js_auto.specs.Notable.{notable_kinds};
 
 use js_kind::{Kind, Token};
 use js_source::of_each_byte;
@@ -25,7 +26,7 @@ static NOTABLE: [bool; 256] = of_each_byte!(is_notable);
 
 /// The table of notable kinds. It has an entry for each `u8`, and so needs no test of the number.
 fn notable() -> &'static [bool; 256]
-    ensures { TellsNotable result.now }
+    ensures { TellsKinds (is_one_of notable_kinds) result.now }
 {
     &NOTABLE
 }
@@ -34,7 +35,7 @@ fn notable() -> &'static [bool; 256]
 #[derive(Drop)]
 pub(crate) struct NotableKinds {
     table: [bool; 256],
-    ghost told: { TellsNotable table },
+    ghost told: { TellsKinds (is_one_of notable_kinds) table },
 }
 
 impl NotableKinds {

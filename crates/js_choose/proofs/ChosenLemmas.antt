@@ -87,7 +87,8 @@ run_some : (text : List ℕ) (t : SourceType) (s : State) (c : Command) (cs : Li
 run_some text t s c cs e h =
     subst (λ b. MatchBool b ⊥ (HasMark c s × Run text t (after_mark (effect_of c) s) cs [])) e h
 
-chosen_from : (choice : Choice) → ChoosesSteps choice → (text : List ℕ) (t : SourceType) (s : State)
+-- Rows that answer commands which are chosen, as lists know it, are chosen one after the other.
+pub chosen_from : (choice : Choice) → ChoosesSteps choice → (text : List ℕ) (t : SourceType) (s : State)
     (commands : List Command) (rows : List Row)
     → Run text t s commands rows
     → ((index : ℕ) (command : Command) → slice_get commands index ≡ Some command

@@ -1,5 +1,6 @@
 pub mod AtEnd
 pub mod Causes
 pub mod ChosenLemmas
+pub mod KindTables
 pub mod LastTokenLemmas
 pub mod SessionLemmas

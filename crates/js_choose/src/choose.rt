@@ -1,4 +1,4 @@
-//! Choosers.
+//! Choosers: each is told the tokens of a text, one by one, and says which command comes next.
 
 ghost use Rattle.std.specs.Prelude.{◌≡◌, ℕ, List, [], ◌∷◌, ◌++◌, Option, Some, OnOk, OnErr};
 ghost use Rattle.js_text.specs.Lists.{with_last};

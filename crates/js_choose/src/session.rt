@@ -104,31 +104,8 @@ fn choose_all<C: LexerConfig + Drop, G: ChooseGoals, L: Ledger>(
     Ok(commands)
 }
 
-/// The commands that are chosen for a text, and the report of a session with them.
-fn choose_text<G: ChooseGoals, L: Ledger>(
-    alloc: Global,
-    text: &str,
-    source_type: SourceType,
-    tokens: bool,
-    steps: &mut Steps<L>,
-) -> Result<Chosen, AllocError>
-    requires short { length text.now < 2 ^ 32 }
-    ensures { IfOk result (λ chosen.
-        ReportBy G.choice text.now source_type tokens chosen.commands chosen.report) }
-{
-    let config = RuntimeLexerConfig::new(tokens);
-    let mut session = match Session::begin(alloc, text, source_type, config, steps) {
-        Ok(session) => session,
-        Err(_) => return Err(AllocError),
-    };
-    let commands = choose_all::<RuntimeLexerConfig, G, L>(alloc, text, &mut session, steps)?;
-    Ok(Chosen {
-        commands,
-        report: session.finish(),
-    })
-}
-
-/// The same, where the source is tested first, over a counter that nobody reads.
+/// The commands that are chosen for a source, which is tested first, and the report of a session with them, over a
+/// counter that nobody reads.
 fn choose_uncounted<G: ChooseGoals, L: Ledger>(
     alloc: Global,
     source: &[u8],
@@ -148,9 +125,17 @@ fn choose_uncounted<G: ChooseGoals, L: Ledger>(
         Ok(text) => text,
         Err(fault) => return Err(fault_of(fault)),
     };
+    let config = RuntimeLexerConfig::new(tokens);
     let mut steps = Steps::<L>::new(blank);
-    match choose_text::<G, L>(alloc, text, source_type, tokens, &mut steps) {
-        Ok(chosen) => Ok(chosen),
+    let mut session = match Session::begin(alloc, text, source_type, config, &mut steps) {
+        Ok(session) => session,
+        Err(_) => return Err(ChoiceFault::Memory),
+    };
+    match choose_all::<RuntimeLexerConfig, G, L>(alloc, text, &mut session, &mut steps) {
+        Ok(commands) => Ok(Chosen {
+            commands,
+            report: session.finish(),
+        }),
         Err(_) => Err(ChoiceFault::Memory),
     }
 }

@@ -17,6 +17,7 @@ use Rattle.js_session.specs.declared.command.Effect.{Effect}
 use Rattle.js_session.specs.declared.command.Effect.TheVariants.{Reads, ReLexes}
 use Rattle.js_session.specs.RowReader.{AddsLive, RowReaderState}
 use Rattle.js_session.specs.Session.{AddsRow, SessionState, report_of}
+use Rattle.js_session.specs.RowReader.{ReadsAgainAs}
 use Rattle.js_session.specs.declared.command.Command.{Command}
 use Rattle.js_session.specs.declared.row.Row.{Row}
 use Rattle.js_session.proofs.StepLemmas.{first_added, order_added, seen}
@@ -24,12 +25,11 @@ use Rattle.js_choose.specs.Rules.{IsDue, IsRule, ReportBy, Rule}
 use Rattle.js_choose.specs.Rules.IsDue.{reads_on, reads_again}
 use Rattle.js_choose.proofs.ChosenLemmas.{due_is_step}
 use Rattle.js_choose.proofs.SessionLemmas.{Goes, goes_end, goes_less, goes_on, goes_start, left_from, left_of}
-use Rattle.js_lists.specs.Drive.{Drives, Follows, FollowsAgain, FollowsOn, HandsOver, IsHeld, MayFollow}
-use Rattle.js_lists.specs.Drive.{ReadsAgainAs, TakesTokens}
+use Rattle.js_lists.specs.Drive.{Drives, Follows, FollowsAgain, FollowsOn, HandsOver, IsHeld, MayFollow, TakesTokens}
 use Rattle.js_lists.specs.LiveLists.{TakesChosen, taken_of}
 use Rattle.js_lists.specs.LiveRows.{live_rows}
 use Rattle.js_lists.specs.Taken.{Taken, TakesEach}
-use Rattle.js_lists.specs.declared.step.LastRead.{LastRead}
+use Rattle.js_session.specs.declared.re_lex.LastRead.{LastRead}
 use Rattle.js_lists.proofs.DriveLemmas.{StepsTo, drives_seen, handed_row, held_row, step_again, step_on}
 use Rattle.js_lists.proofs.ReaderSteps.{HoldsLast, fresh_in_order}
 use Rattle.js_lists.proofs.LiveLemmas.{live_tokens}

@@ -28,10 +28,11 @@ use Rattle.js_session.specs.declared.command.Command.TheVariants.{Mark, Rewind, 
 use Rattle.js_session.specs.declared.row.Row.{Row}
 use Rattle.js_session.proofs.LiveLemmas.{same_live}
 use Rattle.js_session.proofs.StepLemmas.{in_order_lies, seen}
-use Rattle.js_lists.specs.Drive.{Drives, HandsOver, IsHeld, ReadsAgainAs}
+use Rattle.js_session.specs.RowReader.{ReadsAgainAs}
+use Rattle.js_lists.specs.Drive.{Drives, HandsOver, IsHeld}
 use Rattle.js_lists.specs.LiveLists.{taken_of}
 use Rattle.js_lists.specs.Taken.{Taken}
-use Rattle.js_lists.specs.declared.step.LastRead.{LastRead}
+use Rattle.js_session.specs.declared.re_lex.LastRead.{LastRead}
 use Rattle.js_lists.proofs.ReaderSteps.{HoldsLast, StepsLive, reader_with, reads_again, reads_on, row_added}
 
 pub same_state : (a b : State) → a.now ≡ b.now → a.marks ≡ b.marks → a ≡ b

@@ -33,14 +33,14 @@ use Rattle.js_session.proofs.RunLemmas.{Progress, command_at, has_mark, progress
 use Rattle.js_session.proofs.RunLemmas.{progress_reserved, progress_start}
 use Rattle.js_session.proofs.StepLemmas.{IsBack, commit_is, first_added, length_marks, mark_is, may_rewind, order_added}
 use Rattle.js_session.proofs.StepLemmas.{order_commit, order_mark, order_rewind, rewind_is, seen}
-use Rattle.js_lists.specs.Drive.{ReadsIfFits}
+use Rattle.js_session.specs.RowReader.{ReadsIfFits}
 use Rattle.js_lists.specs.LiveLists.{taken_of}
 use Rattle.js_lists.specs.LiveRows.{RowState, live_rows, with_mark, with_row}
 use Rattle.js_lists.specs.Steps.{AreHeld, ClosesMark, FollowsCommand, GoesBack, HandsEach, LooksAhead, MayGoBack}
 use Rattle.js_lists.specs.Steps.{OpensMark, ReadsAgain, ReadsOn, TakesSteps, mark_of}
 use Rattle.js_lists.specs.Taken.{Taken, TakesEach}
 use Rattle.js_lists.specs.declared.pending.Pending.{Pending}
-use Rattle.js_lists.specs.declared.step.LastRead.{LastRead}
+use Rattle.js_session.specs.declared.re_lex.LastRead.{LastRead}
 use Rattle.js_lists.proofs.LiveLemmas.{live_tokens}
 use Rattle.js_lists.proofs.LiveSoFar.{LiveSoFar, live_end, live_first, live_mark, live_step, unmarked}
 use Rattle.js_lists.proofs.PendingLemmas.{marks_length}

@@ -12,7 +12,7 @@ use Rattle.js_lists.specs.Steps.{ClosesMark, HandsEach, OpensMark, Settles, mark
 use Rattle.js_lists.specs.Taken.{BreaksOff, Taken, TakesEach}
 use Rattle.js_lists.specs.declared.pending.OpenMark.{OpenMark}
 use Rattle.js_lists.specs.declared.pending.Pending.{Pending}
-use Rattle.js_lists.specs.declared.step.LastRead.{LastRead}
+use Rattle.js_session.specs.declared.re_lex.LastRead.{LastRead}
 use Rattle.js_lists.proofs.TakenLemmas.{breaks_behind, breaks_here}
 
 -- one more token was handed over

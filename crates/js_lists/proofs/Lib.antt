@@ -1,13 +1,11 @@
 pub mod Causes
 pub mod ChosenLemmas
 pub mod DriveLemmas
-pub mod FitLemmas
 pub mod FollowLemmas
 pub mod HandedLemmas
 pub mod ListLemmas
 pub mod LiveLemmas
 pub mod LiveSoFar
-pub mod NameLemmas
 pub mod PendingLemmas
 pub mod PlainLemmas
 pub mod ReaderSteps

@@ -13,7 +13,7 @@ use Rattle.js_lists.specs.LiveLists.{taken_of}
 use Rattle.js_lists.specs.Steps.{HandsEach}
 use Rattle.js_lists.specs.Taken.{Taken, TakesEach}
 use Rattle.js_lists.specs.declared.pending.OpenMark.{OpenMark}
-use Rattle.js_lists.specs.declared.step.LastRead.{LastRead}
+use Rattle.js_session.specs.declared.re_lex.LastRead.{LastRead}
 use Rattle.js_lists.proofs.DriveLemmas.{handed_row, held_row}
 use Rattle.js_lists.proofs.ReaderSteps.{HoldsLast}
 

@@ -26,8 +26,8 @@ use Rattle.js_session.specs.RowReader.{not_taken}
 use Rattle.js_session.specs.Session.{AddsRow, SessionState}
 use Rattle.js_session.proofs.StepLemmas.{on_adds_row, order_added, order_peeked, order_re_lexed, peek_adds_row}
 use Rattle.js_session.proofs.StepLemmas.{re_lex_adds_row, seen}
-use Rattle.js_lists.specs.Drive.{ReadsAgainAs}
-use Rattle.js_lists.specs.declared.step.LastRead.{LastRead}
+use Rattle.js_session.specs.RowReader.{ReadsAgainAs}
+use Rattle.js_session.specs.declared.re_lex.LastRead.{LastRead}
 use Rattle.js_lists.proofs.RowLemmas.{holds_value, row_made, row_read, row_read_again}
 
 -- what is held back of the row of the last live token

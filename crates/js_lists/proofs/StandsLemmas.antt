@@ -12,7 +12,7 @@ use Rattle.js_lists.specs.Steps.{AreHeld, HandsEach, Settles}
 use Rattle.js_lists.specs.Taken.{Taken, TakesEach}
 use Rattle.js_lists.specs.declared.pending.OpenMark.{OpenMark}
 use Rattle.js_lists.specs.declared.pending.Pending.{Pending}
-use Rattle.js_lists.specs.declared.step.LastRead.{LastRead}
+use Rattle.js_session.specs.declared.re_lex.LastRead.{LastRead}
 use Rattle.js_lists.proofs.DriveLemmas.{held_row}
 use Rattle.js_lists.proofs.PendingLemmas.{HoldEach, HoldMarks, HoldsMark, LastMark, each_held, each_length, each_more}
 use Rattle.js_lists.proofs.PendingLemmas.{each_on, each_take, each_taken, holds_on, keeps_all, last_mark, marks_on, no_marks}

@@ -6,7 +6,7 @@ use Rattle.js_session.specs.declared.row.Row.{Row}
 use Rattle.js_lists.specs.Drive.{HandsOver}
 use Rattle.js_lists.specs.LiveLists.{taken_of}
 use Rattle.js_lists.specs.Taken.{BreaksOff, Taken, TakesEach}
-use Rattle.js_lists.specs.declared.step.LastRead.{LastRead}
+use Rattle.js_session.specs.declared.re_lex.LastRead.{LastRead}
 
 -- one more token was taken
 pub takes_more : {S : Type 0} (takes : S → Taken → S → Type 0) (xs : List Taken) (x : Taken) (old mid new : S)

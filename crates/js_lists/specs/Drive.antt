@@ -1,5 +1,5 @@
 -- A lexer that is driven by the goals that are chosen stands for a session, though no rows are made.
-use Rattle.std.specs.Prelude.{◌≡◌, ◌≤◌, ℕ, true, false, List, [], ◌∷◌, ◌++◌, map, Option, None, Some}
+use Rattle.std.specs.Prelude.{◌≡◌, ◌≤◌, ℕ, true, false, List, [], ◌∷◌, ◌++◌, map, None}
 use Rattle.std.specs.Str.{IsUtf8}
 use Rattle.js_text.specs.Lists.{with_last}
 use Rattle.js_text.specs.declared.source_type.SourceType.{SourceType}
@@ -13,10 +13,10 @@ use Rattle.js_grammar.specs.declared.goal.Goal.{Goal}
 use Rattle.js_grammar.specs.declared.goal.Goal.TheVariants.{First}
 use Rattle.js_kind.specs.Kinds.{is_template_kind}
 use Rattle.js_kind.specs.TokenParts.{TokenParts}
-use Rattle.js_lexer.specs.Lexer.{LexerState, LexesAgain, ReadsToken, token_or_default}
+use Rattle.js_lexer.specs.Lexer.{LexerState, ReadsToken, token_or_default}
 use Rattle.js_session.specs.Live.{last_live, place_behind_last}
 use Rattle.js_session.specs.Report.{all_collected}
-use Rattle.js_session.specs.RowReader.{HoldsValue, IsKept}
+use Rattle.js_session.specs.RowReader.{HoldsValue, IsKept, ReadsAgainAs}
 use Rattle.js_session.specs.Session.{LieOnPlaces, SessionState}
 use Rattle.js_session.specs.declared.command.Command.{Command}
 use Rattle.js_session.specs.declared.command.Effect.{Effect}
@@ -25,7 +25,7 @@ use Rattle.js_session.specs.declared.report.Report.{Report}
 use Rattle.js_choose.specs.Rules.{ReportBy, Rule}
 use Rattle.js_lists.specs.LiveLists.{live_found, live_taken}
 use Rattle.js_lists.specs.Taken.{Taken, TakesEach}
-use Rattle.js_lists.specs.declared.step.LastRead.{LastRead}
+use Rattle.js_session.specs.declared.re_lex.LastRead.{LastRead}
 
 -- The lexer stands for the session: it is behind the last live token, and has found what is live. No mark is open.
 pub record Drives (s : SessionState) (l : LexerState) : Type 0 where
@@ -39,17 +39,6 @@ pub record Drives (s : SessionState) (l : LexerState) : Type 0 where
   pub unmarked : s.state.marks ≡ []
   pub utf8 : IsUtf8 s.text
   pub places : LieOnPlaces s
-
--- The last token was read again, with this known of it as a regular expression.
-pub record ReadsAgainAs (goal : Goal) (old : LexerState) (last : LastRead) (new : LexerState) : Type 0 where
-  pub reads : LexesAgain goal old last.token new
-  pub regex : reads.outcome.regex ≡ last.regex
-
--- The last token was read again for the goal where it fits; else nothing has changed.
-abbrev pub ReadsIfFits : Goal → LexerState → Option LastRead → LexerState → Type 0
-ReadsIfFits goal old None new = (fits old.text goal (token_or_default old.last) ≡ false) × (new ≡ old)
-ReadsIfFits goal old (Some last) new =
-    (fits old.text goal (token_or_default old.last) ≡ true) × ReadsAgainAs goal old last new
 
 -- The token was taken, with the value that it has and with what is known of it as a regular expression.
 pub record HandsOver {S : Type 0} (takes : S → Taken → S → Type 0) (decoded : Values) (last : LastRead) (old new : S)

@@ -2,6 +2,5 @@ pub mod Drive
 pub mod Lists
 pub mod LiveLists
 pub mod LiveRows
-pub mod Names
 pub mod Steps
 pub mod Taken

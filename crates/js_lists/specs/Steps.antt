@@ -13,12 +13,13 @@ use Rattle.js_session.specs.declared.command.Command.{Command}
 use Rattle.js_session.specs.declared.command.Effect.{Effect}
 use Rattle.js_session.specs.declared.command.Effect.TheVariants.{Reads, Peeks, ReLexes, Opens, Rewinds, Commits}
 use Rattle.js_session.specs.declared.report.Report.{Report}
-use Rattle.js_lists.specs.Drive.{HandsOver, IsHeld, ReadsIfFits}
+use Rattle.js_session.specs.RowReader.{ReadsIfFits}
+use Rattle.js_lists.specs.Drive.{HandsOver, IsHeld}
 use Rattle.js_lists.specs.LiveLists.{live_found, live_taken}
 use Rattle.js_lists.specs.Taken.{Taken, TakesEach}
 use Rattle.js_lists.specs.declared.pending.OpenMark.{OpenMark}
 use Rattle.js_lists.specs.declared.pending.Pending.{Pending}
-use Rattle.js_lists.specs.declared.step.LastRead.{LastRead}
+use Rattle.js_session.specs.declared.re_lex.LastRead.{LastRead}
 
 -- All that waits, and the last token, may be handed over.
 pub record AreHeld (decoded : Values) (p : Pending) : Type 0 where

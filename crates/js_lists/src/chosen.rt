@@ -16,14 +16,14 @@ ghost use Rattle.js_lists.specs.Drive.{Follows, HandsOver, IsHeld, MayFollow, Ta
 use crate::config::DrivenLexerConfig;
 use crate::hand::{hand_over, take_findings};
 use crate::names::is_name;
-use crate::step::{LastRead, read_again, read_next, read_on};
+use crate::step::{read_again, read_next, read_on};
 use crate::take::{TakeTokens, TokenValue};
 use crate::value::unescaped_value;
 use js_choose::{ChoiceFault, ChooseGoals};
 use js_grammar::Goal;
 use js_kind::{LexerConfig, Token};
 use js_lexer::Lexer;
-use js_session::{Command, Effect, LexFault, utf8_text};
+use js_session::{Command, Effect, LastRead, LexFault, utf8_text};
 use js_text::SourceType;
 use std::alloc::{AllocError, Global};
 

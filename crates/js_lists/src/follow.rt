@@ -8,12 +8,12 @@ ghost use Rattle.js_lists.specs.Steps.{AreHeld, FollowsCommand, LooksAhead, MayG
 ghost use Rattle.js_lists.specs.Taken.{BreaksOff};
 
 use crate::pending::Pending;
-use crate::step::{LastRead, read_any, read_if_fits};
+use crate::step::read_any;
 use crate::take::TakeTokens;
 use js_grammar::Goal;
 use js_kind::LexerConfig;
 use js_lexer::Lexer;
-use js_session::{Command, Effect};
+use js_session::{Command, Effect, LastRead};
 use std::alloc::AllocError;
 
 /// Settles the last token, and reads the one behind it.
@@ -44,7 +44,7 @@ fn read_again<C: LexerConfig + Drop>(
     requires { lexer.old.place ≡ (token_or_default lexer.old.last).end }
     ensures { OnOk result (ReadsAgain goal lexer.old lexer.new pending.old pending.new) }
 {
-    let found = read_if_fits(lexer, goal)?;
+    let found = js_session::read_again(lexer, goal)?;
     match found {
         Some(last) => {
             pending.last = last;

@@ -3,11 +3,11 @@
 ghost use Rattle.std.specs.Prelude.{◌≡◌, IfOk, OnOk, OnErr};
 ghost use Rattle.js_lists.specs.Drive.{HandsOver, IsHeld};
 
-use crate::step::LastRead;
 use crate::take::TakeTokens;
 use crate::value::value_of;
 use js_kind::LexerConfig;
 use js_lexer::{Findings, Lexer};
+use js_session::LastRead;
 use js_text::{CommentList, SpanList};
 use std::alloc::{AllocError, Global};
 

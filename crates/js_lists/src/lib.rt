@@ -7,7 +7,6 @@ mod config;
 mod follow;
 mod hand;
 mod lists;
-mod marks;
 mod names;
 mod pending;
 mod step;

@@ -2,7 +2,7 @@
 
 ghost use Rattle.std.specs.Prelude.{◌≡◌};
 ghost use Rattle.js_kind.specs.Kinds.{is_identifier_name};
-ghost use Rattle.js_lists.specs.Names.{TellsNames};
+ghost use Rattle.js_choose.specs.KindTables.{TellsKinds};
 
 use js_kind::{Kind, Token};
 use js_source::of_each_byte;
@@ -20,7 +20,7 @@ static NAMES: [bool; 256] = of_each_byte!(is_name);
 
 /// The table of names. It has an entry for each `u8`, and so needs no test of the number.
 fn names() -> &'static [bool; 256]
-    ensures { TellsNames result.now }
+    ensures { TellsKinds is_identifier_name result.now }
 {
     &NAMES
 }

@@ -7,10 +7,10 @@ ghost use Rattle.js_lists.specs.Steps.{AreHeld, ClosesMark, GoesBack, HandsEach,
 ghost use Rattle.js_lists.specs.Taken.{BreaksOff};
 
 use crate::hand::hand_over;
-use crate::step::LastRead;
 use crate::take::TakeTokens;
 use js_kind::{LexerConfig, Token};
 use js_lexer::{Lexer, LexerCheckpoint};
+use js_session::LastRead;
 use js_text::ItemList;
 use std::alloc::{AllocError, Global};
 

@@ -1,26 +1,19 @@
 //! The readings of a lexer that is driven.
 
-ghost use Rattle.std.specs.Prelude.{◌≡◌, ◌++◌, true, List, [], ◌∷◌, Option, None, IfOk, OnOk};
+ghost use Rattle.std.specs.Prelude.{◌≡◌, ◌++◌, true, List, [], ◌∷◌, None, IfOk, OnOk};
 ghost use Rattle.js_text.specs.Lists.{with_last};
 ghost use Rattle.js_kind.specs.TokenParts.{TokenParts};
 ghost use Rattle.js_grammar.specs.Reads.{is_onward};
 ghost use Rattle.js_grammar.specs.ReLexed.{fits};
 ghost use Rattle.js_lexer.specs.Lexer.{ReadsToken, token_or_default};
-ghost use Rattle.js_lists.specs.Drive.{ReadsAgainAs, ReadsIfFits};
+ghost use Rattle.js_session.specs.RowReader.{ReadsAgainAs};
 
 use js_choose::ChooseGoals;
-use js_grammar::{Goal, spelled_length};
+use js_grammar::Goal;
 use js_kind::{LexerConfig, Token};
 use js_lexer::Lexer;
-use js_text::RegexInfo;
+use js_session::LastRead;
 use std::alloc::AllocError;
-
-/// The last token that was read, and what is known of it as a regular expression if it is one.
-#[derive(Clone, Copy)]
-pub(crate) struct LastRead {
-    pub token: Token,
-    pub regex: Option<RegexInfo>,
-}
 
 /// Reads a token of a goal that goes on, and is not the plain one, which is compiled apart.
 #[inline(never)]
@@ -99,92 +92,7 @@ pub(crate) fn read_next<C: LexerConfig + Drop, G: ChooseGoals>(
     Ok(())
 }
 
-/// Reads the last token again, as a regular expression.
-fn read_expression<C: LexerConfig + Drop>(lexer: &mut Lexer<'_, C>) -> Result<LastRead, AllocError>
-    requires behind { lexer.old.place ≡ (token_or_default lexer.old.last).end }
-    requires fits { fits lexer.old.text Goal.RegularExpression (token_or_default lexer.old.last) ≡ true }
-    ensures { IfOk result (λ last. ReadsAgainAs Goal.RegularExpression lexer.old last lexer.new) }
-{
-    let kind = lexer.last_token().kind();
-    let found = lexer.next_regex(kind)?;
-    Ok(LastRead {
-        token: found.token,
-        regex: Some(RegexInfo {
-            pattern_end: found.pattern_end,
-            flags: found.flags,
-            flags_error: found.flags_error,
-        }),
-    })
-}
-
-/// Reads the last token again, as a part of a template.
-fn read_part<C: LexerConfig + Drop>(lexer: &mut Lexer<'_, C>) -> Result<LastRead, AllocError>
-    requires behind { lexer.old.place ≡ (token_or_default lexer.old.last).end }
-    requires fits { fits lexer.old.text Goal.TemplateTail (token_or_default lexer.old.last) ≡ true }
-    ensures { IfOk result (λ last. ReadsAgainAs Goal.TemplateTail lexer.old last lexer.new) }
-{
-    let token = lexer.next_template_substitution_tail()?;
-    Ok(LastRead { token, regex: None })
-}
-
-/// Reads the last token on, as a name of JSX, where it is a name that a `-` follows.
-fn read_name_on<C: LexerConfig + Drop>(lexer: &mut Lexer<'_, C>) -> Option<LastRead>
-    requires { lexer.old.place ≡ (token_or_default lexer.old.last).end }
-    ensures { ReadsIfFits Goal.JsxIdentifier lexer.old result lexer.new }
-{
-    let last = lexer.last_token();
-    if !last.kind().is_identifier_name() {
-        return None;
-    }
-    let token = lexer.continue_lex_jsx_identifier(last.start())?;
-    Some(LastRead { token, regex: None })
-}
-
-/// Reads the last token again, as a name of JSX.
-fn read_jsx_name<C: LexerConfig + Drop>(lexer: &mut Lexer<'_, C>) -> LastRead
-    requires behind { lexer.old.place ≡ (token_or_default lexer.old.last).end }
-    requires fits { fits lexer.old.text Goal.JsxIdentifier (token_or_default lexer.old.last) ≡ true }
-    ensures { ReadsAgainAs Goal.JsxIdentifier lexer.old result lexer.new }
-{
-    match read_name_on(lexer) {
-        Some(last) => last,
-        None => unreachable!(),
-    }
-}
-
-/// Reads the last token again, a `>`, as the longest punctuator that begins with it.
-fn read_right_angle<C: LexerConfig + Drop>(lexer: &mut Lexer<'_, C>) -> LastRead
-    requires behind { lexer.old.place ≡ (token_or_default lexer.old.last).end }
-    requires fits { fits lexer.old.text Goal.RightAngle (token_or_default lexer.old.last) ≡ true }
-    ensures { ReadsAgainAs Goal.RightAngle lexer.old result lexer.new }
-{
-    let token = lexer.re_lex_right_angle();
-    LastRead { token, regex: None }
-}
-
-/// Reads the `<` alone with which the last token begins.
-fn read_first_left<C: LexerConfig + Drop>(lexer: &mut Lexer<'_, C>) -> LastRead
-    requires behind { lexer.old.place ≡ (token_or_default lexer.old.last).end }
-    requires fits { fits lexer.old.text Goal.TypeScriptLeftAngle (token_or_default lexer.old.last) ≡ true }
-    ensures { ReadsAgainAs Goal.TypeScriptLeftAngle lexer.old result lexer.new }
-{
-    let bytes = spelled_length(lexer.last_token().kind());
-    let token = lexer.re_lex_as_typescript_l_angle(bytes);
-    LastRead { token, regex: None }
-}
-
-/// Reads the `>` alone with which the last token begins.
-fn read_first_right<C: LexerConfig + Drop>(lexer: &mut Lexer<'_, C>) -> LastRead
-    requires behind { lexer.old.place ≡ (token_or_default lexer.old.last).end }
-    requires fits { fits lexer.old.text Goal.TypeScriptRightAngle (token_or_default lexer.old.last) ≡ true }
-    ensures { ReadsAgainAs Goal.TypeScriptRightAngle lexer.old result lexer.new }
-{
-    let bytes = spelled_length(lexer.last_token().kind());
-    let token = lexer.re_lex_as_typescript_r_angle(bytes);
-    LastRead { token, regex: None }
-}
-
-/// Reads the last token again, where it fits the goal.
+/// Reads the last token again, which fits the goal.
 #[inline(never)]
 fn read_token_again<C: LexerConfig + Drop>(
     lexer: &mut Lexer<'_, C>,
@@ -194,44 +102,10 @@ fn read_token_again<C: LexerConfig + Drop>(
     requires fits { fits lexer.old.text goal (token_or_default lexer.old.last) ≡ true }
     ensures { IfOk result (λ last. ReadsAgainAs goal lexer.old last lexer.new) }
 {
-    match goal {
-        Goal::RegularExpression => read_expression(lexer),
-        Goal::TemplateTail => read_part(lexer),
-        Goal::RightAngle => Ok(read_right_angle(lexer)),
-        Goal::TypeScriptLeftAngle => Ok(read_first_left(lexer)),
-        Goal::TypeScriptRightAngle => Ok(read_first_right(lexer)),
-        Goal::JsxIdentifier => Ok(read_jsx_name(lexer)),
-        Goal::First | Goal::Next | Goal::JsxChild | Goal::JsxAttributeValue => unreachable!(),
-    }
-}
-
-/// Reads the last token again, where the goal reads tokens of its kind again; else nothing changes.
-fn read_kind_again<C: LexerConfig + Drop>(
-    lexer: &mut Lexer<'_, C>,
-    goal: Goal,
-) -> Result<Option<LastRead>, AllocError>
-    requires behind { lexer.old.place ≡ (token_or_default lexer.old.last).end }
-    requires other { goal ≡ Goal.JsxIdentifier → ⊥ }
-    ensures { IfOk result (λ found. ReadsIfFits goal lexer.old found lexer.new) }
-{
-    if !goal.reads_again(lexer.last_token().kind()) {
-        return Ok(None);
-    }
-    let last = read_token_again(lexer, goal)?;
-    Ok(Some(last))
-}
-
-/// Reads the last token again, where it fits the goal; else nothing changes.
-pub(crate) fn read_if_fits<C: LexerConfig + Drop>(
-    lexer: &mut Lexer<'_, C>,
-    goal: Goal,
-) -> Result<Option<LastRead>, AllocError>
-    requires { lexer.old.place ≡ (token_or_default lexer.old.last).end }
-    ensures { IfOk result (λ found. ReadsIfFits goal lexer.old found lexer.new) }
-{
-    match goal {
-        Goal::JsxIdentifier => Ok(read_name_on(lexer)),
-        _ => read_kind_again(lexer, goal),
+    let found = js_session::read_again(lexer, goal)?;
+    match found {
+        Some(last) => Ok(last),
+        None => unreachable!(),
     }
 }
 

@@ -1,6 +1,6 @@
 //! Sources that are read by a list of commands.
 
-ghost use Rattle.std.specs.Prelude.{◌≡◌, ◌<◌, ◌^◌, ◌⊎◌, false, length, Err, IfOk, OnOk, OnErr, IfErr, IsOk};
+ghost use Rattle.std.specs.Prelude.{◌≡◌, ◌<◌, ◌^◌, ◌⊎◌, false, length, Err, OnOk, OnErr, IfErr, IsOk};
 ghost use Rattle.std.specs.Str.{IsUtf8};
 ghost use Rattle.js_lexer.specs.Lexer.{fresh};
 ghost use Rattle.js_session.specs.Faults.{Cause, HasMarks, IsReadable};
@@ -11,12 +11,11 @@ ghost use Rattle.js_lists.specs.Taken.{BreaksOff};
 
 use crate::follow::follow;
 use crate::hand::take_findings;
-use crate::marks::first_without_mark;
 use crate::pending::Pending;
 use crate::take::TakeTokens;
 use js_kind::{LexerConfig, NoTokensLexerConfig};
 use js_lexer::Lexer;
-use js_session::{Command, LexFault, utf8_text};
+use js_session::{Command, LexFault, checked_text};
 use js_text::SourceType;
 use std::alloc::{AllocError, Global};
 
@@ -63,18 +62,6 @@ fn read_text<T: TakeTokens>(
     follow_each(alloc, &mut lexer, commands, taker)?;
     let found = take_findings(alloc, &mut lexer)?;
     taker.end(found)
-}
-
-/// The text of a source, where nothing but a lack of memory can keep it from being read by the commands.
-fn checked_text<'a>(source: &'a [u8], commands: &[Command]) -> Result<&'a str, LexFault>
-    ensures ok { IfOk result (λ text. (text.now ≡ source.now) × IsReadable source.now × HasMarks commands.now) }
-    ensures err { IfErr result (Cause source.now commands.now) }
-{
-    let text = utf8_text(source)?;
-    match first_without_mark(commands) {
-        Some(index) => Err(LexFault::NoMark(index)),
-        None => Ok(text),
-    }
 }
 
 /// Reads a source by a list of commands, and hands what is live behind them to the taker: each token once, in order,

@@ -14,7 +14,7 @@ use crate::commands::first_bad;
 use crate::drive::report_from_start;
 use crate::fault::RelexFault;
 use crate::outlined::OutlinedReport;
-pub use edited::{NotRelexed, relex};
+pub use edited::{NotRelexed, relex, shift_of};
 use js_session::{Command, CommandList, Report, Steps};
 use js_text::{SourceText, SourceType};
 use std::alloc::{AllocError, Global};

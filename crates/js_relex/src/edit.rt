@@ -16,7 +16,7 @@ pub struct Edit<'t> {
 
 impl Edit<'_> {
     /// Whether the edit is one of the text: its start and its end, in order, are places of the text.
-    pub(crate) fn is_of(&self, text: &str) -> bool
+    pub fn is_of(&self, text: &str) -> bool
         ensures { IsTrue result ↔ IsEdit text.now self.now.start self.now.end }
     {
         if self.start > self.end {
@@ -29,7 +29,7 @@ impl Edit<'_> {
     }
 
     /// The text with the edit made.
-    pub(crate) fn made_in(&self, alloc: Global, text: &str) -> Result<SourceText, AllocError>
+    pub fn made_in(&self, alloc: Global, text: &str) -> Result<SourceText, AllocError>
         requires { IsEdit text.now self.now.start self.now.end }
         ensures { IfOk result (λ new. new ≡ edited text.now self.now.start self.now.end self.now.text.now) }
     {

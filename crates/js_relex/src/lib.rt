@@ -14,6 +14,6 @@ mod outline;
 mod outlined;
 mod patch;
 
-pub use document::{LexDoc, NotRelexed, relex};
+pub use document::{LexDoc, NotRelexed, relex, shift_of};
 pub use edit::Edit;
 pub use fault::RelexFault;

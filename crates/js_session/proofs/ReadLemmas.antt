@@ -27,7 +27,7 @@ use Rattle.js_session.specs.Marks.{lexer_behind, IsAlike}
 use Rattle.js_session.specs.Report.{IsRow, IsRead, IsOfEffect, LiesOnPlaces, IsSliceOnPlaces}
 use Rattle.js_grammar.specs.Reads.{is_onward}
 use Rattle.js_text.specs.declared.reg_exp_flags.RegexInfo.{RegexInfo}
-use Rattle.js_session.specs.declared.re_lex.ReadAgain.{ReadAgain}
+use Rattle.js_session.specs.declared.re_lex.LastRead.{LastRead}
 use Rattle.js_session.specs.RowReader.{ReadsAgainAs}
 use Rattle.js_session.proofs.AgainLemmas.{onward_regex}
 use Rattle.js_session.specs.RowReader.{RowReaderState, ReadsRow, AddsLive, AddsPeek, GoesBack}
@@ -52,7 +52,7 @@ on goal old new token onward r = record {
   regex_is = onward_regex old.text old.source_type goal old.last old.place r.outcome onward r.reads.reads;
 }
 
-pub again : (goal : Goal) (old new : LexerState) (found : ReadAgain) → (r : ReadsAgainAs goal old found new)
+pub again : (goal : Goal) (old new : LexerState) (found : LastRead) → (r : ReadsAgainAs goal old found new)
     → IsReadingOf goal old found.token found.regex new r.reads.outcome
 again goal old new found r = record {
   token_is = r.reads.token_is;
@@ -233,7 +233,7 @@ made_row goal command old new lengths place token onward u r before at row is =
 
 -- and one of a token that was read again
 pub made_row_again : (goal : Goal) (command : Option Command) (old new : LexerState) (lengths : FindingLengths)
-    (place : ℕ) (found : ReadAgain) → IsUtf8 old.text → ReadsAgainAs goal old found new
+    (place : ℕ) (found : LastRead) → IsUtf8 old.text → ReadsAgainAs goal old found new
     → lengths ≡ lengths_of old.findings
     → place ≡ old.place → (row : Row) → IsMadeOf command place lengths found.token found.regex new row
     → ReadsRowAgain goal command old row new

@@ -17,7 +17,7 @@ use Rattle.js_session.specs.Live.{outcome_of, row_of}
 use Rattle.js_session.specs.Report.{LiesOnPlaces}
 use Rattle.js_session.specs.declared.command.Command.{Command}
 use Rattle.js_session.specs.declared.mark.SessionMark.{SessionMark}
-use Rattle.js_session.specs.declared.re_lex.ReadAgain.{ReadAgain}
+use Rattle.js_session.specs.declared.re_lex.LastRead.{LastRead}
 use Rattle.js_session.specs.declared.row.Row.{Row}
 use Rattle.js_text.specs.declared.reg_exp_flags.RegexInfo.{RegexInfo}
 
@@ -71,12 +71,12 @@ pub record IsMadeOf (command : Option Command) (place : ℕ) (lengths : FindingL
       (record { token = token; value = row.value; regex = regex; findings = found_since lengths lexer.findings })
 
 -- The last token was read again, with this known of it as a regular expression.
-pub record ReadsAgainAs (goal : Goal) (old : LexerState) (found : ReadAgain) (new : LexerState) : Type 0 where
+pub record ReadsAgainAs (goal : Goal) (old : LexerState) (found : LastRead) (new : LexerState) : Type 0 where
   pub reads : LexesAgain goal old found.token new
   pub regex : reads.outcome.regex ≡ found.regex
 
 -- The last token was read again for the goal where it fits; else nothing has changed.
-abbrev pub ReadsIfFits : Goal → LexerState → Option ReadAgain → LexerState → Type 0
+abbrev pub ReadsIfFits : Goal → LexerState → Option LastRead → LexerState → Type 0
 ReadsIfFits goal old None new = (fits old.text goal (token_or_default old.last) ≡ false) × (new ≡ old)
 ReadsIfFits goal old (Some found) new =
     (fits old.text goal (token_or_default old.last) ≡ true) × ReadsAgainAs goal old found new

@@ -61,8 +61,9 @@ pub fn utf8_text(source: &[u8]) -> Result<&str, LexFault>
     }
 }
 
-/// The source as a text, where nothing but a lack of memory can keep a session from its report.
-pub(crate) fn check<'a>(source: &'a [u8], commands: &[Command]) -> Result<&'a str, LexFault>
+/// The source as a text, where nothing but a lack of memory can keep it from being read by the commands; else the first
+/// fault, of the source and then of the commands.
+pub fn checked_text<'a>(source: &'a [u8], commands: &[Command]) -> Result<&'a str, LexFault>
     ensures ok { IfOk result (λ text. (text.now ≡ source.now) × IsReadable source.now × HasMarks commands.now) }
     ensures err { IfErr result (Cause source.now commands.now) }
 {

@@ -1,4 +1,4 @@
-//! Whole sessions.
+//! Sessions over a source, from a list of commands to their report.
 
 ghost use Rattle.std.specs.Prelude.{◌≡◌, ◌<◌, ◌^◌, ◌⊎◌, true, length, IfOk, OnOk, IfErr, IsOk};
 ghost use Rattle.std.specs.List.{AllByRecursion};
@@ -10,7 +10,7 @@ ghost use Rattle.js_session.specs.Session.{Begins, Follows, report_of};
 ghost use Rattle.js_session.specs.declared.fault.LexFault.{LexFault};
 
 use crate::command::{Command, Effect};
-use crate::fault::{LexFault, check};
+use crate::fault::{LexFault, checked_text};
 use crate::report::Report;
 use crate::session::Session;
 use crate::steps::Steps;
@@ -90,29 +90,7 @@ fn follow_each<C: LexerConfig + Drop, L: Ledger>(
     Ok(())
 }
 
-/// The report of a list of commands that close no mark too many.
-fn lex_text<L: Ledger>(
-    alloc: Global,
-    text: &str,
-    source_type: SourceType,
-    tokens: bool,
-    commands: &[Command],
-    steps: &mut Steps<L>,
-) -> Result<Report, AllocError>
-    requires short { length text.now < 2 ^ 32 }
-    requires marks { HasMarks commands.now }
-    ensures { IfOk result (ReportOf text.now source_type tokens commands.now) }
-{
-    let config = RuntimeLexerConfig::new(tokens);
-    let mut session = match Session::begin(alloc, text, source_type, config, steps) {
-        Ok(session) => session,
-        Err(_) => return Err(AllocError),
-    };
-    follow_each(&mut session, commands, steps)?;
-    Ok(session.finish())
-}
-
-/// The same, where source and commands are tested first, over a counter that nobody reads.
+/// The report of a list of commands over a source, which are tested first, over a counter that nobody reads.
 fn lex_uncounted<L: Ledger>(
     alloc: Global,
     source: &[u8],
@@ -128,13 +106,15 @@ fn lex_uncounted<L: Ledger>(
     ensures ok { OnOk result (IsReadable source.now × HasMarks commands.now) }
     ensures cause { IfErr result (λ fault. (fault ≡ LexFault.Memory) ⊎ Cause source.now commands.now fault) }
 {
-    let text = match check(source, commands) {
-        Ok(text) => text,
-        Err(fault) => return Err(fault),
-    };
+    let text = checked_text(source, commands)?;
+    let config = RuntimeLexerConfig::new(tokens);
     let mut steps = Steps::<L>::new(blank);
-    match lex_text(alloc, text, source_type, tokens, commands, &mut steps) {
-        Ok(report) => Ok(report),
+    let mut session = match Session::begin(alloc, text, source_type, config, &mut steps) {
+        Ok(session) => session,
+        Err(_) => return Err(LexFault::Memory),
+    };
+    match follow_each(&mut session, commands, &mut steps) {
+        Ok(()) => Ok(session.finish()),
         Err(_) => Err(LexFault::Memory),
     }
 }

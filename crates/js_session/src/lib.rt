@@ -21,10 +21,11 @@ mod steps;
 mod whole_source;
 
 pub use command::{Command, CommandList, Effect};
-pub use fault::{LexFault, utf8_text};
+pub use fault::{LexFault, checked_text, utf8_text};
 pub use js_lexer::NewFault;
 pub use js_text::{RegexInfo, RowValue};
 pub use lex::lex_session;
+pub use re_lex::{LastRead, read_again};
 pub use report::Report;
 pub use row::Row;
 pub use row_list::RowList;

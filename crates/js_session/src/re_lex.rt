@@ -12,9 +12,9 @@ use js_lexer::Lexer;
 use js_text::RegexInfo;
 use std::alloc::AllocError;
 
-/// A token that was read again, with what is known of it as a regular expression.
+/// The last token that was read, and what is known of it as a regular expression if it is one.
 #[derive(Clone, Copy)]
-pub(crate) struct ReadAgain {
+pub struct LastRead {
     pub token: Token,
     pub regex: Option<RegexInfo>,
 }
@@ -33,7 +33,7 @@ fn may_read_again<C: LexerConfig + Drop>(lexer: &Lexer<'_, C>, goal: Goal) -> bo
 /// Reads a regular expression, where the last token may begin one.
 fn read_regex<C: LexerConfig + Drop>(
     lexer: &mut Lexer<'_, C>,
-) -> Result<Option<ReadAgain>, AllocError>
+) -> Result<Option<LastRead>, AllocError>
     requires { lexer.old.place ≡ (token_or_default lexer.old.last).end }
     ensures ok { IfOk result (λ found. ReadsIfFits Goal.RegularExpression lexer.old found lexer.new) }
     ensures err { OnErr result (IsRestored lexer.old lexer.new) }
@@ -42,7 +42,7 @@ fn read_regex<C: LexerConfig + Drop>(
         return Ok(None);
     }
     let found = lexer.next_regex(lexer.last_token().kind())?;
-    Ok(Some(ReadAgain {
+    Ok(Some(LastRead {
         token: found.token,
         regex: Some(RegexInfo {
             pattern_end: found.pattern_end,
@@ -55,7 +55,7 @@ fn read_regex<C: LexerConfig + Drop>(
 /// Reads the next part of a template, where the last token is a `}`.
 fn read_tail<C: LexerConfig + Drop>(
     lexer: &mut Lexer<'_, C>,
-) -> Result<Option<ReadAgain>, AllocError>
+) -> Result<Option<LastRead>, AllocError>
     requires { lexer.old.place ≡ (token_or_default lexer.old.last).end }
     ensures ok { IfOk result (λ found. ReadsIfFits Goal.TemplateTail lexer.old found lexer.new) }
     ensures err { OnErr result (IsRestored lexer.old lexer.new) }
@@ -64,11 +64,11 @@ fn read_tail<C: LexerConfig + Drop>(
         return Ok(None);
     }
     let token = lexer.next_template_substitution_tail()?;
-    Ok(Some(ReadAgain { token, regex: None }))
+    Ok(Some(LastRead { token, regex: None }))
 }
 
 /// Reads the longest punctuator, where the last token is a `>`.
-fn read_right_angle<C: LexerConfig + Drop>(lexer: &mut Lexer<'_, C>) -> Option<ReadAgain>
+fn read_right_angle<C: LexerConfig + Drop>(lexer: &mut Lexer<'_, C>) -> Option<LastRead>
     requires { lexer.old.place ≡ (token_or_default lexer.old.last).end }
     ensures { ReadsIfFits Goal.RightAngle lexer.old result lexer.new }
 {
@@ -76,11 +76,11 @@ fn read_right_angle<C: LexerConfig + Drop>(lexer: &mut Lexer<'_, C>) -> Option<R
         return None;
     }
     let token = lexer.re_lex_right_angle();
-    Some(ReadAgain { token, regex: None })
+    Some(LastRead { token, regex: None })
 }
 
 /// Reads a `<` alone, where the last token is a compound that begins with it.
-fn read_first_left<C: LexerConfig + Drop>(lexer: &mut Lexer<'_, C>) -> Option<ReadAgain>
+fn read_first_left<C: LexerConfig + Drop>(lexer: &mut Lexer<'_, C>) -> Option<LastRead>
     requires { lexer.old.place ≡ (token_or_default lexer.old.last).end }
     ensures { ReadsIfFits Goal.TypeScriptLeftAngle lexer.old result lexer.new }
 {
@@ -89,11 +89,11 @@ fn read_first_left<C: LexerConfig + Drop>(lexer: &mut Lexer<'_, C>) -> Option<Re
     }
     let bytes = spelled_length(lexer.last_token().kind());
     let token = lexer.re_lex_as_typescript_l_angle(bytes);
-    Some(ReadAgain { token, regex: None })
+    Some(LastRead { token, regex: None })
 }
 
 /// Reads a `>` alone, where the last token is a compound that begins with it.
-fn read_first_right<C: LexerConfig + Drop>(lexer: &mut Lexer<'_, C>) -> Option<ReadAgain>
+fn read_first_right<C: LexerConfig + Drop>(lexer: &mut Lexer<'_, C>) -> Option<LastRead>
     requires { lexer.old.place ≡ (token_or_default lexer.old.last).end }
     ensures { ReadsIfFits Goal.TypeScriptRightAngle lexer.old result lexer.new }
 {
@@ -102,11 +102,11 @@ fn read_first_right<C: LexerConfig + Drop>(lexer: &mut Lexer<'_, C>) -> Option<R
     }
     let bytes = spelled_length(lexer.last_token().kind());
     let token = lexer.re_lex_as_typescript_r_angle(bytes);
-    Some(ReadAgain { token, regex: None })
+    Some(LastRead { token, regex: None })
 }
 
 /// Reads a name of JSX on, where the last token is a name that a `-` follows.
-fn read_jsx_name<C: LexerConfig + Drop>(lexer: &mut Lexer<'_, C>) -> Option<ReadAgain>
+fn read_jsx_name<C: LexerConfig + Drop>(lexer: &mut Lexer<'_, C>) -> Option<LastRead>
     requires { lexer.old.place ≡ (token_or_default lexer.old.last).end }
     ensures { ReadsIfFits Goal.JsxIdentifier lexer.old result lexer.new }
 {
@@ -115,14 +115,15 @@ fn read_jsx_name<C: LexerConfig + Drop>(lexer: &mut Lexer<'_, C>) -> Option<Read
         return None;
     }
     let token = lexer.continue_lex_jsx_identifier(last.start())?;
-    Some(ReadAgain { token, regex: None })
+    Some(LastRead { token, regex: None })
 }
 
-/// Reads the last token again, where it fits the goal.
-pub(crate) fn read_again<C: LexerConfig + Drop>(
+/// Reads the last token of a lexer again, where it fits the goal; else nothing changes. Where there is no memory, the
+/// lexer is as it was before.
+pub fn read_again<C: LexerConfig + Drop>(
     lexer: &mut Lexer<'_, C>,
     goal: Goal,
-) -> Result<Option<ReadAgain>, AllocError>
+) -> Result<Option<LastRead>, AllocError>
     requires { lexer.old.place ≡ (token_or_default lexer.old.last).end }
     ensures ok { IfOk result (λ found. ReadsIfFits goal lexer.old found lexer.new) }
     ensures err { OnErr result (IsRestored lexer.old lexer.new) }

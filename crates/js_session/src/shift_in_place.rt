@@ -25,7 +25,8 @@ impl Shift {
         *place = place.saturating_sub(self.from) + self.to;
     }
 
-    pub(crate) fn move_span(&self, span: &mut Span)
+    /// Moves both ends of the span.
+    pub fn move_span(&self, span: &mut Span)
         requires { OfSpan (FitsShifted self.now.from self.now.to) span.old }
         ensures { span.new ≡ shifted_span self.now.from self.now.to span.old }
     {
@@ -63,7 +64,8 @@ impl Shift {
         }
     }
 
-    pub(crate) fn move_diagnostic(&self, diagnostic: &mut Diagnostic)
+    /// Moves what the diagnostic is about, if it is about a stretch of the text.
+    pub fn move_diagnostic(&self, diagnostic: &mut Diagnostic)
         requires { OfDiagnostic (FitsShifted self.now.from self.now.to) diagnostic.old }
         ensures { diagnostic.new ≡ shifted_diagnostic self.now.from self.now.to diagnostic.old }
     {
@@ -73,7 +75,8 @@ impl Shift {
         }
     }
 
-    pub(crate) fn move_comment(&self, comment: &mut Comment)
+    /// Moves the comment, and the place that it is attached to.
+    pub fn move_comment(&self, comment: &mut Comment)
         requires { OfComment (FitsShifted self.now.from self.now.to) comment.old }
         ensures { comment.new ≡ shifted_comment self.now.from self.now.to comment.old }
     {

@@ -53,28 +53,8 @@ fn step_to_end<C: LexerConfig + Drop, L: Ledger>(
     Ok(count)
 }
 
-/// How many steps lead to the end of a text, and the report of so many.
-fn lex_whole_text<L: Ledger>(
-    alloc: Global,
-    text: &str,
-    source_type: SourceType,
-    tokens: bool,
-    steps: &mut Steps<L>,
-) -> Result<(u64, Report), AllocError>
-    requires short { length text.now < 2 ^ 32 }
-    ensures report { IfOk result (λ whole. ReportOfWhole text.now source_type tokens whole.0 whole.1) }
-    ensures few { IfOk result (λ whole. whole.0 ≤ length text.now) }
-{
-    let config = RuntimeLexerConfig::new(tokens);
-    let mut session = match Session::begin(alloc, text, source_type, config, steps) {
-        Ok(session) => session,
-        Err(_) => return Err(AllocError),
-    };
-    let count = step_to_end(&mut session, steps)?;
-    Ok((count, session.finish()))
-}
-
-/// The same, where the source is tested first, over a counter that nobody reads.
+/// How many steps lead to the end of a source, which is tested first, and the report of so many, over a counter that
+/// nobody reads.
 fn lex_all_uncounted<L: Ledger>(
     alloc: Global,
     source: &[u8],
@@ -90,13 +70,15 @@ fn lex_all_uncounted<L: Ledger>(
     ensures ok { OnOk result (IsReadable source.now) }
     ensures cause { IfErr result (λ fault. (fault ≡ LexFault.Memory) ⊎ SourceCause source.now fault) }
 {
-    let text = match utf8_text(source) {
-        Ok(text) => text,
-        Err(fault) => return Err(fault),
-    };
+    let text = utf8_text(source)?;
+    let config = RuntimeLexerConfig::new(tokens);
     let mut steps = Steps::<L>::new(blank);
-    match lex_whole_text(alloc, text, source_type, tokens, &mut steps) {
-        Ok(whole) => Ok(whole),
+    let mut session = match Session::begin(alloc, text, source_type, config, &mut steps) {
+        Ok(session) => session,
+        Err(_) => return Err(LexFault::Memory),
+    };
+    match step_to_end(&mut session, &mut steps) {
+        Ok(count) => Ok((count, session.finish())),
         Err(_) => Err(LexFault::Memory),
     }
 }

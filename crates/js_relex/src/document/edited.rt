@@ -22,7 +22,7 @@ use std::marker::Model;
 use std::sync::ledger::Ledger;
 
 /// How places behind the edit move.
-fn shift_of(edit: &Edit<'_>) -> Shift
+pub fn shift_of(edit: &Edit<'_>) -> Shift
     requires { edit.now.start + length edit.now.text.now < 2 ^ 32 }
     ensures from { result.from ≡ edit.now.end }
     ensures to { result.to ≡ edit.now.start + length edit.now.text.now }
