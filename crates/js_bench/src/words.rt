@@ -1,4 +1,4 @@
-//! The words of the program.
+//! What the words of the program ask for: how often the input is lexed, by which rule, and what is kept.
 
 ghost use Rattle.std.specs.Prelude.{◌≡◌, map, string_bytes};
 ghost use Rattle.js_lex_tool.specs.Words.{count_in, entry_for, source_type_words};

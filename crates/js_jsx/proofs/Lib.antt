@@ -1,4 +1,5 @@
 pub mod ChooserLemmas
+pub mod CodeLemmas
 pub mod PlainLemmas
 pub mod ScopeLemmas
 pub mod StackLemmas

@@ -1,17 +1,12 @@
 -- Idle tokens outside of tags and children: what is kept behind them, and what is chosen.
-use Rattle.std.proofs.Common.{◌≡◌, ℕ, ◌&&◌, ◌||◌, not, Bool, true, false, List, refl, sym, ◌∙◌, ap}
-use Rattle.std.proofs.Common.{Option, Some, None, drop, map, if◌then◌else◌}
-use Rattle.std.specs.Option.{option_map}
-use Rattle.std.specs.Prelude.{slice_get, slice_index_or}
+use Rattle.std.proofs.Common.{◌≡◌, ℕ, ◌&&◌, ◌||◌, not, Bool, true, false, refl, sym, ◌∙◌, ap}
+use Rattle.std.proofs.Common.{Option, Some, None, drop, if◌then◌else◌}
 use Rattle.std.proofs.lemmas.Bool.{and_parts, or_parts}
-use Rattle.std.proofs.lemmas.Option.{slice_get-map}
-use Rattle.js_kind.specs.Kinds.{is_identifier_name, is_one_of, number}
+use Rattle.js_kind.specs.Kinds.{is_identifier_name, is_one_of}
 use Rattle.js_kind.specs.Predicates.{is_eof}
 use Rattle.js_kind.specs.TokenParts.{TokenParts}
 use Rattle.js_kind.specs.declared.kind.Kind.{Kind}
 use Rattle.js_kind.specs.declared.kind.Kind.TheVariants as kinds
-use Rattle.js_kind.specs.declared.kind.TheConstants.Kind.{VARIANTS}
-use Rattle.js_kind.proofs.KindNumbers.{kind_at_number}
 use Rattle.js_grammar.specs.ReLexed.{again_kinds}
 use Rattle.js_grammar.specs.declared.goal.Goal.TheVariants.{RegularExpression, TemplateTail as TailGoal}
 use Rattle.js_session.specs.declared.command.Command.TheVariants.{Next, JsxAttr, JsxChild, JsxName, Regex}
@@ -27,28 +22,10 @@ use Rattle.js_jsx.specs.declared.scope.Scope.TheVariants.{TypeArguments, Childre
 use Rattle.js_jsx.specs.Changes.{change_in_code, changed, closes, ends_element, next_place, place_behind, stays}
 use Rattle.js_jsx.specs.Choice.{begins_child, begins_value, choice_at_end, choice_behind, goes_on_as_name}
 use Rattle.js_jsx.specs.Choice.{is_dash, is_in_template, kept_last, reads_behind}
-use Rattle.js_jsx.specs.Classes.{TellsIdle, class_of, is_bang, is_equal, is_idle}
+use Rattle.js_jsx.specs.Classes.{class_of, is_bang, is_equal, is_idle}
 use Rattle.js_jsx.specs.Scopes.{is_children, is_code, is_tag, is_types, passes, top}
 use Rattle.js_jsx.specs.States.{State, behind, behind_last, change_at, change_of, ends, is_plain, may_open}
 use Rattle.js_jsx.specs.States.{takes_bang}
-
--- What a test tells of a kind stands at its number in the list of what it tells of all.
-at_number : (test : Kind → Bool) (kind : Kind) → slice_get (map test VARIANTS) (number kind) ≡ Some (test kind)
-at_number test kind = slice_get-map test VARIANTS (number kind) ∙ ap (option_map test) (kind_at_number kind)
-
--- A table that computes tells of each kind whether its tokens are idle.
-pub tells_idle : (table : List Bool)
-    → map (λ kind. slice_index_or table (number kind) false) VARIANTS ≡ map (λ kind. is_idle (class_of kind)) VARIANTS
-    → TellsIdle table
-tells_idle table all =
-    record {
-      tells = λ kind.
-          let in_table = at_number (λ k. slice_index_or table (number k) false) kind in
-          let is = at_number (λ k. is_idle (class_of k)) kind in
-          let same : Some (slice_index_or table (number kind) false) ≡ Some (is_idle (class_of kind)) =
-          sym in_table ∙ (ap (λ xs. slice_get xs (number kind)) all ∙ is)
-          in cc;
-    }
 
 -- what is known of a kind whose tokens are idle
 abbrev is_marked : Kind → Bool
@@ -108,7 +85,7 @@ stays_in_code (Some TypeArguments) state class idle code = absurd (cc)
 stays_in_code (Some Children) state class idle code = absurd (cc)
 
 -- In code neither a tag nor children were opened last.
-no_tag_in_code : (o : Option Scope) → is_code o ≡ true → passes is_tag o ≡ false
+pub no_tag_in_code : (o : Option Scope) → is_code o ≡ true → passes is_tag o ≡ false
 no_tag_in_code None code = refl
 no_tag_in_code (Some Block) code = refl
 no_tag_in_code (Some Template) code = refl
@@ -118,7 +95,7 @@ no_tag_in_code (Some ClosingTag) code = absurd (cc)
 no_tag_in_code (Some TypeArguments) code = absurd (cc)
 no_tag_in_code (Some Children) code = absurd (cc)
 
-no_children_in_code : (o : Option Scope) → is_code o ≡ true → passes is_children o ≡ false
+pub no_children_in_code : (o : Option Scope) → is_code o ≡ true → passes is_children o ≡ false
 no_children_in_code None code = refl
 no_children_in_code (Some Block) code = refl
 no_children_in_code (Some Template) code = refl
@@ -132,17 +109,17 @@ not_true : (b : Bool) → not b ≡ true → b ≡ false
 not_true false e = refl
 not_true true e = absurd (cc)
 
-record IsPlain (state : State) : Type 0 where
-  code : is_code (top state.scopes) ≡ true
-  no_more : state.has_ended ≡ false
+pub record IsPlain (state : State) : Type 0 where
+  pub code : is_code (top state.scopes) ≡ true
+  pub no_more : state.has_ended ≡ false
 
-plain_parts : (state : State) → is_plain state ≡ true → IsPlain state
+pub plain_parts : (state : State) → is_plain state ≡ true → IsPlain state
 plain_parts state plain =
     let both = and_parts (is_code (top state.scopes)) (not state.has_ended) plain in
     record { code = both.0; no_more = not_true state.has_ended both.1 }
 
 -- what is kept behind a token of a class with a change
-abbrev behind_change : State → TokenParts → TokenClass → Change → State
+abbrev pub behind_change : State → TokenParts → TokenClass → Change → State
 behind_change state token class change = record {
   scopes = changed change class state.scopes;
   place = place_behind (passes is_tag (top state.scopes)) state.place class change;
@@ -189,7 +166,7 @@ plain_step state false last none plain idle =
     absurd (let no : true ≡ false = sym idle ∙ end_is_not_idle last.kind (none refl) in
     cc)
 
-no_middle : (a b c : Bool) → b ≡ false → (a && b && c) ≡ false
+pub no_middle : (a b c : Bool) → b ≡ false → (a && b && c) ≡ false
 no_middle true b c e = rw e refl
 no_middle false b c e = refl
 

@@ -1,6 +1,6 @@
 -- What the choice of goals tells tokens apart by.
-use Rattle.std.specs.Prelude.{◌≡◌, Bool, true, false, List, [], ◌∷◌, slice_index_or, if◌then◌else◌}
-use Rattle.js_kind.specs.Kinds.{is_kind, is_one_of, number}
+use Rattle.std.specs.Prelude.{Bool, true, false, [], ◌∷◌, if◌then◌else◌}
+use Rattle.js_kind.specs.Kinds.{is_kind, is_one_of}
 use Rattle.js_kind.specs.declared.kind.Kind.{Kind}
 use Rattle.js_kind.specs.declared.kind.Kind.TheVariants as kinds
 use Rattle.js_jsx.specs.declared.class.TokenClass.{TokenClass}
@@ -58,7 +58,3 @@ is_idle RightBracket = true
 is_idle Extends = true
 is_idle Other = true
 is_idle _ = false
-
--- The table tells of each kind, at the place of its number, whether its tokens are idle.
-pub record TellsIdle (table : List Bool) : Type 0 where
-  pub tells : (kind : Kind) → slice_index_or table (number kind) false ≡ is_idle (class_of kind)

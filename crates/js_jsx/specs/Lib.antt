@@ -2,6 +2,7 @@ pub mod Changes
 pub mod Choice
 pub mod Classes
 pub mod DueLemmas
+pub mod InCode
 pub mod Jsx
 pub mod Scopes
 pub mod Stack

@@ -1,18 +1,19 @@
 //! The choice of goals, token by token.
 
-ghost use Rattle.std.specs.Prelude.{◌≡◌, List, [], ◌∷◌, ◌++◌, OnOk, OnErr};
+ghost use Rattle.std.specs.Prelude.{◌≡◌, ◌&&◌, List, [], ◌∷◌, ◌++◌, OnOk, OnErr};
 ghost use Rattle.js_text.specs.Lists.{with_last};
 ghost use Rattle.js_kind.specs.TokenParts.{TokenParts};
 ghost use Rattle.js_jsx.specs.Choice.{choice, chooser_behind, chooser_of};
 ghost use Rattle.js_jsx.specs.States.{behind_last};
 
 use crate::idle::IdleKinds;
-use crate::state::KeptState;
+use crate::kept::KeptState;
 use js_choose::ChooseGoals;
 use js_kind::Token;
 use js_session::Command;
 use std::alloc::{AllocError, Global};
 use std::marker::Model;
+use std::mem;
 
 /// Chooses goals in a text with JSX, as a lexer is driven: it is told each token, and says which command comes next. A
 /// step costs the same however many tokens came before; where it ends many scopes, each costs no more than when it was
@@ -26,8 +27,7 @@ pub struct JsxChooser {
     /// What is kept of all tokens but the last one.
     state: KeptState,
     idle: IdleKinds,
-    /// Whether it is outside of tags and children: idle tokens change nothing in it but what the last token is.
-    is_plain: bool,
+    alloc: Global,
     /// The last token, and the default one where there is none.
     last: Token,
     has_last: bool,
@@ -37,13 +37,20 @@ impl Model for JsxChooser {
     ghost use Rattle.std.specs.Prelude.{◌≡◌, false};
     ghost use Rattle.js_kind.specs.declared.kind.Kind.TheVariants.{Eof};
     ghost use Rattle.js_jsx.specs.Choice.{Chooser, kept_last};
-    ghost use Rattle.js_jsx.specs.States.{is_plain as is_plain_state};
 
     ghost Value = { Chooser };
 
     ghost view = { λ c. record { state = c.state; last = kept_last c.has_last c.last } };
 
-    ghost invariant = { λ c. (c.is_plain ≡ is_plain_state c.state) × (c.has_last ≡ false → c.last.kind ≡ Eof) };
+    ghost invariant = { λ c. c.has_last ≡ false → c.last.kind ≡ Eof };
+}
+
+/// Whether both are true, told by one test.
+#[inline(always)]
+fn both(first: bool, second: bool) -> bool
+    ensures { result ≡ (first && second) }
+{
+    first & second
 }
 
 impl JsxChooser {
@@ -54,22 +61,24 @@ impl JsxChooser {
         JsxChooser {
             state: KeptState::new(alloc),
             idle: IdleKinds::new(),
-            is_plain: true,
+            alloc,
             last: Token::default(),
             has_last: false,
         }
     }
 
-    /// Takes up the last token, if there is one.
-    #[cold]
-    #[inline(never)]
+    /// Takes up the last token, if there is one. What is kept is handed over and taken back, so that it can stay in
+    /// registers.
+    #[inline(always)]
     fn pass_last(&mut self) -> Result<(), AllocError>
         ensures ok { OnOk result (self.new ≡ record self.old { state = behind_last self.old.state self.old.last }) }
         ensures err { OnErr result (self.new ≡ self.old) }
     {
         if self.has_last {
-            self.state.pass(&self.last)?;
-            self.is_plain = self.state.is_plain();
+            let before = mem::replace(&mut self.state, KeptState::new(self.alloc));
+            let (state, passed) = before.behind(self.last);
+            self.state = state;
+            passed?;
         }
         Ok(())
     }
@@ -82,7 +91,7 @@ impl JsxChooser {
             → OnOk result (self.new ≡ chooser_behind tokens) }
         ensures err { OnErr result (self.new ≡ self.old) }
     {
-        if self.is_plain && self.idle.is_idle(&self.last) {
+        if both(self.state.is_plain(), self.idle.is_idle(&self.last)) {
             self.state.pass_idle(&self.last);
         } else {
             self.pass_last()?;
@@ -129,11 +138,11 @@ impl JsxChooser {
     pub fn command(&self, text: &str) -> Option<Command>
         ensures { (tokens : List TokenParts) → self.now ≡ chooser_of tokens → result ≡ choice text.now tokens }
     {
-        if self.is_plain && self.idle.is_idle(&self.last) {
+        if both(self.state.is_plain(), self.idle.is_idle(&self.last)) {
             return Some(Command::Next);
         }
         if self.has_last {
-            self.state.command(text, &self.last)
+            self.state.view().command(text, self.last)
         } else {
             Some(Command::Next)
         }

@@ -1,7 +1,8 @@
 //! The kinds of tokens that do nothing outside of tags and children.
 
 ghost use Rattle.std.specs.Prelude.{◌≡◌};
-ghost use Rattle.js_jsx.specs.Classes.{TellsIdle, class_of, is_idle};
+ghost use Rattle.js_choose.specs.KindTables.{TellsKinds};
+ghost use Rattle.js_jsx.specs.Classes.{class_of, is_idle};
 
 use js_kind::{Kind, Token};
 use js_source::of_each_byte;
@@ -26,7 +27,7 @@ static IDLE: [bool; 256] = of_each_byte!(is_idle);
 
 /// The table of these kinds. It has an entry for each `u8`, and so needs no test of the number.
 fn idle_kinds() -> &'static [bool; 256]
-    ensures { TellsIdle result.now }
+    ensures { TellsKinds (λ kind. is_idle (class_of kind)) result.now }
 {
     &IDLE
 }
@@ -35,7 +36,7 @@ fn idle_kinds() -> &'static [bool; 256]
 #[derive(Drop)]
 pub(crate) struct IdleKinds {
     table: [bool; 256],
-    ghost told: { TellsIdle table },
+    ghost told: { TellsKinds (λ kind. is_idle (class_of kind)) table },
 }
 
 impl IdleKinds {

@@ -6,6 +6,7 @@ mod chooser;
 mod class;
 mod idle;
 mod jsx;
+mod kept;
 pub mod laws;
 mod open_scopes;
 mod scope;

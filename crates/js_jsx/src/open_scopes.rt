@@ -1,14 +1,14 @@
 //! The scopes that are open, and what of them ends.
 
-ghost use Rattle.std.specs.Prelude.{◌≡◌, ◌+◌, ◌<◌, ◌^◌, [], ◌∷◌, drop, slice_get, OnErr, OnOk, IfSome};
+ghost use Rattle.std.specs.Prelude.{◌≡◌, ◌+◌, ◌<◌, ◌^◌, ◌&&◌, not, [], ◌∷◌, drop, slice_get, OnErr, OnOk, IfSome};
 ghost use Rattle.js_jsx.specs.Changes.{changed, closed, closes, left};
-ghost use Rattle.js_jsx.specs.Scopes.{braced, from_brace, is_children, last_brace, passes, top, without_children};
-ghost use Rattle.js_jsx.specs.Scopes.{without_tags, without_types};
+ghost use Rattle.js_jsx.specs.Scopes.{braced, from_brace, is_children, is_code, last_brace, passes, top};
+ghost use Rattle.js_jsx.specs.Scopes.{without_children, without_tags, without_types};
 
 use crate::change::Change;
 use crate::class::TokenClass;
 use crate::scope::Scope;
-use crate::stack::{Open, OpenStack};
+use crate::stack::{Open, OpenStack, StackView};
 use std::alloc::{AllocError, Global};
 use std::marker::Model;
 
@@ -19,6 +19,24 @@ pub(crate) struct OpenScopes {
 }
 
 impl Model for OpenScopes {
+    ghost use Rattle.std.specs.Prelude.{List};
+    ghost use Rattle.js_jsx.specs.Stack.{IsCounted, scopes_of};
+    ghost use Rattle.js_jsx.specs.declared.scope.Scope.{Scope};
+
+    ghost Value = { List Scope };
+
+    ghost view = { λ s. scopes_of s.stack };
+
+    ghost invariant = { λ s. IsCounted s.stack };
+}
+
+/// The same, as it is asked.
+#[derive(Drop)]
+pub(crate) struct ScopesView<'a> {
+    stack: StackView<'a>,
+}
+
+impl<'a> Model for ScopesView<'a> {
     ghost use Rattle.std.specs.Prelude.{List};
     ghost use Rattle.js_jsx.specs.Stack.{IsCounted, scopes_of};
     ghost use Rattle.js_jsx.specs.declared.scope.Scope.{Scope};
@@ -41,16 +59,7 @@ fn closes(class: TokenClass, scope: Scope) -> bool
     }
 }
 
-impl OpenScopes {
-    /// None is open. It needs no memory yet.
-    pub fn new(alloc: Global) -> OpenScopes
-        ensures { result ≡ [] }
-    {
-        OpenScopes {
-            stack: OpenStack::new(alloc),
-        }
-    }
-
+impl<'a> ScopesView<'a> {
     /// The scope that has so many above it, if there is one.
     fn at(&self, depth: usize) -> Option<Scope>
         ensures is { result ≡ slice_get self.now depth }
@@ -67,6 +76,23 @@ impl OpenScopes {
         ensures { result ≡ top self.now }
     {
         self.at(0)
+    }
+
+    /// Whether a brace was opened last, or nothing is open.
+    pub fn are_code(&self) -> bool
+        ensures { result ≡ is_code (top self.now) }
+    {
+        match self.top() {
+            Some(scope) => scope.is_brace(),
+            None => true,
+        }
+    }
+
+    /// The same, and no operand has ended but by the last token.
+    pub fn are_plain(&self, has_ended: bool) -> bool
+        ensures { result ≡ (is_code (top self.now) && not has_ended) }
+    {
+        self.are_code() && !has_ended
     }
 
     /// How many scopes there are from the last open brace on.
@@ -187,13 +213,34 @@ impl OpenScopes {
             _ => self.is_child_at(self.ended(change, class)),
         }
     }
+}
+
+impl OpenScopes {
+    /// None is open. It needs no memory yet.
+    pub fn new(alloc: Global) -> OpenScopes
+        ensures { result ≡ [] }
+    {
+        OpenScopes {
+            stack: OpenStack::new(alloc),
+        }
+    }
+
+    /// What is open, to be asked.
+    #[inline(always)]
+    pub fn view(&self) -> ScopesView<'_>
+        ensures { result ≡ self.now }
+    {
+        ScopesView {
+            stack: self.stack.view(),
+        }
+    }
 
     /// Opens one.
-    fn push(&mut self, scope: Scope) -> Result<(), AllocError>
+    pub fn push(&mut self, scope: Scope) -> Result<(), AllocError>
         ensures ok { OnOk result (self.new ≡ scope ∷ self.old) }
         ensures err { OnErr result (self.new ≡ self.old) }
     {
-        let braced = self.braced();
+        let braced = self.view().braced();
         self.stack.push(Open { scope, braced })
     }
 
@@ -202,7 +249,7 @@ impl OpenScopes {
         ensures ok { OnOk result (self.new ≡ scope ∷ drop 1 self.old) }
         ensures err { OnErr result (self.new ≡ self.old) }
     {
-        match self.stack.at(0) {
+        match self.stack.view().at(0) {
             Some(top) => {
                 self.stack.set_top(Open {
                     scope,
@@ -230,7 +277,7 @@ impl OpenScopes {
             Change::Opens(scope) => self.push(scope),
             Change::Becomes(scope) => self.replace_top(scope),
             _ => {
-                let count = self.ended(change, class);
+                let count = self.view().ended(change, class);
                 self.end(count);
                 Ok(())
             }

@@ -31,16 +31,23 @@ impl Model for OpenStack {
     ghost view = { λ s. reverse s.items };
 }
 
-impl OpenStack {
-    /// Nothing is open. It needs no memory yet.
-    pub fn new(alloc: Global) -> OpenStack
-        ensures { result ≡ [] }
-    {
-        OpenStack {
-            items: ItemList::new_in(alloc),
-        }
-    }
+/// The same, as it is asked. It holds what is open and not the place where that is kept: who keeps it need not lend
+/// that place, and can have it in registers.
+#[derive(Drop)]
+pub(crate) struct StackView<'a> {
+    items: &'a [Open],
+}
 
+impl<'a> Model for StackView<'a> {
+    ghost use Rattle.std.specs.Prelude.{List, reverse};
+    ghost use Rattle.js_jsx.specs.declared.stack.Open.{Open};
+
+    ghost Value = { List Open };
+
+    ghost view = { λ s. reverse s.items.now };
+}
+
+impl<'a> StackView<'a> {
     /// How many are open.
     pub fn len(&self) -> usize
         ensures { result ≡ length self.now }
@@ -53,11 +60,32 @@ impl OpenStack {
         ensures is { result ≡ slice_get self.now depth }
         ensures within { IfSome result (λ item. depth + 1 < 2 ^ 64) }
     {
-        let items = self.items.as_slice();
+        let items = self.items;
         if depth < items.len() {
             Some(items[items.len() - 1 - depth])
         } else {
             None
+        }
+    }
+}
+
+impl OpenStack {
+    /// Nothing is open. It needs no memory yet.
+    pub fn new(alloc: Global) -> OpenStack
+        ensures { result ≡ [] }
+    {
+        OpenStack {
+            items: ItemList::new_in(alloc),
+        }
+    }
+
+    /// What is open, to be asked.
+    #[inline(always)]
+    pub fn view(&self) -> StackView<'_>
+        ensures { result ≡ self.now }
+    {
+        StackView {
+            items: self.items.as_slice(),
         }
     }
 

@@ -1,11 +1,13 @@
 //! What is kept of the tokens so far, and what is chosen by it.
 
-ghost use Rattle.std.specs.Prelude.{◌≡◌, Some, slice_get, OnErr, OnOk};
+ghost use Rattle.std.specs.Prelude.{◌≡◌, ◌||◌, Some, slice_get, if◌then◌else◌};
+ghost use Rattle.js_jsx.specs.Changes.{ends_element, place_behind};
 ghost use Rattle.js_jsx.specs.Choice.{begins_child, begins_expression, begins_value, choice_at_end, choice_behind};
 ghost use Rattle.js_jsx.specs.Choice.{ends_substitution, goes_on_as_name, is_dash, is_in_template, is_tag_in_template};
 ghost use Rattle.js_jsx.specs.Choice.{reads_behind};
+ghost use Rattle.js_jsx.specs.InCode.{choice_in_code, command_at_slash, reads_behind_brace};
 ghost use Rattle.js_jsx.specs.Scopes.{is_children, is_code, is_tag, is_types, passes, top};
-ghost use Rattle.js_jsx.specs.States.{behind, change_in_tag, change_of, ends, first_state, has_brace, is_plain};
+ghost use Rattle.js_jsx.specs.States.{change_in_tag, change_of, ends, has_brace};
 ghost use Rattle.js_jsx.specs.States.{is_right_bracket, keeps_operand, may_open, takes_bang, takes_types};
 
 use crate::change::{
@@ -13,39 +15,33 @@ use crate::change::{
     ends_tags,
 };
 use crate::class::{TokenClass, class_of};
-use crate::open_scopes::OpenScopes;
+use crate::open_scopes::ScopesView;
 use crate::scope::Scope;
 use js_choose::ends_operand;
 use js_grammar::Goal;
 use js_kind::{Kind, Token};
 use js_session::Command;
-use std::alloc::{AllocError, Global};
 use std::marker::Model;
 
-/// What is kept of the tokens so far.
+/// What is kept of the tokens so far, as it is asked.
 #[derive(Drop)]
-pub(crate) struct KeptState {
+pub(crate) struct StateView<'a> {
     /// What is open.
-    scopes: OpenScopes,
+    pub scopes: ScopesView<'a>,
     /// Which of its own tokens comes next in what was opened last, if it is a tag.
-    place: TagPlace,
+    pub place: TagPlace,
     /// Whether an operand has ended though the last token does not tell.
-    has_ended: bool,
-    /// The last token, and the default one, of kind `Eof`, where there is none.
-    before: Token,
+    pub has_ended: bool,
+    /// The kind of the last token, and `Kind::Eof` where there is none.
+    pub before: Kind,
 }
 
-impl Model for KeptState {
+impl<'a> Model for StateView<'a> {
     ghost use Rattle.js_jsx.specs.States.{State};
 
     ghost Value = { State };
 
-    ghost view = { λ s. record {
-      scopes = s.scopes;
-      place = s.place;
-      has_ended = s.has_ended;
-      before = s.before.kind;
-    } };
+    ghost view = { λ s. record { scopes = s.scopes; place = s.place; has_ended = s.has_ended; before = s.before } };
 }
 
 /// Whether type parameters may stand behind a word of the kind.
@@ -88,31 +84,30 @@ fn is_dash(byte: Option<u8>) -> bool
     }
 }
 
-impl KeptState {
-    /// What is kept of no tokens. It needs no memory yet.
-    pub fn new(alloc: Global) -> KeptState
-        ensures { result ≡ first_state }
-    {
-        KeptState {
-            scopes: OpenScopes::new(alloc),
-            place: TagPlace::Later,
-            has_ended: false,
-            before: Token::default(),
-        }
+/// How the next token is read: as a child, or plainly.
+fn child_or_next(is_child: bool) -> Command
+    ensures { result ≡ (if is_child then Command.JsxChild else Command.Next) }
+{
+    if is_child {
+        Command::JsxChild
+    } else {
+        Command::Next
     }
+}
 
+impl<'a> StateView<'a> {
     /// Whether an operand may have ended.
     fn ends(&self) -> bool
         ensures { result ≡ ends self.now }
     {
-        self.has_ended || ends_operand(self.before.kind())
+        self.has_ended || ends_operand(self.before)
     }
 
     /// Whether a `<` opens a tag.
     fn may_open(&self) -> bool
         ensures { result ≡ may_open self.now }
     {
-        !self.ends() && !takes_types(self.before.kind())
+        !self.ends() && !takes_types(self.before)
     }
 
     /// Whether a brace is open.
@@ -131,13 +126,13 @@ impl KeptState {
         } else if self.place.tells_no_tag(class) {
             change_in_code(self.may_open(), class).in_place_of_tag()
         } else {
-            let before = class_of(self.before.kind());
+            let before = class_of(self.before);
             change_within_tag(is_closing, self.has_brace(), self.place, before, class)
         }
     }
 
     /// What a token of the class does to what is open.
-    fn change(&self, class: TokenClass) -> Change
+    pub fn change(&self, class: TokenClass) -> Change
         ensures { result ≡ change_of self.now class }
     {
         match self.scopes.top() {
@@ -185,17 +180,7 @@ impl KeptState {
     fn is_in_code(&self) -> bool
         ensures { result ≡ is_code (top self.now.scopes) }
     {
-        match self.scopes.top() {
-            Some(scope) => scope.is_brace(),
-            None => true,
-        }
-    }
-
-    /// Whether idle tokens change nothing but what the last token is.
-    pub fn is_plain(&self) -> bool
-        ensures { result ≡ is_plain self.now }
-    {
-        self.is_in_code() && !self.has_ended
+        self.scopes.are_code()
     }
 
     /// Whether the token is a `!` that leaves an operand ended.
@@ -204,32 +189,23 @@ impl KeptState {
     {
         class_of(token.kind()).is_bang()
             && !token.is_on_new_line()
-            && takes_bang(self.before.kind())
+            && takes_bang(self.before)
             && self.ends()
     }
 
-    /// Takes up one token more. Where there is no memory for what it opens, all stays as it was.
-    pub fn pass(&mut self, token: &Token) -> Result<(), AllocError>
-        ensures ok { OnOk result (self.new ≡ behind self.old token.now) }
-        ensures err { OnErr result (self.new ≡ self.old) }
+    /// Whether an operand has ended behind the token with the change, though it does not tell.
+    pub fn has_ended_behind(&self, token: &Token, change: Change) -> bool
+        ensures { result ≡ (ends_element change || keeps_operand self.now token.now) }
     {
-        let class = class_of(token.kind());
-        let change = self.change(class);
-        let has_ended = change.ends_element() || self.keeps_operand(token);
-        let place = self.place.behind(self.is_in_tag(), class, change);
-        self.scopes.change(change, class)?;
-        self.place = place;
-        self.has_ended = has_ended;
-        self.before = *token;
-        Ok(())
+        change.ends_element() || self.keeps_operand(token)
     }
 
-    /// The same for an idle token, which changes nothing but what the last token is.
-    #[inline(always)]
-    pub fn pass_idle(&mut self, token: &Token)
-        ensures { self.new ≡ record self.old { before = token.now.kind } }
+    /// Which of its own tokens comes next in what was opened last, if it is a tag, behind one of the class with the
+    /// change.
+    pub fn place_behind(&self, class: TokenClass, change: Change) -> TagPlace
+        ensures { result ≡ place_behind (passes is_tag (top self.now.scopes)) self.now.place class change }
     {
-        self.before = *token;
+        self.place.behind(self.is_in_tag(), class, change)
     }
 
     /// Whether a `}` ends a substitution in a template.
@@ -297,10 +273,8 @@ impl KeptState {
     {
         if self.begins_value(class) {
             Command::JsxAttr
-        } else if self.begins_child(class) {
-            Command::JsxChild
         } else {
-            Command::Next
+            child_or_next(self.begins_child(class))
         }
     }
 
@@ -315,10 +289,8 @@ impl KeptState {
         }
     }
 
-    /// The command behind a last token of the text.
-    #[cold]
-    #[inline(never)]
-    pub fn command(&self, text: &str, last: &Token) -> Option<Command>
+    /// The command behind a last token of the text, where a tag, type arguments or children were opened last.
+    fn command_within(&self, text: &str, last: &Token) -> Option<Command>
         ensures { result ≡ choice_behind (slice_get text.now last.now.end) self.now (Some last.now) }
     {
         let kind = last.kind();
@@ -332,6 +304,52 @@ impl KeptState {
             Some(Command::Regex)
         } else {
             Some(self.reads_behind(class_of(kind)))
+        }
+    }
+
+    /// How the next token is read behind a brace of the class in code.
+    fn reads_behind_brace(&self, class: TokenClass) -> Command
+        ensures { result ≡ reads_behind_brace self.now class }
+    {
+        child_or_next(self.scopes.are_children_behind(Change::Stays, class))
+    }
+
+    /// The command behind a `/` or `/=` in code.
+    fn command_at_slash(&self) -> Command
+        ensures { result ≡ command_at_slash self.now }
+    {
+        if self.ends() {
+            Command::Next
+        } else {
+            Command::Regex
+        }
+    }
+
+    /// The command behind a last token of the class in code.
+    fn command_in_code(&self, class: TokenClass) -> Option<Command>
+        ensures { result ≡ choice_in_code self.now class }
+    {
+        match class {
+            TokenClass::End => None,
+            TokenClass::RightCurly if self.is_in_template() => Some(Command::TemplateTail),
+            TokenClass::RightCurly | TokenClass::TemplateTail => {
+                Some(self.reads_behind_brace(class))
+            }
+            TokenClass::Slash | TokenClass::SlashEqual => Some(self.command_at_slash()),
+            _ => Some(Command::Next),
+        }
+    }
+
+    /// The command behind a last token of the text.
+    #[cold]
+    #[inline(never)]
+    pub fn command(&self, text: &str, last: Token) -> Option<Command>
+        ensures { result ≡ choice_behind (slice_get text.now last.end) self.now (Some last) }
+    {
+        if self.is_in_code() {
+            self.command_in_code(class_of(last.kind()))
+        } else {
+            self.command_within(text, &last)
         }
     }
 }

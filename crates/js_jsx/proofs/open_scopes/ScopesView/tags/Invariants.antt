@@ -1,6 +1,6 @@
 use Rattle.std.proofs.Common.{◌≡◌, ◌-◌, drop, length}
 use Rattle.js_jsx.specs.Scopes.{is_tag, skip_while}
-use Rattle.js_jsx.proofs.open_scopes.OpenScopes.tags.Given as goal
+use Rattle.js_jsx.proofs.open_scopes.ScopesView.tags.Given as goal
 
 -- What is left behind those that were passed is what is left behind all that are skipped.
 abbrev pub invariant-loop-scope : goal.invariant-loop-scope

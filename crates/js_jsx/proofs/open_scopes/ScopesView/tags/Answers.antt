@@ -1,7 +1,7 @@
 use Rattle.std.proofs.Common.{sym, ◌∙◌}
 use Rattle.js_jsx.specs.Scopes.{is_tag}
 use Rattle.js_jsx.proofs.ScopeLemmas.{skips_all, skips_none, skips_one}
-use Rattle.js_jsx.proofs.open_scopes.OpenScopes.tags.Goals as goal
+use Rattle.js_jsx.proofs.open_scopes.ScopesView.tags.Goals as goal
 
 pub loop-scope-preserved : goal.loop-scope-preserved
 loop-scope-preserved c =

@@ -1,6 +1,6 @@
 use Rattle.std.proofs.Common.{sym, ◌∙◌, ap, slice_get}
 use Rattle.js_jsx.proofs.StackLemmas.{first_behind}
-use Rattle.js_jsx.proofs.open_scopes.OpenScopes.last_brace.Goals as goal
+use Rattle.js_jsx.proofs.open_scopes.ScopesView.last_brace.Goals as goal
 
 pub returns : goal.returns
 returns c =

@@ -1,7 +1,7 @@
 use Rattle.std.proofs.Common.{sym, ◌∙◌, ap}
 use Rattle.js_jsx.specs.Scopes.{braced}
 use Rattle.js_jsx.proofs.ScopeLemmas.{braced_at_top, braced_by_item, braced_of_none}
-use Rattle.js_jsx.proofs.open_scopes.OpenScopes.braced.Goals as goal
+use Rattle.js_jsx.proofs.open_scopes.ScopesView.braced.Goals as goal
 
 pub returns-then-is_brace : goal.returns-then-is_brace
 returns-then-is_brace c =

@@ -1,7 +1,7 @@
 use Rattle.std.proofs.Common.{◌-◌, sym, ◌∙◌, ap, drop, length}
 use Rattle.std.proofs.lemmas.List.{length-map}
 use Rattle.js_jsx.proofs.ScopeLemmas.{above_brace}
-use Rattle.js_jsx.proofs.open_scopes.OpenScopes.above_brace.Goals as goal
+use Rattle.js_jsx.proofs.open_scopes.ScopesView.above_brace.Goals as goal
 
 pub returns : goal.returns
 returns c =

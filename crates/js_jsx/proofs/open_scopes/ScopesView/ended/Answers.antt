@@ -1,7 +1,7 @@
 use Rattle.std.proofs.Common.{sym, ◌∙◌, Some, None}
 use Rattle.js_jsx.specs.Changes.{left}
 use Rattle.js_jsx.proofs.ScopeLemmas.{closes_none, closes_nothing, closes_one}
-use Rattle.js_jsx.proofs.open_scopes.OpenScopes.ended.Goals as goal
+use Rattle.js_jsx.proofs.open_scopes.ScopesView.ended.Goals as goal
 
 pub returns-then-closes : goal.returns-then-closes
 returns-then-closes c =
