@@ -1,0 +1,3 @@
+mod ChangeLemmas
+mod ScanLemmas
+mod StepLemmas

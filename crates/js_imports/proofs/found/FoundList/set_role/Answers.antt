@@ -1,0 +1,16 @@
+use Rattle.std.proofs.Common.{◌≡◌, ◌∙◌, ap, arith}
+use Rattle.js_imports.proofs.ChangeLemmas.{change_at, stays_past}
+use Rattle.js_imports.specs.Scans.{change, with_role}
+use Rattle.js_imports.proofs.found.FoundList.set_role.Goals as goal
+
+pub returns-then-len-index : goal.returns-then-len-index
+returns-then-len-index c =
+    let same : c.self.inside.items.items ≡ c.args.self.now = c.self.view_is in
+    let stays = stays_past (with_role c.args.role c.args.end) c.self.inside.items.items c.args.self.now c.args.index same (omega arith) in cc
+
+pub returns : goal.returns
+returns c =
+    let same : c.self.inside.items.items ≡ c.args.self.now = c.self.view_is in
+    change_at (with_role c.args.role c.args.end) c.self.inside.items.items c.args.index c.index_mut-found.result.now (omega arith)
+    c.index_mut-found.ensures.value
+    ∙ ap (change (with_role c.args.role c.args.end) c.args.index) same

@@ -1,0 +1,4 @@
+pub mod Classes
+pub mod Imports
+pub mod Moves
+pub mod Scans
