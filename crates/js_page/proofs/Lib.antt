@@ -1,0 +1,10 @@
+mod ElementLemmas
+mod FaultLemmas
+mod Free
+mod LineLemmas
+mod NumberLemmas
+mod ReadCharacters
+mod ReadPieces
+mod ReadSteps
+mod ShowsLemmas
+mod TextLemmas

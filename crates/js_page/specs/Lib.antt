@@ -1,0 +1,11 @@
+pub mod Characters
+pub mod Classes
+pub mod Elements
+pub mod Fragment
+pub mod Lines
+pub mod Numbered
+pub mod Parts
+pub mod Pieces
+pub mod Reading
+pub mod Whole
+pub mod Written
