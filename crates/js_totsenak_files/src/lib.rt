@@ -3,12 +3,14 @@
 
 mod collecting;
 mod fault;
+mod importing;
 mod output;
 mod program;
 mod reading;
 mod replacing;
 mod rewriting;
+mod showing;
 mod telling;
 mod words;
 
-pub use program::totsenak_main;
+pub use program::{totsenak_main, totsenak_run};

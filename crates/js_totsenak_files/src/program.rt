@@ -1,8 +1,10 @@
 //! The program `totsenak`.
 
 use crate::collecting::collect;
+use crate::importing::tell_imports_of_each;
 use crate::output::{Outcome, WatchedWriter};
 use crate::rewriting::rewrite_each;
+use crate::showing::show;
 use crate::telling::tell_of_each;
 use crate::words::{Asked, Sources, answer_for, asked_of, mistake_in, read_words};
 use clap::ArgMatches;
@@ -22,6 +24,8 @@ fn obey_over<O: ByteOut>(
         Asked::Telling(command) => tell_of_each(rt, *command, sources, output),
         Asked::Anew(anew) => rewrite_each(rt, anew, sources, output),
         Asked::Licences(format) => collect(rt, *format, sources, output),
+        Asked::Imports(imports) => tell_imports_of_each(rt, *imports, sources, output),
+        Asked::Html(showing) => show(rt, *showing, sources, output),
     };
     match output.flush() {
         FlushAnswer::Done => status,
@@ -52,8 +56,8 @@ fn obey_command(rt: &HostRuntime, command: &str, matches: &ArgMatches<'_>) -> u8
     }
 }
 
-/// The exit status of a run of these words.
-fn run(rt: &HostRuntime, words: &[String]) -> u8 {
+/// Runs the program with these words, without its name, and gives the exit status.
+pub fn totsenak_run(rt: &HostRuntime, words: &[String]) -> u8 {
     match read_words(rt.alloc(), words) {
         Ok(matches) => match matches.subcommand() {
             Some((command, matches)) => obey_command(rt, command, matches),
@@ -76,7 +80,7 @@ fn without_words(rt: &HostRuntime, error: &io::Error) -> u8 {
 /// The program over what the system gives it: its arguments, files and streams.
 pub fn totsenak_main(rt: &HostRuntime) -> ExitCode {
     match program_words(rt) {
-        Ok(words) => ExitCode::from(run(rt, words.as_slice())),
+        Ok(words) => ExitCode::from(totsenak_run(rt, words.as_slice())),
         Err(error) => ExitCode::from(without_words(rt, &error)),
     }
 }

@@ -1,7 +1,9 @@
 //! The words of the program.
 
+use crate::importing::ImportsAsked;
 use crate::reading::STANDARD_INPUT;
 use crate::rewriting::{Anew, Target};
+use crate::showing::Showing;
 use clap::error::ErrorKind;
 use clap::{Arg, ArgAction, ArgMatches, Command, Error};
 use js_text::SourceType;
@@ -41,6 +43,13 @@ fn with_json<'a>(alloc: Global, command: Command<'a>) -> Result<Command<'a>, All
     over_sources(alloc, command)?.arg(json)
 }
 
+/// The command that tells what sources import and export.
+fn importing<'a>(alloc: Global) -> Result<Command<'a>, AllocError> {
+    let imports = Command::new(alloc, "imports").about("Lists what sources import and export");
+    let require = flag(alloc, "require", "Lists calls of require too");
+    with_json(alloc, imports)?.arg(require)
+}
+
 /// A command that writes sources anew.
 fn writing_anew<'a>(alloc: Global, command: Command<'a>) -> Result<Command<'a>, AllocError> {
     let output = Arg::new(alloc, "output")
@@ -62,6 +71,22 @@ fn writing_anew<'a>(alloc: Global, command: Command<'a>) -> Result<Command<'a>, 
         .arg(licences)
 }
 
+/// The command that shows a source as a page.
+fn html<'a>(alloc: Global) -> Result<Command<'a>, AllocError> {
+    let command = Command::new(alloc, "html").about("Writes a source as a page of HTML");
+    let title = Arg::new(alloc, "title")
+        .long("title")
+        .value_name("TITLE")
+        .action(ArgAction::Set)
+        .help("The title of the page; else it is the name of the file");
+    let fragment = flag(alloc, "fragment", "Writes the pre element alone").conflicts_with("title")?;
+    let css = flag(alloc, "css", "Writes the style alone");
+    over_sources(alloc, command)?
+        .arg(fragment)?
+        .arg(css)?
+        .arg(title)
+}
+
 /// The commands that tell of sources.
 fn with_telling<'a>(alloc: Global, program: Command<'a>) -> Result<Command<'a>, AllocError> {
     let check = Command::new(alloc, "check").about("Tells what is at fault in sources");
@@ -76,7 +101,8 @@ fn with_telling<'a>(alloc: Global, program: Command<'a>) -> Result<Command<'a>, 
         .subcommand(over_sources(alloc, check)?)?
         .subcommand(with_json(alloc, tokens)?)?
         .subcommand(over_sources(alloc, values)?)?
-        .subcommand(with_json(alloc, licences)?)
+        .subcommand(with_json(alloc, licences)?)?
+        .subcommand(importing(alloc)?)
 }
 
 /// What the program's words may be.
@@ -92,6 +118,7 @@ fn program<'a>(alloc: Global) -> Result<Command<'a>, AllocError> {
         .disable_help_subcommand(true)
         .subcommand_required(true);
     with_telling(alloc, program)?
+        .subcommand(html(alloc)?)?
         .subcommand(writing_anew(alloc, strip)?)?
         .subcommand(writing_anew(alloc, squeeze)?)
 }
@@ -165,6 +192,25 @@ fn anew_in<'w>(rewriting: Rewriting, matches: &'w ArgMatches<'_>) -> Anew<'w> {
     }
 }
 
+/// What the words of `imports` ask for.
+fn imports_in(matches: &ArgMatches<'_>) -> ImportsAsked {
+    ImportsAsked {
+        format: format_in(matches),
+        counts_require: matches.get_flag("require"),
+    }
+}
+
+/// What the words of `html` ask for.
+fn showing_in<'w>(matches: &'w ArgMatches<'_>) -> Showing<'w> {
+    if matches.get_flag("css") {
+        Showing::Style
+    } else if matches.get_flag("fragment") {
+        Showing::Fragment
+    } else {
+        Showing::Page(matches.get_str("title"))
+    }
+}
+
 /// What is asked of sources.
 #[derive(Clone, Copy)]
 pub(crate) enum Asked<'w> {
@@ -174,6 +220,10 @@ pub(crate) enum Asked<'w> {
     Anew(Anew<'w>),
     /// To list their licences.
     Licences(Format),
+    /// To list what they import and export.
+    Imports(ImportsAsked),
+    /// To show one as a page.
+    Html(Showing<'w>),
 }
 
 /// What the words of a command ask for, and of which sources.
@@ -182,6 +232,8 @@ pub(crate) fn asked_of<'w>(command: &str, matches: &'w ArgMatches<'_>) -> (Asked
         "tokens" => Asked::Telling(Telling::Tokens(format_in(matches))),
         "values" => Asked::Telling(Telling::Values),
         "licences" => Asked::Licences(format_in(matches)),
+        "imports" => Asked::Imports(imports_in(matches)),
+        "html" => Asked::Html(showing_in(matches)),
         "strip" => Asked::Anew(anew_in(Rewriting::Strip, matches)),
         "squeeze" => Asked::Anew(anew_in(Rewriting::Squeeze, matches)),
         _ => Asked::Telling(Telling::Check),
@@ -191,9 +243,15 @@ pub(crate) fn asked_of<'w>(command: &str, matches: &'w ArgMatches<'_>) -> (Asked
 
 /// Why what the words ask for can't be done with these files, if it can't.
 pub(crate) fn mistake_in(asked: &Asked<'_>, sources: &Sources<'_>) -> Option<&'static str> {
-    let Asked::Anew(anew) = asked else {
-        return None;
-    };
+    match asked {
+        Asked::Anew(anew) => mistake_in_target(anew, sources),
+        Asked::Html(_) if sources.names.len() != 1 => Some("html takes one file"),
+        Asked::Html(_) | Asked::Telling(_) | Asked::Licences(_) | Asked::Imports(_) => None,
+    }
+}
+
+/// The same of sources that are written anew.
+fn mistake_in_target(anew: &Anew<'_>, sources: &Sources<'_>) -> Option<&'static str> {
     match anew.target {
         Target::StandardOutput => None,
         Target::File(_) if sources.names.len() == 1 => None,

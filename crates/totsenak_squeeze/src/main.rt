@@ -1,9 +1,0 @@
-//! The program `totsenak` once more, for a stored run of `squeeze`.
-#![tactic(auto)]
-
-use js_totsenak_files::totsenak_main;
-use std::process::ExitCode;
-
-fn main(rt: HostRuntime) -> ExitCode {
-    totsenak_main(&rt)
-}
