@@ -1,4 +1,4 @@
-//! The words of the program.
+//! What the words of the program ask for: an edit of the input, and the commands of both texts.
 
 ghost use Rattle.std.specs.Prelude.{◌≡◌, ◌∷◌, IfOk, map, string_bytes};
 ghost use Rattle.std.specs.List.{position_or_len};

@@ -1,4 +1,4 @@
-//! Statements.
+//! Statements: declarations and expressions, each with the semicolon that ends it.
 
 ghost use Rattle.std.specs.Prelude.{◌≡◌, ◌≤◌, ◌<◌, ◌^◌, true, IfErr, OnOk};
 ghost use Rattle.js_cursor.specs.Lists.{ends_at};
