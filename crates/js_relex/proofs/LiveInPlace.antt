@@ -7,7 +7,7 @@ use Rattle.std.specs.List.{AllByRecursion}
 use Rattle.js_session.specs.declared.report.Report.{Report}
 use Rattle.js_session.specs.declared.row.Row.{Row}
 use Rattle.js_session.specs.Live.{nothing_live, report_live, report_with}
-use Rattle.js_relex.specs.Documents.{GoesLive, live_behind}
+use Rattle.js_relex.specs.Documents.{GoesLive, IsGathered, live_behind}
 use Rattle.js_relex.proofs.LiveRows.{live-append}
 
 -- what is live behind the rows was made live
@@ -57,6 +57,17 @@ live_report none a rows is h =
     let live : report_live a ≡ live_behind nothing_live rows =
     h.live_is ∙ ap (λ (r : Report). live_behind (report_live r) rows) is in
     λ j. report_with (rows_are j) (collected j) (live j)
+
+-- that report, with the rows
+pub gathered_rows : (none a b : Report) (rows : List Row) → none ≡ report_with [] [] nothing_live → GoesBehind none rows a
+    → b ≡ record a { rows = rows } → IsGathered rows b
+gathered_rows none a b rows is h with_rows =
+    let live = live_report none a rows is h in
+    record {
+      rows_are = ap (λ (r : Report). r.rows) with_rows;
+      live = ap report_live with_rows ∙ ap report_live live;
+      collected = ap (λ (r : Report). r.collected) with_rows ∙ ap (λ (r : Report). r.collected) live;
+    }
 
 module _ (P : Row → Type 0) where
   pub all_at : (rows : List Row) (index : ℕ) (d : Row) → index < length rows → AllByRecursion P rows

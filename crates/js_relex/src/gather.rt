@@ -6,7 +6,7 @@ ghost use Rattle.std.specs.List.{AllByRecursion};
 ghost use Rattle.js_session.specs.Live.{nothing_live, outcome_of, report_live, report_with, with_outcome};
 ghost use Rattle.js_session.specs.Live.{with_re_lexed};
 ghost use Rattle.js_session.specs.Shifted.{shifted_row};
-ghost use Rattle.js_relex.specs.Documents.{GoesLive, MayMove, live_behind};
+ghost use Rattle.js_relex.specs.Documents.{GoesLive, IsGathered, MayMove, live_behind};
 
 use js_kind::TokenList;
 use js_session::{Effect, Report, Row, RowList, Shift};
@@ -97,6 +97,15 @@ pub(crate) fn add_live_rows(report: &mut Report, rows: &[Row]) -> Result<(), All
         add_live(report, row)?;
     }
     Ok(())
+}
+
+/// The report of the rows: these, and what they make live. No tokens are collected.
+pub fn report_of_rows(alloc: Global, rows: RowList) -> Result<Report, AllocError>
+    ensures { IfOk result (IsGathered rows) }
+{
+    let mut report = empty_report(alloc);
+    add_live_rows(&mut report, rows.as_slice())?;
+    Ok(with_rows(report, rows))
 }
 
 /// Makes live what the rows make live, moved.

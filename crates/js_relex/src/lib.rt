@@ -17,3 +17,4 @@ mod patch;
 pub use document::{LexDoc, NotRelexed, relex, shift_of};
 pub use edit::Edit;
 pub use fault::RelexFault;
+pub use gather::report_of_rows;

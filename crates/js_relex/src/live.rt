@@ -17,7 +17,7 @@ use crate::gather::{add_live_rows, add_moved_live_rows, empty_report};
 use crate::outline::RowOutline;
 use crate::outlined::OutlinedReport;
 use js_kind::{Token, TokenList};
-use js_session::{Command, Report, Row, Shift};
+use js_session::{Command, Effect, Report, Row, Shift};
 use js_text::{Comment, CommentList, Diagnostic, DiagnosticList, Span, SpanList};
 use std::alloc::{AllocError, Global};
 
@@ -46,10 +46,10 @@ enum FoundList {
 fn is_reading(command: Option<Command>) -> bool
     ensures { result ≡ is_reading command }
 {
-    matches!(
-        command,
-        None | Some(Command::Next | Command::JsxChild | Command::JsxAttr)
-    )
+    match command {
+        None => true,
+        Some(command) => matches!(command.effect(), Effect::Reads(_)),
+    }
 }
 
 /// How many of the commands read a token behind the last one.
