@@ -111,7 +111,8 @@ pub fn html_of_source(
     source: &[u8],
     source_type: SourceType,
 ) -> Result<String, ChoiceFault>
-    ensures html { IfOk result (λ text. IsHtml (rule_of syntax) form.entry source.now source_type (string_bytes text)) }
+    ensures html { IfOk result (λ text.
+        IsHtml (rule_of syntax) form.entry source.now source_type (string_bytes text)) }
     ensures ok { OnOk result (IsReadable source.now) }
     // Each fault comes for its cause alone, and where the source has one, it comes.
     ensures cause { IfErr result (λ fault. (fault ≡ ChoiceFault.Memory) ⊎ ChoiceCause source.now fault) }

@@ -1,5 +1,5 @@
 -- The rule: what a token means behind those before it.
-use Rattle.std.specs.Prelude.{Bool, true, ◌||◌, Option, Some, None, unwrap_or, if◌then◌else◌}
+use Rattle.std.specs.Prelude.{Bool, Option, Some, None, unwrap_or, if◌then◌else◌}
 use Rattle.js_imports.specs.Classes.{is_label, is_name}
 use Rattle.js_imports.specs.declared.class.TokenClass.{TokenClass}
 use Rattle.js_imports.specs.declared.class.TokenClass.TheVariants as class

@@ -3,8 +3,10 @@ mod FaultLemmas
 mod Free
 mod LineLemmas
 mod NumberLemmas
+mod PlainLemmas
 mod ReadCharacters
 mod ReadPieces
 mod ReadSteps
 mod ShowsLemmas
+mod StretchLemmas
 mod TextLemmas

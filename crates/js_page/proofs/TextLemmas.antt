@@ -1,9 +1,8 @@
 -- The text of pieces is that of their characters; and without their marks, those of a source are the source's.
 use Rattle.std.proofs.Common.{◌≡◌, ℕ, ◌+◌, ◌-◌, Bool, true, false, List, [], ◌∷◌, ◌++◌, ◌∙◌, ap, sym, refl, append-nil, append_assoc}
-use Rattle.std.specs.Prelude.{◌&&◌, ◌==◌, not, Option, Some, None, codes, encode_utf8, flat_map, if◌then◌else◌, map, nat_le}
-use Rattle.std.specs.Prelude.{min}
-use Rattle.js_lines.specs.Columns.{behind_front, front_within, width_in}
-use Rattle.js_lines.specs.declared.columns.ColumnUnit.{ColumnUnit}
+use Rattle.std.specs.Prelude.{◌&&◌, ◌==◌, not, Option, Some, None, codes, encode_utf8, flat_map, if◌then◌else◌, map, min}
+use Rattle.js_lines.proofs.ColumnLemmas.{front_behind}
+use Rattle.js_lines.specs.Columns.{behind_front}
 use Rattle.js_lines.specs.declared.columns.ColumnUnit.TheVariants.{Bytes}
 use Rattle.js_page.proofs.LineLemmas.{pieces_both}
 use Rattle.js_page.specs.Characters.{bytes_seen, character_seen, is_hidden, seen_hidden, shown}
@@ -144,17 +143,6 @@ before_none : (ps qs : List Piece) → without_marks qs ≡ [] → without_marks
 before_none ps qs none =
     without_append ps qs ∙ ap (λ rs. without_marks ps ++ rs) none ∙ append-nil (without_marks ps)
 
-one_more : (b : Bool) (c : ℕ) (cs front behind : List ℕ) → front ++ behind ≡ cs
-    → (if b then c ∷ front else []) ++ (if b then behind else c ∷ cs) ≡ c ∷ cs
-one_more true c cs front behind e = ap (λ xs. c ∷ xs) e
-one_more false c cs front behind e = refl
-
-front_and_behind : (unit : ColumnUnit) (n : ℕ) (cs : List ℕ) → front_within unit n cs ++ behind_front unit n cs ≡ cs
-front_and_behind unit n [] = refl
-front_and_behind unit n (c ∷ cs) =
-    one_more (nat_le (width_in unit c) n) c cs (front_within unit (n - width_in unit c) cs)
-    (behind_front unit (n - width_in unit c) cs) (front_and_behind unit (n - width_in unit c) cs)
-
 -- the characters that are left, with their anchors
 abbrev left_pieces : Here → List Piece
 left_pieces here = pieces_in here.lines here.left
@@ -181,7 +169,7 @@ plain_keeps : (to : ℕ) (here : Here) → Keeps (plain_to to here) here (behind
 plain_keeps to here =
     ap (λ ps. ps ++ left_pieces (behind_stretch to here)) (kept_in here.lines (stretch_to to here))
     ∙ sym (pieces_both here.lines (stretch_to to here) (behind_front Bytes (to - here.place) here.left))
-    ∙ ap (pieces_in here.lines) (front_and_behind Bytes (to - here.place) here.left)
+    ∙ ap (pieces_in here.lines) (front_behind Bytes (to - here.place) here.left)
 
 fault_keeps : (to : ℕ) (fault : Fault) (here : Here) → Keeps (fault_pieces to fault here) here (behind_fault to fault here)
 fault_keeps to fault here =

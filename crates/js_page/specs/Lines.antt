@@ -1,5 +1,6 @@
 -- Characters with the anchors of the lines that begin in them.
-use Rattle.std.specs.Prelude.{ℕ, ◌+◌, Bool, false, not, ◌&&◌, ◌||◌, ◌==◌, List, [], ◌∷◌, ◌++◌, if◌then◌else◌}
+use Rattle.std.specs.Prelude.{ℕ, ◌+◌, Bool, false, not, ◌&&◌, ◌||◌, ◌==◌, List, [], ◌∷◌, ◌++◌, bytes_eq, if◌then◌else◌}
+use Rattle.js_page.specs.Characters.{written}
 use Rattle.js_page.specs.Pieces.{Piece, character, line}
 use Rattle.js_page.specs.declared.lines.Lines.{Lines}
 
@@ -14,6 +15,10 @@ ends_before lines c = not (c == 10) && lines.behind_return
 -- a line ends behind the character c, whatever follows
 abbrev pub ends_behind : ℕ → Bool
 ends_behind c = (c == 10) || (c == 0x2028) || (c == 0x2029)
+
+-- the character c is plain: it is written as its number, and no line ends at it
+unfoldable pub is_plain : ℕ → Bool
+is_plain c = bytes_eq (written c) (c ∷ []) && (not (ends_behind c) && not (c == 13))
 
 -- the number of the line on which the character c stands
 abbrev pub begun : Lines → ℕ → ℕ

@@ -1,6 +1,6 @@
 //! Characters of a source as a page has them.
 
-ghost use Rattle.std.specs.Prelude.{◌≡◌, ◌++◌, OnOk, string_bytes, codes, encode_utf8};
+ghost use Rattle.std.specs.Prelude.{◌≡◌, ◌++◌, OnOk, string_bytes};
 ghost use Rattle.js_page.specs.Characters.{hex_digits, hidden_tag, hidden_text, is_hidden, written, zeros};
 
 use std::alloc::AllocError;

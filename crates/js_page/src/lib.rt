@@ -4,6 +4,7 @@
 mod character;
 mod class;
 mod lines;
+mod plain;
 mod title;
 mod whole;
 mod writing;

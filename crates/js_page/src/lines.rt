@@ -1,16 +1,18 @@
 //! Lines of a source, each with its anchor.
 
-ghost use Rattle.std.specs.Prelude.{◌≡◌, ◌+◌, ◌++◌, IfOk, OnOk, string_bytes, chars};
+ghost use Rattle.std.specs.Prelude.{◌≡◌, ◌+◌, ◌++◌, ◌<◌, ◌^◌, IfOk, OnOk, length, string_bytes, chars};
 ghost use Rattle.js_page.specs.Pieces.{anchor, bytes_of};
 ghost use Rattle.js_page.specs.Lines.{begun, ended, line_behind, next_lines, lines_behind, pieces_in};
 ghost use Rattle.js_page.specs.Lines.{pieces_at, pieces_before};
 
 use crate::character::push_character;
+use crate::plain::push_plain;
+use js_source::Source;
 use std::alloc::AllocError;
 use std::fmt::Write;
 
-/// How many lines have begun, and whether the last character was a CR. Then the next one tells whether a line has ended:
-/// a LF ends the same line.
+/// How many lines have begun, and whether the last character was a CR. Then the next one tells whether a line has
+/// ended: a LF ends the same line.
 #[derive(Clone, Copy)]
 pub(crate) struct Lines {
     pub number: u32,
@@ -85,6 +87,36 @@ fn push_in_line(text: &mut String, lines: Lines, c: char) -> Result<Lines, Alloc
     })
 }
 
+/// Appends characters with the anchors of lines that begin there, one by one.
+fn push_each(text: &mut String, lines: Lines, stretch: &str) -> Result<Lines, AllocError>
+    ensures lines { IfOk result (λ next. next ≡ lines_behind lines (chars stretch.now)) }
+    ensures text { OnOk result (string_bytes text.new
+        ≡ string_bytes text.old ++ bytes_of (pieces_in lines (chars stretch.now))) }
+{
+    let mut lines = lines;
+    for c in stretch.chars() {
+        lines = push_in_line(text, lines, c)?;
+    }
+    Ok(lines)
+}
+
+/// Appends characters with the anchors of lines that begin there, and those that are plain all at once.
+fn push_runs(text: &mut String, lines: Lines, stretch: &str) -> Result<Lines, AllocError>
+    requires { length stretch.now < 2 ^ 32 }
+    ensures lines { IfOk result (λ next. next ≡ lines_behind lines (chars stretch.now)) }
+    ensures text { OnOk result (string_bytes text.new
+        ≡ string_bytes text.old ++ bytes_of (pieces_in lines (chars stretch.now))) }
+{
+    let mut reached = lines;
+    let mut source = Source::new(stretch);
+    push_plain(text, reached, &mut source)?;
+    while let Some(c) = source.next_char() {
+        reached = push_in_line(text, reached, c)?;
+        push_plain(text, reached, &mut source)?;
+    }
+    Ok(reached)
+}
+
 /// Appends characters with the anchors of lines that begin there.
 pub(crate) fn push_in_lines(
     text: &mut String,
@@ -95,9 +127,9 @@ pub(crate) fn push_in_lines(
     ensures text { OnOk result (string_bytes text.new
         ≡ string_bytes text.old ++ bytes_of (pieces_in lines (chars stretch.now))) }
 {
-    let mut lines = lines;
-    for c in stretch.chars() {
-        lines = push_in_line(text, lines, c)?;
+    if stretch.len() > u32::MAX as usize {
+        push_each(text, lines, stretch)
+    } else {
+        push_runs(text, lines, stretch)
     }
-    Ok(lines)
 }

@@ -1,17 +1,18 @@
 //! Whole pages.
 
-ghost use Rattle.std.specs.Prelude.{◌≡◌, ◌++◌, IfOk, string_bytes};
+ghost use Rattle.std.specs.Prelude.{◌≡◌, IfOk, string_bytes};
 ghost use Rattle.js_page.specs.Whole.{page_head};
 
 use crate::title::push_title;
 use std::alloc::{AllocError, Global};
 
 /// The style of the elements, in light and in dark.
-pub const STYLE: &str =
-    ".totsenak{margin:0;padding:1em 1em 1em 0;overflow:auto;font:14px/1.5 ui-monospace,monospace;white-space:pre;tab-size:4;counter-reset:line}\n\
+pub const STYLE: &str = ".totsenak{margin:0;padding:1em 1em 1em 0;overflow:auto;\n\
+    font:14px/1.5 ui-monospace,monospace;white-space:pre;tab-size:4;counter-reset:line}\n\
     .totsenak i{font-style:normal}\n\
     .totsenak .k,.totsenak .l{font-weight:bold}\n\
-    .totsenak a::before{counter-increment:line;content:counter(line);display:inline-block;width:6ch;margin-right:2ch;text-align:right;font-weight:normal;user-select:none}\n\
+    .totsenak a::before{counter-increment:line;content:counter(line);\n\
+    display:inline-block;width:6ch;margin-right:2ch;text-align:right;font-weight:normal;user-select:none}\n\
     .totsenak a:target::before{outline:1px solid}\n\
     .totsenak b{font-weight:normal;unicode-bidi:isolate}\n\
     .totsenak b::before{content:attr(title);padding:0 2px;border:1px solid;border-radius:3px;font-size:10px}\n\

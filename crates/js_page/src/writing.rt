@@ -1,6 +1,6 @@
 //! Sources as elements of a page.
 
-ghost use Rattle.std.specs.Prelude.{◌≡◌, ◌++◌, ◌≤◌, ◌<◌, ◌^◌, [], IfOk, OnOk, codes, length, map, chars, string_bytes};
+ghost use Rattle.std.specs.Prelude.{◌≡◌, ◌++◌, ◌≤◌, ◌<◌, ◌^◌, [], IfOk, OnOk, codes, length, map, string_bytes};
 ghost use Rattle.js_page.specs.Elements.{behind_element, comment_element, comments_before, element_pieces};
 ghost use Rattle.js_page.specs.Elements.{elements_of, late_faults, pieces_from};
 ghost use Rattle.js_page.specs.Fragment.{ShowsBehind};
@@ -119,11 +119,14 @@ impl<'s> Page<'s> {
         ensures here { OnOk result (here self.new ≡ behind_stretch to (here self.old)) }
         ensures short { OnOk result (length self.new.left.now < 2 ^ 32) }
     {
-        let length = to.saturating_sub(self.place);
+        if to <= self.place {
+            return Ok(());
+        }
+        let length = to - self.place;
         let (stretch, left) = ColumnUnit::Bytes.split_at(self.left, length as usize);
         self.lines = push_in_lines(&mut self.text, self.lines, stretch)?;
         self.left = left;
-        self.place = self.place.max(to);
+        self.place = to;
         Ok(())
     }
 
@@ -175,7 +178,8 @@ impl<'s> Page<'s> {
     fn push_element(&mut self, class: Class, span: Span) -> Result<(), AllocError>
         requires { length self.old.left.now < 2 ^ 32 }
         ensures text { OnOk result (string_bytes self.new.text ≡ string_bytes self.old.text
-            ++ bytes_of (element_pieces (record { class = class; start = span.start; end = span.end }) (here self.old))) }
+            ++ bytes_of (element_pieces (record { class = class; start = span.start; end = span.end })
+            (here self.old))) }
         ensures here { OnOk result (here self.new
             ≡ behind_element (record { class = class; start = span.start; end = span.end }) (here self.old)) }
         ensures short { OnOk result (length self.new.left.now < 2 ^ 32) }

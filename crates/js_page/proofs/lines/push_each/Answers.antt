@@ -6,7 +6,7 @@ use Rattle.js_page.proofs.LineLemmas.{lines_more, pieces_more}
 use Rattle.js_page.specs.Lines.{lines_behind, next_lines, pieces_at, pieces_in}
 use Rattle.js_page.specs.Pieces.{bytes_of, piece_bytes}
 use Rattle.js_page.specs.declared.lines.Lines.{Lines}
-use Rattle.js_page.proofs.lines.push_in_lines.Goals as goal
+use Rattle.js_page.proofs.lines.push_each.Goals as goal
 
 pub returns-clause-lines : goal.returns-clause-lines
 returns-clause-lines c =
