@@ -2,8 +2,10 @@ pub mod Answering
 pub mod AnsweringAnew
 pub mod Completing
 pub mod Counts
+pub mod Decimals
 pub mod Generating
 pub mod Held
 pub mod Lines
+pub mod Named
 pub mod Plain
 pub mod Stars

@@ -3,6 +3,8 @@ pub mod Command
 pub mod Generated
 pub mod Held
 pub mod Line
+pub mod Names
+pub mod Numbers
 pub mod Program
 pub mod ReportText
 pub mod Run

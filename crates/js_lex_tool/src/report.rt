@@ -1,9 +1,8 @@
 //! The text of a report.
 
 ghost use Rattle.std.specs.Prelude.{◌≡◌, ◌+◌, ◌≤◌, ◌++◌, [], ◌∷◌, true, codes, length, IfOk, OnOk, string_bytes};
-ghost use Rattle.std.specs.Prelude.{if◌then◌else◌};
+ghost use Rattle.std.specs.Prelude.{if◌then◌else◌, IsCharBoundary, slice_range};
 ghost use Rattle.std.specs.List.{AllByRecursion, flat_map};
-ghost use Rattle.js_kind.specs.Kinds.{kind_name};
 ghost use Rattle.js_text.specs.Comment.{comment_kind_name, comment_position_name, comment_content_name};
 ghost use Rattle.js_session.specs.Report.{IsSliceOnPlaces};
 ghost use Rattle.js_lex_tool.specs.ReportText.{flags_text, token_text, step_name, bit_text, row_head, value_text};
@@ -17,7 +16,7 @@ use crate::command::command_word;
 use crate::line::Line;
 use crate::units::{is_plain, push_number, push_text_in_units, push_units};
 use bitflags::Flags;
-use js_kind::{Kind, Token};
+use js_kind::Token;
 use js_session::{Command, Report, Row, RowValue};
 use js_text::{
     Comment, CommentContent, CommentKind, CommentPosition, Diagnostic, RegExpFlags, RegexInfo, Span,
@@ -27,6 +26,9 @@ use std::fmt::Write;
 
 /// A value that is no longer is written with its row.
 const SHORT: usize = 60;
+
+/// A value that is no longer is copied as the end of a block of so many bytes.
+const BLOCK: usize = 16;
 
 /// Puts a blank, and the flags that hold or a dash.
 #[inline(always)]
@@ -79,13 +81,6 @@ fn put_step(line: &mut Line, command: Option<Command>)
     }
 }
 
-fn kind_name(kind: Kind) -> &'static str
-    ensures name { result.now ≡ kind_name kind }
-    ensures short { length result.now ≤ 22 }
-{
-    kind.name()
-}
-
 fn bit(holds: bool) -> &'static str
     ensures { result.now ≡ bit_text holds }
 {
@@ -106,46 +101,72 @@ fn put_bit(line: &mut Line, holds: bool)
     }
 }
 
+#[inline(always)]
 #[tactic(auto, unfolding(crate::specs::ReportText::token_text))]
 fn put_token(line: &mut Line, token: &Token)
-    requires { 69 ≤ line.old.room }
+    requires { 78 ≤ line.old.room }
     ensures text { line.new.text ≡ token_text token.now ++ line.old.text }
-    ensures room { line.old.room ≤ line.new.room + 69 }
+    ensures room { line.old.room ≤ line.new.room + 70 }
 {
     put_flags(line, token);
-    line.put_number(u64::from(token.end()));
+    line.put_place(token.end());
     line.put_text("..");
-    line.put_number(u64::from(token.start()));
-    line.put_text(" ");
-    line.put_text(kind_name(token.kind()));
+    line.put_place(token.start());
+    line.put_kind(token);
 }
 
+#[inline(always)]
 #[tactic(auto, unfolding(crate::specs::ReportText::row_head))]
 fn put_head(line: &mut Line, index: usize, row: &Row)
-    requires { 59 ≤ line.old.room }
+    requires { 58 ≤ line.old.room }
     ensures { line.new.text ≡ row_head index row.now ++ line.old.text }
 {
     line.put_text(" ");
     put_bit(line, row.taken);
-    line.put_number(u64::from(row.place));
+    line.put_place(row.place);
     put_step(line, row.command);
-    line.put_number(index as u64);
+    line.put_index(index);
     line.put_text("row ");
 }
 
+/// Puts a part of the source. A short one is the end of a block of bytes.
+#[inline(always)]
+fn put_part(line: &mut Line, source: &str, start: usize, end: usize)
+    requires start { IsCharBoundary source.now start }
+    requires end { IsCharBoundary source.now end }
+    requires ordered { start ≤ end }
+    requires fits { 16 ≤ line.old.room }
+    requires room { end ≤ start + line.old.room }
+    ensures text { line.new.text ≡ slice_range source.now start end ++ line.old.text }
+    ensures room { line.new.room + end ≡ line.old.room + start }
+{
+    let part = &source[start..end];
+    if end < BLOCK {
+        return line.put_text(part);
+    }
+    if end - start > BLOCK {
+        return line.put_text(part);
+    }
+    line.put_end(&source.as_bytes()[end - BLOCK..end], end - start);
+}
+
 /// Puts a value that is short and stands for itself. It is told whether it was put.
-fn put_slice(line: &mut Line, value: &str) -> bool
-    requires { 62 ≤ line.old.room }
-    ensures text { result ≡ true → line.new.text ≡ codes " =" ++ text_in_units value.now ++ line.old.text }
+fn put_slice(line: &mut Line, source: &str, start: usize, end: usize) -> bool
+    requires start { IsCharBoundary source.now start }
+    requires end { IsCharBoundary source.now end }
+    requires ordered { start ≤ end }
+    requires fits { 62 ≤ line.old.room }
+    ensures text { result ≡ true → line.new.text
+        ≡ codes " =" ++ text_in_units (slice_range source.now start end) ++ line.old.text }
     ensures room { line.old.room ≤ line.new.room + 62 }
 {
-    if value.len() > SHORT {
+    if end - start > SHORT {
         return false;
     }
-    if !is_plain(value) {
+    if !is_plain(&source[start..end]) {
         return false;
     }
-    line.put_text(value);
+    put_part(line, source, start, end);
     line.put_text(" =");
     true
 }
@@ -159,7 +180,7 @@ fn put_value(line: &mut Line, source: &str, value: &RowValue) -> bool
 {
     match value {
         RowValue::Nothing => true,
-        RowValue::Slice(span) => put_slice(line, &source[span.start as usize..span.end as usize]),
+        RowValue::Slice(span) => put_slice(line, source, span.start as usize, span.end as usize),
         RowValue::Units(_) | RowValue::Bad => false,
     }
 }
@@ -252,6 +273,7 @@ fn push_regex(text: &mut String, regex: Option<RegexInfo>) -> Result<(), AllocEr
 }
 
 /// A row whose line is begun with what stands behind the token.
+#[inline(always)]
 fn push_begun_row(
     text: &mut String,
     line: &mut Line,
@@ -264,7 +286,7 @@ fn push_begun_row(
 {
     put_token(line, &row.token);
     put_head(line, index, row);
-    text.push_str(line.as_str())
+    line.push_to(text)
 }
 
 /// A row with any value.
@@ -338,7 +360,7 @@ pub(crate) fn push_token(
     ensures { OnOk result (string_bytes text.new ≡ string_bytes text.old ++ token_line label.now token.now) }
 {
     put_token_line(line, label, token);
-    text.push_str(line.as_str())
+    line.push_to(text)
 }
 
 #[inline(always)]
@@ -444,7 +466,7 @@ fn put_comment_rest(line: &mut Line, comment: &Comment)
     line.put_text(" ");
     put_bit(line, comment.followed);
     put_bit(line, comment.preceded);
-    line.put_number(u64::from(comment.attached_to));
+    line.put_place(comment.attached_to);
     line.put_text(" ");
 }
 
@@ -457,9 +479,9 @@ fn put_comment_head(line: &mut Line, comment: &Comment)
     line.put_text(" ");
     line.put_text(comment_kind(comment.kind));
     line.put_text(" ");
-    line.put_number(u64::from(comment.span.end));
+    line.put_place(comment.span.end);
     line.put_text("..");
-    line.put_number(u64::from(comment.span.start));
+    line.put_place(comment.span.start);
     line.put_text("comment ");
 }
 
@@ -478,7 +500,7 @@ fn push_comments(text: &mut String, comments: &[Comment]) -> Result<(), AllocErr
     let mut line = Line::new();
     for comment in comments {
         put_comment(&mut line, comment);
-        text.push_str(line.as_str())?;
+        line.push_to(text)?;
     }
     Ok(())
 }

@@ -1,5 +1,5 @@
-use Rattle.js_lex_tool.proofs.Lines.{name_is_short}
-use Rattle.js_lex_tool.proofs.report.kind_name.Goals as goal
+use Rattle.js_lex_tool.proofs.Named.{name_is_short}
+use Rattle.js_lex_tool.proofs.names.kind_name.Goals as goal
 
 pub returns-clause-short : goal.returns-clause-short
 returns-clause-short c = rw c.name.ensures (name_is_short c.args.kind)
