@@ -19,7 +19,7 @@ static KEPT: [(u32, Option<char>); 6] = [
 
 fn added(alloc: Global) -> Result<OffsetMap<char>, AllocError> {
     let mut map = OffsetMap::new_in(alloc);
-    for (offset, value) in ADDED {
+    for &(offset, value) in &ADDED {
         map.insert(offset, value)?;
     }
     Ok(map)
@@ -28,7 +28,7 @@ fn added(alloc: Global) -> Result<OffsetMap<char>, AllocError> {
 #[test]
 fn the_last_value_at_an_offset_is_kept(rt: HostRuntime) -> Result<(), Fail> {
     let map = added(rt.alloc())?;
-    for (offset, value) in KEPT {
+    for &(offset, value) in &KEPT {
         assert_eq!(rt; map.get(offset).copied(), value, "at {offset}");
     }
     Ok(())

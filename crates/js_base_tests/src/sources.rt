@@ -103,7 +103,7 @@ fn places_lie_between_characters(rt: HostRuntime) {
 
 #[test]
 fn accepts_safe_tables_alone(rt: HostRuntime) {
-    for (first, last, is_safe) in TABLES {
+    for &(first, last, is_safe) in &TABLES {
         let table = SafeByteMatchTable::new(entries(first, last));
         assert_eq!(rt; table.is_some(), is_safe, "from {first} to {last}");
     }
@@ -111,7 +111,7 @@ fn accepts_safe_tables_alone(rt: HostRuntime) {
 
 #[test]
 fn finds_bytes(rt: HostRuntime) {
-    for (first, last, place) in PLACES {
+    for &(first, last, place) in &PLACES {
         let found = place_found(SafeByteMatchTable::new(entries(first, last)));
         assert_eq!(rt; found, Some(place), "from {first} to {last}");
     }
@@ -132,7 +132,7 @@ fn finds_one_of_four(rt: HostRuntime) {
 
 #[test]
 fn finds_a_pair(rt: HostRuntime) {
-    for (text, found) in PAIRS {
+    for &(text, found) in &PAIRS {
         assert_eq!(rt; pair_found(text), found, "in {text}");
     }
 }

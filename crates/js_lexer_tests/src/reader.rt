@@ -67,7 +67,7 @@ static TOKENS: [(&str, Call, Kind, u32, u32); 4] = [
 
 #[test]
 fn tokens(rt: HostRuntime) -> Result<(), Fail> {
-    for (text, call, kind, start, end) in TOKENS {
+    for &(text, call, kind, start, end) in &TOKENS {
         let mut reader = reader_over(rt.alloc(), text, SourceType::Module);
         let token = read(call, &mut reader)?;
         assert!(rt; token.kind().is_same(kind), "{text}");
@@ -109,7 +109,7 @@ static PIECES: [(&str, bool, u32); 7] = [
 
 #[test]
 fn pieces_of_gaps(rt: HostRuntime) -> Result<(), Fail> {
-    for (text, is_piece, end) in PIECES {
+    for &(text, is_piece, end) in &PIECES {
         let mut reader = reader_over(rt.alloc(), text, SourceType::Script);
         assert_eq!(rt; skip(&mut reader)?, is_piece, "{text}");
         assert_eq!(rt; reader.source.offset(), end, "{text}");

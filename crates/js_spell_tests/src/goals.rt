@@ -97,7 +97,7 @@ fn read_expression(
 
 #[test]
 fn regular_expressions(rt: HostRuntime) -> Result<(), Fail> {
-    for (text, end, pattern_end, bits, flags_error, first) in EXPRESSIONS {
+    for &(text, end, pattern_end, bits, flags_error, first) in &EXPRESSIONS {
         let read = read_expression(rt, text)?;
         assert!(rt; read.is_some(), "{text}");
         if let Some((info, to, reported)) = read {
@@ -126,7 +126,7 @@ static RIGHT_ANGLES: [(&str, Kind, u32); 9] = [
 
 #[test]
 fn right_angles(rt: HostRuntime) {
-    for (text, kind, end) in RIGHT_ANGLES {
+    for &(text, kind, end) in &RIGHT_ANGLES {
         let mut source = Source::new(text);
         let read = read_right_angle(&mut source);
         assert!(rt; read.is_same(kind), "{text}");
@@ -148,7 +148,7 @@ static NAMES: [(&str, Option<u32>); 8] = [
 
 #[test]
 fn names_of_jsx(rt: HostRuntime) {
-    for (text, end) in NAMES {
+    for &(text, end) in &NAMES {
         let mut source = Source::new(text);
         let goes_on = read_jsx_identifier(&mut source);
         assert_eq!(rt; goes_on, end.is_some(), "{text}");
@@ -181,7 +181,7 @@ static CHILDREN: [(&str, Kind, u32, Option<(&str, u32, u32)>, usize); 12] = [
 
 #[test]
 fn children_of_jsx(rt: HostRuntime) -> Result<(), Fail> {
-    for (text, kind, end, first, warned) in CHILDREN {
+    for &(text, kind, end, first, warned) in &CHILDREN {
         let mut source = Source::new(text);
         let mut errors = DiagnosticList::new_in(rt.alloc());
         let mut warnings = SpanList::new_in(rt.alloc());
@@ -206,7 +206,7 @@ static ATTRIBUTES: [(&str, Kind, u32, Option<(&str, u32, u32)>); 6] = [
 
 #[test]
 fn strings_of_attributes(rt: HostRuntime) -> Result<(), Fail> {
-    for (text, kind, end, first) in ATTRIBUTES {
+    for &(text, kind, end, first) in &ATTRIBUTES {
         let mut source = Source::new(text);
         let mut errors = DiagnosticList::new_in(rt.alloc());
         let begins = quote_is_next(&source);

@@ -29,7 +29,7 @@ static NUMBERS: [(&str, Kind, u32, bool, usize); 13] = [
 
 #[test]
 fn numbers(rt: HostRuntime) -> Result<(), Fail> {
-    for (text, kind, end, has_separator, reported) in NUMBERS {
+    for &(text, kind, end, has_separator, reported) in &NUMBERS {
         let mut source = Source::new(text);
         let mut errors = DiagnosticList::new_in(rt.alloc());
         let mut token = Token::default();
@@ -146,7 +146,7 @@ fn read_units(rt: HostRuntime, text: &str) -> Result<Option<JSStr>, AllocError>
 
 #[test]
 fn literals(rt: HostRuntime) -> Result<(), Fail> {
-    for (text, kind, end, escaped, reported) in LITERALS {
+    for &(text, kind, end, escaped, reported) in &LITERALS {
         if let Some(read) = read_literal(rt, text)? {
             assert!(rt; read.spelt.kind.is_same(kind), "{text}");
             assert_eq!(rt; read.end, end, "{text}");
@@ -209,8 +209,8 @@ fn is_decoded_to(rt: HostRuntime, template: &str, text: &str) -> Result<bool, Al
 
 #[test]
 fn line_ends_of_templates(rt: HostRuntime) -> Result<(), Fail> {
-    for (ends, value) in LINE_ENDS {
-        for (part, body) in PARTS {
+    for &(ends, value) in &LINE_ENDS {
+        for &(part, body) in &PARTS {
             let template = part.replace(rt.alloc(), '|', ends)?;
             let text = body.replace(rt.alloc(), '|', value)?;
             assert!(rt;
@@ -243,7 +243,7 @@ static ESCAPES: [(&str, bool, bool, &[u16], u32, usize); 6] = [
 
 #[test]
 fn escapes(rt: HostRuntime) -> Result<(), Fail> {
-    for (text, in_template, is_escape, units, end, reported) in ESCAPES {
+    for &(text, in_template, is_escape, units, end, reported) in &ESCAPES {
         let mut source = Source::new(text);
         let mut errors = DiagnosticList::new_in(rt.alloc());
         let mut value = JSStrBuilder::new_in(rt.alloc());

@@ -42,7 +42,7 @@ fn has_value(alloc: Global, spelt: &Spelt, wanted: Option<&str>) -> Result<bool,
 
 #[test]
 fn names(rt: HostRuntime) -> Result<(), Fail> {
-    for (text, kind, end, value, reported) in NAMES {
+    for &(text, kind, end, value, reported) in &NAMES {
         let mut source = Source::new(text);
         let mut errors = DiagnosticList::new_in(rt.alloc());
         let mut token = Token::default();
@@ -59,7 +59,7 @@ fn names(rt: HostRuntime) -> Result<(), Fail> {
 
 #[test]
 fn private_names(rt: HostRuntime) -> Result<(), Fail> {
-    for (text, kind, end, value, reported) in PRIVATE_NAMES {
+    for &(text, kind, end, value, reported) in &PRIVATE_NAMES {
         let mut source = Source::new(text);
         let mut errors = DiagnosticList::new_in(rt.alloc());
         let mut token = Token::default();
