@@ -1,11 +1,14 @@
 #!/usr/bin/env python3
 """Times js_lex_c and js_bench beside other lexers of JavaScript, and prints a table.
 
-    scripts/beside.py [--rounds N] [--passes N] [FILE..]
+    scripts/beside.py [--rounds N] [--passes N] [--bench PROGRAM] [--library ARCHIVE] [--only WORD] [FILE or FOLDER..]
 
-With no file it takes TypeScript's compiler, as Debian's node-typescript has it. Each lexer reads a file so many times
-in one process, which tells the processor time of its fastest pass; all take turns, in so many rounds, and the least
-time of each counts. What is not installed or not built is left out, with a line that says so.
+Of a folder it takes the files of JavaScript below it, all in one, one behind the other. With no name it takes
+TypeScript's compiler, as Debian's node-typescript has it, and the packages of npm that Debian has beside it. Each lexer
+reads a file so many times in one process, which tells the processor time of its fastest pass; all take turns, in so
+many rounds, and the least time of each counts. What is not installed or not built is left out, with a line that says
+so. js_bench and js_lex_c are those that were built here; others are named. With --only those alone are run whose titles
+have the word in them.
 
 The others come from Debian's packages node-acorn, node-typescript and node-js-tokens (with node), and
 golang-github-evanw-esbuild-dev and golang-github-tdewolff-parse-dev (with golang-go). Those that leave it to a parser
@@ -26,6 +29,7 @@ TOP = pathlib.Path(__file__).resolve().parent.parent
 NODE_MODULES = pathlib.Path("/usr/share/nodejs")
 GO_CODE = pathlib.Path("/usr/share/gocode")
 COMPILER = NODE_MODULES / "typescript/lib/typescript.js"
+ENDINGS = {".js", ".mjs", ".cjs"}
 
 # Each driver is run as COMMAND FILE PASSES, and prints the seconds of its fastest pass and how many tokens it read.
 
@@ -295,19 +299,19 @@ class Bench(Driver):
         return (more - once) / passes, int(printed.split()[1])
 
 
-def js_lex_c(folder):
-    archive = need(TOP / "crates/js_lex_c/out/libjs_lex_c.a")
+def js_lex_c(folder, words):
+    archive = need(words.library)
     sources = [TOP / "examples/c/speed.c", TOP / "examples/heap.c"]
     output_of(need_command("cc"), "-O2", "-I", TOP / "include", *sources, archive, "-o", folder / "speed")
     return Library(folder / "speed")
 
 
-def js_bench(_folder):
-    return Bench(need(TOP / "crates/js_bench/out/js_bench"), "module", "no-tokens")
+def js_bench(_folder, words):
+    return Bench(need(words.bench), "module", "no-tokens")
 
 
-def js_bench_with_tokens(_folder):
-    return Bench(need(TOP / "crates/js_bench/out/js_bench"), "module", "tokens")
+def js_bench_with_tokens(_folder, words):
+    return Bench(need(words.bench), "module", "tokens")
 
 
 def node(folder, name, package):
@@ -318,15 +322,15 @@ def node(folder, name, package):
     return Driver(need_command("node"), driver, name, NODE_PATH=str(NODE_MODULES))
 
 
-def acorn(folder):
+def acorn(folder, _words):
     return node(folder, "acorn", "acorn")
 
 
-def typescript(folder):
+def typescript(folder, _words):
     return node(folder, "typescript", "typescript")
 
 
-def js_tokens(folder):
+def js_tokens(folder, _words):
     return node(folder, "jsTokens", "js-tokens")
 
 
@@ -340,14 +344,14 @@ def go(folder, package, text):
     return Driver(code / "driver")
 
 
-def esbuild(folder):
+def esbuild(folder, _words):
     """Its lexer is internal, so that the driver has to stand in a copy of its tree."""
     tree = "src/github.com/evanw/esbuild"
     shutil.copytree(need(GO_CODE / tree), folder / tree)
     return go(folder, "github.com/evanw/esbuild/beside", ESBUILD_DRIVER)
 
 
-def tdewolff(folder):
+def tdewolff(folder, _words):
     need(GO_CODE / "src/github.com/tdewolff/parse")
     return go(folder, "beside", TDEWOLFF_DRIVER)
 
@@ -374,15 +378,41 @@ def title_of(name, package):
     return f"{name} ({version.partition('+')[0].partition('-')[0]})" if version else name
 
 
-def drivers_in(folder):
+def drivers_in(folder, words):
     """The drivers of all that is there, by their titles."""
     drivers = {}
     for name, package, make in LEXERS:
+        if words.only not in name:
+            continue
         try:
-            drivers[title_of(name, package)] = make(folder)
+            drivers[title_of(name, package)] = make(folder, words)
         except LeftOut as reason:
             print(f"{name} is left out: {reason}" + (f" (Debian: {package})" if package else ""))
     return drivers
+
+
+def texts_below(folder):
+    """The files of JavaScript below a folder, without hashbang comments; TypeScript's are not among those of npm."""
+    for path in sorted(folder.rglob("*")):
+        if path.suffix not in ENDINGS or path.is_symlink() or not path.is_file():
+            continue
+        if COMPILER.parent in path.parents:
+            continue
+        try:
+            text = path.read_text(encoding="utf-8")
+        except UnicodeDecodeError:
+            continue
+        yield text.partition("\n")[2] if text.startswith("#!") else text
+
+
+def file_of(name, folder):
+    """A file, or one in the folder that has all texts below another folder."""
+    path = pathlib.Path(name)
+    if not path.is_dir():
+        return path
+    whole = folder / f"{path.name}.js"
+    whole.write_text("\n".join(texts_below(path)), encoding="utf-8")
+    return whole
 
 
 def measure(drivers, file, rounds, passes):
@@ -400,11 +430,11 @@ def measure(drivers, file, rounds, passes):
     return {title: (seconds, tokens[title]) for title, seconds in least.items()}
 
 
-def print_table(file, measures):
+def print_table(name, file, measures):
     """The table of a file; the last column has the speed of the first lexer as so many times that of each."""
     size = os.path.getsize(file)
     first = next(iter(measures.values()))[0]
-    print(f"\n{file}, {size:,} bytes\n\n| | tokens | MB/s | the first is so many times as fast |\n|---|---|---|---|")
+    print(f"\n{name}, {size:,} bytes\n\n| | tokens | MB/s | the first is so many times as fast |\n|---|---|---|---|")
     for title, (seconds, tokens) in measures.items():
         print(f"| {title} | {tokens:,} | {size / 1e6 / seconds:.1f} | {seconds / first:.2f} |")
 
@@ -413,13 +443,20 @@ def main():
     words = argparse.ArgumentParser(description=__doc__, formatter_class=argparse.RawDescriptionHelpFormatter)
     words.add_argument("--rounds", type=int, default=5)
     words.add_argument("--passes", type=int, default=8)
-    words.add_argument("files", nargs="*", default=[COMPILER], metavar="FILE")
+    words.add_argument("--bench", type=pathlib.Path, default=TOP / "crates/js_bench/out/js_bench", metavar="PROGRAM")
+    words.add_argument(
+        "--library", type=pathlib.Path, default=TOP / "crates/js_lex_c/out/libjs_lex_c.a", metavar="ARCHIVE"
+    )
+    words.add_argument("--only", default="", metavar="WORD")
+    words.add_argument("names", nargs="*", default=[COMPILER, NODE_MODULES], metavar="FILE or FOLDER")
     words = words.parse_args()
     with tempfile.TemporaryDirectory() as path:
-        drivers = drivers_in(pathlib.Path(path))
-        for file in words.files:
+        folder = pathlib.Path(path)
+        drivers = drivers_in(folder, words)
+        for name in words.names:
+            file = file_of(name, folder)
             if measures := measure(drivers, file, words.rounds, words.passes):
-                print_table(file, measures)
+                print_table(name, file, measures)
 
 
 if __name__ == "__main__":
