@@ -1,0 +1,13 @@
+use Rattle.std.proofs.Common.{◌≡◌, ◌-◌, drop, length}
+use Rattle.js_document.specs.Found.{found_from}
+use Rattle.js_document.specs.Gap.{entries_of, rows_of}
+use Rattle.js_document.proofs.found.FoundIterator.next.Given as goal
+
+-- The same items are left.
+abbrev pub invariant-loop-self : goal.invariant-loop-self
+invariant-loop-self g l =
+    found_from g.L.FoundList.items (drop l.self-inside.row (rows_of (entries_of l.self-inside.entries.now)))
+    l.self-inside.given ≡ l.fn.self
+
+abbrev pub decreases-loop-self : goal.decreases-loop-self
+decreases-loop-self g l = length (entries_of l.self-inside.entries.now) - l.self-inside.row

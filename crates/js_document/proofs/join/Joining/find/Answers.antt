@@ -1,0 +1,68 @@
+use Rattle.std.proofs.Common.{◌≡◌, ◌∙◌, Some, ap, arith, length, refl, subst, sym}
+use Rattle.std.specs.Prelude.{reverse, slice_get}
+use Rattle.std.proofs.lemmas.Option.{slice_get_read}
+use Rattle.js_document.specs.Gap.{AreInOrder, rows_of}
+use Rattle.js_document.proofs.JoinLemmas.{joins_here, none_further, none_left, none_next}
+use Rattle.js_document.proofs.join.Joining.find.Goals as goal
+
+pub returns-then-start-clause-none : goal.returns-then-start-clause-none
+returns-then-start-clause-none g c = λ tokens known last none.
+    let back = c.self.inside.back.now in
+    let left = c.loop-entry.left in
+    let entry = c.in-Some.entry.now in
+    let there : slice_get c.args.self.now.back left ≡ Some entry =
+    ap (λ x. slice_get x.back left) (sym c.self.view_is)
+    ∙ slice_get_read back (length back) left entry refl c.in-Some.ensures.lookup.3.0 c.in-Some.ensures.lookup.1 in
+    let elsewhere = c.if-start.true in
+    let here = c.start.ensures in
+    let wanted = c.start-in-Some.ensures in
+    none_further g.K.KeepGoals.knows g.K.KeepGoals.alike c.args.open.now c.args.self.now c.args.token.now c.args.padded.now
+    c.args.state c.requires.padded c.args.at left entry
+    (subst (λ x. AreInOrder (reverse (rows_of x.back))) c.self.view_is c.self.invariant) c.requires.seam
+    c.loop-entry.invariant.from there (λ same. omega (arith, elsewhere, here, wanted, same)) c.loop-entry.invariant.none
+    tokens known last
+
+pub returns-then-is_joined-clause-some : goal.returns-then-is_joined-clause-some
+returns-then-is_joined-clause-some g c = λ tokens known last.
+    let back = c.self.inside.back.now in
+    let left = c.loop-entry.left in
+    let entry = c.in-Some.entry.now in
+    let there : slice_get c.args.self.now.back left ≡ Some entry =
+    ap (λ x. slice_get x.back left) (sym c.self.view_is)
+    ∙ slice_get_read back (length back) left entry refl c.in-Some.ensures.lookup.3.0 c.in-Some.ensures.lookup.1 in
+    let same = c.is_joined.ensures.same (let yes = c.if-is_joined.true in cc) in
+    joins_here g.K.KeepGoals.knows g.K.KeepGoals.alike c.args.open.now c.args.self.now c.args.token.now c.args.padded.now
+    c.args.state c.requires.padded left entry there c.requires.behind same tokens
+    (λ others other known_others is_last kind.
+    (c.is_joined.ensures.alike tokens others other known known_others last is_last kind same).0
+    (let yes = c.if-is_joined.true in cc))
+
+pub loop-entry-preserved : goal.loop-entry-preserved
+loop-entry-preserved g c =
+    let back = c.self.inside.back.now in
+    let left = c.loop-entry.left in
+    let entry = c.in-Some.entry.now in
+    let there : slice_get c.args.self.now.back left ≡ Some entry =
+    ap (λ x. slice_get x.back left) (sym c.self.view_is)
+    ∙ slice_get_read back (length back) left entry refl c.in-Some.ensures.lookup.3.0 c.in-Some.ensures.lookup.1 in
+    let from = c.loop-entry.invariant.from in
+    record {
+      from = omega (arith, from);
+      none =
+          none_next g.K.KeepGoals.knows g.K.KeepGoals.alike c.args.open.now c.args.self.now c.args.token.now c.args.padded.now
+          c.args.state c.requires.padded left entry there
+          (λ tokens others other known known_others last is_last kind same alike.
+          let yes =
+          (c.is_joined.ensures.alike tokens others other known known_others last is_last kind same).1 alike in
+          let no = c.if-is_joined.false in
+          absurd (cc))
+          c.loop-entry.invariant.none;
+    }
+
+pub returns-clause-none : goal.returns-clause-none
+returns-clause-none g c = λ tokens known last none.
+    let past = c.in_default.ensures.lookup.3 in
+    let backs = ap (λ x. length x.back) c.self.view_is in
+    none_left g.K.KeepGoals.knows g.K.KeepGoals.alike c.args.open.now c.args.self.now c.args.token.now c.args.padded.now
+    c.args.state c.requires.padded c.loop-entry.left
+    (omega (arith, past, backs)) c.loop-entry.invariant.none tokens known last

@@ -1,0 +1,11 @@
+pub mod AutoLaws
+pub mod Changed
+pub mod Documents
+pub mod Edited
+pub mod Found
+pub mod Gap
+pub mod InTurn
+pub mod LiveTokens
+pub mod Reading
+pub mod States
+pub mod Trie

@@ -1,0 +1,333 @@
+//! What an edit changed.
+
+ghost use Rattle.std.specs.Prelude.{◌≡◌, ◌↔◌, ◌+◌, ◌<◌, ◌≤◌, ◌^◌, ◌++◌, [], length, map, drop, take};
+ghost use Rattle.std.specs.Prelude.{reverse, IfOk, IsTrue, OnOk};
+ghost use Rattle.std.specs.List.{AllByRecursion};
+ghost use Rattle.js_session.specs.Shifted.{shifted_token};
+ghost use Rattle.js_relex.specs.LiveLists.{TokenMayMove};
+ghost use Rattle.js_session.specs.Shifted.{shifted_row};
+ghost use Rattle.js_document.specs.Changed.{AreCommon, EndsBy, EntryMayMove, IsChangeBetween, IsChangeOf};
+ghost use Rattle.js_document.specs.Changed.{IsSameBefore, IsSameBehind};
+ghost use Rattle.js_document.specs.Changed.{MayChange, StartsFrom, StartsReading, last_token_of};
+ghost use Rattle.js_document.specs.Reading.{with_row, with_rows};
+ghost use Rattle.js_document.specs.Gap.{around, entries_of, rows_of};
+ghost use Rattle.js_document.specs.Documents.{change_of_new};
+ghost use Rattle.js_session.specs.declared.report.Report.{Report};
+
+use crate::gap::{Entry, GapRows, reads_on};
+use js_kind::{Token, TokenList};
+use js_relex::{Edit, shift_of};
+use js_session::{Effect, Row, Shift};
+use std::alloc::{AllocError, Global};
+
+/// The items of a list that an edit put in the place of others: from `start` on, up to `old_end` of the old list and up
+/// to `new_end` of the new one. All before are the same, and all behind are the old ones, moved.
+#[derive(Clone, Copy, PartialEq, Eq, Debug)]
+pub struct ChangedRange {
+    pub start: usize,
+    pub old_end: usize,
+    pub new_end: usize,
+}
+
+/// What the last edit changed.
+#[derive(Clone, Copy, PartialEq, Eq, Debug)]
+pub struct Change {
+    /// How many rows at the front were kept.
+    pub kept_rows: usize,
+    /// How many rows behind them were read.
+    pub read_rows: usize,
+    /// The live tokens that went, and those that came.
+    pub tokens: ChangedRange,
+    /// How what stands behind the edit moved.
+    pub moved: Shift,
+}
+
+/// The token, moved.
+fn moved(token: Token, shift: &Shift) -> Token
+    requires { TokenMayMove shift.now.from shift.now.to token }
+    ensures { result ≡ shifted_token shift.now.from shift.now.to token }
+{
+    let mut token = token;
+    shift.move_token(&mut token);
+    token
+}
+
+/// Makes the token live in the place of the row's own.
+fn add_token(tokens: &mut TokenList, row: &Row, token: Token) -> Result<(), AllocError>
+    ensures { OnOk result (tokens.new ≡ with_row tokens.old (record row.now { token = token })) }
+{
+    match row.effect() {
+        Effect::Reads(_) => tokens.push(token),
+        Effect::ReLexes(_) if row.taken => {
+            tokens.replace_last(token);
+            Ok(())
+        }
+        _ => Ok(()),
+    }
+}
+
+/// Makes the row's token live, moved.
+fn add_row(tokens: &mut TokenList, row: &Row, shift: &Shift) -> Result<(), AllocError>
+    requires { TokenMayMove shift.now.from shift.now.to row.now.token }
+    ensures { OnOk result (tokens.new ≡ with_row tokens.old (shifted_row shift.now.from shift.now.to row.now)) }
+{
+    let token = moved(row.token, shift);
+    add_token(tokens, row, token)
+}
+
+/// Makes the tokens of the rows live, which stand with the last one first, moved.
+fn add_rows<K>(
+    tokens: &mut TokenList,
+    entries: &[Entry<K>],
+    shift: &Shift,
+) -> Result<(), AllocError>
+    requires { AllByRecursion (EntryMayMove {K = K} shift.now.from shift.now.to) entries.now }
+    ensures { OnOk result (tokens.new ≡ with_rows tokens.old
+        (map (shifted_row shift.now.from shift.now.to) (reverse (rows_of {K = K} entries.now)))) }
+{
+    let mut left = entries.len();
+    while left > 0 {
+        left -= 1;
+        add_row(tokens, &entries[left].row, shift)?;
+    }
+    Ok(())
+}
+
+/// Makes the tokens of the rows live.
+fn add_read<K>(tokens: &mut TokenList, entries: &[Entry<K>]) -> Result<(), AllocError>
+    ensures { OnOk result (tokens.new ≡ with_rows tokens.old (rows_of {K = K} entries.now)) }
+{
+    for entry in entries {
+        add_token(tokens, &entry.row, entry.row.token)?;
+    }
+    Ok(())
+}
+
+/// How many of the rows, which stand with the last one first, are left from the first on that reads a token behind the
+/// last one.
+fn left_from_reading<K>(entries: &[Entry<K>]) -> usize
+    ensures few { result ≤ length entries.now }
+    ensures reading { StartsReading {K = K} (take result entries.now) }
+{
+    let mut left = entries.len();
+    while left > 0 {
+        if reads_on(&entries[left - 1].row) {
+            return left;
+        }
+        left -= 1;
+    }
+    left
+}
+
+/// A list of the last token before the gap, if there is one.
+fn last_of_front<K: Copy + Drop>(
+    alloc: Global,
+    entries: &GapRows<K>,
+) -> Result<TokenList, AllocError>
+    ensures { IfOk result (λ tokens. tokens ≡ last_token_of {K = K} entries.now.front) }
+{
+    let mut tokens = TokenList::new_in(alloc);
+    if let Some(entry) = entries.front().last() {
+        tokens.push(entry.row.token)?;
+    }
+    Ok(tokens)
+}
+
+/// The live tokens from the last one before the gap on, up to the rows that are left behind it.
+fn old_tokens<K: Copy + Drop>(
+    alloc: Global,
+    entries: &GapRows<K>,
+    left: usize,
+) -> Result<TokenList, AllocError>
+    requires { left ≤ length entries.now.back }
+    ensures { IfOk result (λ tokens. tokens ≡ with_rows (last_token_of {K = K} entries.now.front)
+        (map (shifted_row entries.now.pad 0) (reverse (rows_of {K = K} (drop left entries.now.back))))) }
+{
+    let mut tokens = last_of_front(alloc, entries)?;
+    add_rows(&mut tokens, &entries.back()[left..], &entries.shift())?;
+    Ok(tokens)
+}
+
+/// The same where the rows that were read stand in the place of those that go, and the pad is another.
+fn new_tokens<K: Copy + Drop>(
+    alloc: Global,
+    entries: &GapRows<K>,
+    read: &[Entry<K>],
+    behind: &[Entry<K>],
+    pad: u32,
+) -> Result<TokenList, AllocError>
+    requires { AllByRecursion (EntryMayMove {K = K} pad 0) behind.now }
+    ensures { IfOk result (λ tokens. tokens ≡ with_rows (last_token_of {K = K} entries.now.front)
+        (rows_of {K = K} read.now ++ map (shifted_row pad 0) (reverse (rows_of {K = K} behind.now)))) }
+{
+    let mut tokens = last_of_front(alloc, entries)?;
+    add_read(&mut tokens, read)?;
+    add_rows(&mut tokens, behind, &Shift { from: pad, to: 0 })?;
+    Ok(tokens)
+}
+
+/// Whether the token stands before the edit, and is the same.
+fn is_same_before(old: &Token, new: &Token, start: u32) -> bool
+    ensures { IsTrue result ↔ IsSameBefore (EndsBy start) old.now new.now }
+{
+    if old.end() > start {
+        return false;
+    }
+    old.is_same(new)
+}
+
+/// Whether the token stands behind the edit, and is the same, moved.
+fn is_same_behind(old: &Token, new: &Token, shift: &Shift) -> bool
+    requires { TokenMayMove shift.now.from shift.now.to old.now }
+    ensures { IsTrue result ↔ IsSameBehind (StartsFrom shift.now.from) (shifted_token shift.now.from shift.now.to)
+        old.now new.now }
+{
+    if old.start() < shift.from {
+        return false;
+    }
+    moved(*old, shift).is_same(new)
+}
+
+/// How many tokens at the front of both lists stand before the edit and are the same.
+fn same_before(old: &[Token], new: &[Token], start: u32) -> usize
+    ensures few_old { result ≤ length old.now }
+    ensures few_new { result ≤ length new.now }
+    ensures common { AreCommon (IsSameBefore (EndsBy start)) old.now new.now result }
+{
+    let mut count = 0;
+    while count < old.len() {
+        if count >= new.len() {
+            return count;
+        }
+        if !is_same_before(&old[count], &new[count], start) {
+            return count;
+        }
+        count += 1;
+    }
+    count
+}
+
+/// How many tokens at the end of both lists stand behind the edit and are the same, moved.
+fn same_behind(old: &[Token], new: &[Token], shift: &Shift) -> usize
+    requires { AllByRecursion (TokenMayMove shift.now.from shift.now.to) old.now }
+    ensures few_old { result ≤ length old.now }
+    ensures few_new { result ≤ length new.now }
+    ensures common { AreCommon
+        (IsSameBehind (StartsFrom shift.now.from) (shifted_token shift.now.from shift.now.to)) (reverse old.now)
+        (reverse new.now) result }
+{
+    let mut count = 0;
+    while count < old.len() {
+        if count >= new.len() {
+            return count;
+        }
+        let old_token = &old[old.len() - 1 - count];
+        let new_token = &new[new.len() - 1 - count];
+        if !is_same_behind(old_token, new_token, shift) {
+            return count;
+        }
+        count += 1;
+    }
+    count
+}
+
+/// The index so many items behind another one. There is no memory for more than `usize::MAX` items.
+fn index_behind(index: usize, count: usize) -> Result<usize, AllocError>
+    ensures { IfOk result (λ behind. behind ≡ index + count) }
+{
+    match index.checked_add(count) {
+        Some(behind) => Ok(behind),
+        None => Err(AllocError),
+    }
+}
+
+/// Which tokens went and came, of lists that stand in one another's place from the index on.
+fn changed_range(
+    start: usize,
+    old: &[Token],
+    new: &[Token],
+    edit: &Edit<'_>,
+) -> Result<ChangedRange, AllocError>
+    requires short { edit.now.start + length edit.now.text.now < 2 ^ 32 }
+    requires may_move { AllByRecursion (TokenMayMove edit.now.end (edit.now.start + length edit.now.text.now)) old.now }
+    ensures { IfOk result
+        (IsChangeBetween start edit.now.start edit.now.end edit.now.text.now old.now new.now) }
+{
+    let shift = shift_of(edit);
+    let before = same_before(old, new, edit.start);
+    let behind = same_behind(&old[before..], &new[before..], &shift);
+    Ok(ChangedRange {
+        start: index_behind(start, before)?,
+        old_end: index_behind(start, old.len() - behind)?,
+        new_end: index_behind(start, new.len() - behind)?,
+    })
+}
+
+/// The live tokens that went and came, where these rows are read behind those before the gap, so many of the rows behind
+/// it are left, and their pad becomes another.
+fn changed_tokens<K: Copy + Drop>(
+    alloc: Global,
+    entries: &GapRows<K>,
+    read: &[Entry<K>],
+    left: usize,
+    edit: &Edit<'_>,
+    pad: u32,
+) -> Result<ChangedRange, AllocError>
+    requires { MayChange {K = K} edit.now.start edit.now.end edit.now.text.now entries.now left pad }
+    ensures { IfOk result (IsChangeOf edit.now.start edit.now.end edit.now.text.now
+        (with_rows [] (rows_of {K = K} (entries_of {K = K} entries.now)))
+        (with_rows [] (rows_of {K = K} (around {K = K} (entries.now.front ++ read.now) pad (take left entries.now.back))))) }
+{
+    let back = entries.back();
+    let reading = left_from_reading(&back[..left]);
+    let old = old_tokens(alloc, entries, reading)?;
+    let new = new_tokens(alloc, entries, read, &back[reading..left], pad)?;
+    let start = entries.front_tokens().saturating_sub(1);
+    changed_range(start, old.as_slice(), new.as_slice(), edit)
+}
+
+/// What the edit changes of the rows, where these are read behind those before the gap, so many of the rows behind it are
+/// left, and their pad becomes another.
+pub(crate) fn change_of<K: Copy + Drop>(
+    alloc: Global,
+    entries: &GapRows<K>,
+    read: &[Entry<K>],
+    left: usize,
+    edit: &Edit<'_>,
+    pad: u32,
+) -> Result<Change, AllocError>
+    requires { MayChange {K = K} edit.now.start edit.now.end edit.now.text.now entries.now left pad }
+    ensures kept { IfOk result (λ change. change.kept_rows ≡ length entries.now.front) }
+    ensures read { IfOk result (λ change. change.read_rows ≡ length read.now) }
+    ensures tokens { IfOk result (λ change. IsChangeOf edit.now.start edit.now.end edit.now.text.now
+        (with_rows [] (rows_of {K = K} (entries_of {K = K} entries.now)))
+        (with_rows [] (rows_of {K = K} (around {K = K} (entries.now.front ++ read.now) pad (take left entries.now.back))))
+        change.tokens) }
+    ensures moved { IfOk result (λ change.
+        change.moved ≡ record { from = edit.now.end; to = edit.now.start + length edit.now.text.now }) }
+{
+    let tokens = changed_tokens(alloc, entries, read, left, edit, pad)?;
+    Ok(Change {
+        kept_rows: entries.front().len(),
+        read_rows: read.len(),
+        tokens,
+        moved: shift_of(edit),
+    })
+}
+
+/// What a new document changed: each token came.
+pub(crate) fn change_of_new(rows: usize, tokens: usize) -> Change
+    ensures { (report : Report) → rows ≡ length report.rows → tokens ≡ length report.tokens
+        → result ≡ change_of_new report }
+{
+    Change {
+        kept_rows: 0,
+        read_rows: rows,
+        tokens: ChangedRange {
+            start: 0,
+            old_end: 0,
+            new_end: tokens,
+        },
+        moved: Shift { from: 0, to: 0 },
+    }
+}

@@ -1,0 +1,27 @@
+//! Documents that choose their goals, for editors: a text with its tokens, which edits keep up to date.
+#![tactic(auto)]
+
+mod auto_state;
+mod change;
+mod document;
+mod edit;
+mod edited;
+mod fault;
+mod found;
+mod gap;
+mod gather;
+mod join;
+mod keep;
+mod open;
+mod read;
+mod tokens;
+
+pub use auto_state::AutoState;
+pub use change::{Change, ChangedRange};
+pub use document::Document;
+pub use fault::{DocumentFault, EditsFault};
+pub use found::{Comments, Deferred, Diagnostics, Found, FoundList, Irregular, Warnings};
+pub use js_relex::Edit;
+pub use keep::KeepGoals;
+pub use open::OpenTrie;
+pub use tokens::Tokens;
