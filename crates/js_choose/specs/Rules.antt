@@ -37,7 +37,7 @@ with_token Commits tokens token = tokens
 abbrev pub Rule : Type 0
 Rule = List ℕ → List TokenParts → Option Command
 
--- The goals that read a token again so that none Reads it once more.
+-- The goals that read a token again so that none reads it once more.
 abbrev pub is_final : Goal → Bool
 is_final First = false
 is_final NextGoal = false
@@ -56,7 +56,7 @@ pub record MayReadOn (text : List ℕ) (goal : Goal) (last : TokenParts) : Type 
   pub plain : last.kind ≡ Eof → goal ≡ NextGoal
   pub inside : last.kind ≡ Eof → last.end < length text
 
--- A command may come behind these tokens: it Reads on, or Reads the last one again, where that lies on places of a text
+-- A command may come behind these tokens: it reads on, or reads the last one again, where that lies on places of a text
 -- in UTF-8.
 pub data IsDue (text : List ℕ) (tokens : List TokenParts) (command : Command) : Type 0 where
   reads_on : (goal : Goal) → effect_of command ≡ Reads goal → is_onward goal ≡ true → ¬ (goal ≡ First)

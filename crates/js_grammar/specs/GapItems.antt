@@ -14,8 +14,7 @@ pub record Found : Type 0 where
   pub content : CommentContent
 
 -- What a gap has beside regular white space, in the order of the text: irregular white space that is listed, a line
--- end,
--- a comment. A line end that is listed too is two items.
+-- end, a comment. A line end that is listed too is two items.
 pub data Item : Type 0 where
   irregular : Span → Item
   line_end : Item

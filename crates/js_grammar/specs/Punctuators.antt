@@ -65,7 +65,7 @@ slash = record { text = kind_text Slash; kind = Slash; exclusion = excludes_aste
 abbrev pub left_angle : Punctuator
 left_angle = record { text = kind_text LAngle; kind = LAngle; exclusion = excludes_reported_comment }
 
--- All punctuators. Of those that begin with `>`, a unrestricted step gives `>` alone.
+-- All punctuators. Of those that begin with `>`, an unrestricted step gives `>` alone.
 abbrev pub punctuators : List Punctuator
 punctuators =
     unrestricted Amp

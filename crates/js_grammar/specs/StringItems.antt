@@ -90,7 +90,7 @@ line_continuation c cs =
     if (c == carriage_return) && begins (λ d. d == line_feed) cs
     then good_escape (carriage_return ∷ line_feed ∷ []) [] (drop 1 cs) else good_escape (c ∷ []) [] cs
 
--- an escape by these characters, if they have a code point
+-- an escape by these characters, if they have a code point; that of a surrogate is one unit, whatever stands beside it
 abbrev pub escape_of : List ℕ → Option ℕ → List ℕ → StringItem
 escape_of xs (Some c) rest = good_escape xs (encode_utf16 c) rest
 escape_of xs None rest = faulty_escape bad_escape xs rest

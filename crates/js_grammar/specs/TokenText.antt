@@ -35,7 +35,7 @@ text_start kind start = if is_private_name kind || is_quoted kind then start + 1
 abbrev pub text_end : Kind → ℕ → ℕ
 text_end kind end = if is_quoted kind then end - closing_length kind else end
 
--- the text of a token from start to end, without its marks
+-- the text of a token from start to end, without its marks, as it stands in the source, each CR as a CR
 abbrev pub text_slice : Kind → ℕ → ℕ → RowValue
 text_slice kind start end = Slice (record { start = text_start kind start; end = text_end kind end })
 

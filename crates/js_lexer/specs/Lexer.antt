@@ -144,7 +144,7 @@ pub record IsSound (here : At) (last : Option TokenParts) (trivia : Trivia) (dec
   pub held : HeldBefore (token_before last).start trivia
   pub are_values : AreValues here.text decoded
 
--- The parts of a lexer that a rewind, a peek and a call that cannot allocate restore: all but decoded values, which
+-- The parts of a lexer that a rewind, a peek and a call that finds no memory restore: all but decoded values, which
 -- stay.
 pub record IsRestored (old new : LexerState) : Type 0 where
   pub text : new.text ≡ old.text
@@ -231,8 +231,7 @@ pub record LexesAgain (goal : Goal) (old : LexerState) (token : TokenParts) (new
   pub has_value : HasValue old.text new.decoded token
 
 -- One reading: the token is that of the goal's reading from the lexer's place, and nothing changed but by that reading.
--- A
--- reading of a plain goal agrees with the grammar.
+-- A reading of a plain goal agrees with the grammar.
 pub record ReadsToken (goal : Goal) (old : LexerState) (token : TokenParts) (new : LexerState) : Type 0 where
   pub outcome : Outcome
   pub token_is : token ≡ outcome.token
@@ -270,8 +269,7 @@ pub record Checkpoint : Type 0 where
   pub no_side_effects_comments : Option CommentRange
 
 -- What a checkpoint keeps for the trivia builder tells the last token, which ends up to the place, and ranges of
--- comments
--- that it counts.
+-- comments that it counts.
 pub record IsBehindToken (place : ℕ) (last : Option TokenParts) (lengths : TriviaLengths) : Type 0 where
   pub behind : (token_before last).end ≤ place
   pub saw_newline : lengths.saw_newline ≡ is_none last

@@ -97,12 +97,12 @@ after_row Opens row s = s
 after_row Rewinds row s = s
 after_row Commits row s = s
 
--- the state at the last open mark, which is closed
+-- the state at the last open mark, which is closed; where none is open, there is no report (`HasMark` of Report)
 abbrev pub rewound_state : Live → List Live → State
 rewound_state now [] = record { now = now; marks = [] }
 rewound_state now (m ∷ ms) = record { now = m; marks = ms }
 
--- the same state, with the last open mark closed
+-- the same state, with the last open mark closed; where none is open, there is no report either
 abbrev pub committed_state : Live → List Live → State
 committed_state now [] = record { now = now; marks = [] }
 committed_state now (m ∷ ms) = record { now = now; marks = ms }

@@ -106,7 +106,8 @@ AreRows text t commands (row ∷ rows) =
 abbrev pub all_collected : Bool → List TokenParts → List TokenParts
 all_collected collects tokens = flat_map (collected collects) tokens
 
--- The report of a session over a source: a row for each step, in order, and what is live after the commands.
+-- The report of a session over a source: a row for each step, in order, and what is live after the commands. Whether
+-- tokens are collected changes the collected ones alone.
 pub record ReportOf (source : List ℕ) (t : SourceType) (collects : Bool) (commands : List Command) (report : Report)
     : Type 0 where
   pub utf8 : IsUtf8 source
