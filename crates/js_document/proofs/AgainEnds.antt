@@ -1,25 +1,24 @@
 -- A token that is read again, for the last time, ends where it did or behind that.
-use Rattle.std.proofs.Common.{◌≡◌, ℕ, ◌+◌, ◌<◌, ◌≤◌, Bool, true, false, ◌==◌, List, [], ◌∷◌, ◌++◌, drop, length, refl, sym}
-use Rattle.std.proofs.Common.{◌∙◌, ap, subst, arith, Option, Some, None, inl, inr, append-nil}
+use Rattle.std.proofs.Common.{◌≡◌, ℕ, ◌≤◌, true, false, ◌==◌, List, [], ◌∷◌, ◌++◌, drop, refl, sym}
+use Rattle.std.proofs.Common.{◌∙◌, ap, subst, arith, Some, None, inl, inr, append-nil}
 use Rattle.std.specs.Prelude.{if◌then◌else◌, ◌⊎◌, ◌≢◌, IfSome}
-use Rattle.std.specs.Str.{IsCharBoundary, IsUtf8, encode_utf8_all}
+use Rattle.std.specs.Str.{IsCharBoundary, IsUtf8}
 use Rattle.std.proofs.lemmas.Bool.{eqb-true, or_cases}
 use Rattle.js_text.specs.Ascii.{equals_sign, hyphen_minus, slash}
 use Rattle.js_text.specs.Characters.{begins, from_first, from_place, is_line_terminator}
-use Rattle.js_text.specs.declared.source_type.SourceType.{SourceType}
 use Rattle.js_text.proofs.TextLemmas.{place_past}
 use Rattle.js_kind.specs.Kinds.{is_one_of, kind_text, number}
 use Rattle.js_kind.proofs.KindNumbers.{number_injective}
 use Rattle.js_kind.specs.TokenParts.{TokenParts}
 use Rattle.js_kind.specs.declared.kind.Kind.{Kind}
-use Rattle.js_kind.specs.declared.kind.Kind.TheVariants.{Eof, RCurly, RegExp, Slash, SlashEq, TemplateMiddle}
-use Rattle.js_kind.specs.declared.kind.Kind.TheVariants.{TemplateTail as TailKind, Undetermined}
-use Rattle.js_grammar.specs.Goals.{ReadsExpression, ReadsFrom, ReadsJsxName, ReadsPart, next_part}
+use Rattle.js_kind.specs.declared.kind.Kind.TheVariants.{Eof, RCurly, Slash, SlashEq, TemplateMiddle}
+use Rattle.js_kind.specs.declared.kind.Kind.TheVariants.{TemplateTail as TailKind}
+use Rattle.js_grammar.specs.Goals.{ReadsExpression, ReadsJsxName, ReadsPart, next_part}
 use Rattle.js_grammar.specs.Jsx.{ends_jsx_name, jsx_name_reading, jsx_name_up_to}
 use Rattle.js_grammar.specs.Outcome.{Outcome}
 use Rattle.js_grammar.specs.Reading.{Reading}
 use Rattle.js_grammar.specs.RegularExpression.{behind_body, behind_body_character, ends_flags, regular_expression}
-use Rattle.js_grammar.specs.RegularExpression.{regular_expression_reading, unterminated_expression, with_flags_behind}
+use Rattle.js_grammar.specs.RegularExpression.{regular_expression_reading}
 use Rattle.js_grammar.specs.ReLexed.{HasSpelling, again_kinds}
 use Rattle.js_grammar.specs.UnicodeEscape.{right_curly_bracket}
 use Rattle.js_grammar.specs.declared.goal.Goal.TheVariants.{RegularExpression, TemplateTail as TailGoal}

@@ -2,7 +2,6 @@
 use Rattle.std.proofs.Common.{◌≡◌, ℕ, Bool, true, false, ◌==◌, List, [], ◌∷◌, ◌++◌, drop, map, refl, sym, ◌∙◌, ap, subst, Option, Some}
 use Rattle.std.proofs.Common.{None}
 use Rattle.std.specs.Prelude.{option_map, slice_get, unwrap_or, if◌then◌else◌}
-use Rattle.std.specs.List.{last_or}
 use Rattle.std.proofs.lemmas.List.{drop-map}
 use Rattle.js_text.specs.Lists.{with_last}
 use Rattle.js_kind.specs.Kinds.{is_one_of}

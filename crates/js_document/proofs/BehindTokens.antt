@@ -1,15 +1,14 @@
 -- The tokens that are live behind a row with an index.
-use Rattle.std.proofs.Common.{◌≡◌, ℕ, zero, suc, ◌+◌, ◌<◌, ◌≤◌, Bool, true, List, [], ◌∷◌, ◌++◌, length, take, drop, refl, sym}
-use Rattle.std.proofs.Common.{◌∙◌, ap, subst, arith, Option, Some, None}
+use Rattle.std.proofs.Common.{◌≡◌, ℕ, zero, suc, ◌<◌, ◌≤◌, true, List, [], ◌∷◌, length, take, refl, sym}
+use Rattle.std.proofs.Common.{◌∙◌, ap, subst, arith, Some}
 use Rattle.std.specs.List.{list_all}
 use Rattle.std.specs.Prelude.{slice_get}
 use Rattle.std.proofs.lemmas.Bool.{and_parts}
 use Rattle.js_text.specs.declared.source_type.SourceType.{SourceType}
-use Rattle.js_kind.specs.TokenParts.{TokenParts}
 use Rattle.js_session.specs.declared.command.Command.{Command}
 use Rattle.js_session.specs.declared.row.Row.{Row}
 use Rattle.js_session.specs.Effects.{effect_of, is_lasting}
-use Rattle.js_session.specs.Live.{State, after_row, last_live, live, state_after, state_after_first}
+use Rattle.js_session.specs.Live.{State, after_row, last_live, state_after, state_after_first}
 use Rattle.js_session.specs.Session.{last_token}
 use Rattle.js_session.proofs.LastingRuns.{behind_first, lasting_steps}
 use Rattle.js_session.proofs.RunLemmas.{state_step}

@@ -4,8 +4,9 @@ use Rattle.std.proofs.Common.{get_or, sym, ◌∙◌, ap, subst, arith, length-a
 use Rattle.std.specs.List.{AllByRecursion}
 use Rattle.std.specs.Prelude.{reverse, slice_get}
 use Rattle.std.proofs.lemmas.List.{drop-append-le, drop-drop, get_or-reverse, length-drop, length-map, length-reverse}
-use Rattle.std.proofs.lemmas.List.{map-append, reverse-append, reverse-reverse, take-append-le}
-use Rattle.js_document.specs.Changed.{AreCommon, IsChange, IsSameBefore, IsSameBehind}
+use Rattle.std.proofs.lemmas.List.{map-append, reverse-append, reverse-reverse, take-append-le, take_rest}
+use Rattle.js_document.specs.declared.change.ChangedRange.{ChangedRange}
+use Rattle.js_document.specs.Changed.{AreCommon, IsChange, IsChangeBetween, IsSameBefore, IsSameBehind}
 use Rattle.js_document.proofs.ListLemmas.{get_dropped, get_left, get_turned, map_turned, suc_add, take_turned, turned_same}
 
 module _ {A : Type 0} (P : A → A → Type 0) where
@@ -314,3 +315,46 @@ module _ {A : Type 0} (Before Behind : A → Type 0) (moved : A → A) where
             get_back xs b e (omega (arith, some))
             ∙ sym (get_front front xs ends (length xs - e - 1) (omega (arith, some)))
             ∙ ap (slice_get (front ++ xs ++ ends)) (sym place) ∙ at
+
+module _ {A : Type 0} (Before Behind : A → Type 0) (moved : A → A) (index : ℕ) (olds news : List A) (b e : ℕ)
+    (r : ChangedRange) where
+  -- So many items are common at the front and at the end: what is told of the change then.
+  pub range_of : AreCommon (IsSameBefore Before) olds news b
+      → AreCommon (IsSameBehind Behind moved) (reverse (drop b olds)) (reverse (drop b news)) e → r.start ≡ index + b
+      → r.old_end ≡ index + (length olds - e) → r.new_end ≡ index + (length news - e)
+      → IsChangeBetween {A = A} Before Behind moved index olds news r
+  range_of common back start_is old_is new_is = λ front later long before behind.
+      let first : length front + b ≡ r.start = omega (arith, long, start_is) in
+      let old_end : length front + (length olds - e) ≡ r.old_end = omega (arith, long, old_is) in
+      let new_end : length front + (length news - e) ≡ r.new_end = omega (arith, long, new_is) in
+      let is = change_of_lists {A = A} Before Behind moved front olds news later b e before behind common back in
+      subst
+      (λ n. IsChange Before Behind moved (front ++ olds ++ later) (front ++ news ++ map moved later) r.start r.old_end n)
+      new_end
+      (subst
+      (λ n. IsChange Before Behind moved (front ++ olds ++ later) (front ++ news ++ map moved later) r.start n
+      (length front + (length news - e))) old_end
+      (subst
+      (λ n. IsChange Before Behind moved (front ++ olds ++ later) (front ++ news ++ map moved later) n
+      (length front + (length olds - e)) (length front + (length news - e))) first is))
+
+-- The same, told of parts of the lists, by places that are those of a shift.
+pub range_between : {A : Type 0} (EndsBy StartsFrom : ℕ → A → Type 0) (shifted : ℕ → ℕ → A → A)
+    (index start end to : ℕ) (olds news : List A) (b e from at : ℕ) (r : ChangedRange)
+    → AreCommon (IsSameBefore (EndsBy start)) olds news b
+    → AreCommon (IsSameBehind (StartsFrom from) (shifted from at)) (reverse (take (length olds - b) (drop b olds)))
+    (reverse (take (length news - b) (drop b news))) e → from ≡ end → at ≡ to → r.start ≡ index + b
+    → r.old_end ≡ index + (length olds - e) → r.new_end ≡ index + (length news - e)
+    → IsChangeBetween {A = A} (EndsBy start) (StartsFrom end) (shifted end to) index olds news r
+range_between {A} EndsBy StartsFrom shifted index start end to olds news b e from at r common back from_is at_is start_is
+    old_is new_is =
+    range_of {A = A} (EndsBy start) (StartsFrom end) (shifted end to) index olds news b e r common
+    (subst (λ xs. AreCommon (IsSameBehind (StartsFrom end) (shifted end to)) (reverse xs) (reverse (drop b news)) e)
+    (take_rest olds b)
+    (subst (λ xs. AreCommon (IsSameBehind (StartsFrom end) (shifted end to))
+    (reverse (take (length olds - b) (drop b olds))) (reverse xs) e) (take_rest news b)
+    (subst (λ n. AreCommon (IsSameBehind (StartsFrom end) (shifted end n))
+    (reverse (take (length olds - b) (drop b olds))) (reverse (take (length news - b) (drop b news))) e) at_is
+    (subst (λ n. AreCommon (IsSameBehind (StartsFrom n) (shifted n at))
+    (reverse (take (length olds - b) (drop b olds))) (reverse (take (length news - b) (drop b news))) e) from_is back))))
+    start_is old_is new_is

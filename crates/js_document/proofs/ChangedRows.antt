@@ -1,8 +1,8 @@
 -- Which live tokens an edit changes.
-use Rattle.std.proofs.Common.{◌≡◌, ℕ, zero, suc, ◌+◌, ◌-◌, ◌<◌, ◌≤◌, Bool, true, false, List, [], ◌∷◌, ◌++◌, length, map, take}
+use Rattle.std.proofs.Common.{◌≡◌, ℕ, suc, ◌+◌, ◌-◌, ◌<◌, ◌≤◌, Bool, true, false, List, [], ◌∷◌, ◌++◌, length, map, take}
 use Rattle.std.proofs.Common.{drop, refl, sym, ◌∙◌, ap, subst, arith, append_assoc, length-append, Option, Some, None}
 use Rattle.std.specs.List.{AllByRecursion}
-use Rattle.std.specs.Prelude.{◌^◌, if◌then◌else◌, reverse, slice_get}
+use Rattle.std.specs.Prelude.{if◌then◌else◌, reverse, slice_get}
 use Rattle.std.proofs.lemmas.List.{append-nil, length-map, map-append, reverse-append, take-append-drop, take_at}
 use Rattle.js_text.specs.Lists.{with_last}
 use Rattle.js_kind.specs.TokenParts.{TokenParts}
@@ -11,20 +11,19 @@ use Rattle.js_session.specs.declared.command.Effect.TheVariants.{Reads, Peeks, R
 use Rattle.js_session.specs.declared.row.Row.{Row}
 use Rattle.js_session.specs.Effects.{row_effect}
 use Rattle.js_session.specs.Live.{State, outcome_of, with_re_lexed}
-use Rattle.js_session.specs.Shifted.{shifted, shifted_row, shifted_token}
+use Rattle.js_session.specs.Shifted.{OfEachPlace, shifted, shifted_row, shifted_token}
 use Rattle.js_relex.specs.LiveLists.{TokenMayMove}
 use Rattle.js_document.specs.declared.change.ChangedRange.{ChangedRange}
 use Rattle.js_document.specs.declared.gap.Entry.{Entry}
-use Rattle.js_document.specs.Changed.{AreCommon, EndsBy, EndsWithLast, IsChange, IsChangeBetween, IsChangeOf, IsReading}
-use Rattle.js_document.specs.Changed.{IsSameBefore, IsSameBehind, MayChange, StartsFrom, StartsReading, last_token_of, token_of}
+use Rattle.js_document.specs.Changed.{EndsBy, IsChangeBetween, IsChangeOf, IsReading}
+use Rattle.js_document.specs.Changed.{MayChange, StartsFrom, StartsReading, last_token_of, token_of}
 use Rattle.js_document.specs.Gap.{GapState, around, count_tokens, entries_of, last_entry, on_effect, reads_on, rows_of}
 use Rattle.js_document.specs.Gap.{shifted_entry}
 use Rattle.js_document.specs.Reading.{state_of, with_row, with_rows}
-use Rattle.js_document.proofs.ChangeLemmas.{change_of_lists, common_few}
-use Rattle.js_document.proofs.EditedDocument.{rows_shifted}
 use Rattle.js_document.proofs.KeptLemmas.{all_first, all_joined, all_rest, ended_by, rows_joined}
 use Rattle.js_document.proofs.ListLemmas.{map_turned}
-use Rattle.js_document.proofs.TokenLemmas.{by_effect, row_front, row_length, rows_both, rows_front, rows_length}
+use Rattle.js_document.proofs.RowPlaces.{turned_both, turned_rows}
+use Rattle.js_document.proofs.TokenLemmas.{by_effect, row_length, rows_both, rows_front, rows_length}
 
 -- what holds of the tokens of rows holds of the live ones
 module _ (P : TokenParts → Type 0) where
@@ -147,29 +146,6 @@ begins_anew {K} from to es starts = by_last (last_entry {K = K} es) refl starts
         ∙ reverse-append (rows_of {K = K} ended.before) (last.row ∷ []) in
         subst (λ rs. BeginsAnew (map (shifted_row from to) rs)) (sym turned) reading
 
--- So many items are common at the front and at the end: what is told of the change then.
-pub range_of : (index start end : ℕ) (new : List ℕ) (olds news : List TokenParts) (b e : ℕ) (r : ChangedRange)
-    → AreCommon (IsSameBefore (EndsBy start)) olds news b
-    → AreCommon (IsSameBehind (StartsFrom end) (shifted_token end (start + length new))) (reverse (drop b olds))
-    (reverse (drop b news)) e → r.start ≡ index + b → r.old_end ≡ index + (length olds - e)
-    → r.new_end ≡ index + (length news - e) → IsChangeBetween index start end new olds news r
-range_of index start end new olds news b e r common back start_is old_is new_is = λ front later long before behind.
-    let moved = shifted_token end (start + length new) in
-    let first : length front + b ≡ r.start = omega (arith, long, start_is) in
-    let old_end : length front + (length olds - e) ≡ r.old_end = omega (arith, long, old_is) in
-    let new_end : length front + (length news - e) ≡ r.new_end = omega (arith, long, new_is) in
-    let is = change_of_lists {A = TokenParts} (EndsBy start) (StartsFrom end) moved front olds news later b e before behind
-    common back in
-    subst
-    (λ n. IsChange (EndsBy start) (StartsFrom end) moved (front ++ olds ++ later) (front ++ news ++ map moved later)
-    r.start r.old_end n) new_end
-    (subst
-    (λ n. IsChange (EndsBy start) (StartsFrom end) moved (front ++ olds ++ later) (front ++ news ++ map moved later)
-    r.start n (length front + (length news - e))) old_end
-    (subst
-    (λ n. IsChange (EndsBy start) (StartsFrom end) moved (front ++ olds ++ later) (front ++ news ++ map moved later) n
-    (length front + (length olds - e)) (length front + (length news - e))) first is))
-
 module _ {K : Type 0} (start end : ℕ) (new : List ℕ) (g : GapState K) (left pad : ℕ)
     (may : MayChange {K = K} start end new g left pad) (read : List (Entry K)) (reading : ℕ) (less : reading ≤ left)
     (starts : StartsReading {K = K} (take reading g.back)) (again : List (Entry K))
@@ -193,18 +169,6 @@ module _ {K : Type 0} (start end : ℕ) (new : List ℕ) (g : GapState K) (left 
   -- and those behind them
   abbrev later : List TokenParts
   later = with_rows [] (turned (take reading g.back) g.pad)
-
-  turned_both : (xs ys : List (Entry K)) (p : ℕ) → turned (xs ++ ys) p ≡ turned ys p ++ turned xs p
-  turned_both xs ys p =
-      ap (λ rs. map (shifted_row p 0) (reverse rs)) (rows_joined {K = K} xs ys)
-      ∙ ap (map (shifted_row p 0)) (reverse-append (rows_of {K = K} xs) (rows_of {K = K} ys))
-      ∙ map-append (shifted_row p 0) (reverse (rows_of {K = K} ys)) (reverse (rows_of {K = K} xs))
-
-  turned_rows : (es : List (Entry K)) (p : ℕ)
-      → rows_of {K = K} (map (shifted_entry {K = K} p 0) (reverse es)) ≡ turned es p
-  turned_rows es p =
-      rows_shifted {K = K} p 0 (reverse es)
-      ∙ ap (map (shifted_row p 0)) (map_turned (λ (e : Entry K). e.row) es)
 
   -- behind the rows before the gap
   behind_front : (rows : List Row)
@@ -234,9 +198,9 @@ module _ {K : Type 0} (start end : ℕ) (new : List ℕ) (g : GapState K) (left 
   old_tokens =
       let whole : turned g.back g.pad ≡ turned (drop reading g.back) g.pad ++ turned (take reading g.back) g.pad =
       ap (λ es. turned es g.pad) (sym (take-append-drop reading g.back))
-      ∙ turned_both (take reading g.back) (drop reading g.back) g.pad in
+      ∙ turned_both {K = K} g.pad (take reading g.back) (drop reading g.back) in
       ap (with_rows []) (rows_joined {K = K} g.front (map (shifted_entry {K = K} g.pad 0) (reverse g.back))
-      ∙ ap (λ rs. rows_of {K = K} g.front ++ rs) (turned_rows g.back g.pad ∙ whole))
+      ∙ ap (λ rs. rows_of {K = K} g.front ++ rs) (turned_rows {K = K} g.pad g.back ∙ whole))
       ∙ rows_both [] (rows_of {K = K} g.front)
       (turned (drop reading g.back) g.pad ++ turned (take reading g.back) g.pad)
       ∙ rows_both (with_rows [] (rows_of {K = K} g.front)) (turned (drop reading g.back) g.pad)
@@ -273,13 +237,13 @@ module _ {K : Type 0} (start end : ℕ) (new : List ℕ) (g : GapState K) (left 
       ≡ may.last.before ++ news ++ map (shifted_token end to) later
   new_tokens =
       let whole : turned (take left g.back) pad ≡ turned again pad ++ turned (take reading g.back) pad =
-      ap (λ es. turned es pad) again_is ∙ turned_both (take reading g.back) again pad in
+      ap (λ es. turned es pad) again_is ∙ turned_both {K = K} pad (take reading g.back) again in
       let rows : rows_of {K = K} (around {K = K} (g.front ++ read) pad (take left g.back))
       ≡ rows_of {K = K} g.front ++ ((rows_of {K = K} read ++ turned again pad) ++ turned (take reading g.back) pad) =
       rows_joined {K = K} (g.front ++ read) (map (shifted_entry {K = K} pad 0) (reverse (take left g.back)))
       ∙ ap (λ rs. rs ++ rows_of {K = K} (map (shifted_entry {K = K} pad 0) (reverse (take left g.back))))
       (rows_joined {K = K} g.front read)
-      ∙ ap (λ rs. (rows_of {K = K} g.front ++ rows_of {K = K} read) ++ rs) (turned_rows (take left g.back) pad ∙ whole)
+      ∙ ap (λ rs. (rows_of {K = K} g.front ++ rows_of {K = K} read) ++ rs) (turned_rows {K = K} pad (take left g.back) ∙ whole)
       ∙ append_assoc (rows_of {K = K} g.front) (rows_of {K = K} read)
       (turned again pad ++ turned (take reading g.back) pad)
       ∙ ap (λ rs. rows_of {K = K} g.front ++ rs)
@@ -308,29 +272,36 @@ module _ {K : Type 0} (start end : ℕ) (new : List ℕ) (g : GapState K) (left 
   all_before =
       all_first (EndsBy start) may.last.before last
       (subst (AllByRecursion (EndsBy start)) may.last.tokens_are
-      (all_tokens (EndsBy start) (rows_of {K = K} g.front) [] may.before tt))
+      (all_tokens (EndsBy start) (rows_of {K = K} g.front) [] (ends (rows_of {K = K} g.front) may.before) tt))
+    where
+      ends : (rows : List Row) → AllByRecursion (OfEachPlace (λ place. place ≤ start)) rows
+          → AllByRecursion (λ (r : Row). EndsBy start r.token) rows
+      ends [] all = tt
+      ends (r ∷ rs) all = (all.0.end, ends rs all.1)
+
+  abbrev Far : Entry K → Type 0
+  Far e = OfEachPlace (λ place. end ≤ shifted g.pad 0 place) e.row
 
   all_later : AllByRecursion (StartsFrom end) later
   all_later =
       all_tokens (StartsFrom end) (turned (take reading g.back) g.pad) []
       (shifted_starts (reverse (rows_of {K = K} (take reading g.back)))
       (turned_starts (take reading g.back)
-      (all_first (λ (e : Entry K). end ≤ shifted g.pad 0 e.row.token.start) (take reading g.back) again
-      (subst (AllByRecursion (λ (e : Entry K). end ≤ shifted g.pad 0 e.row.token.start)) again_is may.behind)))) tt
+      (all_first Far (take reading g.back) again (subst (AllByRecursion Far) again_is may.behind)))) tt
     where
       shifted_starts : (rows : List Row) → AllByRecursion (λ (r : Row). end ≤ shifted g.pad 0 r.token.start) rows
           → AllByRecursion (λ (r : Row). StartsFrom end r.token) (map (shifted_row g.pad 0) rows)
       shifted_starts [] all = tt
       shifted_starts (r ∷ rs) all = (all.0, shifted_starts rs all.1)
 
-      turned_starts : (es : List (Entry K)) → AllByRecursion (λ (e : Entry K). end ≤ shifted g.pad 0 e.row.token.start) es
+      turned_starts : (es : List (Entry K)) → AllByRecursion Far es
           → AllByRecursion (λ (r : Row). end ≤ shifted g.pad 0 r.token.start) (reverse (rows_of {K = K} es))
       turned_starts [] all = tt
       turned_starts (e ∷ es) all =
           subst (AllByRecursion (λ (r : Row). end ≤ shifted g.pad 0 r.token.start))
           (sym (reverse-append (e.row ∷ []) (rows_of {K = K} es)))
           (all_joined (λ (r : Row). end ≤ shifted g.pad 0 r.token.start) (reverse (rows_of {K = K} es)) (e.row ∷ [])
-          (turned_starts es all.1) (all.0, tt))
+          (turned_starts es all.1) (all.0.start, tt))
 
   front_count : count_tokens (rows_of {K = K} g.front) - 1 ≡ length may.last.before
   front_count =
@@ -359,7 +330,8 @@ module _ {K : Type 0} (start end : ℕ) (new : List ℕ) (g : GapState K) (left 
 
   -- So the change is told of the live tokens.
   pub change_is : (r : ChangedRange)
-      → IsChangeBetween (count_tokens (rows_of {K = K} g.front) - 1) start end new olds news r
+      → IsChangeBetween {A = TokenParts} (EndsBy start) (StartsFrom end) (shifted_token end to)
+      (count_tokens (rows_of {K = K} g.front) - 1) olds news r
       → IsChangeOf start end new (with_rows [] (rows_of {K = K} (entries_of {K = K} g)))
       (with_rows [] (rows_of {K = K} (around {K = K} (g.front ++ read) pad (take left g.back)))) r
   change_is r between =

@@ -1,21 +1,21 @@
 -- The tokens that are compared, of rows around a gap.
-use Rattle.std.proofs.Common.{◌≡◌, ℕ, zero, suc, ◌+◌, ◌-◌, ◌≤◌, List, [], ◌∷◌, ◌++◌, length, map, take, drop, refl, sym, ◌∙◌}
+use Rattle.std.proofs.Common.{◌≡◌, ℕ, zero, suc, ◌+◌, ◌-◌, ◌≤◌, List, [], ◌∷◌, ◌++◌, length, map, take, drop, refl, ◌∙◌}
 use Rattle.std.proofs.Common.{ap, subst, arith}
 use Rattle.std.specs.List.{AllByRecursion}
 use Rattle.std.specs.Prelude.{IfOk, Result, reverse}
-use Rattle.std.proofs.lemmas.List.{length-take-le, take-append-drop, take-take, take_rest}
+use Rattle.std.proofs.lemmas.List.{length-take-le, take-take}
 use Rattle.std.proofs.lemmas.Result.{IfOk-weaker}
 use Rattle.js_kind.specs.TokenParts.{TokenParts}
 use Rattle.js_session.specs.Shifted.{shifted_row, shifted_token}
 use Rattle.js_relex.specs.LiveLists.{TokenMayMove}
 use Rattle.js_document.specs.declared.change.ChangedRange.{ChangedRange}
 use Rattle.js_document.specs.declared.gap.Entry.{Entry}
-use Rattle.js_document.specs.Changed.{AreCommon, EndsBy, EntryMayMove, IsChangeBetween, IsChangeOf, IsSameBefore}
-use Rattle.js_document.specs.Changed.{IsSameBehind, MayChange, StartsFrom, StartsReading, last_token_of}
+use Rattle.js_document.specs.Changed.{EndsBy, EntryMayMove, IsChangeBetween, IsChangeOf, MayChange, StartsFrom}
+use Rattle.js_document.specs.Changed.{StartsReading, last_token_of}
 use Rattle.js_document.specs.Gap.{GapState, IsPadded, around, count_tokens, entries_of, rows_of}
 use Rattle.js_document.specs.Reading.{with_rows}
-use Rattle.js_document.proofs.ChangedRows.{change_is, news, olds, olds_may_move, range_of}
-use Rattle.js_document.proofs.EntryLoops.{padded_move}
+use Rattle.js_document.proofs.ChangedRows.{change_is, news, olds, olds_may_move}
+use Rattle.js_document.proofs.EntryLoops.{padded_move, rest_padded}
 use Rattle.js_document.proofs.KeptLemmas.{all_rest}
 
 none_taken : {A : Type 0} (n : ℕ) → ◌≡◌ {A = List A} [] (take n [])
@@ -32,36 +32,12 @@ take_parts (x ∷ xs) (suc m) (suc n) less =
     ap (λ l. x ∷ l) (take_parts xs m n (omega (arith, less)))
     ∙ ap (λ k. x ∷ take m xs ++ take k (drop m xs)) same
 
--- How many tokens are the same at the front, and then at the end, told of parts of the lists.
-pub range_between : (index start end : ℕ) (new : List ℕ) (olds_are news_are : List TokenParts) (b e from to : ℕ)
-    (r : ChangedRange) → AreCommon (IsSameBefore (EndsBy start)) olds_are news_are b
-    → AreCommon (IsSameBehind (StartsFrom from) (shifted_token from to))
-    (reverse (take (length olds_are - b) (drop b olds_are))) (reverse (take (length news_are - b) (drop b news_are))) e
-    → from ≡ end → to ≡ start + length new → r.start ≡ index + b → r.old_end ≡ index + (length olds_are - e)
-    → r.new_end ≡ index + (length news_are - e) → IsChangeBetween index start end new olds_are news_are r
-range_between index start end new olds_are news_are b e from to r common back from_is to_is start_is old_is new_is =
-    range_of index start end new olds_are news_are b e r common
-    (subst (λ xs. AreCommon (IsSameBehind (StartsFrom end) (shifted_token end (start + length new))) (reverse xs)
-    (reverse (drop b news_are)) e) (take_rest olds_are b)
-    (subst (λ xs. AreCommon (IsSameBehind (StartsFrom end) (shifted_token end (start + length new)))
-    (reverse (take (length olds_are - b) (drop b olds_are))) (reverse xs) e) (take_rest news_are b)
-    (subst (λ n. AreCommon (IsSameBehind (StartsFrom end) (shifted_token end n))
-    (reverse (take (length olds_are - b) (drop b olds_are))) (reverse (take (length news_are - b) (drop b news_are))) e)
-    to_is
-    (subst (λ n. AreCommon (IsSameBehind (StartsFrom n) (shifted_token n to))
-    (reverse (take (length olds_are - b) (drop b olds_are))) (reverse (take (length news_are - b) (drop b news_are))) e)
-    from_is back))))
-    start_is old_is new_is
-
 module _ {K : Type 0} where
   -- what stands behind the gap from an entry on may come before it
   pub rest_moves : (pad left : ℕ) (back : List (Entry K)) → AllByRecursion (IsPadded {K = K} pad) back
       → AllByRecursion (EntryMayMove {K = K} pad 0) (take (length back - left) (drop left back))
   rest_moves pad left back padded =
-      subst (AllByRecursion (EntryMayMove {K = K} pad 0)) (sym (take_rest back left))
-      (padded_move {K = K} pad (drop left back)
-      (all_rest (IsPadded {K = K} pad) (take left back) (drop left back)
-      (subst (AllByRecursion (IsPadded {K = K} pad)) (sym (take-append-drop left back)) padded)))
+      padded_move {K = K} pad (take (length back - left) (drop left back)) (rest_padded {K = K} pad left back padded)
 
 module _ {K : Type 0} (start end : ℕ) (new : List ℕ) (g : GapState K) (left pad : ℕ)
     (may : MayChange {K = K} start end new g left pad) (read : List (Entry K)) (reading : ℕ)
@@ -89,6 +65,11 @@ module _ {K : Type 0} (start end : ℕ) (new : List ℕ) (g : GapState K) (left 
       (map (shifted_row g.pad 0) (reverse (rows_of {K = K} (drop reading g.back)))))
   compared_old = olds_may_move {K = K} start end new g left pad may read reading less begins again again_is
 
+  abbrev Between : ℕ → List TokenParts → List TokenParts → ChangedRange → Type 0
+  Between index olds news r =
+      IsChangeBetween {A = TokenParts} (EndsBy start) (StartsFrom end) (shifted_token end (start + length new)) index olds
+      news r
+
   -- What they tell of the change is told of the live tokens.
   pub compared : {E : Type 0} (index : ℕ) (old_tokens new_tokens : List TokenParts) (result : Result ChangedRange E)
       → index ≡ count_tokens (rows_of {K = K} g.front) - 1
@@ -96,18 +77,18 @@ module _ {K : Type 0} (start end : ℕ) (new : List ℕ) (g : GapState K) (left 
       (map (shifted_row g.pad 0) (reverse (rows_of {K = K} (drop reading g.back))))
       → new_tokens ≡ with_rows (last_token_of {K = K} g.front)
       (rows_of {K = K} read ++ map (shifted_row pad 0) (reverse (rows_of {K = K} again)))
-      → IfOk result (IsChangeBetween index start end new old_tokens new_tokens)
+      → IfOk result (Between index old_tokens new_tokens)
       → IfOk result (IsChangeOf start end new (with_rows [] (rows_of {K = K} (entries_of {K = K} g)))
       (with_rows [] (rows_of {K = K} (around {K = K} (g.front ++ read) pad (take left g.back)))))
   compared index old_tokens new_tokens result place old_is new_is between =
       let olds_are = olds {K = K} start end new g left pad may read reading less begins again again_is in
       let news_are = news {K = K} start end new g left pad may read reading less begins again again_is in
-      IfOk-weaker result (IsChangeBetween index start end new old_tokens new_tokens)
+      IfOk-weaker result (Between index old_tokens new_tokens)
       (IsChangeOf start end new (with_rows [] (rows_of {K = K} (entries_of {K = K} g)))
       (with_rows [] (rows_of {K = K} (around {K = K} (g.front ++ read) pad (take left g.back)))))
       (λ r is.
       change_is {K = K} start end new g left pad may read reading less begins again again_is r
-      (subst (λ n. IsChangeBetween n start end new olds_are news_are r) place
-      (subst (λ ts. IsChangeBetween index start end new ts news_are r) old_is
-      (subst (λ ts. IsChangeBetween index start end new old_tokens ts r) new_is is))))
+      (subst (λ n. Between n olds_are news_are r) place
+      (subst (λ ts. Between index ts news_are r) old_is
+      (subst (λ ts. Between index old_tokens ts r) new_is is))))
       between

@@ -1,23 +1,12 @@
 -- What an edit of a document gives.
-use Rattle.std.proofs.Common.{◌≡◌, ℕ, zero, suc, ◌+◌, ◌-◌, ◌<◌, ◌≤◌, Bool, true, false, List, [], ◌∷◌, ◌++◌, length, map, take}
-use Rattle.std.proofs.Common.{drop, refl, sym, ◌∙◌, ap, subst, arith, append_assoc, append-nil, length-append, Option, Some, None}
+use Rattle.std.proofs.Common.{◌≡◌, ℕ, suc, ◌+◌, ◌-◌, ◌<◌, List, [], ◌∷◌, ◌++◌, length, take}
+use Rattle.std.proofs.Common.{refl, sym, ◌∙◌, ap, subst, arith, append_assoc, length-append, Some, None}
 use Rattle.std.proofs.Common.{inl, inr}
-use Rattle.std.specs.List.{AllByRecursion}
-use Rattle.std.specs.Prelude.{◌^◌, reverse, slice_get}
-use Rattle.std.specs.Str.{IsUtf8}
-use Rattle.std.proofs.lemmas.List.{drop_all, drop_at, length-map, length-reverse, length-take-le, take_at}
-use Rattle.js_text.specs.declared.source_type.SourceType.{SourceType}
-use Rattle.js_kind.specs.TokenParts.{TokenParts}
-use Rattle.js_session.specs.declared.command.Command.{Command}
+use Rattle.std.proofs.lemmas.List.{take_at}
 use Rattle.js_session.specs.declared.row.Row.{Row}
-use Rattle.js_session.specs.Shifted.{OfEachPlace, shifted_row}
-use Rattle.js_choose.specs.Rules.{IsRule, Rule}
-use Rattle.js_relex.specs.Documents.{IsEdit, TakesOver, edited, last_rows, rows_behind_joined, rows_taken_over}
 use Rattle.js_relex.specs.Joined.{FirstFrom}
 use Rattle.js_relex.proofs.FirstLemmas.{behind_none}
-use Rattle.js_document.specs.declared.gap.Entry.{Entry}
 use Rattle.js_document.specs.declared.open.Node.{Node}
-use Rattle.js_document.specs.Documents.{DocState, JoinsRow, as_relexed, commands_of}
 use Rattle.js_document.specs.Reading.{JoiningState, JoinsHeld, JoinsNone, Knowledge, LastJoins, NoneJoins, with_row, with_rows}
 use Rattle.js_document.specs.States.{Alikeness}
 use Rattle.js_document.proofs.TokenLemmas.{rows_both}

@@ -1,24 +1,24 @@
 -- What an edit of a document gives, by what is known of its rows.
-use Rattle.std.proofs.Common.{◌≡◌, ℕ, zero, suc, ◌+◌, ◌-◌, ◌<◌, ◌≤◌, Bool, true, false, List, [], ◌∷◌, ◌++◌, length, map, take}
+use Rattle.std.proofs.Common.{◌≡◌, ℕ, suc, ◌+◌, ◌-◌, ◌<◌, ◌≤◌, List, [], ◌∷◌, ◌++◌, length, map, take}
 use Rattle.std.proofs.Common.{drop, refl, sym, ◌∙◌, ap, subst, add-zero, arith, append_assoc, length-append, Option, Some, None}
 use Rattle.std.specs.List.{AllByRecursion, last_or}
 use Rattle.std.specs.Prelude.{◌^◌, reverse, slice_get}
-use Rattle.std.specs.Str.{IsUtf8}
 use Rattle.std.proofs.lemmas.List.{drop_at, length-drop, length-map, length-reverse, length-take-le, map-append}
 use Rattle.std.proofs.lemmas.List.{reverse-append, take-append-drop, take_at}
 use Rattle.js_text.specs.declared.source_type.SourceType.{SourceType}
-use Rattle.js_kind.specs.TokenParts.{TokenParts}
 use Rattle.js_session.specs.declared.row.Row.{Row}
-use Rattle.js_session.specs.Shifted.{OfEachPlace, shifted, shifted_row}
+use Rattle.js_session.specs.Shifted.{FitsShifted, OfEachPlace, shifted_row}
+use Rattle.js_session.proofs.RowsWithin.{rows_weaker}
 use Rattle.js_choose.specs.Rules.{IsRule, Rule}
-use Rattle.js_relex.specs.Documents.{IsEdit, TakesOver, edited, last_rows, rows_taken_over}
+use Rattle.js_relex.specs.Documents.{TakesOver, edited, last_rows, rows_taken_over}
 use Rattle.js_relex.specs.LiveLists.{TokenMayMove}
 use Rattle.js_document.specs.declared.change.Change.{Change}
 use Rattle.js_document.specs.declared.gap.Entry.{Entry}
 use Rattle.js_document.specs.declared.open.Node.{Node}
-use Rattle.js_document.specs.Changed.{EndsWithLast, IsChangeOf, MayChange, last_token_of, token_of}
+use Rattle.js_document.specs.Changed.{AreChangesOf, EndsWithLast, IsChangeOf, MayChange, last_token_of, token_of}
 use Rattle.js_relex.specs.Joined.{FirstFrom}
 use Rattle.js_document.specs.Documents.{DocState, Edits, IsKept, JoinsRow, as_relexed, document_of, report_of}
+use Rattle.js_document.specs.Found.{findings_of, found_by}
 use Rattle.js_document.specs.Gap.{GapState, IsPadded, around, entries_of, last_entry, rows_of, shifted_entry}
 use Rattle.js_document.specs.Reading.{Knowledge, with_rows}
 use Rattle.js_document.specs.States.{Alikeness}
@@ -27,8 +27,10 @@ use Rattle.js_document.proofs.ChangedRows.{all_tokens}
 use Rattle.js_document.proofs.EditOutcome.{IsOutcome}
 use Rattle.js_document.proofs.EditedDocument.{IsBeing, IsFar, all_kept, all_turned, entries_twice, rows_shifted}
 use Rattle.js_document.proofs.EditedRows.{report_of_chosen}
+use Rattle.js_document.proofs.FoundLemmas.{report_found}
 use Rattle.js_document.proofs.HeldLemmas.{places_within, report_tokens}
-use Rattle.js_document.proofs.KeptLemmas.{Before, all_first, ended_by, last_is, rows_joined}
+use Rattle.js_document.proofs.KeptLemmas.{Before, all_first, ended_by, rows_joined}
+use Rattle.js_document.proofs.KeptPlaces.{kept_within}
 use Rattle.js_document.proofs.LastTokens.{last_some, last_split}
 use Rattle.js_document.proofs.ListLemmas.{get_left, get_right}
 use Rattle.js_document.proofs.OrderLemmas.{IsSound, rows_ordered}
@@ -161,22 +163,18 @@ module _ {K : Type 0} (rule : Rule) (law : IsRule rule) (Alike : Alikeness) (kno
       few = o.few;
       short = omega (arith, long_text, other_is, b.edit.ends.0);
       last = ends_with_last;
-      before = weaker front_rows near;
-      behind = starts (take left g.back) o.far;
+      before =
+          kept_within rule law old_text t start b.utf8 b.edit.starts all front_rows (rows_of {K = K} behind_gap) b.rows
+          all_are near;
+      behind = o.far;
+      fits =
+          rows_weaker (λ place. place ≤ length old_text) (FitsShifted end to)
+          (λ place inside. omega (arith, inside, long_text, other_is, b.edit.ends.0)) all
+          (places_within rule law old_text t all b.utf8 b.rows);
       may_move = tokens_may_move;
       padded = o.padded;
       moved = rows_twice;
     }
-      where
-        weaker : (rows : List Row) → AllByRecursion (Before start) rows
-            → AllByRecursion (λ (row : Row). row.token.end ≤ start) rows
-        weaker [] all = tt
-        weaker (row ∷ rows) all = ((let less = all.0 in omega (arith, less)), weaker rows all.1)
-
-        starts : (es : List (Entry K)) → AllByRecursion (IsFar {K = K} g.pad end) es
-            → AllByRecursion (λ (e : Entry K). end ≤ shifted g.pad 0 e.row.token.start) es
-        starts [] all = tt
-        starts (e ∷ es) all = (all.0.start, starts es all.1)
 
     -- the last old rows
     abbrev later : List (Entry K)
@@ -236,6 +234,7 @@ module _ {K : Type 0} (rule : Rule) (law : IsRule rule) (Alike : Alikeness) (kno
         (kept_is : change.kept_rows ≡ length g.front) (read_is : change.read_rows ≡ length entries)
         (moved_is : change.moved ≡ record { from = end; to = to })
         (tokens_are : IsChangeOf start end new (with_rows [] all) (with_rows [] new_rows) change.tokens)
+        (found_are : AreChangesOf start end new (found_by all) (found_by new_rows) change)
         (before now : ℕ) (ticks : now ≡ before + length entries) where
       abbrev d : DocState
       d = document_of text t new_rows change
@@ -305,6 +304,11 @@ module _ {K : Type 0} (rule : Rule) (law : IsRule rule) (Alike : Alikeness) (kno
             (sym (report_tokens rule law old_text t all b.rows))
             (subst (λ ts. IsChangeOf start end new (with_rows [] all) ts change.tokens)
             (sym (report_tokens rule law text t new_rows o.rows)) tokens_are);
+        found =
+            subst (λ f. AreChangesOf start end new f (findings_of (report_of new_rows)) change)
+            (sym (report_found rule law old_text t all b.utf8 b.rows))
+            (subst (λ f. AreChangesOf start end new (found_by all) f change)
+            (sym (report_found rule law text t new_rows b.new_utf8 o.rows)) found_are);
         moved = moved_is;
       }
 

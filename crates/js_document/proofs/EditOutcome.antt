@@ -1,16 +1,14 @@
 -- What is known of the rows of an edited document, whether old rows are joined or not.
-use Rattle.std.proofs.Common.{◌≡◌, ℕ, zero, suc, ◌+◌, ◌-◌, ◌<◌, ◌≤◌, Bool, true, false, List, [], ◌∷◌, ◌++◌, length, map, take}
+use Rattle.std.proofs.Common.{◌≡◌, ℕ, suc, ◌+◌, ◌-◌, ◌<◌, ◌≤◌, List, [], ◌∷◌, ◌++◌, length, map, take}
 use Rattle.std.proofs.Common.{drop, refl, sym, ◌∙◌, ap, subst, arith, append_assoc, append-nil, length-append, Option, Some, None}
 use Rattle.std.specs.List.{AllByRecursion}
-use Rattle.std.specs.Prelude.{◌^◌, reverse, slice_get, unwrap_or}
-use Rattle.std.specs.Str.{IsUtf8}
+use Rattle.std.specs.Prelude.{◌^◌, reverse}
 use Rattle.std.proofs.lemmas.List.{drop_at, length-drop, length-map, length-reverse, length-take-le}
 use Rattle.js_text.specs.declared.source_type.SourceType.{SourceType}
 use Rattle.js_kind.specs.TokenParts.{TokenParts}
 use Rattle.js_session.specs.declared.row.Row.{Row}
-use Rattle.js_session.specs.Shifted.{OfEachPlace, shifted_row}
 use Rattle.js_choose.specs.Rules.{IsRule, Rule}
-use Rattle.js_relex.specs.Documents.{IsEdit, edited, rows_behind_joined, rows_taken_over}
+use Rattle.js_relex.specs.Documents.{edited, rows_behind_joined, rows_taken_over}
 use Rattle.js_relex.specs.Joined.{FirstFrom}
 use Rattle.js_document.specs.declared.gap.Entry.{Entry}
 use Rattle.js_document.specs.declared.open.Node.{Node}
@@ -21,7 +19,7 @@ use Rattle.js_document.specs.Reading.{AreKnown, JoiningState, JoinsHeld, JoinsNo
 use Rattle.js_document.specs.Reading.{states_of, with_rows}
 use Rattle.js_document.specs.States.{AlikeAgain, AlikeBehind, AlikeItself, Alikeness, ChoosesAlike, KnowsAlike}
 use Rattle.js_document.proofs.EditClauses.{last_first, none_first}
-use Rattle.js_document.proofs.EditedDocument.{IsBeing, IsFar, far_left, few_left, front_kept, joins, known_joined, known_read}
+use Rattle.js_document.proofs.EditedDocument.{IsBeing, IsFar, far_left, few_left, front_kept, known_joined, known_read}
 use Rattle.js_document.proofs.EditedDocument.{later_are, padded_left, rows_joined_are, rows_read, stops_read}
 use Rattle.js_document.proofs.EditedRows.{AreChosenRows}
 use Rattle.js_document.proofs.JoinedDocument.{joins_held, joins_none}

@@ -1,14 +1,13 @@
 -- The rows of a document of an edited text: those that are kept, those that were read, and the old ones behind them.
-use Rattle.std.proofs.Common.{◌≡◌, ℕ, zero, suc, ◌+◌, ◌-◌, ◌<◌, ◌≤◌, Bool, true, List, [], ◌∷◌, ◌++◌, length, map, take, drop}
-use Rattle.std.proofs.Common.{refl, sym, ◌∙◌, ap, subst, arith, append_assoc, append-nil, length-append, Option, Some, None}
-use Rattle.std.specs.List.{AllByRecursion, last_or, list_all}
+use Rattle.std.proofs.Common.{◌≡◌, ℕ, zero, suc, ◌+◌, ◌-◌, ◌<◌, ◌≤◌, true, List, [], ◌∷◌, ◌++◌, length, map, take, drop}
+use Rattle.std.proofs.Common.{refl, sym, ◌∙◌, ap, subst, arith, append_assoc, length-append, Option, Some, None}
+use Rattle.std.specs.List.{AllByRecursion, list_all}
 use Rattle.std.specs.Prelude.{◌^◌, reverse, slice_get}
 use Rattle.std.specs.Str.{IsUtf8}
-use Rattle.std.proofs.lemmas.List.{drop_at, length-map, length-reverse, map-append, reverse-append, take-append-drop}
+use Rattle.std.proofs.lemmas.List.{drop_at, length-map, map-append, reverse-append}
 use Rattle.std.proofs.lemmas.List.{length-drop, length-take, length-take-le, reverse-reverse, take_at}
 use Rattle.js_text.specs.declared.source_type.SourceType.{SourceType}
 use Rattle.js_kind.specs.TokenParts.{TokenParts}
-use Rattle.js_session.specs.declared.command.Command.{Command}
 use Rattle.js_session.specs.declared.row.Row.{Row}
 use Rattle.js_session.specs.Effects.{is_lasting}
 use Rattle.js_session.specs.Live.{State, last_live, state_after_first}
@@ -24,19 +23,17 @@ use Rattle.js_document.specs.declared.gap.Entry.{Entry}
 use Rattle.js_document.specs.declared.open.Node.{Node}
 use Rattle.js_document.specs.Documents.{IsKept}
 use Rattle.js_document.specs.Edited.{ReadsEdited, ReadsIn, joining}
-use Rattle.js_document.specs.Gap.{GapState, IsPadded, IsPaddedPlace, around, entries_of, rows_of, shifted_entry}
-use Rattle.js_document.specs.Reading.{AreKnown, IsHeldToken, JoiningState, JoinsHeld, Knowledge, LastJoins, states_of}
-use Rattle.js_document.specs.Reading.{UntilJoined, with_row, with_rows}
-use Rattle.js_document.specs.States.{AlikeAgain, AlikeBehind, AlikeItself, Alikeness, ChoosesAlike, IsLast, KnowsAlike}
-use Rattle.js_document.proofs.EditedRows.{AreChosenRows, Behind, Cuts, Kept, behind, cuts, goes_on_rows, kept, on_rows, state_at}
+use Rattle.js_document.specs.Gap.{GapState, IsPadded, IsPaddedPlace, entries_of, rows_of, shifted_entry}
+use Rattle.js_document.specs.Reading.{AreKnown, JoiningState, Knowledge, LastJoins, states_of}
+use Rattle.js_document.specs.Reading.{UntilJoined, with_rows}
+use Rattle.js_document.specs.States.{AlikeAgain, AlikeBehind, AlikeItself, Alikeness, ChoosesAlike, KnowsAlike}
+use Rattle.js_document.proofs.EditedRows.{AreChosenRows, Behind, Cuts, Kept, behind, cuts, goes_on_rows, kept, state_at}
 use Rattle.js_document.proofs.EditedRows.{chosen_lasts, token_at}
-use Rattle.js_document.proofs.GapLemmas.{first_behind}
 use Rattle.js_document.proofs.KeptLemmas.{Before, all_first, all_rest, rows_joined}
 use Rattle.js_document.proofs.KnownLemmas.{known_both, known_front, known_last, known_rest, known_shifted}
 use Rattle.js_document.proofs.KnownLemmas.{known_stays}
 use Rattle.js_relex.proofs.KeptRows.{drop_lasting, take_lasting}
-use Rattle.js_document.proofs.ListLemmas.{map_turned}
-use Rattle.js_document.proofs.ReadParts.{AreReadRows, first_tokens, read_all, read_behind, read_from_start, read_goes}
+use Rattle.js_document.proofs.ReadParts.{AreReadRows, first_tokens, read_behind, read_from_start, read_goes}
 use Rattle.js_document.proofs.ReadParts.{read_joined, read_tokens, state_of_read}
 use Rattle.js_document.proofs.ShiftLemmas.{row_both, row_of_shifted, row_twice}
 use Rattle.js_document.proofs.TokenLemmas.{rows_both, rows_tokens}

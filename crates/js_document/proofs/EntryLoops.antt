@@ -4,7 +4,7 @@ use Rattle.std.proofs.Common.{refl, sym, ◌∙◌, ap, subst, arith, append_ass
 use Rattle.std.specs.List.{AllByRecursion}
 use Rattle.std.specs.Prelude.{if◌then◌else◌, reverse, slice_get}
 use Rattle.std.proofs.Math.Seq.{drop-cons}
-use Rattle.std.proofs.lemmas.List.{length-take-le, map-append, reverse-append, take-append-drop, take_more}
+use Rattle.std.proofs.lemmas.List.{length-take-le, map-append, reverse-append, take-append-drop, take_more, take_rest}
 use Rattle.std.proofs.lemmas.Option.{slice_get_read}
 use Rattle.js_text.specs.Lists.{with_last}
 use Rattle.js_kind.specs.TokenParts.{TokenParts}
@@ -18,7 +18,7 @@ use Rattle.js_document.specs.declared.gap.Entry.{Entry}
 use Rattle.js_document.specs.Changed.{EntryMayMove, IsReading, StartsReading}
 use Rattle.js_document.specs.Gap.{IsPadded, last_entry, reads_on, rows_of}
 use Rattle.js_document.specs.Reading.{state_of, with_row, with_rows}
-use Rattle.js_document.proofs.KeptLemmas.{rows_joined}
+use Rattle.js_document.proofs.KeptLemmas.{all_rest, rows_joined}
 use Rattle.js_document.proofs.ListLemmas.{get_left}
 use Rattle.js_document.proofs.TokenLemmas.{by_effect, rows_both}
 
@@ -71,7 +71,7 @@ module _ {K : Type 0} where
       ∙ ap (λ n. reverse ((get_or es (left - 1) e).row ∷ rows_of {K = K} (drop n es))) next
       ∙ reverse-append ((get_or es (left - 1) e).row ∷ []) (rows_of {K = K} (drop left es))
 
-  turned_from : (from to : ℕ) (es : List (Entry K)) (left : ℕ) (e : Entry K) → 0 < left → left ≤ length es
+  pub turned_from : (from to : ℕ) (es : List (Entry K)) (left : ℕ) (e : Entry K) → 0 < left → left ≤ length es
       → map (shifted_row from to) (reverse (rows_of {K = K} (drop (left - 1) es)))
       ≡ map (shifted_row from to) (reverse (rows_of {K = K} (drop left es)))
       ++ shifted_row from to (get_or es (left - 1) e).row ∷ []
@@ -130,6 +130,14 @@ module _ {K : Type 0} where
       ∙ ap (λ xs. slice_get xs (left - 1)) (take-append-drop left es)
       ∙ slice_get_read es (length es) (left - 1) e refl (omega (arith, some, few)) is in
       subst (IsReading {K = K}) (sym at) reads
+
+  -- What stands behind the gap from an entry on is padded.
+  pub rest_padded : (pad left : ℕ) (back : List (Entry K)) → AllByRecursion (IsPadded {K = K} pad) back
+      → AllByRecursion (IsPadded {K = K} pad) (take (length back - left) (drop left back))
+  rest_padded pad left back padded =
+      subst (AllByRecursion (IsPadded {K = K} pad)) (sym (take_rest back left))
+      (all_rest (IsPadded {K = K} pad) (take left back) (drop left back)
+      (subst (AllByRecursion (IsPadded {K = K} pad)) (sym (take-append-drop left back)) padded))
 
   -- What is padded may come before the gap.
   pub padded_move : (pad : ℕ) (es : List (Entry K)) → AllByRecursion (IsPadded {K = K} pad) es

@@ -18,8 +18,8 @@ use Rattle.js_session.specs.Live.{Live, State, after_row, live, nothing_live, ou
 use Rattle.js_session.specs.Shifted.{shifted_row}
 use Rattle.js_choose.specs.Rules.{IsRule, Rule}
 use Rattle.js_relex.specs.Documents.{live_behind}
-use Rattle.js_document.specs.Documents.{commands_of}
-use Rattle.js_document.specs.Found.{found_from, found_in}
+use Rattle.js_document.specs.Documents.{commands_of, report_of}
+use Rattle.js_document.specs.Found.{findings_of, found_by, found_from, found_in}
 use Rattle.js_document.specs.Gap.{again_effect, on_effect}
 use Rattle.js_document.proofs.EditedRows.{AreChosenRows}
 use Rattle.js_document.proofs.HeldReport.{live_held}
@@ -140,6 +140,17 @@ module _ {A : Type 0} (list : Findings → List A) (law : (a b : Findings) → l
       (found_on (row_effect a.first.command) a.first nothing_live (first_on rule is_rule text t rows u a))
       ∙ ap (λ l. (l ++ items a.first) ++ flat_map items a.behind) none
       ∙ ap (flat_map items) (sym a.rows_are)
+
+-- What their report tells of is what the rows found.
+pub report_found : (rule : Rule) → (is_rule : IsRule rule) → (text : List ℕ) (t : SourceType) (rows : List Row)
+    → (u : IsUtf8 text) → (a : AreChosenRows rule text t rows) → findings_of (report_of rows) ≡ found_by rows
+report_found rule is_rule text t rows u a = λ j. record {
+  diagnostics = found_live (λ (f : Findings). f.diagnostics) (λ (x y : Findings). refl) rule is_rule text t rows u a refl j;
+  deferred = found_live (λ (f : Findings). f.deferred) (λ (x y : Findings). refl) rule is_rule text t rows u a refl j;
+  comments = found_live (λ (f : Findings). f.comments) (λ (x y : Findings). refl) rule is_rule text t rows u a refl j;
+  irregular = found_live (λ (f : Findings). f.irregular) (λ (x y : Findings). refl) rule is_rule text t rows u a refl j;
+  warnings = found_live (λ (f : Findings). f.warnings) (λ (x y : Findings). refl) rule is_rule text t rows u a refl j;
+}
 
 -- An item of a row behind the gap is that of the padded row, shifted.
 module _ {A : Type 0} (items : Row → List A) (moved : ℕ → ℕ → A → A)

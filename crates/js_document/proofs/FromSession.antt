@@ -1,7 +1,7 @@
 -- What a session has read, told of the rows of a text.
-use Rattle.std.proofs.Common.{◌≡◌, ℕ, zero, suc, ◌+◌, ◌<◌, ◌≤◌, Bool, true, false, List, [], ◌∷◌, ◌++◌, length, refl, sym, ◌∙◌}
+use Rattle.std.proofs.Common.{◌≡◌, ℕ, suc, ◌+◌, ◌<◌, Bool, List, [], ◌∷◌, ◌++◌, length, refl, sym, ◌∙◌}
 use Rattle.std.proofs.Common.{ap, subst, arith, drop, length-append, Option, Some, None}
-use Rattle.std.specs.List.{last_or, list_all}
+use Rattle.std.specs.List.{last_or}
 use Rattle.std.specs.Str.{IsUtf8}
 use Rattle.std.proofs.lemmas.List.{length-map}
 use Rattle.js_text.specs.declared.source_type.SourceType.{SourceType}
@@ -10,8 +10,8 @@ use Rattle.js_kind.specs.declared.kind.Kind.TheVariants.{Eof}
 use Rattle.js_lexer.specs.Lexer.{IsOnPlaces}
 use Rattle.js_session.specs.declared.command.Command.{Command}
 use Rattle.js_session.specs.declared.row.Row.{Row}
-use Rattle.js_session.specs.Effects.{effect_of, is_lasting}
-use Rattle.js_session.specs.Live.{State, after_row, last_live, nothing_live, state_after_first}
+use Rattle.js_session.specs.Effects.{effect_of}
+use Rattle.js_session.specs.Live.{State, after_row, nothing_live, state_after_first}
 use Rattle.js_session.specs.Report.{IsRow, Run}
 use Rattle.js_session.specs.Session.{Begins, MayResume, RunsFrom, SessionState, resumed, state_behind}
 use Rattle.js_session.proofs.LastingRuns.{all_steps}
@@ -24,13 +24,11 @@ use Rattle.js_document.specs.declared.gap.Entry.{Entry}
 use Rattle.js_document.specs.declared.open.Node.{Node}
 use Rattle.js_document.specs.Gap.{rows_of}
 use Rattle.js_document.specs.Reading.{AreKnown, ChosenOn, GoesOnFrom, JoiningState, JoinsHeld, JoinsNone, Knowledge, LastJoins}
-use Rattle.js_document.specs.Reading.{NoneJoins}
 use Rattle.js_document.specs.Reading.{ReadsBehind, ReadsFromStart, StepsChosen, UntilJoined, rule_behind, state_of, states_of}
 use Rattle.js_document.specs.Reading.{with_row, with_rows}
 use Rattle.js_document.specs.States.{Alikeness, IsLast}
 use Rattle.js_document.proofs.EditedRows.{chosen_of_tokens, on_lasts, tokens_of_row}
 use Rattle.js_document.proofs.LastTokens.{last_some, last_split}
-use Rattle.js_document.proofs.ReadLemmas.{law_behind}
 use Rattle.js_document.proofs.ReadParts.{first_tokens}
 use Rattle.js_document.proofs.TokenLemmas.{by_effect, effect_front, effect_length}
 

@@ -1,13 +1,12 @@
 -- Rows that cross the gap.
 use Rattle.std.proofs.Common.{◌≡◌, ℕ, zero, suc, ◌+◌, ◌-◌, ◌<◌, ◌≤◌, List, [], ◌∷◌, ◌++◌, length, map, take, drop, refl}
-use Rattle.std.proofs.Common.{Bool, true, false, sym, ◌∙◌, ap, subst, arith, append_assoc, get_or, zero-add}
+use Rattle.std.proofs.Common.{Bool, true, false, sym, ◌∙◌, ap, subst, arith, append_assoc, append-nil, get_or, zero-add}
 use Rattle.std.specs.List.{AllByRecursion}
 use Rattle.std.specs.Prelude.{◌^◌, reverse, slice_get, if◌then◌else◌}
 use Rattle.std.proofs.Common.{Some, None}
 use Rattle.std.proofs.lemmas.List.{length-append, length-map, length-reverse, reverse-append, take-append-drop, take_more}
 use Rattle.std.proofs.lemmas.Option.{slice_get_past}
-use Rattle.js_session.specs.declared.row.Row.{Row}
-use Rattle.js_session.specs.Shifted.{FitsShifted, OfEachPlace, ShiftFits, shifted, shifted_row}
+use Rattle.js_session.specs.Shifted.{FitsShifted, ShiftFits, shifted}
 use Rattle.js_session.proofs.RowsWithin.{row_weaker}
 use Rattle.js_document.specs.declared.gap.Entry.{Entry}
 use Rattle.js_document.specs.Gap.{AreCounted, GapState, IsPadded, MayPad, MovesGap, around, count_tokens}
@@ -29,6 +28,11 @@ module _ {K : Type 0} where
       ≡ front ++ shifted_entry {K = K} pad 0 s ∷ map (shifted_entry {K = K} pad 0) (reverse back)
   first_behind pad front back s =
       ap (λ l. front ++ map (shifted_entry {K = K} pad 0) l) (reverse-append back (s ∷ []))
+
+  -- where none is behind the gap
+  pub all_before : (g : GapState K) → g.back ≡ [] → entries_of {K = K} g ≡ g.front
+  all_before g none =
+      ap (λ back. around {K = K} g.front g.pad back) none ∙ append-nil g.front
 
   -- An entry that goes behind the gap, and one that comes before it.
   pub goes_back : (pad : ℕ) (front back : List (Entry K)) (e : Entry K)

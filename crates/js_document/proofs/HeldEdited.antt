@@ -1,5 +1,5 @@
 -- Rows that are held of a text, and of one that is edited.
-use Rattle.std.proofs.Common.{◌≡◌, ℕ, ◌+◌, ◌-◌, ◌<◌, List, [], ◌∷◌, ◌++◌, length, refl, sym, ◌∙◌, ap, subst, arith, take}
+use Rattle.std.proofs.Common.{◌≡◌, ℕ, ◌+◌, ◌-◌, ◌<◌, List, [], ◌++◌, length, refl, sym, ◌∙◌, ap, subst, arith, take}
 use Rattle.std.proofs.Common.{Option, Some, None}
 use Rattle.std.specs.Prelude.{◌^◌, slice_get, unwrap_or}
 use Rattle.std.specs.Str.{IsUtf8}
@@ -134,8 +134,8 @@ module _ {K : Type 0} (rule : Rule) (law : IsRule rule) (Alike : Alikeness) (cho
         (λ es. Edits rule Alike old start end new before now (document_of text t (rows_of {K = K} es) change))
         (sym r.entries_are)
         (edits {K = K} rule law Alike knows old_text new start end t nodes new_nodes g b entries (unwrap_or left 0) other
-        (joined_at left) other_is old (outcome old refl refl) was change refl r.kept r.read r.moved r.tokens before now
-        ticks)
+        (joined_at left) other_is old (outcome old refl refl) was change refl r.kept r.read r.moved r.tokens r.found
+        before now ticks)
 
     -- And its rows are held.
     pub held_edited : IsHeld {K = K} rule knows text t new_nodes (entries_of {K = K} after) after.pad

@@ -1,32 +1,27 @@
 -- What is known of a document that holds its rows.
-use Rattle.std.proofs.Common.{◌≡◌, ℕ, ◌+◌, ◌-◌, ◌<◌, ◌≤◌, Bool, true, false, List, [], ◌∷◌, ◌++◌, length, map, refl, sym, ◌∙◌}
-use Rattle.std.proofs.Common.{ap, subst, arith, Option, Some, None, take, zero-add}
-use Rattle.std.specs.List.{AllByRecursion, last_or, list_all}
-use Rattle.std.specs.Prelude.{◌^◌, reverse, slice_get}
+use Rattle.std.proofs.Common.{◌≡◌, ℕ, ◌+◌, ◌-◌, ◌<◌, ◌≤◌, true, false, List, [], ◌∷◌, length, refl, sym, ◌∙◌}
+use Rattle.std.proofs.Common.{ap, subst, arith, Some, None, take, zero-add}
+use Rattle.std.specs.List.{AllByRecursion, list_all}
+use Rattle.std.specs.Prelude.{◌^◌, slice_get}
 use Rattle.std.specs.Str.{IsUtf8}
 use Rattle.js_text.specs.declared.source_type.SourceType.{SourceType}
-use Rattle.js_kind.specs.TokenParts.{TokenParts}
 use Rattle.js_session.specs.declared.command.Command.{Command}
-use Rattle.js_session.specs.declared.report.Report.{Report}
 use Rattle.js_session.specs.declared.row.Row.{Row}
 use Rattle.js_session.specs.Effects.{is_lasting}
 use Rattle.js_session.specs.Live.{live, nothing_live, state_after_first}
 use Rattle.js_session.specs.Report.{AreRows}
-use Rattle.js_session.specs.Session.{MayResume}
 use Rattle.js_session.specs.Shifted.{OfEachPlace}
 use Rattle.js_session.proofs.LastingRuns.{all_steps}
 use Rattle.js_session.proofs.RowsWithin.{row_weaker, rows_within}
 use Rattle.js_choose.specs.Rules.{IsRule, ReportBy, Rule}
 use Rattle.js_choose.proofs.ChosenLemmas.{chosen_from, rule_steps}
-use Rattle.js_relex.specs.Documents.{live_behind}
 use Rattle.js_relex.proofs.NewRows.{live_of_rows}
 use Rattle.js_document.specs.declared.gap.Entry.{Entry}
-use Rattle.js_document.specs.declared.open.Node.{Node}
-use Rattle.js_document.specs.Documents.{IsHeld, commands_of, report_of}
-use Rattle.js_document.specs.Gap.{AreInOrder, MayPad, count_tokens, rows_of}
-use Rattle.js_document.specs.Reading.{AreKnown, Knowledge, states_of, with_rows}
-use Rattle.js_document.proofs.EditedRows.{AreChosenRows, chosen_lasts, commands_are, report_of_chosen}
-use Rattle.js_document.proofs.OrderLemmas.{IsSound, RowsOrdered, rows_ordered}
+use Rattle.js_document.specs.Documents.{commands_of, report_of}
+use Rattle.js_document.specs.Gap.{MayPad, count_tokens, rows_of}
+use Rattle.js_document.specs.Reading.{with_rows}
+use Rattle.js_document.proofs.EditedRows.{AreChosenRows, chosen_lasts, commands_are}
+use Rattle.js_document.proofs.OrderLemmas.{IsSound, rows_ordered}
 use Rattle.js_document.proofs.TokenLemmas.{live_tokens, rows_length}
 
 -- The rows of a report by the rule are rows whose commands are chosen.

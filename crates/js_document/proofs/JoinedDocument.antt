@@ -1,27 +1,24 @@
 -- At which row the rows of an edited text join the old ones.
-use Rattle.std.proofs.Common.{◌≡◌, ℕ, zero, suc, ◌+◌, ◌-◌, ◌<◌, ◌≤◌, Bool, true, List, [], ◌∷◌, ◌++◌, length, map, take, drop}
-use Rattle.std.proofs.Common.{leb, false, refl, sym, ◌∙◌, ap, subst, arith, append_assoc, length-append, Option, Some, None}
-use Rattle.std.proofs.Common.{inl, inr}
+use Rattle.std.proofs.Common.{◌≡◌, ℕ, zero, suc, ◌+◌, ◌-◌, ◌<◌, ◌≤◌, Bool, true, List, [], ◌∷◌, ◌++◌, length, map, take}
+use Rattle.std.proofs.Common.{leb, false, refl, sym, ◌∙◌, ap, subst, arith, Some}
 use Rattle.std.specs.List.{AllByRecursion}
-use Rattle.std.specs.Prelude.{◌^◌, reverse, slice_get}
+use Rattle.std.specs.Prelude.{reverse, slice_get}
 use Rattle.std.proofs.lemmas.Bool.{leb-false, leb-true}
-use Rattle.std.proofs.lemmas.List.{length-map, length-reverse, take_at}
+use Rattle.std.proofs.lemmas.List.{length-map, length-reverse}
 use Rattle.js_text.specs.declared.source_type.SourceType.{SourceType}
 use Rattle.js_kind.specs.TokenParts.{TokenParts}
-use Rattle.js_session.specs.declared.command.Command.{Command}
 use Rattle.js_session.specs.declared.row.Row.{Row}
 use Rattle.js_session.specs.Shifted.{shifted, shifted_row, shifted_token}
 use Rattle.js_choose.specs.Rules.{IsRule, Rule}
-use Rattle.js_relex.specs.Joined.{FirstFrom, IsMovedToken}
-use Rattle.js_relex.proofs.FirstLemmas.{behind_none}
+use Rattle.js_relex.specs.Joined.{IsMovedToken}
 use Rattle.js_document.specs.declared.gap.Entry.{Entry}
 use Rattle.js_document.specs.declared.open.Node.{Node}
 use Rattle.js_document.specs.Documents.{DocState, JoinsRow, commands_of, tokens_behind}
 use Rattle.js_document.specs.Gap.{GapState, IsPadded, entries_of, rows_of, shifted_entry}
-use Rattle.js_document.specs.Reading.{AreKnown, IsHeldToken, JoiningState, JoinsHeld, JoinsNone, Knowledge, NoneJoins}
+use Rattle.js_document.specs.Reading.{AreKnown, JoiningState, JoinsHeld, JoinsNone, Knowledge}
 use Rattle.js_document.specs.Reading.{states_of, with_row, with_rows}
 use Rattle.js_document.specs.States.{Alikeness, IsLast}
-use Rattle.js_document.proofs.BehindTokens.{IsBehind, is_behind}
+use Rattle.js_document.proofs.BehindTokens.{is_behind}
 use Rattle.js_document.proofs.EditedRows.{AreChosenRows, commands_are}
 use Rattle.js_document.proofs.KeptLemmas.{Before, rows_joined}
 use Rattle.js_document.proofs.ListLemmas.{get_left, get_right, get_turned, get_within}

@@ -1,11 +1,10 @@
 -- Rows of an edited text are read behind the last one that is kept, and may join those behind the gap.
-use Rattle.std.proofs.Common.{◌≡◌, ℕ, suc, ◌+◌, ◌-◌, ◌<◌, ◌≤◌, List, [], ◌∷◌, ◌++◌, length, map, refl, sym, ◌∙◌, ap, subst, arith}
+use Rattle.std.proofs.Common.{◌≡◌, ℕ, suc, ◌+◌, ◌-◌, ◌<◌, List, [], ◌∷◌, ◌++◌, length, map, refl, sym, ◌∙◌, ap, subst, arith}
 use Rattle.std.proofs.Common.{length-append, Option, Some, None}
 use Rattle.std.specs.List.{AllByRecursion, last_or}
 use Rattle.std.specs.Prelude.{◌^◌, reverse, slice_get}
 use Rattle.std.specs.Str.{IsUtf8}
 use Rattle.js_text.specs.declared.source_type.SourceType.{SourceType}
-use Rattle.js_kind.specs.TokenParts.{TokenParts}
 use Rattle.js_kind.specs.declared.kind.Kind.TheVariants.{Eof}
 use Rattle.js_session.specs.declared.row.Row.{Row}
 use Rattle.js_session.specs.Session.{MayResume, last_token}
@@ -25,7 +24,7 @@ use Rattle.js_document.proofs.HeldLemmas.{held_rows}
 use Rattle.js_document.proofs.KeptLemmas.{Before, IsEndedBy, all_first, all_last, ended_by, order_rest, rows_joined}
 use Rattle.js_document.proofs.KnownLemmas.{known_front, known_last}
 use Rattle.js_document.proofs.ListLemmas.{map_turned}
-use Rattle.js_document.proofs.OrderLemmas.{HasText, IsSound, RowsOrdered, rows_ordered}
+use Rattle.js_document.proofs.OrderLemmas.{IsSound, RowsOrdered, rows_ordered}
 use Rattle.js_document.proofs.ReadParts.{AreReadRows, read_goes, read_tokens, state_of_read}
 
 module _ {K : Type 0} where

@@ -1,9 +1,9 @@
 -- Rows that are kept, where they stand in the order of their places.
-use Rattle.std.proofs.Common.{◌≡◌, ℕ, zero, suc, ◌+◌, ◌-◌, ◌<◌, ◌≤◌, List, [], ◌∷◌, ◌++◌, length, map, take, drop, refl, sym, ◌∙◌}
+use Rattle.std.proofs.Common.{◌≡◌, ℕ, suc, ◌+◌, ◌-◌, ◌≤◌, List, [], ◌∷◌, ◌++◌, length, map, take, refl, sym, ◌∙◌}
 use Rattle.std.proofs.Common.{ap, subst, arith, length-append, Option, Some, None}
 use Rattle.std.specs.List.{AllByRecursion}
 use Rattle.std.specs.Prelude.{reverse, slice_get}
-use Rattle.std.proofs.lemmas.List.{append_assoc, drop_at, length-map, length-reverse, map-append, take_at}
+use Rattle.std.proofs.lemmas.List.{append_assoc, length-map, length-reverse, map-append, take_at}
 use Rattle.js_session.specs.declared.row.Row.{Row}
 use Rattle.js_document.specs.declared.gap.Entry.{Entry}
 use Rattle.js_document.specs.Documents.{IsKept}
@@ -180,7 +180,10 @@ module _ {K : Type 0} (start : ℕ) where
           by_last : (last : Option (Entry K)) → last_entry {K = K} back ≡ last
               → (FallsShort {K = K} start g.pad last → ⊥)
               → NoneNext start (rows_of {K = K} (map (shifted_entry {K = K} g.pad 0) (reverse back)))
-          by_last None is none = subst (λ (es : List (Entry K)). NoneNext start (rows_of {K = K} (map (shifted_entry {K = K} g.pad 0) (reverse es)))) (sym (nothing back is)) tt
+          by_last None is none =
+              subst
+              (λ (es : List (Entry K)). NoneNext start (rows_of {K = K} (map (shifted_entry {K = K} g.pad 0) (reverse es))))
+              (sym (nothing back is)) tt
             where
               nothing : (es : List (Entry K)) → slice_get es (length es - 1) ≡ None → es ≡ []
               nothing [] is = refl

@@ -1,5 +1,5 @@
 -- What is known of rows, where they are put together, shifted, or more is opened.
-use Rattle.std.proofs.Common.{◌≡◌, ℕ, ◌<◌, ◌≤◌, Bool, true, List, [], ◌∷◌, ◌++◌, length, map, refl, sym, ◌∙◌, ap, subst}
+use Rattle.std.proofs.Common.{◌≡◌, ℕ, true, List, [], ◌∷◌, ◌++◌, map, refl, sym, subst}
 use Rattle.std.specs.List.{list_all}
 use Rattle.std.specs.Str.{IsUtf8}
 use Rattle.std.proofs.lemmas.Bool.{and_parts}
@@ -14,13 +14,11 @@ use Rattle.js_session.specs.Shifted.{shifted_row}
 use Rattle.js_session.proofs.LastingRuns.{GoesOnBehind, lasting_steps}
 use Rattle.js_choose.specs.Rules.{IsRule, Rule}
 use Rattle.js_choose.proofs.ChosenLemmas.{ChosenFrom}
-use Rattle.js_relex.proofs.SplitRuns.{some_row}
 use Rattle.js_document.specs.declared.gap.Entry.{Entry}
 use Rattle.js_document.specs.declared.open.Node.{Node}
 use Rattle.js_document.specs.Gap.{rows_of, shifted_entry}
 use Rattle.js_document.specs.Reading.{AreKnown, Knowledge, states_of, with_row, with_rows}
 use Rattle.js_document.specs.States.{AlikeAgain, AlikeBehind, Alikeness, ChoosesAlike, KnowsAlike}
-use Rattle.js_document.specs.Trie.{HasMore}
 use Rattle.js_document.proofs.RuleLemmas.{alike_after, goes_behind}
 use Rattle.js_document.proofs.TokenLemmas.{command_tokens}
 

@@ -1,5 +1,5 @@
 -- The last of some tokens.
-use Rattle.std.proofs.Common.{◌≡◌, ℕ, ◌<◌, List, [], ◌∷◌, ◌++◌, length, ap, arith, Option, Some, None}
+use Rattle.std.proofs.Common.{◌≡◌, ◌<◌, List, [], ◌∷◌, ◌++◌, length, ap, arith, Option, Some, None}
 use Rattle.std.specs.List.{last_or}
 use Rattle.js_kind.specs.TokenParts.{TokenParts}
 

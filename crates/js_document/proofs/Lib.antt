@@ -3,8 +3,10 @@ pub mod AutoLemmas
 pub mod BehindTokens
 pub mod Causes
 pub mod ChangeLemmas
+pub mod ChangedFound
 pub mod ChangedRows
 pub mod ComparedTokens
+pub mod CountLemmas
 pub mod EditClauses
 pub mod EditGives
 pub mod EditOutcome
@@ -23,6 +25,7 @@ pub mod JoinLemmas
 pub mod JoinedDocument
 pub mod KeptDocument
 pub mod KeptLemmas
+pub mod KeptPlaces
 pub mod KnownLemmas
 pub mod LastTokens
 pub mod ListLemmas

@@ -1,6 +1,6 @@
 -- Items of lists that are put together, or turned.
 use Rattle.std.proofs.Common.{◌≡◌, ℕ, zero, suc, ◌+◌, ◌-◌, ◌<◌, ◌≤◌, List, [], ◌∷◌, ◌++◌, length, map, take, drop, refl}
-use Rattle.std.proofs.Common.{Bool, true, false, leb, sym, ◌∙◌, ap, arith, zero-add, Option, Some, None}
+use Rattle.std.proofs.Common.{Bool, true, false, leb, sym, ◌∙◌, ap, arith, zero-add, Some}
 use Rattle.std.proofs.lemmas.Bool.{leb-false, leb-true}
 use Rattle.std.specs.Prelude.{reverse, slice_get}
 use Rattle.std.proofs.lemmas.List.{length-drop, length-reverse, map-append, reverse-append, reverse-reverse, take-append-drop, take_at}
@@ -64,7 +64,8 @@ get_turned {A} (x ∷ xs) n less =
     long = length-reverse xs
 
     by_place : (b : Bool) → leb (suc n) (length xs) ≡ b
-        → (n < length xs → slice_get (reverse xs) n ≡ slice_get xs (length xs - 1 - n)) → slice_get (reverse xs ++ x ∷ []) n ≡ slice_get (x ∷ xs) (length (x ∷ xs) - 1 - n)
+        → (n < length xs → slice_get (reverse xs) n ≡ slice_get xs (length xs - 1 - n))
+        → slice_get (reverse xs ++ x ∷ []) n ≡ slice_get (x ∷ xs) (length (x ∷ xs) - 1 - n)
     by_place true e more =
         let within = leb-true (suc n) (length xs) e in
         get_left (reverse xs) (x ∷ []) n (omega (arith, long, within)) ∙ more (omega (arith, within))

@@ -1,5 +1,5 @@
 -- One more round of the loop that reads rows up to one that joins an old one, by what its calls tell.
-use Rattle.std.proofs.Common.{◌≡◌, ℕ, ◌+◌, ◌<◌, true, List, [], ◌∷◌, ◌++◌, sym, ◌∙◌, ap, subst, Option, Some, None}
+use Rattle.std.proofs.Common.{◌≡◌, ℕ, ◌+◌, ◌<◌, true, List, [], ◌∷◌, ◌++◌, sym, ◌∙◌, ap, subst, Some, None}
 use Rattle.std.specs.Str.{IsUtf8}
 use Rattle.js_kind.specs.TokenParts.{TokenParts}
 use Rattle.js_lexer.specs.Lexer.{IsOnPlaces}
@@ -9,7 +9,6 @@ use Rattle.js_session.specs.Effects.{effect_of, is_lasting}
 use Rattle.js_session.specs.Session.{AddsRow, SessionState}
 use Rattle.js_choose.specs.Rules.{IsRule, Rule, with_token}
 use Rattle.js_choose.proofs.SessionLemmas.{left_of}
-use Rattle.js_document.specs.declared.gap.Entry.{Entry}
 use Rattle.js_document.specs.declared.open.Node.{Node}
 use Rattle.js_document.specs.Reading.{GoesOnFrom, JoiningState, JoinsHeld, JoinsNone, Knowledge, StepsChosen}
 use Rattle.js_document.specs.States.{Alikeness, IsLast, Settles}

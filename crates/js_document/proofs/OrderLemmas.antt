@@ -1,6 +1,6 @@
 -- Rows whose commands are chosen stand in the order of their places.
-use Rattle.std.proofs.Common.{◌≡◌, ℕ, ◌<◌, ◌≤◌, ◌+◌, Bool, true, false, List, [], ◌∷◌, length, refl, sym, ◌∙◌, ap, subst, arith}
-use Rattle.std.proofs.Common.{Option, Some, None}
+use Rattle.std.proofs.Common.{◌≡◌, ℕ, ◌<◌, true, List, [], ◌∷◌, refl, sym, ◌∙◌, ap, subst, arith}
+use Rattle.std.proofs.Common.{Some, None}
 use Rattle.std.specs.List.{AllByRecursion}
 use Rattle.std.specs.Prelude.{MatchBool}
 use Rattle.std.specs.Str.{IsCharBoundary, IsUtf8}
@@ -19,7 +19,6 @@ use Rattle.js_grammar.specs.declared.goal.Goal.TheVariants.{TypeScriptLeftAngle,
 use Rattle.js_grammar.specs.declared.goal.Goal.TheVariants.{JsxAttributeValue}
 use Rattle.js_lexer.specs.Lexer.{IsOnPlaces, token_or_default}
 use Rattle.js_session.specs.declared.command.Command.{Command}
-use Rattle.js_session.specs.declared.command.Effect.TheVariants.{Reads, ReLexes}
 use Rattle.js_session.specs.declared.row.Row.{Row}
 use Rattle.js_session.specs.Effects.{effect_of}
 use Rattle.js_session.specs.Live.{State, after_row, last_live, nothing_live, outcome_of, state_after_first}

@@ -1,34 +1,31 @@
 -- Steps that are chosen behind tokens of which a session has the last one, up to one whose row joins an old one.
-use Rattle.std.proofs.Common.{◌≡◌, ℕ, zero, suc, ◌+◌, ◌<◌, ◌≤◌, Bool, true, false, List, [], ◌∷◌, ◌++◌, length, refl, sym, ◌∙◌}
+use Rattle.std.proofs.Common.{◌≡◌, ℕ, ◌+◌, ◌<◌, Bool, true, false, List, [], ◌∷◌, ◌++◌, length, refl, sym, ◌∙◌}
 use Rattle.std.proofs.Common.{ap, subst, arith, append_assoc, append-nil, length-append, Option, Some, None}
-use Rattle.std.specs.List.{last_or, list_all}
-use Rattle.std.specs.Prelude.{MatchBool}
+use Rattle.std.specs.List.{last_or}
 use Rattle.std.specs.Str.{IsUtf8}
 use Rattle.js_text.specs.Lists.{with_last}
 use Rattle.js_text.specs.declared.source_type.SourceType.{SourceType}
 use Rattle.js_kind.specs.TokenParts.{TokenParts}
 use Rattle.js_kind.specs.declared.kind.Kind.TheVariants.{Eof}
-use Rattle.js_grammar.specs.ReLexed.{fits, is_re_lexed}
-use Rattle.js_grammar.specs.declared.goal.Goal.{Goal}
-use Rattle.js_lexer.specs.Lexer.{IsOnPlaces, token_or_default}
+use Rattle.js_grammar.specs.ReLexed.{fits}
+use Rattle.js_lexer.specs.Lexer.{IsOnPlaces}
 use Rattle.js_session.specs.declared.command.Command.{Command}
 use Rattle.js_session.specs.declared.command.Effect.{Effect}
 use Rattle.js_session.specs.declared.command.Effect.TheVariants.{Reads, Peeks, ReLexes, Opens, Rewinds, Commits}
 use Rattle.js_session.specs.declared.row.Row.{Row}
-use Rattle.js_session.specs.Effects.{effect_of, is_lasting, is_step}
+use Rattle.js_session.specs.Effects.{effect_of, is_lasting}
 use Rattle.js_session.specs.Live.{State, after_row}
 use Rattle.js_session.specs.Report.{HasMark}
 use Rattle.js_session.specs.Session.{AddsRow, Follows, RunsFrom, SessionState}
 use Rattle.js_session.proofs.LastingRuns.{lasting_closes, lasting_steps}
-use Rattle.js_session.proofs.LiveLemmas.{last_or-push, last_or-with_last, length-with_last, with_last-append}
+use Rattle.js_session.proofs.LiveLemmas.{last_or-push, last_or-with_last, with_last-append}
 use Rattle.js_session.proofs.RunsOn.{run_on}
-use Rattle.js_choose.specs.Rules.{IsDue, IsRule, MayReadOn, Rule, with_token}
+use Rattle.js_choose.specs.Rules.{IsDue, IsRule, Rule, with_token}
 use Rattle.js_choose.specs.Rules.IsDue.{reads_on, reads_again}
 use Rattle.js_choose.proofs.SessionLemmas.{LastLies, advance, left_of, tokens_told}
-use Rattle.js_document.specs.declared.gap.Entry.{Entry}
 use Rattle.js_document.specs.declared.open.Node.{Node}
 use Rattle.js_document.specs.Reading.{AreKnown, ChosenOn, GoesOnFrom, JoiningState, JoinsHeld, JoinsNone, Knowledge}
-use Rattle.js_document.specs.Reading.{LastJoins, NoneJoins, StepsChosen, UntilJoined, rule_behind, with_row, with_rows}
+use Rattle.js_document.specs.Reading.{NoneJoins, StepsChosen, rule_behind, with_row, with_rows}
 use Rattle.js_document.specs.States.{Alikeness, IsLast, Settles}
 use Rattle.js_document.specs.Trie.{HasMore}
 use Rattle.js_document.proofs.EditedRows.{due_lasts, on_glued, on_rows}

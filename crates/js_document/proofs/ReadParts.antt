@@ -1,10 +1,8 @@
 -- Rows that were read, behind kept ones or from the start, as rows of the text up to the last of them.
-use Rattle.std.proofs.Common.{◌≡◌, ℕ, zero, suc, ◌+◌, ◌-◌, ◌<◌, ◌≤◌, Bool, true, List, [], ◌∷◌, ◌++◌, length, map, take, drop}
-use Rattle.std.proofs.Common.{refl, sym, ◌∙◌, ap, subst, arith, Option, Some, None}
-use Rattle.std.specs.List.{AllByRecursion, list_all}
-use Rattle.std.specs.Str.{IsUtf8}
+use Rattle.std.proofs.Common.{◌≡◌, ℕ, true, List, [], ◌∷◌, ◌++◌}
+use Rattle.std.proofs.Common.{sym, ◌∙◌, ap, Option, Some, None}
+use Rattle.std.specs.List.{list_all}
 use Rattle.js_text.specs.declared.source_type.SourceType.{SourceType}
-use Rattle.js_kind.specs.TokenParts.{TokenParts}
 use Rattle.js_session.specs.declared.command.Command.{Command}
 use Rattle.js_session.specs.declared.row.Row.{Row}
 use Rattle.js_session.specs.Effects.{effect_of, is_lasting, row_effect}
@@ -15,16 +13,15 @@ use Rattle.js_session.proofs.LastingRuns.{GoesOnBehind, all_steps, behind_first}
 use Rattle.js_session.proofs.LocalRuns.{run_of_last}
 use Rattle.js_choose.specs.Rules.{IsRule, Rule}
 use Rattle.js_choose.proofs.ChosenLemmas.{ChosenFrom}
-use Rattle.js_relex.specs.Documents.{IsEdit, edited}
 use Rattle.js_document.specs.declared.gap.Entry.{Entry}
 use Rattle.js_document.specs.declared.open.Node.{Node}
 use Rattle.js_document.specs.Gap.{rows_of}
-use Rattle.js_document.specs.Reading.{ChosenOn, JoiningState, Knowledge, ReadsBehind, ReadsFromStart, state_of, with_row}
+use Rattle.js_document.specs.Reading.{ChosenOn, JoiningState, Knowledge, ReadsBehind, ReadsFromStart, state_of}
 use Rattle.js_document.specs.Reading.{with_rows}
 use Rattle.js_document.specs.States.{Alikeness}
 use Rattle.js_document.proofs.EditedRows.{AreChosenRows, chosen_glued, chosen_of_tokens, goes_on_rows, on_glued, on_lasts}
-use Rattle.js_document.proofs.EditedRows.{on_rows, run_glued, tokens_on_rows}
-use Rattle.js_document.proofs.TokenLemmas.{row_tokens, rows_tokens}
+use Rattle.js_document.proofs.EditedRows.{on_rows, run_glued}
+use Rattle.js_document.proofs.TokenLemmas.{rows_tokens}
 
 -- Rows of a text up to one of them, with the commands that the rule chooses.
 pub record AreReadRows (rule : Rule) (text : List ℕ) (t : SourceType) (rows : List Row) : Type 0 where

@@ -6,7 +6,7 @@ use Rattle.std.specs.List.Sorted.{IsPartitionPoint, IsPartitionedBy}
 use Rattle.std.specs.Option.{SomeIff, option_map, option_map_or}
 use Rattle.std.specs.Prelude.{◌^◌, if◌then◌else◌, reverse, slice_get}
 use Rattle.std.proofs.lemmas.Bool.{le-leb, leb-false, leb-true}
-use Rattle.std.proofs.lemmas.List.{length-map, length-reverse, reverse-append}
+use Rattle.std.proofs.lemmas.List.{length-map, length-reverse, map-append, reverse-append}
 use Rattle.std.proofs.lemmas.Option.{slice_get-get_or}
 use Rattle.js_kind.specs.TokenParts.{TokenParts}
 use Rattle.js_session.specs.declared.row.Row.{Row}
@@ -68,11 +68,19 @@ order_without from (row ∷ rows) padded order =
     (all_without from row.token rows padded.0.0 padded.0.1 padded.1 order.0, order_without from rows padded.1 order.1)
 
 module _ {K : Type 0} where
-  turned_rows : (pad : ℕ) (es : List (Entry K))
+  pub turned_rows : (pad : ℕ) (es : List (Entry K))
       → rows_of {K = K} (map (shifted_entry {K = K} pad 0) (reverse es))
       ≡ map (shifted_row pad 0) (reverse (rows_of {K = K} es))
   turned_rows pad es =
       rows_shifted {K = K} pad 0 (reverse es) ∙ ap (map (shifted_row pad 0)) (map_turned (λ (e : Entry K). e.row) es)
+
+  pub turned_both : (pad : ℕ) (xs ys : List (Entry K))
+      → map (shifted_row pad 0) (reverse (rows_of {K = K} (xs ++ ys)))
+      ≡ map (shifted_row pad 0) (reverse (rows_of {K = K} ys)) ++ map (shifted_row pad 0) (reverse (rows_of {K = K} xs))
+  turned_both pad xs ys =
+      ap (λ rs. map (shifted_row pad 0) (reverse rs)) (rows_joined {K = K} xs ys)
+      ∙ ap (map (shifted_row pad 0)) (reverse-append (rows_of {K = K} xs) (rows_of {K = K} ys))
+      ∙ map-append (shifted_row pad 0) (reverse (rows_of {K = K} ys)) (reverse (rows_of {K = K} xs))
 
   pub rows_around : (g : GapState K) → rows_of {K = K} (entries_of {K = K} g)
       ≡ rows_of {K = K} g.front ++ map (shifted_row g.pad 0) (reverse (rows_of {K = K} g.back))

@@ -1,7 +1,7 @@
 -- Commands that are chosen for an edited text: those before the edit are chosen still, and so are those behind tokens
 -- that are alike.
-use Rattle.std.proofs.Common.{◌≡◌, ℕ, zero, suc, ◌+◌, ◌-◌, ◌<◌, ◌≤◌, Bool, true, false, List, [], ◌∷◌, ◌++◌, length, map}
-use Rattle.std.proofs.Common.{refl, sym, ◌∙◌, ap, subst, arith, get_or, Option, Some, None, inl, inr}
+use Rattle.std.proofs.Common.{◌≡◌, ℕ, ◌+◌, ◌-◌, ◌<◌, ◌≤◌, Bool, true, false, List, [], ◌∷◌, ◌++◌, length, map}
+use Rattle.std.proofs.Common.{refl, sym, ◌∙◌, ap, subst, arith, get_or, Some, None, inl, inr}
 use Rattle.std.specs.List.{AllByRecursion, last_or, list_all}
 use Rattle.std.specs.Prelude.{slice_get, MatchBool, ◌==◌, if◌then◌else◌}
 use Rattle.std.specs.Str.{IsUtf8}
@@ -10,12 +10,11 @@ use Rattle.std.proofs.lemmas.Option.{slice_get-get_or}
 use Rattle.js_text.specs.Lists.{with_last}
 use Rattle.js_text.specs.declared.source_type.SourceType.{SourceType}
 use Rattle.js_kind.specs.TokenParts.{TokenParts}
-use Rattle.js_kind.specs.declared.kind.Kind.{Kind}
 use Rattle.js_kind.specs.declared.kind.Kind.TheVariants.{Ident, RegExp, TemplateMiddle, Undetermined}
 use Rattle.js_kind.specs.declared.kind.Kind.TheVariants.{TemplateTail as TailKind}
 use Rattle.js_text.specs.Ascii.{hyphen_minus}
 use Rattle.js_text.specs.Characters.{begins, from_first, from_place}
-use Rattle.js_grammar.specs.Goals.{GoalReads, ReadsJsxName, ReadsPart, next_part}
+use Rattle.js_grammar.specs.Goals.{GoalReads, next_part}
 use Rattle.js_grammar.specs.Jsx.{ends_jsx_name, jsx_name_reading, jsx_name_up_to}
 use Rattle.js_grammar.specs.Outcome.{Outcome}
 use Rattle.js_grammar.specs.Reading.{Reading}
@@ -34,7 +33,7 @@ use Rattle.js_session.specs.declared.command.Command.{Command}
 use Rattle.js_session.specs.declared.command.Effect.{Effect}
 use Rattle.js_session.specs.declared.command.Effect.TheVariants.{Reads, Peeks, ReLexes, Opens, Rewinds, Commits}
 use Rattle.js_session.specs.declared.row.Row.{Row}
-use Rattle.js_session.specs.Effects.{effect_of, is_lasting, is_step, lasts}
+use Rattle.js_session.specs.Effects.{effect_of, is_lasting, lasts}
 use Rattle.js_session.specs.Live.{State, after_row, last_live, outcome_of}
 use Rattle.js_session.specs.Report.{IsNotTaken, IsOfEffect, IsReLexed, IsRow, Run}
 use Rattle.js_session.specs.Shifted.{OfEachPlace, shifted_row, shifted_token}

@@ -1,10 +1,9 @@
 -- Live tokens, told of lists of tokens alone.
-use Rattle.std.proofs.Common.{◌≡◌, ℕ, zero, suc, ◌+◌, ◌<◌, Bool, true, false, List, [], ◌∷◌, ◌++◌, length, refl, sym, ◌∙◌, ap}
-use Rattle.std.proofs.Common.{subst, arith, append_assoc, length-append, Option, Some, None}
-use Rattle.std.specs.List.{last_or, list_all, sum_by}
+use Rattle.std.proofs.Common.{◌≡◌, ℕ, ◌+◌, ◌<◌, Bool, true, false, List, [], ◌∷◌, ◌++◌, length, refl, sym, ◌∙◌, ap}
+use Rattle.std.proofs.Common.{arith, append_assoc, length-append, Some}
+use Rattle.std.specs.List.{list_all}
 use Rattle.std.specs.Prelude.{if◌then◌else◌}
 use Rattle.std.proofs.lemmas.Bool.{and_parts}
-use Rattle.js_text.specs.Lists.{with_last}
 use Rattle.js_text.specs.declared.source_type.SourceType.{SourceType}
 use Rattle.js_kind.specs.TokenParts.{TokenParts}
 use Rattle.js_session.specs.declared.command.Command.{Command}
@@ -12,7 +11,7 @@ use Rattle.js_session.specs.declared.command.Effect.{Effect}
 use Rattle.js_session.specs.declared.command.Effect.TheVariants.{Reads, Peeks, ReLexes, Opens, Rewinds, Commits}
 use Rattle.js_session.specs.declared.row.Row.{Row}
 use Rattle.js_session.specs.Effects.{effect_of, is_lasting, row_effect}
-use Rattle.js_session.specs.Live.{Live, State, after_row, last_live, nothing_live, outcome_of, with_re_lexed}
+use Rattle.js_session.specs.Live.{Live, State, after_row, outcome_of, with_re_lexed}
 use Rattle.js_session.specs.Report.{Run}
 use Rattle.js_session.proofs.LastingRuns.{lasting_steps}
 use Rattle.js_session.proofs.LiveLemmas.{length-with_last, with_last-append}

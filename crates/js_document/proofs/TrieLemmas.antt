@@ -1,11 +1,11 @@
 -- What links lead to.
-use Rattle.std.proofs.Common.{◌≡◌, ℕ, zero, suc, ◌+◌, ◌<◌, ◌≤◌, List, [], ◌∷◌, ◌++◌, length, refl, sym, ◌∙◌, ap, subst, arith}
-use Rattle.std.proofs.Common.{append_assoc, append-nil, Option, Some, None, drop}
-use Rattle.std.specs.Prelude.{option_map, slice_get}
+use Rattle.std.proofs.Common.{◌≡◌, ℕ, suc, ◌≤◌, List, [], ◌∷◌, ◌++◌, length, refl, sym, ◌∙◌, ap, subst, arith}
+use Rattle.std.proofs.Common.{append_assoc, append-nil, Some, None}
+use Rattle.std.specs.Prelude.{slice_get}
 use Rattle.std.proofs.lemmas.Option.{slice_get_within}
 use Rattle.js_document.specs.declared.open.Node.{Node}
-use Rattle.js_document.specs.AutoLaws.{open_stays, still_there}
-use Rattle.js_document.specs.Trie.{HasMore, IsChild, IsHeld, IsOpen, IsTable, LeadsTo, node_of, place_of}
+use Rattle.js_document.specs.AutoLaws.{open_stays}
+use Rattle.js_document.specs.Trie.{HasMore, IsChild, IsOpen, IsTable, LeadsTo, node_of, place_of}
 
 same_suc : (m n : ℕ) → suc m ≡ suc n → m ≡ n
 same_suc m n e = omega (arith, e)

@@ -1,8 +1,7 @@
 -- Laws of what the rule of js_auto knows.
-use Rattle.std.proofs.Common.{◌≡◌, ℕ, zero, suc, Bool, true, false, List, [], ◌∷◌, ◌++◌, refl, sym, ◌∙◌, ap, subst}
+use Rattle.std.proofs.Common.{◌≡◌, ℕ, zero, suc, true, false, List, [], ◌∷◌, ◌++◌, refl, sym, ◌∙◌, ap, subst}
 use Rattle.std.proofs.Common.{Option, Some, None, inl, inr, map}
-use Rattle.std.specs.Prelude.{option_map, slice_get, unwrap_or, not, ◌&&◌, if◌then◌else◌}
-use Rattle.std.specs.List.{last_or}
+use Rattle.std.specs.Prelude.{option_map, slice_get, unwrap_or, not, ◌&&◌}
 use Rattle.js_grammar.proofs.NumberItems.{true_or_false}
 use Rattle.js_text.specs.Lists.{with_last}
 use Rattle.js_kind.specs.Kinds.{is_one_of}
@@ -12,7 +11,6 @@ use Rattle.js_kind.specs.declared.kind.Kind.TheVariants.{Eof}
 use Rattle.js_grammar.specs.ReLexed.{again_kinds, is_re_lexed}
 use Rattle.js_grammar.specs.declared.goal.Goal.TheVariants.{RegularExpression}
 use Rattle.js_grammar.proofs.AgainKinds.{again_is_re_lexed}
-use Rattle.js_relex.specs.Joined.{at_start}
 use Rattle.js_choose.specs.LastTokens.{but_last, kind_before, last_kind}
 use Rattle.js_choose.specs.Operands.{ends_operand}
 use Rattle.js_choose.proofs.LastTokenLemmas.{but_last-push, but_last-with_last, ends, last_kind-push}

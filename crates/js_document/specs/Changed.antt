@@ -1,11 +1,13 @@
 -- Which items of a list an edit changes.
-use Rattle.std.specs.Prelude.{◌≡◌, ℕ, zero, suc, ◌+◌, ◌-◌, ◌<◌, ◌≤◌, ◌^◌, true, false, List, [], ◌∷◌, ◌++◌, length, map}
+use Rattle.std.specs.Prelude.{◌≡◌, ℕ, zero, suc, ◌+◌, ◌-◌, ◌<◌, ◌≤◌, ◌^◌, true, List, [], ◌∷◌, ◌++◌, length, map}
 use Rattle.std.specs.Prelude.{drop, take, slice_get, Option, Some, None}
 use Rattle.std.specs.List.{AllByRecursion}
 use Rattle.js_kind.specs.TokenParts.{TokenParts}
-use Rattle.js_session.specs.Shifted.{shifted, shifted_row, shifted_token}
-use Rattle.js_session.specs.declared.row.Row.{Row}
+use Rattle.js_grammar.specs.Outcome.{Findings}
+use Rattle.js_session.specs.Shifted.{OfComment, OfDiagnostic, OfEachPlace, OfSpan, ShiftFits}
+use Rattle.js_session.specs.Shifted.{shifted, shifted_comment, shifted_diagnostic, shifted_row, shifted_span, shifted_token}
 use Rattle.js_relex.specs.LiveLists.{TokenMayMove}
+use Rattle.js_document.specs.declared.change.Change.{Change}
 use Rattle.js_document.specs.declared.change.ChangedRange.{ChangedRange}
 use Rattle.js_document.specs.declared.gap.Entry.{Entry}
 use Rattle.js_document.specs.Gap.{GapState, IsPadded, entries_of, last_entry, reads_on, rows_of}
@@ -59,6 +61,24 @@ IsChangeOf start end new old_tokens new_tokens c =
     IsChange (EndsBy start) (StartsFrom end) (shifted_token end (start + length new)) old_tokens new_tokens c.start
     c.old_end c.new_end
 
+-- A list of what was found becomes that of the edited text. An item stands before the edit where each of its places is
+-- the edit's start or before it, and behind the edit where each is its end or behind it; one without a place, as a
+-- diagnostic about the whole file, stands on both sides of it.
+abbrev pub IsChangeOfFound : {A : Type 0} → ((ℕ → Type 0) → A → Type 0) → (ℕ → ℕ → A → A) → ℕ → ℕ → List ℕ → List A
+    → List A → ChangedRange → Type 0
+IsChangeOfFound {A} OfPlaces moved start end new olds news c =
+    IsChange {A = A} (OfPlaces (λ place. place ≤ start)) (OfPlaces (λ place. end ≤ place))
+    (moved end (start + length new)) olds news c.start c.old_end c.new_end
+
+-- What was found becomes what is found in the edited text, list by list.
+pub record AreChangesOf (start end : ℕ) (new : List ℕ) (olds news : Findings) (c : Change) : Type 0 where
+  pub comments : IsChangeOfFound OfComment shifted_comment start end new olds.comments news.comments c.comments
+  pub diagnostics : IsChangeOfFound OfDiagnostic shifted_diagnostic start end new olds.diagnostics news.diagnostics
+      c.diagnostics
+  pub deferred : IsChangeOfFound OfDiagnostic shifted_diagnostic start end new olds.deferred news.deferred c.deferred
+  pub irregular : IsChangeOfFound OfSpan shifted_span start end new olds.irregular news.irregular c.irregular
+  pub warnings : IsChangeOfFound OfSpan shifted_span start end new olds.warnings news.warnings c.warnings
+
 -- the token of an entry, if there is one
 abbrev pub token_of : {K : Type 0} → Option (Entry K) → List TokenParts
 token_of {K} None = []
@@ -81,14 +101,14 @@ IsReading {K} (Some entry) = reads_on entry.row ≡ true
 abbrev pub StartsReading : {K : Type 0} → List (Entry K) → Type 0
 StartsReading {K} entries = IsReading {K = K} (last_entry {K = K} entries)
 
--- Which tokens change of lists that stand in one another's place from the index on, behind tokens that stand before the
--- edit and are the same, and before tokens that stand behind it and are moved.
-abbrev pub IsChangeBetween : ℕ → ℕ → ℕ → List ℕ → List TokenParts → List TokenParts → ChangedRange → Type 0
-IsChangeBetween index start end new old_tokens new_tokens c =
-    (front later : List TokenParts) → length front ≡ index → AllByRecursion (EndsBy start) front
-    → AllByRecursion (StartsFrom end) later
-    → IsChangeOf start end new (front ++ old_tokens ++ later)
-    (front ++ new_tokens ++ map (shifted_token end (start + length new)) later) c
+-- Which items change of lists that stand in one another's place from the index on, behind items that stand before what
+-- changed and are the same, and before items that stand behind it and are moved.
+abbrev pub IsChangeBetween : {A : Type 0} → (A → Type 0) → (A → Type 0) → (A → A) → ℕ → List A → List A → ChangedRange
+    → Type 0
+IsChangeBetween {A} Before Behind moved index old new c =
+    (front later : List A) → length front ≡ index → AllByRecursion Before front → AllByRecursion Behind later
+    → IsChange {A = A} Before Behind moved (front ++ old ++ later) (front ++ new ++ map moved later) c.start c.old_end
+    c.new_end
 
 -- The last of the live tokens is that of the last entry, if there is one.
 pub record EndsWithLast {K : Type 0} (front : List (Entry K)) : Type 0 where
@@ -102,8 +122,10 @@ pub record MayChange {K : Type 0} (start end : ℕ) (new : List ℕ) (g : GapSta
   pub few : left ≤ length g.back
   pub short : start + length new < 2 ^ 32
   pub last : EndsWithLast {K = K} g.front
-  pub before : AllByRecursion (λ (row : Row). row.token.end ≤ start) (rows_of {K = K} g.front)
-  pub behind : AllByRecursion (λ (e : Entry K). end ≤ shifted g.pad 0 e.row.token.start) (take left g.back)
+  pub before : AllByRecursion (OfEachPlace (λ place. place ≤ start)) (rows_of {K = K} g.front)
+  pub behind : AllByRecursion (λ (e : Entry K). OfEachPlace (λ place. end ≤ shifted g.pad 0 place) e.row)
+      (take left g.back)
+  pub fits : AllByRecursion (ShiftFits end (start + length new)) (rows_of {K = K} (entries_of {K = K} g))
   pub may_move : AllByRecursion (TokenMayMove end (start + length new))
       (with_rows [] (rows_of {K = K} (entries_of {K = K} g)))
   pub padded : AllByRecursion (IsPadded {K = K} pad) (take left g.back)

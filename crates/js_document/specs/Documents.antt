@@ -1,5 +1,5 @@
 -- Documents whose goals a rule chooses, and what an edit makes of one.
-use Rattle.std.specs.Prelude.{◌≡◌, ℕ, zero, suc, ◌+◌, ◌-◌, ◌<◌, ◌≤◌, ◌^◌, ◌⊎◌, false, List, [], ◌∷◌, ◌++◌, length, map}
+use Rattle.std.specs.Prelude.{◌≡◌, ℕ, zero, suc, ◌+◌, ◌-◌, ◌≤◌, ◌^◌, false, List, [], ◌∷◌, length}
 use Rattle.std.specs.Prelude.{take, drop, slice_get, Option, Some, None}
 use Rattle.std.specs.List.{flat_map}
 use Rattle.js_text.specs.declared.source_type.SourceType.{SourceType}
@@ -7,9 +7,7 @@ use Rattle.js_kind.specs.TokenParts.{TokenParts}
 use Rattle.js_session.specs.declared.command.Command.{Command}
 use Rattle.js_session.specs.declared.report.Report.{Report}
 use Rattle.js_session.specs.declared.row.Row.{Row}
-use Rattle.js_session.specs.declared.shift.Shift.{Shift}
 use Rattle.js_session.specs.Live.{live, report_with}
-use Rattle.js_session.specs.Shifted.{shifted_token}
 use Rattle.js_choose.specs.Rules.{ReportBy, Rule}
 use Rattle.js_relex.specs.Documents.{IsEdit, TakesOver, edited, rows_taken_over}
 use Rattle.js_relex.specs.Documents.{DocState as RelexedState}
@@ -20,7 +18,8 @@ use Rattle.js_document.specs.declared.fault.DocumentFault.{DocumentFault}
 use Rattle.js_document.specs.declared.fault.DocumentFault.TheVariants.{BadEdit, Overlong, Memory}
 use Rattle.js_document.specs.declared.gap.Entry.{Entry}
 use Rattle.js_document.specs.declared.open.Node.{Node}
-use Rattle.js_document.specs.Changed.{IsChangeOf}
+use Rattle.js_document.specs.Changed.{AreChangesOf, IsChangeOf}
+use Rattle.js_document.specs.Found.{findings_of}
 use Rattle.js_document.specs.Gap.{rows_of}
 use Rattle.js_document.specs.Reading.{AreKnown, Knowledge, states_of}
 use Rattle.js_document.specs.States.{Alikeness}
@@ -103,7 +102,7 @@ as_relexed d = record {
 }
 
 -- What an edit of a document gives: the document of the edited text. Rows are kept and joined as told, and the counter
--- rose by the rows in between. The change tells which tokens went and came.
+-- rose by the rows in between. The change tells which tokens went and came, and which items of what was found.
 pub record Edits (rule : Rule) (Alike : Alikeness) (old : DocState) (start end : ℕ) (new : List ℕ) (before now : ℕ)
     (d : DocState) : Type 0 where
   pub edit : IsEdit old.text start end
@@ -116,14 +115,24 @@ pub record Edits (rule : Rule) (Alike : Alikeness) (old : DocState) (start end :
   pub read : d.change.kept_rows + d.change.read_rows + rows_taken_over joined d.report.rows ≡ length d.report.rows
   pub ticks : now ≡ before + d.change.read_rows
   pub tokens : IsChangeOf start end new old.report.tokens d.report.tokens d.change.tokens
+  pub found : AreChangesOf start end new (findings_of old.report) (findings_of d.report) d.change
   pub moved : d.change.moved ≡ record { from = end; to = start + length new }
 
--- the change of a new document: each row was read, and each token came
+-- all of a list came that has so many items
+abbrev pub all_came : ℕ → ChangedRange
+all_came count = record { start = 0; old_end = 0; new_end = count }
+
+-- the change of a new document: each row was read, each token came, and all that was found
 abbrev pub change_of_new : Report → Change
 change_of_new report = record {
   kept_rows = 0;
   read_rows = length report.rows;
-  tokens = record { start = 0; old_end = 0; new_end = length report.tokens };
+  tokens = all_came (length report.tokens);
+  comments = all_came (length report.comments);
+  diagnostics = all_came (length report.diagnostics);
+  deferred = all_came (length report.deferred);
+  irregular = all_came (length report.irregular);
+  warnings = all_came (length report.warnings);
   moved = record { from = 0; to = 0 };
 }
 

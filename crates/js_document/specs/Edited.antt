@@ -1,14 +1,14 @@
 -- How the rows of an edited text are read behind those that are kept, which stand before the gap, and what they replace.
 use Rattle.std.specs.Prelude.{◌≡◌, ℕ, ◌+◌, ◌-◌, ◌^◌, List, [], ◌∷◌, ◌++◌, length, take, Option}
 use Rattle.js_text.specs.declared.source_type.SourceType.{SourceType}
-use Rattle.js_kind.specs.TokenParts.{TokenParts}
 use Rattle.js_choose.specs.Rules.{Rule}
 use Rattle.js_relex.specs.Documents.{IsEdit, edited}
 use Rattle.js_document.specs.declared.change.Change.{Change}
 use Rattle.js_document.specs.declared.gap.Entry.{Entry}
 use Rattle.js_document.specs.declared.open.Node.{Node}
-use Rattle.js_document.specs.Changed.{IsChangeOf}
+use Rattle.js_document.specs.Changed.{AreChangesOf, IsChangeOf}
 use Rattle.js_document.specs.Documents.{IsHeld}
+use Rattle.js_document.specs.Found.{found_by}
 use Rattle.js_document.specs.Gap.{GapState, around, entries_of, rows_of}
 use Rattle.js_document.specs.Reading.{JoiningState, Knowledge, ReadsBehind, ReadsFromStart, with_rows}
 use Rattle.js_document.specs.States.{Alikeness}
@@ -49,4 +49,6 @@ pub record Replaces {K : Type 0} (old : GapState K) (entries : List (Entry K)) (
   pub read : change.read_rows ≡ length entries
   pub tokens : IsChangeOf start end new (with_rows [] (rows_of {K = K} (entries_of {K = K} old)))
       (with_rows [] (rows_of {K = K} (around {K = K} (old.front ++ entries) pad (take left old.back)))) change.tokens
+  pub found : AreChangesOf start end new (found_by (rows_of {K = K} (entries_of {K = K} old)))
+      (found_by (rows_of {K = K} (around {K = K} (old.front ++ entries) pad (take left old.back)))) change
   pub moved : change.moved ≡ record { from = end; to = start + length new }

@@ -1,6 +1,6 @@
 -- Rows around a gap: those behind it with their places padded.
 use Rattle.std.specs.Prelude.{◌≡◌, ℕ, ◌+◌, ◌-◌, ◌<◌, ◌≤◌, ◌^◌, Bool, true, false, List, [], ◌∷◌, ◌++◌, length, map}
-use Rattle.std.specs.Prelude.{drop, reverse, slice_get, Option, Some, None, if◌then◌else◌}
+use Rattle.std.specs.Prelude.{reverse, slice_get, Option, Some, None, if◌then◌else◌}
 use Rattle.std.specs.List.{AllByRecursion}
 use Rattle.js_kind.specs.TokenParts.{TokenParts}
 use Rattle.js_session.specs.Effects.{row_effect}

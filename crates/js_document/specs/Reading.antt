@@ -1,5 +1,5 @@
 -- How the rows of an edited text are read up to the one at which the old rows are joined.
-use Rattle.std.specs.Prelude.{◌≡◌, ℕ, ◌+◌, ◌≤◌, ◌⊎◌, Bool, List, [], ◌∷◌, ◌++◌, length, map, Option, Some, None}
+use Rattle.std.specs.Prelude.{◌≡◌, ℕ, ◌+◌, ◌≤◌, Bool, List, [], ◌∷◌, ◌++◌, length, map, Option, Some, None}
 use Rattle.std.specs.Prelude.{slice_get, ◌<◌}
 use Rattle.std.specs.Str.{IsUtf8}
 use Rattle.js_text.specs.declared.source_type.SourceType.{SourceType}
@@ -10,7 +10,7 @@ use Rattle.js_lexer.specs.Lexer.{IsOnPlaces}
 use Rattle.js_session.specs.declared.command.Command.{Command}
 use Rattle.js_session.specs.declared.row.Row.{Row}
 use Rattle.js_session.specs.Effects.{effect_of, row_effect}
-use Rattle.js_session.specs.Live.{State, after_row, nothing_live, state_after, state_after_first}
+use Rattle.js_session.specs.Live.{State, after_row, nothing_live, state_after_first}
 use Rattle.js_session.specs.Report.{IsRow, Run}
 use Rattle.js_session.specs.Session.{RunsFrom, SessionState}
 use Rattle.js_session.specs.Shifted.{shifted_token}
@@ -19,7 +19,6 @@ use Rattle.js_document.specs.declared.gap.Entry.{Entry}
 use Rattle.js_document.specs.declared.open.Node.{Node}
 use Rattle.js_document.specs.Gap.{rows_of}
 use Rattle.js_document.specs.States.{Alikeness, IsLast}
-use Rattle.js_document.specs.Trie.{HasMore}
 
 -- what is known of tokens, by values and the nodes that their links lead to
 abbrev pub Knowledge : Type 0 → Type 1

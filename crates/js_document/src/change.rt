@@ -1,20 +1,26 @@
 //! What an edit changed.
 
-ghost use Rattle.std.specs.Prelude.{◌≡◌, ◌↔◌, ◌+◌, ◌<◌, ◌≤◌, ◌^◌, ◌++◌, [], length, map, drop, take};
-ghost use Rattle.std.specs.Prelude.{reverse, IfOk, IsTrue, OnOk};
+ghost use Rattle.std.specs.Prelude.{◌≡◌, ◌+◌, ◌≤◌, ◌++◌, [], length, map, drop, take, reverse, IfOk, OnOk};
 ghost use Rattle.std.specs.List.{AllByRecursion};
-ghost use Rattle.js_session.specs.Shifted.{shifted_token};
-ghost use Rattle.js_relex.specs.LiveLists.{TokenMayMove};
 ghost use Rattle.js_session.specs.Shifted.{shifted_row};
-ghost use Rattle.js_document.specs.Changed.{AreCommon, EndsBy, EntryMayMove, IsChangeBetween, IsChangeOf};
-ghost use Rattle.js_document.specs.Changed.{IsSameBefore, IsSameBehind};
-ghost use Rattle.js_document.specs.Changed.{MayChange, StartsFrom, StartsReading, last_token_of};
+ghost use Rattle.js_relex.specs.LiveLists.{TokenMayMove};
+ghost use Rattle.js_document.specs.Changed.{AreChangesOf, EntryMayMove, IsChangeOf, MayChange, StartsReading};
+ghost use Rattle.js_document.specs.Changed.{last_token_of};
 ghost use Rattle.js_document.specs.Reading.{with_row, with_rows};
+ghost use Rattle.js_document.specs.Found.{counts_in, findings_of, found_by};
 ghost use Rattle.js_document.specs.Gap.{around, entries_of, rows_of};
-ghost use Rattle.js_document.specs.Documents.{change_of_new};
+ghost use Rattle.js_document.specs.Documents.{all_came, change_of_new};
 ghost use Rattle.js_session.specs.declared.report.Report.{Report};
 
+mod compared;
+mod found;
+
+use self::compared::changed_range;
+use self::found::changed_found;
+use crate::counts::FoundCounts;
+use crate::found::{Comments, Deferred, Diagnostics, Irregular, Warnings};
 use crate::gap::{Entry, GapRows, reads_on};
+use crate::placed::Placed;
 use js_kind::{Token, TokenList};
 use js_relex::{Edit, shift_of};
 use js_session::{Effect, Row, Shift};
@@ -38,18 +44,18 @@ pub struct Change {
     pub read_rows: usize,
     /// The live tokens that went, and those that came.
     pub tokens: ChangedRange,
+    /// The comments.
+    pub comments: ChangedRange,
+    /// The diagnostics.
+    pub diagnostics: ChangedRange,
+    /// Those for the case that the source is a module.
+    pub deferred: ChangedRange,
+    /// The irregular white space.
+    pub irregular: ChangedRange,
+    /// What the readings warned of.
+    pub warnings: ChangedRange,
     /// How what stands behind the edit moved.
     pub moved: Shift,
-}
-
-/// The token, moved.
-fn moved(token: Token, shift: &Shift) -> Token
-    requires { TokenMayMove shift.now.from shift.now.to token }
-    ensures { result ≡ shifted_token shift.now.from shift.now.to token }
-{
-    let mut token = token;
-    shift.move_token(&mut token);
-    token
 }
 
 /// Makes the token live in the place of the row's own.
@@ -71,7 +77,7 @@ fn add_row(tokens: &mut TokenList, row: &Row, shift: &Shift) -> Result<(), Alloc
     requires { TokenMayMove shift.now.from shift.now.to row.now.token }
     ensures { OnOk result (tokens.new ≡ with_row tokens.old (shifted_row shift.now.from shift.now.to row.now)) }
 {
-    let token = moved(row.token, shift);
+    let token = row.token.moved(shift);
     add_token(tokens, row, token)
 }
 
@@ -166,103 +172,6 @@ fn new_tokens<K: Copy + Drop>(
     Ok(tokens)
 }
 
-/// Whether the token stands before the edit, and is the same.
-fn is_same_before(old: &Token, new: &Token, start: u32) -> bool
-    ensures { IsTrue result ↔ IsSameBefore (EndsBy start) old.now new.now }
-{
-    if old.end() > start {
-        return false;
-    }
-    old.is_same(new)
-}
-
-/// Whether the token stands behind the edit, and is the same, moved.
-fn is_same_behind(old: &Token, new: &Token, shift: &Shift) -> bool
-    requires { TokenMayMove shift.now.from shift.now.to old.now }
-    ensures { IsTrue result ↔ IsSameBehind (StartsFrom shift.now.from) (shifted_token shift.now.from shift.now.to)
-        old.now new.now }
-{
-    if old.start() < shift.from {
-        return false;
-    }
-    moved(*old, shift).is_same(new)
-}
-
-/// How many tokens at the front of both lists stand before the edit and are the same.
-fn same_before(old: &[Token], new: &[Token], start: u32) -> usize
-    ensures few_old { result ≤ length old.now }
-    ensures few_new { result ≤ length new.now }
-    ensures common { AreCommon (IsSameBefore (EndsBy start)) old.now new.now result }
-{
-    let mut count = 0;
-    while count < old.len() {
-        if count >= new.len() {
-            return count;
-        }
-        if !is_same_before(&old[count], &new[count], start) {
-            return count;
-        }
-        count += 1;
-    }
-    count
-}
-
-/// How many tokens at the end of both lists stand behind the edit and are the same, moved.
-fn same_behind(old: &[Token], new: &[Token], shift: &Shift) -> usize
-    requires { AllByRecursion (TokenMayMove shift.now.from shift.now.to) old.now }
-    ensures few_old { result ≤ length old.now }
-    ensures few_new { result ≤ length new.now }
-    ensures common { AreCommon
-        (IsSameBehind (StartsFrom shift.now.from) (shifted_token shift.now.from shift.now.to)) (reverse old.now)
-        (reverse new.now) result }
-{
-    let mut count = 0;
-    while count < old.len() {
-        if count >= new.len() {
-            return count;
-        }
-        let old_token = &old[old.len() - 1 - count];
-        let new_token = &new[new.len() - 1 - count];
-        if !is_same_behind(old_token, new_token, shift) {
-            return count;
-        }
-        count += 1;
-    }
-    count
-}
-
-/// The index so many items behind another one. There is no memory for more than `usize::MAX` items.
-fn index_behind(index: usize, count: usize) -> Result<usize, AllocError>
-    ensures { IfOk result (λ behind. behind ≡ index + count) }
-{
-    match index.checked_add(count) {
-        Some(behind) => Ok(behind),
-        None => Err(AllocError),
-    }
-}
-
-/// Which tokens went and came, of lists that stand in one another's place from the index on.
-fn changed_range(
-    start: usize,
-    old: &[Token],
-    new: &[Token],
-    edit: &Edit<'_>,
-) -> Result<ChangedRange, AllocError>
-    requires short { edit.now.start + length edit.now.text.now < 2 ^ 32 }
-    requires may_move { AllByRecursion (TokenMayMove edit.now.end (edit.now.start + length edit.now.text.now)) old.now }
-    ensures { IfOk result
-        (IsChangeBetween start edit.now.start edit.now.end edit.now.text.now old.now new.now) }
-{
-    let shift = shift_of(edit);
-    let before = same_before(old, new, edit.start);
-    let behind = same_behind(&old[before..], &new[before..], &shift);
-    Ok(ChangedRange {
-        start: index_behind(start, before)?,
-        old_end: index_behind(start, old.len() - behind)?,
-        new_end: index_behind(start, new.len() - behind)?,
-    })
-}
-
 /// The live tokens that went and came, where these rows are read behind those before the gap, so many of the rows behind
 /// it are left, and their pad becomes another.
 fn changed_tokens<K: Copy + Drop>(
@@ -303,31 +212,58 @@ pub(crate) fn change_of<K: Copy + Drop>(
         (with_rows [] (rows_of {K = K} (entries_of {K = K} entries.now)))
         (with_rows [] (rows_of {K = K} (around {K = K} (entries.now.front ++ read.now) pad (take left entries.now.back))))
         change.tokens) }
+    ensures found { IfOk result (AreChangesOf edit.now.start edit.now.end edit.now.text.now
+        (found_by (rows_of {K = K} (entries_of {K = K} entries.now)))
+        (found_by (rows_of {K = K} (around {K = K} (entries.now.front ++ read.now) pad (take left entries.now.back))))) }
     ensures moved { IfOk result (λ change.
         change.moved ≡ record { from = edit.now.end; to = edit.now.start + length edit.now.text.now }) }
 {
-    let tokens = changed_tokens(alloc, entries, read, left, edit, pad)?;
+    let kept = entries.front_found();
     Ok(Change {
         kept_rows: entries.front().len(),
         read_rows: read.len(),
-        tokens,
+        tokens: changed_tokens(alloc, entries, read, left, edit, pad)?,
+        comments: changed_found::<K, Comments>(alloc, entries, read, left, edit, kept.comments)?,
+        diagnostics: changed_found::<K, Diagnostics>(
+            alloc,
+            entries,
+            read,
+            left,
+            edit,
+            kept.diagnostics,
+        )?,
+        deferred: changed_found::<K, Deferred>(alloc, entries, read, left, edit, kept.deferred)?,
+        irregular: changed_found::<K, Irregular>(alloc, entries, read, left, edit, kept.irregular)?,
+        warnings: changed_found::<K, Warnings>(alloc, entries, read, left, edit, kept.warnings)?,
         moved: shift_of(edit),
     })
 }
 
-/// What a new document changed: each token came.
-pub(crate) fn change_of_new(rows: usize, tokens: usize) -> Change
+/// All of a list came that has so many items.
+fn all_came(count: usize) -> ChangedRange
+    ensures { result ≡ all_came count }
+{
+    ChangedRange {
+        start: 0,
+        old_end: 0,
+        new_end: count,
+    }
+}
+
+/// What a new document changed: each token came, and all that was found.
+pub(crate) fn change_of_new(rows: usize, tokens: usize, found: &FoundCounts) -> Change
     ensures { (report : Report) → rows ≡ length report.rows → tokens ≡ length report.tokens
-        → result ≡ change_of_new report }
+        → found.now ≡ counts_in (findings_of report) → result ≡ change_of_new report }
 {
     Change {
         kept_rows: 0,
         read_rows: rows,
-        tokens: ChangedRange {
-            start: 0,
-            old_end: 0,
-            new_end: tokens,
-        },
+        tokens: all_came(tokens),
+        comments: all_came(found.comments),
+        diagnostics: all_came(found.diagnostics),
+        deferred: all_came(found.deferred),
+        irregular: all_came(found.irregular),
+        warnings: all_came(found.warnings),
         moved: Shift { from: 0, to: 0 },
     }
 }

@@ -1,6 +1,6 @@
 //! Rows of a text, and of one that is edited.
 
-ghost use Rattle.std.specs.Prelude.{◌≡◌, ◌≤◌, ◌<◌, ◌+◌, ◌^◌, ℕ, List, length, unwrap_or, IfOk, OnErr, OnOk};
+ghost use Rattle.std.specs.Prelude.{◌≡◌, ◌≤◌, ◌<◌, ◌+◌, ◌^◌, ℕ, List, [], length, unwrap_or, IfOk, OnErr, OnOk};
 ghost use Rattle.std.specs.List.{AllByRecursion};
 ghost use Rattle.js_document.specs.declared.change.Change.{Change};
 ghost use Rattle.js_document.specs.Changed.{MayChange};
@@ -31,6 +31,7 @@ pub(crate) fn read_all<K: KeepGoals, L: Ledger>(
 ) -> Result<GapRows<K>, AllocError>
     requires { length text.now < 2 ^ 32 }
     ensures held { IfOk result (λ g. IsHeld {K = K} K.choice K.knows text.now source_type open.new (entries_of {K = K} g) g.pad) }
+    ensures alone { IfOk result (λ g. g.back ≡ []) }
     ensures ticks { IfOk result (λ g. steps.new ≡ steps.old + length (entries_of {K = K} g)) }
     ensures at_least { steps.old ≤ steps.new }
 {
@@ -38,7 +39,8 @@ pub(crate) fn read_all<K: KeepGoals, L: Ledger>(
     let none = Vec::new(alloc);
     let joining = Joining::new(none.as_slice(), pad, 0);
     let read = rows_from_start(alloc, text, source_type, open, &joining, steps)?;
-    Ok(GapRows::new(alloc, read.rows, pad))
+    let entries = GapRows::new(alloc, read.rows, pad)?;
+    Ok(entries)
 }
 
 /// The rows of the edited text behind those that are kept, which stand before the gap.

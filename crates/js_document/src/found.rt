@@ -1,47 +1,43 @@
 //! What rows found, list by list.
 
-ghost use Rattle.std.specs.Prelude.{◌≡◌, ◌<◌, ◌^◌, ℕ, List, map, refl, slice_get, IfSome};
+ghost use Rattle.std.specs.Prelude.{◌≡◌, ◌≤◌, ◌<◌, ℕ, List, map, refl};
 ghost use Rattle.std.specs.Iterator.{YieldsFirst, item_count};
 ghost use Rattle.std.specs.List.{All};
 ghost use Rattle.js_session.specs.declared.row.Row.{Row};
-ghost use Rattle.js_session.specs.Shifted.{FitsShifted, OfComment, OfDiagnostic, OfSpan, ShiftFits};
-ghost use Rattle.js_session.specs.Shifted.{shifted_comment, shifted_diagnostic, shifted_row, shifted_span};
+ghost use Rattle.js_session.specs.Shifted.{OfEachPlace, ShiftFits, shifted_row};
 ghost use Rattle.js_document.specs.Found.{found_in};
 ghost use Rattle.js_document.specs.Gap.{entries_of, rows_of};
 
 use crate::gap::GapRows;
-use js_session::{Row, Shift};
+use crate::placed::Placed;
+use js_session::Row;
 use js_text::{Comment, Diagnostic, Span};
 use std::marker::{Model, PhantomData};
 
 /// One of the lists of what rows found.
 pub trait FoundList: Copy + Drop {
-    type Item: Copy + Drop;
+    type Item: Placed;
 
     /// What a row has in it.
     ghost items: { Row → List Self.Item };
 
-    /// An item with each of its places shifted.
-    ghost shifted: { ℕ → ℕ → Self.Item → Self.Item };
-
-    /// Each of its places is a `u32` then.
-    ghost Fits: { ℕ → ℕ → Self.Item → Type 0 };
-
-    /// The item with this index of what the row has in it.
-    fn item(row: &Row, index: usize) -> Option<Self::Item>
-        ensures item { result ≡ slice_get (items row.now) index }
-        ensures few { IfSome result (λ _. index < 2 ^ 63) };
-
-    /// The item, moved.
-    fn moved(item: Self::Item, shift: &Shift) -> Self::Item
-        requires { Fits shift.now.from shift.now.to item }
-        ensures { result ≡ shifted shift.now.from shift.now.to item };
+    /// The items that the row has in it.
+    fn list(row: &Row) -> &[Self::Item]
+        ensures { result.now ≡ items row.now };
 
     /// What a row that is shifted has in it.
     ghost shifted_items: { (from to : ℕ) (row : Row)
-        → items (shifted_row from to row) ≡ map (shifted from to) (items row) };
+        → items (shifted_row from to row) ≡ map (Self.Item.shifted from to) (items row) };
 
-    ghost fits: { (from to : ℕ) (row : Row) → ShiftFits from to row → All (Fits from to) (items row) };
+    /// What a row that may be moved has in it may be moved.
+    ghost moves: { (from to : ℕ) (row : Row) → ShiftFits from to row → All (Self.Item.MayMove from to) (items row) };
+
+    /// What a row that stands before a place has in it stands there.
+    ghost ends: { (place : ℕ) (row : Row) → OfEachPlace (λ p. p ≤ place) row → All (Self.Item.EndsBy place) (items row) };
+
+    /// What a row that stands behind a place has in it stands there.
+    ghost starts: { (place : ℕ) (row : Row)
+        → OfEachPlace (λ p. place ≤ p) row → All (Self.Item.StartsFrom place) (items row) };
 }
 
 /// What the readings reported.
@@ -53,23 +49,17 @@ impl FoundList for Diagnostics {
 
     ghost items = { λ row. row.diagnostics };
 
-    ghost shifted = { λ from to item. shifted_diagnostic from to item };
-
-    ghost Fits = { λ from to item. OfDiagnostic (FitsShifted from to) item };
-
-    fn item(row: &Row, index: usize) -> Option<Diagnostic> {
-        row.diagnostics.as_slice().get(index).copied()
-    }
-
-    fn moved(item: Diagnostic, shift: &Shift) -> Diagnostic {
-        let mut item = item;
-        shift.move_diagnostic(&mut item);
-        item
+    fn list(row: &Row) -> &[Diagnostic] {
+        row.diagnostics.as_slice()
     }
 
     ghost shifted_items = { λ from to row. refl };
 
-    ghost fits = { λ from to row fits. fits.found.diagnostics };
+    ghost moves = { λ from to row of. of.found.diagnostics };
+
+    ghost ends = { λ place row of. of.found.diagnostics };
+
+    ghost starts = { λ place row of. of.found.diagnostics };
 }
 
 /// What they reported for the case that the source is a module.
@@ -81,23 +71,17 @@ impl FoundList for Deferred {
 
     ghost items = { λ row. row.deferred };
 
-    ghost shifted = { λ from to item. shifted_diagnostic from to item };
-
-    ghost Fits = { λ from to item. OfDiagnostic (FitsShifted from to) item };
-
-    fn item(row: &Row, index: usize) -> Option<Diagnostic> {
-        row.deferred.as_slice().get(index).copied()
-    }
-
-    fn moved(item: Diagnostic, shift: &Shift) -> Diagnostic {
-        let mut item = item;
-        shift.move_diagnostic(&mut item);
-        item
+    fn list(row: &Row) -> &[Diagnostic] {
+        row.deferred.as_slice()
     }
 
     ghost shifted_items = { λ from to row. refl };
 
-    ghost fits = { λ from to row fits. fits.found.deferred };
+    ghost moves = { λ from to row of. of.found.deferred };
+
+    ghost ends = { λ place row of. of.found.deferred };
+
+    ghost starts = { λ place row of. of.found.deferred };
 }
 
 /// The comments of the gaps.
@@ -109,23 +93,17 @@ impl FoundList for Comments {
 
     ghost items = { λ row. row.comments };
 
-    ghost shifted = { λ from to item. shifted_comment from to item };
-
-    ghost Fits = { λ from to item. OfComment (FitsShifted from to) item };
-
-    fn item(row: &Row, index: usize) -> Option<Comment> {
-        row.comments.as_slice().get(index).copied()
-    }
-
-    fn moved(item: Comment, shift: &Shift) -> Comment {
-        let mut item = item;
-        shift.move_comment(&mut item);
-        item
+    fn list(row: &Row) -> &[Comment] {
+        row.comments.as_slice()
     }
 
     ghost shifted_items = { λ from to row. refl };
 
-    ghost fits = { λ from to row fits. fits.found.comments };
+    ghost moves = { λ from to row of. of.found.comments };
+
+    ghost ends = { λ place row of. of.found.comments };
+
+    ghost starts = { λ place row of. of.found.comments };
 }
 
 /// Their irregular white space.
@@ -137,23 +115,17 @@ impl FoundList for Irregular {
 
     ghost items = { λ row. row.irregular };
 
-    ghost shifted = { λ from to item. shifted_span from to item };
-
-    ghost Fits = { λ from to item. OfSpan (FitsShifted from to) item };
-
-    fn item(row: &Row, index: usize) -> Option<Span> {
-        row.irregular.as_slice().get(index).copied()
-    }
-
-    fn moved(item: Span, shift: &Shift) -> Span {
-        let mut item = item;
-        shift.move_span(&mut item);
-        item
+    fn list(row: &Row) -> &[Span] {
+        row.irregular.as_slice()
     }
 
     ghost shifted_items = { λ from to row. refl };
 
-    ghost fits = { λ from to row fits. fits.found.irregular };
+    ghost moves = { λ from to row of. of.found.irregular };
+
+    ghost ends = { λ place row of. of.found.irregular };
+
+    ghost starts = { λ place row of. of.found.irregular };
 }
 
 /// What the readings warned of.
@@ -165,23 +137,17 @@ impl FoundList for Warnings {
 
     ghost items = { λ row. row.warnings };
 
-    ghost shifted = { λ from to item. shifted_span from to item };
-
-    ghost Fits = { λ from to item. OfSpan (FitsShifted from to) item };
-
-    fn item(row: &Row, index: usize) -> Option<Span> {
-        row.warnings.as_slice().get(index).copied()
-    }
-
-    fn moved(item: Span, shift: &Shift) -> Span {
-        let mut item = item;
-        shift.move_span(&mut item);
-        item
+    fn list(row: &Row) -> &[Span] {
+        row.warnings.as_slice()
     }
 
     ghost shifted_items = { λ from to row. refl };
 
-    ghost fits = { λ from to row fits. fits.found.warnings };
+    ghost moves = { λ from to row of. of.found.warnings };
+
+    ghost ends = { λ place row of. of.found.warnings };
+
+    ghost starts = { λ place row of. of.found.warnings };
 }
 
 /// Gives the items of a live list of a document, in order, seen as the list of those that are left. What a place behind

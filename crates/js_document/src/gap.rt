@@ -1,15 +1,19 @@
 //! Rows around a gap, which stands where the text was edited last.
 
-ghost use Rattle.std.specs.Prelude.{◌≡◌, ◌↔◌, ◌+◌, ◌-◌, ◌<◌, ◌^◌, ◌≤◌, length, IsTrue};
+ghost use Rattle.std.specs.Prelude.{◌≡◌, ◌↔◌, ◌+◌, ◌-◌, ◌<◌, ◌^◌, ◌≤◌, List, ◌++◌, length, IfOk, IfSome, IsTrue};
 ghost use Rattle.js_session.specs.Shifted.{shifted_token};
+ghost use Rattle.js_session.specs.declared.row.Row.{Row};
+ghost use Rattle.js_document.specs.Found.{counts_in, counts_with, found_by};
 ghost use Rattle.js_document.specs.Gap.{IsPadded, MayPad, count_tokens, more_tokens, reads_again, reads_on, rows_of};
-ghost use Rattle.js_document.specs.Gap.{shifted_entry};
+ghost use Rattle.js_document.specs.Gap.{last_entry, shifted_entry};
 
 mod found;
 mod rows;
 
+use crate::counts::FoundCounts;
 use js_kind::Token;
 use js_session::{Effect, Row, Shift};
+use std::alloc::AllocError;
 use std::marker::Model;
 
 /// A row, with what is known behind it.
@@ -108,16 +112,21 @@ pub(crate) struct GapRows<K> {
     front_tokens: usize,
     /// How many all have.
     tokens: usize,
+    /// How many items of each list the rows before the gap have found.
+    front_found: FoundCounts,
 }
 
 impl<K> Model for GapRows<K> {
-    ghost use Rattle.js_document.specs.Gap.{AreCounted, GapState};
+    ghost use Rattle.std.specs.Prelude.{◌≡◌};
+    ghost use Rattle.js_document.specs.Found.{counts_in, found_by};
+    ghost use Rattle.js_document.specs.Gap.{AreCounted, GapState, rows_of};
 
     ghost Value = { GapState K };
 
     ghost view = { λ g. record { front = g.front.items; back = g.back.items; pad = g.pad } };
 
-    ghost invariant = { λ g. AreCounted {K = K} g.front.items g.back.items g.pad g.front_tokens g.tokens };
+    ghost invariant = { λ g. AreCounted {K = K} g.front.items g.back.items g.pad g.front_tokens g.tokens
+        × (g.front_found ≡ counts_in (found_by (rows_of {K = K} g.front.items))) };
 }
 
 /// How many live tokens more there are with the rows.
@@ -130,4 +139,27 @@ fn count_tokens<K>(rows: &[Entry<K>]) -> usize
         count += more_tokens(&entry.row);
     }
     count
+}
+
+/// How many items of each list there are with what the rows found.
+fn count_found<K>(counts: FoundCounts, rows: &[Entry<K>]) -> Result<FoundCounts, AllocError>
+    ensures { (front : List Row) → counts ≡ counts_in (found_by front)
+        → IfOk result (λ new. new ≡ counts_in (found_by (front ++ rows_of {K = K} rows.now))) }
+{
+    let mut counts = counts;
+    for entry in rows {
+        counts = counts.with_row(&entry.row)?;
+    }
+    Ok(counts)
+}
+
+/// How many items of each list there are with what the last of the rows found, if there is one.
+fn found_with_last<K>(counts: FoundCounts, rows: &[Entry<K>]) -> Result<FoundCounts, AllocError>
+    ensures { IfOk result
+        (λ new. IfSome (last_entry {K = K} rows.now) (λ entry. new ≡ counts_with counts entry.row)) }
+{
+    match rows.last() {
+        Some(entry) => counts.with_row(&entry.row),
+        None => Ok(counts),
+    }
 }

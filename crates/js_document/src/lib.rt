@@ -3,6 +3,7 @@
 
 mod auto_state;
 mod change;
+mod counts;
 mod document;
 mod edit;
 mod edited;
@@ -13,6 +14,7 @@ mod gather;
 mod join;
 mod keep;
 mod open;
+mod placed;
 mod read;
 mod tokens;
 
@@ -24,4 +26,5 @@ pub use found::{Comments, Deferred, Diagnostics, Found, FoundList, Irregular, Wa
 pub use js_relex::Edit;
 pub use keep::KeepGoals;
 pub use open::OpenTrie;
+pub use placed::Placed;
 pub use tokens::Tokens;

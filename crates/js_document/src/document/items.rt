@@ -1,6 +1,8 @@
 //! What a document has: its tokens, and the report of its text.
 
 ghost use Rattle.std.specs.Prelude.{◌≡◌, false, IfOk};
+ghost use Rattle.std.specs.List.{AllByRecursion};
+ghost use Rattle.js_session.specs.Report.{IsSliceOnPlaces};
 ghost use Rattle.js_choose.specs.Rules.{ReportBy};
 ghost use Rattle.js_document.specs.LiveTokens.{IsTokenAt};
 
@@ -38,6 +40,8 @@ impl<K: KeepGoals> Document<K> {
         ensures report { IfOk result (λ report. report ≡ self.now.report) }
         ensures chosen { IfOk result
             (ReportBy K.choice self.now.text self.now.source_type false self.now.commands) }
+        ensures slices { IfOk result
+            (λ report. AllByRecursion (λ row. IsSliceOnPlaces self.now.text row.value) report.rows) }
     {
         let rows = rows_of(alloc, &self.entries)?;
         report_of_rows(alloc, rows)

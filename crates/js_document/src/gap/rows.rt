@@ -1,37 +1,46 @@
 //! Rows that cross the gap.
 
-ghost use Rattle.std.specs.Prelude.{◌≡◌, ◌↔◌, ◌+◌, ◌<◌, ◌≤◌, ◌-◌, ◌++◌, false, length, reverse, slice_get, take};
-ghost use Rattle.std.specs.Prelude.{IsTrue, OnErr, OnOk};
+ghost use Rattle.std.specs.Prelude.{◌≡◌, ◌↔◌, ◌+◌, ◌<◌, ◌≤◌, ◌-◌, [], ◌++◌, false, length, reverse, slice_get, take};
+ghost use Rattle.std.specs.Prelude.{IfOk, IsTrue, OnErr, OnOk};
 ghost use Rattle.std.specs.List.{AllByRecursion};
 ghost use Rattle.std.specs.Option.{SomeIff, option_map, option_map_or};
 ghost use Rattle.js_document.specs.Documents.{IsKept};
+ghost use Rattle.js_document.specs.Found.{counts_in, found_by};
 ghost use Rattle.js_document.specs.Gap.{AreInOrder, FallsShort, IsPadded, MayPad, Reaches, around, count_tokens};
 ghost use Rattle.js_document.specs.Gap.{MovesGap, entries_of, last_entry, reads_again, rows_of};
 ghost use Rattle.js_document.specs.LiveTokens.{IsRowAt, StartUpTo, TakesLive};
 ghost use Rattle.js_document.specs.Reading.{IsSeam};
 
 use super::{
-    Entry, GapRows, count_tokens, ends_before, more_tokens, padded, reads_again, unpadded,
-    unpadded_token,
+    Entry, GapRows, count_found, count_tokens, ends_before, found_with_last, more_tokens, padded,
+    reads_again, unpadded, unpadded_token,
 };
+use crate::counts::FoundCounts;
 use js_kind::Token;
 use js_session::Shift;
 use std::alloc::{AllocError, Global};
 
 impl<K: Copy + Drop> GapRows<K> {
     /// Rows with the gap behind them.
-    pub(crate) fn new(alloc: Global, rows: Vec<Entry<K>>, pad: u32) -> GapRows<K>
-        ensures entries { entries_of {K = K} result ≡ rows.items }
-        ensures pad { result.pad ≡ pad }
+    pub(crate) fn new(
+        alloc: Global,
+        rows: Vec<Entry<K>>,
+        pad: u32,
+    ) -> Result<GapRows<K>, AllocError>
+        ensures entries { IfOk result (λ g. entries_of {K = K} g ≡ rows.items) }
+        ensures alone { IfOk result (λ g. g.back ≡ []) }
+        ensures pad { IfOk result (λ g. g.pad ≡ pad) }
     {
         let front_tokens = count_tokens(rows.as_slice());
-        GapRows {
+        let front_found = count_found(FoundCounts::none(), rows.as_slice())?;
+        Ok(GapRows {
             front: rows,
             back: Vec::new(alloc),
             pad,
             front_tokens,
             tokens: front_tokens,
-        }
+            front_found,
+        })
     }
 
     /// How many rows there are.
@@ -53,6 +62,13 @@ impl<K: Copy + Drop> GapRows<K> {
         ensures { result ≡ count_tokens (rows_of {K = K} self.now.front) }
     {
         self.front_tokens
+    }
+
+    /// How many items of each list the rows before the gap have found.
+    pub(crate) fn front_found(&self) -> FoundCounts
+        ensures { result ≡ counts_in (found_by (rows_of {K = K} self.now.front)) }
+    {
+        self.front_found
     }
 
     /// The rows before the gap.
@@ -97,6 +113,7 @@ impl<K: Copy + Drop> GapRows<K> {
         if let Some(entry) = self.front.pop() {
             let more = more_tokens(&entry.row);
             self.front_tokens -= more;
+            self.front_found = self.front_found.without_row(&entry.row);
             self.back.push_reserved(padded(entry, self.pad));
         }
         Ok(())
@@ -107,10 +124,12 @@ impl<K: Copy + Drop> GapRows<K> {
         ensures moves { MovesGap {K = K} self.old self.new }
         ensures ok { OnOk result (length self.new.back ≡ length self.old.back - 1) }
     {
+        let found = found_with_last(self.front_found, self.back.as_slice())?;
         self.front.reserve(1)?;
         if let Some(entry) = self.back.pop() {
             let more = more_tokens(&entry.row);
             self.front_tokens += more;
+            self.front_found = found;
             self.front.push_reserved(unpadded(entry, self.pad));
         }
         Ok(())
@@ -169,6 +188,7 @@ impl<K: Copy + Drop> GapRows<K> {
         ensures err { OnErr result (entries_of {K = K} self.new ≡ entries_of {K = K} self.old) }
         ensures err_pad { OnErr result (self.new.pad ≡ self.old.pad) }
     {
+        let found = count_found(self.front_found, rows.as_slice())?;
         let more = count_tokens(rows.as_slice());
         let gone = count_tokens(&self.back.as_slice()[left..]);
         let tokens = match (self.tokens - gone).checked_add(more) {
@@ -179,6 +199,7 @@ impl<K: Copy + Drop> GapRows<K> {
         self.front.append(&mut rows)?;
         self.back.truncate(left);
         self.front_tokens += more;
+        self.front_found = found;
         self.tokens = tokens;
         self.pad = pad;
         Ok(())

@@ -1,4 +1,3 @@
-use Rattle.std.proofs.Common.{sym, ◌∙◌}
 use Rattle.js_document.proofs.AutoLemmas.{no_brace, some_brace}
 use Rattle.js_document.specs.States.{brace_scope}
 use Rattle.std.proofs.Common.{map}

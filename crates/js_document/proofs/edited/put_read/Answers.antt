@@ -1,7 +1,8 @@
-use Rattle.std.proofs.Common.{◌≡◌, ◌≤◌, ◌++◌, ◌∙◌, [], ap, length, subst, sym, take}
+use Rattle.std.proofs.Common.{◌≤◌, ◌++◌, ◌∙◌, [], ap, length, subst, sym, take}
 use Rattle.std.specs.List.{AllByRecursion}
 use Rattle.js_relex.proofs.Outcomes.{on_err}
-use Rattle.js_document.specs.Changed.{IsChangeOf, MayChange}
+use Rattle.js_document.specs.Changed.{AreChangesOf, IsChangeOf, MayChange}
+use Rattle.js_document.specs.Found.{found_by}
 use Rattle.js_document.specs.Gap.{IsPadded, around, entries_of, rows_of}
 use Rattle.js_document.specs.Reading.{with_rows}
 use Rattle.js_document.proofs.edited.put_read.Goals as goal
@@ -43,6 +44,15 @@ returns-clause-ok g c =
           (λ es. IsChangeOf edit.start edit.end edit.text.now (with_rows [] (rows_of (entries_of old)))
           (with_rows [] (rows_of (around (old.front ++ es) c.args.pad (take c.unwrap_or-left.result old.back))))
           change.tokens) c.as_slice.ensures.value tokens);
+      found =
+          subst
+          (λ n. AreChangesOf edit.start edit.end edit.text.now (found_by (rows_of (entries_of old)))
+          (found_by (rows_of (around (old.front ++ c.args.read.rows.items) c.args.pad (take n old.back)))) change)
+          c.unwrap_or-left.ensures
+          (subst
+          (λ es. AreChangesOf edit.start edit.end edit.text.now (found_by (rows_of (entries_of old)))
+          (found_by (rows_of (around (old.front ++ es) c.args.pad (take c.unwrap_or-left.result old.back)))) change)
+          c.as_slice.ensures.value c.in_ok-change.ensures.found);
       moved = c.in_ok-change.ensures.moved;
     }
 

@@ -1,4 +1,4 @@
-use Rattle.std.proofs.Common.{◌≡◌, ◌∙◌, [], ap, subst, sym}
+use Rattle.std.proofs.Common.{◌∙◌, ap, subst, sym}
 use Rattle.std.specs.Prelude.{reverse}
 use Rattle.js_document.specs.Documents.{IsHeld}
 use Rattle.js_document.specs.Gap.{AreInOrder, rows_of}
@@ -12,14 +12,14 @@ new-joining-requires g c =
 pub returns-clause-held : goal.returns-clause-held
 returns-clause-held g c =
     let read = c.in_ok-read.read in
-    subst
-    (λ es. IsHeld g.K.KeepGoals.choice g.K.KeepGoals.knows c.args.text.now c.args.source_type c.rows_from_start.new.open
-    es c.new.result.pad) (sym c.new.ensures.entries)
-    (subst
-    (λ pad. IsHeld g.K.KeepGoals.choice g.K.KeepGoals.knows c.args.text.now c.args.source_type c.rows_from_start.new.open
-    read.rows.items pad) (sym c.new.ensures.pad)
-    (held_new g.K.KeepGoals.choice g.met.K.KeepGoals.is_rule g.K.KeepGoals.knows g.K.KeepGoals.alike
+    let held = held_new g.K.KeepGoals.choice g.met.K.KeepGoals.is_rule g.K.KeepGoals.knows g.K.KeepGoals.alike
     g.met.K.KeepGoals.stays c.args.text.now c.args.source_type c.args.open.now c.rows_from_start.new.open
     c.new-joining.result read.rows.items read.left c.pad_of-pad.result
     (ap (λ j. j.back) c.new-joining.ensures ∙ c.as_slice.ensures.value ∙ c.new-none.ensures.items)
-    c.in_ok-read.ensures.rows c.utf8.text c.pad_of-pad.ensures))
+    c.in_ok-read.ensures.rows c.utf8.text c.pad_of-pad.ensures in
+    subst
+    (λ es. IsHeld g.K.KeepGoals.choice g.K.KeepGoals.knows c.args.text.now c.args.source_type c.rows_from_start.new.open
+    es c.in_ok-entries.entries.pad) (sym c.in_ok-entries.ensures.entries)
+    (subst
+    (λ n. IsHeld g.K.KeepGoals.choice g.K.KeepGoals.knows c.args.text.now c.args.source_type c.rows_from_start.new.open
+    read.rows.items n) (sym c.in_ok-entries.ensures.pad) held)

@@ -1,4 +1,4 @@
-use Rattle.std.proofs.Common.{◌<◌, arith}
+use Rattle.std.proofs.Common.{arith}
 use Rattle.js_session.specs.Shifted.{FitsShifted}
 use Rattle.js_session.proofs.RowsWithin.{row_weaker}
 use Rattle.js_document.specs.Gap.{IsPaddedPlace}

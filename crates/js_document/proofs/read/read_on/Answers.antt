@@ -1,4 +1,4 @@
-use Rattle.std.proofs.Common.{◌≡◌, ◌+◌, ◌++◌, ◌∷◌, [], ◌∙◌, refl, arith}
+use Rattle.std.proofs.Common.{◌++◌, ◌∙◌, refl, arith}
 use Rattle.js_session.proofs.LastingRuns.{lasting_steps}
 use Rattle.js_document.proofs.LoopLemmas.{last_here, told_end, told_joined, told_lasts, told_less, told_lies, told_on}
 use Rattle.js_document.proofs.ReadLemmas.{so_far_start}

@@ -1,4 +1,4 @@
-use Rattle.std.proofs.Common.{◌≡◌, ◌∙◌, length, sym, ap, arith, subst, None}
+use Rattle.std.proofs.Common.{◌∙◌, length, sym, ap, arith, subst, None}
 use Rattle.js_session.specs.declared.report.Report.{Report}
 use Rattle.js_document.proofs.FromSession.{are_made, goes_resumed, reads_resumed, rows_long}
 use Rattle.js_document.proofs.LastTokens.{last_some, last_split}

@@ -1,4 +1,4 @@
-use Rattle.std.proofs.Common.{◌≡◌, ◌∙◌, length, sym, ap, arith}
+use Rattle.std.proofs.Common.{◌∙◌, length, sym, ap, arith}
 use Rattle.js_session.specs.declared.report.Report.{Report}
 use Rattle.js_document.proofs.FromSession.{rows_long}
 use Rattle.js_document.proofs.read.rows_from_start.Goals as goal

@@ -1,9 +1,9 @@
-use Rattle.std.proofs.Common.{◌<◌, ◌≤◌, ◌∙◌, ap, arith, inr, length, subst, sym, Err, Ok}
+use Rattle.std.proofs.Common.{◌<◌, ◌∙◌, ap, arith, inr, length, subst, sym, Err, Ok}
 use Rattle.std.specs.Prelude.{◌^◌}
 use Rattle.js_relex.specs.Documents.{IsEdit, edited}
 use Rattle.js_document.specs.Documents.{DocState, EditCause}
 use Rattle.js_document.specs.declared.fault.DocumentFault.TheVariants.{BadEdit, Overlong}
-use Rattle.js_document.proofs.Causes.{MayEdit, complete_of, exact_of, no_edit_cause, one_edit_cause}
+use Rattle.js_document.proofs.Causes.{MayEdit, exact_of, no_edit_cause, one_edit_cause}
 use Rattle.js_document.proofs.document.Document.edit.Goals as goal
 
 pub returns-then-not-is_of-clause-cause : goal.returns-then-not-is_of-clause-cause

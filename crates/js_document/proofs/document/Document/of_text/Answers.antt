@@ -1,7 +1,10 @@
-use Rattle.std.proofs.Common.{◌≡◌, ◌++◌, ◌∙◌, ap, arith, refl, subst, sym}
+use Rattle.std.proofs.Common.{◌++◌, ◌∙◌, ap, arith, refl, subst, sym}
 use Rattle.js_document.specs.Documents.{IsHeld, report_of}
+use Rattle.js_document.specs.Found.{counts_in, found_by}
 use Rattle.js_document.specs.Gap.{entries_of, rows_of}
+use Rattle.js_document.proofs.FoundLemmas.{report_found}
 use Rattle.js_document.proofs.FromSession.{rows_long}
+use Rattle.js_document.proofs.GapLemmas.{all_before}
 use Rattle.js_document.proofs.HeldLemmas.{held_rows, report_count}
 use Rattle.js_document.proofs.document.Document.of_text.Goals as goal
 
@@ -22,7 +25,8 @@ returns-clause-document g c = record {
 
 pub returns-clause-change : goal.returns-clause-change
 returns-clause-change g c =
-    let rows = rows_of (entries_of c.in_ok-entries.entries) in
+    let entries = c.in_ok-entries.entries in
+    let rows = rows_of (entries_of entries) in
     c.change_of_new-change.ensures (report_of rows)
     (c.len.ensures ∙ sym (rows_long (entries_of c.in_ok-entries.entries) rows refl))
     (c.tokens.ensures
@@ -30,6 +34,14 @@ returns-clause-change g c =
     (report_count g.K.KeepGoals.choice g.met.K.KeepGoals.is_rule c.args.text.now c.args.source_type rows
     (held_rows g.K.KeepGoals.choice g.met.K.KeepGoals.is_rule c.args.text.now c.args.source_type rows
     c.in_ok-entries.ensures.held.report_is)))
+    (c.front_found.ensures
+    ∙ ap (λ es. counts_in (found_by (rows_of es))) (sym (all_before entries c.in_ok-entries.ensures.alone))
+    ∙ ap counts_in
+    (sym
+    (report_found g.K.KeepGoals.choice g.met.K.KeepGoals.is_rule c.args.text.now c.args.source_type rows
+    c.in_ok-entries.ensures.held.report_is.report_is.utf8
+    (held_rows g.K.KeepGoals.choice g.met.K.KeepGoals.is_rule c.args.text.now c.args.source_type rows
+    c.in_ok-entries.ensures.held.report_is))))
 
 pub returns-clause-ticks : goal.returns-clause-ticks
 returns-clause-ticks g c =

@@ -1,5 +1,8 @@
 use Rattle.std.proofs.Common.{◌≡◌, ◌∙◌, ap, false, subst, sym}
 use Rattle.std.proofs.lemmas.Result.{IfOk-weaker}
+use Rattle.std.specs.List.{AllByRecursion}
+use Rattle.js_session.specs.Report.{IsSliceOnPlaces}
+use Rattle.js_session.proofs.RunLemmas.{rows_slices}
 use Rattle.js_choose.specs.Rules.{ReportBy}
 use Rattle.js_relex.specs.Documents.{IsGathered}
 use Rattle.js_document.specs.Documents.{DocState, commands_of}
@@ -38,3 +41,12 @@ returns-clause-chosen g c =
     (sym (gathered_held rule law text t rows report held (subst (λ rs. IsGathered rs report) c.in_ok-rows.ensures is)))
     c.self.invariant.report_is))
     c.report_of_rows.ensures
+
+pub returns-clause-slices : goal.returns-clause-slices
+returns-clause-slices g c =
+    let now = c.args.self.now in
+    IfOk-weaker c.report_of_rows.result
+    (ReportBy g.K.KeepGoals.choice now.text now.source_type false now.commands)
+    (λ report. AllByRecursion (λ row. IsSliceOnPlaces now.text row.value) report.rows)
+    (λ report by. rows_slices now.text now.source_type now.commands report.rows by.report_is.rows)
+    (returns-clause-chosen g c)

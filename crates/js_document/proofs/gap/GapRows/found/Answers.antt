@@ -31,9 +31,9 @@ returns-in_err-item-clause-item g c =
     let row = row_of_entry (entries_of c.args.self.now) c.args.row (shifted_entry pad 0 e) entry in
     c.from_residual-in_err-item.ensures
     ∙ sym
-    (item_behind g.L.FoundList.items g.L.FoundList.shifted g.met.L.FoundList.shifted_items rows c.args.row c.args.index pad
+    (item_behind g.L.FoundList.items g.L.Item.Placed.shifted g.met.L.FoundList.shifted_items rows c.args.row c.args.index pad
     e.row row
-    ∙ ap (option_map (g.L.FoundList.shifted pad 0)) (sym c.item-2.ensures.item ∙ c.in_err-item.was))
+    ∙ ap (option_map (g.L.Item.Placed.shifted pad 0)) (sym c.item_of-2.ensures.item ∙ c.in_err-item.was))
 
 pub moved-requires : goal.moved-requires
 moved-requires g c =
@@ -46,12 +46,12 @@ moved-requires g c =
     let held = c.in_ok-at.ensures in
     let there : slice_get back at ≡ Some e =
     slice_get_read back (length back) at e refl (omega (arith, held.0, held.1, backs)) c.index.ensures in
-    let padded = each_there (IsPadded pad) back at e c.self.invariant.padded there in
+    let padded = each_there (IsPadded pad) back at e c.self.invariant.0.padded there in
     let fits = row_weaker (IsPaddedPlace pad) (FitsShifted pad 0) (λ place is. omega (arith, is.fits)) e.row padded.places in
-    subst (λ s. g.L.FoundList.Fits s.from s.to c.in_ok-item.item) (sym c.shift.ensures)
-    (subst (λ p. g.L.FoundList.Fits p 0 c.in_ok-item.item) (ap (λ x. x.pad) c.self.view_is)
-    (all_there (g.L.FoundList.Fits pad 0) (g.L.FoundList.items e.row) c.args.index c.in_ok-item.item
-    (g.met.L.FoundList.fits pad 0 e.row fits) (sym c.item-2.ensures.item ∙ c.in_ok-item.was)))
+    subst (λ s. g.L.Item.Placed.MayMove s.from s.to c.in_ok-item.item) (sym c.shift.ensures)
+    (subst (λ p. g.L.Item.Placed.MayMove p 0 c.in_ok-item.item) (ap (λ x. x.pad) c.self.view_is)
+    (all_there (g.L.Item.Placed.MayMove pad 0) (g.L.FoundList.items e.row) c.args.index c.in_ok-item.item
+    (g.met.L.FoundList.moves pad 0 e.row fits) (sym c.item_of-2.ensures.item ∙ c.in_ok-item.was)))
 
 pub returns-clause-item : goal.returns-clause-item
 returns-clause-item g c =
@@ -75,9 +75,9 @@ returns-clause-item g c =
     let entry = entry_behind front back pad c.args.self.now c.self.view_is c.args.row at e past less place there in
     let row = row_of_entry (entries_of c.args.self.now) c.args.row (shifted_entry pad 0 e) entry in
     ap Some
-    (c.moved.ensures ∙ ap (λ s. g.L.FoundList.shifted s.from s.to item) c.shift.ensures
-    ∙ ap (λ p. g.L.FoundList.shifted p 0 item) (sym (ap (λ x. x.pad) c.self.view_is)))
+    (c.moved.ensures ∙ ap (λ s. g.L.Item.Placed.shifted s.from s.to item) c.shift.ensures
+    ∙ ap (λ p. g.L.Item.Placed.shifted p 0 item) (sym (ap (λ x. x.pad) c.self.view_is)))
     ∙ sym
-    (item_behind g.L.FoundList.items g.L.FoundList.shifted g.met.L.FoundList.shifted_items rows c.args.row c.args.index pad
+    (item_behind g.L.FoundList.items g.L.Item.Placed.shifted g.met.L.FoundList.shifted_items rows c.args.row c.args.index pad
     e.row row
-    ∙ ap (option_map (g.L.FoundList.shifted pad 0)) (sym c.item-2.ensures.item ∙ c.in_ok-item.was))
+    ∙ ap (option_map (g.L.Item.Placed.shifted pad 0)) (sym c.item_of-2.ensures.item ∙ c.in_ok-item.was))

@@ -9,7 +9,7 @@ use Rattle.js_document.proofs.gap.GapRows.row_at.Goals as goal
 pub rows_behind-behind-requires : goal.rows_behind-behind-requires
 rows_behind-behind-requires g c =
     back_in_order c.args.self.now c.requires
-    (subst (λ x. AllByRecursion (IsPadded x.pad) x.back) c.self.view_is c.self.invariant.padded)
+    (subst (λ x. AllByRecursion (IsPadded x.pad) x.back) c.self.view_is c.self.invariant.0.padded)
 
 pub front_up_to-requires : goal.front_up_to-requires
 front_up_to-requires g c = front_in_order c.args.self.now c.requires

@@ -29,4 +29,4 @@ returns-in-None g c =
     let same = ap (λ x. x.pad) c.self.view_is in
     none_past c.args.self.now.pad c.args.self.now.back (c.args.place + c.args.self.now.pad)
     (omega (arith, none, same))
-    (subst (λ x. AllByRecursion (IsPadded x.pad) x.back) c.self.view_is c.self.invariant.padded)
+    (subst (λ x. AllByRecursion (IsPadded x.pad) x.back) c.self.view_is c.self.invariant.0.padded)

@@ -1,4 +1,4 @@
-use Rattle.std.proofs.Common.{◌≡◌, ltb, rules, subst, sym}
+use Rattle.std.proofs.Common.{ltb, rules, subst}
 use Rattle.std.proofs.lemmas.List.Sorted.{IsPartitionPoint-from_clause}
 use Rattle.js_document.specs.Reading.{IsSeam}
 use Rattle.js_document.proofs.JoinLemmas.{parted, seam_of}

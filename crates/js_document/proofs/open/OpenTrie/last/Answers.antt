@@ -1,4 +1,4 @@
-use Rattle.std.proofs.Common.{◌≡◌, sym, ◌∙◌}
+use Rattle.std.proofs.Common.{sym, ◌∙◌}
 use Rattle.js_document.proofs.TrieLemmas.{none_scope, some_scope}
 use Rattle.js_document.proofs.open.OpenTrie.last.Goals as goal
 

@@ -1,4 +1,4 @@
-use Rattle.std.proofs.Common.{◌≡◌, ℕ, ◌+◌, ◌<◌, List, [], ◌∷◌, ◌++◌, length, replicate, refl, sym, ◌∙◌, ap, arith, subst, Some}
+use Rattle.std.proofs.Common.{suc, ◌≡◌, [], ◌∷◌, ◌++◌, length, replicate, refl, sym, ◌∙◌, ap, arith, subst, Some}
 use Rattle.std.specs.Prelude.{slice_get, slice_set}
 use Rattle.std.proofs.lemmas.Option.{slice_get_read}
 use Rattle.js_document.specs.declared.open.Node.{Node}
@@ -67,7 +67,9 @@ returns-clause-ok c = λ scopes is.
     let node : Node = record { parent = c.args.link; scope = c.args.scope } in
     let here : IsOpen nodes c.args.link scopes =
     subst (λ ns. IsOpen ns c.args.link scopes) (sym c.self.view_is) is in
+    let next : suc (length nodes) ≡ c.in_ok-child.child =
+    (let is = c.in_ok-child.ensures in let same = ap (λ l. length l) c.self.view_is in omega (arith, is, same)) in
     subst (λ ns. IsOpen ns c.in_ok-child.child (c.args.scope ∷ scopes))
     (sym (c.in_ok-push.ensures.items ∙ ap (λ ns. ns ++ node ∷ []) c.reserve.ensures.items))
     (subst (λ n. IsOpen (nodes ++ node ∷ []) n (c.args.scope ∷ scopes))
-    (let is = c.in_ok-child.ensures in let same = ap (λ l. length l) c.self.view_is in omega (arith, is, same)) (opens nodes node scopes here (at_end nodes node)))
+    next (opens nodes node scopes here (at_end nodes node)))

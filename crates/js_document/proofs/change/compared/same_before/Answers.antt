@@ -1,18 +1,18 @@
-use Rattle.std.proofs.Common.{◌-◌, arith, get_or, subst, sym}
-use Rattle.js_document.specs.Changed.{EndsBy, IsSameBefore}
+use Rattle.std.proofs.Common.{arith, get_or, subst, sym}
+use Rattle.js_document.specs.Changed.{IsSameBefore}
 use Rattle.js_document.proofs.ChangeLemmas.{common_differs, common_more, common_new_end, common_old_end}
-use Rattle.js_document.proofs.change.same_before.Goals as goal
+use Rattle.js_document.proofs.change.compared.same_before.Goals as goal
 
 pub returns-then-count-new-clause-common : goal.returns-then-count-new-clause-common
-returns-then-count-new-clause-common c =
-    common_new_end (IsSameBefore (EndsBy c.args.start)) c.args.old.now c.args.new.now c.loop-count.count
+returns-then-count-new-clause-common g c =
+    common_new_end (IsSameBefore (g.T.Placed.EndsBy c.args.start)) c.args.old.now c.args.new.now c.loop-count.count
     (omega (arith, c.if-count-new.true)) c.loop-count.invariant.common
 
 pub returns-then-not-is_same_before-clause-common : goal.returns-then-not-is_same_before-clause-common
-returns-then-not-is_same_before-clause-common c =
+returns-then-not-is_same_before-clause-common g c =
     let old = c.index-old-count.result in
     let new = c.index-new-count.result in
-    let P = IsSameBefore (EndsBy c.args.start) in
+    let P = IsSameBefore (g.T.Placed.EndsBy c.args.start) in
     common_differs P c.args.old.now c.args.new.now c.loop-count.count old new (omega (arith, c.loop-count-test.true))
     (omega (arith, c.if-count-new.false))
     (λ same.
@@ -23,10 +23,10 @@ returns-then-not-is_same_before-clause-common c =
     c.loop-count.invariant.common
 
 pub loop-count-preserved : goal.loop-count-preserved
-loop-count-preserved c =
+loop-count-preserved g c =
     let old = c.index-old-count.result in
     let new = c.index-new-count.result in
-    let P = IsSameBefore (EndsBy c.args.start) in
+    let P = IsSameBefore (g.T.Placed.EndsBy c.args.start) in
     let here = c.is_same_before.ensures.0 (let yes = c.if-not-is_same_before.false in cc) in
     record {
       few_old = omega (arith, c.loop-count-test.true);
@@ -40,6 +40,6 @@ loop-count-preserved c =
     }
 
 pub returns-clause-common : goal.returns-clause-common
-returns-clause-common c =
-    common_old_end (IsSameBefore (EndsBy c.args.start)) c.args.old.now c.args.new.now c.loop-count.count
+returns-clause-common g c =
+    common_old_end (IsSameBefore (g.T.Placed.EndsBy c.args.start)) c.args.old.now c.args.new.now c.loop-count.count
     (omega (arith, c.loop-count-test.false)) c.loop-count.invariant.common

@@ -1,0 +1,203 @@
+//! Edits that are made one behind the other, and what is wrong of a document then.
+
+ghost use Rattle.std.specs.Prelude.{◌≡◌, ◌<◌};
+
+use crate::case::{Case, first_case, first_edit};
+use crate::change::is_change;
+use crate::told::Told;
+use js_auto::auto_session;
+use js_document::{AutoState, Document, DocumentFault, Edit};
+use js_kind::TokenList;
+use js_lex_tool::report_text;
+use js_session::Steps;
+use js_text::SourceType;
+use std::alloc::{AllocError, Global};
+use std::marker::Brand;
+use std::sync::ledger::{Blank, Ledger};
+
+/// The report of a session over a text, in words.
+fn report_anew(alloc: Global, text: &str, source_type: SourceType) -> Result<String, AllocError> {
+    match auto_session(alloc, text.as_bytes(), source_type, false) {
+        Ok(auto) => report_text(alloc, text, &auto.report),
+        // the text is UTF-8, and short enough
+        Err(_) => Err(AllocError),
+    }
+}
+
+/// The live tokens.
+fn tokens_of(alloc: Global, document: &Document<AutoState>) -> Result<TokenList, AllocError> {
+    let mut tokens = TokenList::new_in(alloc);
+    for token in document.tokens() {
+        tokens.push(token)?;
+    }
+    Ok(tokens)
+}
+
+/// Whether the document has the report of a session over its text, and gives the tokens of that.
+fn is_right(alloc: Global, document: &Document<AutoState>) -> Result<bool, AllocError> {
+    let report = document.report(alloc)?;
+    let tokens = tokens_of(alloc, document)?;
+    let text = report_text(alloc, document.text(), &report)?;
+    let anew = report_anew(alloc, document.text(), document.source_type())?;
+    Ok(
+        text.as_str() == anew.as_str()
+            && tokens.as_slice() == report.tokens.as_slice()
+            && tokens.len() == document.token_count()
+            && report.rows.len() == document.row_count(),
+    )
+}
+
+/// Whether the edit is one of the text.
+fn is_edit(edit: &Edit<'_>, text: &str) -> bool {
+    edit.start <= edit.end
+        && text.is_char_boundary(edit.start as usize)
+        && text.is_char_boundary(edit.end as usize)
+}
+
+/// Makes an edit. False: there is no document of it.
+fn is_made<L: Ledger>(
+    alloc: Global,
+    document: &mut Document<AutoState>,
+    edit: &Edit<'_>,
+    steps: &mut Steps<L>,
+) -> Result<bool, AllocError> {
+    match document.edit(alloc, edit, steps) {
+        Ok(()) => Ok(true),
+        Err(DocumentFault::Memory) => Err(AllocError),
+        Err(DocumentFault::BadEdit | DocumentFault::Overlong) => Ok(false),
+    }
+}
+
+/// Makes the edit with this number, and tells what is wrong then.
+fn make<L: Ledger>(
+    alloc: Global,
+    document: &mut Document<AutoState>,
+    number: u32,
+    edit: &Edit<'_>,
+    told: &mut Told,
+    steps: &mut Steps<L>,
+) -> Result<(), AllocError> {
+    let may = is_edit(edit, document.text());
+    let old = tokens_of(alloc, document)?;
+    let made = is_made(alloc, document, edit, steps)?;
+    if made != may {
+        told.add(number, "another answer")?;
+    }
+    if !is_right(alloc, document)? {
+        told.add(number, "another report")?;
+    }
+    if made {
+        let change = document.changed();
+        let new = tokens_of(alloc, document)?;
+        if !is_change(&change, edit, old.as_slice(), new.as_slice()) {
+            told.add(number, "another change")?;
+        }
+        told.count_rows(change.read_rows);
+    }
+    Ok(())
+}
+
+/// Makes so many edits, which the input begins with, and gives what stands behind them. None: one cannot be read, which
+/// is told.
+fn make_all<'t, L: Ledger>(
+    alloc: Global,
+    document: &mut Document<AutoState>,
+    count: u32,
+    input: &'t str,
+    told: &mut Told,
+    steps: &mut Steps<L>,
+) -> Result<Option<&'t str>, AllocError> {
+    let mut left = input;
+    for number in 0..count {
+        match first_edit(left) {
+            Ok((edit, rest)) => {
+                make(alloc, document, number, &edit, told, steps)?;
+                left = rest;
+            }
+            Err(fault) => {
+                told.add(number, fault.name())?;
+                return Ok(None);
+            }
+        }
+    }
+    Ok(Some(left))
+}
+
+/// Makes the edits of a case, and gives what stands behind them.
+fn replay<'t, L: Ledger>(
+    alloc: Global,
+    case: &Case<'_>,
+    input: &'t str,
+    told: &mut Told,
+    steps: &mut Steps<L>,
+) -> Result<Option<&'t str>, AllocError> {
+    match Document::<AutoState>::new(alloc, case.text, case.source_type, steps) {
+        Ok(mut document) => make_all(alloc, &mut document, case.edits, input, told, steps),
+        // the text is short enough
+        Err(_) => Err(AllocError),
+    }
+}
+
+/// Replays the first case of the input, and gives what stands behind it. None: it cannot be read, which is told.
+fn replay_first<'t, L: Ledger>(
+    alloc: Global,
+    input: &'t str,
+    told: &mut Told,
+    steps: &mut Steps<L>,
+) -> Result<Option<&'t str>, AllocError> {
+    match first_case(input) {
+        Ok((case, rest)) => replay(alloc, &case, rest, told, steps),
+        Err(fault) => {
+            told.add_case(fault.name())?;
+            Ok(None)
+        }
+    }
+}
+
+/// Replays the cases of the input, up to one that cannot be read.
+fn replay_each<L: Ledger>(
+    alloc: Global,
+    input: &str,
+    told: &mut Told,
+    steps: &mut Steps<L>,
+) -> Result<(), AllocError> {
+    let mut left = input;
+    for case in 0..u64::MAX {
+        told.begin_case(case);
+        if left.is_empty() {
+            break;
+        }
+        match replay_first(alloc, left, told, steps)? {
+            Some(rest) => left = rest,
+            None => break,
+        }
+    }
+    told.end()
+}
+
+/// An input, in a struct of its own: no ledger can be picked for a call that is handed a `&str`.
+#[derive(Clone, Copy)]
+struct Cases<'t> {
+    text: &'t str,
+}
+
+/// What is told of the cases.
+fn replay_counted<L: Ledger>(
+    alloc: Global,
+    cases: &Cases<'_>,
+    blank: Blank,
+) -> Result<Told, AllocError>
+    requires name { blank.name ≡ L.name }
+    requires parts { blank.parts ≡ L.parts }
+    requires some_part { 0 < L.parts }
+{
+    let mut steps = Steps::<L>::new(blank);
+    let mut told = Told::new(alloc);
+    replay_each(alloc, cases.text, &mut told, &mut steps)?;
+    Ok(told)
+}
+
+/// What is told of the cases of an input, over a counter that nobody reads.
+pub fn replay_all(alloc: Global, input: &str) -> Result<Told, AllocError> {
+    replay_counted::<Brand>(alloc, &Cases { text: input }, Blank::new(1))
+}

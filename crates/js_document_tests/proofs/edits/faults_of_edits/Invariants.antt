@@ -1,0 +1,5 @@
+use Rattle.js_document_tests.proofs.edits.faults_of_edits.Given as goal
+
+-- The ledger of the counter.
+abbrev pub ghosts-fault : goal.ghosts-fault
+ghosts-fault g a = record { name = a.blank.name; parts = a.blank.parts }

@@ -1,0 +1,5 @@
+use Rattle.js_document_tests.proofs.items.tokens_at_offsets.Given as goal
+
+-- The ledger of the counter.
+abbrev pub ghosts-parted : goal.ghosts-parted
+ghosts-parted g a = record { name = a.blank.name; parts = a.blank.parts }

@@ -1,0 +1,139 @@
+//! What documents have: their tokens, the one at an offset, what their rows found, and edits made one behind the other.
+
+ghost use Rattle.std.specs.Prelude.{◌≡◌, ◌<◌};
+
+use js_document::{AutoState, Document, DocumentFault, Edit, EditsFault, Found, FoundList};
+use js_session::Steps;
+use js_text::SourceType;
+use std::alloc::Global;
+use std::marker::Brand;
+use std::sync::ledger::{Blank, Ledger};
+use std::test::Fail;
+
+/// A regular expression, comments, an irregular space, an HTML-like comment, and a string that has no end.
+static TEXT: &str = "a = /b\u{E9}/ // c\n/* d */ + e\u{3000}\n<!-- h\n's";
+
+/// An offset, and where the token that is there starts and ends.
+static PLACES: [(u32, Option<(u32, u32)>); 11] = [
+    (0, Some((0, 1))),
+    (1, None),
+    (2, Some((2, 3))),
+    (4, Some((4, 9))),
+    (8, Some((4, 9))),
+    (9, None),
+    (10, None),
+    (23, Some((23, 24))),
+    (28, None),
+    (37, Some((37, 39))),
+    (39, None),
+];
+
+/// The document of a text behind an edit of nothing between its comments, so that its places stand on either side of it.
+fn parted<L: Ledger>(alloc: Global, blank: Blank) -> Option<Document<AutoState>>
+    requires name { blank.name ≡ L.name }
+    requires parts { blank.parts ≡ L.parts }
+    requires some_part { 0 < L.parts }
+{
+    let mut steps = Steps::<L>::new(blank);
+    let mut document = Document::new(alloc, TEXT, SourceType::Unambiguous, &mut steps).ok()?;
+    let edit = Edit {
+        start: 15,
+        end: 15,
+        text: "",
+    };
+    document.edit(alloc, &edit, &mut steps).ok()?;
+    Some(document)
+}
+
+/// Where the token that is at the offset starts and ends.
+fn place_at(document: &Document<AutoState>, offset: u32) -> Option<(u32, u32)> {
+    let token = document.token_at(offset)?;
+    Some((token.start(), token.end()))
+}
+
+#[test]
+fn tokens_at_offsets(rt: HostRuntime) -> Result<(), Fail> {
+    let document = parted::<Brand>(rt.alloc(), Blank::new(1)).ok_or("no document")?;
+    for &(offset, wanted) in &PLACES {
+        assert_eq!(rt; place_at(&document, offset), wanted);
+    }
+    Ok(())
+}
+
+/// How many items a list has.
+fn count<L: FoundList>(found: Found<'_, AutoState, L>) -> u32 {
+    let mut count: u32 = 0;
+    for _item in found {
+        count = count.saturating_add(1);
+    }
+    count
+}
+
+/// How many live tokens there are.
+fn count_tokens(document: &Document<AutoState>) -> u32 {
+    let mut count: u32 = 0;
+    for _token in document.tokens() {
+        count = count.saturating_add(1);
+    }
+    count
+}
+
+/// How many tokens, comments, irregular spaces, diagnostics, deferred ones and warnings there are.
+fn counts(document: &Document<AutoState>) -> [u32; 6] {
+    [
+        count_tokens(document),
+        count(document.comments()),
+        count(document.irregular()),
+        count(document.diagnostics()),
+        count(document.deferred()),
+        count(document.warnings()),
+    ]
+}
+
+#[test]
+fn items_of_documents(rt: HostRuntime) -> Result<(), Fail> {
+    let document = parted::<Brand>(rt.alloc(), Blank::new(1)).ok_or("no document")?;
+    assert_eq!(rt; counts(&document), [7, 3, 1, 1, 1, 0]);
+    Ok(())
+}
+
+/// Edits of `abc`, of which the second is none.
+static EDITS: [Edit<'static>; 2] = [
+    Edit {
+        start: 0,
+        end: 1,
+        text: "xy",
+    },
+    Edit {
+        start: 5,
+        end: 5,
+        text: "z",
+    },
+];
+
+/// What the edits of `abc` come to, and how many bytes the text has then.
+fn made<L: Ledger>(alloc: Global, blank: Blank) -> Option<(Option<EditsFault>, usize)>
+    requires name { blank.name ≡ L.name }
+    requires parts { blank.parts ≡ L.parts }
+    requires some_part { 0 < L.parts }
+{
+    let mut steps = Steps::<L>::new(blank);
+    let mut document = Document::<AutoState>::new(
+        alloc,
+        "abc",
+        SourceType::Module,
+        &mut steps,
+    ).ok()?;
+    let fault = document.edit_all(alloc, &EDITS, &mut steps).err();
+    Some((fault, document.text().len()))
+}
+
+#[test]
+fn edits_up_to_a_fault(rt: HostRuntime) {
+    let wanted = EditsFault {
+        made: 1,
+        fault: DocumentFault::BadEdit,
+    };
+    let found = made::<Brand>(rt.alloc(), Blank::new(1));
+    assert_eq!(rt; found, Some((Some(wanted), 4)));
+}
