@@ -1,6 +1,6 @@
 //! A text whose goals are chosen, with its tokens, which edits keep up to date.
 
-ghost use Rattle.std.specs.Prelude.{◌≡◌, ◌≤◌, ◌<◌, ◌+◌, ◌^◌, ◌⊎◌, ℕ, List, length, Err, IfErr, IfOk, IsOk, OnErr, OnOk};
+ghost use Rattle.std.specs.Prelude.{◌≡◌, ◌≤◌, ◌<◌, ◌+◌, ◌^◌, ◌⊎◌, length, Err, IfErr, IfOk, IsOk, OnErr, OnOk};
 ghost use Rattle.js_relex.specs.Documents.{IsEdit, edited};
 ghost use Rattle.js_document.specs.Documents.{EditCause, Edits, IsDocumentOf, TextCause, change_of_new};
 ghost use Rattle.js_document.specs.declared.fault.DocumentFault.{DocumentFault};

@@ -1,7 +1,7 @@
 //! What is open, as links to it.
 
 ghost use Rattle.std.specs.Prelude.{◌≡◌, ℕ, ◌+◌, ◌<◌, ◌↔◌, List, [], ◌∷◌, drop, length, slice_get};
-ghost use Rattle.std.specs.Prelude.{IfOk, IsTrue, OnErr, OnOk};
+ghost use Rattle.std.specs.Prelude.{IfOk, IsTrue, OnErr};
 ghost use Rattle.js_document.specs.Trie.{HasMore, IsOpen, node_of};
 
 use std::alloc::{AllocError, Global};
