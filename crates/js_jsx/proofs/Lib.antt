@@ -3,3 +3,4 @@ pub mod CodeLemmas
 pub mod PlainLemmas
 pub mod ScopeLemmas
 pub mod StackLemmas
+pub mod StepLemmas

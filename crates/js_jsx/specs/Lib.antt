@@ -7,3 +7,4 @@ pub mod Jsx
 pub mod Scopes
 pub mod Stack
 pub mod States
+pub mod Steps

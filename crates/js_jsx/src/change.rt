@@ -1,6 +1,6 @@
 //! What tokens do to what is open.
 
-ghost use Rattle.std.specs.Prelude.{◌≡◌};
+ghost use Rattle.std.specs.Prelude.{◌≡◌, ◌↔◌, IsTrue};
 ghost use Rattle.js_jsx.specs.Changes.{change_in_children, change_in_code, change_in_types, change_within_tag};
 ghost use Rattle.js_jsx.specs.Changes.{element_end, ends_element, ends_tags, in_place_of_tag, next_place, place_behind};
 ghost use Rattle.js_jsx.specs.Changes.{place_in, stays, was_no_tag};
@@ -33,7 +33,7 @@ pub(crate) enum Change {
 
 /// Which of its own tokens comes next in a tag.
 #[derive(Clone, Copy)]
-pub(crate) enum TagPlace {
+pub enum TagPlace {
     /// The one behind its `<`.
     First,
     Second,
@@ -69,8 +69,21 @@ impl Change {
 }
 
 impl TagPlace {
+    /// Whether it is the same place.
+    pub fn is_same(self, other: TagPlace) -> bool
+        ensures { IsTrue result ↔ (self ≡ other) }
+    {
+        matches!(
+            (self, other),
+            (TagPlace::First, TagPlace::First)
+                | (TagPlace::Second, TagPlace::Second)
+                | (TagPlace::BehindExtends, TagPlace::BehindExtends)
+                | (TagPlace::Later, TagPlace::Later)
+        )
+    }
+
     /// Which of its tokens comes next behind one of the class.
-    pub fn next(self, class: TokenClass) -> TagPlace
+    pub(crate) fn next(self, class: TokenClass) -> TagPlace
         ensures { result ≡ next_place self class }
     {
         match (self, class) {
@@ -81,7 +94,7 @@ impl TagPlace {
     }
 
     /// Which of its tokens comes first in a scope.
-    pub fn in_scope(scope: Scope) -> TagPlace
+    pub(crate) fn in_scope(scope: Scope) -> TagPlace
         ensures { result ≡ place_in scope }
     {
         match scope {
@@ -92,7 +105,7 @@ impl TagPlace {
     }
 
     /// Whether a token of the class at this place tells that what was taken for a tag was none.
-    pub fn tells_no_tag(self, class: TokenClass) -> bool
+    pub(crate) fn tells_no_tag(self, class: TokenClass) -> bool
         ensures { result ≡ was_no_tag self class }
     {
         match self {
@@ -106,7 +119,7 @@ impl TagPlace {
     }
 
     /// Which of its own tokens comes next in what was opened last, behind a token of the class with the change.
-    pub fn behind(self, is_in_tag: bool, class: TokenClass, change: Change) -> TagPlace
+    pub(crate) fn behind(self, is_in_tag: bool, class: TokenClass, change: Change) -> TagPlace
         ensures { result ≡ place_behind is_in_tag self class change }
     {
         match change {

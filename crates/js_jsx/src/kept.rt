@@ -4,9 +4,10 @@ ghost use Rattle.std.specs.Prelude.{◌≡◌, true, OnErr, OnOk};
 ghost use Rattle.js_jsx.specs.Classes.{class_of};
 ghost use Rattle.js_jsx.specs.States.{behind, first_state, is_plain};
 
-use crate::change::{Change, TagPlace};
+use crate::change::TagPlace;
 use crate::class::{TokenClass, class_of};
-use crate::open_scopes::OpenScopes;
+use crate::open_scopes::{OpenScopes, ScopesView};
+use crate::read_scopes::are_plain;
 use crate::scope::Scope;
 use crate::state::StateView;
 use js_kind::Token;
@@ -62,7 +63,7 @@ impl KeptState {
 
     /// What is kept, to be asked.
     #[inline(always)]
-    pub fn view(&self) -> StateView<'_>
+    pub fn view(&self) -> StateView<ScopesView<'_>>
         ensures { result ≡ self.now }
     {
         StateView {
@@ -87,14 +88,11 @@ impl KeptState {
         ensures ok { OnOk result (self.new ≡ behind self.old token.now) }
         ensures err { OnErr result (self.new ≡ self.old) }
     {
-        let state = self.view();
-        let change = state.change(class);
-        let has_ended = state.has_ended_behind(token, change);
-        let place = state.place_behind(class, change);
-        self.scopes.change(change, class)?;
-        self.place = place;
-        self.has_ended = has_ended;
-        self.is_plain = self.scopes.view().are_plain(has_ended);
+        let step = self.view().step_of(class, token);
+        self.scopes.carry_out(step.scopes)?;
+        self.place = step.place;
+        self.has_ended = step.has_ended;
+        self.is_plain = are_plain(&self.scopes.view(), step.has_ended);
         self.before = *token;
         Ok(())
     }
@@ -119,8 +117,8 @@ impl KeptState {
         ensures ok { OnOk result (self.new ≡ behind self.old token.now) }
         ensures err { OnErr result (self.new ≡ self.old) }
     {
-        self.scopes.change(Change::Stays, TokenClass::RightCurly)?;
-        self.is_plain = self.scopes.view().are_plain(self.has_ended);
+        self.scopes.close(TokenClass::RightCurly);
+        self.is_plain = are_plain(&self.scopes.view(), self.has_ended);
         self.before = *token;
         Ok(())
     }

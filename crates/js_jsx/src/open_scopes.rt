@@ -1,14 +1,16 @@
-//! The scopes that are open, and what of them ends.
+//! The scopes that are open, in the order in which they were opened.
 
-ghost use Rattle.std.specs.Prelude.{◌≡◌, ◌+◌, ◌<◌, ◌^◌, ◌&&◌, not, [], ◌∷◌, drop, slice_get, OnErr, OnOk, IfSome};
-ghost use Rattle.js_jsx.specs.Changes.{changed, closed, closes, left};
-ghost use Rattle.js_jsx.specs.Scopes.{braced, from_brace, is_children, is_code, last_brace, passes, top};
-ghost use Rattle.js_jsx.specs.Scopes.{without_children, without_tags, without_types};
+ghost use Rattle.std.specs.Prelude.{◌≡◌, ◌+◌, ◌<◌, ◌^◌, [], ◌∷◌, drop, slice_get, OnErr, OnOk, IfSome};
+ghost use Rattle.js_jsx.specs.Changes.{closed};
+ghost use Rattle.js_jsx.specs.Scopes.{braced, from_brace, last_brace, without_tags, without_types};
+ghost use Rattle.js_jsx.specs.Steps.{scopes_after};
 
 use crate::change::Change;
 use crate::class::TokenClass;
+use crate::read_scopes::{ReadScopes, ended};
 use crate::scope::Scope;
 use crate::stack::{Open, OpenStack, StackView};
+use crate::step::ScopesChange;
 use std::alloc::{AllocError, Global};
 use std::marker::Model;
 
@@ -48,17 +50,6 @@ impl<'a> Model for ScopesView<'a> {
     ghost invariant = { λ s. IsCounted s.stack };
 }
 
-/// Whether a token of the class closes the scope.
-fn closes(class: TokenClass, scope: Scope) -> bool
-    ensures { result ≡ closes class (Some scope) }
-{
-    match class {
-        TokenClass::RightCurly => scope.is_curly(),
-        TokenClass::TemplateTail => scope.is_template(),
-        _ => false,
-    }
-}
-
 impl<'a> ScopesView<'a> {
     /// The scope that has so many above it, if there is one.
     fn at(&self, depth: usize) -> Option<Scope>
@@ -69,30 +60,6 @@ impl<'a> ScopesView<'a> {
             Some(item) => Some(item.scope),
             None => None,
         }
-    }
-
-    /// The scope that was opened last, if one is open.
-    pub fn top(&self) -> Option<Scope>
-        ensures { result ≡ top self.now }
-    {
-        self.at(0)
-    }
-
-    /// Whether a brace was opened last, or nothing is open.
-    pub fn are_code(&self) -> bool
-        ensures { result ≡ is_code (top self.now) }
-    {
-        match self.top() {
-            Some(scope) => scope.is_brace(),
-            None => true,
-        }
-    }
-
-    /// The same, and no operand has ended but by the last token.
-    pub fn are_plain(&self, has_ended: bool) -> bool
-        ensures { result ≡ (is_code (top self.now) && not has_ended) }
-    {
-        self.are_code() && !has_ended
     }
 
     /// How many scopes there are from the last open brace on.
@@ -119,7 +86,7 @@ impl<'a> ScopesView<'a> {
     }
 
     /// The last open brace, if one is open.
-    pub fn last_brace(&self) -> Option<Scope>
+    fn last_brace(&self) -> Option<Scope>
         ensures { result ≡ last_brace self.now }
     {
         self.at(self.above_brace())
@@ -152,66 +119,29 @@ impl<'a> ScopesView<'a> {
         }
         depth
     }
+}
 
-    /// How many scopes end with a closing tag: the tag, and the children below it.
-    fn element(&self) -> usize
-        ensures { drop result self.now ≡ without_children (drop 1 self.now) }
-    {
-        match self.at(1) {
-            Some(Scope::Children) => 2,
-            _ => 1,
-        }
+impl<'a> ReadScopes for ScopesView<'a> {
+    ghost scopes = { λ s. s };
+
+    fn at(&self, depth: usize) -> Option<Scope> {
+        ScopesView::at(self, depth)
     }
 
-    /// How many scopes end by a change that opens none.
-    fn ended_by(&self, change: Change) -> usize
-        ensures { drop result self.now ≡ left change self.now }
-    {
-        match change {
-            Change::Stays | Change::Opens(_) | Change::Becomes(_) => 0,
-            Change::EndsScope | Change::EndsEmptyElement => 1,
-            Change::EndsElement => self.element(),
-            Change::EndsTags => self.tags(),
-            Change::EndsTypes => self.types(),
-            Change::EndsUpToBrace => self.above_brace(),
-        }
+    fn last_brace(&self) -> Option<Scope> {
+        ScopesView::last_brace(self)
     }
 
-    /// How many scopes end by a change that opens none, with the one that a token of the class closes then.
-    fn ended(&self, change: Change, class: TokenClass) -> usize
-        ensures { drop result self.now ≡ closed class (left change self.now) }
-    {
-        let count = self.ended_by(change);
-        match self.at(count) {
-            Some(scope) => {
-                if closes(class, scope) {
-                    count + 1
-                } else {
-                    count
-                }
-            }
-            None => count,
-        }
+    fn above_brace(&self) -> usize {
+        ScopesView::above_brace(self)
     }
 
-    /// Whether children have so many scopes above them.
-    fn is_child_at(&self, depth: usize) -> bool
-        ensures { result ≡ passes is_children (slice_get self.now depth) }
-    {
-        match self.at(depth) {
-            Some(scope) => scope.is_children(),
-            None => false,
-        }
+    fn tags(&self) -> usize {
+        ScopesView::tags(self)
     }
 
-    /// Whether children were opened last, behind a token of the class with the change.
-    pub fn are_children_behind(&self, change: Change, class: TokenClass) -> bool
-        ensures { result ≡ passes is_children (top (changed change class self.now)) }
-    {
-        match change {
-            Change::Opens(scope) | Change::Becomes(scope) => scope.is_children(),
-            _ => self.is_child_at(self.ended(change, class)),
-        }
+    fn types(&self) -> usize {
+        ScopesView::types(self)
     }
 }
 
@@ -268,16 +198,23 @@ impl OpenScopes {
         self.stack.end(count);
     }
 
-    /// Takes up a token of the class with the change. Where there is no memory for a scope, all stay as they were.
-    pub fn change(&mut self, change: Change, class: TokenClass) -> Result<(), AllocError>
-        ensures ok { OnOk result (self.new ≡ changed change class self.old) }
+    /// Ends the scope that was opened last, if a token of the class closes it.
+    pub fn close(&mut self, class: TokenClass)
+        ensures { self.new ≡ closed class self.old }
+    {
+        let count = ended(&self.view(), Change::Stays, class);
+        self.end(count);
+    }
+
+    /// Carries out what a token changes. Where there is no memory for a scope, all stay as they were.
+    pub fn carry_out(&mut self, change: ScopesChange) -> Result<(), AllocError>
+        ensures ok { OnOk result (self.new ≡ scopes_after change self.old) }
         ensures err { OnErr result (self.new ≡ self.old) }
     {
         match change {
-            Change::Opens(scope) => self.push(scope),
-            Change::Becomes(scope) => self.replace_top(scope),
-            _ => {
-                let count = self.view().ended(change, class);
+            ScopesChange::Opens(scope) => self.push(scope),
+            ScopesChange::Becomes(scope) => self.replace_top(scope),
+            ScopesChange::Ends(count) => {
                 self.end(count);
                 Ok(())
             }

@@ -5,7 +5,7 @@ ghost use Rattle.js_jsx.specs.Scopes.{is_brace, is_children, is_curly, is_tag, i
 
 /// What a token may stand in.
 #[derive(Clone, Copy)]
-pub(crate) enum Scope {
+pub enum Scope {
     /// A block, an object or another thing between `{` and `}`.
     Block,
     /// A substitution in a template, between `${` and `}`.
@@ -31,14 +31,14 @@ impl Scope {
     }
 
     /// Whether it stands between `{` and `}`.
-    pub fn is_curly(self) -> bool
+    pub(crate) fn is_curly(self) -> bool
         ensures { result ≡ is_curly self }
     {
         matches!(self, Scope::Block | Scope::Container)
     }
 
     /// Whether it is a substitution in a template.
-    pub fn is_template(self) -> bool
+    pub(crate) fn is_template(self) -> bool
         ensures { result ≡ is_template self }
     {
         matches!(self, Scope::Template)
@@ -62,14 +62,14 @@ impl Scope {
     }
 
     /// Whether it is type arguments.
-    pub fn is_types(self) -> bool
+    pub(crate) fn is_types(self) -> bool
         ensures { result ≡ is_types self }
     {
         matches!(self, Scope::TypeArguments)
     }
 
     /// Whether it is what stands between two tags.
-    pub fn is_children(self) -> bool
+    pub(crate) fn is_children(self) -> bool
         ensures { result ≡ is_children self }
     {
         matches!(self, Scope::Children)

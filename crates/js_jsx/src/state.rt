@@ -2,21 +2,24 @@
 
 ghost use Rattle.std.specs.Prelude.{◌≡◌, ◌||◌, Some, slice_get, if◌then◌else◌};
 ghost use Rattle.js_jsx.specs.Changes.{ends_element, place_behind};
+ghost use Rattle.js_jsx.specs.Classes.{class_of};
 ghost use Rattle.js_jsx.specs.Choice.{begins_child, begins_expression, begins_value, choice_at_end, choice_behind};
 ghost use Rattle.js_jsx.specs.Choice.{ends_substitution, goes_on_as_name, is_dash, is_in_template, is_tag_in_template};
 ghost use Rattle.js_jsx.specs.Choice.{reads_behind};
 ghost use Rattle.js_jsx.specs.InCode.{choice_in_code, command_at_slash, reads_behind_brace};
 ghost use Rattle.js_jsx.specs.Scopes.{is_children, is_code, is_tag, is_types, passes, top};
-ghost use Rattle.js_jsx.specs.States.{change_in_tag, change_of, ends, has_brace};
+ghost use Rattle.js_jsx.specs.States.{behind, change_in_tag, change_of, ends, has_brace};
 ghost use Rattle.js_jsx.specs.States.{is_right_bracket, keeps_operand, may_open, takes_bang, takes_types};
+ghost use Rattle.js_jsx.specs.Steps.{after_step};
 
 use crate::change::{
     Change, TagPlace, change_in_children, change_in_code, change_in_types, change_within_tag,
     ends_tags,
 };
 use crate::class::{TokenClass, class_of};
-use crate::open_scopes::ScopesView;
+use crate::read_scopes::{ReadScopes, are_children_behind, are_code, scopes_change, top};
 use crate::scope::Scope;
+use crate::step::StateStep;
 use js_choose::ends_operand;
 use js_grammar::Goal;
 use js_kind::{Kind, Token};
@@ -25,9 +28,9 @@ use std::marker::Model;
 
 /// What is kept of the tokens so far, as it is asked.
 #[derive(Drop)]
-pub(crate) struct StateView<'a> {
+pub struct StateView<S: ReadScopes> {
     /// What is open.
-    pub scopes: ScopesView<'a>,
+    pub scopes: S,
     /// Which of its own tokens comes next in what was opened last, if it is a tag.
     pub place: TagPlace,
     /// Whether an operand has ended though the last token does not tell.
@@ -36,12 +39,12 @@ pub(crate) struct StateView<'a> {
     pub before: Kind,
 }
 
-impl<'a> Model for StateView<'a> {
+impl<S: ReadScopes> Model for StateView<S> {
     ghost use Rattle.js_jsx.specs.States.{State};
 
     ghost Value = { State };
 
-    ghost view = { λ s. record { scopes = s.scopes; place = s.place; has_ended = s.has_ended; before = s.before } };
+    ghost view = { λ s. record { scopes = S.scopes s.scopes; place = s.place; has_ended = s.has_ended; before = s.before } };
 }
 
 /// Whether type parameters may stand behind a word of the kind.
@@ -95,7 +98,7 @@ fn child_or_next(is_child: bool) -> Command
     }
 }
 
-impl<'a> StateView<'a> {
+impl<S: ReadScopes> StateView<S> {
     /// Whether an operand may have ended.
     fn ends(&self) -> bool
         ensures { result ≡ ends self.now }
@@ -132,10 +135,10 @@ impl<'a> StateView<'a> {
     }
 
     /// What a token of the class does to what is open.
-    pub fn change(&self, class: TokenClass) -> Change
+    fn change(&self, class: TokenClass) -> Change
         ensures { result ≡ change_of self.now class }
     {
-        match self.scopes.top() {
+        match top(&self.scopes) {
             None | Some(Scope::Block | Scope::Template | Scope::Container) => {
                 change_in_code(self.may_open(), class)
             }
@@ -150,7 +153,7 @@ impl<'a> StateView<'a> {
     fn is_in_tag(&self) -> bool
         ensures { result ≡ passes is_tag (top self.now.scopes) }
     {
-        match self.scopes.top() {
+        match top(&self.scopes) {
             Some(scope) => scope.is_tag(),
             None => false,
         }
@@ -160,7 +163,7 @@ impl<'a> StateView<'a> {
     fn is_in_types(&self) -> bool
         ensures { result ≡ passes is_types (top self.now.scopes) }
     {
-        match self.scopes.top() {
+        match top(&self.scopes) {
             Some(scope) => scope.is_types(),
             None => false,
         }
@@ -170,7 +173,7 @@ impl<'a> StateView<'a> {
     fn is_in_children(&self) -> bool
         ensures { result ≡ passes is_children (top self.now.scopes) }
     {
-        match self.scopes.top() {
+        match top(&self.scopes) {
             Some(scope) => scope.is_children(),
             None => false,
         }
@@ -180,7 +183,7 @@ impl<'a> StateView<'a> {
     fn is_in_code(&self) -> bool
         ensures { result ≡ is_code (top self.now.scopes) }
     {
-        self.scopes.are_code()
+        are_code(&self.scopes)
     }
 
     /// Whether the token is a `!` that leaves an operand ended.
@@ -194,7 +197,7 @@ impl<'a> StateView<'a> {
     }
 
     /// Whether an operand has ended behind the token with the change, though it does not tell.
-    pub fn has_ended_behind(&self, token: &Token, change: Change) -> bool
+    fn has_ended_behind(&self, token: &Token, change: Change) -> bool
         ensures { result ≡ (ends_element change || keeps_operand self.now token.now) }
     {
         change.ends_element() || self.keeps_operand(token)
@@ -202,17 +205,38 @@ impl<'a> StateView<'a> {
 
     /// Which of its own tokens comes next in what was opened last, if it is a tag, behind one of the class with the
     /// change.
-    pub fn place_behind(&self, class: TokenClass, change: Change) -> TagPlace
+    fn place_behind(&self, class: TokenClass, change: Change) -> TagPlace
         ensures { result ≡ place_behind (passes is_tag (top self.now.scopes)) self.now.place class change }
     {
         self.place.behind(self.is_in_tag(), class, change)
+    }
+
+    /// What a token of the class changes.
+    #[inline(always)]
+    pub(crate) fn step_of(&self, class: TokenClass, token: &Token) -> StateStep
+        requires { class_of token.now.kind ≡ class }
+        ensures { after_step self.now result token.now.kind ≡ behind self.now token.now }
+    {
+        let change = self.change(class);
+        StateStep {
+            has_ended: self.has_ended_behind(token, change),
+            place: self.place_behind(class, change),
+            scopes: scopes_change(&self.scopes, change, class),
+        }
+    }
+
+    /// What a token changes of what is kept: carried out, that leaves what is kept behind it.
+    pub fn step(&self, token: &Token) -> StateStep
+        ensures { after_step self.now result token.now.kind ≡ behind self.now token.now }
+    {
+        self.step_of(class_of(token.kind()), token)
     }
 
     /// Whether a `}` ends a substitution in a template.
     fn is_in_template(&self) -> bool
         ensures { result ≡ is_in_template self.now }
     {
-        match self.scopes.top() {
+        match top(&self.scopes) {
             Some(Scope::Template) => true,
             Some(Scope::OpeningTag | Scope::ClosingTag) => self.is_tag_in_template(),
             _ => false,
@@ -264,7 +288,7 @@ impl<'a> StateView<'a> {
     fn begins_child(&self, class: TokenClass) -> bool
         ensures { result ≡ begins_child self.now class }
     {
-        !self.is_in_types() && self.scopes.are_children_behind(self.change(class), class)
+        !self.is_in_types() && are_children_behind(&self.scopes, self.change(class), class)
     }
 
     /// How the next token is read behind one of the class.
@@ -311,7 +335,7 @@ impl<'a> StateView<'a> {
     fn reads_behind_brace(&self, class: TokenClass) -> Command
         ensures { result ≡ reads_behind_brace self.now class }
     {
-        child_or_next(self.scopes.are_children_behind(Change::Stays, class))
+        child_or_next(are_children_behind(&self.scopes, Change::Stays, class))
     }
 
     /// The command behind a `/` or `/=` in code.
@@ -340,7 +364,8 @@ impl<'a> StateView<'a> {
         }
     }
 
-    /// The command behind a last token of the text.
+    /// The command that comes behind a last token of the text, where this is kept of the tokens before it. None: no
+    /// command follows.
     #[cold]
     #[inline(never)]
     pub fn command(&self, text: &str, last: Token) -> Option<Command>

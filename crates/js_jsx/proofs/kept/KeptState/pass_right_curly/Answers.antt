@@ -10,6 +10,6 @@ returns-clause-ok c =
     let token = c.args.token.now in
     let state : State =
     record { scopes = old.scopes; place = old.place; has_ended = old.has_ended; before = old.before.kind } in
-    ap (λ (scopes : List Scope). record state { scopes = scopes; before = token.kind }) c.in_ok-change.ensures.ok
+    ap (λ (scopes : List Scope). record state { scopes = scopes; before = token.kind }) c.close.ensures
     ∙ behind_right_curly state token (ap is_plain c.self.view_is ∙ c.requires.plain) c.requires.class
     ∙ ap (λ (s : State). behind s token) c.self.view_is
