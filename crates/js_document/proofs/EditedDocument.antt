@@ -19,6 +19,7 @@ use Rattle.js_session.proofs.RowsWithin.{row_weaker}
 use Rattle.js_choose.specs.Rules.{IsRule, Rule}
 use Rattle.js_choose.proofs.ChosenLemmas.{ChosenFrom}
 use Rattle.js_relex.specs.Documents.{IsEdit, edited}
+use Rattle.js_relex.specs.Joined.{at_start}
 use Rattle.js_document.specs.declared.gap.Entry.{Entry}
 use Rattle.js_document.specs.declared.open.Node.{Node}
 use Rattle.js_document.specs.Documents.{IsKept}
@@ -408,8 +409,7 @@ module _ {K : Type 0} (rule : Rule) (law : IsRule rule) (Alike : Alikeness) (cho
       alike : Alike new_state.now.tokens old_state.now.tokens
       alike =
           subst (λ ts. Alike ts old_state.now.tokens) (sym new_tokens)
-          (joins.joins.alike old_state.now.tokens old_last known_there old_goes.last_is
-          (ap (λ (x : TokenParts). x.kind) old_last_is))
+          (joins.joins.alike old_state.now.tokens old_last known_there old_goes.last_is (ap at_start old_last_is))
 
       long_text : length text + end ≡ length old_text + to
       long_text =

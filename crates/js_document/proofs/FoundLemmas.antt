@@ -123,7 +123,7 @@ module _ {A : Type 0} (list : Findings → List A) (law : (a b : Findings) → l
       by_row : Follows last row
           → list (after_row (row_effect row.command) row (record { now = now; marks = [] })).now.findings
           ≡ list now.findings ++ list (row_findings row)
-      by_row (on reads) = found_on (row_effect row.command) row now reads
+      by_row (on reads apart) = found_on (row_effect row.command) row now reads
       by_row (again reads taken start) = found_again (row_effect row.command) row now reads taken
 
   pub found_live : (rule : Rule) → (is_rule : IsRule rule) → (text : List ℕ) (t : SourceType) (rows : List Row)

@@ -10,6 +10,7 @@ use Rattle.std.proofs.lemmas.Option.{slice_get-get_or}
 use Rattle.js_kind.specs.TokenParts.{TokenParts}
 use Rattle.js_session.specs.declared.row.Row.{Row}
 use Rattle.js_session.specs.Shifted.{shifted_token}
+use Rattle.js_relex.specs.Joined.{at_start}
 use Rattle.js_document.specs.declared.gap.Entry.{Entry}
 use Rattle.js_document.specs.declared.open.Node.{Node}
 use Rattle.js_document.specs.Gap.{AreInOrder, ComesLater, rows_of}
@@ -111,7 +112,7 @@ NoneUntil {K} knows Alike nodes j token state index =
     (tokens : List TokenParts) → knows nodes state tokens → IsLast token tokens → (left : ℕ) (entry : Entry K)
     → left < index → slice_get j.back left ≡ Some entry → IsHeldToken {K = K} j token entry
     → (others : List TokenParts) (other : TokenParts) → knows nodes entry.state others → IsLast other others
-    → other.kind ≡ entry.row.token.kind → Alike tokens others → ⊥
+    → at_start other ≡ at_start entry.row.token → Alike tokens others → ⊥
 
 module _ {K : Type 0} (knows : Knowledge K) (Alike : Alikeness) (nodes : List Node) (j : JoiningState K)
     (token padded : TokenParts) (state : K) (is_padded : padded ≡ shifted_token 0 j.pad token) where
@@ -129,7 +130,7 @@ module _ {K : Type 0} (knows : Knowledge K) (Alike : Alikeness) (nodes : List No
   -- the next one is not joined either
   pub none_next : (left : ℕ) (entry : Entry K) → slice_get j.back left ≡ Some entry
       → ((tokens others : List TokenParts) (other : TokenParts) → knows nodes state tokens
-      → knows nodes entry.state others → IsLast token tokens → IsLast other others → other.kind ≡ token.kind
+      → knows nodes entry.state others → IsLast token tokens → IsLast other others → at_start other ≡ at_start token
       → entry.row.token ≡ padded → Alike tokens others → ⊥)
       → NoneUntil {K = K} knows Alike nodes j token state left
       → NoneUntil {K = K} knows Alike nodes j token state (left + 1)
@@ -145,7 +146,7 @@ module _ {K : Type 0} (knows : Knowledge K) (Alike : Alikeness) (nodes : List No
           let one : e ≡ entry = cc in
           let is_token : e.row.token ≡ padded = held.same ∙ sym is_padded in
           differ tokens others other known (subst (λ (x : Entry K). knows nodes x.state others) one known_others) last
-          is_last (kind ∙ ap (λ (t : TokenParts). t.kind) held.same)
+          is_last (kind ∙ ap at_start held.same)
           (ap (λ (x : Entry K). x.row.token) (sym one) ∙ is_token) alike
 
   -- where the next one starts elsewhere, none is
@@ -177,7 +178,7 @@ module _ {K : Type 0} (knows : Knowledge K) (Alike : Alikeness) (nodes : List No
   pub joins_here : (left : ℕ) (entry : Entry K) → slice_get j.back left ≡ Some entry → j.limit ≤ padded.start
       → entry.row.token ≡ padded → (tokens : List TokenParts)
       → ((others : List TokenParts) (other : TokenParts) → knows nodes entry.state others → IsLast other others
-      → other.kind ≡ token.kind → Alike tokens others) → JoinsHeld {K = K} knows Alike nodes j token tokens left
+      → at_start other ≡ at_start token → Alike tokens others) → JoinsHeld {K = K} knows Alike nodes j token tokens left
   joins_here left entry there far same tokens alike = record {
     entry = entry;
     is_there = there;
@@ -187,7 +188,7 @@ module _ {K : Type 0} (knows : Knowledge K) (Alike : Alikeness) (nodes : List No
     };
     alike = λ others other known_others is_last kind.
         alike others other known_others is_last
-        (kind ∙ ap (λ (t : TokenParts). t.kind) (same ∙ is_padded));
+        (kind ∙ ap at_start (same ∙ is_padded));
   }
 
   -- a token before the edit is none that is held

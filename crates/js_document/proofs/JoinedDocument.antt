@@ -10,7 +10,7 @@ use Rattle.js_kind.specs.TokenParts.{TokenParts}
 use Rattle.js_session.specs.declared.row.Row.{Row}
 use Rattle.js_session.specs.Shifted.{shifted, shifted_row, shifted_token}
 use Rattle.js_choose.specs.Rules.{IsRule, Rule}
-use Rattle.js_relex.specs.Joined.{IsMovedToken}
+use Rattle.js_relex.specs.Joined.{IsMovedToken, at_start}
 use Rattle.js_document.specs.declared.gap.Entry.{Entry}
 use Rattle.js_document.specs.declared.open.Node.{Node}
 use Rattle.js_document.specs.Documents.{DocState, JoinsRow, commands_of, tokens_behind}
@@ -256,7 +256,7 @@ module _ {K : Type 0} (rule : Rule) (law : IsRule rule) (Alike : Alikeness) (kno
             none (length g.back - 1 - n) entry (ap (λ b. slice_get b (length g.back - 1 - n)) back_is ∙ here)
             (record { behind = omega (arith, from, pad_start, limit_is); same = held })
             (with_rows [] (take (suc joins.old_index) all)) joins.old_row.token known_here
-            (old_last joins.old_index joins.old_row there) (ap (λ (r : Row). r.token.kind) row_is) alike
+            (old_last joins.old_index joins.old_row there) (ap (λ (r : Row). at_start r.token) row_is) alike
           where
             less_new : index < length new_rows
             less_new = less

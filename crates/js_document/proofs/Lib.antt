@@ -23,6 +23,7 @@ pub mod HeldReport
 pub mod InTurnLemmas
 pub mod JoinLemmas
 pub mod JoinedDocument
+pub mod JsxLemmas
 pub mod KeptDocument
 pub mod KeptLemmas
 pub mod KeptPlaces
@@ -30,7 +31,9 @@ pub mod KnownLemmas
 pub mod LastTokens
 pub mod ListLemmas
 pub mod LiveRows
+pub mod LiveValues
 pub mod LoopLemmas
+pub mod OpenedLemmas
 pub mod OrderLemmas
 pub mod ReadLemmas
 pub mod ReadParts

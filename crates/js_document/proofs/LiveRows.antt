@@ -3,7 +3,7 @@ use Rattle.std.proofs.Common.{◌≡◌, ℕ, zero, suc, ◌+◌, ◌<◌, ◌�
 use Rattle.std.proofs.Common.{refl, sym, ◌∙◌, ap, subst, arith, append_assoc, Some, None}
 use Rattle.std.specs.List.{AllByRecursion}
 use Rattle.std.specs.Prelude.{MatchBool, if◌then◌else◌, slice_get}
-use Rattle.std.specs.Str.{IsUtf8}
+use Rattle.std.specs.Str.{IsCharBoundary, IsUtf8}
 use Rattle.std.proofs.lemmas.Bool.{leb-false, leb-true}
 use Rattle.std.proofs.lemmas.List.{take-append-drop}
 use Rattle.js_text.specs.declared.source_type.SourceType.{SourceType}
@@ -17,9 +17,10 @@ use Rattle.js_session.specs.declared.command.Effect.TheVariants.{Reads, Peeks, R
 use Rattle.js_session.specs.declared.row.Row.{Row}
 use Rattle.js_session.specs.Effects.{effect_of, row_effect}
 use Rattle.js_session.specs.Live.{State, after_row, last_live, outcome_of, state_after_first, with_re_lexed}
-use Rattle.js_session.specs.Report.{IsNotTaken, IsOfEffect, IsReLexed, IsRow, Run}
+use Rattle.js_session.specs.Report.{IsNotTaken, IsOfEffect, IsRead, IsReLexed, IsRow, Run}
 use Rattle.js_session.proofs.LastingRuns.{GoesOnBehind, behind_first, lasting_steps}
 use Rattle.js_session.proofs.LiveLemmas.{with_last-append}
+use Rattle.js_session.proofs.WholeLemmas.{row_onward}
 use Rattle.js_choose.specs.Rules.{IsDue, IsRule, Rule}
 use Rattle.js_choose.specs.Rules.IsDue.{reads_on as due_on, reads_again as due_again}
 use Rattle.js_choose.proofs.ChosenLemmas.{ChosenFrom}
@@ -40,9 +41,9 @@ use Rattle.js_document.proofs.OrderLemmas.{over, rows_ordered}
 use Rattle.js_document.proofs.RuleLemmas.{goes_behind}
 use Rattle.js_document.proofs.TokenLemmas.{by_effect, rows_both}
 
--- The row reads a token behind the last one, or that one again, from where it starts.
+-- The row reads a token behind the last one, from its end on, or that one again, from where it starts.
 pub data Follows (last : TokenParts) (row : Row) : Type 0 where
-  on : reads_on row ≡ true → Follows last row
+  on : reads_on row ≡ true → last.end ≤ row.token.start → Follows last row
   again : reads_again row ≡ true → row.taken ≡ true → row.token.start ≡ last.start → Follows last row
 
 -- Each of the rows does, behind the token of the one before it.
@@ -57,7 +58,11 @@ follows_due text t s c row last u behind due is = by_due due
   where
     by_due : IsDue text s.now.tokens c → Follows last row
     by_due (due_on goal effect onward later may) =
-        on (ap (λ o. on_effect (row_effect o)) is.command_is ∙ ap on_effect effect)
+        let read : IsRead text t s.now goal row = subst (λ e. IsOfEffect text t s.now e row) effect is.gives in
+        let place : row.place ≡ last.end = is.place ∙ ap (λ o. (token_or_default o).end) behind.last_is in
+        let start : IsCharBoundary text row.place = subst (IsCharBoundary text) (sym place) behind.may.lies.end in
+        let from = (row_onward text t s.now goal row onward u start read is.places).onward in
+        on (ap (λ o. on_effect (row_effect o)) is.command_is ∙ ap on_effect effect) (omega (arith, place, from))
     by_due (due_again goal effect final it is_last fit) =
         let same : it ≡ last = (let e : Some it ≡ Some last = sym is_last ∙ behind.last_is in cc) in
         let fits_it : fits text goal last ≡ true =
@@ -98,7 +103,7 @@ effect_on Opens row tokens reads = absurd (cc)
 effect_on Rewinds row tokens reads = absurd (cc)
 effect_on Commits row tokens reads = absurd (cc)
 
-not_again : (e : Effect) → on_effect e ≡ true → again_effect e ≡ false
+pub not_again : (e : Effect) → on_effect e ≡ true → again_effect e ≡ false
 not_again (Reads goal) reads = refl
 not_again (Peeks goal) reads = refl
 not_again (ReLexes goal) reads = absurd (cc)
@@ -139,7 +144,7 @@ live_behind_token (row ∷ rows) last before follows =
         → with_rows ((before ++ last ∷ []) ++ row.token ∷ []) rows ≡ (before ++ last ∷ []) ++ tokens_with row.token rows
         → with_rows (before ++ row.token ∷ []) rows ≡ before ++ tokens_with row.token rows
         → with_rows (before ++ last ∷ []) (row ∷ rows) ≡ before ++ tokens_with last (row ∷ rows)
-    by_row (on reads) behind instead =
+    by_row (on reads apart) behind instead =
         ap (λ ts. with_rows ts rows) (effect_on (row_effect row.command) row (before ++ last ∷ []) reads)
         ∙ behind ∙ append_assoc before (last ∷ []) (tokens_with row.token rows)
         ∙ ap (λ ts. before ++ ts) (chosen false (not_again (row_effect row.command) reads))
@@ -254,7 +259,7 @@ module _ (rule : Rule) (law : IsRule rule) (text : List ℕ) (t : SourceType) (r
               there = ap (λ rs. slice_get rs (suc index)) (sym a.rows_are) ∙ at
 
               by_follows : Follows is.row.token next → reads_on next ≡ true
-              by_follows (on reads) = reads
+              by_follows (on reads apart) = reads
               by_follows (again reads taken start) =
                   let past = is.none_later (suc index) next (omega arith) at in
                   let starts = is.starts in

@@ -22,20 +22,20 @@ use Rattle.js_document.proofs.KeptLemmas.{all_joined, order_first, order_rest, r
 use Rattle.js_document.proofs.ListLemmas.{get_dropped, get_left, get_right, get_turned, get_within, map_turned}
 
 -- what an item of a list is made of
-get_mapped : {A B : Type 0} (f : A → B) (xs : List A) (n : ℕ) (y : B) → slice_get (map f xs) n ≡ Some y
+pub get_mapped : {A B : Type 0} (f : A → B) (xs : List A) (n : ℕ) (y : B) → slice_get (map f xs) n ≡ Some y
     → (x : A) × (slice_get xs n ≡ Some x) × (f x ≡ y)
 get_mapped f [] n y at = absurd (cc)
 get_mapped f (x ∷ xs) zero y at = (x, refl, (let same : f x ≡ y = cc in same))
 get_mapped f (x ∷ xs) (suc n) y at = get_mapped f xs n y at
 
-put_mapped : {A B : Type 0} (f : A → B) (xs : List A) (n : ℕ) (x : A) → slice_get xs n ≡ Some x
+pub put_mapped : {A B : Type 0} (f : A → B) (xs : List A) (n : ℕ) (x : A) → slice_get xs n ≡ Some x
     → slice_get (map f xs) n ≡ Some (f x)
 put_mapped f [] n x at = absurd (cc)
 put_mapped f (y ∷ ys) zero x at = (let same : y ≡ x = cc in ap (λ z. Some (f z)) same)
 put_mapped f (y ∷ ys) (suc n) x at = put_mapped f ys n x at
 
 -- an item that there is
-get_there : {A : Type 0} (xs : List A) (n : ℕ) → n < length xs → (x : A) × (slice_get xs n ≡ Some x)
+pub get_there : {A : Type 0} (xs : List A) (n : ℕ) → n < length xs → (x : A) × (slice_get xs n ≡ Some x)
 get_there [] n less = absurd (omega (arith, less))
 get_there (x ∷ xs) zero less = (x, refl)
 get_there (x ∷ xs) (suc n) less = get_there xs n (omega (arith, less))

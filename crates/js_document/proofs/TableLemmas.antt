@@ -8,7 +8,8 @@ use Rattle.std.proofs.lemmas.List.{length-set}
 use Rattle.std.proofs.lemmas.Option.{slice_get_within}
 use Rattle.js_document.specs.declared.open.Node.{Node}
 use Rattle.js_document.specs.AutoLaws.{still_there}
-use Rattle.js_document.specs.Trie.{IsChild, IsHeld, IsOpen, IsTable, place_of}
+use Rattle.js_document.specs.Trie.{IsChild, IsHeld, IsOpen, IsTable, brace_with, place_of}
+use Rattle.js_document.proofs.OpenedLemmas.{still_brace}
 use Rattle.js_document.proofs.TrieLemmas.{link_inside, opens_child}
 
 -- the item that is set, and the others
@@ -105,10 +106,12 @@ module _ (nodes : List Node) (children more : List ℕ) (table : IsTable nodes c
           place =
               still_there children more (place_of node.parent node.scope) (suc number) held.place;
         };
+    braces = table.braces;
   }
 
   module _ (node : Node) (inside : node.parent ≤ length nodes) (few_scopes : node.scope < 8)
-      (empty : slice_get children (place_of node.parent node.scope) ≡ Some 0) (long : length more ≡ 8) where
+      (empty : slice_get children (place_of node.parent node.scope) ≡ Some 0) (long : length more ≡ 8)
+      (tells : node.brace ≡ brace_with nodes node.parent node.scope) where
     within : place_of node.parent node.scope < length (children ++ more)
     within =
         slice_get_within (children ++ more) (place_of node.parent node.scope) 0
@@ -188,6 +191,21 @@ module _ (nodes : List Node) (children more : List ℕ) (table : IsTable nodes c
               place = set_there (children ++ more) (place_of node.parent node.scope) (suc (length nodes)) within;
             }))
 
+    braces_more : (number : ℕ) (other : Node) → slice_get (nodes ++ node ∷ []) number ≡ Some other
+        → other.brace ≡ brace_with (nodes ++ node ∷ []) other.parent other.scope
+    braces_more number other is = by_place (is_pushed nodes node number other is)
+      where
+        by_place : (slice_get nodes number ≡ Some other) ⊎ ((number ≡ length nodes) × (node ≡ other))
+            → other.brace ≡ brace_with (nodes ++ node ∷ []) other.parent other.scope
+        by_place (inl there) =
+            let before = (table.held number other there).before in
+            let less = slice_get_within nodes number other there in
+            table.braces number other there
+            ∙ sym (still_brace nodes (node ∷ []) other.parent other.scope (omega (arith, before, less)))
+        by_place (inr last) =
+            subst (λ (o : Node). o.brace ≡ brace_with (nodes ++ node ∷ []) o.parent o.scope) last.1
+            (tells ∙ sym (still_brace nodes (node ∷ []) node.parent node.scope inside))
+
     -- The table with the node, which the link of its parent tells.
     pub node_more : IsTable (nodes ++ node ∷ [])
         (slice_set (children ++ more) (place_of node.parent node.scope) (suc (length nodes)))
@@ -200,4 +218,5 @@ module _ (nodes : List Node) (children more : List ℕ) (table : IsTable nodes c
           omega (arith, room, all, set, nodes_long, long));
       told = told_more;
       held = held_more;
+      braces = braces_more;
     }

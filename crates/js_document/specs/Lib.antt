@@ -5,7 +5,11 @@ pub mod Edited
 pub mod Found
 pub mod Gap
 pub mod InTurn
+pub mod JsxLaws
+pub mod JsxStates
+pub mod LinkedScopes
 pub mod LiveTokens
 pub mod Reading
 pub mod States
 pub mod Trie
+pub mod Values

@@ -15,6 +15,7 @@ use Rattle.js_session.specs.Report.{IsRow, Run}
 use Rattle.js_session.specs.Session.{RunsFrom, SessionState}
 use Rattle.js_session.specs.Shifted.{shifted_token}
 use Rattle.js_choose.specs.Rules.{Rule}
+use Rattle.js_relex.specs.Joined.{at_start}
 use Rattle.js_document.specs.declared.gap.Entry.{Entry}
 use Rattle.js_document.specs.declared.open.Node.{Node}
 use Rattle.js_document.specs.Gap.{rows_of}
@@ -80,7 +81,7 @@ pub record JoinsHeld {K : Type 0} (knows : Knowledge K) (Alike : Alikeness) (nod
   pub is_there : slice_get j.back left ≡ Some entry
   pub is_held : IsHeldToken {K = K} j token entry
   pub alike : (others : List TokenParts) (other : TokenParts) → knows nodes entry.state others → IsLast other others
-      → other.kind ≡ entry.row.token.kind → Alike tokens others
+      → at_start other ≡ at_start entry.row.token → Alike tokens others
 
 -- It joins none.
 abbrev pub JoinsNone : {K : Type 0} → Knowledge K → Alikeness → List Node → JoiningState K → TokenParts
@@ -88,7 +89,7 @@ abbrev pub JoinsNone : {K : Type 0} → Knowledge K → Alikeness → List Node 
 JoinsNone {K} knows Alike nodes j token tokens =
     (left : ℕ) (entry : Entry K) → slice_get j.back left ≡ Some entry → IsHeldToken {K = K} j token entry
     → (others : List TokenParts) (other : TokenParts) → knows nodes entry.state others → IsLast other others
-    → other.kind ≡ entry.row.token.kind → Alike tokens others → ⊥
+    → at_start other ≡ at_start entry.row.token → Alike tokens others → ⊥
 
 -- The entries before the index start behind the place, and those from it on do not.
 pub record IsSeam {K : Type 0} (back : List (Entry K)) (start seam : ℕ) : Type 0 where

@@ -1,6 +1,6 @@
 -- What may be open, as nodes with links.
 use Rattle.std.specs.Prelude.{◌≡◌, ℕ, zero, suc, ◌+◌, ◌*◌, ◌<◌, ◌≤◌, List, [], ◌∷◌, ◌++◌, length, Option, Some, None}
-use Rattle.std.specs.Prelude.{slice_get}
+use Rattle.std.specs.Prelude.{Bool, true, false, ◌==◌, slice_get, if◌then◌else◌}
 use Rattle.js_document.specs.declared.open.Node.{Node}
 
 -- The link leads to a node, which has this scope.
@@ -20,6 +20,39 @@ IsOpen nodes link (scope ∷ scopes) = (leads : LeadsTo nodes link scope) × IsO
 abbrev pub node_of : List Node → ℕ → Option Node
 node_of nodes zero = None
 node_of nodes (suc number) = slice_get nodes number
+
+-- the scopes of a node and of those below it
+abbrev pub opened_with : (ℕ → List ℕ) → Option Node → List ℕ
+opened_with below None = []
+opened_with below (Some node) = node.scope ∷ below node.parent
+
+-- the scopes that are open where the link leads to, so many at most
+abbrev pub opened_by : ℕ → List Node → ℕ → List ℕ
+opened_by zero nodes link = []
+opened_by (suc most) nodes link = opened_with (opened_by most nodes) (node_of nodes link)
+
+-- The scopes that are open where the link leads to, the one that was opened last first: no more than the number of the
+-- link, since each node stands behind its parent. None are open where it leads nowhere.
+abbrev pub opened : List Node → ℕ → List ℕ
+opened nodes link = opened_by link nodes link
+
+-- a brace opens the first three of the scopes
+abbrev pub is_brace : ℕ → Bool
+is_brace scope = if scope == 0 then true else if scope == 1 then true else if scope == 2 then true else false
+
+-- the last open brace, if one is open
+abbrev pub last_brace : List ℕ → Option ℕ
+last_brace [] = None
+last_brace (scope ∷ scopes) = if is_brace scope then Some scope else last_brace scopes
+
+-- the last open brace that a node tells, if there is one
+abbrev pub told_brace : Option Node → Option ℕ
+told_brace None = None
+told_brace (Some node) = node.brace
+
+-- the one that a node of the scope below this link is to tell
+abbrev pub brace_with : List Node → ℕ → ℕ → Option ℕ
+brace_with nodes link scope = if is_brace scope then Some scope else told_brace (node_of nodes link)
 
 -- The new nodes are the old ones, and perhaps more behind them.
 pub record HasMore (old new : List Node) : Type 0 where
@@ -49,3 +82,5 @@ pub record IsTable (nodes : List Node) (children : List ℕ) : Type 0 where
   pub told : (link scope child : ℕ) → scope < 8
       → slice_get children (place_of link scope) ≡ Some (suc child) → IsChild nodes link scope child
   pub held : (number : ℕ) (node : Node) → slice_get nodes number ≡ Some node → IsHeld children number node
+  pub braces : (number : ℕ) (node : Node) → slice_get nodes number ≡ Some node
+      → node.brace ≡ brace_with nodes node.parent node.scope

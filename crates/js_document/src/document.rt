@@ -8,6 +8,7 @@ ghost use Rattle.js_document.specs.declared.fault.DocumentFault.{DocumentFault};
 mod edits;
 mod found;
 mod items;
+mod values;
 
 use crate::change::{Change, change_of_new};
 use crate::edit::{is_overlong, stays_short};

@@ -9,6 +9,7 @@ ghost use Rattle.js_document.specs.Gap.{last_entry, shifted_entry};
 
 mod found;
 mod rows;
+mod values;
 
 use crate::counts::FoundCounts;
 use js_kind::Token;

@@ -3,6 +3,7 @@
 ghost use Rattle.std.specs.Prelude.{◌≡◌, ◌↔◌, ◌≤◌, ◌+◌, ◌<◌, ◌^◌, List, reverse, None, IfSome, IsTrue};
 ghost use Rattle.js_session.specs.Shifted.{shifted_token};
 ghost use Rattle.js_kind.specs.TokenParts.{TokenParts};
+ghost use Rattle.js_relex.specs.Joined.{at_start};
 ghost use Rattle.js_document.specs.Gap.{AreInOrder, rows_of};
 ghost use Rattle.js_document.specs.Reading.{IsSeam, JoinsHeld, JoinsNone};
 ghost use Rattle.js_document.specs.States.{IsLast};
@@ -77,7 +78,7 @@ impl<'d, K: KeepGoals> Joining<'d, K> {
         ensures same { IsTrue result → entry.now.row.token ≡ padded.now }
         ensures alike { (tokens others : List TokenParts) (other : TokenParts) → K.knows open.now state tokens
             → K.knows open.now entry.now.state others → IsLast token.now tokens → IsLast other others
-            → other.kind ≡ token.now.kind → entry.now.row.token ≡ padded.now → IsTrue result ↔ K.alike tokens others }
+            → at_start other ≡ at_start token.now → entry.now.row.token ≡ padded.now → IsTrue result ↔ K.alike tokens others }
     {
         if !entry.row.token.is_same(padded) {
             return false;

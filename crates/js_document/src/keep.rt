@@ -6,6 +6,7 @@ ghost use Rattle.js_kind.specs.TokenParts.{TokenParts};
 ghost use Rattle.js_grammar.specs.ReLexed.{is_re_lexed};
 ghost use Rattle.js_session.specs.declared.command.Command.{Command};
 ghost use Rattle.js_choose.specs.Rules.{IsRule};
+ghost use Rattle.js_relex.specs.Joined.{at_start};
 ghost use Rattle.js_document.specs.declared.open.Node.{Node};
 ghost use Rattle.js_document.specs.States.{AlikeAgain, AlikeBehind, AlikeItself, ChoosesAlike, IsLast, KnowsAlike};
 ghost use Rattle.js_document.specs.Trie.{HasMore};
@@ -48,11 +49,11 @@ pub trait KeepGoals: Copy + Drop {
         ensures { (tokens : List TokenParts) → knows open.now self tokens → IsLast last.now tokens
             → result ≡ choice text.now tokens };
 
-    /// Whether the same commands come next behind both, where the last tokens are of this kind and have its flags.
+    /// Whether the same commands come next behind both, where the last tokens are this one, wherever they stand.
     fn is_alike(self, other: Self, open: &OpenTrie, last: &Token) -> bool
         ensures { (tokens others : List TokenParts) (token : TokenParts) → knows open.now self tokens
             → knows open.now other others → IsLast last.now tokens → IsLast token others
-            → token.kind ≡ last.now.kind → IsTrue result ↔ alike tokens others };
+            → at_start token ≡ at_start last.now → IsTrue result ↔ alike tokens others };
 
     /// Each command that is chosen may come behind the last token.
     ghost is_rule: { IsRule choice };

@@ -2,7 +2,7 @@
 
 ghost use Rattle.std.specs.Prelude.{◌≡◌, ℕ, ◌+◌, ◌<◌, ◌↔◌, List, [], ◌∷◌, drop, length, slice_get};
 ghost use Rattle.std.specs.Prelude.{IfOk, IsTrue, OnErr};
-ghost use Rattle.js_document.specs.Trie.{HasMore, IsOpen, node_of};
+ghost use Rattle.js_document.specs.Trie.{HasMore, IsOpen, brace_with, is_brace, last_brace, node_of, opened};
 
 use std::alloc::{AllocError, Global};
 use std::marker::Model;
@@ -15,10 +15,25 @@ const SCOPES: usize = 8;
 pub(crate) struct Node {
     pub(crate) parent: u32,
     pub(crate) scope: u8,
+    /// The last open brace, from this scope on, if one is open.
+    pub(crate) brace: Option<u8>,
+}
+
+/// Whether a brace opens the scope.
+fn is_brace(scope: u8) -> bool
+    ensures { result ≡ is_brace scope }
+{
+    match scope {
+        0 => true,
+        1 => true,
+        2 => true,
+        _ => false,
+    }
 }
 
 /// What may be open, each once: the same scopes have the same link, whichever text opened them. A link is 0 where
-/// nothing is open, and else one more than the number of the node of the scope that was opened last.
+/// nothing is open, and else one more than the number of the node of the scope that was opened last. A scope is a number
+/// below 8; a brace opens those below 3.
 #[derive(Drop)]
 pub struct OpenTrie {
     nodes: Vec<Node>,
@@ -61,7 +76,8 @@ impl OpenTrie {
 
     /// The scope that was opened last, if one is open.
     pub fn last(&self, link: u32) -> Option<u8>
-        ensures { (scopes : List ℕ) → IsOpen self.now link scopes → result ≡ slice_get scopes 0 }
+        ensures is { (scopes : List ℕ) → IsOpen self.now link scopes → result ≡ slice_get scopes 0 }
+        ensures told { result ≡ slice_get (opened self.now link) 0 }
     {
         match self.node(link) {
             Some(node) => Some(node.scope),
@@ -69,14 +85,49 @@ impl OpenTrie {
         }
     }
 
+    /// The last open brace, if one is open.
+    pub fn last_brace(&self, link: u32) -> Option<u8>
+        ensures { result ≡ last_brace (opened self.now link) }
+    {
+        let _ = &self.nodes;
+        match self.node(link) {
+            Some(node) => node.brace,
+            None => None,
+        }
+    }
+
     /// The link to what is open without the scope that was opened last, if one is open.
     pub fn close(&self, link: u32) -> u32
-        ensures { (scopes : List ℕ) → IsOpen self.now link scopes → IsOpen self.now result (drop 1 scopes) }
+        ensures is { (scopes : List ℕ) → IsOpen self.now link scopes → IsOpen self.now result (drop 1 scopes) }
+        ensures told { opened self.now result ≡ drop 1 (opened self.now link) }
     {
+        let _ = &self.nodes;
         match self.node(link) {
             Some(node) => node.parent,
             None => 0,
         }
+    }
+
+    /// The link to what is open without so many scopes, the one that was opened last first. Each costs a step.
+    pub fn close_all(&self, link: u32, count: usize) -> u32
+        ensures is { (scopes : List ℕ) → IsOpen self.now link scopes → IsOpen self.now result (drop count scopes) }
+        ensures told { opened self.now result ≡ drop count (opened self.now link) }
+    {
+        let mut below = link;
+        let mut left = count;
+        while left > 0 {
+            below = self.close(below);
+            left -= 1;
+        }
+        below
+    }
+
+    /// What is open is what the link tells.
+    pub(crate) fn is_told(&self, link: u32)
+        ensures { (scopes : List ℕ) → IsOpen self.now link scopes → opened self.now link ≡ scopes }
+    {
+        let _ = &self.nodes;
+        let _ = link;
     }
 
     /// Whether both links lead to the same.
@@ -86,6 +137,19 @@ impl OpenTrie {
     {
         let _ = &self.nodes;
         link == other
+    }
+
+    /// The last open brace where the scope is opened too.
+    fn brace_with(&self, link: u32, scope: u8) -> Option<u8>
+        ensures { result ≡ brace_with self.now link scope }
+    {
+        if is_brace(scope) {
+            return Some(scope);
+        }
+        match self.node(link) {
+            Some(node) => node.brace,
+            None => None,
+        }
     }
 
     /// The next link. One of 2^32 or more finds no memory.
@@ -113,11 +177,13 @@ impl OpenTrie {
             return Ok(child);
         }
         let child = self.next_link()?;
+        let brace = self.brace_with(link, scope);
         self.nodes.reserve(1)?;
         self.children.extend_from_slice(&[0; SCOPES])?;
         self.nodes.push(Node {
             parent: link,
             scope,
+            brace,
         })?;
         self.children[place] = child;
         Ok(child)

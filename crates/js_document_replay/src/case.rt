@@ -4,9 +4,17 @@ use js_document::Edit;
 use js_lex_tool::parse_source_type;
 use js_text::SourceType;
 
+/// By which rule the goals of a text are chosen.
+#[derive(Clone, Copy)]
+pub enum Rule {
+    Auto,
+    Jsx,
+}
+
 /// A text, and how many edits of it come next.
 #[derive(Clone, Copy)]
 pub struct Case<'t> {
+    pub rule: Rule,
     pub source_type: SourceType,
     pub text: &'t str,
     pub edits: u32,
@@ -38,13 +46,36 @@ fn three_words(line: &str) -> Option<(&str, &str, &str)> {
     Some((first, second, third))
 }
 
-/// The type of a text, how many bytes it has, and how many edits there are, as a line tells them.
-fn case_line(line: &str) -> Option<(SourceType, usize, u32)> {
-    let (source_type, length, edits) = three_words(line)?;
-    let source_type = parse_source_type(source_type)?;
+/// The rule and the source type of a word: that of a source type, or `jsx`, for a module with JSX.
+fn rule_of(word: &str) -> Option<(Rule, SourceType)> {
+    if word == "jsx" {
+        return Some((Rule::Jsx, SourceType::Module));
+    }
+    let source_type = parse_source_type(word)?;
+    Some((Rule::Auto, source_type))
+}
+
+/// A line of a case: the rule and the type of its text, how many bytes the text has, and how many edits there are.
+#[derive(Clone, Copy)]
+struct CaseLine {
+    rule: Rule,
+    source_type: SourceType,
+    length: usize,
+    edits: u32,
+}
+
+/// What the line of a case tells.
+fn case_line(line: &str) -> Option<CaseLine> {
+    let (word, length, edits) = three_words(line)?;
+    let (rule, source_type) = rule_of(word)?;
     let length = length.parse::<usize>().ok()?;
     let edits = edits.parse::<u32>().ok()?;
-    Some((source_type, length, edits))
+    Some(CaseLine {
+        rule,
+        source_type,
+        length,
+        edits,
+    })
 }
 
 /// Where an edit starts and ends, and how many bytes its text has, as a line tells them.
@@ -63,16 +94,17 @@ fn first_text(input: &str, length: usize) -> Option<(&str, &str)> {
     Some((text, rest))
 }
 
-/// The first case of the input, and what stands behind its text: a line of its type, how many bytes the text has, and
-/// how many edits there are, and the text.
+/// The first case of the input, and what stands behind its text: a line of its type, or `jsx`, how many bytes the text
+/// has, and how many edits there are, and the text.
 pub fn first_case(input: &str) -> Result<(Case<'_>, &str), InputFault> {
     let (line, rest) = input.split_once('\n').ok_or(InputFault::BadLine)?;
-    let (source_type, length, edits) = case_line(line).ok_or(InputFault::BadLine)?;
-    let (text, rest) = first_text(rest, length).ok_or(InputFault::BadText)?;
+    let told = case_line(line).ok_or(InputFault::BadLine)?;
+    let (text, rest) = first_text(rest, told.length).ok_or(InputFault::BadText)?;
     let case = Case {
-        source_type,
+        rule: told.rule,
+        source_type: told.source_type,
         text,
-        edits,
+        edits: told.edits,
     };
     Ok((case, rest))
 }

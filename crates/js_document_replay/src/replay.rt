@@ -2,11 +2,12 @@
 
 ghost use Rattle.std.specs.Prelude.{◌≡◌, ◌<◌};
 
-use crate::case::{Case, first_case, first_edit};
+use crate::case::{Case, Rule, first_case, first_edit};
 use crate::change::is_change;
 use crate::told::Told;
 use js_auto::auto_session;
-use js_document::{AutoState, Document, DocumentFault, Edit};
+use js_document::{AutoState, Document, DocumentFault, Edit, JsxState, KeepGoals};
+use js_jsx::jsx_session;
 use js_kind::TokenList;
 use js_lex_tool::report_text;
 use js_session::Steps;
@@ -15,17 +16,46 @@ use std::alloc::{AllocError, Global};
 use std::marker::Brand;
 use std::sync::ledger::{Blank, Ledger};
 
-/// The report of a session over a text, in words.
-fn report_anew(alloc: Global, text: &str, source_type: SourceType) -> Result<String, AllocError> {
-    match auto_session(alloc, text.as_bytes(), source_type, false) {
-        Ok(auto) => report_text(alloc, text, &auto.report),
-        // the text is UTF-8, and short enough
-        Err(_) => Err(AllocError),
+/// A rule of goals, and a session by it.
+trait LexAnew: KeepGoals {
+    /// The report of a session over a text, in words.
+    fn report_anew(
+        alloc: Global,
+        text: &str,
+        source_type: SourceType,
+    ) -> Result<String, AllocError>;
+}
+
+impl LexAnew for AutoState {
+    fn report_anew(
+        alloc: Global,
+        text: &str,
+        source_type: SourceType,
+    ) -> Result<String, AllocError> {
+        match auto_session(alloc, text.as_bytes(), source_type, false) {
+            Ok(auto) => report_text(alloc, text, &auto.report),
+            // the text is UTF-8, and short enough
+            Err(_) => Err(AllocError),
+        }
+    }
+}
+
+impl LexAnew for JsxState {
+    fn report_anew(
+        alloc: Global,
+        text: &str,
+        source_type: SourceType,
+    ) -> Result<String, AllocError> {
+        match jsx_session(alloc, text.as_bytes(), source_type, false) {
+            Ok(jsx) => report_text(alloc, text, &jsx.report),
+            // the text is UTF-8, and short enough
+            Err(_) => Err(AllocError),
+        }
     }
 }
 
 /// The live tokens.
-fn tokens_of(alloc: Global, document: &Document<AutoState>) -> Result<TokenList, AllocError> {
+fn tokens_of<K: LexAnew>(alloc: Global, document: &Document<K>) -> Result<TokenList, AllocError> {
     let mut tokens = TokenList::new_in(alloc);
     for token in document.tokens() {
         tokens.push(token)?;
@@ -34,11 +64,11 @@ fn tokens_of(alloc: Global, document: &Document<AutoState>) -> Result<TokenList,
 }
 
 /// Whether the document has the report of a session over its text, and gives the tokens of that.
-fn is_right(alloc: Global, document: &Document<AutoState>) -> Result<bool, AllocError> {
+fn is_right<K: LexAnew>(alloc: Global, document: &Document<K>) -> Result<bool, AllocError> {
     let report = document.report(alloc)?;
     let tokens = tokens_of(alloc, document)?;
     let text = report_text(alloc, document.text(), &report)?;
-    let anew = report_anew(alloc, document.text(), document.source_type())?;
+    let anew = K::report_anew(alloc, document.text(), document.source_type())?;
     Ok(
         text.as_str() == anew.as_str()
             && tokens.as_slice() == report.tokens.as_slice()
@@ -55,9 +85,9 @@ fn is_edit(edit: &Edit<'_>, text: &str) -> bool {
 }
 
 /// Makes an edit. False: there is no document of it.
-fn is_made<L: Ledger>(
+fn is_made<K: LexAnew, L: Ledger>(
     alloc: Global,
-    document: &mut Document<AutoState>,
+    document: &mut Document<K>,
     edit: &Edit<'_>,
     steps: &mut Steps<L>,
 ) -> Result<bool, AllocError> {
@@ -69,9 +99,9 @@ fn is_made<L: Ledger>(
 }
 
 /// Makes the edit with this number, and tells what is wrong then.
-fn make<L: Ledger>(
+fn make<K: LexAnew, L: Ledger>(
     alloc: Global,
-    document: &mut Document<AutoState>,
+    document: &mut Document<K>,
     number: u32,
     edit: &Edit<'_>,
     told: &mut Told,
@@ -99,9 +129,9 @@ fn make<L: Ledger>(
 
 /// Makes so many edits, which the input begins with, and gives what stands behind them. None: one cannot be read, which
 /// is told.
-fn make_all<'t, L: Ledger>(
+fn make_all<'t, K: LexAnew, L: Ledger>(
     alloc: Global,
-    document: &mut Document<AutoState>,
+    document: &mut Document<K>,
     count: u32,
     input: &'t str,
     told: &mut Told,
@@ -123,6 +153,21 @@ fn make_all<'t, L: Ledger>(
     Ok(Some(left))
 }
 
+/// Makes the edits of a case by a rule, and gives what stands behind them.
+fn replay_by<'t, K: LexAnew, L: Ledger>(
+    alloc: Global,
+    case: &Case<'_>,
+    input: &'t str,
+    told: &mut Told,
+    steps: &mut Steps<L>,
+) -> Result<Option<&'t str>, AllocError> {
+    match Document::<K>::new(alloc, case.text, case.source_type, steps) {
+        Ok(mut document) => make_all(alloc, &mut document, case.edits, input, told, steps),
+        // the text is short enough
+        Err(_) => Err(AllocError),
+    }
+}
+
 /// Makes the edits of a case, and gives what stands behind them.
 fn replay<'t, L: Ledger>(
     alloc: Global,
@@ -131,10 +176,9 @@ fn replay<'t, L: Ledger>(
     told: &mut Told,
     steps: &mut Steps<L>,
 ) -> Result<Option<&'t str>, AllocError> {
-    match Document::<AutoState>::new(alloc, case.text, case.source_type, steps) {
-        Ok(mut document) => make_all(alloc, &mut document, case.edits, input, told, steps),
-        // the text is short enough
-        Err(_) => Err(AllocError),
+    match case.rule {
+        Rule::Auto => replay_by::<AutoState, L>(alloc, case, input, told, steps),
+        Rule::Jsx => replay_by::<JsxState, L>(alloc, case, input, told, steps),
     }
 }
 

@@ -4,7 +4,7 @@
 ghost use Rattle.std.specs.Prelude.{◌≡◌, ◌<◌};
 
 use js_auto::auto_session;
-use js_document::{AutoState, Change, Document, DocumentFault, Edit};
+use js_document::{AutoState, Change, Document, DocumentFault, Edit, KeepGoals};
 use js_lex_tool::report_text;
 use js_session::Steps;
 use js_text::SourceType;
@@ -16,10 +16,10 @@ use std::test::Fail;
 
 /// A text, edits of it, one behind the other, and what is told of each: how many rows were kept and read, and from which
 /// token up to which of the old and of the new list something changed.
-struct Case {
-    text: &'static str,
-    edits: &'static [Edit<'static>],
-    told: &'static str,
+pub(crate) struct Case {
+    pub(crate) text: &'static str,
+    pub(crate) edits: &'static [Edit<'static>],
+    pub(crate) told: &'static str,
 }
 
 static CASES: [Case; 9] = [
@@ -180,28 +180,35 @@ static CASES: [Case; 9] = [
     },
 ];
 
+/// A rule by which a session over the whole of a text is made too, to hold a document against.
+pub(crate) trait LexAnew: KeepGoals {
+    /// The report of a session over a text, in words.
+    fn anew(alloc: Global, text: &str) -> Result<String, AllocError>;
+}
+
+impl LexAnew for AutoState {
+    fn anew(alloc: Global, text: &str) -> Result<String, AllocError> {
+        match auto_session(alloc, text.as_bytes(), SourceType::Module, false) {
+            Ok(auto) => report_text(alloc, text, &auto.report),
+            Err(_) => Err(AllocError),
+        }
+    }
+}
+
 /// The report of a document, in words.
-fn report_of(alloc: Global, document: &Document<AutoState>) -> Result<String, AllocError> {
+fn report_of<K: KeepGoals>(alloc: Global, document: &Document<K>) -> Result<String, AllocError> {
     let report = document.report(alloc)?;
     report_text(alloc, document.text(), &report)
 }
 
-/// The report of a session over a text, in words.
-fn anew(alloc: Global, text: &str) -> Result<String, AllocError> {
-    match auto_session(alloc, text.as_bytes(), SourceType::Module, false) {
-        Ok(auto) => report_text(alloc, text, &auto.report),
-        Err(_) => Err(AllocError),
-    }
-}
-
 /// Adds the report of the document where it is not that of a session over its text.
-fn tell_difference(
+fn tell_difference<K: LexAnew>(
     alloc: Global,
-    document: &Document<AutoState>,
+    document: &Document<K>,
     told: &mut String,
 ) -> Result<(), AllocError> {
     let report = report_of(alloc, document)?;
-    let anew = anew(alloc, document.text())?;
+    let anew = K::anew(alloc, document.text())?;
     if report.as_str() != anew.as_str() {
         told.push_str(report.as_str())?;
     }
@@ -222,9 +229,9 @@ fn tell_change(change: &Change, told: &mut String) -> Result<(), AllocError> {
 }
 
 /// Makes the edits, one behind the other, and adds what is told of each.
-fn tell_edits<L: Ledger>(
+fn tell_edits<K: LexAnew, L: Ledger>(
     alloc: Global,
-    document: &mut Document<AutoState>,
+    document: &mut Document<K>,
     edits: &[Edit<'_>],
     told: &mut String,
     steps: &mut Steps<L>,
@@ -240,14 +247,18 @@ fn tell_edits<L: Ledger>(
 }
 
 /// What is told of the edits of a case.
-fn told_of_case<L: Ledger>(alloc: Global, case: &Case, blank: Blank) -> Result<String, AllocError>
+pub(crate) fn told_of_case<K: LexAnew, L: Ledger>(
+    alloc: Global,
+    case: &Case,
+    blank: Blank,
+) -> Result<String, AllocError>
     requires name { blank.name ≡ L.name }
     requires parts { blank.parts ≡ L.parts }
     requires some_part { 0 < L.parts }
 {
     let mut steps = Steps::<L>::new(blank);
     let mut told = String::new(alloc);
-    match Document::<AutoState>::new(alloc, case.text, SourceType::Module, &mut steps) {
+    match Document::<K>::new(alloc, case.text, SourceType::Module, &mut steps) {
         Ok(mut document) => tell_edits(alloc, &mut document, case.edits, &mut told, &mut steps)?,
         Err(_) => return Err(AllocError),
     }
@@ -257,7 +268,7 @@ fn told_of_case<L: Ledger>(alloc: Global, case: &Case, blank: Blank) -> Result<S
 #[test]
 fn rows_behind_edits(rt: HostRuntime) -> Result<(), Fail> {
     for case in &CASES {
-        let told = told_of_case::<Brand>(rt.alloc(), case, Blank::new(1))?;
+        let told = told_of_case::<AutoState, Brand>(rt.alloc(), case, Blank::new(1))?;
         assert_eq!(rt; told.as_str(), case.told);
     }
     Ok(())

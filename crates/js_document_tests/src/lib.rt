@@ -8,3 +8,7 @@ mod edits;
 mod found;
 #[cfg(test)]
 mod items;
+#[cfg(test)]
+mod jsx;
+#[cfg(test)]
+mod values;

@@ -5,7 +5,7 @@ use Rattle.js_document.proofs.auto_state.is_in_substitution.Goals as goal
 
 pub returns-in-Some : goal.returns-in-Some
 returns-in-Some c braces is =
-    some_brace braces c.in-Some.scope (c.in-Some.ensures (map brace_scope braces) is)
+    some_brace braces c.in-Some.scope (c.in-Some.ensures.is (map brace_scope braces) is)
 
 pub returns-in-None : goal.returns-in-None
-returns-in-None c braces is = no_brace braces (c.in-None.ensures (map brace_scope braces) is)
+returns-in-None c braces is = no_brace braces (c.in-None.ensures.is (map brace_scope braces) is)

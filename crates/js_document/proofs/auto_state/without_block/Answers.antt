@@ -12,4 +12,4 @@ pub returns-else-is_in_substitution : goal.returns-else-is_in_substitution
 returns-else-is_in_substitution c braces is =
     closes_block c.args.open.now c.close.result braces
     (sym (c.is_in_substitution.ensures braces is) ∙ c.if-is_in_substitution.false)
-    (c.close.ensures (map brace_scope braces) is)
+    (c.close.ensures.is (map brace_scope braces) is)

@@ -2,7 +2,7 @@ use Rattle.std.proofs.Common.{suc, ◌≡◌, [], ◌∷◌, ◌++◌, length, r
 use Rattle.std.specs.Prelude.{slice_get, slice_set}
 use Rattle.std.proofs.lemmas.Option.{slice_get_read}
 use Rattle.js_document.specs.declared.open.Node.{Node}
-use Rattle.js_document.specs.Trie.{IsOpen, IsTable, place_of}
+use Rattle.js_document.specs.Trie.{IsOpen, IsTable, brace_with, place_of}
 use Rattle.js_document.proofs.TableLemmas.{at_end, node_more, opens_told, place_inside, zeros}
 use Rattle.js_document.proofs.TrieLemmas.{link_inside, opens}
 use Rattle.js_document.proofs.open.OpenTrie.open.Goals as goal
@@ -44,7 +44,8 @@ invariant_of-self-2 c =
     let scopes = c.requires.inside.0 in
     let nodes = c.self.inside.nodes.items in
     let children = c.self.inside.children.items in
-    let node : Node = record { parent = c.args.link; scope = c.args.scope } in
+    let node : Node =
+    record { parent = c.args.link; scope = c.args.scope; brace = c.brace_with-brace.result } in
     let place = place_of c.args.link c.args.scope in
     let here : IsOpen nodes c.args.link scopes =
     subst (λ ns. IsOpen ns c.args.link scopes) (sym c.self.view_is) c.requires.inside.1 in
@@ -53,7 +54,8 @@ invariant_of-self-2 c =
     slice_get_read children (length children) place c.index-child.result.now refl inside c.index-child.ensures in
     let empty : slice_get children place ≡ Some 0 = there ∙ ap Some c.if-child-ne0.false in
     let table = node_more nodes children (replicate 8 0) c.self.invariant (zeros 8) node
-    (link_inside nodes c.args.link scopes here) c.requires.few empty refl in
+    (link_inside nodes c.args.link scopes here) c.requires.few empty refl
+    (c.brace_with-brace.ensures ∙ ap (λ ns. brace_with ns c.args.link c.args.scope) (sym c.self.view_is)) in
     subst (λ ns. IsTable ns (slice_set c.extend_from_slice.new.self.items place c.in_ok-child.child))
     (sym (c.in_ok-push.ensures.items ∙ ap (λ ns. ns ++ node ∷ []) c.reserve.ensures.items))
     (subst (λ cs. IsTable (nodes ++ node ∷ []) (slice_set cs place c.in_ok-child.child))
@@ -64,7 +66,8 @@ invariant_of-self-2 c =
 pub returns-clause-ok : goal.returns-clause-ok
 returns-clause-ok c = λ scopes is.
     let nodes = c.self.inside.nodes.items in
-    let node : Node = record { parent = c.args.link; scope = c.args.scope } in
+    let node : Node =
+    record { parent = c.args.link; scope = c.args.scope; brace = c.brace_with-brace.result } in
     let here : IsOpen nodes c.args.link scopes =
     subst (λ ns. IsOpen ns c.args.link scopes) (sym c.self.view_is) is in
     let next : suc (length nodes) ≡ c.in_ok-child.child =
