@@ -1,7 +1,8 @@
 /* The lexer for JavaScript, for programs in C and in what calls C: the static library js_lex_c.
  *
  * A call reads a source, and fills lists that the caller owns, each from its beginning as far as it has room. It keeps
- * nothing behind it: there is no handle, and nothing to free. Where room was short, the caller calls again with more.
+ * nothing behind it: there is nothing to free, but for the documents of the js_document_.. calls, which a handle holds.
+ * Where room was short, the caller calls again with more.
  *
  * Offsets are in bytes from the start of the source, which is UTF-8. A span goes from `start` up to `end`, without it.
  *
@@ -33,9 +34,9 @@ enum {
     JS_LEX_UNAMBIGUOUS = 2 /* not settled: read as a script, with what a module may not have in `deferred` */
 };
 
-/* What a call answers. On any but JS_LEX_OK the counts are 0 but for `place`. On any but JS_LEX_OK and
- * JS_LEX_NO_MEMORY the lists are as before; on JS_LEX_NO_MEMORY some tokens may stand at the beginning of `tokens`, and
- * units at that of `units`, each within its room, and all else is as before. */
+/* What a call answers. Of a call that fills a JsLists: on any but JS_LEX_OK the counts are 0 but for `place`. On any
+ * but JS_LEX_OK and JS_LEX_NO_MEMORY the lists are as before; on JS_LEX_NO_MEMORY some tokens may stand at the
+ * beginning of `tokens`, and units at that of `units`, each within its room, and all else is as before. */
 enum {
     JS_LEX_OK = 0,
     JS_LEX_NO_MEMORY = 1,            /* or the pool would have 2^32 units or more */
@@ -43,7 +44,12 @@ enum {
     JS_LEX_NO_MARK = 7,              /* the command at the index `place` closes a mark where none is open */
     JS_LEX_OVERLONG = 11,            /* the source has 2^32 bytes or more */
     JS_LEX_UNKNOWN_COMMAND = 12,     /* the number at the index `place` is that of no command */
-    JS_LEX_UNKNOWN_SOURCE_TYPE = 13
+    JS_LEX_UNKNOWN_SOURCE_TYPE = 13,
+    /* of the js_document_.. calls alone, which say themselves what each answer leaves: */
+    JS_LEX_BAD_EDIT = 14,       /* it starts behind its end, or one of both is behind the text or within a character */
+    JS_LEX_NO_DOCUMENT = 15,    /* the handle holds none */
+    JS_LEX_UNKNOWN_NUMBER = 16, /* the number is that of no line ends, or of no unit of columns */
+    JS_LEX_NOTHING_THERE = 17   /* no live token has the byte, or there is no line of this number */
 };
 
 /* What a session does next, one byte each. */
@@ -186,6 +192,122 @@ uint32_t js_lex_count(const uint8_t *source, size_t source_length, uint32_t sour
  * JS_LEX_NO_MARK and JS_LEX_UNKNOWN_COMMAND. */
 uint32_t js_lex_steps(const uint8_t *source, size_t source_length, uint32_t source_type, const uint8_t *commands,
                       size_t command_count, JsLists *out, JsCounts *counts);
+
+/* Documents: texts that are edited, with their tokens and lines, which each edit keeps up to date.
+ *
+ * A JsDocument holds a document, or none. Who calls writes JS_DOCUMENT_NONE into it before any call, and then hands its
+ * address to these calls alone: they read it and write it, and it may be moved or copied by nothing else. A document is
+ * freed by js_document_free. It stays on the thread that made it, and is in one call at a time; a call about one
+ * document leaves all others. Nothing that a call is given may overlap the handle.
+ *
+ * Behind each answer but JS_LEX_OK the document, and all that the call would have written, are as before; but where
+ * lines were asked for (js_document_lines, js_document_position, js_document_offset), those are kept from then on. Each
+ * answer but JS_LEX_NO_MEMORY comes for its cause alone, in the order in which a call lists them. */
+typedef struct JsDocument {
+    void *held; /* of no matter to who calls */
+} JsDocument;
+
+#define JS_DOCUMENT_NONE { NULL }
+
+/* What ends a line. A CR LF is one line end in each. */
+enum {
+    JS_LINES_ECMASCRIPT = 0,     /* LF, CR, U+2028 and U+2029, as ECMA-262 12.3 has them */
+    JS_LINES_LINE_FEEDS = 1,     /* LF alone */
+    JS_LINES_LANGUAGE_SERVER = 2 /* LF and CR, as the Language Server Protocol has them */
+};
+
+/* In what columns are counted. */
+enum {
+    JS_COLUMNS_BYTES = 0,
+    JS_COLUMNS_CHARACTERS = 1,
+    JS_COLUMNS_UTF16 = 2 /* a character from U+10000 on has two units */
+};
+
+/* A live token of a document. */
+typedef struct JsLiveToken {
+    JsSpan span;   /* where it stands */
+    uint8_t kind;  /* js_lex_kind_name names it */
+    uint8_t flags; /* a sum of JS_TOKEN_ON_NEW_LINE, JS_TOKEN_ESCAPED and JS_TOKEN_SEPARATOR */
+} JsLiveToken;
+
+/* What the last edit changed of a list: its items from `start` on went, up to `old_end` of the old list, and those from
+ * `start` on came, up to `new_end` of the new one. All before are the same, and stand before the edit; those behind are
+ * the old ones, moved. Where no edit was made yet, all items came. */
+typedef struct JsRange {
+    size_t start;
+    size_t old_end;
+    size_t new_end;
+} JsRange;
+
+typedef struct JsChange {
+    JsRange tokens; /* of the live tokens */
+    JsRange comments;
+    JsRange diagnostics;
+    size_t kept_rows;    /* how many readings of a token were kept before the edit, */
+    size_t read_rows;    /* and how many were made behind them; the others were taken over */
+    uint32_t moved_from; /* what stood at this offset of the old text or behind it, */
+    uint32_t moved_to;   /* stands as far behind this one of the new text */
+} JsChange;
+
+/* A place by its line and its column, both from 0. */
+typedef struct JsPosition {
+    uint32_t line;
+    uint32_t column;
+} JsPosition;
+
+/* Makes the document of a source, by goals that are chosen as js_lex_auto chooses them, and puts it into the handle. A
+ * document that was there is freed. The source is copied.
+ *
+ * It answers JS_LEX_UNKNOWN_SOURCE_TYPE, JS_LEX_UNKNOWN_NUMBER (of line ends), JS_LEX_OVERLONG, JS_LEX_NOT_UTF8,
+ * JS_LEX_NO_MEMORY or JS_LEX_OK. */
+uint32_t js_document_new(const uint8_t *source, size_t source_length, uint32_t source_type, uint32_t line_ends,
+                         JsDocument *document);
+
+/* Frees the document, if there is one. The handle holds none then, and js_document_new may be called again. */
+void js_document_free(JsDocument *document);
+
+/* Makes an edit: the bytes of the text from `start` up to `end`, without it, become those of `text`. The tokens are
+ * those of the new text from then on, as if it were lexed anew.
+ *
+ * It answers JS_LEX_NO_DOCUMENT, JS_LEX_OVERLONG or JS_LEX_NOT_UTF8 (of `text`), JS_LEX_BAD_EDIT, JS_LEX_OVERLONG (of
+ * the text that it would make), JS_LEX_NO_MEMORY or JS_LEX_OK. */
+uint32_t js_document_edit(JsDocument *document, uint32_t start, uint32_t end, const uint8_t *text, size_t text_length);
+
+/* Tells what the last edit changed. It answers JS_LEX_NO_DOCUMENT or JS_LEX_OK. */
+uint32_t js_document_changed(JsDocument *document, JsChange *change);
+
+/* Fills a list with the live tokens from the index `from` on, as far as there is room; `count` says how many the whole
+ * document has. The last of them is the end of the text. It takes time for all tokens up to the last one that it
+ * writes. It answers JS_LEX_NO_DOCUMENT or JS_LEX_OK. */
+uint32_t js_document_tokens(JsDocument *document, size_t from, JsLiveToken *tokens, size_t token_room, size_t *count);
+
+/* Tells the live token that the byte at an offset belongs to, found by halves. It answers JS_LEX_NO_DOCUMENT,
+ * JS_LEX_NOTHING_THERE (white space, a comment, or behind the text) or JS_LEX_OK. */
+uint32_t js_document_token_at(JsDocument *document, uint32_t offset, JsLiveToken *token);
+
+/* Each fills a list with the items from the index `from` on, as far as there is room; `count` says how many the document
+ * has. It answers JS_LEX_NO_DOCUMENT, JS_LEX_NO_MEMORY (where they are more than a size_t counts) or JS_LEX_OK. */
+uint32_t js_document_comments(JsDocument *document, size_t from, JsComment *comments, size_t comment_room,
+                              size_t *count);
+uint32_t js_document_diagnostics(JsDocument *document, size_t from, JsDiagnostic *diagnostics, size_t diagnostic_room,
+                                 size_t *count);
+
+/* Fills a list with the offsets at which lines begin, from the line `from` on, as far as there is room; `count` says how
+ * many lines the text has, which is one more than line ends. The first call of this one or the next two looks for the
+ * lines of the whole text; each edit then keeps them up to date. It answers JS_LEX_NO_DOCUMENT, JS_LEX_NO_MEMORY or
+ * JS_LEX_OK. */
+uint32_t js_document_lines(JsDocument *document, uint32_t from, uint32_t *starts, size_t start_room, size_t *count);
+
+/* Tells the line and the column of an offset, by the line ends of js_document_new, in a unit of columns. Within a
+ * character the offset is that character's start, behind the text its end.
+ *
+ * It answers JS_LEX_NO_DOCUMENT, JS_LEX_UNKNOWN_NUMBER (of the unit), JS_LEX_NO_MEMORY or JS_LEX_OK. */
+uint32_t js_document_position(JsDocument *document, uint32_t offset, uint32_t unit, JsPosition *position);
+
+/* Tells the offset of a place: behind the longest front of its line, without its line end, that is no longer than the
+ * column. It answers JS_LEX_NO_DOCUMENT, JS_LEX_UNKNOWN_NUMBER (of the unit), JS_LEX_NOTHING_THERE (there is no such
+ * line), JS_LEX_NO_MEMORY or JS_LEX_OK. */
+uint32_t js_document_offset(JsDocument *document, uint32_t line, uint32_t column, uint32_t unit, uint32_t *offset);
 
 /* The name of a kind of tokens, of a diagnostic, and of a class of comments, by its number: each fills the buffer as
  * far as there is room, with no 0 behind it, and gives the length of the name in bytes, all of them ASCII. It gives 0

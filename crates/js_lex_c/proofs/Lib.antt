@@ -1,7 +1,10 @@
 pub mod AnswerLemmas
 pub mod CountLemmas
+pub mod DocumentFill
 pub mod ExactLemmas
 pub mod FillLemmas
 pub mod FillerLemmas
+pub mod LineFill
 pub mod NumberLemmas
 pub mod RecordLemmas
+pub mod RefusalLemmas

@@ -1,3 +1,7 @@
+pub mod DocumentFaults
+pub mod DocumentNumbers
+pub mod DocumentRecords
+pub mod Documents
 pub mod Faults
 pub mod Filled
 pub mod Filler
@@ -6,4 +10,5 @@ pub mod Lists
 pub mod Names
 pub mod Numbers
 pub mod Records
+pub mod Refusals
 pub mod Tokens

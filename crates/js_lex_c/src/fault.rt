@@ -28,7 +28,7 @@ impl From<AllocError> for Fault {
 }
 
 /// What a call answers that found no report.
-fn lex_fault_number(fault: LexFault) -> u32
+pub(crate) fn lex_fault_number(fault: LexFault) -> u32
     ensures { result ≡ lex_fault_number fault }
 {
     match fault {

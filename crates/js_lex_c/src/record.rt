@@ -127,7 +127,7 @@ fn diagnostic_number(diagnostic: &Diagnostic) -> u32
 }
 
 /// A diagnostic, as C sees it.
-fn diagnostic_record(diagnostic: &Diagnostic) -> JsDiagnostic
+pub(crate) fn diagnostic_record(diagnostic: &Diagnostic) -> JsDiagnostic
     ensures { result ≡ diagnostic_record diagnostic.now }
 {
     JsDiagnostic {
@@ -138,7 +138,7 @@ fn diagnostic_record(diagnostic: &Diagnostic) -> JsDiagnostic
 }
 
 /// A comment, as C sees it.
-fn comment_record(comment: &Comment) -> JsComment
+pub(crate) fn comment_record(comment: &Comment) -> JsComment
     ensures { result ≡ comment_record comment.now }
 {
     JsComment {

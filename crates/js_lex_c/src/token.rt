@@ -51,7 +51,7 @@ fn regex_flags_of(regex: Option<RegexInfo>) -> u8
 }
 
 /// The flags of a token, one bit each.
-fn token_flags(token: &Token, flags_error: bool) -> u8
+pub(crate) fn token_flags(token: &Token, flags_error: bool) -> u8
     ensures { result ≡ token_flags token.now flags_error }
 {
     bit(token.is_on_new_line(), 1)

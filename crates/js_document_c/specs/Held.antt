@@ -1,0 +1,35 @@
+-- A document with the lines of its text.
+use Rattle.std.specs.Prelude.{◌≡◌, ℕ, List, Option, IfSome}
+use Rattle.js_lines.specs.declared.line_ends.LineEnds.{LineEnds}
+use Rattle.js_edited_lines.specs.Edited.{AreLinesOf, KeptLines}
+use Rattle.js_relex.specs.Documents.{IsEdit, edited}
+use Rattle.js_auto.specs.Choice.{choice_in}
+use Rattle.js_document.specs.Documents.{DocState, Edits}
+use Rattle.js_document.specs.States.{SameBraces}
+
+-- How contracts see a document with its lines: the document, and what ends a line of its text.
+pub record HeldState : Type 0 where
+  pub document : DocState
+  pub ends : LineEnds
+
+-- They are the lines of the text, which these end.
+pub record AreLinesBy (text : List ℕ) (ends : LineEnds) (lines : KeptLines) : Type 0 where
+  pub ends_are : lines.ends ≡ ends
+  pub are : AreLinesOf lines text
+
+-- Where lines are kept, they are those of the text.
+abbrev pub KeepsLines : List ℕ → LineEnds → Option KeptLines → Type 0
+KeepsLines text ends lines = IfSome lines (AreLinesBy text ends)
+
+-- The lines are those of a text that an edit makes this one.
+pub record MayFollow (lines : KeptLines) (start end : ℕ) (new text : List ℕ) : Type 0 where
+  pub old : List ℕ
+  pub lines_are : AreLinesOf lines old
+  pub edit : IsEdit old start end
+  pub text_is : text ≡ edited old start end new
+
+-- The document is that of the edited text, whatever stood on the counter of its rows.
+pub record IsEdited (old : DocState) (start end : ℕ) (new : List ℕ) (d : DocState) : Type 0 where
+  pub before : ℕ
+  pub now : ℕ
+  pub edits : Edits choice_in SameBraces old start end new before now d

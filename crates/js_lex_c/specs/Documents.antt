@@ -1,0 +1,174 @@
+-- What the calls about a document do, and why they are refused.
+use Rattle.std.specs.Prelude.{◌≡◌, ◌⊎◌, ℕ, ◌≤◌, ◌<◌, List, drop, length, map, Option, Some, None}
+use Rattle.js_text.specs.declared.source_type.SourceType.{SourceType}
+use Rattle.js_kind.specs.TokenParts.{TokenParts}
+use Rattle.js_session.specs.Faults.{IsReadable, SourceCause}
+use Rattle.js_session.specs.declared.fault.LexFault.{LexFault}
+use Rattle.js_lines.specs.Lines.{Lines, line_starts, offset_of, position_of}
+use Rattle.js_lines.specs.declared.columns.ColumnUnit.{ColumnUnit}
+use Rattle.js_lines.specs.declared.columns.Position.{Position}
+use Rattle.js_auto.specs.Choice.{choice_in}
+use Rattle.js_document.specs.Documents.{EditCause, IsDocumentOf, change_of_new}
+use Rattle.js_document.specs.LiveTokens.{IsTokenAt}
+use Rattle.js_document.specs.declared.fault.DocumentFault.{DocumentFault}
+use Rattle.js_document_c.specs.Held.{HeldState, IsEdited}
+use Rattle.js_lex_c.specs.DocumentFaults.{refusal_of}
+use Rattle.js_lex_c.specs.DocumentNumbers.{column_unit_count, column_unit_number, line_ends_count, line_ends_number}
+use Rattle.js_lex_c.specs.DocumentRecords.{change_record, live_token_record, position_record}
+use Rattle.js_lex_c.specs.Filled.{filled}
+use Rattle.js_lex_c.specs.Numbers.{source_type_count, source_type_number}
+use Rattle.js_lex_c.specs.Records.{comment_record, diagnostic_record}
+use Rattle.js_lex_c.specs.declared.document_record.JsChange.{JsChange}
+use Rattle.js_lex_c.specs.declared.document_record.JsLiveToken.{JsLiveToken}
+use Rattle.js_lex_c.specs.declared.document_record.JsPosition.{JsPosition}
+use Rattle.js_lex_c.specs.declared.record.JsComment.{JsComment}
+use Rattle.js_lex_c.specs.declared.record.JsDiagnostic.{JsDiagnostic}
+use Rattle.js_lex_c.specs.declared.refusal.Refusal.{Refusal}
+use Rattle.js_lex_c.specs.declared.refusal.Refusal.TheVariants.{Lex, UnknownSourceType, NoDocument}
+use Rattle.js_lex_c.specs.declared.refusal.Refusal.TheVariants.{UnknownNumber, NothingThere}
+
+-- What was passed is no text that can be read.
+pub record IsUnreadable (source : List ℕ) (refusal : Refusal) : Type 0 where
+  pub fault : LexFault
+  pub cause : SourceCause source fault
+  pub refusal_is : refusal ≡ Lex fault
+
+-- The number is that of no source type.
+pub record IsNoType (source_type : ℕ) (refusal : Refusal) : Type 0 where
+  pub refusal_is : refusal ≡ UnknownSourceType
+  pub past : source_type_count ≤ source_type
+
+-- It is that of one, and the other number is that of no line ends.
+pub record IsNoLineEnds (source_type line_ends : ℕ) (refusal : Refusal) : Type 0 where
+  pub refusal_is : refusal ≡ UnknownNumber
+  pub known : source_type < source_type_count
+  pub past : line_ends_count ≤ line_ends
+
+-- The numbers are those of a source type and of line ends, and what was passed is no text.
+pub record IsNoText (source : List ℕ) (source_type line_ends : ℕ) (refusal : Refusal) : Type 0 where
+  pub known : source_type < source_type_count
+  pub ends_known : line_ends < line_ends_count
+  pub unreadable : IsUnreadable source refusal
+
+-- why there is no document of a source
+abbrev pub NewCause : List ℕ → ℕ → ℕ → Refusal → Type 0
+NewCause source source_type line_ends refusal =
+    IsNoType source_type refusal ⊎ IsNoLineEnds source_type line_ends refusal
+    ⊎ IsNoText source source_type line_ends refusal
+
+-- The document of the source, with these numbers of its type and of what ends its lines.
+pub record IsNewDocument (source : List ℕ) (source_type line_ends : ℕ) (held : HeldState) : Type 0 where
+  pub type_of : SourceType
+  pub type_is : source_type ≡ source_type_number type_of
+  pub ends_are : line_ends ≡ line_ends_number held.ends
+  pub document : IsDocumentOf choice_in source type_of held.document
+  pub change : held.document.change ≡ change_of_new held.document.report
+
+-- There is no document, or the one that is held has a reason for the refusal.
+abbrev pub HeldCause : Option HeldState → (HeldState → Refusal → Type 0) → Refusal → Type 0
+HeldCause None Cause refusal = refusal ≡ NoDocument
+HeldCause (Some held) Cause refusal = Cause held refusal
+
+-- A document is held, and this is true of it.
+abbrev pub HoldsSuch : Option HeldState → (HeldState → Type 0) → Type 0
+HoldsSuch None Is = ⊥
+HoldsSuch (Some held) Is = Is held
+
+-- The edit has no document.
+pub record EditFails (start end : ℕ) (text : List ℕ) (held : HeldState) (refusal : Refusal) : Type 0 where
+  pub readable : IsReadable text
+  pub fault : DocumentFault
+  pub cause : EditCause held.document.text start end text fault
+  pub refusal_is : refusal ≡ refusal_of fault
+
+-- What is put in is no text that can be read, or the edit has no document, in this order.
+abbrev pub EditRefused : ℕ → ℕ → List ℕ → HeldState → Refusal → Type 0
+EditRefused start end text held refusal =
+    IsUnreadable text refusal ⊎ EditFails start end text held refusal
+
+-- The document became that of the edited text; what ends its lines stays.
+pub record BecomesEdited (start end : ℕ) (text : List ℕ) (old new : HeldState) : Type 0 where
+  pub edited : IsEdited old.document start end text new.document
+  pub ends : new.ends ≡ old.ends
+
+-- Both are held, and this is true of them.
+abbrev pub BothHold : Option HeldState → Option HeldState → (HeldState → HeldState → Type 0) → Type 0
+BothHold None after Are = ⊥
+BothHold (Some held) None Are = ⊥
+BothHold (Some held) (Some after) Are = Are held after
+
+-- No document has a reason.
+abbrev pub NoCause : HeldState → Refusal → Type 0
+NoCause held refusal = ⊥
+
+-- The list has the live tokens from the index on, as far as there is room, and this is how many there are.
+pub record GivesTokens (from : ℕ) (old new : List JsLiveToken) (count : ℕ) (held : HeldState) : Type 0 where
+  pub tokens : new ≡ filled old (map live_token_record (drop from held.document.report.tokens))
+  pub counted : count ≡ length held.document.report.tokens
+
+-- The list has the comments from the index on, as far as there is room, and this is how many there are.
+pub record GivesComments (from : ℕ) (old new : List JsComment) (count : ℕ) (held : HeldState) : Type 0 where
+  pub comments : new ≡ filled old (map comment_record (drop from held.document.report.comments))
+  pub counted : count ≡ length held.document.report.comments
+
+-- The same of diagnostics.
+pub record GivesDiagnostics (from : ℕ) (old new : List JsDiagnostic) (count : ℕ) (held : HeldState) : Type 0 where
+  pub diagnostics : new ≡ filled old (map diagnostic_record (drop from held.document.report.diagnostics))
+  pub counted : count ≡ length held.document.report.diagnostics
+
+-- What the last edit changed.
+abbrev pub GivesChange : JsChange → HeldState → Type 0
+GivesChange new held = new ≡ change_record held.document.change
+
+-- The live token that the byte at the offset belongs to.
+pub record GivesTokenAt (offset : ℕ) (new : JsLiveToken) (held : HeldState) : Type 0 where
+  pub token : TokenParts
+  pub is_there : IsTokenAt offset held.document.report.tokens (Some token)
+  pub record_is : new ≡ live_token_record token
+
+-- The byte at the offset belongs to no live token.
+pub record HasNoTokenAt (offset : ℕ) (held : HeldState) (refusal : Refusal) : Type 0 where
+  pub refusal_is : refusal ≡ NothingThere
+  pub none : IsTokenAt offset held.document.report.tokens None
+
+-- The number is that of no unit of columns.
+pub record IsUnknownUnit (unit : ℕ) (refusal : Refusal) : Type 0 where
+  pub refusal_is : refusal ≡ UnknownNumber
+  pub past : column_unit_count ≤ unit
+
+-- The same whatever document is held.
+abbrev pub UnitRefused : ℕ → HeldState → Refusal → Type 0
+UnitRefused unit held refusal = IsUnknownUnit unit refusal
+
+-- The list has the offsets at which lines begin, from the line with this number on, as far as there is room, and this is
+-- how many lines there are.
+pub record GivesLines (from : ℕ) (old new : List ℕ) (count : ℕ) (held : HeldState) : Type 0 where
+  pub starts : new ≡ filled old (drop from (line_starts held.ends held.document.text))
+  pub counted : count ≡ length (line_starts held.ends held.document.text)
+
+-- The line and the column of the offset, by this number of a unit.
+pub record GivesPosition (offset unit : ℕ) (new : JsPosition) (held : HeldState) : Type 0 where
+  pub unit_of : ColumnUnit
+  pub unit_is : unit ≡ column_unit_number unit_of
+  pub position_is : new ≡ position_record (position_of held.ends unit_of held.document.text offset)
+
+-- the text of the document, with what ends a line of it
+abbrev pub lines_held : HeldState → Lines
+lines_held held = record { text = held.document.text; ends = held.ends }
+
+-- The offset of the place, by this number of a unit.
+pub record GivesOffset (position : Position) (unit : ℕ) (new : ℕ) (held : HeldState) : Type 0 where
+  pub unit_of : ColumnUnit
+  pub unit_is : unit ≡ column_unit_number unit_of
+  pub offset_is : offset_of (lines_held held) unit_of position ≡ Some new
+
+-- There is no line of this number.
+pub record HasNoLine (position : Position) (unit : ℕ) (held : HeldState) (refusal : Refusal) : Type 0 where
+  pub refusal_is : refusal ≡ NothingThere
+  pub unit_of : ColumnUnit
+  pub unit_is : unit ≡ column_unit_number unit_of
+  pub none : offset_of (lines_held held) unit_of position ≡ None
+
+-- The number is that of no unit, or there is no such line.
+abbrev pub OffsetRefused : Position → ℕ → HeldState → Refusal → Type 0
+OffsetRefused position unit held refusal = IsUnknownUnit unit refusal ⊎ HasNoLine position unit held refusal
