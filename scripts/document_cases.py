@@ -12,7 +12,8 @@ import random
 import sys
 
 PIECES = ['{', '}', '`', '${', '/', '/*', '*/', '//', '\n', '"', "'", 'a', ' ', '(', ')', '/=', 'a/b/c', '`x${', '}`', '\r\n',
-          '\u00e9', '\U0001d4b6', '=', '=>', '1', '.5', '<', '--', '<!--', '-->', '\\u{61}', ';']
+          '\u00e9', '\U0001d4b6', '=', '=>', '1', '.5', '<', '--', '<!--', '-->', '\\u{61}', ';',
+          '<a>', '</a>', '<a/>', '/>', '>', '<', '&lt;']
 
 
 def write(name, source, edits):
@@ -56,7 +57,7 @@ def made(cases, count):
                                  random.choice(pool)[:20]])
             edits.append((len(text[:start].encode()), len(text[:end].encode()), new.encode()))
             text = text[:start] + new + text[end:]
-        write(random.choice(['module', 'script', 'unambiguous']), first.encode(), edits)
+        write(random.choice(['module', 'script', 'unambiguous', 'jsx']), first.encode(), edits)
 
 
 lines = [json.loads(line) for line in open(sys.argv[2])]
