@@ -1,9 +1,9 @@
 -- Which items an edit changes of what was found.
 use Rattle.std.proofs.Common.{◌≡◌, ℕ, ◌+◌, ◌-◌, ◌<◌, ◌≤◌, List, [], ◌∷◌, ◌++◌, length, map, take, drop, refl, sym, ◌∙◌, ap, subst}
-use Rattle.std.proofs.Common.{append_assoc, append-nil, get_or}
+use Rattle.std.proofs.Common.{append_assoc, append-nil, arith, get_or, length-append}
 use Rattle.std.specs.List.{All, AllByRecursion, flat_map}
 use Rattle.std.specs.Prelude.{IfOk, Result, reverse}
-use Rattle.std.proofs.lemmas.List.{map-append, take-append-drop, take_more}
+use Rattle.std.proofs.lemmas.List.{drop_at, length-map, length-reverse, map-append, take-append-drop, take-map, take_more}
 use Rattle.std.proofs.lemmas.List.Concat.{flat_map-append}
 use Rattle.std.proofs.lemmas.List.Elements.{recursion_from_All}
 use Rattle.std.proofs.lemmas.Result.{IfOk-weaker}
@@ -12,12 +12,12 @@ use Rattle.js_session.specs.Shifted.{OfEachPlace, ShiftFits, shifted, shifted_ro
 use Rattle.js_document.specs.declared.change.ChangedRange.{ChangedRange}
 use Rattle.js_document.specs.declared.gap.Entry.{Entry}
 use Rattle.js_document.specs.Changed.{IsChange, IsChangeBetween, MayChange}
-use Rattle.js_document.specs.Gap.{GapState, around, entries_of, rows_of}
+use Rattle.js_document.specs.Gap.{GapState, around, entries_of, rows_of, shifted_entry}
 use Rattle.js_document.proofs.EditedDocument.{all_turned}
-use Rattle.js_document.proofs.EntryLoops.{rows_up_to, turned_from}
+use Rattle.js_document.proofs.EntryLoops.{rows_up_to}
 use Rattle.js_document.proofs.KeptLemmas.{all_first, all_joined, all_rest, rows_joined}
-use Rattle.js_document.proofs.ListLemmas.{map_turned}
-use Rattle.js_document.proofs.RowPlaces.{rows_around, turned_both}
+use Rattle.js_document.proofs.ListLemmas.{map_turned, take_turned}
+use Rattle.js_document.proofs.RowPlaces.{rows_around, turned_both, turned_rows}
 use Rattle.js_document.proofs.ShiftLemmas.{row_to_shifted}
 
 -- what holds of each item that a row found holds of all that rows found
@@ -60,24 +60,6 @@ module _ {A : Type 0} (items : Row → List A) (moved : ℕ → ℕ → A → A)
       ap (λ l. l ++ flat_map items (map (shifted_row from to) rows)) (law from to row)
       ∙ ap (λ l. map (moved from to) (items row) ++ l) (found_shifted from to rows)
       ∙ sym (map-append (moved from to) (items row) (flat_map items rows))
-
-  module _ {K : Type 0} where
-    -- The same of rows that stand with the last one first, moved.
-    pub added_from : (from to : ℕ) (es : List (Entry K)) (left : ℕ) (e : Entry K) (first now later : List A) → 0 < left
-        → left ≤ length es → e ≡ get_or es (left - 1) e
-        → now ≡ first ++ flat_map items (map (shifted_row from to) (reverse (rows_of {K = K} (drop left es))))
-        → later ≡ now ++ map (moved from to) (items e.row)
-        → later ≡ first ++ flat_map items (map (shifted_row from to) (reverse (rows_of {K = K} (drop (left - 1) es))))
-    added_from from to es left e first now later some few is so_far more =
-        let before = map (shifted_row from to) (reverse (rows_of {K = K} (drop left es))) in
-        let row = shifted_row from to (get_or es (left - 1) e).row in
-        more ∙ ap (λ l. l ++ map (moved from to) (items e.row)) so_far
-        ∙ append_assoc first (flat_map items before) (map (moved from to) (items e.row))
-        ∙ ap (λ l. first ++ (flat_map items before ++ l)) (sym (law from to e.row))
-        ∙ ap (λ (x : Entry K). first ++ (flat_map items before ++ items (shifted_row from to x.row))) is
-        ∙ ap (λ l. first ++ (flat_map items before ++ l)) (sym (append-nil (items row)))
-        ∙ ap (λ l. first ++ l) (sym (flat_map-append items before (row ∷ [])))
-        ∙ ap (λ rs. first ++ flat_map items rs) (sym (turned_from {K = K} from to es left e some few))
 
   module _ {K : Type 0} (start end : ℕ) (new : List ℕ) (g : GapState K) (left : ℕ) where
     abbrev to : ℕ
@@ -197,3 +179,24 @@ module _ {A : Type 0} (items : Row → List A) (moved : ℕ → ℕ → A → A)
             (subst (λ xs. Between index xs news r) old_is
             (subst (λ xs. Between index old_items xs r) new_is is)))
             between
+
+-- The rows behind the gap that go, told by their indices.
+pub rows_gone : {K : Type 0} (g : GapState K) (left : ℕ) → left ≤ length g.back
+    → rows_of {K = K} (take (length (entries_of {K = K} g) - left - length g.front) (drop (length g.front)
+    (entries_of {K = K} g)))
+    ≡ map (shifted_row g.pad 0) (reverse (rows_of {K = K} (drop left g.back)))
+rows_gone {K} g left few =
+    let turned = map (shifted_entry {K = K} g.pad 0) (reverse g.back) in
+    let long = length-append g.front turned in
+    let back = length-map (reverse g.back) (shifted_entry {K = K} g.pad 0) ∙ length-reverse g.back in
+    let count = length g.back - left in
+    let place : length (entries_of {K = K} g) - left - length g.front ≡ count = omega (arith, long, back) in
+    let cut : length g.back - count ≡ left = omega (arith, few) in
+    ap (λ es. rows_of {K = K} (take (length (entries_of {K = K} g) - left - length g.front) es))
+    (drop_at g.front turned (length g.front) refl)
+    ∙ ap (λ n. rows_of {K = K} (take n turned)) place
+    ∙ ap (rows_of {K = K})
+    (take-map (shifted_entry {K = K} g.pad 0) count (reverse g.back)
+    ∙ ap (map (shifted_entry {K = K} g.pad 0))
+    (take_turned g.back count (omega arith) ∙ ap (λ n. reverse (drop n g.back)) cut))
+    ∙ turned_rows {K = K} g.pad (drop left g.back)

@@ -1,6 +1,5 @@
 -- The tokens that are compared, of rows around a gap.
-use Rattle.std.proofs.Common.{◌≡◌, ℕ, zero, suc, ◌+◌, ◌-◌, ◌≤◌, List, [], ◌∷◌, ◌++◌, length, map, take, drop, refl, ◌∙◌}
-use Rattle.std.proofs.Common.{ap, subst, arith}
+use Rattle.std.proofs.Common.{◌≡◌, ℕ, ◌+◌, ◌-◌, ◌≤◌, List, [], ◌++◌, length, map, take, drop, subst, arith}
 use Rattle.std.specs.List.{AllByRecursion}
 use Rattle.std.specs.Prelude.{IfOk, Result, reverse}
 use Rattle.std.proofs.lemmas.List.{length-take-le, take-take}
@@ -15,34 +14,14 @@ use Rattle.js_document.specs.Changed.{StartsReading, last_token_of}
 use Rattle.js_document.specs.Gap.{GapState, IsPadded, around, count_tokens, entries_of, rows_of}
 use Rattle.js_document.specs.Reading.{with_rows}
 use Rattle.js_document.proofs.ChangedRows.{change_is, news, olds, olds_may_move}
-use Rattle.js_document.proofs.EntryLoops.{padded_move, rest_padded}
+use Rattle.js_document.proofs.EntryLoops.{padded_move}
 use Rattle.js_document.proofs.KeptLemmas.{all_rest}
-
-none_taken : {A : Type 0} (n : ℕ) → ◌≡◌ {A = List A} [] (take n [])
-none_taken zero = refl
-none_taken (suc n) = refl
-
--- the first items of a list, and those behind them
-pub take_parts : {A : Type 0} (xs : List A) (m n : ℕ) → m ≤ n → take n xs ≡ take m xs ++ take (n - m) (drop m xs)
-take_parts xs zero n less = ap (λ k. take k xs) (let same : n ≡ n - 0 = omega arith in same)
-take_parts xs (suc m) zero less = absurd (omega (arith, less))
-take_parts {A} [] (suc m) (suc n) less = none_taken {A = A} (suc n - suc m)
-take_parts (x ∷ xs) (suc m) (suc n) less =
-    let same : n - m ≡ suc n - suc m = omega arith in
-    ap (λ l. x ∷ l) (take_parts xs m n (omega (arith, less)))
-    ∙ ap (λ k. x ∷ take m xs ++ take k (drop m xs)) same
-
-module _ {K : Type 0} where
-  -- what stands behind the gap from an entry on may come before it
-  pub rest_moves : (pad left : ℕ) (back : List (Entry K)) → AllByRecursion (IsPadded {K = K} pad) back
-      → AllByRecursion (EntryMayMove {K = K} pad 0) (take (length back - left) (drop left back))
-  rest_moves pad left back padded =
-      padded_move {K = K} pad (take (length back - left) (drop left back)) (rest_padded {K = K} pad left back padded)
+use Rattle.js_document.proofs.ListLemmas.{take_parts}
 
 module _ {K : Type 0} (start end : ℕ) (new : List ℕ) (g : GapState K) (left pad : ℕ)
     (may : MayChange {K = K} start end new g left pad) (read : List (Entry K)) (reading : ℕ)
     (few : reading ≤ length (take left g.back)) (starts : StartsReading {K = K} (take reading (take left g.back))) where
-  less : reading ≤ left
+  pub less : reading ≤ left
   less = (let long = length-take-le left g.back may.few in omega (arith, long, few))
 
   abbrev again : List (Entry K)

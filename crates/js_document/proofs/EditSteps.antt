@@ -1,5 +1,5 @@
 -- An edit of rows, by what its calls tell: the gap is moved, rows are read, and put in their place.
-use Rattle.std.proofs.Common.{◌≡◌, ℕ, ◌+◌, ◌-◌, List, length, sym, ◌∙◌, ap, subst, Option}
+use Rattle.std.proofs.Common.{◌≡◌, ℕ, ◌+◌, ◌-◌, List, ◌++◌, length, take, sym, ◌∙◌, ap, subst, Option}
 use Rattle.std.specs.List.{AllByRecursion}
 use Rattle.std.specs.Prelude.{◌^◌, unwrap_or}
 use Rattle.std.specs.Str.{IsUtf8}
@@ -13,12 +13,12 @@ use Rattle.js_document.specs.declared.open.Node.{Node}
 use Rattle.js_document.specs.Changed.{MayChange}
 use Rattle.js_document.specs.Documents.{Edits, IsHeld, IsKept, document_of}
 use Rattle.js_document.specs.Edited.{IsEditOf, ReadsEdited, Replaces}
-use Rattle.js_document.specs.Gap.{GapState, IsPadded, MovesGap, entries_of, rows_of}
+use Rattle.js_document.specs.Gap.{GapState, IsPadded, MayPad, MovesGap, around, entries_of, rows_of}
 use Rattle.js_document.specs.Reading.{Knowledge}
 use Rattle.js_document.specs.States.{AlikeAgain, AlikeBehind, AlikeItself, Alikeness, ChoosesAlike, KnowsAlike}
 use Rattle.js_document.specs.Trie.{HasMore}
 use Rattle.js_document.proofs.EditedDocument.{IsBeing}
-use Rattle.js_document.proofs.HeldEdited.{edits_rows, held_edited, may_replace, still_held}
+use Rattle.js_document.proofs.HeldEdited.{between_may_pad, edits_rows, held_edited, may_replace, still_held}
 use Rattle.js_document.proofs.KeptDocument.{being_of}
 use Rattle.js_document.proofs.TrieLemmas.{none_more}
 
@@ -60,6 +60,13 @@ module _ {K : Type 0} (rule : Rule) (law : IsRule rule) (Alike : Alikeness) (cho
     may_put =
         may_replace {K = K} rule law Alike choose itself behind_law again_law knows known_alike stays old_text new start end
         t nodes new_nodes more g being entries left reads_here other pads
+
+    -- And the rows of the edited text may be padded.
+    pub put_may_pad : AllByRecursion (MayPad {K = K} other)
+        (around {K = K} (g.front ++ entries) other (take (unwrap_or left 0) g.back))
+    put_may_pad =
+        between_may_pad {K = K} rule law Alike choose itself behind_law again_law knows known_alike stays old_text new start
+        end t nodes new_nodes more g being entries left reads_here other pads
 
     module _ (after : GapState K) (change : Change)
         (r : Replaces {K = K} g entries (unwrap_or left 0) other start end new after change) where

@@ -4,7 +4,7 @@ use Rattle.std.proofs.Common.{refl, sym, ◌∙◌, ap, subst, arith, append_ass
 use Rattle.std.specs.List.{AllByRecursion}
 use Rattle.std.specs.Prelude.{if◌then◌else◌, reverse, slice_get}
 use Rattle.std.proofs.Math.Seq.{drop-cons}
-use Rattle.std.proofs.lemmas.List.{length-take-le, map-append, reverse-append, take-append-drop, take_more, take_rest}
+use Rattle.std.proofs.lemmas.List.{length-take-le, map-append, reverse-append, take-append-drop, take_more}
 use Rattle.std.proofs.lemmas.Option.{slice_get_read}
 use Rattle.js_text.specs.Lists.{with_last}
 use Rattle.js_kind.specs.TokenParts.{TokenParts}
@@ -13,12 +13,12 @@ use Rattle.js_session.specs.declared.command.Effect.TheVariants.{Reads, Peeks, R
 use Rattle.js_session.specs.declared.row.Row.{Row}
 use Rattle.js_session.specs.Effects.{row_effect}
 use Rattle.js_session.specs.Live.{State, outcome_of, with_re_lexed}
-use Rattle.js_session.specs.Shifted.{shifted_row, shifted_token}
+use Rattle.js_session.specs.Shifted.{shifted_row}
 use Rattle.js_document.specs.declared.gap.Entry.{Entry}
 use Rattle.js_document.specs.Changed.{EntryMayMove, IsReading, StartsReading}
 use Rattle.js_document.specs.Gap.{IsPadded, last_entry, reads_on, rows_of}
 use Rattle.js_document.specs.Reading.{state_of, with_row, with_rows}
-use Rattle.js_document.proofs.KeptLemmas.{all_rest, rows_joined}
+use Rattle.js_document.proofs.KeptLemmas.{rows_joined}
 use Rattle.js_document.proofs.ListLemmas.{get_left}
 use Rattle.js_document.proofs.TokenLemmas.{by_effect, rows_both}
 
@@ -46,13 +46,12 @@ same_effect Opens row other tokens token taken = refl
 same_effect Rewinds row other tokens token taken = refl
 same_effect Commits row other tokens token taken = refl
 
--- a row that is moved makes its token live, moved
-pub moved_live : (from to : ℕ) (row : Row) (tokens : List TokenParts)
-    → with_row tokens (record row { token = shifted_token from to row.token })
-    ≡ with_row tokens (shifted_row from to row)
-moved_live from to row tokens =
-    same_effect (row_effect row.command) (record row { token = shifted_token from to row.token })
-    (shifted_row from to row) tokens refl refl
+-- rows of one command make the same token live
+pub same_live : (row other : Row) (tokens : List TokenParts) → row.command ≡ other.command → row.token ≡ other.token
+    → row.taken ≡ other.taken → with_row tokens row ≡ with_row tokens other
+same_live row other tokens command token taken =
+    ap (λ c. by_effect (row_effect c) row tokens) command
+    ∙ same_effect (row_effect other.command) row other tokens token taken
 
 module _ {K : Type 0} where
   -- the rows up to an entry, and from it on
@@ -108,17 +107,6 @@ module _ {K : Type 0} where
       ∙ ap (λ r. rows ++ (rows_of {K = K} (take index es) ++ r ∷ [])) same
       ∙ ap (λ rs. rows ++ rs) (sym (rows_up_to es index e some is))
 
-  pub copied_from : (from to : ℕ) (es : List (Entry K)) (left : ℕ) (e : Entry K) (rows now later : List Row) (row : Row)
-      → 0 < left → left ≤ length es
-      → now ≡ rows ++ map (shifted_row from to) (reverse (rows_of {K = K} (drop left es)))
-      → later ≡ now ++ row ∷ [] → row ≡ shifted_row from to (get_or es (left - 1) e).row
-      → later ≡ rows ++ map (shifted_row from to) (reverse (rows_of {K = K} (drop (left - 1) es)))
-  copied_from from to es left e rows now later row some few so_far more same =
-      let before = map (shifted_row from to) (reverse (rows_of {K = K} (drop left es))) in
-      more ∙ ap (λ rs. rs ++ row ∷ []) so_far ∙ append_assoc rows before (row ∷ [])
-      ∙ ap (λ r. rows ++ (before ++ r ∷ [])) same
-      ∙ ap (λ rs. rows ++ rs) (sym (turned_from from to es left e some few))
-
   -- The last of the entries that are left reads a token behind the last one.
   pub last_reads : (es : List (Entry K)) (left : ℕ) (e : Entry K) → 0 < left → left ≤ length es
       → e ≡ get_or es (left - 1) e → reads_on e.row ≡ true → StartsReading {K = K} (take left es)
@@ -130,14 +118,6 @@ module _ {K : Type 0} where
       ∙ ap (λ xs. slice_get xs (left - 1)) (take-append-drop left es)
       ∙ slice_get_read es (length es) (left - 1) e refl (omega (arith, some, few)) is in
       subst (IsReading {K = K}) (sym at) reads
-
-  -- What stands behind the gap from an entry on is padded.
-  pub rest_padded : (pad left : ℕ) (back : List (Entry K)) → AllByRecursion (IsPadded {K = K} pad) back
-      → AllByRecursion (IsPadded {K = K} pad) (take (length back - left) (drop left back))
-  rest_padded pad left back padded =
-      subst (AllByRecursion (IsPadded {K = K} pad)) (sym (take_rest back left))
-      (all_rest (IsPadded {K = K} pad) (take left back) (drop left back)
-      (subst (AllByRecursion (IsPadded {K = K} pad)) (sym (take-append-drop left back)) padded))
 
   -- What is padded may come before the gap.
   pub padded_move : (pad : ℕ) (es : List (Entry K)) → AllByRecursion (IsPadded {K = K} pad) es

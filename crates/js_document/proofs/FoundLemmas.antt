@@ -1,7 +1,7 @@
 -- What rows found, list by list.
 use Rattle.std.proofs.Common.{◌≡◌, ℕ, zero, suc, ◌+◌, ◌<◌, ◌≤◌, true, List, [], ◌∷◌, ◌++◌, length, map, drop}
 use Rattle.std.proofs.Common.{refl, sym, ◌∙◌, ap, subst, arith, append_assoc, append-nil, Option, Some, None}
-use Rattle.std.specs.List.{All, AllByRecursion, flat_map}
+use Rattle.std.specs.List.{All, flat_map}
 use Rattle.std.specs.Option.{option_map, option_map_or}
 use Rattle.std.specs.Prelude.{if◌then◌else◌, slice_get}
 use Rattle.std.specs.Str.{IsUtf8}
@@ -23,10 +23,9 @@ use Rattle.js_document.specs.Found.{findings_of, found_by, found_from, found_in}
 use Rattle.js_document.specs.Gap.{again_effect, on_effect}
 use Rattle.js_document.proofs.EditedRows.{AreChosenRows}
 use Rattle.js_document.proofs.HeldReport.{live_held}
-use Rattle.js_document.proofs.ListLemmas.{get_within}
+use Rattle.js_document.proofs.ListLemmas.{drop_at_item, get_within}
 use Rattle.js_document.proofs.LiveRows.{AreFollowing, Follows, follows, first_on}
 use Rattle.js_document.proofs.LiveRows.Follows.{on, again}
-use Rattle.js_document.proofs.RowPlaces.{drop_at_item}
 
 -- behind the last item there is none
 none_from : {A : Type 0} (xs : List A) (n : ℕ) → slice_get xs n ≡ None → drop n xs ≡ []
@@ -152,17 +151,15 @@ report_found rule is_rule text t rows u a = λ j. record {
   warnings = found_live (λ (f : Findings). f.warnings) (λ (x y : Findings). refl) rule is_rule text t rows u a refl j;
 }
 
--- An item of a row behind the gap is that of the padded row, shifted.
+-- An item of a row that is shifted is that of the row, shifted.
 module _ {A : Type 0} (items : Row → List A) (moved : ℕ → ℕ → A → A)
     (law : (from to : ℕ) (row : Row) → items (shifted_row from to row) ≡ map (moved from to) (items row)) where
-  pub item_behind : (rows : List Row) (row index pad : ℕ) (held : Row) → slice_get rows row ≡ Some (shifted_row pad 0 held)
-      → slice_get (option_map_or items (slice_get rows row) []) index
-      ≡ option_map (moved pad 0) (slice_get (items held) index)
-  item_behind rows row index pad held at =
-      ap (λ o. slice_get (option_map_or items o []) index) at ∙ ap (λ xs. slice_get xs index) (law pad 0 held)
-      ∙ mapped (items held) index
+  pub item_moved : (from to : ℕ) (row : Row) (index : ℕ)
+      → slice_get (items (shifted_row from to row)) index ≡ option_map (moved from to) (slice_get (items row) index)
+  item_moved from to row index = ap (λ xs. slice_get xs index) (law from to row) ∙ mapped (items row) index
     where
-      mapped : (xs : List A) (n : ℕ) → slice_get (map (moved pad 0) xs) n ≡ option_map (moved pad 0) (slice_get xs n)
+      mapped : (xs : List A) (n : ℕ)
+          → slice_get (map (moved from to) xs) n ≡ option_map (moved from to) (slice_get xs n)
       mapped [] n = refl
       mapped (x ∷ xs) zero = refl
       mapped (x ∷ xs) (suc n) = mapped xs n
@@ -172,10 +169,3 @@ pub all_there : {A : Type 0} (P : A → Type 0) (xs : List A) (n : ℕ) (x : A) 
 all_there P xs n x all at =
     let within = get_within xs n x at in
     subst P (get_or_from_slice_get xs n x x at) (all n x within)
-
--- what holds of each of some entries holds of one that there is
-pub each_there : {A : Type 0} (P : A → Type 0) (xs : List A) (n : ℕ) (x : A) → AllByRecursion P xs
-    → slice_get xs n ≡ Some x → P x
-each_there P [] n x all at = absurd (cc)
-each_there P (y ∷ ys) zero x all at = (let same : y ≡ x = cc in subst P same all.0)
-each_there P (y ∷ ys) (suc n) x all at = each_there P ys n x all.1 at

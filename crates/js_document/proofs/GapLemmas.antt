@@ -1,18 +1,21 @@
--- Rows that cross the gap.
-use Rattle.std.proofs.Common.{◌≡◌, ℕ, zero, suc, ◌+◌, ◌-◌, ◌<◌, ◌≤◌, List, [], ◌∷◌, ◌++◌, length, map, take, drop, refl}
-use Rattle.std.proofs.Common.{Bool, true, false, sym, ◌∙◌, ap, subst, arith, append_assoc, append-nil, get_or, zero-add}
+-- Rows with a gap between two of them, and what is counted of rows.
+use Rattle.std.proofs.Common.{◌≡◌, ℕ, ◌+◌, ◌-◌, ◌<◌, ◌≤◌, List, [], ◌∷◌, ◌++◌, length, map, take, drop, refl}
+use Rattle.std.proofs.Common.{Bool, true, false, sym, ◌∙◌, ap, subst, arith, append-nil, get_or, zero-add, Some, None}
 use Rattle.std.specs.List.{AllByRecursion}
 use Rattle.std.specs.Prelude.{◌^◌, reverse, slice_get, if◌then◌else◌}
-use Rattle.std.proofs.Common.{Some, None}
-use Rattle.std.proofs.lemmas.List.{length-append, length-map, length-reverse, reverse-append, take-append-drop, take_more}
-use Rattle.std.proofs.lemmas.Option.{slice_get_past}
-use Rattle.js_session.specs.Shifted.{FitsShifted, ShiftFits, shifted}
+use Rattle.std.proofs.lemmas.List.{drop-drop, drop-map, length-append, length-drop, length-map, length-reverse, length-take-le}
+use Rattle.std.proofs.lemmas.List.{reverse-reverse, take-append-drop, take_more}
+use Rattle.js_session.specs.Shifted.{shifted}
 use Rattle.js_session.proofs.RowsWithin.{row_weaker}
 use Rattle.js_document.specs.declared.gap.Entry.{Entry}
-use Rattle.js_document.specs.Gap.{AreCounted, GapState, IsPadded, MayPad, MovesGap, around, count_tokens}
-use Rattle.js_document.specs.Gap.{entries_of, IsPaddedPlace, more_tokens, reads_on, rows_of, shifted_entry}
-use Rattle.js_document.proofs.ListLemmas.{get_right, get_turned}
-use Rattle.js_document.proofs.ShiftLemmas.{row_back, row_to_shifted}
+use Rattle.js_document.specs.Blocks.{MovesEntry, MovesPlace}
+use Rattle.js_document.specs.Gap.{GapState, IsPadded, IsPaddedPlace, MayPad, around, count_tokens, entries_of, gap_at}
+use Rattle.js_document.specs.Gap.{last_entry, more_tokens, reads_on, rows_of, shifted_entry}
+use Rattle.js_document.specs.LiveTokens.{StartUpTo}
+use Rattle.js_document.specs.Reading.{IsSeam}
+use Rattle.js_document.proofs.ListLemmas.{all_dropped, all_mapped, all_reversed, get_dropped, get_mapped, get_taken}
+use Rattle.js_document.proofs.ListLemmas.{get_turned, get_within, put_mapped, take_turned}
+use Rattle.js_document.proofs.ShiftLemmas.{row_back, row_both, row_composed, row_of_shifted, row_to_shifted}
 
 more_one : (b : Bool) → (if◌then◌else◌ {A = ℕ} b 1 0) ≤ 1
 more_one true = omega arith
@@ -22,50 +25,17 @@ module _ {K : Type 0} where
   entry_back : (pad : ℕ) (e : Entry K) → shifted_entry {K = K} pad 0 (shifted_entry {K = K} 0 pad e) ≡ e
   entry_back pad e = λ j. record e { row = row_back pad e.row j }
 
-  -- the first entry behind the gap is the last of the list
-  pub first_behind : (pad : ℕ) (front back : List (Entry K)) (s : Entry K)
-      → around {K = K} front pad (back ++ s ∷ [])
-      ≡ front ++ shifted_entry {K = K} pad 0 s ∷ map (shifted_entry {K = K} pad 0) (reverse back)
-  first_behind pad front back s =
-      ap (λ l. front ++ map (shifted_entry {K = K} pad 0) l) (reverse-append back (s ∷ []))
+  each_back : (pad : ℕ) (es : List (Entry K))
+      → map (shifted_entry {K = K} pad 0) (map (shifted_entry {K = K} 0 pad) es) ≡ es
+  each_back pad [] = refl
+  each_back pad (e ∷ es) = λ j. entry_back pad e j ∷ each_back pad es j
 
   -- where none is behind the gap
   pub all_before : (g : GapState K) → g.back ≡ [] → entries_of {K = K} g ≡ g.front
   all_before g none =
       ap (λ back. around {K = K} g.front g.pad back) none ∙ append-nil g.front
 
-  -- An entry that goes behind the gap, and one that comes before it.
-  pub goes_back : (pad : ℕ) (front back : List (Entry K)) (e : Entry K)
-      → around {K = K} front pad (back ++ shifted_entry {K = K} 0 pad e ∷ []) ≡ around {K = K} (front ++ e ∷ []) pad back
-  goes_back pad front back e =
-      first_behind pad front back (shifted_entry {K = K} 0 pad e)
-      ∙ ap (λ x. front ++ x ∷ map (shifted_entry {K = K} pad 0) (reverse back)) (entry_back pad e)
-      ∙ sym (append_assoc front (e ∷ []) (map (shifted_entry {K = K} pad 0) (reverse back)))
-
-  pub comes_front : (pad : ℕ) (front back : List (Entry K)) (s : Entry K)
-      → around {K = K} (front ++ shifted_entry {K = K} pad 0 s ∷ []) pad back ≡ around {K = K} front pad (back ++ s ∷ [])
-  comes_front pad front back s =
-      append_assoc front (shifted_entry {K = K} pad 0 s ∷ []) (map (shifted_entry {K = K} pad 0) (reverse back))
-      ∙ sym (first_behind pad front back s)
-
-  -- what may be padded may cross the gap
-  pub may_cross : (pad : ℕ) (e : Entry K) → MayPad {K = K} pad e → ShiftFits 0 pad e.row
-  may_cross pad e may =
-      row_weaker (λ place. place + pad < 2 ^ 32) (FitsShifted 0 pad) (λ place less. omega (arith, less)) e.row may.places
-
-  all_at : (P : Entry K → Type 0) (xs ys : List (Entry K)) (x : Entry K) → AllByRecursion P (xs ++ x ∷ ys) → P x
-  all_at P [] ys x all = all.0
-  all_at P (z ∷ xs) ys x all = all_at P xs ys x all.1
-
-  -- the last entry before the gap may be padded
-  pub last_may : (pad : ℕ) (front back : List (Entry K)) (e : Entry K)
-      → AllByRecursion (MayPad {K = K} pad) (around {K = K} (front ++ e ∷ []) pad back) → MayPad {K = K} pad e
-  last_may pad front back e all =
-      let rest = map (shifted_entry {K = K} pad 0) (reverse back) in
-      all_at (MayPad {K = K} pad) front rest e
-      (subst (AllByRecursion (MayPad {K = K} pad)) (append_assoc front (e ∷ []) rest) all)
-
-  -- how many live tokens there are around the gap
+  -- how many live tokens there are of rows that are moved, and of rows put together
   pub count_shifted : (from to : ℕ) (es : List (Entry K))
       → count_tokens (rows_of {K = K} (map (shifted_entry {K = K} from to) es)) ≡ count_tokens (rows_of {K = K} es)
   count_shifted from to [] = refl
@@ -75,23 +45,6 @@ module _ {K : Type 0} where
       → count_tokens (rows_of {K = K} (xs ++ ys)) ≡ count_tokens (rows_of {K = K} xs) + count_tokens (rows_of {K = K} ys)
   count_both [] ys = sym (zero-add (count_tokens (rows_of {K = K} ys)))
   count_both (x ∷ xs) ys = let more = count_both xs ys in omega (arith, more)
-
-  count_reversed : (es : List (Entry K)) → count_tokens (rows_of {K = K} (reverse es)) ≡ count_tokens (rows_of {K = K} es)
-  count_reversed [] = refl
-  count_reversed (e ∷ es) =
-      let both = ap (λ l. count_tokens (rows_of {K = K} l)) (reverse-append (e ∷ []) es)
-      ∙ count_both (reverse es) (e ∷ []) in
-      let more = count_reversed es in
-      omega (arith, both, more)
-
-  pub count_around : (front : List (Entry K)) (pad : ℕ) (back : List (Entry K))
-      → count_tokens (rows_of {K = K} (around {K = K} front pad back))
-      ≡ count_tokens (rows_of {K = K} front) + count_tokens (rows_of {K = K} back)
-  count_around front pad back =
-      let both = count_both front (map (shifted_entry {K = K} pad 0) (reverse back)) in
-      let shifted = count_shifted pad 0 (reverse back) in
-      let turned = count_reversed back in
-      omega (arith, both, shifted, turned)
 
   -- no more than rows
   pub count_few : (es : List (Entry K)) → count_tokens (rows_of {K = K} es) ≤ length es
@@ -114,36 +67,9 @@ module _ {K : Type 0} where
       let one = ap (λ (x : Entry K). more_tokens x.row) is in
       omega (arith, whole, one)
 
-  -- what rows around a gap are, by their parts
-  pub tokens_of_view : (front back : List (Entry K)) (pad front_tokens tokens : ℕ) (g : GapState K)
-      → record { front = front; back = back; pad = pad } ≡ g
-      → AreCounted {K = K} front back pad front_tokens tokens
-      → tokens ≡ count_tokens (rows_of {K = K} (entries_of {K = K} g))
-  tokens_of_view front back pad front_tokens tokens g is counted =
-      counted.all_is ∙ sym (count_around front pad back)
-      ∙ ap (λ (x : GapState K). count_tokens (rows_of {K = K} (entries_of {K = K} x))) is
-
-  -- The last entry before the gap goes behind it.
-  pub may_of_view : (front back : List (Entry K)) (pad : ℕ) (g : GapState K)
-      → record { front = front; back = back; pad = pad } ≡ g → (rest : List (Entry K)) (e : Entry K)
-      → front ≡ rest ++ e ∷ [] → AllByRecursion (MayPad {K = K} g.pad) (entries_of {K = K} g) → MayPad {K = K} pad e
-  may_of_view front back pad g is rest e popped all =
-      last_may pad rest back e
-      (subst (λ f. AllByRecursion (MayPad {K = K} pad) (around {K = K} f pad back)) popped
-      (subst (λ (x : GapState K). AllByRecursion (MayPad {K = K} x.pad) (entries_of {K = K} x)) (sym is) all))
-
-  all_snoc : (P : Entry K → Type 0) (xs : List (Entry K)) (x : Entry K) → AllByRecursion P xs → P x
-      → AllByRecursion P (xs ++ x ∷ [])
-  all_snoc P [] x all here = (here, tt)
-  all_snoc P (y ∷ ys) x all here = (all.0, all_snoc P ys x all.1 here)
-
-  all_but_last : (P : Entry K → Type 0) (xs : List (Entry K)) (x : Entry K) → AllByRecursion P (xs ++ x ∷ [])
-      → AllByRecursion P xs
-  all_but_last P [] x all = tt
-  all_but_last P (y ∷ ys) x all = (all.0, all_but_last P ys x all.1)
-
   -- a padded entry is one
-  is_padded : (pad : ℕ) (e : Entry K) → MayPad {K = K} pad e → IsPadded {K = K} pad (shifted_entry {K = K} 0 pad e)
+  pub is_padded : (pad : ℕ) (e : Entry K) → MayPad {K = K} pad e
+      → IsPadded {K = K} pad (shifted_entry {K = K} 0 pad e)
   is_padded pad e may = record {
     places =
         row_to_shifted (IsPaddedPlace pad) 0 pad e.row
@@ -152,158 +78,211 @@ module _ {K : Type 0} where
     ordered = (let ordered = may.ordered in omega (arith, ordered));
   }
 
-  pub counted_back : (front back : List (Entry K)) (pad front_tokens tokens : ℕ) (rest new_back : List (Entry K))
-      (e p : Entry K) (more : ℕ) → AreCounted {K = K} front back pad front_tokens tokens → front ≡ rest ++ e ∷ []
-      → new_back ≡ back ++ p ∷ [] → p ≡ shifted_entry {K = K} 0 pad e → more ≡ more_tokens e.row
-      → MayPad {K = K} pad e → AreCounted {K = K} rest new_back pad (front_tokens - more) tokens
-  counted_back front back pad front_tokens tokens rest new_back e p more counted popped pushed is_p is_more may =
-      let front_count = ap (λ f. count_tokens (rows_of {K = K} f)) popped ∙ count_both rest (e ∷ []) in
-      let back_count = ap (λ f. count_tokens (rows_of {K = K} f)) pushed ∙ count_both back (p ∷ []) in
-      let same : more_tokens p.row ≡ more_tokens e.row = ap (λ (x : Entry K). more_tokens x.row) is_p in
-      let front_is = counted.front_is in
-      let all_is = counted.all_is in
-      record {
-        front_is = omega (arith, front_count, front_is, is_more);
-        all_is = omega (arith, front_count, back_count, same, all_is);
-        padded =
-            subst (AllByRecursion (IsPadded {K = K} pad)) (sym pushed)
-            (all_snoc (IsPadded {K = K} pad) back p counted.padded
-            (subst (IsPadded {K = K} pad) (sym is_p) (is_padded pad e may)));
-      }
-
-  pub moved_back : (front back : List (Entry K)) (pad : ℕ) (g : GapState K)
-      → record { front = front; back = back; pad = pad } ≡ g → (rest new_back : List (Entry K)) (e p : Entry K)
-      → front ≡ rest ++ e ∷ [] → new_back ≡ back ++ p ∷ [] → p ≡ shifted_entry {K = K} 0 pad e
-      → MovesGap {K = K} g (record { front = rest; back = new_back; pad = pad })
-  moved_back front back pad g is rest new_back e p popped pushed is_p = record {
-    entries =
-        ap (around {K = K} rest pad) (pushed ∙ ap (λ x. back ++ x ∷ []) is_p) ∙ goes_back pad rest back e
-        ∙ ap (λ f. around {K = K} f pad back) (sym popped) ∙ ap (λ (x : GapState K). entries_of {K = K} x) is;
-    pad = ap (λ (x : GapState K). x.pad) is;
-  }
-
-  -- The first entry behind the gap comes before it.
-  pub padded_last : (pad : ℕ) (back rest : List (Entry K)) (s : Entry K) → back ≡ rest ++ s ∷ []
-      → AllByRecursion (IsPadded {K = K} pad) back → IsPadded {K = K} pad s
-  padded_last pad back rest s popped all =
-      all_at (IsPadded {K = K} pad) rest [] s (subst (AllByRecursion (IsPadded {K = K} pad)) popped all)
-
-  pub counted_front : (front back : List (Entry K)) (pad front_tokens tokens : ℕ) (rest new_front : List (Entry K))
-      (s u : Entry K) (more : ℕ) → AreCounted {K = K} front back pad front_tokens tokens → back ≡ rest ++ s ∷ []
-      → new_front ≡ front ++ u ∷ [] → u ≡ shifted_entry {K = K} pad 0 s → more ≡ more_tokens s.row
-      → AreCounted {K = K} new_front rest pad (front_tokens + more) tokens
-  counted_front front back pad front_tokens tokens rest new_front s u more counted popped pushed is_u is_more =
-      let back_count = ap (λ f. count_tokens (rows_of {K = K} f)) popped ∙ count_both rest (s ∷ []) in
-      let front_count = ap (λ f. count_tokens (rows_of {K = K} f)) pushed ∙ count_both front (u ∷ []) in
-      let same : more_tokens u.row ≡ more_tokens s.row = ap (λ (x : Entry K). more_tokens x.row) is_u in
-      let front_is = counted.front_is in
-      let all_is = counted.all_is in
-      record {
-        front_is = omega (arith, front_count, same, front_is, is_more);
-        all_is = omega (arith, front_count, back_count, same, all_is);
-        padded =
-            all_but_last (IsPadded {K = K} pad) rest s
-            (subst (AllByRecursion (IsPadded {K = K} pad)) popped counted.padded);
-      }
-
-  pub moved_front : (front back : List (Entry K)) (pad : ℕ) (g : GapState K)
-      → record { front = front; back = back; pad = pad } ≡ g → (rest new_front : List (Entry K)) (s u : Entry K)
-      → back ≡ rest ++ s ∷ [] → new_front ≡ front ++ u ∷ [] → u ≡ shifted_entry {K = K} pad 0 s
-      → MovesGap {K = K} g (record { front = new_front; back = rest; pad = pad })
-  moved_front front back pad g is rest new_front s u popped pushed is_u = record {
-    entries =
-        ap (λ f. around {K = K} f pad rest) (pushed ∙ ap (λ x. front ++ x ∷ []) is_u) ∙ comes_front pad front rest s
-        ∙ ap (around {K = K} front pad) (sym popped) ∙ ap (λ (x : GapState K). entries_of {K = K} x) is;
-    pad = ap (λ (x : GapState K). x.pad) is;
-  }
-
-  -- no more tokens before the gap than there are
-  pub front_few : (front back : List (Entry K)) (pad front_tokens tokens : ℕ) (rest : List (Entry K)) (s : Entry K)
-      (more : ℕ) → AreCounted {K = K} front back pad front_tokens tokens → back ≡ rest ++ s ∷ []
-      → more ≡ more_tokens s.row → front_tokens + more ≤ tokens
-  front_few front back pad front_tokens tokens rest s more counted popped is_more =
-      let back_count = ap (λ f. count_tokens (rows_of {K = K} f)) popped ∙ count_both rest (s ∷ []) in
-      let front_is = counted.front_is in
-      let all_is = counted.all_is in
-      omega (arith, back_count, front_is, all_is, is_more)
-
-  -- an entry behind the gap, by where it is held
-  pub entry_behind : (front back : List (Entry K)) (pad : ℕ) (g : GapState K)
-      → record { front = front; back = back; pad = pad } ≡ g → (index at : ℕ) (e : Entry K) → length front ≤ index
-      → index - length front < length back → at ≡ length back - 1 - (index - length front)
-      → slice_get back at ≡ Some e → slice_get (entries_of {K = K} g) index ≡ Some (shifted_entry {K = K} pad 0 e)
-  entry_behind front back pad g is index at e past less place there =
-      let behind = index - length front in
-      let whole : length front + behind ≡ index = omega (arith, past) in
-      let turned : slice_get (reverse back) behind ≡ Some e =
-      get_turned back behind less ∙ ap (slice_get back) (sym place) ∙ there in
-      ap (λ (x : GapState K). slice_get (entries_of {K = K} x) index) (sym is)
-      ∙ ap (slice_get (around {K = K} front pad back)) (sym whole)
-      ∙ get_right front (map (shifted_entry {K = K} pad 0) (reverse back)) behind ∙ mapped (reverse back) behind turned
-    where
-      mapped : (es : List (Entry K)) (n : ℕ) → slice_get es n ≡ Some e
-          → slice_get (map (shifted_entry {K = K} pad 0) es) n ≡ Some (shifted_entry {K = K} pad 0 e)
-      mapped [] n at = absurd (cc)
-      mapped (x ∷ es) zero at = (let same : x ≡ e = cc in ap (λ y. Some (shifted_entry {K = K} pad 0 y)) same)
-      mapped (x ∷ es) (suc n) at = mapped es n at
-
-  -- and its row
+  -- the row of an entry
   pub row_of_entry : (es : List (Entry K)) (n : ℕ) (e : Entry K) → slice_get es n ≡ Some e
       → slice_get (rows_of {K = K} es) n ≡ Some e.row
-  row_of_entry [] n e is = absurd (cc)
-  row_of_entry (x ∷ es) zero e is = (let same : x ≡ e = cc in ap (λ (y : Entry K). Some y.row) same)
-  row_of_entry (x ∷ es) (suc n) e is = row_of_entry es n e is
+  row_of_entry es n e is = put_mapped (λ (x : Entry K). x.row) es n e is
 
-  -- there is none behind the last one
-  pub none_behind : (front back : List (Entry K)) (pad : ℕ) (g : GapState K)
-      → record { front = front; back = back; pad = pad } ≡ g → (index : ℕ) → length front ≤ index
-      → length back ≤ index - length front → slice_get (rows_of {K = K} (entries_of {K = K} g)) index ≡ None
-  none_behind front back pad g is index past less =
-      let all = around {K = K} front pad back in
-      let behind = map (shifted_entry {K = K} pad 0) (reverse back) in
-      let long = length-append front behind in
-      let turned = length-map (reverse back) (shifted_entry {K = K} pad 0) ∙ length-reverse back in
-      let rows = length-map all (λ (e : Entry K). e.row) in
-      ap (λ (x : GapState K). slice_get (rows_of {K = K} (entries_of {K = K} x)) index) (sym is)
-      ∙ slice_get_past (rows_of {K = K} all) index (omega (arith, long, turned, rows, past, less))
+module _ {K : Type 0} (rows : List (Entry K)) (gap pad : ℕ) where
+  abbrev behind_gap : List (Entry K)
+  behind_gap = map (shifted_entry {K = K} 0 pad) (drop gap rows)
 
-  -- Rows are put before the gap, and fewer are left behind it.
-  pub counted_anew : (front back : List (Entry K)) (pad front_tokens tokens : ℕ) (rows new_front new_back : List (Entry K))
-      (left other more gone total : ℕ) → AreCounted {K = K} front back pad front_tokens tokens
-      → new_front ≡ front ++ rows → new_back ≡ take left back → more ≡ count_tokens (rows_of {K = K} rows)
-      → gone ≡ count_tokens (rows_of {K = K} (drop left back)) → total ≡ (tokens - gone) + more
-      → AllByRecursion (IsPadded {K = K} other) (take left back)
-      → AreCounted {K = K} new_front new_back other (front_tokens + more) total
-  counted_anew front back pad front_tokens tokens rows new_front new_back left other more gone total counted front_is back_is
-      more_is gone_is total_is padded =
-      let front_count = ap (λ f. count_tokens (rows_of {K = K} f)) front_is ∙ count_both front rows in
-      let back_count = ap (λ f. count_tokens (rows_of {K = K} f)) back_is in
-      let split = ap (λ f. count_tokens (rows_of {K = K} f)) (sym (take-append-drop left back))
-      ∙ count_both (take left back) (drop left back) in
-      let was = counted.front_is in
-      let all = counted.all_is in
-      record {
-        front_is = omega (arith, front_count, was, more_is);
-        all_is = omega (arith, front_count, back_count, split, was, all, more_is, gone_is, total_is);
-        padded = subst (AllByRecursion (IsPadded {K = K} other)) (sym back_is) padded;
-      }
+  -- the rows are those around the gap
+  pub whole_at : entries_of {K = K} (gap_at {K = K} rows gap pad) ≡ rows
+  whole_at =
+      ap (λ es. take gap rows ++ map (shifted_entry {K = K} pad 0) es) (reverse-reverse behind_gap)
+      ∙ ap (λ es. take gap rows ++ es) (each_back {K = K} pad (drop gap rows)) ∙ take-append-drop gap rows
 
-  -- no more go than there are
-  pub gone_few : (front back : List (Entry K)) (pad front_tokens tokens left gone : ℕ)
-      → AreCounted {K = K} front back pad front_tokens tokens
-      → gone ≡ count_tokens (rows_of {K = K} (drop left back)) → gone + front_tokens ≤ tokens
-  gone_few front back pad front_tokens tokens left gone counted gone_is =
-      let split = ap (λ f. count_tokens (rows_of {K = K} f)) (sym (take-append-drop left back))
-      ∙ count_both (take left back) (drop left back) in
-      let was = counted.front_is in
-      let all = counted.all_is in
-      omega (arith, split, was, all, gone_is)
+  behind_long : length behind_gap ≡ length rows - gap
+  behind_long = length-map (drop gap rows) (shifted_entry {K = K} 0 pad) ∙ length-drop gap rows
 
-  -- the last entry before the gap is counted there
-  pub back_few : (front back : List (Entry K)) (pad front_tokens tokens : ℕ) (rest : List (Entry K)) (e : Entry K)
-      (more : ℕ) → AreCounted {K = K} front back pad front_tokens tokens → front ≡ rest ++ e ∷ []
-      → more ≡ more_tokens e.row → more ≤ front_tokens
-  back_few front back pad front_tokens tokens rest e more counted popped is_more =
-      let front_count = ap (λ f. count_tokens (rows_of {K = K} f)) popped ∙ count_both rest (e ∷ []) in
-      let front_is = counted.front_is in
-      omega (arith, front_count, front_is, is_more)
+  module _ (g : GapState K) (is : gap_at {K = K} rows gap pad ≡ g) where
+    pub whole : entries_of {K = K} g ≡ rows
+    whole = ap (λ (x : GapState K). entries_of {K = K} x) (sym is) ∙ whole_at
+
+    pub front_is : g.front ≡ take gap rows
+    front_is = ap (λ (x : GapState K). x.front) (sym is)
+
+    pub pad_is : g.pad ≡ pad
+    pad_is = ap (λ (x : GapState K). x.pad) (sym is)
+
+    back_is : g.back ≡ reverse behind_gap
+    back_is = ap (λ (x : GapState K). x.back) (sym is)
+
+    pub front_long : gap ≤ length rows → length g.front ≡ gap
+    front_long few = ap (λ es. length es) front_is ∙ length-take-le gap rows few
+
+    pub back_long : length g.back ≡ length rows - gap
+    back_long = ap (λ es. length es) back_is ∙ length-reverse behind_gap ∙ behind_long
+
+    pub left_small : (left : ℕ) → left ≤ length g.back → left ≤ length rows - gap
+    left_small left few = (let long = back_long in omega (arith, few, long))
+
+    -- what stands behind the gap is padded
+    pub padded_back : AllByRecursion (MayPad {K = K} pad) rows → AllByRecursion (IsPadded {K = K} g.pad) g.back
+    padded_back may =
+        subst (λ (x : GapState K). AllByRecursion (IsPadded {K = K} x.pad) x.back) is
+        (all_reversed (IsPadded {K = K} pad) behind_gap
+        (all_mapped (MayPad {K = K} pad) (IsPadded {K = K} pad) (shifted_entry {K = K} 0 pad) (is_padded {K = K} pad)
+        (drop gap rows) (all_dropped (MayPad {K = K} pad) gap rows may)))
+
+    -- a row behind the gap, by how many stand behind it
+    pub back_there : (left : ℕ) (e : Entry K) → left < length rows - gap → slice_get rows (length rows - 1 - left) ≡ Some e
+        → slice_get g.back left ≡ Some (shifted_entry {K = K} 0 pad e)
+    back_there left e less there =
+        let place : gap + (length behind_gap - 1 - left) ≡ length rows - 1 - left =
+        (let long = behind_long in omega (arith, long, less)) in
+        ap (λ es. slice_get es left) back_is
+        ∙ get_turned behind_gap left (let long = behind_long in omega (arith, long, less))
+        ∙ put_mapped (shifted_entry {K = K} 0 pad) (drop gap rows) (length behind_gap - 1 - left) e
+        (get_dropped gap (length behind_gap - 1 - left) rows ∙ ap (slice_get rows) place ∙ there)
+
+    -- and the row that such a one is
+    pub back_at : (left : ℕ) (padded : Entry K) → slice_get g.back left ≡ Some padded
+        → (e : Entry K) × (slice_get rows (length rows - 1 - left) ≡ Some e)
+        × (shifted_entry {K = K} 0 pad e ≡ padded)
+    back_at left padded there =
+        let within = get_within g.back left padded there in
+        let long = back_long in
+        let behind = behind_long in
+        let place : gap + (length behind_gap - 1 - left) ≡ length rows - 1 - left =
+        omega (arith, behind, long, within) in
+        let turned : slice_get behind_gap (length behind_gap - 1 - left) ≡ Some padded =
+        sym (get_turned behind_gap left (omega (arith, behind, long, within)))
+        ∙ ap (λ es. slice_get es left) (sym back_is) ∙ there in
+        let it = get_mapped (shifted_entry {K = K} 0 pad) (drop gap rows) (length behind_gap - 1 - left) padded turned in (
+          it.0,
+          ap (slice_get rows) (sym place) ∙ sym (get_dropped gap (length behind_gap - 1 - left) rows) ∙ it.1,
+          it.2,
+        )
+
+    -- the last row before the gap
+    pub last_there : (last : ℕ) (e : Entry K) → gap ≤ length rows → 1 ≤ gap → last ≡ gap - 1 → slice_get rows last ≡ Some e
+        → last_entry {K = K} g.front ≡ Some e
+    last_there last e few some last_is there =
+        let long = front_long few in
+        let place : length g.front - 1 ≡ last = omega (arith, long, last_is) in
+        ap (slice_get g.front) place ∙ ap (λ es. slice_get es last) front_is
+        ∙ get_taken gap last rows (omega (arith, some, last_is)) ∙ there
+
+    pub last_none : gap ≡ 0 → last_entry {K = K} g.front ≡ None
+    last_none none = ap (λ es. last_entry {K = K} es) (front_is ∙ ap (λ n. take n rows) none)
+
+    -- Of the rows behind the gap so many start behind a padded place, where so many of all start at it or before it.
+    pub seam_behind : (padded place count : ℕ) → gap ≤ length rows → padded ≡ place + pad
+        → StartUpTo {K = K} place rows count → IsSeam {K = K} g.back padded (length rows - gap - (count - gap))
+    seam_behind padded place count few padded_is up_to = record {
+      few = (let long = back_long in omega (arith, long));
+      above = λ index entry less at.
+          let it = back_at index entry at in
+          let within = get_within g.back index entry at in
+          let long = back_long in
+          let starts = up_to.rest (length rows - 1 - index) it.0 (omega (arith, less, within, long)) it.1 in
+          let same = ap (λ (e : Entry K). e.row.token.start) it.2 in
+          omega (arith, starts, same, padded_is);
+      below = λ index entry past at.
+          let it = back_at index entry at in
+          let within = get_within g.back index entry at in
+          let long = back_long in
+          let starts = up_to.first (length rows - 1 - index) it.0 (omega (arith, past, within, long)) it.1 in
+          let same = ap (λ (e : Entry K). e.row.token.start) it.2 in
+          omega (arith, starts, same, padded_is);
+    }
+
+    -- All do, where the place is one before the text.
+    pub seam_before : (padded : ℕ) → padded < pad → IsSeam {K = K} g.back padded (length rows - gap)
+    seam_before padded less = record {
+      few = (let long = back_long in omega (arith, long));
+      above = λ index entry _ at.
+          let it = back_at index entry at in
+          let same = ap (λ (e : Entry K). e.row.token.start) it.2 in
+          omega (arith, same, less);
+      below = λ index entry past at.
+          let within = get_within g.back index entry at in
+          let long = back_long in
+          absurd (omega (arith, past, within, long));
+    }
+
+    module _ (left : ℕ) (small : left ≤ length rows - gap) (few : gap ≤ length rows) where
+      abbrev end : ℕ
+      end = length rows - left
+
+      -- the rows that are left behind the gap
+      left_is : take left g.back ≡ reverse (map (shifted_entry {K = K} 0 pad) (drop end rows))
+      left_is =
+          let long = behind_long in
+          let place : gap + (length behind_gap - left) ≡ end = omega (arith, long, small, few) in
+          ap (take left) back_is ∙ take_turned behind_gap left (omega (arith, long, small))
+          ∙ ap (λ es. reverse es)
+          (drop-map (shifted_entry {K = K} 0 pad) (length behind_gap - left) (drop gap rows)
+          ∙ ap (map (shifted_entry {K = K} 0 pad))
+          (drop-drop (length behind_gap - left) gap rows ∙ ap (λ n. drop n rows) place))
+
+      module _ (other : ℕ) (may : AllByRecursion (MayPad {K = K} pad) rows) where
+        abbrev moved : Entry K → Entry K
+        moved = shifted_entry {K = K} (other - pad) (pad - other)
+
+        -- They may be moved to another pad, where they are padded by that.
+        pub left_moves : AllByRecursion (IsPadded {K = K} other) (take left g.back)
+            → AllByRecursion (MovesEntry {K = K} (other - pad) (pad - other)) (drop end rows)
+        left_moves padded =
+            each (drop end rows) (all_dropped (MayPad {K = K} pad) end rows may)
+            (subst (AllByRecursion (IsPadded {K = K} other))
+            (ap (λ es. reverse es) left_is ∙ reverse-reverse (map (shifted_entry {K = K} 0 pad) (drop end rows)))
+            (all_reversed (IsPadded {K = K} other) (take left g.back) padded))
+          where
+            each : (es : List (Entry K)) → AllByRecursion (MayPad {K = K} pad) es
+                → AllByRecursion (IsPadded {K = K} other) (map (shifted_entry {K = K} 0 pad) es)
+                → AllByRecursion (MovesEntry {K = K} (other - pad) (pad - other)) es
+            each [] all padded = tt
+            each (e ∷ es) all padded = (
+              record {
+                places =
+                    row_weaker (λ place. (place + pad < 2 ^ 32) × IsPaddedPlace other (shifted 0 pad place))
+                    (MovesPlace (other - pad) (pad - other))
+                    (λ place both.
+                    let fits = both.0 in
+                    let above = both.1.padded in
+                    record {
+                      behind = omega (arith, above);
+                      small = omega (arith, fits);
+                      fits = omega (arith, fits, above);
+                    }) e.row
+                    (row_both (λ place. place + pad < 2 ^ 32) (λ place. IsPaddedPlace other (shifted 0 pad place)) e.row
+                    all.0.places (row_of_shifted (IsPaddedPlace other) 0 pad e.row padded.0.places));
+                ordered = all.0.ordered;
+              },
+              each es all.1 padded.1,
+            )
+
+        pad_twice : (es : List (Entry K)) → AllByRecursion (MayPad {K = K} pad) es
+            → map (shifted_entry {K = K} other 0) (map (shifted_entry {K = K} 0 pad) es) ≡ map moved es
+        pad_twice [] all = refl
+        pad_twice (e ∷ es) all =
+            let one : shifted_entry {K = K} other 0 (shifted_entry {K = K} 0 pad e) ≡ moved e =
+            λ j. record e {
+              row =
+                  sym (row_composed (λ place. place + pad < 2 ^ 32) (other - pad) (pad - other) 0 pad other 0
+                  (λ place fits. omega arith) e.row all.0.places) j;
+            } in
+            λ j. one j ∷ pad_twice es all.1 j
+
+        -- The rows with others before the gap, and those that are left behind it with another pad.
+        pub around_left : (read : List (Entry K))
+            → around {K = K} (g.front ++ read) other (take left g.back) ≡ take gap rows ++ read ++ map moved (drop end rows)
+        around_left read =
+            ap (λ es. around {K = K} (es ++ read) other (take left g.back)) front_is
+            ∙ ap (around {K = K} (take gap rows ++ read) other) left_is
+            ∙ ap (λ es. take gap rows ++ read ++ map (shifted_entry {K = K} other 0) es)
+            (reverse-reverse (map (shifted_entry {K = K} 0 pad) (drop end rows)))
+            ∙ ap (λ es. take gap rows ++ read ++ es)
+            (pad_twice (drop end rows) (all_dropped (MayPad {K = K} pad) end rows may))
+
+        pub left_few : (read new : List (Entry K)) → new ≡ take gap rows ++ read ++ map moved (drop end rows)
+            → left ≤ length new
+        left_few read new is =
+            let whole = ap (λ es. length es) is
+            ∙ length-append (take gap rows ++ read) (map moved (drop end rows)) in
+            let last = length-map (drop end rows) moved in
+            let all = length-drop end rows in
+            omega (arith, whole, last, all, small)

@@ -1,6 +1,7 @@
 -- Rows that are held of a text, and of one that is edited.
 use Rattle.std.proofs.Common.{◌≡◌, ℕ, ◌+◌, ◌-◌, ◌<◌, List, [], ◌++◌, length, refl, sym, ◌∙◌, ap, subst, arith, take}
 use Rattle.std.proofs.Common.{Option, Some, None}
+use Rattle.std.specs.List.{AllByRecursion}
 use Rattle.std.specs.Prelude.{◌^◌, slice_get, unwrap_or}
 use Rattle.std.specs.Str.{IsUtf8}
 use Rattle.js_text.specs.declared.source_type.SourceType.{SourceType}
@@ -14,7 +15,7 @@ use Rattle.js_document.specs.declared.open.Node.{Node}
 use Rattle.js_document.specs.Changed.{MayChange}
 use Rattle.js_document.specs.Documents.{DocState, Edits, IsHeld, change_of_new, commands_of, document_of, report_of}
 use Rattle.js_document.specs.Edited.{ReadsEdited, Replaces}
-use Rattle.js_document.specs.Gap.{GapState, MovesGap, around, entries_of, rows_of}
+use Rattle.js_document.specs.Gap.{GapState, MayPad, MovesGap, around, entries_of, rows_of}
 use Rattle.js_document.specs.Reading.{JoiningState, Knowledge, LastJoins, ReadsFromStart, UntilJoined, states_of}
 use Rattle.js_document.specs.States.{AlikeAgain, AlikeBehind, AlikeItself, Alikeness, ChoosesAlike, KnowsAlike}
 use Rattle.js_document.specs.Trie.{HasMore}
@@ -22,6 +23,7 @@ use Rattle.js_document.proofs.EditGives.{edits, may_change}
 use Rattle.js_document.proofs.EditOutcome.{IsOutcome, outcome_joined, outcome_none}
 use Rattle.js_document.proofs.EditedDocument.{IsBeing}
 use Rattle.js_document.proofs.EditedRows.{report_of_chosen}
+use Rattle.js_document.proofs.HeldLemmas.{held_may_pad, held_rows}
 use Rattle.js_document.proofs.KnownLemmas.{known_stays}
 use Rattle.js_document.proofs.ReadParts.{read_all, read_from_start}
 
@@ -122,6 +124,24 @@ module _ {K : Type 0} (rule : Rule) (law : IsRule rule) (Alike : Alikeness) (cho
       may_change {K = K} rule law Alike knows old_text new start end t nodes new_nodes g b entries (unwrap_or left 0) other
       (joined_at left) other_is old (outcome old refl refl)
 
+  -- The rows of the edited text are held.
+  held_between : IsHeld {K = K} rule knows text t new_nodes new_entries other
+  held_between =
+      let old = document_of old_text t all (change_of_new (report_of all)) in
+      let o = outcome old refl refl in
+      let short : length text < 2 ^ 32 = omega (arith, other_is) in
+      record {
+        report_is = report_of_chosen rule law text t (rows_of {K = K} new_entries) b.new_utf8 short o.rows;
+        known = o.known;
+        pad_is = other_is;
+      }
+
+  -- So they may be padded.
+  pub between_may_pad : AllByRecursion (MayPad {K = K} other) new_entries
+  between_may_pad =
+      held_may_pad {K = K} rule law text t other new_entries b.new_utf8 other_is
+      (held_rows rule law text t (rows_of {K = K} new_entries) held_between.report_is)
+
   module _ (after : GapState K) (change : Change)
       (r : Replaces {K = K} g entries (unwrap_or left 0) other start end new after change) where
     -- The document becomes that of the edited text.
@@ -140,13 +160,5 @@ module _ {K : Type 0} (rule : Rule) (law : IsRule rule) (Alike : Alikeness) (cho
     -- And its rows are held.
     pub held_edited : IsHeld {K = K} rule knows text t new_nodes (entries_of {K = K} after) after.pad
     held_edited =
-        let old = document_of old_text t all (change_of_new (report_of all)) in
-        let o = outcome old refl refl in
-        let short : length text < 2 ^ 32 = omega (arith, other_is) in
         subst (IsHeld {K = K} rule knows text t new_nodes (entries_of {K = K} after)) (sym r.pad_is)
-        (subst (λ es. IsHeld {K = K} rule knows text t new_nodes es other) (sym r.entries_are)
-        (record {
-          report_is = report_of_chosen rule law text t (rows_of {K = K} new_entries) b.new_utf8 short o.rows;
-          known = o.known;
-          pad_is = other_is;
-        }))
+        (subst (λ es. IsHeld {K = K} rule knows text t new_nodes es other) (sym r.entries_are) held_between)

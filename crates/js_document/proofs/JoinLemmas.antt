@@ -1,12 +1,10 @@
 -- The old row that a row of an edited text joins, among old ones in the order of their places.
-use Rattle.std.proofs.Common.{◌≡◌, ℕ, zero, suc, ◌+◌, ◌-◌, ◌<◌, ◌≤◌, Bool, true, false, leb, ltb, List, [], ◌∷◌, length}
-use Rattle.std.proofs.Common.{refl, sym, ◌∙◌, ap, subst, arith, get_or, Some}
+use Rattle.std.proofs.Common.{◌≡◌, ℕ, zero, suc, ◌+◌, ◌-◌, ◌<◌, ◌≤◌, Bool, true, false, leb, List, [], ◌∷◌, length}
+use Rattle.std.proofs.Common.{refl, sym, ◌∙◌, ap, subst, arith, Some}
 use Rattle.std.specs.List.{AllByRecursion}
-use Rattle.std.specs.List.Sorted.{IsPartitionPoint, IsPartitionedBy}
 use Rattle.std.specs.Prelude.{reverse, slice_get}
-use Rattle.std.proofs.lemmas.Bool.{leb-false, leb-true, lt-ltb, ltb-false, ltb-true}
+use Rattle.std.proofs.lemmas.Bool.{leb-false, leb-true}
 use Rattle.std.proofs.lemmas.List.{length-map}
-use Rattle.std.proofs.lemmas.Option.{slice_get-get_or}
 use Rattle.js_kind.specs.TokenParts.{TokenParts}
 use Rattle.js_session.specs.declared.row.Row.{Row}
 use Rattle.js_session.specs.Shifted.{shifted_token}
@@ -44,7 +42,7 @@ module _ {K : Type 0} (back : List (Entry K)) (order : AreInOrder (reverse (rows
   row_at (x ∷ es) (suc n) e is = row_at es n e is
 
   -- entries from the last one on start no later
-  pub falls : (i j : ℕ) (x y : Entry K) → slice_get back i ≡ Some x → slice_get back j ≡ Some y → i ≤ j
+  falls : (i j : ℕ) (x y : Entry K) → slice_get back i ≡ Some x → slice_get back j ≡ Some y → i ≤ j
       → y.row.token.start ≤ x.row.token.start
   falls i j x y at_i at_j less = by_place (leb j i) refl
     where
@@ -73,38 +71,6 @@ module _ {K : Type 0} (back : List (Entry K)) (order : AreInOrder (reverse (rows
           let before = leb-false j i e in
           (order_at (reverse (rows_of {K = K} back)) (length back - 1 - j) (length back - 1 - i) y.row x.row order
           (turned j y at_j) (turned i x at_i) (omega (arith, before, within))).starts
-
-  -- so they are parted by where they start
-  pub parted : (start : ℕ) → IsPartitionedBy (λ (e : Entry K). ltb start e.row.token.start) back
-  parted start = λ i j d le lt test.
-      let at_i = slice_get-get_or back i d (omega (arith, le, lt)) in
-      let at_j = slice_get-get_or back j d lt in
-      let less = falls i j (get_or back i d) (get_or back j d) at_i at_j le in
-      let above = ltb-true start (get_or back j d).row.token.start test in
-      lt-ltb start (get_or back i d).row.token.start (omega (arith, less, above))
-
-  pub seam_of : (start seam : ℕ) → seam ≤ length back
-      → IsPartitionPoint (λ (e : Entry K). ltb start e.row.token.start ≡ true)
-      (λ (e : Entry K). ltb start e.row.token.start ≡ false) back seam → IsSeam {K = K} back start seam
-  seam_of start seam few point = record {
-    few = few;
-    above = λ index entry less at.
-        let same = got index entry at in
-        let passes = ltb-true start (get_or back index entry).row.token.start
-        (point.0 index entry (omega arith) less) in
-        omega (arith, passes, ap (λ (e : Entry K). e.row.token.start) same);
-    below = λ index entry from at.
-        let same = got index entry at in
-        let within = get_within back index entry at in
-        let fails = ltb-false start (get_or back index entry).row.token.start (point.1 index entry from within) in
-        omega (arith, fails, ap (λ (e : Entry K). e.row.token.start) same);
-  }
-    where
-      got : (index : ℕ) (entry : Entry K) → slice_get back index ≡ Some entry → get_or back index entry ≡ entry
-      got index entry at =
-          let both : Some (get_or back index entry) ≡ Some entry =
-          sym (slice_get-get_or back index entry (get_within back index entry at)) ∙ at in
-          cc
 
 -- No entry before the index is joined.
 abbrev pub NoneUntil : {K : Type 0} → Knowledge K → Alikeness → List Node → JoiningState K → TokenParts → K → ℕ → Type 0

@@ -16,7 +16,7 @@ use Rattle.js_document.specs.declared.gap.Entry.{Entry}
 use Rattle.js_document.specs.declared.open.Node.{Node}
 use Rattle.js_document.specs.Documents.{IsKept}
 use Rattle.js_document.specs.Edited.{IsEditOf, ReadsIn, joining}
-use Rattle.js_document.specs.Gap.{AreInOrder, ComesLater, GapState, IsPadded, entries_of, rows_of, shifted_entry}
+use Rattle.js_document.specs.Gap.{AreInOrder, ComesLater, GapState, IsPadded, entries_of, rows_of, shifted_entry, AreOrdered}
 use Rattle.js_document.specs.Reading.{AreKnown, JoiningState, Knowledge, ReadsBehind, ReadsFromStart, states_of, with_rows}
 use Rattle.js_document.specs.States.{AlikeAgain, AlikeBehind, AlikeItself, Alikeness, ChoosesAlike, IsLast, KnowsAlike}
 use Rattle.js_document.proofs.EditedDocument.{IsBeing, all_turned, front_kept, kept_rows, last_token_of}
@@ -136,11 +136,14 @@ module _ {K : Type 0} (rule : Rule) (law : IsRule rule) (Alike : Alikeness) (cho
   ordered = rows_ordered rule law old_text t all b.utf8 b.rows
 
   -- the rows behind the gap stand in order
-  pub back_ordered : AreInOrder (reverse (rows_of {K = K} g.back))
+  back_ordered : AreInOrder (reverse (rows_of {K = K} g.back))
   back_ordered =
       subst AreInOrder (map_turned (λ (e : Entry K). e.row) g.back)
       (order_padded {K = K} g.pad (reverse g.back) (all_turned {K = K} (IsPadded {K = K} g.pad) g.back b.padded)
       (order_rest front_rows (rows_of {K = K} behind_gap) (subst AreInOrder all_are ordered.order)))
+
+  pub are_ordered : AreOrdered {K = K} g
+  are_ordered = record { rows = ordered.order; back = back_ordered }
 
   -- the end of the edit is a padded place
   pub end_fits : end + g.pad < 2 ^ 32

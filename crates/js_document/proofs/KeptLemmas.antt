@@ -1,32 +1,18 @@
 -- Rows that are kept, where they stand in the order of their places.
-use Rattle.std.proofs.Common.{◌≡◌, ℕ, suc, ◌+◌, ◌-◌, ◌≤◌, List, [], ◌∷◌, ◌++◌, length, map, take, refl, sym, ◌∙◌}
-use Rattle.std.proofs.Common.{ap, subst, arith, length-append, Option, Some, None}
+use Rattle.std.proofs.Common.{◌≡◌, ℕ, zero, suc, ◌+◌, ◌-◌, ◌<◌, ◌≤◌, List, [], ◌∷◌, ◌++◌, length, refl, sym, ◌∙◌, ap, arith}
+use Rattle.std.proofs.Common.{length-append, Some}
 use Rattle.std.specs.List.{AllByRecursion}
-use Rattle.std.specs.Prelude.{reverse, slice_get}
-use Rattle.std.proofs.lemmas.List.{append_assoc, length-map, length-reverse, map-append, take_at}
+use Rattle.std.specs.Prelude.{slice_get}
+use Rattle.std.proofs.lemmas.List.{map-append}
 use Rattle.js_session.specs.declared.row.Row.{Row}
 use Rattle.js_document.specs.declared.gap.Entry.{Entry}
 use Rattle.js_document.specs.Documents.{IsKept}
-use Rattle.js_document.specs.Gap.{AreInOrder, ComesLater, FallsShort, GapState, MovesGap, Reaches, around, entries_of}
-use Rattle.js_document.specs.Gap.{last_entry, rows_of, shifted_entry}
-use Rattle.js_document.proofs.GapLemmas.{first_behind}
-use Rattle.js_document.proofs.ListLemmas.{get_right}
+use Rattle.js_document.specs.Gap.{AreInOrder, ComesLater, rows_of}
+use Rattle.js_document.proofs.ListLemmas.{each_there, get_right, get_there}
 
 -- the row ends four bytes or more before the place
 abbrev pub Before : ℕ → Row → Type 0
 Before start row = row.token.end + 4 ≤ start
-
--- the first of the rows, if there is one, does not
-abbrev pub NoneNext : ℕ → List Row → Type 0
-NoneNext start [] = Unit {0}
-NoneNext start (row ∷ rows) = Before start row → ⊥
-
--- Of rows that all end before the place, and behind which one does not, so many are kept.
-pub kept_at : (start : ℕ) (rows more : List Row) → AllByRecursion (Before start) rows → NoneNext start more
-    → IsKept start (rows ++ more) (length rows)
-kept_at start [] [] all none = refl
-kept_at start [] (row ∷ more) all none = none
-kept_at start (row ∷ rows) more all none = (all.0, kept_at start rows more all.1 none)
 
 pub all_last : {A : Type 0} (P : A → Type 0) (xs : List A) (x : A) → AllByRecursion P (xs ++ x ∷ []) → P x
 all_last P [] x all = all.0
@@ -54,16 +40,6 @@ pub order_rest : (xs ys : List Row) → AreInOrder (xs ++ ys) → AreInOrder ys
 order_rest [] ys order = order
 order_rest (x ∷ xs) ys order = order_rest xs ys order.1
 
--- where rows stand in order, all end before a place that the last of them ends before
-all_before : (start : ℕ) (rows : List Row) (last : Row) → AreInOrder (rows ++ last ∷ []) → Before start last
-    → AllByRecursion (Before start) (rows ++ last ∷ [])
-all_before start [] last order before = (before, tt)
-all_before start (row ∷ rows) last order before = (
-  (let less = (all_last (λ (later : Row). ComesLater row.token later.token) rows last order.0).ends in
-      omega (arith, less, before)),
-  all_before start rows last order.1 before,
-)
-
 -- The last of some items.
 pub record IsEndedBy {A : Type 0} (xs : List A) (last : A) : Type 0 where
   pub before : List A
@@ -85,115 +61,38 @@ last_is before last =
     let place : length (before ++ last ∷ []) - 1 ≡ length before + 0 = omega (arith, long) in
     ap (slice_get (before ++ last ∷ [])) place ∙ get_right before (last ∷ []) 0
 
--- two lists that are the same, with ends of one length
-pub same_fronts : {A : Type 0} (xs ys zs ws : List A) → xs ++ ys ≡ zs ++ ws → length ys ≡ length ws → xs ≡ zs
-same_fronts xs ys zs ws e long =
-    let same : length xs ≡ length zs =
-    (let whole = ap (λ l. length l) e in let a = length-append xs ys in let b = length-append zs ws in
-    omega (arith, whole, a, b, long)) in
-    sym (take_at xs ys (length zs) same) ∙ ap (take (length zs)) e ∙ take_at zs ws (length zs) refl
-
 pub rows_joined : {K : Type 0} (xs ys : List (Entry K))
     → rows_of {K = K} (xs ++ ys) ≡ rows_of {K = K} xs ++ rows_of {K = K} ys
 rows_joined {K} xs ys = map-append (λ (e : Entry K). e.row) xs ys
 
-module _ {K : Type 0} (start : ℕ) where
-  -- All rows before the gap end before the place, where the last of them does.
-  pub sought_start : (g : GapState K) → AreInOrder (rows_of {K = K} (entries_of {K = K} g))
-      → (Reaches {K = K} start (last_entry {K = K} g.front) → ⊥)
-      → AllByRecursion (Before start) (rows_of {K = K} g.front)
-  sought_start g order none = by_last g.front (last_entry {K = K} g.front) refl none front_order
-    where
-      front_order : AreInOrder (rows_of {K = K} g.front)
-      front_order =
-          order_first (rows_of {K = K} g.front) (rows_of {K = K} (map (shifted_entry {K = K} g.pad 0) (reverse g.back)))
-          (subst AreInOrder (rows_joined {K = K} g.front (map (shifted_entry {K = K} g.pad 0) (reverse g.back))) order)
+-- Of rows in order so many are kept, of which the last one ends before the place, where the next one does not.
+pub kept_of : (start : ℕ) (rows : List Row) (kept : ℕ) → AreInOrder rows → kept ≤ length rows
+    → ((row : Row) → 0 < kept → slice_get rows (kept - 1) ≡ Some row → Before start row)
+    → ((row : Row) → slice_get rows kept ≡ Some row → Before start row → ⊥) → IsKept start rows kept
+kept_of start [] kept order few last next = omega (arith, few)
+kept_of start (row ∷ rows) zero order few last next = next row refl
+kept_of start (row ∷ rows) (suc kept) order few last next =
+    (here kept refl, kept_of start rows kept order.1 (omega (arith, few)) last_behind next)
+  where
+    last_behind : (other : Row) → 0 < kept → slice_get rows (kept - 1) ≡ Some other → Before start other
+    last_behind other some at =
+        last other (omega arith)
+        (ap (slice_get (row ∷ rows)) (let place : suc kept - 1 ≡ suc (kept - 1) = omega (arith, some) in place) ∙ at)
 
-      by_last : (front : List (Entry K)) (last : Option (Entry K)) → last_entry {K = K} front ≡ last
-          → (Reaches {K = K} start last → ⊥) → AreInOrder (rows_of {K = K} front)
-          → AllByRecursion (Before start) (rows_of {K = K} front)
-      by_last [] last is none order = tt
-      by_last (e ∷ es) None is none order = absurd (no_none e es is)
-        where
-          no_none : (e : Entry K) (es : List (Entry K)) → slice_get (e ∷ es) (length (e ∷ es) - 1) ≡ None → ⊥
-          no_none e [] is = cc
-          no_none e (f ∷ fs) is =
-              let place : length (e ∷ f ∷ fs) - 1 ≡ suc (length (f ∷ fs) - 1) = omega arith in
-              no_none f fs (ap (slice_get (e ∷ f ∷ fs)) (sym place) ∙ is)
-      by_last (e ∷ es) (Some last) is none order =
-          let ended = ended_by (e ∷ es) last is in
-          let rows : rows_of {K = K} (e ∷ es) ≡ rows_of {K = K} ended.before ++ last.row ∷ [] =
-          ap (rows_of {K = K}) ended.is ∙ rows_joined {K = K} ended.before (last ∷ []) in
-          let before : Before start last.row = omega (arith, none) in
-          subst (AllByRecursion (Before start)) (sym rows)
-          (all_before start (rows_of {K = K} ended.before) last.row (subst AreInOrder rows order) before)
+    here : (n : ℕ) → kept ≡ n → Before start row
+    here zero is =
+        last row (omega arith)
+        (ap (slice_get (row ∷ rows)) (let place : suc kept - 1 ≡ 0 = omega (arith, is) in place))
+    here (suc n) is =
+        let it = get_there rows n (omega (arith, is, few)) in
+        let place : n ≡ kept - 1 = omega (arith, is) in
+        let before = last_behind it.0 (omega (arith, is)) (ap (slice_get rows) (sym place) ∙ it.1) in
+        let later = each_there (λ (later : Row). ComesLater row.token later.token) rows n it.0 order.0 it.1 in
+        let ends = later.ends in
+        omega (arith, before, ends)
 
-  -- And so they do with the first row behind the gap, where that does.
-  pub sought_step : (g new : GapState K) → MovesGap {K = K} g new → length new.back ≡ length g.back - 1
-      → FallsShort {K = K} start g.pad (last_entry {K = K} g.back)
-      → AllByRecursion (Before start) (rows_of {K = K} g.front)
-      → AllByRecursion (Before start) (rows_of {K = K} new.front)
-  sought_step g new moves fewer short all = by_last (last_entry {K = K} g.back) refl short
-    where
-      by_last : (last : Option (Entry K)) → last_entry {K = K} g.back ≡ last → FallsShort {K = K} start g.pad last
-          → AllByRecursion (Before start) (rows_of {K = K} new.front)
-      by_last None is short = absurd short
-      by_last (Some s) is short =
-          let ended = ended_by g.back s is in
-          let first = shifted_entry {K = K} g.pad 0 s in
-          let rest = map (shifted_entry {K = K} g.pad 0) (reverse ended.before) in
-          let whole : entries_of {K = K} new ≡ (g.front ++ first ∷ []) ++ rest =
-          moves.entries ∙ ap (around {K = K} g.front g.pad) ended.is
-          ∙ first_behind {K = K} g.pad g.front ended.before s ∙ sym (append_assoc g.front (first ∷ []) rest) in
-          let long_rest : length rest ≡ length ended.before =
-          length-map (reverse ended.before) (shifted_entry {K = K} g.pad 0) ∙ length-reverse ended.before in
-          let long_new : length (map (shifted_entry {K = K} new.pad 0) (reverse new.back)) ≡ length new.back =
-          length-map (reverse new.back) (shifted_entry {K = K} new.pad 0) ∙ length-reverse new.back in
-          let long_back : length g.back ≡ length ended.before + 1 =
-          ap (λ l. length l) ended.is ∙ length-append ended.before (s ∷ []) in
-          let front : new.front ≡ g.front ++ first ∷ [] =
-          same_fronts new.front (map (shifted_entry {K = K} new.pad 0) (reverse new.back)) (g.front ++ first ∷ []) rest
-          whole (omega (arith, long_rest, long_new, long_back, fewer)) in
-          let before : Before start first.row = omega (arith, short) in
-          subst (λ (es : List (Entry K)). AllByRecursion (Before start) (rows_of {K = K} es)) (sym front)
-          (subst (AllByRecursion (Before start)) (sym (rows_joined {K = K} g.front (first ∷ [])))
-          (all_joined (Before start) (rows_of {K = K} g.front) (first.row ∷ []) all (before, tt)))
-
-  -- So the rows before the gap are kept, where the first one behind it does not.
-  pub sought_end : (old g : GapState K) → MovesGap {K = K} old g
-      → AllByRecursion (Before start) (rows_of {K = K} g.front)
-      → (FallsShort {K = K} start g.pad (last_entry {K = K} g.back) → ⊥)
-      → IsKept start (rows_of {K = K} (entries_of {K = K} old)) (length g.front)
-  sought_end old g moves all none =
-      let behind = map (shifted_entry {K = K} g.pad 0) (reverse g.back) in
-      let rows : rows_of {K = K} (entries_of {K = K} old) ≡ rows_of {K = K} g.front ++ rows_of {K = K} behind =
-      ap (rows_of {K = K}) (sym moves.entries) ∙ rows_joined {K = K} g.front behind in
-      let count : length (rows_of {K = K} g.front) ≡ length g.front = length-map g.front (λ (e : Entry K). e.row) in
-      subst (λ rs. IsKept start rs (length g.front)) (sym rows)
-      (subst (IsKept start (rows_of {K = K} g.front ++ rows_of {K = K} behind)) count
-      (kept_at start (rows_of {K = K} g.front) (rows_of {K = K} behind) all (next g.back none)))
-    where
-      next : (back : List (Entry K)) → (FallsShort {K = K} start g.pad (last_entry {K = K} back) → ⊥)
-          → NoneNext start (rows_of {K = K} (map (shifted_entry {K = K} g.pad 0) (reverse back)))
-      next back none = by_last (last_entry {K = K} back) refl none
-        where
-          by_last : (last : Option (Entry K)) → last_entry {K = K} back ≡ last
-              → (FallsShort {K = K} start g.pad last → ⊥)
-              → NoneNext start (rows_of {K = K} (map (shifted_entry {K = K} g.pad 0) (reverse back)))
-          by_last None is none =
-              subst
-              (λ (es : List (Entry K)). NoneNext start (rows_of {K = K} (map (shifted_entry {K = K} g.pad 0) (reverse es))))
-              (sym (nothing back is)) tt
-            where
-              nothing : (es : List (Entry K)) → slice_get es (length es - 1) ≡ None → es ≡ []
-              nothing [] is = refl
-              nothing (e ∷ []) is = absurd (cc)
-              nothing (e ∷ f ∷ fs) is =
-                  let place : length (e ∷ f ∷ fs) - 1 ≡ suc (length (f ∷ fs) - 1) = omega arith in
-                  let none = nothing (f ∷ fs) (ap (slice_get (e ∷ f ∷ fs)) (sym place) ∙ is) in
-                  absurd (cc)
-          by_last (Some s) is none =
-              let ended = ended_by back s is in
-              let whole = ap (around {K = K} [] g.pad) ended.is ∙ first_behind {K = K} g.pad [] ended.before s in
-              subst (λ (es : List (Entry K)). NoneNext start (rows_of {K = K} es)) (sym whole)
-              (λ before. none (omega (arith, before)))
+-- and they are no more than there are
+pub kept_few : (start : ℕ) (rows : List Row) (kept : ℕ) → IsKept start rows kept → kept ≤ length rows
+kept_few start [] kept is = omega (arith, is)
+kept_few start (row ∷ rows) zero is = omega arith
+kept_few start (row ∷ rows) (suc kept) is = (let more = kept_few start rows kept is.1 in omega (arith, more))

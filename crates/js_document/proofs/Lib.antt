@@ -1,6 +1,8 @@
 pub mod AgainEnds
 pub mod AutoLemmas
 pub mod BehindTokens
+pub mod BlockLemmas
+pub mod BlockSteps
 pub mod Causes
 pub mod ChangeLemmas
 pub mod ChangedFound

@@ -32,13 +32,11 @@ use Rattle.js_document.specs.Gap.{AreInOrder, again_effect, on_effect, reads_aga
 use Rattle.js_document.specs.LiveTokens.{Covers, IsLastFrom}
 use Rattle.js_document.specs.Values.{IsValueAt, live_rows_in, live_value_at, live_values, starts_again, values_in}
 use Rattle.js_document.proofs.EditedRows.{AreChosenRows, chosen_lasts, commands_are}
-use Rattle.js_document.proofs.FoundLemmas.{each_there}
 use Rattle.js_document.proofs.JoinLemmas.{order_at}
-use Rattle.js_document.proofs.ListLemmas.{get_within}
+use Rattle.js_document.proofs.ListLemmas.{drop_at_item, each_there, get_mapped, get_there, get_within, put_mapped}
 use Rattle.js_document.proofs.LiveRows.{AreFollowing, Follows, covered, follows, not_again}
 use Rattle.js_document.proofs.LiveRows.Follows.{on, again}
 use Rattle.js_document.proofs.OrderLemmas.{rows_ordered}
-use Rattle.js_document.proofs.RowPlaces.{drop_at_item, get_mapped, get_there, put_mapped}
 
 -- the token of a row is live, unless the row behind reads it again
 first_stays : (row : Row) (rows : List Row) → starts_again rows ≡ false → live_rows_in (row ∷ rows) ≡ row ∷ live_rows_in rows

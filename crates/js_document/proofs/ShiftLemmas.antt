@@ -1,5 +1,5 @@
 -- Rows that are shifted twice.
-use Rattle.std.proofs.Common.{◌≡◌, ℕ, ◌+◌, ◌≤◌, List, [], ◌∷◌, map, refl, ap, arith, Option, None, Some}
+use Rattle.std.proofs.Common.{◌≡◌, ℕ, ◌+◌, ◌≤◌, List, [], ◌∷◌, map, refl, ap, ◌∙◌, arith, Option, None, Some}
 use Rattle.std.proofs.lemmas.List.Elements.{All-cons, All-head, All-nil, All-tail}
 use Rattle.std.specs.List.{All}
 use Rattle.std.specs.Option.{option_map}
@@ -78,20 +78,15 @@ module _ (pad : ℕ) where
     warnings = each_back (shifted_span pad 0) (shifted_span 0 pad) span_back row.warnings j;
   }
 
--- Padded places, that a text of another length reads by another pad: they are shifted as what stands behind the edit.
-module _ (pad other from to : ℕ) (pads : other + to ≡ pad + from) where
-  abbrev Behind : ℕ → Type 0
-  Behind place = from + pad ≤ place
+-- Places that are shifted twice, where each of them comes to where one shift brings it.
+module _ (P : ℕ → Type 0) (low high from to start end : ℕ)
+    (place_both : (place : ℕ) → P place → shifted low high place ≡ shifted start end (shifted from to place)) where
+  span_twice : (span : Span) → OfSpan P span
+      → shifted_span low high span ≡ shifted_span start end (shifted_span from to span)
+  span_twice span h = λ j. record { start = place_both span.start h.start j; end = place_both span.end h.end j }
 
-  place_twice : (place : ℕ) → Behind place → shifted other 0 place ≡ shifted from to (shifted pad 0 place)
-  place_twice place behind = omega (arith, behind, pads)
-
-  span_twice : (span : Span) → OfSpan Behind span
-      → shifted_span other 0 span ≡ shifted_span from to (shifted_span pad 0 span)
-  span_twice span h = λ j. record { start = place_twice span.start h.start j; end = place_twice span.end h.end j }
-
-  diagnostic_twice : (d : Diagnostic) → OfDiagnostic Behind d
-      → shifted_diagnostic other 0 d ≡ shifted_diagnostic from to (shifted_diagnostic pad 0 d)
+  diagnostic_twice : (d : Diagnostic) → OfDiagnostic P d
+      → shifted_diagnostic low high d ≡ shifted_diagnostic start end (shifted_diagnostic from to d)
   diagnostic_twice (InvalidCharacter c s) h = ap (InvalidCharacter c) (span_twice s h)
   diagnostic_twice (UnexpectedEnd s) h = ap UnexpectedEnd (span_twice s h)
   diagnostic_twice FileAppearsToBeBinary h = refl
@@ -106,59 +101,71 @@ module _ (pad other from to : ℕ) (pads : other + to ≡ pad + from) where
   diagnostic_twice (UnexpectedJsxEnd c s) h = ap (UnexpectedJsxEnd c) (span_twice s h)
   diagnostic_twice (HtmlCommentInModule s) h = ap HtmlCommentInModule (span_twice s h)
 
-  comment_twice : (c : Comment) → OfComment Behind c
-      → shifted_comment other 0 c ≡ shifted_comment from to (shifted_comment pad 0 c)
+  comment_twice : (c : Comment) → OfComment P c
+      → shifted_comment low high c ≡ shifted_comment start end (shifted_comment from to c)
   comment_twice c h = λ j. record c {
     span = span_twice c.span h.span j;
-    attached_to = place_twice c.attached_to h.attached_to j;
+    attached_to = place_both c.attached_to h.attached_to j;
   }
 
-  value_twice : (v : RowValue) → OfValue Behind v
-      → shifted_value other 0 v ≡ shifted_value from to (shifted_value pad 0 v)
+  value_twice : (v : RowValue) → OfValue P v
+      → shifted_value low high v ≡ shifted_value start end (shifted_value from to v)
   value_twice Nothing h = refl
   value_twice (Slice span) h = ap Slice (span_twice span h)
   value_twice (Units units) h = refl
   value_twice Bad h = refl
 
-  regex_twice : (r : Option RegexInfo) → OfRegex Behind r
-      → option_map (shifted_regex other 0) r ≡ option_map (shifted_regex from to) (option_map (shifted_regex pad 0) r)
+  regex_twice : (r : Option RegexInfo) → OfRegex P r
+      → option_map (shifted_regex low high) r
+      ≡ option_map (shifted_regex start end) (option_map (shifted_regex from to) r)
   regex_twice None h = refl
-  regex_twice (Some info) h = ap (λ p. Some (record info { pattern_end = p })) (place_twice info.pattern_end h)
+  regex_twice (Some info) h = ap (λ p. Some (record info { pattern_end = p })) (place_both info.pattern_end h)
 
-  token_twice : (token : TokenParts) → Behind token.start → Behind token.end
-      → shifted_token other 0 token ≡ shifted_token from to (shifted_token pad 0 token)
-  token_twice token s e =
-      λ j. record token { start = place_twice token.start s j; end = place_twice token.end e j }
+  token_twice : (token : TokenParts) → P token.start → P token.end
+      → shifted_token low high token ≡ shifted_token start end (shifted_token from to token)
+  token_twice token s e = λ j. record token { start = place_both token.start s j; end = place_both token.end e j }
 
-  each_twice : {A : Type 0} (P : A → Type 0) (f g h : A → A) → ((x : A) → P x → f x ≡ g (h x)) → (xs : List A)
-      → All P xs → map f xs ≡ map g (map h xs)
-  each_twice P f g h e [] all = refl
-  each_twice P f g h e (x ∷ xs) all =
-      λ j. e x (All-head P x xs all) j ∷ each_twice P f g h e xs (All-tail P x xs all) j
+  each_twice : {A : Type 0} (Q : A → Type 0) (f g h : A → A) → ((x : A) → Q x → f x ≡ g (h x)) → (xs : List A)
+      → All Q xs → map f xs ≡ map g (map h xs)
+  each_twice Q f g h e [] all = refl
+  each_twice Q f g h e (x ∷ xs) all =
+      λ j. e x (All-head Q x xs all) j ∷ each_twice Q f g h e xs (All-tail Q x xs all) j
 
-  pub row_twice : (row : Row) → OfEachPlace Behind row
-      → shifted_row other 0 row ≡ shifted_row from to (shifted_row pad 0 row)
-  row_twice row h = λ j. record row {
-    place = place_twice row.place h.place j;
+  pub row_composed : (row : Row) → OfEachPlace P row
+      → shifted_row low high row ≡ shifted_row start end (shifted_row from to row)
+  row_composed row h = λ j. record row {
+    place = place_both row.place h.place j;
     token = token_twice row.token h.start h.end j;
     value = value_twice row.value h.value j;
     regex = regex_twice row.regex h.regex j;
     diagnostics =
-        each_twice (OfDiagnostic Behind) (shifted_diagnostic other 0) (shifted_diagnostic from to)
-        (shifted_diagnostic pad 0) diagnostic_twice row.diagnostics h.found.diagnostics j;
+        each_twice (OfDiagnostic P) (shifted_diagnostic low high) (shifted_diagnostic start end)
+        (shifted_diagnostic from to) diagnostic_twice row.diagnostics h.found.diagnostics j;
     deferred =
-        each_twice (OfDiagnostic Behind) (shifted_diagnostic other 0) (shifted_diagnostic from to)
-        (shifted_diagnostic pad 0) diagnostic_twice row.deferred h.found.deferred j;
+        each_twice (OfDiagnostic P) (shifted_diagnostic low high) (shifted_diagnostic start end)
+        (shifted_diagnostic from to) diagnostic_twice row.deferred h.found.deferred j;
     comments =
-        each_twice (OfComment Behind) (shifted_comment other 0) (shifted_comment from to) (shifted_comment pad 0)
+        each_twice (OfComment P) (shifted_comment low high) (shifted_comment start end) (shifted_comment from to)
         comment_twice row.comments h.found.comments j;
     irregular =
-        each_twice (OfSpan Behind) (shifted_span other 0) (shifted_span from to) (shifted_span pad 0) span_twice
+        each_twice (OfSpan P) (shifted_span low high) (shifted_span start end) (shifted_span from to) span_twice
         row.irregular h.found.irregular j;
     warnings =
-        each_twice (OfSpan Behind) (shifted_span other 0) (shifted_span from to) (shifted_span pad 0) span_twice
+        each_twice (OfSpan P) (shifted_span low high) (shifted_span start end) (shifted_span from to) span_twice
         row.warnings h.found.warnings j;
   }
+
+-- Padded places, that a text of another length reads by another pad: they are shifted as what stands behind the edit.
+pub row_twice : (pad other from to : ℕ) → other + to ≡ pad + from → (row : Row)
+    → OfEachPlace (λ place. from + pad ≤ place) row
+    → shifted_row other 0 row ≡ shifted_row from to (shifted_row pad 0 row)
+row_twice pad other from to pads =
+    row_composed (λ place. from + pad ≤ place) other 0 pad 0 from to (λ place behind. omega (arith, behind, pads))
+
+-- a row that is shifted by nothing stays as it is
+pub row_still : (row : Row) → OfEachPlace (λ place. 0 ≤ place) row → shifted_row 0 0 row ≡ row
+row_still row h =
+    row_composed (λ place. 0 ≤ place) 0 0 0 0 0 0 (λ place _. omega arith) row h ∙ row_back 0 row
 
 -- What holds of each place once it is shifted, told of the places before.
 module _ (P : ℕ → Type 0) (from to : ℕ) where

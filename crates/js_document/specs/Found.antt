@@ -1,5 +1,5 @@
 -- What rows found, list by list, and how many items of each list there are.
-use Rattle.std.specs.Prelude.{◌≡◌, ℕ, ◌+◌, ◌-◌, ◌≤◌, List, [], ◌∷◌, ◌++◌, drop, length}
+use Rattle.std.specs.Prelude.{◌≡◌, ℕ, ◌+◌, List, [], ◌∷◌, ◌++◌, drop, length}
 use Rattle.std.specs.List.{flat_map}
 use Rattle.js_text.specs.declared.comment.Comment.{Comment}
 use Rattle.js_grammar.specs.Outcome.{Findings}
@@ -56,23 +56,15 @@ counts_with counts row = record {
   warnings = counts.warnings + length row.warnings;
 }
 
--- without those of a row
-abbrev pub counts_without : FoundCounts → Row → FoundCounts
-counts_without counts row = record {
-  diagnostics = counts.diagnostics - length row.diagnostics;
-  deferred = counts.deferred - length row.deferred;
-  comments = counts.comments - length row.comments;
-  irregular = counts.irregular - length row.irregular;
-  warnings = counts.warnings - length row.warnings;
+-- two counts together
+abbrev pub counts_and : FoundCounts → FoundCounts → FoundCounts
+counts_and counts more = record {
+  diagnostics = counts.diagnostics + more.diagnostics;
+  deferred = counts.deferred + more.deferred;
+  comments = counts.comments + more.comments;
+  irregular = counts.irregular + more.irregular;
+  warnings = counts.warnings + more.warnings;
 }
-
--- Those of the row are counted.
-pub record HoldsCounts (counts : FoundCounts) (row : Row) : Type 0 where
-  pub diagnostics : length row.diagnostics ≤ counts.diagnostics
-  pub deferred : length row.deferred ≤ counts.deferred
-  pub comments : length row.comments ≤ counts.comments
-  pub irregular : length row.irregular ≤ counts.irregular
-  pub warnings : length row.warnings ≤ counts.warnings
 
 -- The comments are written alike, and stand likewise beside tokens and line ends.
 pub record IsWrittenAlike (first second : Comment) : Type 0 where

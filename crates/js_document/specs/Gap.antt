@@ -1,6 +1,6 @@
 -- Rows around a gap: those behind it with their places padded.
 use Rattle.std.specs.Prelude.{◌≡◌, ℕ, ◌+◌, ◌-◌, ◌<◌, ◌≤◌, ◌^◌, Bool, true, false, List, [], ◌∷◌, ◌++◌, length, map}
-use Rattle.std.specs.Prelude.{reverse, slice_get, Option, Some, None, if◌then◌else◌}
+use Rattle.std.specs.Prelude.{take, drop, reverse, slice_get, Option, Some, None, if◌then◌else◌}
 use Rattle.std.specs.List.{AllByRecursion}
 use Rattle.js_kind.specs.TokenParts.{TokenParts}
 use Rattle.js_session.specs.Effects.{row_effect}
@@ -83,21 +83,10 @@ AreInOrder [] = Unit {0}
 AreInOrder (row ∷ rows) =
     AllByRecursion (λ (later : Row). ComesLater row.token later.token) rows × AreInOrder rows
 
--- The counts are those of the rows on either side, and what stands behind the gap is padded.
-pub record AreCounted {K : Type 0} (front back : List (Entry K)) (pad front_tokens tokens : ℕ) : Type 0 where
-  pub front_is : front_tokens ≡ count_tokens (rows_of {K = K} front)
-  pub all_is : tokens ≡ count_tokens (rows_of {K = K} front) + count_tokens (rows_of {K = K} back)
-  pub padded : AllByRecursion (IsPadded {K = K} pad) back
-
--- there is such an entry, and it ends less than four bytes before the place
-abbrev pub Reaches : {K : Type 0} → ℕ → Option (Entry K) → Type 0
-Reaches {K} start None = ⊥
-Reaches {K} start (Some entry) = start < entry.row.token.end + 4
-
--- there is such an entry, and it ends four bytes or more before the place, where its places are padded
-abbrev pub FallsShort : {K : Type 0} → ℕ → ℕ → Option (Entry K) → Type 0
-FallsShort {K} start pad None = ⊥
-FallsShort {K} start pad (Some entry) = entry.row.token.end - pad + 4 ≤ start
+-- there is no such entry, or it ends four bytes or more before the place
+abbrev pub EndsBefore : {K : Type 0} → ℕ → Option (Entry K) → Type 0
+EndsBefore {K} start None = Unit {0}
+EndsBefore {K} start (Some entry) = entry.row.token.end + 4 ≤ start
 
 -- the last of the entries, if there is one
 abbrev pub last_entry : {K : Type 0} → List (Entry K) → Option (Entry K)
@@ -118,3 +107,21 @@ entries_of {K} g = around {K = K} g.front g.pad g.back
 pub record MovesGap {K : Type 0} (old new : GapState K) : Type 0 where
   pub entries : entries_of {K = K} new ≡ entries_of {K = K} old
   pub pad : new.pad ≡ old.pad
+
+-- the rows with the gap behind so many of them
+abbrev pub gap_at : {K : Type 0} → List (Entry K) → ℕ → ℕ → GapState K
+gap_at {K} rows gap pad = record {
+  front = take gap rows;
+  back = reverse (map (shifted_entry {K = K} 0 pad) (drop gap rows));
+  pad = pad;
+}
+
+-- The gap is behind so many of the rows, and each of them may be padded.
+pub record IsGap {K : Type 0} (rows : List (Entry K)) (gap pad : ℕ) : Type 0 where
+  pub few : gap ≤ length rows
+  pub may_pad : AllByRecursion (MayPad {K = K} pad) rows
+
+-- The rows stand in the order of their places, and so do those behind the gap with their places padded.
+pub record AreOrdered {K : Type 0} (g : GapState K) : Type 0 where
+  pub rows : AreInOrder (rows_of {K = K} (entries_of {K = K} g))
+  pub back : AreInOrder (reverse (rows_of {K = K} g.back))

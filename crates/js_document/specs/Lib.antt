@@ -1,4 +1,5 @@
 pub mod AutoLaws
+pub mod Blocks
 pub mod Changed
 pub mod Documents
 pub mod Edited

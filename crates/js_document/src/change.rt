@@ -1,6 +1,6 @@
 //! What an edit changed.
 
-ghost use Rattle.std.specs.Prelude.{◌≡◌, ◌+◌, ◌≤◌, ◌++◌, [], length, map, drop, take, reverse, IfOk, OnOk};
+ghost use Rattle.std.specs.Prelude.{◌≡◌, ◌+◌, ◌-◌, ◌≤◌, ◌++◌, [], length, map, drop, take, reverse, IfOk, OnOk};
 ghost use Rattle.std.specs.List.{AllByRecursion};
 ghost use Rattle.js_session.specs.Shifted.{shifted_row};
 ghost use Rattle.js_relex.specs.LiveLists.{TokenMayMove};
@@ -17,9 +17,10 @@ mod found;
 
 use self::compared::changed_range;
 use self::found::changed_found;
+use crate::blocks::Held;
 use crate::counts::FoundCounts;
 use crate::found::{Comments, Deferred, Diagnostics, Irregular, Warnings};
-use crate::gap::{Entry, GapRows, reads_on};
+use crate::gap::{Entry, GapRows};
 use crate::placed::Placed;
 use js_kind::{Token, TokenList};
 use js_relex::{Edit, shift_of};
@@ -73,28 +74,39 @@ fn add_token(tokens: &mut TokenList, row: &Row, token: Token) -> Result<(), Allo
 }
 
 /// Makes the row's token live, moved.
-fn add_row(tokens: &mut TokenList, row: &Row, shift: &Shift) -> Result<(), AllocError>
-    requires { TokenMayMove shift.now.from shift.now.to row.now.token }
-    ensures { OnOk result (tokens.new ≡ with_row tokens.old (shifted_row shift.now.from shift.now.to row.now)) }
-{
-    let token = row.token.moved(shift);
-    add_token(tokens, row, token)
-}
-
-/// Makes the tokens of the rows live, which stand with the last one first, moved.
-fn add_rows<K>(
+fn add_row<K: Copy + Drop>(
     tokens: &mut TokenList,
-    entries: &[Entry<K>],
+    entry: &Held<'_, K>,
     shift: &Shift,
 ) -> Result<(), AllocError>
-    requires { AllByRecursion (EntryMayMove {K = K} shift.now.from shift.now.to) entries.now }
-    ensures { OnOk result (tokens.new ≡ with_rows tokens.old
-        (map (shifted_row shift.now.from shift.now.to) (reverse (rows_of {K = K} entries.now)))) }
+    requires { TokenMayMove shift.now.from shift.now.to entry.now.row.token }
+    ensures { OnOk result (tokens.new ≡ with_row tokens.old (shifted_row shift.now.from shift.now.to entry.now.row)) }
 {
-    let mut left = entries.len();
-    while left > 0 {
+    let token = entry.token().moved(shift);
+    add_token(tokens, entry.row(), token)
+}
+
+/// Makes the tokens of the rows live that stand behind the gap, from the one with less than `high` behind it up to the one
+/// with `low`, moved.
+fn add_rows<K: Copy + Drop>(
+    tokens: &mut TokenList,
+    entries: &GapRows<K>,
+    low: usize,
+    high: usize,
+    shift: &Shift,
+) -> Result<(), AllocError>
+    requires ordered { low ≤ high }
+    requires few { high ≤ length entries.now.back }
+    requires moves { AllByRecursion (EntryMayMove {K = K} shift.now.from shift.now.to)
+        (drop low (take high entries.now.back)) }
+    ensures { OnOk result (tokens.new ≡ with_rows tokens.old (map (shifted_row shift.now.from shift.now.to)
+        (reverse (rows_of {K = K} (drop low (take high entries.now.back)))))) }
+{
+    let mut left = high;
+    while left > low {
         left -= 1;
-        add_row(tokens, &entries[left].row, shift)?;
+        let entry = entries.behind(left);
+        add_row(tokens, &entry, shift)?;
     }
     Ok(())
 }
@@ -109,20 +121,22 @@ fn add_read<K>(tokens: &mut TokenList, entries: &[Entry<K>]) -> Result<(), Alloc
     Ok(())
 }
 
-/// How many of the rows, which stand with the last one first, are left from the first on that reads a token behind the
-/// last one.
-fn left_from_reading<K>(entries: &[Entry<K>]) -> usize
-    ensures few { result ≤ length entries.now }
-    ensures reading { StartsReading {K = K} (take result entries.now) }
+/// How many of the rows behind the gap, of which so many are left, stand behind the first that reads a token behind the
+/// last one, with that one.
+fn left_from_reading<K: Copy + Drop>(entries: &GapRows<K>, left: usize) -> usize
+    requires { left ≤ length entries.now.back }
+    ensures few { result ≤ length (take left entries.now.back) }
+    ensures reading { StartsReading {K = K} (take result (take left entries.now.back)) }
 {
-    let mut left = entries.len();
-    while left > 0 {
-        if reads_on(&entries[left - 1].row) {
-            return left;
+    let mut reading = left;
+    while reading > 0 {
+        let entry = entries.behind(reading - 1);
+        if entry.reads_on() {
+            return reading;
         }
-        left -= 1;
+        reading -= 1;
     }
-    left
+    reading
 }
 
 /// A list of the last token before the gap, if there is one.
@@ -133,8 +147,8 @@ fn last_of_front<K: Copy + Drop>(
     ensures { IfOk result (λ tokens. tokens ≡ last_token_of {K = K} entries.now.front) }
 {
     let mut tokens = TokenList::new_in(alloc);
-    if let Some(entry) = entries.front().last() {
-        tokens.push(entry.row.token)?;
+    if let Some(entry) = entries.last_before() {
+        tokens.push(entry.token())?;
     }
     Ok(tokens)
 }
@@ -150,25 +164,40 @@ fn old_tokens<K: Copy + Drop>(
         (map (shifted_row entries.now.pad 0) (reverse (rows_of {K = K} (drop left entries.now.back))))) }
 {
     let mut tokens = last_of_front(alloc, entries)?;
-    add_rows(&mut tokens, &entries.back()[left..], &entries.shift())?;
+    let shift = Shift {
+        from: entries.pad(),
+        to: 0,
+    };
+    add_rows(&mut tokens, entries, left, entries.back_len(), &shift)?;
     Ok(tokens)
 }
 
-/// The same where the rows that were read stand in the place of those that go, and the pad is another.
+/// The same where the rows that were read stand in the place of those that go, and those behind the gap from the one with
+/// less than `left` behind it up to the one with `reading` come behind them, and the pad is another.
 fn new_tokens<K: Copy + Drop>(
     alloc: Global,
     entries: &GapRows<K>,
     read: &[Entry<K>],
-    behind: &[Entry<K>],
+    reading: usize,
+    left: usize,
     pad: u32,
 ) -> Result<TokenList, AllocError>
-    requires { AllByRecursion (EntryMayMove {K = K} pad 0) behind.now }
+    requires ordered { reading ≤ left }
+    requires few { left ≤ length entries.now.back }
+    requires moves { AllByRecursion (EntryMayMove {K = K} pad 0) (take (left - reading) (drop reading entries.now.back)) }
     ensures { IfOk result (λ tokens. tokens ≡ with_rows (last_token_of {K = K} entries.now.front)
-        (rows_of {K = K} read.now ++ map (shifted_row pad 0) (reverse (rows_of {K = K} behind.now)))) }
+        (rows_of {K = K} read.now ++ map (shifted_row pad 0)
+        (reverse (rows_of {K = K} (take (left - reading) (drop reading entries.now.back)))))) }
 {
     let mut tokens = last_of_front(alloc, entries)?;
     add_read(&mut tokens, read)?;
-    add_rows(&mut tokens, behind, &Shift { from: pad, to: 0 })?;
+    add_rows(
+        &mut tokens,
+        entries,
+        reading,
+        left,
+        &Shift { from: pad, to: 0 },
+    )?;
     Ok(tokens)
 }
 
@@ -187,10 +216,9 @@ fn changed_tokens<K: Copy + Drop>(
         (with_rows [] (rows_of {K = K} (entries_of {K = K} entries.now)))
         (with_rows [] (rows_of {K = K} (around {K = K} (entries.now.front ++ read.now) pad (take left entries.now.back))))) }
 {
-    let back = entries.back();
-    let reading = left_from_reading(&back[..left]);
+    let reading = left_from_reading(entries, left);
     let old = old_tokens(alloc, entries, reading)?;
-    let new = new_tokens(alloc, entries, read, &back[reading..left], pad)?;
+    let new = new_tokens(alloc, entries, read, reading, left, pad)?;
     let start = entries.front_tokens().saturating_sub(1);
     changed_range(start, old.as_slice(), new.as_slice(), edit)
 }
@@ -218,9 +246,9 @@ pub(crate) fn change_of<K: Copy + Drop>(
     ensures moved { IfOk result (λ change.
         change.moved ≡ record { from = edit.now.end; to = edit.now.start + length edit.now.text.now }) }
 {
-    let kept = entries.front_found();
+    let kept = entries.front_found()?;
     Ok(Change {
-        kept_rows: entries.front().len(),
+        kept_rows: entries.front_len(),
         read_rows: read.len(),
         tokens: changed_tokens(alloc, entries, read, left, edit, pad)?,
         comments: changed_found::<K, Comments>(alloc, entries, read, left, edit, kept.comments)?,

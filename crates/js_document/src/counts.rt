@@ -1,7 +1,7 @@
 //! How many items of each list rows found.
 
 ghost use Rattle.std.specs.Prelude.{◌≡◌, ◌+◌, [], IfOk};
-ghost use Rattle.js_document.specs.Found.{HoldsCounts, counts_in, counts_with, counts_without, found_by};
+ghost use Rattle.js_document.specs.Found.{counts_and, counts_in, counts_with, found_by};
 
 use js_session::Row;
 use std::alloc::AllocError;
@@ -53,17 +53,16 @@ impl FoundCounts {
         })
     }
 
-    /// Without those of a row.
-    pub(crate) fn without_row(&self, row: &Row) -> FoundCounts
-        requires { HoldsCounts self.now row.now }
-        ensures { result ≡ counts_without self.now row.now }
+    /// With others.
+    pub(crate) fn with(&self, more: &FoundCounts) -> Result<FoundCounts, AllocError>
+        ensures { IfOk result (λ counts. counts ≡ counts_and self.now more.now) }
     {
-        FoundCounts {
-            diagnostics: self.diagnostics - row.diagnostics.len(),
-            deferred: self.deferred - row.deferred.len(),
-            comments: self.comments - row.comments.len(),
-            irregular: self.irregular - row.irregular.len(),
-            warnings: self.warnings - row.warnings.len(),
-        }
+        Ok(FoundCounts {
+            diagnostics: sum_of(self.diagnostics, more.diagnostics)?,
+            deferred: sum_of(self.deferred, more.deferred)?,
+            comments: sum_of(self.comments, more.comments)?,
+            irregular: sum_of(self.irregular, more.irregular)?,
+            warnings: sum_of(self.warnings, more.warnings)?,
+        })
     }
 }

@@ -92,7 +92,8 @@ impl<K: KeepGoals> Document<K> {
         let entries = read_all(alloc, text, source_type, &mut open, steps)?;
         let mut held = SourceText::new_in(alloc);
         held.push_str(text)?;
-        let change = change_of_new(entries.len(), entries.tokens(), &entries.front_found());
+        let found = entries.front_found()?;
+        let change = change_of_new(entries.len(), entries.tokens(), &found);
         Ok(Document {
             text: held,
             source_type,

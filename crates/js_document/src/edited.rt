@@ -1,12 +1,12 @@
 //! Rows of a text, and of one that is edited.
 
-ghost use Rattle.std.specs.Prelude.{◌≡◌, ◌≤◌, ◌<◌, ◌+◌, ◌^◌, ℕ, List, [], length, unwrap_or, IfOk, OnErr, OnOk};
+ghost use Rattle.std.specs.Prelude.{◌≡◌, ◌≤◌, ◌<◌, ◌+◌, ◌^◌, ◌++◌, ℕ, List, [], length, take, unwrap_or, IfOk, OnErr, OnOk};
 ghost use Rattle.std.specs.List.{AllByRecursion};
 ghost use Rattle.js_document.specs.declared.change.Change.{Change};
 ghost use Rattle.js_document.specs.Changed.{MayChange};
 ghost use Rattle.js_document.specs.Documents.{Edits, IsHeld, IsKept, document_of};
 ghost use Rattle.js_document.specs.Edited.{IsEditOf, ReadsEdited, Replaces};
-ghost use Rattle.js_document.specs.Gap.{IsPadded, MovesGap, entries_of, rows_of};
+ghost use Rattle.js_document.specs.Gap.{IsPadded, MayPad, MovesGap, around, entries_of, rows_of};
 ghost use Rattle.js_document.specs.Trie.{HasMore};
 
 use crate::change::{Change, change_of};
@@ -36,8 +36,8 @@ pub(crate) fn read_all<K: KeepGoals, L: Ledger>(
     ensures at_least { steps.old ≤ steps.new }
 {
     let pad = pad_of(text.len());
-    let none = Vec::new(alloc);
-    let joining = Joining::new(none.as_slice(), pad, 0);
+    let none = GapRows::new(alloc, Vec::new(alloc), pad)?;
+    let joining = Joining::new(&none, pad, 0);
     let read = rows_from_start(alloc, text, source_type, open, &joining, steps)?;
     let entries = GapRows::new(alloc, read.rows, pad)?;
     Ok(entries)
@@ -65,18 +65,17 @@ fn read_edited<K: KeepGoals, L: Ledger>(
     ensures at_least { steps.old ≤ steps.new }
 {
     let pad = pad_of(text.len());
-    let back = entries.back();
     let limit = edit.end + entries.pad();
-    let joining = Joining::new(back, pad, limit);
-    match entries.front().last() {
+    let joining = Joining::new(entries, pad, limit);
+    match entries.last_before() {
         Some(entry) => rows_behind(
             alloc,
             text,
             source_type,
             open,
             &joining,
-            entry.row.token,
-            entry.state,
+            entry.token(),
+            entry.state(),
             steps,
         ),
         None => rows_from_start(alloc, text, source_type, open, &joining, steps),
@@ -92,14 +91,16 @@ fn put_read<K: Copy + Drop>(
     edit: &Edit<'_>,
     pad: u32,
 ) -> Result<Change, AllocError>
-    requires { MayChange {K = K} edit.now.start edit.now.end edit.now.text.now entries.old (unwrap_or read.left 0) pad }
+    requires change { MayChange {K = K} edit.now.start edit.now.end edit.now.text.now entries.old (unwrap_or read.left 0) pad }
+    requires may_pad { AllByRecursion (MayPad {K = K} pad)
+        (around {K = K} (entries.old.front ++ read.rows.items) pad (take (unwrap_or read.left 0) entries.old.back)) }
     ensures ok { IfOk result (Replaces {K = K} entries.old read.rows.items (unwrap_or read.left 0) pad edit.now.start
         edit.now.end edit.now.text.now entries.new) }
     ensures err { OnErr result (MovesGap {K = K} entries.old entries.new) }
 {
     let left = read.left.unwrap_or(0);
     let change = change_of(alloc, entries, read.rows.as_slice(), left, edit, pad)?;
-    entries.replace(read.rows, left, pad)?;
+    entries.replace(alloc, read.rows, left, pad)?;
     Ok(change)
 }
 
@@ -129,7 +130,7 @@ pub(crate) fn edit_rows<K: KeepGoals, L: Ledger>(
     ensures more { HasMore open.old open.new }
     ensures at_least { steps.old ≤ steps.new }
 {
-    entries.seek(edit.start)?;
+    entries.seek(edit.start);
     let read = read_edited(alloc, entries, open, source_type, edit, text, steps)?;
     put_read(alloc, entries, read, edit, pad_of(text.len()))
 }

@@ -1,14 +1,15 @@
 //! The row at which the rows of an edited text join the old ones.
 
-ghost use Rattle.std.specs.Prelude.{◌≡◌, ◌↔◌, ◌≤◌, ◌+◌, ◌<◌, ◌^◌, List, reverse, None, IfSome, IsTrue};
+ghost use Rattle.std.specs.Prelude.{◌≡◌, ◌↔◌, ◌≤◌, ◌+◌, ◌<◌, ◌^◌, List, None, IfSome, IsTrue};
 ghost use Rattle.js_session.specs.Shifted.{shifted_token};
 ghost use Rattle.js_kind.specs.TokenParts.{TokenParts};
 ghost use Rattle.js_relex.specs.Joined.{at_start};
-ghost use Rattle.js_document.specs.Gap.{AreInOrder, rows_of};
+ghost use Rattle.js_document.specs.Gap.{AreOrdered};
 ghost use Rattle.js_document.specs.Reading.{IsSeam, JoinsHeld, JoinsNone};
 ghost use Rattle.js_document.specs.States.{IsLast};
 
-use crate::gap::Entry;
+use crate::blocks::Held;
+use crate::gap::GapRows;
 use crate::keep::KeepGoals;
 use crate::open::OpenTrie;
 use js_kind::Token;
@@ -18,7 +19,7 @@ use std::marker::Model;
 /// The old rows that may be joined: those behind the gap, the last one first, with their places padded.
 #[derive(Drop)]
 pub(crate) struct Joining<'d, K> {
-    back: &'d [Entry<K>],
+    entries: &'d GapRows<K>,
     /// How the places of the new text are padded.
     pad: u32,
     /// The padded end of the edit.
@@ -26,15 +27,14 @@ pub(crate) struct Joining<'d, K> {
 }
 
 impl<'d, K> Model for Joining<'d, K> {
-    ghost use Rattle.std.specs.Prelude.{reverse};
-    ghost use Rattle.js_document.specs.Gap.{AreInOrder, rows_of};
+    ghost use Rattle.js_document.specs.Gap.{AreOrdered};
     ghost use Rattle.js_document.specs.Reading.{JoiningState};
 
     ghost Value = { JoiningState K };
 
-    ghost view = { λ j. record { back = j.back.now; pad = j.pad; limit = j.limit } };
+    ghost view = { λ j. record { back = j.entries.now.back; pad = j.pad; limit = j.limit } };
 
-    ghost invariant = { λ j. AreInOrder (reverse (rows_of {K = K} j.back.now)) };
+    ghost invariant = { λ j. AreOrdered {K = K} j.entries.now };
 }
 
 /// The token of the new text, padded.
@@ -49,27 +49,30 @@ fn padded(token: &Token, pad: u32) -> Token
 }
 
 impl<'d, K: KeepGoals> Joining<'d, K> {
-    /// The rows, the last one first and with their places padded, may be joined behind the limit.
-    pub(crate) fn new(back: &'d [Entry<K>], pad: u32, limit: u32) -> Joining<'d, K>
-        requires { AreInOrder (reverse (rows_of {K = K} back.now)) }
-        ensures { result ≡ record { back = back.now; pad = pad; limit = limit } }
+    /// The rows behind the gap may be joined behind the limit, which is padded as they are.
+    pub(crate) fn new(entries: &'d GapRows<K>, pad: u32, limit: u32) -> Joining<'d, K>
+        requires { AreOrdered {K = K} entries.now }
+        ensures { result ≡ record { back = entries.now.back; pad = pad; limit = limit } }
     {
-        Joining { back, pad, limit }
+        Joining {
+            entries,
+            pad,
+            limit,
+        }
     }
 
     /// How many old rows start behind the place.
     fn behind(&self, start: u32) -> usize
         ensures { IsSeam {K = K} self.now.back start result }
     {
-        self.back
-            .partition_point(|entry| entry.row.token.start() > start)
+        self.entries.rows_behind(start)
     }
 
     /// Whether the row of a token, behind which this is known, joins the old row of the entry; its token is padded, too.
     fn is_joined(
         &self,
         open: &OpenTrie,
-        entry: &Entry<K>,
+        entry: &Held<'_, K>,
         token: &Token,
         padded: &Token,
         state: K,
@@ -80,10 +83,10 @@ impl<'d, K: KeepGoals> Joining<'d, K> {
             → K.knows open.now entry.now.state others → IsLast token.now tokens → IsLast other others
             → at_start other ≡ at_start token.now → entry.now.row.token ≡ padded.now → IsTrue result ↔ K.alike tokens others }
     {
-        if !entry.row.token.is_same(padded) {
+        if !entry.token().is_same(padded) {
             return false;
         }
-        state.is_alike(entry.state, open, token)
+        state.is_alike(entry.state(), open, token)
     }
 
     /// How many old rows stand behind the first that starts with the padded token and is joined by its row, from the one
@@ -104,12 +107,14 @@ impl<'d, K: KeepGoals> Joining<'d, K> {
         ensures none { (tokens : List TokenParts) → K.knows open.now state tokens → IsLast token.now tokens
             → result ≡ None → JoinsNone {K = K} K.knows K.alike open.now self.now token.now tokens }
     {
+        let end = self.entries.back_len();
         let mut left = at;
-        while let Some(entry) = self.back.get(left) {
-            if entry.row.token.start() != padded.start() {
+        while left < end {
+            let entry = self.entries.behind(left);
+            if entry.token().start() != padded.start() {
                 return None;
             }
-            if self.is_joined(open, entry, token, padded, state) {
+            if self.is_joined(open, &entry, token, padded, state) {
                 return Some(left);
             }
             left += 1;

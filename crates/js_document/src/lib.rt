@@ -2,6 +2,7 @@
 #![tactic(auto)]
 
 mod auto_state;
+mod blocks;
 mod change;
 mod counts;
 mod document;

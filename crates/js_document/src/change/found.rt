@@ -1,36 +1,19 @@
 //! Which items an edit changes of what was found.
 
-ghost use Rattle.std.specs.Prelude.{◌≡◌, ◌+◌, ◌<◌, ◌≤◌, ◌^◌, ◌++◌, ℕ, length, map, drop, take, reverse, IfOk, OnOk};
+ghost use Rattle.std.specs.Prelude.{◌≡◌, ◌+◌, ◌-◌, ◌<◌, ◌≤◌, ◌^◌, ◌++◌, ℕ, length, map, drop, take, reverse, IfOk, OnOk};
 ghost use Rattle.std.specs.List.{AllByRecursion};
 ghost use Rattle.js_session.specs.Shifted.{ShiftFits, shifted_row};
 ghost use Rattle.js_document.specs.Changed.{IsChange, MayChange};
 ghost use Rattle.js_document.specs.Found.{found_in};
-ghost use Rattle.js_document.specs.Gap.{IsPadded, around, entries_of, rows_of};
+ghost use Rattle.js_document.specs.Gap.{around, entries_of, rows_of};
 
 use super::ChangedRange;
 use super::compared::changed_range;
 use crate::found::FoundList;
 use crate::gap::{Entry, GapRows};
-use crate::placed::Placed;
 use js_relex::Edit;
-use js_session::Shift;
 use js_text::ItemList;
 use std::alloc::{AllocError, Global};
-
-/// Adds the items, moved.
-fn add_moved<T: Placed>(
-    items: &mut ItemList<T>,
-    found: &[T],
-    shift: &Shift,
-) -> Result<(), AllocError>
-    requires { AllByRecursion (T.MayMove shift.now.from shift.now.to) found.now }
-    ensures { OnOk result (items.new ≡ items.old ++ map (T.shifted shift.now.from shift.now.to) found.now) }
-{
-    for item in found {
-        items.push(item.moved(shift))?;
-    }
-    Ok(())
-}
 
 /// Adds what the rows have in the list.
 fn add_found<K, L: FoundList>(
@@ -45,21 +28,23 @@ fn add_found<K, L: FoundList>(
     Ok(())
 }
 
-/// Adds what padded rows, which stand with the last one first, have in the list, with its places in the text.
-fn add_found_behind<K, L: FoundList>(
+/// Adds what the rows from one index up to another have in the list.
+fn add_found_from<K: Copy + Drop, L: FoundList>(
     items: &mut ItemList<L::Item>,
-    entries: &[Entry<K>],
-    shift: &Shift,
+    entries: &GapRows<K>,
+    start: usize,
+    end: usize,
 ) -> Result<(), AllocError>
-    requires padded { AllByRecursion (IsPadded {K = K} shift.now.from) entries.now }
-    requires to_text { shift.now.to ≡ 0 }
+    requires ordered { start ≤ end }
+    requires inside { end ≤ length (entries_of {K = K} entries.now) }
     ensures { OnOk result (items.new ≡ items.old
-        ++ found_in L.items (map (shifted_row shift.now.from 0) (reverse (rows_of {K = K} entries.now)))) }
+        ++ found_in L.items (rows_of {K = K} (take (end - start) (drop start (entries_of {K = K} entries.now))))) }
 {
-    let mut left = entries.len();
-    while left > 0 {
-        left -= 1;
-        add_moved(items, L::list(&entries[left].row), shift)?;
+    let mut index = start;
+    while index < end {
+        let entry = entries.at(index);
+        entry.add_to::<L>(items)?;
+        index += 1;
     }
     Ok(())
 }
@@ -75,7 +60,8 @@ fn old_found<K: Copy + Drop, L: FoundList>(
         (map (shifted_row entries.now.pad 0) (reverse (rows_of {K = K} (drop left entries.now.back))))) }
 {
     let mut items = ItemList::new_in(alloc);
-    add_found_behind::<K, L>(&mut items, &entries.back()[left..], &entries.shift())?;
+    let end = entries.len() - left;
+    add_found_from::<K, L>(&mut items, entries, entries.front_len(), end)?;
     Ok(items)
 }
 

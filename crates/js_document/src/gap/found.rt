@@ -6,20 +6,6 @@ ghost use Rattle.js_document.specs.Gap.{entries_of, rows_of};
 
 use super::GapRows;
 use crate::found::FoundList;
-use crate::placed::Placed;
-use js_session::Row;
-
-/// The item with this index of what the row has in the list.
-fn item_of<L: FoundList>(row: &Row, index: usize) -> Option<L::Item>
-    ensures item { result ≡ slice_get (L.items row.now) index }
-    ensures few { IfSome result (λ _. index + 1 < 2 ^ 64) }
-{
-    let items = L::list(row);
-    if index >= items.len() {
-        return None;
-    }
-    Some(items[index])
-}
 
 impl<K: Copy + Drop> GapRows<K> {
     /// The item with this index of what the row with its index has in the list.
@@ -28,11 +14,10 @@ impl<K: Copy + Drop> GapRows<K> {
             ≡ slice_get (option_map_or L.items (slice_get (rows_of {K = K} (entries_of {K = K} self.now)) row) []) index }
         ensures few { IfSome result (λ _. index + 1 < 2 ^ 64) }
     {
-        if let Some(entry) = self.front.get(row) {
-            return item_of::<L>(&entry.row, index);
+        if row >= self.rows.len() {
+            return None;
         }
-        let at = self.place_behind(row - self.front.len())?;
-        let item = item_of::<L>(&self.back[at].row, index)?;
-        Some(item.moved(&self.shift()))
+        let entry = self.rows.at(row);
+        entry.item::<L>(index)
     }
 }

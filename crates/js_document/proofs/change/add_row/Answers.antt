@@ -1,14 +1,17 @@
-use Rattle.std.proofs.Common.{◌≡◌, ◌∙◌, ap, subst}
-use Rattle.std.specs.Prelude.{OnOk}
-use Rattle.js_document.specs.Reading.{with_row}
-use Rattle.js_document.proofs.EntryLoops.{moved_live}
+use Rattle.std.proofs.Common.{◌∙◌, ap}
+use Rattle.std.proofs.lemmas.Result.{on_ok_weaker}
+use Rattle.js_session.specs.Shifted.{shifted_row, shifted_token}
+use Rattle.js_document.proofs.EntryLoops.{same_live}
 use Rattle.js_document.proofs.change.add_row.Goals as goal
 
 pub returns : goal.returns
-returns c =
-    let row = c.args.row.now in
-    let before = c.args.tokens.now in
-    subst (λ ts. OnOk c.add_token.result (c.add_token.new.tokens ≡ ts))
-    (ap (λ t. with_row before (record row { token = t })) c.moved-token.ensures
-    ∙ moved_live c.args.shift.now.from c.args.shift.now.to row before)
+returns g c =
+    let shift = c.args.shift.now in
+    let row = c.row.result.now in
+    on_ok_weaker c.add_token.result
+    (λ added.
+    added
+    ∙ same_live (record row { token = c.moved-token.result }) (shifted_row shift.from shift.to c.args.entry.now.row)
+    c.args.tokens.now c.row.ensures.command
+    (c.moved-token.ensures ∙ ap (shifted_token shift.from shift.to) c.token.ensures) c.row.ensures.taken)
     c.add_token.ensures

@@ -5,7 +5,7 @@ pub returns-clause-found : goal.returns-clause-found
 returns-clause-found g c =
     let pad = c.args.pad in
     let may = c.requires in
-    let kept = c.front_found-kept.ensures in
+    let kept = c.in_ok-kept.ensures in
     record {
       comments = c.in_ok-changed_found.ensures pad may (ap (λ counts. counts.comments) kept);
       diagnostics = c.in_ok-changed_found-2.ensures pad may (ap (λ counts. counts.diagnostics) kept);

@@ -1,9 +1,9 @@
-use Rattle.std.proofs.Common.{◌≤◌, length}
+use Rattle.std.proofs.Common.{◌≤◌}
 use Rattle.js_document.proofs.change.left_from_reading.Given as goal
 
 -- No more are left than there were.
-abbrev pub invariant-loop-left : goal.invariant-loop-left
-invariant-loop-left g l = l.left ≤ length l.entries
+abbrev pub invariant-loop-reading : goal.invariant-loop-reading
+invariant-loop-reading g l = l.reading ≤ l.left
 
-abbrev pub decreases-loop-left : goal.decreases-loop-left
-decreases-loop-left g l = l.left
+abbrev pub decreases-loop-reading : goal.decreases-loop-reading
+decreases-loop-reading g l = l.reading

@@ -3,7 +3,7 @@ use Rattle.std.specs.List.{AllByRecursion}
 use Rattle.js_relex.proofs.Outcomes.{on_err}
 use Rattle.js_document.specs.Changed.{AreChangesOf, IsChangeOf, MayChange}
 use Rattle.js_document.specs.Found.{found_by}
-use Rattle.js_document.specs.Gap.{IsPadded, around, entries_of, rows_of}
+use Rattle.js_document.specs.Gap.{IsPadded, MayPad, around, entries_of, rows_of}
 use Rattle.js_document.specs.Reading.{with_rows}
 use Rattle.js_document.proofs.edited.put_read.Goals as goal
 
@@ -11,16 +11,23 @@ pub change_of-requires : goal.change_of-requires
 change_of-requires g c =
     let edit = c.args.edit.now in
     subst (λ n. MayChange edit.start edit.end edit.text.now c.args.entries.now n c.args.pad) (sym c.unwrap_or-left.ensures)
-    c.requires
+    c.requires.change
 
 pub replace-requires-clause-few : goal.replace-requires-clause-few
 replace-requires-clause-few g c =
-    subst (λ n. n ≤ length c.args.entries.now.back) (sym c.unwrap_or-left.ensures) c.requires.few
+    subst (λ n. n ≤ length c.args.entries.now.back) (sym c.unwrap_or-left.ensures) c.requires.change.few
 
 pub replace-requires-clause-padded : goal.replace-requires-clause-padded
 replace-requires-clause-padded g c =
     subst (λ n. AllByRecursion (IsPadded c.args.pad) (take n c.args.entries.now.back)) (sym c.unwrap_or-left.ensures)
-    c.requires.padded
+    c.requires.change.padded
+
+pub replace-requires-clause-may_pad : goal.replace-requires-clause-may_pad
+replace-requires-clause-may_pad g c =
+    let old = c.args.entries.now in
+    subst
+    (λ n. AllByRecursion (MayPad c.args.pad) (around (old.front ++ c.args.read.rows.items) c.args.pad (take n old.back)))
+    (sym c.unwrap_or-left.ensures) c.requires.may_pad
 
 pub returns-clause-ok : goal.returns-clause-ok
 returns-clause-ok g c =

@@ -1,12 +1,13 @@
-use Rattle.std.proofs.Common.{◌+◌, ◌-◌, ◌∙◌, [], length, ap, arith, subst, sym}
+use Rattle.std.proofs.Common.{◌≡◌, ◌+◌, ◌-◌, ◌<◌, ◌∙◌, [], length, ap, arith, refl, subst, sym}
 use Rattle.std.proofs.lemmas.Result.{IfOk-weaker}
-use Rattle.std.specs.List.{AllByRecursion}
-use Rattle.std.specs.Prelude.{reverse, slice_get}
+use Rattle.js_kind.specs.TokenParts.{TokenParts}
+use Rattle.js_kind.specs.declared.kind.Kind.TheVariants.{Eof}
 use Rattle.js_session.specs.Session.{MayResume}
 use Rattle.js_document.specs.Edited.{ReadsIn}
-use Rattle.js_document.specs.Gap.{AreInOrder, IsPadded, rows_of}
+use Rattle.js_document.specs.Gap.{rows_of}
 use Rattle.js_document.specs.Reading.{with_rows}
-use Rattle.js_document.proofs.KeptDocument.{back_ordered, being_of, end_fits, goes_on_kept, reads_all, reads_in, same_joining}
+use Rattle.js_document.specs.States.{IsLast}
+use Rattle.js_document.proofs.KeptDocument.{are_ordered, being_of, end_fits, goes_on_kept, reads_all, reads_in, same_joining}
 use Rattle.js_document.proofs.edited.read_edited.Goals as goal
 
 pub overflow_add-limit : goal.overflow_add-limit
@@ -14,12 +15,12 @@ overflow_add-limit g c =
     let being = being_of g.K.KeepGoals.choice g.met.K.KeepGoals.is_rule g.K.KeepGoals.knows c.requires.held.0
     c.args.edit.now.text.now c.args.edit.now.start c.args.edit.now.end c.args.source_type c.args.open.now c.args.entries.now
     c.args.text.now c.requires.held.1 c.utf8.text
-    (subst (AllByRecursion (IsPadded c.args.entries.now.pad)) c.back-back.ensures.rows c.back-back.ensures.padded) c.requires.kept in
+    c.pad.ensures.padded c.requires.kept in
     let fits = end_fits g.K.KeepGoals.choice g.met.K.KeepGoals.is_rule g.K.KeepGoals.alike g.met.K.KeepGoals.chooses_alike
     g.met.K.KeepGoals.alike_itself g.met.K.KeepGoals.alike_behind g.met.K.KeepGoals.alike_again g.K.KeepGoals.knows
     g.met.K.KeepGoals.knows_alike c.requires.held.0 c.args.edit.now.text.now c.args.edit.now.start c.args.edit.now.end
     c.args.source_type c.args.open.now c.args.entries.now being in
-    let pad = c.pad.ensures in
+    let pad = c.pad.ensures.pad in
     omega (arith, fits, pad)
 
 pub new-joining-requires : goal.new-joining-requires
@@ -27,25 +28,25 @@ new-joining-requires g c =
     let being = being_of g.K.KeepGoals.choice g.met.K.KeepGoals.is_rule g.K.KeepGoals.knows c.requires.held.0
     c.args.edit.now.text.now c.args.edit.now.start c.args.edit.now.end c.args.source_type c.args.open.now c.args.entries.now
     c.args.text.now c.requires.held.1 c.utf8.text
-    (subst (AllByRecursion (IsPadded c.args.entries.now.pad)) c.back-back.ensures.rows c.back-back.ensures.padded) c.requires.kept in
-    subst (λ es. AreInOrder (reverse (rows_of es))) (sym c.back-back.ensures.rows)
-    (back_ordered g.K.KeepGoals.choice g.met.K.KeepGoals.is_rule g.K.KeepGoals.alike g.met.K.KeepGoals.chooses_alike
+    c.pad.ensures.padded c.requires.kept in
+    are_ordered g.K.KeepGoals.choice g.met.K.KeepGoals.is_rule g.K.KeepGoals.alike g.met.K.KeepGoals.chooses_alike
     g.met.K.KeepGoals.alike_itself g.met.K.KeepGoals.alike_behind g.met.K.KeepGoals.alike_again g.K.KeepGoals.knows
     g.met.K.KeepGoals.knows_alike c.requires.held.0 c.args.edit.now.text.now c.args.edit.now.start c.args.edit.now.end
-    c.args.source_type c.args.open.now c.args.entries.now being)
+    c.args.source_type c.args.open.now c.args.entries.now being
 
 pub rows_behind-requires-clause-resumes : goal.rows_behind-requires-clause-resumes
 rows_behind-requires-clause-resumes g c =
     let being = being_of g.K.KeepGoals.choice g.met.K.KeepGoals.is_rule g.K.KeepGoals.knows c.requires.held.0
     c.args.edit.now.text.now c.args.edit.now.start c.args.edit.now.end c.args.source_type c.args.open.now c.args.entries.now
     c.args.text.now c.requires.held.1 c.utf8.text
-    (subst (AllByRecursion (IsPadded c.args.entries.now.pad)) c.back-back.ensures.rows c.back-back.ensures.padded) c.requires.kept in
-    subst (λ x. MayResume x c.in-Some.entry.now.row.token) (sym c.requires.held.1.text_is)
+    c.pad.ensures.padded c.requires.kept in
+    subst (MayResume c.args.text.now) (sym c.token.ensures)
+    (subst (λ x. MayResume x c.in-Some.entry.row.token) (sym c.requires.held.1.text_is)
     (goes_on_kept g.K.KeepGoals.choice g.met.K.KeepGoals.is_rule g.K.KeepGoals.alike g.met.K.KeepGoals.chooses_alike
     g.met.K.KeepGoals.alike_itself g.met.K.KeepGoals.alike_behind g.met.K.KeepGoals.alike_again g.K.KeepGoals.knows
     g.met.K.KeepGoals.knows_alike c.requires.held.0 c.args.edit.now.text.now c.args.edit.now.start c.args.edit.now.end
-    c.args.source_type c.args.open.now c.args.entries.now being c.in-Some.entry.now
-    (ap (λ es. slice_get es (length es - 1)) (sym c.front.ensures) ∙ sym c.in-Some.ensures.value)).resumes
+    c.args.source_type c.args.open.now c.args.entries.now being c.in-Some.entry
+    (sym c.last_before.ensures ∙ c.in-Some.is)).resumes)
 
 pub rows_behind-requires-clause-fits : goal.rows_behind-requires-clause-fits
 rows_behind-requires-clause-fits g c =
@@ -58,25 +59,30 @@ rows_behind-requires-clause-some_text g c =
     let being = being_of g.K.KeepGoals.choice g.met.K.KeepGoals.is_rule g.K.KeepGoals.knows c.requires.held.0
     c.args.edit.now.text.now c.args.edit.now.start c.args.edit.now.end c.args.source_type c.args.open.now c.args.entries.now
     c.args.text.now c.requires.held.1 c.utf8.text
-    (subst (AllByRecursion (IsPadded c.args.entries.now.pad)) c.back-back.ensures.rows c.back-back.ensures.padded) c.requires.kept in
+    c.pad.ensures.padded c.requires.kept in
+    subst (λ (t : TokenParts). (t.kind ≡ Eof → ⊥) → t.start < t.end) (sym c.token.ensures)
     (goes_on_kept g.K.KeepGoals.choice g.met.K.KeepGoals.is_rule g.K.KeepGoals.alike g.met.K.KeepGoals.chooses_alike
     g.met.K.KeepGoals.alike_itself g.met.K.KeepGoals.alike_behind g.met.K.KeepGoals.alike_again g.K.KeepGoals.knows
     g.met.K.KeepGoals.knows_alike c.requires.held.0 c.args.edit.now.text.now c.args.edit.now.start c.args.edit.now.end
-    c.args.source_type c.args.open.now c.args.entries.now being c.in-Some.entry.now
-    (ap (λ es. slice_get es (length es - 1)) (sym c.front.ensures) ∙ sym c.in-Some.ensures.value)).some_text
+    c.args.source_type c.args.open.now c.args.entries.now being c.in-Some.entry
+    (sym c.last_before.ensures ∙ c.in-Some.is)).some_text
 
 pub rows_behind-requires-clause-known : goal.rows_behind-requires-clause-known
 rows_behind-requires-clause-known g c =
     let being = being_of g.K.KeepGoals.choice g.met.K.KeepGoals.is_rule g.K.KeepGoals.knows c.requires.held.0
     c.args.edit.now.text.now c.args.edit.now.start c.args.edit.now.end c.args.source_type c.args.open.now c.args.entries.now
     c.args.text.now c.requires.held.1 c.utf8.text
-    (subst (AllByRecursion (IsPadded c.args.entries.now.pad)) c.back-back.ensures.rows c.back-back.ensures.padded) c.requires.kept in
+    c.pad.ensures.padded c.requires.kept in
     let may = goes_on_kept g.K.KeepGoals.choice g.met.K.KeepGoals.is_rule g.K.KeepGoals.alike g.met.K.KeepGoals.chooses_alike
     g.met.K.KeepGoals.alike_itself g.met.K.KeepGoals.alike_behind g.met.K.KeepGoals.alike_again g.K.KeepGoals.knows
     g.met.K.KeepGoals.knows_alike c.requires.held.0 c.args.edit.now.text.now c.args.edit.now.start c.args.edit.now.end
-    c.args.source_type c.args.open.now c.args.entries.now being c.in-Some.entry.now
-    (ap (λ es. slice_get es (length es - 1)) (sym c.front.ensures) ∙ sym c.in-Some.ensures.value) in
-    (with_rows [] (rows_of c.args.entries.now.front), may.known, may.is_last)
+    c.args.source_type c.args.open.now c.args.entries.now being c.in-Some.entry
+    (sym c.last_before.ensures ∙ c.in-Some.is) in
+    let tokens = with_rows [] (rows_of c.args.entries.now.front) in (
+      tokens,
+      subst (λ state. g.K.KeepGoals.knows c.args.open.now state tokens) (sym c.state.ensures) may.known,
+      subst (λ token. IsLast token tokens) (sym c.token.ensures) may.is_last,
+    )
 
 pub rows_from_start-requires-clause-fits : goal.rows_from_start-requires-clause-fits
 rows_from_start-requires-clause-fits g c =
@@ -89,16 +95,17 @@ returns-in-Some-clause-rows g c =
     let being = being_of g.K.KeepGoals.choice g.met.K.KeepGoals.is_rule g.K.KeepGoals.knows c.requires.held.0
     c.args.edit.now.text.now c.args.edit.now.start c.args.edit.now.end c.args.source_type c.args.open.now c.args.entries.now
     c.args.text.now c.requires.held.1 c.utf8.text
-    (subst (AllByRecursion (IsPadded c.args.entries.now.pad)) c.back-back.ensures.rows c.back-back.ensures.padded) c.requires.kept in
-    let last = (ap (λ es. slice_get es (length es - 1)) (sym c.front.ensures) ∙ sym c.in-Some.ensures.value) in
+    c.pad.ensures.padded c.requires.kept in
+    let last = (sym c.last_before.ensures ∙ c.in-Some.is) in
     let may = goes_on_kept g.K.KeepGoals.choice g.met.K.KeepGoals.is_rule g.K.KeepGoals.alike g.met.K.KeepGoals.chooses_alike
     g.met.K.KeepGoals.alike_itself g.met.K.KeepGoals.alike_behind g.met.K.KeepGoals.alike_again g.K.KeepGoals.knows
     g.met.K.KeepGoals.knows_alike c.requires.held.0 c.args.edit.now.text.now c.args.edit.now.start c.args.edit.now.end
-    c.args.source_type c.args.open.now c.args.entries.now being c.in-Some.entry.now last in
-    let same = same_joining c.args.entries.now c.args.edit.now.end (length c.args.text.now) c.back-back.result.now
-    c.pad_of-pad.result (c.args.edit.now.end + c.pad.result) c.new-joining.result c.new-joining.ensures c.back-back.ensures.rows
+    c.args.source_type c.args.open.now c.args.entries.now being c.in-Some.entry last in
+    let same = same_joining c.args.entries.now c.args.edit.now.end (length c.args.text.now) c.args.entries.now.back
+    c.pad_of-pad.result (c.args.edit.now.end + c.pad.result) c.new-joining.result c.new-joining.ensures refl
     c.pad_of-pad.ensures
-    (ap (λ n. c.args.edit.now.end + n) c.pad.ensures) in
+    (ap (λ n. c.args.edit.now.end + n) c.pad.ensures.pad) in
+    let tokens = with_rows [] (rows_of c.args.entries.now.front) in
     IfOk-weaker c.rows_behind.result _ _
     (λ r reads.
     subst
@@ -106,17 +113,19 @@ returns-in-Some-clause-rows g c =
     c.args.text.now c.args.source_type c.args.entries.now.front r.rows.items r.left) same
     (reads_in g.K.KeepGoals.choice g.K.KeepGoals.knows g.K.KeepGoals.alike c.args.open.now c.rows_behind.new.open
     c.new-joining.result c.args.text.now c.args.source_type c.args.entries.now.front r.rows.items r.left
-    c.in-Some.entry.now last
-    (reads (with_rows [] (rows_of c.args.entries.now.front)) may.known may.is_last)))
+    c.in-Some.entry last
+    (reads tokens
+    (subst (λ state. g.K.KeepGoals.knows c.args.open.now state tokens) (sym c.state.ensures) may.known)
+    (subst (λ token. IsLast token tokens) (sym c.token.ensures) may.is_last))))
     c.rows_behind.ensures.rows
 
 pub returns-in-None-clause-rows : goal.returns-in-None-clause-rows
 returns-in-None-clause-rows g c =
-    let none = ap (λ es. slice_get es (length es - 1)) (sym c.front.ensures) ∙ sym c.in-None.ensures.value in
-    let same = same_joining c.args.entries.now c.args.edit.now.end (length c.args.text.now) c.back-back.result.now
-    c.pad_of-pad.result (c.args.edit.now.end + c.pad.result) c.new-joining.result c.new-joining.ensures c.back-back.ensures.rows
+    let none = sym c.last_before.ensures ∙ c.in-None.is in
+    let same = same_joining c.args.entries.now c.args.edit.now.end (length c.args.text.now) c.args.entries.now.back
+    c.pad_of-pad.result (c.args.edit.now.end + c.pad.result) c.new-joining.result c.new-joining.ensures refl
     c.pad_of-pad.ensures
-    (ap (λ n. c.args.edit.now.end + n) c.pad.ensures) in
+    (ap (λ n. c.args.edit.now.end + n) c.pad.ensures.pad) in
     IfOk-weaker c.rows_from_start.result _ _
     (λ r reads.
     subst
@@ -128,8 +137,8 @@ returns-in-None-clause-rows g c =
 
 pub returns-in-Some-clause-padded : goal.returns-in-Some-clause-padded
 returns-in-Some-clause-padded g c =
-    subst (AllByRecursion (IsPadded c.args.entries.now.pad)) c.back-back.ensures.rows c.back-back.ensures.padded
+    c.pad.ensures.padded
 
 pub returns-in-None-clause-padded : goal.returns-in-None-clause-padded
 returns-in-None-clause-padded g c =
-    subst (AllByRecursion (IsPadded c.args.entries.now.pad)) c.back-back.ensures.rows c.back-back.ensures.padded
+    c.pad.ensures.padded

@@ -1,19 +1,34 @@
-use Rattle.std.proofs.Common.{◌++◌, ◌∙◌, ap, map, sym}
-use Rattle.std.specs.Prelude.{reverse}
-use Rattle.js_session.specs.Shifted.{shifted_row}
-use Rattle.js_document.specs.Gap.{rows_of}
-use Rattle.js_document.proofs.RowPlaces.{rows_around}
+use Rattle.std.proofs.Common.{[], ◌∙◌, ap, arith, sym}
+use Rattle.std.proofs.lemmas.List.{take_all}
+use Rattle.std.proofs.lemmas.Option.{get_or_from_slice_get}
+use Rattle.js_document.specs.Gap.{entries_of, rows_of}
+use Rattle.js_document.proofs.EntryLoops.{copied_up_to}
 use Rattle.js_document.proofs.gather.rows_of.Goals as goal
+
+pub at-entry-requires : goal.at-entry-requires
+at-entry-requires g c =
+    let less = c.loop-index-test.true in
+    let all = c.len-end.ensures in
+    omega (arith, less, all)
+
+pub loop-index-preserved : goal.loop-index-preserved
+loop-index-preserved g c =
+    let es = entries_of c.args.entries.now in
+    let index = c.loop-index.index in
+    let e = c.at-entry.result in
+    let less = c.loop-index-test.true in
+    let all = c.len-end.ensures in
+    record {
+      few = omega (arith, less, all);
+      rows =
+          copied_up_to es index e [] c.loop-index.rows c.push.new.self c.in_ok-copied_row.field-0 (omega (arith, less, all))
+          (sym (get_or_from_slice_get es index e e c.at-entry.ensures)) c.loop-index.invariant.rows
+          c.in_ok-push.ensures.ok c.in_ok-copied_row.ensures;
+    }
 
 pub returns : goal.returns
 returns g c =
-    let front = c.front.result.now in
-    let back = c.back.result.now in
-    let gap = c.args.entries.now in
-    c.in_ok-add_rows_behind.ensures
-    ∙ ap (λ rows. rows ++ map (shifted_row c.shift.result.from 0) (reverse (rows_of back)))
-    (c.in_ok-add_rows.ensures ∙ ap (λ rows. rows ++ rows_of front) c.new_in-rows.ensures)
-    ∙ ap (λ s. rows_of front ++ map (shifted_row s.from 0) (reverse (rows_of back))) c.shift.ensures
-    ∙ ap (λ b. rows_of front ++ map (shifted_row gap.pad 0) (reverse (rows_of b))) c.back.ensures.rows
-    ∙ ap (λ f. rows_of f ++ map (shifted_row gap.pad 0) (reverse (rows_of gap.back))) c.front.ensures
-    ∙ sym (rows_around gap)
+    let es = entries_of c.args.entries.now in
+    let past = c.loop-index-test.false in
+    let all = c.len-end.ensures in
+    c.loop-index.invariant.rows ∙ ap (λ xs. rows_of xs) (take_all c.loop-index.index es (omega (arith, past, all)))

@@ -34,7 +34,7 @@ returns-clause-change g c =
     (report_count g.K.KeepGoals.choice g.met.K.KeepGoals.is_rule c.args.text.now c.args.source_type rows
     (held_rows g.K.KeepGoals.choice g.met.K.KeepGoals.is_rule c.args.text.now c.args.source_type rows
     c.in_ok-entries.ensures.held.report_is)))
-    (c.front_found.ensures
+    (c.in_ok-found.ensures
     ∙ ap (λ es. counts_in (found_by (rows_of es))) (sym (all_before entries c.in_ok-entries.ensures.alone))
     ∙ ap counts_in
     (sym

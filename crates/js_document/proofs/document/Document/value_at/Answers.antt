@@ -8,8 +8,8 @@ use Rattle.js_lists.specs.Taken.{value_handed}
 use Rattle.js_document.specs.Documents.{DocState, commands_of, report_of}
 use Rattle.js_document.specs.Gap.{entries_of, rows_of}
 use Rattle.js_document.specs.Values.{IsValueAt, live_values}
-use Rattle.js_document.proofs.FoundLemmas.{each_there}
 use Rattle.js_document.proofs.HeldLemmas.{held_rows}
+use Rattle.js_document.proofs.ListLemmas.{each_there}
 use Rattle.js_document.proofs.LiveRows.{none_from, none_past}
 use Rattle.js_document.proofs.LiveValues.{no_value, slice_handed, value_there}
 use Rattle.js_document.proofs.OrderLemmas.{rows_ordered}

@@ -1,20 +1,26 @@
-use Rattle.std.proofs.Common.{◌+◌, ◌∙◌, [], add-zero, ap, subst, sym}
+use Rattle.std.proofs.Common.{◌∙◌, ap, arith, map, subst, sym}
+use Rattle.std.proofs.lemmas.List.{drop_all}
 use Rattle.std.specs.List.{AllByRecursion}
-use Rattle.js_document.specs.Found.{counts_in, found_by}
-use Rattle.js_document.specs.Gap.{IsPadded, count_tokens, rows_of}
+use Rattle.std.specs.Prelude.{reverse}
+use Rattle.js_document.specs.Gap.{MayPad, shifted_entry}
+use Rattle.js_document.proofs.BlockLemmas.{pad_moves}
+use Rattle.js_document.proofs.GapLemmas.{whole_at}
 use Rattle.js_document.proofs.gap.GapRows.new.Goals as goal
 
+pub new-requires : goal.new-requires
+new-requires g c = pad_moves c.args.pad c.args.rows.items c.requires
+
 pub invariant_of-result : goal.invariant_of-result
-invariant_of-result g c =
-    let rows = c.args.rows.items in
-    let count = c.count_tokens-front_tokens.ensures.count ∙ ap (λ es. count_tokens (rows_of es)) c.as_slice.ensures.value in (
-      record {
-        front_is = count;
-        all_is =
-            count ∙ sym (add-zero (count_tokens (rows_of rows)))
-            ∙ ap (λ es. count_tokens (rows_of rows) + count_tokens (rows_of es)) (sym c.new.ensures.items);
-        padded = subst (AllByRecursion (IsPadded c.args.pad)) (sym c.new.ensures.items) tt;
-      },
-      c.in_ok-front_found.ensures [] c.none.ensures
-          ∙ ap (λ es. counts_in (found_by (rows_of es))) c.as_slice-2.ensures.value,
-    )
+invariant_of-result g c = record {
+  few = (let all = c.len-gap.ensures in omega (arith, all));
+  may_pad = subst (AllByRecursion (MayPad c.args.pad)) (sym c.in_ok-rows.ensures) c.requires;
+}
+
+pub returns-clause-entries : goal.returns-clause-entries
+returns-clause-entries g c = whole_at c.in_ok-rows.rows c.len-gap.result c.args.pad ∙ c.in_ok-rows.ensures
+
+pub returns-clause-alone : goal.returns-clause-alone
+returns-clause-alone g c =
+    let rows = c.in_ok-rows.rows in
+    let all = c.len-gap.ensures in
+    ap (λ es. reverse (map (shifted_entry 0 c.args.pad) es)) (drop_all c.len-gap.result rows (omega (arith, all)))

@@ -1,32 +1,40 @@
-use Rattle.std.proofs.Common.{◌≡◌, ◌+◌, ◌∙◌, ap, arith, ltb, rules, subst, sym}
-use Rattle.std.proofs.lemmas.List.Sorted.{IsPartitionPoint-from_clause}
-use Rattle.std.specs.List.{AllByRecursion}
-use Rattle.std.specs.Prelude.{reverse}
-use Rattle.js_document.specs.Gap.{AreInOrder, IsPadded, rows_of}
+use Rattle.std.proofs.Common.{◌≡◌, ◌-◌, arith, length, subst}
+use Rattle.js_document.specs.Gap.{AreInOrder, rows_of}
 use Rattle.js_document.specs.Reading.{IsSeam}
-use Rattle.js_document.proofs.JoinLemmas.{parted, seam_of}
-use Rattle.js_document.proofs.RowPlaces.{none_past}
+use Rattle.js_document.proofs.GapLemmas.{seam_before, seam_behind, whole}
 use Rattle.js_document.proofs.gap.GapRows.rows_behind.Goals as goal
+
+pub overflow_sub-back : goal.overflow_sub-back
+overflow_sub-back g c = (let few = c.self.invariant.few in let all = c.len.ensures in omega (arith, few, all))
+
+pub starts_up_to-requires : goal.starts_up_to-requires
+starts_up_to-requires g c =
+    subst (λ es. AreInOrder (rows_of es)) (whole c.self.inside.rows c.self.inside.gap c.self.inside.pad c.args.self.now c.self.view_is) c.requires
+
+pub overflow_sub-result : goal.overflow_sub-result
+overflow_sub-result g c =
+    let few = c.starts_up_to.ensures.few in
+    let less = c.saturating_sub.ensures in
+    let all = c.len.ensures in
+    omega (arith, few, less, all)
 
 pub returns-in-Some : goal.returns-in-Some
 returns-in-Some g c =
-    let back = c.as_slice.result.now in
-    let padded = c.in-Some.padded in
-    let same : back ≡ c.args.self.now.back = c.as_slice.ensures.value ∙ ap (λ x. x.back) c.self.view_is in
-    let order = subst (λ es. AreInOrder (reverse (rows_of es))) (sym same) c.requires in
-    let point =
-    IsPartitionPoint-from_clause (λ e. ltb padded e.row.token.start) back c.partition_point.result
-    c.partition_point.ensures.partitioned (parted back order padded) (λ a r f k. search rules) in
-    let place : padded ≡ c.args.place + c.args.self.now.pad =
-    c.in-Some.ensures.1 ∙ ap (λ x. c.args.place + x.pad) c.self.view_is in
-    subst (λ start. IsSeam c.args.self.now.back start c.partition_point.result) place
-    (subst (λ es. IsSeam es padded c.partition_point.result) same
-    (seam_of back order padded c.partition_point.result c.partition_point.ensures.bound point))
+    let rows = c.self.inside.rows in
+    let less = c.saturating_sub.ensures in
+    let all = c.len.ensures in
+    let is = c.in-Some.ensures in
+    let same : length rows - c.self.inside.gap - (c.starts_up_to.result - c.self.inside.gap)
+    ≡ c.len.result - c.self.inside.gap - c.saturating_sub.result = omega (arith, less, all) in
+    subst (IsSeam c.args.self.now.back c.args.padded) same
+    (seam_behind c.self.inside.rows c.self.inside.gap c.self.inside.pad c.args.self.now c.self.view_is c.args.padded c.in-Some.place
+    c.starts_up_to.result c.self.invariant.few (omega (arith, is.0, is.1)) c.starts_up_to.ensures)
 
 pub returns-in-None : goal.returns-in-None
 returns-in-None g c =
+    let rows = c.self.inside.rows in
+    let all = c.len.ensures in
     let none = c.in-None.ensures in
-    let same = ap (λ x. x.pad) c.self.view_is in
-    none_past c.args.self.now.pad c.args.self.now.back (c.args.place + c.args.self.now.pad)
-    (omega (arith, none, same))
-    (subst (λ x. AllByRecursion (IsPadded x.pad) x.back) c.self.view_is c.self.invariant.0.padded)
+    let same : length rows - c.self.inside.gap ≡ c.len.result - c.self.inside.gap = omega (arith, all) in
+    subst (IsSeam c.args.self.now.back c.args.padded) same
+    (seam_before c.self.inside.rows c.self.inside.gap c.self.inside.pad c.args.self.now c.self.view_is c.args.padded (omega (arith, none)))

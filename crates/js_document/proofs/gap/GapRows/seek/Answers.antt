@@ -1,28 +1,32 @@
-use Rattle.std.proofs.Common.{rules, subst, sym, ◌∙◌}
-use Rattle.js_document.specs.Gap.{AreInOrder, rows_of}
-use Rattle.js_document.proofs.KeptLemmas.{sought_end, sought_start, sought_step}
+use Rattle.std.proofs.Common.{◌∙◌, ap, arith, length, subst, sym}
+use Rattle.std.proofs.lemmas.List.{length-map, length-take-le}
+use Rattle.js_document.specs.Documents.{IsKept}
+use Rattle.js_document.specs.Gap.{entries_of, rows_of}
+use Rattle.js_document.proofs.GapLemmas.{pad_is, whole, whole_at}
+use Rattle.js_document.proofs.KeptLemmas.{kept_few}
 use Rattle.js_document.proofs.gap.GapRows.seek.Goals as goal
 
-pub loop-self-2-init : goal.loop-self-2-init
-loop-self-2-init g c = (
-  search rules,
-  sought_start c.args.start c.loop-self.self
-      (subst (λ es. AreInOrder (rows_of es)) (sym c.loop-self.invariant.entries) c.requires.order)
-      (λ reaches. let yes = c.reaches.ensures.1 reaches in let no = c.loop-self-test.false in absurd (cc)),
-)
+pub invariant_of-self : goal.invariant_of-self
+invariant_of-self g c =
+    let es = entries_of c.args.self.now in
+    let few = kept_few c.args.start (rows_of es) c.kept-kept.result c.kept-kept.ensures in
+    let long = length-map es (λ e. e.row) in
+    let same = ap (λ xs. length xs) (whole c.self.inside.rows c.self.inside.gap c.self.inside.pad c.args.self.now c.self.view_is) in
+    record { few = omega (arith, few, long, same); may_pad = c.self.invariant.may_pad }
 
-pub loop-self-2-preserved : goal.loop-self-2-preserved
-loop-self-2-preserved g c = (
-  search rules,
-  sought_step c.args.start c.loop-self-2.self c.to_front.new.self c.in_ok-to_front.ensures.moves
-      c.in_ok-to_front.ensures.ok (c.falls_short.ensures.0 (let yes = c.loop-self-2-test.true in cc))
-      c.loop-self-2.invariant.1,
-)
+pub returns-clause-moves : goal.returns-clause-moves
+returns-clause-moves g c = record {
+  entries =
+      whole_at c.self.inside.rows c.kept-kept.result c.self.inside.pad
+      ∙ sym (whole c.self.inside.rows c.self.inside.gap c.self.inside.pad c.args.self.now c.self.view_is);
+  pad = sym (pad_is c.self.inside.rows c.self.inside.gap c.self.inside.pad c.args.self.now c.self.view_is);
+}
 
 pub returns-clause-kept : goal.returns-clause-kept
 returns-clause-kept g c =
-    let moved = c.loop-self-2.invariant.0 in
-    let first = c.loop-self.invariant in
-    sought_end c.args.start c.args.self.now c.loop-self-2.self
-    (record { entries = moved.entries ∙ first.entries; pad = moved.pad ∙ first.pad }) c.loop-self-2.invariant.1
-    (λ falls. let yes = c.falls_short.ensures.1 falls in let no = c.loop-self-2-test.false in absurd (cc))
+    let es = entries_of c.args.self.now in
+    let few = kept_few c.args.start (rows_of es) c.kept-kept.result c.kept-kept.ensures in
+    let long = length-map es (λ e. e.row) in
+    let same = ap (λ xs. length xs) (whole c.self.inside.rows c.self.inside.gap c.self.inside.pad c.args.self.now c.self.view_is) in
+    subst (IsKept c.args.start (rows_of es))
+    (sym (length-take-le c.kept-kept.result c.self.inside.rows (omega (arith, few, long, same)))) c.kept-kept.ensures

@@ -1,28 +1,28 @@
-use Rattle.std.proofs.Common.{◌≡◌, ◌-◌, ◌<◌, ◌≤◌, ◌∙◌, Some, ap, arith, length, refl, sym}
+use Rattle.std.proofs.Common.{◌∙◌, Some, ap, arith, sym}
+use Rattle.std.proofs.lemmas.List.{length-map}
+use Rattle.std.proofs.lemmas.Option.{slice_get_past}
 use Rattle.std.specs.Option.{option_map}
 use Rattle.std.specs.Prelude.{slice_get}
-use Rattle.std.proofs.lemmas.Option.{slice_get_read}
-use Rattle.js_document.specs.Gap.{entries_of, shifted_entry}
-use Rattle.js_document.proofs.GapLemmas.{entry_behind, row_of_entry}
+use Rattle.js_document.specs.Gap.{rows_of}
+use Rattle.js_document.proofs.GapLemmas.{row_of_entry, whole}
 use Rattle.js_document.proofs.gap.GapRows.token.Goals as goal
+
+pub returns-then-index-len : goal.returns-then-index-len
+returns-then-index-len g c =
+    let rows = c.self.inside.rows in
+    let past = c.if-index-len.true in
+    let all = c.len.ensures in
+    let long = length-map rows (λ e. e.row) in
+    sym
+    (ap (λ es. option_map (λ row. row.token) (slice_get (rows_of es) c.args.index))
+    (whole c.self.inside.rows c.self.inside.gap c.self.inside.pad c.args.self.now c.self.view_is)
+    ∙ ap (option_map (λ row. row.token)) (slice_get_past (rows_of rows) c.args.index (omega (arith, past, all, long))))
 
 pub returns : goal.returns
 returns g c =
-    let front = c.self.inside.front.items in
-    let back = c.self.inside.back.items in
-    let pad = c.self.inside.pad in
-    let at = c.in_ok-at.at in
-    let e = c.index.result.now in
-    let none = c.in_default.ensures.lookup.3 in
-    let same = ap (λ l. length l) c.deref.ensures.value in
-    let past : length front ≤ c.args.index = omega (arith, none, same) in
-    let long = c.len.ensures in
-    let backs = ap (λ x. length x.back) c.self.view_is in
-    let held = c.in_ok-at.ensures in
-    let less : c.args.index - length front < length back = omega (arith, held.0, long, backs) in
-    let place : at ≡ length back - 1 - (c.args.index - length front) = omega (arith, held.1, long, backs) in
-    let there : slice_get back at ≡ Some e =
-    slice_get_read back (length back) at e refl (omega (arith, place, less)) c.index.ensures in
-    let entry = entry_behind front back pad c.args.self.now c.self.view_is c.args.index at e past less place there in
-    let row = row_of_entry (entries_of c.args.self.now) c.args.index (shifted_entry pad 0 e) entry in
-    ap Some c.unpadded_token.ensures ∙ sym (ap (option_map (λ row. row.token)) row)
+    let rows = c.self.inside.rows in
+    ap Some c.token.ensures
+    ∙ sym
+    (ap (λ es. option_map (λ row. row.token) (slice_get (rows_of es) c.args.index))
+    (whole c.self.inside.rows c.self.inside.gap c.self.inside.pad c.args.self.now c.self.view_is)
+    ∙ ap (option_map (λ row. row.token)) (row_of_entry rows c.args.index c.at-entry.result c.at-entry.ensures))

@@ -1,7 +1,17 @@
-use Rattle.js_document.proofs.GapLemmas.{tokens_of_view}
+use Rattle.std.proofs.Common.{◌∙◌, ap, arith, sym}
+use Rattle.std.proofs.lemmas.List.{take_all}
+use Rattle.js_document.specs.Gap.{count_tokens, rows_of}
+use Rattle.js_document.proofs.GapLemmas.{whole}
 use Rattle.js_document.proofs.gap.GapRows.tokens.Goals as goal
+
+pub tokens_up_to-requires : goal.tokens_up_to-requires
+tokens_up_to-requires g c = (let all = c.len.ensures in omega (arith, all))
 
 pub returns : goal.returns
 returns g c =
-    tokens_of_view c.self.inside.front.items c.self.inside.back.items c.self.inside.pad c.self.inside.front_tokens
-    c.self.inside.tokens c.args.self.now c.self.view_is c.self.invariant.0
+    let rows = c.self.inside.rows in
+    let all = c.len.ensures in
+    c.tokens_up_to.ensures
+    ∙ ap (λ es. count_tokens (rows_of es)) (take_all c.len.result rows (omega (arith, all)))
+    ∙ ap (λ es. count_tokens (rows_of es))
+    (sym (whole c.self.inside.rows c.self.inside.gap c.self.inside.pad c.args.self.now c.self.view_is))

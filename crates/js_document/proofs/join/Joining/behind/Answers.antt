@@ -1,14 +1,10 @@
-use Rattle.std.proofs.Common.{ltb, rules, subst}
-use Rattle.std.proofs.lemmas.List.Sorted.{IsPartitionPoint-from_clause}
+use Rattle.std.proofs.Common.{ap, subst}
 use Rattle.js_document.specs.Reading.{IsSeam}
-use Rattle.js_document.proofs.JoinLemmas.{parted, seam_of}
 use Rattle.js_document.proofs.join.Joining.behind.Goals as goal
+
+pub rows_behind-requires : goal.rows_behind-requires
+rows_behind-requires g c = c.self.invariant.rows
 
 pub returns : goal.returns
 returns g c =
-    let back = c.self.inside.back.now in
-    let start = c.args.start in
-    subst (λ j. IsSeam j.back start c.partition_point.result) c.self.view_is
-    (seam_of back c.self.invariant start c.partition_point.result c.partition_point.ensures.bound
-    (IsPartitionPoint-from_clause (λ e. ltb start e.row.token.start) back c.partition_point.result
-    c.partition_point.ensures.partitioned (parted back c.self.invariant start) (λ a r f k. search rules)))
+    subst (λ back. IsSeam back c.args.start c.rows_behind.result) (ap (λ j. j.back) c.self.view_is) c.rows_behind.ensures
