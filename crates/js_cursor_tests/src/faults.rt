@@ -2,7 +2,7 @@
 
 ghost use Rattle.js_lexer.specs.Places.{KeepsPlaces};
 
-use crate::calls::{TestCursor, cursor_over};
+use crate::script::{Case, Step, TestCursor, differing};
 use js_cursor::{Cursor, CursorDiagnostic, FallibleElement, ListFault};
 use js_kind::{Kind, LexerConfig};
 use js_text::Span;
@@ -10,8 +10,8 @@ use std::alloc::{AllocError, Global};
 use std::test::Fail;
 
 /// Why a name is not read.
-#[derive(Clone, Copy, PartialEq, Eq, Debug)]
-enum NameFault {
+#[derive(Clone, Copy, PartialEq)]
+pub(crate) enum NameFault {
     /// The token that starts at the offset, in bytes, is no name.
     NoName { at: u32 },
     Memory,
@@ -79,7 +79,7 @@ impl<C: LexerConfig + Drop> FallibleElement<C, (), NameFault> for Rest {
     }
 }
 
-type Names = Result<usize, ListFault<NameFault>>;
+pub(crate) type Names = Result<usize, ListFault<NameFault>>;
 
 /// How many names stand in braces.
 fn normal(cursor: &mut TestCursor<'_>, alloc: Global) -> Names {
@@ -130,15 +130,15 @@ fn with_rest(cursor: &mut TestCursor<'_>, alloc: Global) -> Names {
 }
 
 /// Which list is read.
-#[derive(Clone, Copy, Debug)]
-enum List {
+#[derive(Clone, Copy)]
+pub(crate) enum List {
     Normal,
     Breakable,
     Delimited,
     WithRest,
 }
 
-fn names_of(cursor: &mut TestCursor<'_>, alloc: Global, list: List) -> Names {
+pub(crate) fn names_of(cursor: &mut TestCursor<'_>, alloc: Global, list: List) -> Names {
     match list {
         List::Normal => normal(cursor, alloc),
         List::Breakable => breakable(cursor, alloc),
@@ -147,36 +147,27 @@ fn names_of(cursor: &mut TestCursor<'_>, alloc: Global, list: List) -> Names {
     }
 }
 
-/// A list, and how many names it has, or where none is.
-static LISTS: [(List, &str, Result<usize, u32>); 8] = [
-    (List::Normal, "{ a b }", Ok(2)),
-    (List::Normal, "{ a 1 }", Err(4)),
-    (List::Breakable, "{ a ; }", Ok(1)),
-    (List::Breakable, "{ a 1 }", Err(4)),
-    (List::Delimited, "{ a, b }", Ok(2)),
-    (List::Delimited, "{ a, 1 }", Err(5)),
-    (List::WithRest, "{ a, ...b }", Ok(1)),
-    (List::WithRest, "{ a, ...1 }", Err(8)),
-];
-
 /// How many names there are, or that none is at the offset.
-fn names_as_told(names: Result<usize, u32>) -> Names {
+pub(crate) fn names_as_told(names: Result<usize, u32>) -> Names {
     match names {
         Ok(count) => Ok(count),
         Err(at) => Err(ListFault::Element(NameFault::NoName { at })),
     }
 }
 
+static LISTS: [Case; 8] = [
+    ("{ a b }", &[Step::Names(List::Normal, Ok(2))]),
+    ("{ a 1 }", &[Step::Names(List::Normal, Err(4))]),
+    ("{ a ; }", &[Step::Names(List::Breakable, Ok(1))]),
+    ("{ a 1 }", &[Step::Names(List::Breakable, Err(4))]),
+    ("{ a, b }", &[Step::Names(List::Delimited, Ok(2))]),
+    ("{ a, 1 }", &[Step::Names(List::Delimited, Err(5))]),
+    ("{ a, ...b }", &[Step::Names(List::WithRest, Ok(1))]),
+    ("{ a, ...1 }", &[Step::Names(List::WithRest, Err(8))]),
+];
+
 #[test]
 fn lists(rt: HostRuntime) -> Result<(), Fail> {
-    for (list, source, names) in &LISTS {
-        let mut cursor = cursor_over(rt.alloc(), source)?;
-        let expected = names_as_told(*names);
-        assert_eq!(rt;
-            names_of(&mut cursor, rt.alloc(), *list),
-            expected,
-            "{source:?}"
-        );
-    }
+    assert_eq!(rt; differing(rt.alloc(), &LISTS)?, None);
     Ok(())
 }

@@ -1,70 +1,24 @@
 //! What a parser asks of its cursor beside tokens: places and texts, the lexer's lists, and errors of its own.
 
-use crate::calls::{TestCursor, cursor_over};
+use crate::script::{Case, Step, TestCursor, differing, play};
 use js_cursor::CursorDiagnostic;
 use js_kind::Kind;
 use js_text::{CommentContent, Span};
 use std::alloc::AllocError;
 use std::test::Fail;
 
-/// The previous ends behind two advances.
-fn previous_ends(cursor: &mut TestCursor<'_>) -> Result<(u32, u32), AllocError> {
-    cursor.bump_any()?;
-    let first = cursor.previous_end();
-    cursor.bump_any()?;
-    Ok((first, cursor.previous_end()))
+/// Whether the next token is of the kind.
+pub(crate) fn peeks(cursor: &mut TestCursor<'_>, kind: Kind) -> Result<bool, AllocError> {
+    Ok(cursor.peek_token()?.kind().is_same(kind))
 }
 
-#[test]
-fn places_behind_tokens(rt: HostRuntime) -> Result<(), Fail> {
-    let mut cursor = cursor_over(rt.alloc(), "a b")?;
-    assert_eq!(rt; previous_ends(&mut cursor)?, (1, 3));
-    assert_eq!(rt; cursor.span_from(2), Some(Span { start: 2, end: 3 }));
-    assert_eq!(rt; cursor.span_from(4), None);
-    Ok(())
-}
-
-/// Spans, and what stands there in a text that begins with a character of two bytes.
-static TEXTS: [((u32, u32), Option<&str>); 5] = [
-    ((0, 2), Some("é")),
-    ((2, 4), Some("+b")),
-    ((1, 2), None),
-    ((3, 2), None),
-    ((0, 5), None),
-];
-
-#[test]
-fn texts_of_spans(rt: HostRuntime) -> Result<(), Fail> {
-    let cursor = cursor_over(rt.alloc(), "é+b")?;
-    for ((start, end), text) in &TEXTS {
-        let span = Span {
-            start: *start,
-            end: *end,
-        };
-        assert_eq!(rt; cursor.text(span), *text, "{start} to {end}");
-    }
-    Ok(())
-}
-
-#[test]
-fn a_look_at_the_next_token(rt: HostRuntime) -> Result<(), Fail> {
-    let mut cursor = cursor_over(rt.alloc(), "a + b")?;
-    assert_eq!(rt; cursor.peek_token()?.kind(), Kind::Plus);
-    assert_eq!(rt; cursor.cur_span(), Span { start: 0, end: 1 });
-    Ok(())
-}
-
-#[test]
-fn an_error_of_the_lexer_is_taken_back(rt: HostRuntime) -> Result<(), Fail> {
-    let mut cursor = cursor_over(rt.alloc(), "'a")?;
-    let error = cursor.pop_error().map(|error| error.name());
-    assert_eq!(rt; error, Some("UnterminatedString"));
-    assert_eq!(rt; cursor.lexer().errors().len(), 0);
-    Ok(())
+/// Takes back the last error of the lexer, and tells its name.
+pub(crate) fn pops_error(cursor: &mut TestCursor<'_>) -> Option<&'static str> {
+    cursor.pop_error().map(|error| error.name())
 }
 
 /// Marks the comments before the current token as applied, and tells what the first comment is then.
-fn marks(cursor: &mut TestCursor<'_>) -> Option<CommentContent> {
+pub(crate) fn marks(cursor: &mut TestCursor<'_>) -> Option<CommentContent> {
     let range = cursor.previous_token_pure_comments()?;
     cursor.mark_pure_comments_applied(range);
     cursor
@@ -74,15 +28,10 @@ fn marks(cursor: &mut TestCursor<'_>) -> Option<CommentContent> {
         .map(|comment| comment.content)
 }
 
-#[test]
-fn a_comment_is_marked_as_applied(rt: HostRuntime) -> Result<(), Fail> {
-    let mut cursor = cursor_over(rt.alloc(), "/* #__PURE__ */ f()")?;
-    assert_eq!(rt; marks(&mut cursor), Some(CommentContent::Pure));
-    Ok(())
-}
-
 /// Reports an error of the parser's own, goes back, and gives the numbers of errors before and behind that.
-fn reports_and_goes_back(cursor: &mut TestCursor<'_>) -> Result<(usize, usize), AllocError> {
+pub(crate) fn reports_and_goes_back(
+    cursor: &mut TestCursor<'_>,
+) -> Result<(usize, usize), AllocError> {
     let checkpoint = cursor.checkpoint();
     let span = cursor.cur_span();
     cursor.error(CursorDiagnostic::Parser { code: 7, span })?;
@@ -93,26 +42,74 @@ fn reports_and_goes_back(cursor: &mut TestCursor<'_>) -> Result<(usize, usize), 
     Ok((reported, cursor.errors().len()))
 }
 
+static ASKED: [Case; 6] = [
+    (
+        "a b",
+        &[
+            Step::BumpAny,
+            Step::PreviousEnd(1),
+            Step::BumpAny,
+            Step::PreviousEnd(3),
+            Step::SpanFrom(2, Some(Span { start: 2, end: 3 })),
+            Step::SpanFrom(4, None),
+        ],
+    ),
+    // The first character has two bytes.
+    (
+        "é+b",
+        &[
+            Step::Text(Span { start: 0, end: 2 }, Some("é")),
+            Step::Text(Span { start: 2, end: 4 }, Some("+b")),
+            Step::Text(Span { start: 1, end: 2 }, None),
+            Step::Text(Span { start: 3, end: 2 }, None),
+            Step::Text(Span { start: 0, end: 5 }, None),
+        ],
+    ),
+    (
+        "a + b",
+        &[
+            Step::Peek(Kind::Plus),
+            Step::CurrentSpan(Span { start: 0, end: 1 }),
+        ],
+    ),
+    (
+        "'a",
+        &[
+            Step::PopError(Some("UnterminatedString")),
+            Step::LexerErrors(0),
+        ],
+    ),
+    (
+        "/* #__PURE__ */ f()",
+        &[Step::MarkComments(Some(CommentContent::Pure))],
+    ),
+    ("a", &[Step::ReportAndGoBack(1, 0)]),
+];
+
 #[test]
-fn an_error_of_the_parser(rt: HostRuntime) -> Result<(), Fail> {
-    let mut cursor = cursor_over(rt.alloc(), "a")?;
-    assert_eq!(rt; reports_and_goes_back(&mut cursor)?, (1, 0));
-    let span = Span { start: 2, end: 5 };
-    let error = CursorDiagnostic::Parser { code: 7, span };
-    assert_eq!(rt; (error.name(), error.span()), ("Parser", span));
+fn what_is_asked(rt: HostRuntime) -> Result<(), Fail> {
+    assert_eq!(rt; differing(rt.alloc(), &ASKED)?, None);
     Ok(())
 }
 
 #[test]
+fn an_error_of_the_parser(rt: HostRuntime) {
+    let span = Span { start: 2, end: 5 };
+    let error = CursorDiagnostic::Parser { code: 7, span };
+    assert_eq!(rt; (error.name(), error.span()), ("Parser", span));
+}
+
+/// What is read up to the last token of a source, where an error is.
+static READ: [Step; 4] = [
+    Step::SetAmbient(true, false),
+    Step::SetAmbient(false, true),
+    Step::BumpAny,
+    Step::BumpAny,
+];
+
+#[test]
 fn a_parse_that_is_done(rt: HostRuntime) -> Result<(), Fail> {
-    let mut cursor = cursor_over(rt.alloc(), "a /* c */ 'b")?;
-    assert_eq!(rt;
-        (cursor.set_ambient(true), cursor.set_ambient(false)),
-        (false, true)
-    );
-    previous_ends(&mut cursor)?;
-    let mut lexer = cursor.finish();
-    assert_eq!(rt; (lexer.comments().len(), lexer.errors().len()), (1, 1));
-    assert_eq!(rt; lexer.finalize_tokens().len(), 2);
+    let told = play(rt.alloc(), "a /* c */ 'b", &READ)?;
+    assert_eq!(rt; told, (None, (1, 1, 2)));
     Ok(())
 }

@@ -3,7 +3,7 @@
 #![tactic(auto)]
 
 #[cfg(test)]
-mod advances;
+mod ahead;
 #[cfg(test)]
 mod calls;
 #[cfg(test)]
@@ -13,4 +13,8 @@ mod first;
 #[cfg(test)]
 mod lexing;
 #[cfg(test)]
+mod lists;
+#[cfg(test)]
 mod moves;
+#[cfg(test)]
+mod script;

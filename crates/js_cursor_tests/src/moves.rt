@@ -2,9 +2,9 @@
 
 ghost use Rattle.std.specs.Prelude.{◌≢◌, ◌<◌, OnOk};
 
-use crate::calls::{TestCursor, cursor_over};
+use crate::script::{Case, Step, TestCursor, differing};
+use js_cursor::ListStep;
 use js_cursor::laws::what_leads_on_leaves_less;
-use js_cursor::{AreNext, IsNext, IsNextOnSameLine, ListStep};
 use js_kind::Kind;
 use js_text::Span;
 use std::alloc::AllocError;
@@ -34,7 +34,7 @@ fn span_of_two(cursor: &mut TestCursor<'_>) -> Result<Span, AllocError> {
 }
 
 /// The spans of a token, if there is one, and of the two behind it.
-fn spans(cursor: &mut TestCursor<'_>) -> Result<Option<(Span, Span)>, AllocError> {
+pub(crate) fn spans(cursor: &mut TestCursor<'_>) -> Result<Option<(Span, Span)>, AllocError> {
     if cursor.at(Kind::Eof) {
         return Ok(None);
     }
@@ -44,29 +44,11 @@ fn spans(cursor: &mut TestCursor<'_>) -> Result<Option<(Span, Span)>, AllocError
     Ok(Some((first, span_of_two(cursor)?)))
 }
 
-/// Whether the tokens behind a name are a `=>`, one on its line, and a `=>` with a name behind it.
-fn tokens_ahead(cursor: &mut TestCursor<'_>) -> Result<(bool, bool, bool), AllocError> {
-    let is_next = cursor.lookahead(IsNext(Kind::Arrow))?;
-    let is_on_line = cursor.lookahead(IsNextOnSameLine(Kind::Arrow))?;
-    let are_next = cursor.lookahead(AreNext(Kind::Arrow, Kind::Ident))?;
-    Ok((is_next, is_on_line, are_next))
-}
-
-#[test]
-fn places_and_tokens_ahead(rt: HostRuntime) -> Result<(), Fail> {
-    let mut cursor = cursor_over(rt.alloc(), "a bc d ef g\n=> b")?;
-    let first = Span { start: 0, end: 1 };
-    let last = Span { start: 5, end: 9 };
-    assert_eq!(rt; spans(&mut cursor)?, Some((first, last)));
-    assert_eq!(rt; tokens_ahead(&mut cursor)?, (true, false, true));
-    Ok(())
-}
-
 /// How many tokens stand between commas up to a `]`, where the last one stands, and where a comma behind it ends.
-fn steps(
+pub(crate) fn steps(
     cursor: &mut TestCursor<'_>,
-    opening: Span,
 ) -> Result<(usize, Option<Span>, Option<u32>), AllocError> {
+    let opening = Span { start: 0, end: 1 };
     let mut count = 0usize;
     let mut last = None;
     if !cursor.delimited_list_begins(Kind::RBrack) {
@@ -85,7 +67,7 @@ fn steps(
 }
 
 /// How many names stand before a `}`, and whether that is all: a round that passes none is stuck.
-fn normal_steps(cursor: &mut TestCursor<'_>) -> Result<(usize, bool), AllocError> {
+pub(crate) fn normal_steps(cursor: &mut TestCursor<'_>) -> Result<(usize, bool), AllocError> {
     what_leads_on_leaves_less();
     let mut count = 0usize;
     'elements: while cursor.normal_list_goes_on(Kind::RCurly) {
@@ -99,23 +81,24 @@ fn normal_steps(cursor: &mut TestCursor<'_>) -> Result<(usize, bool), AllocError
     Ok((count, true))
 }
 
-#[test]
-fn a_list_with_separators_step_by_step(rt: HostRuntime) -> Result<(), Fail> {
-    let opening = Span { start: 0, end: 1 };
-    let mut cursor = cursor_over(rt.alloc(), "a,b,]")?;
-    let last = Span { start: 2, end: 3 };
-    assert_eq!(rt; steps(&mut cursor, opening)?, (2, Some(last), Some(3)));
-    Ok(())
-}
+static MOVES: [Case; 4] = [
+    (
+        "a bc d ef g\n=> b",
+        &[
+            Step::Spans(Span { start: 0, end: 1 }, Span { start: 5, end: 9 }),
+            Step::LookAhead(true, false, true),
+        ],
+    ),
+    (
+        "a,b,]",
+        &[Step::ListSteps(2, Some(Span { start: 2, end: 3 }), Some(3))],
+    ),
+    ("c d }", &[Step::NormalListSteps(2, true)]),
+    ("c ; }", &[Step::NormalListSteps(1, false)]),
+];
 
-/// Sources, how many names are read in them, and whether that is all.
-static NAMES: [(&str, usize, bool); 2] = [("c d }", 2, true), ("c ; }", 1, false)];
-
 #[test]
-fn a_normal_list_step_by_step(rt: HostRuntime) -> Result<(), Fail> {
-    for (source, count, is_all) in &NAMES {
-        let mut cursor = cursor_over(rt.alloc(), source)?;
-        assert_eq!(rt; normal_steps(&mut cursor)?, (*count, *is_all), "{source:?}");
-    }
+fn moves(rt: HostRuntime) -> Result<(), Fail> {
+    assert_eq!(rt; differing(rt.alloc(), &MOVES)?, None);
     Ok(())
 }

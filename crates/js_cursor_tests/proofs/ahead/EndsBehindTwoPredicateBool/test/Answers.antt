@@ -1,4 +1,4 @@
-use Rattle.js_cursor_tests.proofs.calls.EndsBehindTwoPredicateBool.test.Goals as goal
+use Rattle.js_cursor_tests.proofs.ahead.EndsBehindTwoPredicateBool.test.Goals as goal
 
 pub returns-then-is_ok-2-clause-goes_on : goal.returns-then-is_ok-2-clause-goes_on
 returns-then-is_ok-2-clause-goes_on g c =

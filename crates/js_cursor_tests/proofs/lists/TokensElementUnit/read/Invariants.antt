@@ -1,5 +1,5 @@
 use Rattle.js_lexer.specs.Places.{KeepsPlaces}
-use Rattle.js_cursor_tests.proofs.calls.TokensElementUnit.read.Given as goal
+use Rattle.js_cursor_tests.proofs.lists.TokensElementUnit.read.Given as goal
 
 -- No place was given up.
 abbrev pub invariant-loop : goal.invariant-loop
