@@ -48,7 +48,7 @@ enum {
     /* of the js_document_.. calls alone, which say themselves what each answer leaves: */
     JS_LEX_BAD_EDIT = 14,       /* it starts behind its end, or one of both is behind the text or within a character */
     JS_LEX_NO_DOCUMENT = 15,    /* the handle holds none */
-    JS_LEX_UNKNOWN_NUMBER = 16, /* the number is that of no line ends, or of no unit of columns */
+    JS_LEX_UNKNOWN_NUMBER = 16, /* the number is that of no goals, of no line ends, or of no unit of columns */
     JS_LEX_NOTHING_THERE = 17   /* no live token has the byte, or there is no line of this number */
 };
 
@@ -209,6 +209,12 @@ typedef struct JsDocument {
 
 #define JS_DOCUMENT_NONE { NULL }
 
+/* By which rule a document chooses the goals of its tokens. */
+enum {
+    JS_GOALS_AUTO = 0, /* as js_lex_auto chooses them */
+    JS_GOALS_JSX = 1   /* as js_lex_jsx does, for texts with JSX */
+};
+
 /* What ends a line. A CR LF is one line end in each. */
 enum {
     JS_LINES_ECMASCRIPT = 0,     /* LF, CR, U+2028 and U+2029, as ECMA-262 12.3 has them */
@@ -229,6 +235,13 @@ typedef struct JsLiveToken {
     uint8_t kind;  /* js_lex_kind_name names it */
     uint8_t flags; /* a sum of JS_TOKEN_ON_NEW_LINE, JS_TOKEN_ESCAPED and JS_TOKEN_SEPARATOR */
 } JsLiveToken;
+
+/* The value of a live token of a document. Names, strings and parts of templates have one. */
+typedef struct JsLiveValue {
+    JsSpan span;       /* the stretch of the text that it is, with JS_VALUE_SOURCE; else 0 and 0 */
+    size_t unit_count; /* how many UTF-16 units it has, with JS_VALUE_UNITS; else 0 */
+    uint8_t form;      /* JS_VALUE_.. */
+} JsLiveValue;
 
 /* What the last edit changed of a list: its items from `start` on went, up to `old_end` of the old list, and those from
  * `start` on came, up to `new_end` of the new one. All before are the same, and stand before the edit; those behind are
@@ -255,19 +268,19 @@ typedef struct JsPosition {
     uint32_t column;
 } JsPosition;
 
-/* Makes the document of a source, by goals that are chosen as js_lex_auto chooses them, and puts it into the handle. A
- * document that was there is freed. The source is copied.
+/* Makes the document of a source, with goals that are chosen by the rule of the number `goals`, and puts it into the
+ * handle. A document that was there is freed. The source is copied.
  *
- * It answers JS_LEX_UNKNOWN_SOURCE_TYPE, JS_LEX_UNKNOWN_NUMBER (of line ends), JS_LEX_OVERLONG, JS_LEX_NOT_UTF8,
- * JS_LEX_NO_MEMORY or JS_LEX_OK. */
-uint32_t js_document_new(const uint8_t *source, size_t source_length, uint32_t source_type, uint32_t line_ends,
-                         JsDocument *document);
+ * It answers JS_LEX_UNKNOWN_SOURCE_TYPE, JS_LEX_UNKNOWN_NUMBER (of goals, or of line ends), JS_LEX_OVERLONG,
+ * JS_LEX_NOT_UTF8, JS_LEX_NO_MEMORY or JS_LEX_OK. */
+uint32_t js_document_new(const uint8_t *source, size_t source_length, uint32_t source_type, uint32_t goals,
+                         uint32_t line_ends, JsDocument *document);
 
 /* Frees the document, if there is one. The handle holds none then, and js_document_new may be called again. */
 void js_document_free(JsDocument *document);
 
 /* Makes an edit: the bytes of the text from `start` up to `end`, without it, become those of `text`. The tokens are
- * those of the new text from then on, as if it were lexed anew.
+ * those of the new text from then on, as if it were lexed anew by the same rule.
  *
  * It answers JS_LEX_NO_DOCUMENT, JS_LEX_OVERLONG or JS_LEX_NOT_UTF8 (of `text`), JS_LEX_BAD_EDIT, JS_LEX_OVERLONG (of
  * the text that it would make), JS_LEX_NO_MEMORY or JS_LEX_OK. */
@@ -284,6 +297,17 @@ uint32_t js_document_tokens(JsDocument *document, size_t from, JsLiveToken *toke
 /* Tells the live token that the byte at an offset belongs to, found by halves. It answers JS_LEX_NO_DOCUMENT,
  * JS_LEX_NOTHING_THERE (white space, a comment, or behind the text) or JS_LEX_OK. */
 uint32_t js_document_token_at(JsDocument *document, uint32_t offset, JsLiveToken *token);
+
+/* Fills a list with the values of the live tokens from the index `from` on, as js_document_tokens does with the tokens:
+ * the value at an index is that of the token there. The units of a decoded one are told by js_document_value_at. It
+ * answers JS_LEX_NO_DOCUMENT or JS_LEX_OK. */
+uint32_t js_document_values(JsDocument *document, size_t from, JsLiveValue *values, size_t value_room, size_t *count);
+
+/* Tells the value of the live token that the byte at an offset belongs to, found by halves, and fills a list with its
+ * UTF-16 units, in which a surrogate may be alone, as far as there is room; behind them the list is as before. It answers
+ * what js_document_token_at does. */
+uint32_t js_document_value_at(JsDocument *document, uint32_t offset, JsLiveValue *value, uint16_t *units,
+                              size_t unit_room);
 
 /* Each fills a list with the items from the index `from` on, as far as there is room; `count` says how many the document
  * has. It answers JS_LEX_NO_DOCUMENT, JS_LEX_NO_MEMORY (where they are more than a size_t counts) or JS_LEX_OK. */

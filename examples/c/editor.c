@@ -1,15 +1,19 @@
 /* The core of an editor in a terminal: makes edits of a file, and tells what has to be painted again: editor FILE EDITS
  *
+ * A file whose name ends with `.jsx` or `.tsx` has JSX.
+ *
  * Each line of EDITS is an edit: from which line and column to which, as the Language Server Protocol counts them, from
  * 0 and in units of UTF-16, and the text that comes in their place, in which \n, \r and \\ stand for a line end and a
- * backslash. Behind each edit the tokens of the document are compared with those of its text, lexed anew. */
+ * backslash. Behind each edit the tokens of the document and their values are compared with those of its text, lexed
+ * anew. */
 #include "source.h"
 #include <string.h>
 
-/* The text that is shown, as the editor has it. */
+/* The text that is shown, as the editor has it, and whether it may have JSX. */
 typedef struct Buffer {
     uint8_t *bytes;
     size_t length;
+    int has_jsx;
 } Buffer;
 
 /* A list of tokens that grows. */
@@ -109,6 +113,47 @@ static int is_same(const JsLiveToken *live, const JsToken *token) {
            live->flags == (token->flags & flags);
 }
 
+/* Whether the value that stands at the start of a token of the document is that of the token that was lexed anew, with
+ * the same units. */
+static int has_units(JsDocument *document, const JsToken *token, const JsLists *lists) {
+    size_t count = token->value_form == JS_VALUE_UNITS ? token->value.end - token->value.start : 0;
+    JsLiveValue value;
+    uint16_t *units = room(count, sizeof(uint16_t));
+    int same = js_document_value_at(document, token->span.start, &value, units, count) == JS_LEX_OK &&
+               value.form == token->value_form && value.unit_count == count &&
+               memcmp(units, lists->units + (count != 0 ? token->value.start : 0), count * sizeof(uint16_t)) == 0;
+    free(units);
+    return same;
+}
+
+/* Whether a value of the document is that of the token that was lexed anew. A token without a byte stands at no offset. */
+static int is_same_value(JsDocument *document, const JsLiveValue *value, const JsToken *token, const JsLists *lists) {
+    if (value->form != token->value_form) {
+        return 0;
+    }
+    if (value->form == JS_VALUE_SOURCE &&
+        (value->span.start != token->value.start || value->span.end != token->value.end)) {
+        return 0;
+    }
+    return token->span.start == token->span.end || has_units(document, token, lists);
+}
+
+/* Compares the values of the document with those of the text that was lexed anew. */
+static void compare_values(JsDocument *document, const JsLists *lists, size_t tokens) {
+    JsLiveValue *values = room(tokens, sizeof(JsLiveValue));
+    size_t count = 0;
+    uint32_t answer = js_document_values(document, 0, values, tokens, &count);
+    if (answer != JS_LEX_OK) {
+        stop("js_document_values", answer);
+    }
+    for (size_t i = 0; i < count && i < tokens; i++) {
+        if (!is_same_value(document, &values[i], &lists->tokens[i], lists)) {
+            printf("  token %zu has another value\n", i);
+        }
+    }
+    free(values);
+}
+
 /* Compares the lines of the document with those of the text, which end behind LF, CR and CR LF, and gives their count. */
 static size_t compare_lines(JsDocument *document, const Buffer *text) {
     uint32_t *starts = room(text->length + 1, sizeof(uint32_t));
@@ -137,9 +182,9 @@ static void compare(JsDocument *document, const Buffer *text) {
     Source source = {text->bytes, text->length};
     JsLists lists;
     JsCounts counts;
-    uint32_t answer = lex_source(&source, JS_LEX_MODULE, &lists, &counts);
+    uint32_t answer = lex_source_by(text->has_jsx ? js_lex_jsx : js_lex_auto, &source, JS_LEX_MODULE, &lists, &counts);
     if (answer != JS_LEX_OK) {
-        stop("js_lex_auto", answer);
+        stop(text->has_jsx ? "js_lex_jsx" : "js_lex_auto", answer);
     }
     Painted all = tokens_from(document, 0, counts.tokens + 1);
     if (all.count != counts.tokens) {
@@ -150,6 +195,7 @@ static void compare(JsDocument *document, const Buffer *text) {
             printf("  token %zu is another one\n", i);
         }
     }
+    compare_values(document, &lists, counts.tokens);
     size_t comments = 0;
     size_t diagnostics = 0;
     JsComment *comment_list = room(counts.comments, sizeof(JsComment));
@@ -218,16 +264,22 @@ static void edit(JsDocument *document, Buffer *text, char *line) {
     compare(document, text);
 }
 
+/* Whether a file may have JSX, by its name. */
+static int may_have_jsx(const char *path) {
+    const char *end = strrchr(path, '.');
+    return end != NULL && (strcmp(end, ".jsx") == 0 || strcmp(end, ".tsx") == 0);
+}
+
 int main(int count, char **arguments) {
     if (count != 3) {
         fprintf(stderr, "usage: editor FILE EDITS\n");
         return 2;
     }
     Source source = read_source(arguments[1]);
-    Buffer text = {source.bytes, source.length};
+    Buffer text = {source.bytes, source.length, may_have_jsx(arguments[1])};
     JsDocument document = JS_DOCUMENT_NONE;
-    uint32_t answer =
-        js_document_new(text.bytes, text.length, JS_LEX_MODULE, JS_LINES_LANGUAGE_SERVER, &document);
+    uint32_t answer = js_document_new(text.bytes, text.length, JS_LEX_MODULE, text.has_jsx ? JS_GOALS_JSX : JS_GOALS_AUTO,
+                                      JS_LINES_LANGUAGE_SERVER, &document);
     if (answer != JS_LEX_OK) {
         stop("js_document_new", answer);
     }

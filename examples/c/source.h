@@ -68,17 +68,27 @@ static inline int had_room(const JsLists *lists, const JsCounts *counts) {
            counts->warnings <= lists->warning_room;
 }
 
-/* Lexes a source into lists with room for everything: a first guess, and, where it was short, once more. */
-static inline uint32_t lex_source(const Source *source, uint32_t source_type, JsLists *lists, JsCounts *counts) {
+/* js_lex_auto, or js_lex_jsx. */
+typedef uint32_t LexChosen(const uint8_t *source, size_t source_length, uint32_t source_type, JsLists *out,
+                           JsCounts *counts);
+
+/* Lexes a source by a call into lists with room for everything: a first guess, and, where it was short, once more. */
+static inline uint32_t lex_source_by(LexChosen *lex, const Source *source, uint32_t source_type, JsLists *lists,
+                                     JsCounts *counts) {
     JsCounts guess = {source->length / 4 + 16, 64, 16, 16, source->length / 64 + 16, 16, 16, 0};
     *lists = make_lists(&guess);
-    uint32_t answer = js_lex_auto(source->bytes, source->length, source_type, lists, counts);
+    uint32_t answer = lex(source->bytes, source->length, source_type, lists, counts);
     if (answer == JS_LEX_OK && !had_room(lists, counts)) {
         free_lists(lists);
         *lists = make_lists(counts);
-        answer = js_lex_auto(source->bytes, source->length, source_type, lists, counts);
+        answer = lex(source->bytes, source->length, source_type, lists, counts);
     }
     return answer;
+}
+
+/* The same by js_lex_auto. */
+static inline uint32_t lex_source(const Source *source, uint32_t source_type, JsLists *lists, JsCounts *counts) {
+    return lex_source_by(js_lex_auto, source, source_type, lists, counts);
 }
 
 /* A name of a number, with a 0 behind it. */

@@ -3,13 +3,15 @@ use Rattle.std.specs.Prelude.{◌≡◌, ℕ, List, Option, IfSome}
 use Rattle.js_lines.specs.declared.line_ends.LineEnds.{LineEnds}
 use Rattle.js_edited_lines.specs.Edited.{AreLinesOf, KeptLines}
 use Rattle.js_relex.specs.Documents.{IsEdit, edited}
-use Rattle.js_auto.specs.Choice.{choice_in}
 use Rattle.js_document.specs.Documents.{DocState, Edits}
-use Rattle.js_document.specs.States.{SameBraces}
+use Rattle.js_document_c.specs.Chosen.{alike_of, choice_of}
+use Rattle.js_document_c.specs.declared.chosen.Goals.{Goals}
 
--- How contracts see a document with its lines: the document, and what ends a line of its text.
+-- How contracts see a document with its lines: the document, the rule that chooses its goals, and what ends a line of
+-- its text.
 pub record HeldState : Type 0 where
   pub document : DocState
+  pub goals : Goals
   pub ends : LineEnds
 
 -- They are the lines of the text, which these end.
@@ -28,8 +30,8 @@ pub record MayFollow (lines : KeptLines) (start end : ℕ) (new text : List ℕ)
   pub edit : IsEdit old start end
   pub text_is : text ≡ edited old start end new
 
--- The document is that of the edited text, whatever stood on the counter of its rows.
-pub record IsEdited (old : DocState) (start end : ℕ) (new : List ℕ) (d : DocState) : Type 0 where
+-- The document is that of the edited text, by the same rule, whatever stood on the counter of its rows.
+pub record IsEdited (goals : Goals) (old : DocState) (start end : ℕ) (new : List ℕ) (d : DocState) : Type 0 where
   pub before : ℕ
   pub now : ℕ
-  pub edits : Edits choice_in SameBraces old start end new before now d
+  pub edits : Edits (choice_of goals) (alike_of goals) old start end new before now d

@@ -3,12 +3,13 @@
 ghost use Rattle.std.specs.Prelude.{◌≡◌, ◌<◌, ◌^◌, ◌⊎◌, length, Err, IfErr, IfOk, IfSome, IsOk, OnErr, OnOk};
 ghost use Rattle.js_lines.specs.Lines.{offset_of, position_of};
 ghost use Rattle.js_relex.specs.Documents.{IsEdit, edited};
-ghost use Rattle.js_auto.specs.Choice.{choice_in};
 ghost use Rattle.js_document.specs.Documents.{EditCause, IsDocumentOf, TextCause, change_of_new};
 ghost use Rattle.js_document.specs.declared.fault.DocumentFault.{DocumentFault};
+ghost use Rattle.js_document_c.specs.Chosen.{choice_of, document_in, goals_in};
 ghost use Rattle.js_document_c.specs.Held.{AreLinesBy, IsEdited, KeepsLines, MayFollow};
 
-use js_document::{AutoState, Document, DocumentFault, Edit};
+use crate::chosen::{ChosenDocument, Goals};
+use js_document::{DocumentFault, Edit};
 use js_edited_lines::EditedLines;
 use js_lines::{ColumnUnit, LineEnds, Position};
 use js_session::Steps;
@@ -17,10 +18,10 @@ use std::alloc::{AllocError, Global};
 use std::marker::{Brand, Model};
 use std::sync::ledger::{Blank, Ledger};
 
-/// A document that chooses its goals, with the lines of its text.
+/// A document that chooses its goals by one of the rules, with the lines of its text.
 #[derive(Drop)]
 pub struct HeldDocument {
-    document: Document<AutoState>,
+    document: ChosenDocument,
     /// The lines, from the first call that asks for them on. An edit that finds no memory for them forgets them, and the
     /// next call that asks finds them anew.
     lines: Option<EditedLines>,
@@ -28,13 +29,14 @@ pub struct HeldDocument {
 }
 
 impl Model for HeldDocument {
+    ghost use Rattle.js_document_c.specs.Chosen.{document_in, goals_in};
     ghost use Rattle.js_document_c.specs.Held.{HeldState, KeepsLines};
 
     ghost Value = { HeldState };
 
-    ghost view = { λ h. record { document = h.document; ends = h.ends } };
+    ghost view = { λ h. record { document = document_in h.document; goals = goals_in h.document; ends = h.ends } };
 
-    ghost invariant = { λ h. KeepsLines h.document.text h.ends h.lines };
+    ghost invariant = { λ h. KeepsLines (document_in h.document).text h.ends h.lines };
 }
 
 /// The lines of a text of a document, found anew.
@@ -93,10 +95,12 @@ impl HeldDocument {
         alloc: Global,
         text: &str,
         source_type: SourceType,
+        goals: Goals,
         ends: LineEnds,
         steps: &mut Steps<L>,
     ) -> Result<HeldDocument, DocumentFault>
-        ensures document { IfOk result (λ h. IsDocumentOf choice_in text.now source_type h.document) }
+        ensures document { IfOk result (λ h. IsDocumentOf (choice_of goals) text.now source_type h.document) }
+        ensures goals { IfOk result (λ h. h.goals ≡ goals) }
         ensures change { IfOk result (λ h. h.document.change ≡ change_of_new h.document.report) }
         ensures ends { IfOk result (λ h. h.ends ≡ ends) }
         // Each fault comes for its cause alone, and where its cause is there, nothing but a lack of memory comes in its
@@ -106,7 +110,7 @@ impl HeldDocument {
             → (result ≡ Err fault) ⊎ (result ≡ Err DocumentFault.Memory) }
         ensures complete { length text.now < 2 ^ 32 → IsOk result ⊎ (result ≡ Err DocumentFault.Memory) }
     {
-        match Document::<AutoState>::new(alloc, text, source_type, steps) {
+        match ChosenDocument::new(alloc, text, source_type, goals, steps) {
             Ok(document) => Ok(HeldDocument {
                 document,
                 lines: None,
@@ -126,8 +130,9 @@ impl HeldDocument {
         requires name { blank.name ≡ L.name }
         requires parts { blank.parts ≡ L.parts }
         requires some_part { 0 < L.parts }
-        ensures ok { OnOk result
-            (IsEdited self.old.document edit.now.start edit.now.end edit.now.text.now self.new.document) }
+        ensures ok { OnOk result (IsEdited self.old.goals self.old.document edit.now.start edit.now.end edit.now.text.now
+            self.new.document) }
+        ensures goals { self.new.goals ≡ self.old.goals }
         ensures ends { self.new.ends ≡ self.old.ends }
         ensures err { OnErr result (self.new ≡ self.old) }
         ensures cause { IfErr result (λ fault. (fault ≡ DocumentFault.Memory)
@@ -154,8 +159,9 @@ impl HeldDocument {
 
     /// Makes an edit, and tells the lines of it. Where there is no document of it, all stays as it was.
     pub fn edit(&mut self, alloc: Global, edit: &Edit<'_>) -> Result<(), DocumentFault>
-        ensures ok { OnOk result
-            (IsEdited self.old.document edit.now.start edit.now.end edit.now.text.now self.new.document) }
+        ensures ok { OnOk result (IsEdited self.old.goals self.old.document edit.now.start edit.now.end edit.now.text.now
+            self.new.document) }
+        ensures goals { self.new.goals ≡ self.old.goals }
         ensures ends { self.new.ends ≡ self.old.ends }
         ensures err { OnErr result (self.new ≡ self.old) }
         // Each fault comes for its cause alone, and where its cause is there, nothing but a lack of memory comes in its
@@ -172,9 +178,10 @@ impl HeldDocument {
         self.edit_uncounted::<Brand>(alloc, edit, Blank::new(1))
     }
 
-    /// The document.
-    pub fn document(&self) -> &Document<AutoState>
-        ensures { result.now ≡ self.now.document }
+    /// The document, by the rule that chooses its goals.
+    pub fn document(&self) -> &ChosenDocument
+        ensures document { document_in result.now ≡ self.now.document }
+        ensures goals { goals_in result.now ≡ self.now.goals }
     {
         &self.document
     }

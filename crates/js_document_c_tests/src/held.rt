@@ -3,7 +3,7 @@
 ghost use Rattle.std.specs.Prelude.{◌≡◌, ◌<◌};
 
 use js_document::Edit;
-use js_document_c::{HeldDocument, JsDocument};
+use js_document_c::{Goals, HeldDocument, JsDocument};
 use js_lines::{ColumnUnit, LineEnds, Position};
 use js_session::Steps;
 use js_text::SourceType;
@@ -133,7 +133,8 @@ fn first_wrong<L: Ledger>(alloc: Global, blank: Blank) -> Option<usize>
 {
     let mut steps = Steps::<L>::new(blank);
     let ends = LineEnds::LanguageServer;
-    let held = HeldDocument::new(alloc, TEXT, SourceType::Module, ends, &mut steps).ok()?;
+    let goals = Goals::Auto;
+    let held = HeldDocument::new(alloc, TEXT, SourceType::Module, goals, ends, &mut steps).ok()?;
     let mut handle = JsDocument::none(alloc);
     handle.put(Box::new(alloc, held).ok()?);
     for (index, step) in STEPS.iter().enumerate() {

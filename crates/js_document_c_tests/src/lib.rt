@@ -3,4 +3,6 @@
 #![tactic(auto)]
 
 #[cfg(test)]
+mod chosen;
+#[cfg(test)]
 mod held;

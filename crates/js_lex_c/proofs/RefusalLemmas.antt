@@ -7,11 +7,18 @@ use Rattle.js_document.specs.Documents.{EditCause, TextCause}
 use Rattle.js_document.specs.declared.fault.DocumentFault.{DocumentFault}
 use Rattle.js_document.specs.declared.fault.DocumentFault.TheVariants.{BadEdit, Overlong, Memory}
 use Rattle.js_document_c.specs.Held.{HeldState}
+use Rattle.js_document_c.specs.declared.chosen.Goals.{Goals}
+use Rattle.js_document_c.specs.declared.chosen.Goals.TheVariants.{Auto}
 use Rattle.js_lex_c.specs.DocumentFaults.{refusal_of}
-use Rattle.js_lex_c.specs.DocumentNumbers.{line_ends_number}
+use Rattle.js_lex_c.specs.DocumentNumbers.{goals_number, line_ends_number}
 use Rattle.js_lex_c.specs.Documents.{EditRefused}
 use Rattle.js_lex_c.specs.Refusals.{no_memory}
 use Rattle.js_lex_c.specs.declared.refusal.Refusal.{Refusal}
+
+-- each rule has a number below 2
+pub goals_below : (goals : Goals) → goals_number goals < 2
+goals_below Auto = lit< tt
+goals_below _ = lit< tt
 
 -- each kind of line ends has a number below 3
 pub line_ends_below : (ends : LineEnds) → line_ends_number ends < 3

@@ -1,19 +1,19 @@
 //! Lists of a caller, filled with what a document has.
 
 ghost use Rattle.std.specs.Prelude.{◌≡◌, ◌≤◌, ◌^◌, drop, length, map, IfOk};
-ghost use Rattle.js_lex_c.specs.DocumentRecords.{live_token_record};
+ghost use Rattle.js_lex_c.specs.DocumentRecords.{live_token_record, live_value_record};
 ghost use Rattle.js_lex_c.specs.Filled.{filled};
 ghost use Rattle.js_lex_c.specs.Records.{comment_record, diagnostic_record};
 
-use crate::document_record::{JsLiveToken, live_token_record};
+use crate::document_record::{JsLiveToken, JsLiveValue, live_token_record, live_value_record};
 use crate::put::put;
 use crate::record::{JsComment, JsDiagnostic, comment_record, diagnostic_record};
-use js_document::{AutoState, Comments, Diagnostics, Found, FoundList, Tokens};
+use js_document::{Comments, Diagnostics, Found, FoundList, KeepGoals, Tokens, Values};
 use js_edited_lines::EditedLines;
 use std::alloc::AllocError;
 
 /// Passes so many tokens, or all where there are no more.
-fn pass(tokens: &mut Tokens<'_, AutoState>, count: usize)
+fn pass<K: KeepGoals>(tokens: &mut Tokens<'_, K>, count: usize)
     ensures { tokens.new ≡ drop count tokens.old }
 {
     let mut left = count;
@@ -26,7 +26,7 @@ fn pass(tokens: &mut Tokens<'_, AutoState>, count: usize)
 }
 
 /// Fills a list with tokens as far as there is room.
-fn fill_tokens(room: &mut [JsLiveToken], tokens: &mut Tokens<'_, AutoState>)
+fn fill_tokens<K: KeepGoals>(room: &mut [JsLiveToken], tokens: &mut Tokens<'_, K>)
     ensures { room.new ≡ filled room.old (map live_token_record tokens.old) }
 {
     let mut place = 0;
@@ -40,7 +40,11 @@ fn fill_tokens(room: &mut [JsLiveToken], tokens: &mut Tokens<'_, AutoState>)
 }
 
 /// Fills a list with the tokens from an index on, as far as there is room.
-pub(crate) fn fill_tokens_from(room: &mut [JsLiveToken], tokens: Tokens<'_, AutoState>, from: usize)
+pub(crate) fn fill_tokens_from<K: KeepGoals>(
+    room: &mut [JsLiveToken],
+    tokens: Tokens<'_, K>,
+    from: usize,
+)
     ensures { room.new ≡ filled room.old (map live_token_record (drop from tokens.entry)) }
 {
     let mut tokens = tokens;
@@ -48,8 +52,48 @@ pub(crate) fn fill_tokens_from(room: &mut [JsLiveToken], tokens: Tokens<'_, Auto
     fill_tokens(room, &mut tokens);
 }
 
+/// Passes so many values, or all where there are no more.
+fn pass_values<K: KeepGoals>(values: &mut Values<'_, K>, count: usize)
+    ensures { values.new ≡ drop count values.old }
+{
+    let mut left = count;
+    while left > 0 {
+        if values.next().is_none() {
+            return;
+        }
+        left -= 1;
+    }
+}
+
+/// Fills a list with values as far as there is room.
+fn fill_values<K: KeepGoals>(room: &mut [JsLiveValue], values: &mut Values<'_, K>)
+    ensures { room.new ≡ filled room.old (map live_value_record values.old) }
+{
+    let mut place = 0;
+    while place < room.len() {
+        let Some(value) = values.next() else {
+            return;
+        };
+        put(room, place, live_value_record(value));
+        place += 1;
+    }
+}
+
+/// Fills a list with the values from an index on, as far as there is room.
+pub(crate) fn fill_values_from<K: KeepGoals>(
+    room: &mut [JsLiveValue],
+    values: Values<'_, K>,
+    from: usize,
+)
+    ensures { room.new ≡ filled room.old (map live_value_record (drop from values.entry)) }
+{
+    let mut values = values;
+    pass_values(&mut values, from);
+    fill_values(room, &mut values);
+}
+
 /// Passes so many items of a list, or all where there are no more.
-fn pass_found<L: FoundList>(found: &mut Found<'_, AutoState, L>, count: usize)
+fn pass_found<K: KeepGoals, L: FoundList>(found: &mut Found<'_, K, L>, count: usize)
     ensures { found.new ≡ drop count found.old }
 {
     let mut left = count;
@@ -62,8 +106,8 @@ fn pass_found<L: FoundList>(found: &mut Found<'_, AutoState, L>, count: usize)
 }
 
 /// How many items a list has. There is no memory for more than `usize::MAX`.
-pub(crate) fn count_found<L: FoundList>(
-    found: &mut Found<'_, AutoState, L>,
+pub(crate) fn count_found<K: KeepGoals, L: FoundList>(
+    found: &mut Found<'_, K, L>,
 ) -> Result<usize, AllocError>
     ensures { IfOk result (λ count. count ≡ length found.old) }
 {
@@ -78,7 +122,7 @@ pub(crate) fn count_found<L: FoundList>(
 }
 
 /// Fills a list with comments as far as there is room.
-fn fill_comments(room: &mut [JsComment], comments: &mut Found<'_, AutoState, Comments>)
+fn fill_comments<K: KeepGoals>(room: &mut [JsComment], comments: &mut Found<'_, K, Comments>)
     ensures { room.new ≡ filled room.old (map comment_record comments.old) }
 {
     let mut place = 0;
@@ -92,9 +136,9 @@ fn fill_comments(room: &mut [JsComment], comments: &mut Found<'_, AutoState, Com
 }
 
 /// Fills a list with the comments from an index on, as far as there is room.
-pub(crate) fn fill_comments_from(
+pub(crate) fn fill_comments_from<K: KeepGoals>(
     room: &mut [JsComment],
-    comments: &mut Found<'_, AutoState, Comments>,
+    comments: &mut Found<'_, K, Comments>,
     from: usize,
 )
     ensures { room.new ≡ filled room.old (map comment_record (drop from comments.old)) }
@@ -104,7 +148,10 @@ pub(crate) fn fill_comments_from(
 }
 
 /// Fills a list with diagnostics as far as there is room.
-fn fill_diagnostics(room: &mut [JsDiagnostic], diagnostics: &mut Found<'_, AutoState, Diagnostics>)
+fn fill_diagnostics<K: KeepGoals>(
+    room: &mut [JsDiagnostic],
+    diagnostics: &mut Found<'_, K, Diagnostics>,
+)
     ensures { room.new ≡ filled room.old (map diagnostic_record diagnostics.old) }
 {
     let mut place = 0;
@@ -118,9 +165,9 @@ fn fill_diagnostics(room: &mut [JsDiagnostic], diagnostics: &mut Found<'_, AutoS
 }
 
 /// Fills a list with the diagnostics from an index on, as far as there is room.
-pub(crate) fn fill_diagnostics_from(
+pub(crate) fn fill_diagnostics_from<K: KeepGoals>(
     room: &mut [JsDiagnostic],
-    diagnostics: &mut Found<'_, AutoState, Diagnostics>,
+    diagnostics: &mut Found<'_, K, Diagnostics>,
     from: usize,
 )
     ensures { room.new ≡ filled room.old (map diagnostic_record (drop from diagnostics.old)) }

@@ -2,16 +2,17 @@
 
 ghost use Rattle.std.specs.Prelude.{◌≡◌};
 ghost use Rattle.std.specs.declared.option.Option.TheVariants.{None};
-ghost use Rattle.js_lex_c.specs.Documents.{BecomesEdited, BothHold, EditRefused, GivesChange, GivesComments};
-ghost use Rattle.js_lex_c.specs.Documents.{GivesDiagnostics, GivesLines, GivesOffset, GivesPosition, GivesTokenAt, GivesTokens};
-ghost use Rattle.js_lex_c.specs.Documents.{HasNoTokenAt, HeldCause, HoldsSuch, IsNewDocument, NewCause, NoCause};
-ghost use Rattle.js_lex_c.specs.Documents.{OffsetRefused, UnitRefused};
+ghost use Rattle.js_lex_c.specs.Documents.{BecomesEdited, BothHold, DocumentCause, EditRefused, GivesChange};
+ghost use Rattle.js_lex_c.specs.Documents.{GivesComments, GivesDiagnostics, GivesLines, GivesOffset, GivesPosition};
+ghost use Rattle.js_lex_c.specs.Documents.{GivesTokenAt, GivesTokens, GivesValueAt, GivesValues, HasNoTokenAt, HeldCause};
+ghost use Rattle.js_lex_c.specs.Documents.{HoldsDocument, HoldsSuch, IsNewDocument, NewCause, NoCause, OffsetRefused};
+ghost use Rattle.js_lex_c.specs.Documents.{UnitRefused};
 ghost use Rattle.js_lex_c.specs.Refusals.{DoesOr};
 
-use crate::document_record::{JsChange, JsLiveToken, JsPosition, change_record};
+use crate::document_record::{JsChange, JsLiveToken, JsLiveValue, JsPosition, change_record};
 use crate::held_document::{
     comments_held, diagnostics_held, edit_held, lines_held, offset_held, position_held, put_new,
-    token_at_held, tokens_held,
+    token_at_held, tokens_held, value_at_held, values_held,
 };
 use crate::record::{JsComment, JsDiagnostic};
 use crate::refusal::{Refusal, answer_of};
@@ -22,25 +23,35 @@ use std::marker::Brand;
 use std::sync::ledger::Blank;
 
 /// Makes the document of a source whose goals are chosen, and puts it into the handle; a document that was there is
-/// freed. `source_type` is 0 for a module, 1 for a script, and 2 where it is not settled. `line_ends` is 0 for LF, CR,
-/// CR LF, U+2028 and U+2029, 1 for LF and CR LF, and 2 for LF, CR and CR LF.
+/// freed. `source_type` is 0 for a module, 1 for a script, and 2 where it is not settled. `goals` is 0 for the rule of
+/// `js_lex_auto`, and 1 for that of `js_lex_jsx`. `line_ends` is 0 for LF, CR, CR LF, U+2028 and U+2029, 1 for LF and
+/// CR LF, and 2 for LF, CR and CR LF.
 ///
 /// It answers 0; 1 without memory; 6 where the source is not UTF-8; 11 where it has 2^32 bytes or more; 13 for another
-/// source type, and 16 for other line ends. Behind each but 0 the handle is as before.
+/// source type, and 16 for other goals or line ends. Behind each but 0 the handle is as before.
 #[unsafe(no_mangle)]
 pub extern "C" fn js_document_new(
     alloc: Global,
     source: &[u8],
     source_type: u32,
+    goals: u32,
     line_ends: u32,
     document: &mut JsDocument,
 ) -> u32
-    ensures { DoesOr (NewCause source.now source_type line_ends)
-        (HoldsSuch document.new.value (IsNewDocument source.now source_type line_ends))
+    ensures { DoesOr (NewCause source.now source_type goals line_ends)
+        (HoldsSuch document.new.value (IsNewDocument source.now source_type goals line_ends))
         (document.new.value ≡ document.old.value) result }
 {
     let blank = Blank::new(1);
-    let found = put_new::<Brand>(alloc, source, source_type, line_ends, document, blank);
+    let found = put_new::<Brand>(
+        alloc,
+        source,
+        source_type,
+        goals,
+        line_ends,
+        document,
+        blank,
+    );
     answer_of(found)
 }
 
@@ -88,7 +99,7 @@ pub extern "C" fn js_document_changed(
     document: &mut JsDocument,
     change: &mut JsChange,
 ) -> u32
-    ensures answer { DoesOr (HeldCause document.old.value NoCause) (HoldsSuch document.old.value (GivesChange change.new))
+    ensures answer { DoesOr (DocumentCause document.old.value NoCause) (HoldsDocument document.old.value (GivesChange change.new))
         (change.new ≡ change.old) result }
     ensures same { document.new.value ≡ document.old.value }
 {
@@ -110,8 +121,8 @@ pub extern "C" fn js_document_tokens(
     tokens: &mut [JsLiveToken],
     count: &mut usize,
 ) -> u32
-    ensures answer { DoesOr (HeldCause document.old.value NoCause)
-        (HoldsSuch document.old.value (GivesTokens from tokens.old tokens.new count.new))
+    ensures answer { DoesOr (DocumentCause document.old.value NoCause)
+        (HoldsDocument document.old.value (GivesTokens from tokens.old tokens.new count.new))
         ((tokens.new ≡ tokens.old) × (count.new ≡ count.old)) result }
     ensures same { document.new.value ≡ document.old.value }
 {
@@ -119,6 +130,30 @@ pub extern "C" fn js_document_tokens(
         return Refusal::NoDocument.number();
     };
     tokens_held(&held, from, tokens, count);
+    document.put(held);
+    0
+}
+
+/// Fills a list with the values of the live tokens from an index on, as `js_document_tokens` does with the tokens: the
+/// value at an index is that of the token there. It answers 0, or 15 where there is no document, and then both are as
+/// before.
+#[unsafe(no_mangle)]
+pub extern "C" fn js_document_values(
+    alloc: Global,
+    document: &mut JsDocument,
+    from: usize,
+    values: &mut [JsLiveValue],
+    count: &mut usize,
+) -> u32
+    ensures answer { DoesOr (DocumentCause document.old.value NoCause)
+        (HoldsDocument document.old.value (GivesValues from values.old values.new count.new))
+        ((values.new ≡ values.old) × (count.new ≡ count.old)) result }
+    ensures same { document.new.value ≡ document.old.value }
+{
+    let Some(held) = document.take(alloc) else {
+        return Refusal::NoDocument.number();
+    };
+    values_held(&held, from, values, count);
     document.put(held);
     0
 }
@@ -132,14 +167,38 @@ pub extern "C" fn js_document_token_at(
     offset: u32,
     token: &mut JsLiveToken,
 ) -> u32
-    ensures answer { DoesOr (HeldCause document.old.value (HasNoTokenAt offset))
-        (HoldsSuch document.old.value (GivesTokenAt offset token.new)) (token.new ≡ token.old) result }
+    ensures answer { DoesOr (DocumentCause document.old.value (HasNoTokenAt offset))
+        (HoldsDocument document.old.value (GivesTokenAt offset token.new)) (token.new ≡ token.old) result }
     ensures same { document.new.value ≡ document.old.value }
 {
     let Some(held) = document.take(alloc) else {
         return Refusal::NoDocument.number();
     };
     let found = token_at_held(&held, offset, token);
+    document.put(held);
+    answer_of(found)
+}
+
+/// Tells the value of the live token that the byte at an offset belongs to, and fills a list with its UTF-16 units, if it
+/// was decoded, as far as there is room. It answers 0, 15 where there is no document, and 17 where the byte belongs to no
+/// token or is behind the text; behind each but 0 both are as before.
+#[unsafe(no_mangle)]
+pub extern "C" fn js_document_value_at(
+    alloc: Global,
+    document: &mut JsDocument,
+    offset: u32,
+    value: &mut JsLiveValue,
+    units: &mut [u16],
+) -> u32
+    ensures answer { DoesOr (DocumentCause document.old.value (HasNoTokenAt offset))
+        (HoldsDocument document.old.value (GivesValueAt offset value.new units.old units.new))
+        ((value.new ≡ value.old) × (units.new ≡ units.old)) result }
+    ensures same { document.new.value ≡ document.old.value }
+{
+    let Some(held) = document.take(alloc) else {
+        return Refusal::NoDocument.number();
+    };
+    let found = value_at_held(&held, offset, value, units);
     document.put(held);
     answer_of(found)
 }
@@ -155,8 +214,8 @@ pub extern "C" fn js_document_comments(
     comments: &mut [JsComment],
     count: &mut usize,
 ) -> u32
-    ensures answer { DoesOr (HeldCause document.old.value NoCause)
-        (HoldsSuch document.old.value (GivesComments from comments.old comments.new count.new))
+    ensures answer { DoesOr (DocumentCause document.old.value NoCause)
+        (HoldsDocument document.old.value (GivesComments from comments.old comments.new count.new))
         ((comments.new ≡ comments.old) × (count.new ≡ count.old)) result }
     ensures same { document.new.value ≡ document.old.value }
 {
@@ -177,8 +236,8 @@ pub extern "C" fn js_document_diagnostics(
     diagnostics: &mut [JsDiagnostic],
     count: &mut usize,
 ) -> u32
-    ensures answer { DoesOr (HeldCause document.old.value NoCause)
-        (HoldsSuch document.old.value (GivesDiagnostics from diagnostics.old diagnostics.new count.new))
+    ensures answer { DoesOr (DocumentCause document.old.value NoCause)
+        (HoldsDocument document.old.value (GivesDiagnostics from diagnostics.old diagnostics.new count.new))
         ((diagnostics.new ≡ diagnostics.old) × (count.new ≡ count.old)) result }
     ensures same { document.new.value ≡ document.old.value }
 {
@@ -202,7 +261,7 @@ pub extern "C" fn js_document_lines(
     starts: &mut [u32],
     count: &mut usize,
 ) -> u32
-    ensures answer { DoesOr (HeldCause document.old.value NoCause)
+    ensures answer { DoesOr (DocumentCause document.old.value NoCause)
         (HoldsSuch document.old.value (GivesLines from starts.old starts.new count.new))
         ((starts.new ≡ starts.old) × (count.new ≡ count.old)) result }
     ensures same { document.new.value ≡ document.old.value }

@@ -1,62 +1,93 @@
 //! What the calls about a document do with the one that is held.
 
 ghost use Rattle.std.specs.Prelude.{◌≡◌, ◌⊎◌, ◌<◌, IfErr, IfOk};
-ghost use Rattle.js_lex_c.specs.Documents.{BecomesEdited, EditRefused, GivesComments, GivesDiagnostics};
-ghost use Rattle.js_lex_c.specs.Documents.{GivesLines, GivesOffset, GivesPosition, GivesTokenAt, GivesTokens, HasNoTokenAt};
-ghost use Rattle.js_lex_c.specs.Documents.{HoldsSuch, IsNewDocument, NewCause, NoCause, OffsetRefused, UnitRefused};
+ghost use Rattle.js_document.specs.Documents.{IsDocumentOf, change_of_new};
+ghost use Rattle.js_document_c.specs.Chosen.{choice_of};
+ghost use Rattle.js_lex_c.specs.Documents.{BecomesEdited, EditRefused, GivesComments, GivesDiagnostics, GivesLines};
+ghost use Rattle.js_lex_c.specs.Documents.{GivesOffset, GivesPosition, GivesTokenAt, GivesTokens, GivesValueAt};
+ghost use Rattle.js_lex_c.specs.Documents.{GivesValues, HasNoTokenAt, HoldsSuch, IsNewDocument, IsUnreadable, NewCause};
+ghost use Rattle.js_lex_c.specs.Documents.{NoCause, OffsetRefused, UnitRefused};
 ghost use Rattle.js_lex_c.specs.Refusals.{Tries, no_memory};
 
-use crate::document_fill::{
-    count_found, fill_comments_from, fill_diagnostics_from, fill_line_starts, fill_tokens_from,
+use crate::document_fill::fill_line_starts;
+use crate::document_number::{column_unit_of, goals_of, line_ends_of};
+use crate::document_record::{
+    JsLiveToken, JsLiveValue, JsPosition, live_token_record, live_value_record, position_record,
+    value_units,
 };
-use crate::document_number::{column_unit_of, line_ends_of};
-use crate::document_record::{JsLiveToken, JsPosition, live_token_record, position_record};
+use crate::from_document::{comments_of, diagnostics_of, tokens_of, values_of};
 use crate::number::source_type_of;
+use crate::put::fill;
 use crate::record::{JsComment, JsDiagnostic};
 use crate::refusal::Refusal;
 use js_document::Edit;
-use js_document_c::{HeldDocument, JsDocument};
-use js_lines::Position;
-use js_session::{LexFault, Steps, utf8_text};
+use js_document_c::{ChosenDocument, Goals, HeldDocument, JsDocument};
+use js_lines::{LineEnds, Position};
+use js_session::{Steps, utf8_text};
+use js_text::SourceType;
 use std::alloc::Global;
 use std::sync::ledger::{Blank, Ledger};
 
-/// There is no memory.
-const NO_MEMORY: Refusal = Refusal::Lex(LexFault::Memory);
+/// The document of a source, over a counter that nobody reads.
+#[tactic(auto, using(crate::proofs::RefusalLemmas::readable_fault))]
+fn held_of<L: Ledger>(
+    alloc: Global,
+    source: &[u8],
+    source_type: SourceType,
+    goals: Goals,
+    ends: LineEnds,
+    blank: Blank,
+) -> Result<HeldDocument, Refusal>
+    requires name { blank.name ≡ L.name }
+    requires parts { blank.parts ≡ L.parts }
+    requires some_part { 0 < L.parts }
+    ensures document { IfOk result (λ held. IsDocumentOf (choice_of held.goals) source.now source_type held.document) }
+    ensures goals { IfOk result (λ held. held.goals ≡ goals) }
+    ensures ends { IfOk result (λ held. held.ends ≡ ends) }
+    ensures change { IfOk result (λ held. held.document.change ≡ change_of_new held.document.report) }
+    ensures err { IfErr result (λ refusal. (refusal ≡ no_memory) ⊎ IsUnreadable source.now refusal) }
+{
+    let text = match utf8_text(source) {
+        Ok(text) => text,
+        Err(fault) => return Err(Refusal::Lex(fault)),
+    };
+    let mut steps = Steps::<L>::new(blank);
+    match HeldDocument::new(alloc, text, source_type, goals, ends, &mut steps) {
+        Ok(held) => Ok(held),
+        Err(fault) => Err(Refusal::of_document(fault)),
+    }
+}
 
-/// The document of a source, with the numbers of its type and of what ends its lines, over a counter that nobody reads.
-#[tactic(auto, using(crate::proofs::NumberLemmas::source_type_below, crate::proofs::RefusalLemmas::line_ends_below, crate::proofs::RefusalLemmas::readable_fault))]
+/// The same with the numbers of the type of the source, of the rule that chooses its goals, and of what ends its lines.
+#[tactic(auto, using(crate::proofs::NumberLemmas::source_type_below, crate::proofs::RefusalLemmas::goals_below, crate::proofs::RefusalLemmas::line_ends_below))]
 fn new_held<L: Ledger>(
     alloc: Global,
     source: &[u8],
     source_type: u32,
+    goals: u32,
     line_ends: u32,
     blank: Blank,
 ) -> Result<HeldDocument, Refusal>
     requires name { blank.name ≡ L.name }
     requires parts { blank.parts ≡ L.parts }
     requires some_part { 0 < L.parts }
-    ensures ok { IfOk result (IsNewDocument source.now source_type line_ends) }
+    ensures ok { IfOk result (IsNewDocument source.now source_type goals line_ends) }
     ensures err { IfErr result (λ refusal. (refusal ≡ no_memory)
-        ⊎ NewCause source.now source_type line_ends refusal) }
+        ⊎ NewCause source.now source_type goals line_ends refusal) }
 {
     let known = match source_type_of(source_type) {
         Ok(known) => known,
         Err(_) => return Err(Refusal::UnknownSourceType),
     };
+    let rule = match goals_of(goals) {
+        Some(rule) => rule,
+        None => return Err(Refusal::UnknownNumber),
+    };
     let ends = match line_ends_of(line_ends) {
         Some(ends) => ends,
         None => return Err(Refusal::UnknownNumber),
     };
-    let text = match utf8_text(source) {
-        Ok(text) => text,
-        Err(fault) => return Err(Refusal::Lex(fault)),
-    };
-    let mut steps = Steps::<L>::new(blank);
-    match HeldDocument::new(alloc, text, known, ends, &mut steps) {
-        Ok(held) => Ok(held),
-        Err(fault) => Err(Refusal::of_document(fault)),
-    }
+    held_of::<L>(alloc, source, known, rule, ends, blank)
 }
 
 /// Puts the document of a source into a handle, over a counter that nobody reads.
@@ -64,6 +95,7 @@ pub(crate) fn put_new<L: Ledger>(
     alloc: Global,
     source: &[u8],
     source_type: u32,
+    goals: u32,
     line_ends: u32,
     document: &mut JsDocument,
     blank: Blank,
@@ -71,11 +103,11 @@ pub(crate) fn put_new<L: Ledger>(
     requires name { blank.name ≡ L.name }
     requires parts { blank.parts ≡ L.parts }
     requires some_part { 0 < L.parts }
-    ensures { Tries (NewCause source.now source_type line_ends)
-        (HoldsSuch document.new.value (IsNewDocument source.now source_type line_ends))
+    ensures { Tries (NewCause source.now source_type goals line_ends)
+        (HoldsSuch document.new.value (IsNewDocument source.now source_type goals line_ends))
         (document.new.value ≡ document.old.value) result }
 {
-    let held = match new_held::<L>(alloc, source, source_type, line_ends, blank) {
+    let held = match new_held::<L>(alloc, source, source_type, goals, line_ends, blank) {
         Ok(held) => held,
         Err(refusal) => return Err(refusal),
     };
@@ -84,7 +116,7 @@ pub(crate) fn put_new<L: Ledger>(
             document.put(held);
             Ok(())
         }
-        Err(_) => Err(NO_MEMORY),
+        Err(_) => Err(Refusal::NO_MEMORY),
     }
 }
 
@@ -117,11 +149,28 @@ pub(crate) fn tokens_held(
     tokens: &mut [JsLiveToken],
     count: &mut usize,
 )
-    ensures { GivesTokens from tokens.old tokens.new count.new held.now }
+    ensures { GivesTokens from tokens.old tokens.new count.new held.now.document }
 {
-    let document = held.document();
-    fill_tokens_from(tokens, document.tokens(), from);
-    *count = document.token_count();
+    match held.document() {
+        ChosenDocument::Auto(document) => tokens_of(document, from, tokens, count),
+        ChosenDocument::Jsx(document) => tokens_of(document, from, tokens, count),
+    }
+}
+
+/// Puts the values of these tokens from an index on into a list as far as there is room, and tells how many tokens there
+/// are.
+pub(crate) fn values_held(
+    held: &HeldDocument,
+    from: usize,
+    values: &mut [JsLiveValue],
+    count: &mut usize,
+)
+    ensures { GivesValues from values.old values.new count.new held.now.document }
+{
+    match held.document() {
+        ChosenDocument::Auto(document) => values_of(document, from, values, count),
+        ChosenDocument::Jsx(document) => values_of(document, from, values, count),
+    }
 }
 
 /// Tells the live token that the byte at an offset belongs to.
@@ -130,11 +179,33 @@ pub(crate) fn token_at_held(
     offset: u32,
     token: &mut JsLiveToken,
 ) -> Result<(), Refusal>
-    ensures { Tries (HasNoTokenAt offset held.now) (GivesTokenAt offset token.new held.now) (token.new ≡ token.old) result }
+    ensures { Tries (HasNoTokenAt offset held.now.document) (GivesTokenAt offset token.new held.now.document)
+        (token.new ≡ token.old) result }
 {
     match held.document().token_at(offset) {
         Some(found) => {
             *token = live_token_record(&found);
+            Ok(())
+        }
+        None => Err(Refusal::NothingThere),
+    }
+}
+
+/// Tells the value of that token, and puts its units into a list as far as there is room.
+pub(crate) fn value_at_held(
+    held: &HeldDocument,
+    offset: u32,
+    value: &mut JsLiveValue,
+    units: &mut [u16],
+) -> Result<(), Refusal>
+    ensures { Tries (HasNoTokenAt offset held.now.document)
+        (GivesValueAt offset value.new units.old units.new held.now.document)
+        ((value.new ≡ value.old) × (units.new ≡ units.old)) result }
+{
+    match held.document().value_at(offset) {
+        Some(found) => {
+            *value = live_value_record(found);
+            fill(units, value_units(found));
             Ok(())
         }
         None => Err(Refusal::NothingThere),
@@ -148,17 +219,13 @@ pub(crate) fn comments_held(
     comments: &mut [JsComment],
     count: &mut usize,
 ) -> Result<(), Refusal>
-    ensures { Tries (NoCause held.now) (GivesComments from comments.old comments.new count.new held.now)
+    ensures { Tries (NoCause held.now.document)
+        (GivesComments from comments.old comments.new count.new held.now.document)
         ((comments.new ≡ comments.old) × (count.new ≡ count.old)) result }
 {
-    let document = held.document();
-    match count_found(&mut document.comments()) {
-        Ok(found) => {
-            fill_comments_from(comments, &mut document.comments(), from);
-            *count = found;
-            Ok(())
-        }
-        Err(_) => Err(NO_MEMORY),
+    match held.document() {
+        ChosenDocument::Auto(document) => comments_of(document, from, comments, count),
+        ChosenDocument::Jsx(document) => comments_of(document, from, comments, count),
     }
 }
 
@@ -169,17 +236,13 @@ pub(crate) fn diagnostics_held(
     diagnostics: &mut [JsDiagnostic],
     count: &mut usize,
 ) -> Result<(), Refusal>
-    ensures { Tries (NoCause held.now) (GivesDiagnostics from diagnostics.old diagnostics.new count.new held.now)
+    ensures { Tries (NoCause held.now.document)
+        (GivesDiagnostics from diagnostics.old diagnostics.new count.new held.now.document)
         ((diagnostics.new ≡ diagnostics.old) × (count.new ≡ count.old)) result }
 {
-    let document = held.document();
-    match count_found(&mut document.diagnostics()) {
-        Ok(found) => {
-            fill_diagnostics_from(diagnostics, &mut document.diagnostics(), from);
-            *count = found;
-            Ok(())
-        }
-        Err(_) => Err(NO_MEMORY),
+    match held.document() {
+        ChosenDocument::Auto(document) => diagnostics_of(document, from, diagnostics, count),
+        ChosenDocument::Jsx(document) => diagnostics_of(document, from, diagnostics, count),
     }
 }
 
@@ -193,7 +256,7 @@ pub(crate) fn lines_held(
     starts: &mut [u32],
     count: &mut usize,
 ) -> Result<(), Refusal>
-    ensures answer { Tries (NoCause held.old) (GivesLines from starts.old starts.new count.new held.old)
+    ensures answer { Tries (NoCause held.old.document) (GivesLines from starts.old starts.new count.new held.old)
         ((starts.new ≡ starts.old) × (count.new ≡ count.old)) result }
     ensures same { held.new ≡ held.old }
 {
@@ -204,7 +267,7 @@ pub(crate) fn lines_held(
             held.keep_lines(lines);
             Ok(())
         }
-        Err(_) => Err(NO_MEMORY),
+        Err(_) => Err(Refusal::NO_MEMORY),
     }
 }
 
@@ -229,7 +292,7 @@ pub(crate) fn position_held(
             *position = position_record(found);
             Ok(())
         }
-        Err(_) => Err(NO_MEMORY),
+        Err(_) => Err(Refusal::NO_MEMORY),
     }
 }
 
@@ -255,6 +318,6 @@ pub(crate) fn offset_held(
             Ok(())
         }
         Ok(None) => Err(Refusal::NothingThere),
-        Err(_) => Err(NO_MEMORY),
+        Err(_) => Err(Refusal::NO_MEMORY),
     }
 }

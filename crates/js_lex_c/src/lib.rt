@@ -11,6 +11,7 @@ mod documents;
 mod fault;
 mod fill;
 mod filler;
+mod from_document;
 mod held_document;
 mod lex;
 mod names;
@@ -21,11 +22,11 @@ mod refusal;
 mod token;
 
 pub use calls::{js_lex_auto, js_lex_count, js_lex_steps};
-pub use document_record::{JsChange, JsLiveToken, JsPosition, JsRange};
+pub use document_record::{JsChange, JsLiveToken, JsLiveValue, JsPosition, JsRange};
 pub use documents::{
     js_document_changed, js_document_comments, js_document_diagnostics, js_document_edit,
     js_document_free, js_document_lines, js_document_new, js_document_offset, js_document_position,
-    js_document_token_at, js_document_tokens,
+    js_document_token_at, js_document_tokens, js_document_value_at, js_document_values,
 };
 pub use fill::{JsCounts, JsLists};
 pub use names::{js_lex_content_name, js_lex_diagnostic_name, js_lex_kind_name};

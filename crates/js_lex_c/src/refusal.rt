@@ -19,13 +19,16 @@ pub enum Refusal {
     BadEdit,
     /// The handle holds no document.
     NoDocument,
-    /// The number is that of no line ends, or of no unit of columns.
+    /// The number is that of no rule that chooses goals, of no line ends, or of no unit of columns.
     UnknownNumber,
     /// No token has the byte, or there is no such line.
     NothingThere,
 }
 
 impl Refusal {
+    /// There is no memory.
+    pub(crate) const NO_MEMORY: Refusal = Refusal::Lex(LexFault::Memory);
+
     /// What a call answers.
     pub(crate) fn number(self) -> u32
         ensures { result ≡ refusal_number self }
@@ -47,7 +50,7 @@ impl Refusal {
         match fault {
             DocumentFault::BadEdit => Refusal::BadEdit,
             DocumentFault::Overlong => Refusal::Lex(LexFault::Overlong),
-            DocumentFault::Memory => Refusal::Lex(LexFault::Memory),
+            DocumentFault::Memory => Refusal::NO_MEMORY,
         }
     }
 }

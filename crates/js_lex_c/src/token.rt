@@ -61,7 +61,7 @@ pub(crate) fn token_flags(token: &Token, flags_error: bool) -> u8
 }
 
 /// How a value is told.
-fn value_form(value: TokenValue<'_>) -> u8
+pub(crate) fn value_form(value: TokenValue<'_>) -> u8
     ensures { result ≡ value_form (value_handed value.entry) }
 {
     match value {

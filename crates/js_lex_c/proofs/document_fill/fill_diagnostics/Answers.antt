@@ -5,7 +5,7 @@ use Rattle.js_lex_c.proofs.DocumentFill.{drop_next, filled_full, filled_next, fi
 use Rattle.js_lex_c.proofs.document_fill.fill_diagnostics.Goals as goal
 
 pub loop-place-preserved : goal.loop-place-preserved
-loop-place-preserved c =
+loop-place-preserved g c =
     let place = c.loop-place.place in
     let all = c.args.diagnostics.now in
     let left = c.next.new.self in
@@ -19,13 +19,13 @@ loop-place-preserved c =
     )
 
 pub returns : goal.returns
-returns c =
+returns g c =
     let kept = c.loop-place.invariant in
     filled_full diagnostic_record c.args.room.now c.loop-place.room c.args.diagnostics.now c.loop-place.place kept.2
     c.loop-place-test.false kept.1
 
 pub returns-in_default : goal.returns-in_default
-returns-in_default c =
+returns-in_default g c =
     let kept = c.loop-place.invariant in
     filled_out diagnostic_record c.args.room.now c.loop-place.room c.args.diagnostics.now c.loop-place.place
     (sym kept.0 ∙ c.in_default.ensures.steps.0) kept.1

@@ -5,7 +5,7 @@ use Rattle.js_lex_c.proofs.document_fill.fill_tokens.Given as goal
 
 -- The list is filled with so many, and the others are left.
 abbrev pub invariant-loop-place : goal.invariant-loop-place
-invariant-loop-place l =
+invariant-loop-place g l =
     (l.tokens ≡ drop l.place l.initial.tokens)
     × (l.room ≡ filled l.initial.room (map live_token_record (take l.place l.initial.tokens)))
     × (l.place ≤ length l.initial.tokens)

@@ -3,4 +3,4 @@ use Rattle.js_lex_c.proofs.document_fill.pass.Given as goal
 
 -- Behind those that are still to be passed stand the same.
 abbrev pub invariant-loop-left : goal.invariant-loop-left
-invariant-loop-left l = drop l.left l.tokens ≡ drop l.initial.left l.initial.tokens
+invariant-loop-left g l = drop l.left l.tokens ≡ drop l.initial.left l.initial.tokens
