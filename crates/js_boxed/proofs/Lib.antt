@@ -1,4 +1,4 @@
-mod LooseValues
-mod Tokens
-mod Values
+pub mod LooseValues
+pub mod Tokens
+pub mod Values
 mod Words

@@ -36,7 +36,7 @@ use Rattle.js_boxed.specs.contracts.optional_box.OptionalBox as optional
 abbrev pub Z : RattleType
 Z = heap.the_row
 
-abbrev al : Al
+abbrev pub al : Al
 al = record { row = Z; laws = heap_laws.the_row_laws; g = ghosts; d = impl [] tnil dnil; drops = impl [] tnil dnil }
 
 abbrev pub word_val : Ptr → Val → Val

@@ -10,11 +10,13 @@ use base.Logic.{ent, sep}
 use base.Fml.{Lft, Share, Fml, ftrue, fat, fhide, flft}
 use contract.Monad.{fact}
 use types.Logic.{Logic, sem}
-use types.Kit.{Goal, Soaks, Step, step, Seq, Item, ‵, raw, ◌⊛◌, ◌$◌, ◌∵◌, !, qed, move, keep, drop, use1, split, rewrite, fsplit, feq_l, feq_i, flt_l, done}
+use types.Kit.{Goal, Soaks, Step, step, Seq, Item, ‵, raw, ◌⊛◌, ◌$◌, ◌∵◌, !, qed, move, keep, drop, use1, split}
+use types.Kit.{rewrite, fsplit, feq_l, feq_i, flt_l, done}
 use denote.RattleType.{RattleType, RowLaws}
 use denote.Memory.{cell_at, part_at, hidden_shr}
 use denote.Copied.{plain_Copied}
-use denote.RawPtr.{Ptr, RawPtr, Testable, coded_ptr, ptr_own, rawptr_pure, ptr_val, block_of, count_of, block_ptr, null_ptr, InBlock, at_block, ptr_row_laws}
+use denote.RawPtr.{Ptr, RawPtr, Testable, coded_ptr, ptr_own, rawptr_pure, ptr_val, block_of, count_of, block_ptr}
+use denote.RawPtr.{null_ptr, InBlock, at_block, ptr_row_laws}
 use denote.Struct.Laws.{RawPtr-laws}
 use denote.Struct.Struct.{Struct, Struct-row_laws}
 use denote.Struct.Owning.{shape, to}

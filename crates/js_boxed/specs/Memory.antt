@@ -1,5 +1,6 @@
 -- What a box that may be missing owns, and what a `&` to it lends.
---     maybe_owned      a null pointer, or the value at the pointer and the right to free its block, at a pointer that may be compared with null
+--     maybe_owned      a null pointer, or the value at the pointer and the right to free its block, at a pointer that may be
+--                      compared with null
 --     maybe_lent       the same with the value lent
 use Rattle.std.specs.Prelude.{◌^◌}
 use base.Fml.{Lft, Fml, fsep, feq, flt}

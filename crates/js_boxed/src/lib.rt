@@ -4,6 +4,5 @@
 mod loose;
 mod optional_box;
 
-#[doc(hidden)]
 pub use loose::Loose;
 pub use optional_box::OptionalBox;

@@ -7,9 +7,9 @@ use std::marker::Model;
 
 /// A box that was taken apart. It owns what the box owned.
 pub struct Loose<T, A: Allocator> {
-    pub(crate) at: *mut T,
-    pub(crate) alloc: A,
-    pub(crate) ghost value: { T },
+    pub at: *mut T,
+    pub alloc: A,
+    pub ghost value: { T },
 }
 
 impl<T, A: Allocator> Model for Loose<T, A> {
@@ -18,7 +18,7 @@ impl<T, A: Allocator> Model for Loose<T, A> {
 
 impl<T, A: Allocator> Loose<T, A> {
     /// Takes the box apart.
-    pub(crate) fn of(value: Box<T, A>) -> Loose<T, A>
+    pub fn of(value: Box<T, A>) -> Loose<T, A>
     where
         T: Drop,
         ensures { result.value ≡ value.value }
@@ -28,7 +28,7 @@ impl<T, A: Allocator> Loose<T, A> {
     }
 
     /// Makes the box again.
-    pub(crate) fn into_box(self) -> Box<T, A>
+    pub fn into_box(self) -> Box<T, A>
         ensures { result.value ≡ self.value }
     {
         let Loose { at, alloc } = self;

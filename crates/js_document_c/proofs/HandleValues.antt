@@ -1,53 +1,32 @@
 -- The machine value of the handle of a document. Assumes `Logic`.
---     R, Z, Ob                the rows of a document with its lines, of the allocator, and of the handle
---     word_val                a pointer with the allocator's handle
---     word_good               it is of the handle's type
+--     R, Ob                   the rows of a document with its lines, and of the handle
+--     word_good               a pointer with the allocator's handle is of the handle's type
 --     handle_had, handle_made a value by value is [what it owns; the allocator's handle]
---     either                  what it owns is nothing, at null, or a box's memory, at a pointer that may be compared with null
-use Rattle.std.proofs.Common.{◌≡◌, ℕ, List, [], ◌∷◌, ◌++◌, refl, subst, lit<}
+use Rattle.std.proofs.Common.{◌≡◌, List, [], ◌∷◌, ◌++◌, refl, subst, lit<}
 use seplogic.Ra.Ura.{Ura}
-use mir.Syntax.{impl, tnil, dnil}
-use mir.Val.{Val, vstruct, vcons, vnil, of_list, has_ty}
-use base.Logic.{never, fst∗}
-use mir.Raw.{raw as bare}
-use types.Logic.{Logic, sem}
-use types.Kit.{Item, Goal, Seq, Step, step, ‵, ◌$◌, move, drop, fsplit, fjoin, fpick, fpack, feq_i, feq_l, flt_l}
+use mir.Val.{Val, vstruct, of_list, has_ty}
+use types.Logic.{Logic}
+use types.Kit.{Item, Goal, Seq, Step, step, ‵, ◌$◌, move, drop, fsplit, fjoin, fpick, fpack, feq_i, feq_l}
 use denote.RattleType.{RattleType, Valss}
 use denote.Builtin.{RawPtr}
 use denote.Param.{layout}
-use denote.Memory.{lone}
-use denote.RawPtr.{Ptr, Testable, block_ptr, null_ptr, ptr_val, in_a_block}
+use denote.RawPtr.{Ptr, block_ptr, null_ptr, ptr_val}
 use denote.Steps.{nothing}
 use denote.Struct.Struct.{within}
 use denote.Struct.Owning.{shape, to}
-use Rattle.core.proofs.alloc.Calls.{Al, handle_tells}
+use Rattle.core.proofs.alloc.Calls.{handle_tells}
 use Rattle.core.proofs.cell.Inside.{Good}
-use Rattle.std.specs.contracts.alloc.Global as heap
-use Rattle.std.proofs.alloc.Global.TheLaws as heap_laws
-use Rattle.std.specs.contracts.impls.GlobalAllocator.TheImpl.{ghosts}
-use Rattle.std.specs.declared.alloc.Global.{Global}
-use Rattle.std.specs.declared.option.Option.{Option}
-use Rattle.std.specs.declared.option.Option.TheVariants.{None, Some}
-use Rattle.std_alloc.specs.Box.Ownership.{box_owns}
 use Rattle.std_alloc.proofs.ResultValues.{and_tt}
 use Rattle.js_boxed.specs.Memory.{maybe_owned}
+use Rattle.js_boxed.proofs.Values.{Z, al, word_val}
 use Rattle.js_document_c.specs.contracts.held.HeldDocument as held
 use Rattle.js_document_c.specs.contracts.handle.JsDocument as handle
 
 abbrev pub R : RattleType
 R = held.the_row
 
-abbrev pub Z : RattleType
-Z = heap.the_row
-
 abbrev pub Ob : RattleType
 Ob = handle.the_row
-
-abbrev al : Al
-al = record { row = Z; laws = heap_laws.the_row_laws; g = ghosts; d = impl [] tnil dnil; drops = impl [] tnil dnil }
-
-abbrev pub word_val : Ptr → Val → Val
-word_val p h = vstruct (vcons (ptr_val p) (vcons h vnil))
 
 pub word_good : (p : Ptr) (h : Val) → Good (layout Z) h → Good (layout Ob) (word_val p h)
 word_good (block_ptr b o) h fits = (and_tt (has_ty (layout Z) h) fits.0, (tt, (fits.1, tt)))
@@ -72,13 +51,3 @@ module _ {M : Type 1} {𝓤 : Ura M} {𝓛 : Logic 𝓤} {K : Type 0} {Γ : List
       fjoin t $ feq_i t (List Val) (v ∷ []) (v ∷ []) refl $ fjoin t $
       fpack t (Valss (RawPtr ∷ Z ∷ [])) (within (shape handle.the_type) (to handle.the_type d) (v ∷ []))
       (ptr_val d.at ∷ [], (h ∷ [], tt)) $ fjoin t $ s)
-
-  pub either : K → (a : Global) (p : Ptr) (v : Option R.Denot) → (v ≡ None → p ≡ null_ptr → Seq K 𝓛 Γ G)
-      → ((x : R.Denot) (b o : ℕ) → v ≡ Some x → p ≡ block_ptr b o → Testable (block_ptr b o)
-      → Seq K 𝓛 (‵ (box_owns (ghosts.dealloc_token a) R (block_ptr b o) x) ∷ Γ) G)
-      → Seq K 𝓛 (‵ (maybe_owned a R p v) ∷ Γ) G
-  either t a p None none some = feq_l t (λ e. none refl e)
-  either t a p (Some x) none some =
-      fsplit t $ flt_l t (λ below. in_a_block t p (λ r. box_owns (ghosts.dealloc_token a) R r x)
-      (fst∗ 𝓤 (never 𝓤) (sem 𝓛 (ghosts.dealloc_token a (bare (lone R.mir)) null_ptr)))
-      (λ b o e. some x b o refl e (subst Testable e below)))

@@ -1,4 +1,2 @@
 mod HandleValues
-mod LooseValues
-mod Tokens
 pub mod ValueLemmas

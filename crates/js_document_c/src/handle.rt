@@ -7,7 +7,7 @@ ghost use Rattle.js_document_c.specs.Handle.{handle_coded, handle_owns};
 ghost use Rattle.js_document_c.specs.Held.{HeldState};
 
 use crate::held::HeldDocument;
-use crate::loose::Loose;
+use js_boxed::Loose;
 use std::alloc::Global;
 use std::marker::Model;
 use std::{mem, ptr};

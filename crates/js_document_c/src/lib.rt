@@ -4,7 +4,6 @@
 mod chosen;
 mod handle;
 mod held;
-mod loose;
 
 pub use chosen::{ChosenDocument, Goals};
 pub use handle::JsDocument;

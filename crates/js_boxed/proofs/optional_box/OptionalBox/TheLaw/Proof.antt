@@ -37,13 +37,15 @@ module _ {M : Type 1} {𝓤 : Ura M} (𝓛 : Logic 𝓤) (T : RattleType) (L : L
   lends : Incl l T.lives → (v : Option T.Denot) → Lends 𝓛 (maybe_owned a T p v) (maybe_lent T p v) l
   lends le None = Lends-said 𝓛 (is_null p) tt l
   lends le (Some x) =
-      Lends-both 𝓛 (is_testable p) (box_owns (ghosts.dealloc_token a) T p x) (said (is_testable p)) (lent_at T p x) l (Lends-said 𝓛 (is_testable p) tt l)
+      Lends-both 𝓛 (is_testable p) (box_owns (ghosts.dealloc_token a) T p x) (said (is_testable p)) (lent_at T p x) l
+      (Lends-said 𝓛 (is_testable p) tt l)
       (Lends-first 𝓛 (lies_at T full_share p x) (ghosts.dealloc_token a (bare (lone T.mir)) p) (lent_at T p x) l
       (Lends-lies 𝓛 T l p x (Shares-less 𝓛 T T.lives l le (L.shares 𝓛) x)))
 
 pub shares : (T : RattleType) (L : Laws T) → statement T L
 shares T L =
-    of_Lends (C.struct T) (C.the_codes T.Denot T.coded heap.the_row.coded) (C.the_heap T) (C.the_lent T) (λ d p. maybe_lent_laws T L d.at d.value)
+    of_Lends (C.struct T) (C.the_codes T.Denot T.coded heap.the_row.coded) (C.the_heap T) (C.the_lent T)
+    (λ d p. maybe_lent_laws T L d.at d.value)
     (copy_shared RawPtr-field RawPtr-copy, (heap_laws.the_field_shared, tt))
     (λ M 𝓤 𝓛 d p. lends 𝓛 T L (C.the_row T).lives d.alloc d.at
     (Incl-trans (meet_⊑_left (T.lives ++ []) _) (meet_⊑_left T.lives [])) d.value)

@@ -26,8 +26,9 @@ use Rattle.std.proofs.raw_atomic.Walks.{proved_at, leaves}
 use Rattle.std.specs.contracts.impls.GlobalAllocator.TheImpl.{ghosts}
 use Rattle.std.specs.declared.option.Option.TheVariants.{None, Some}
 use Rattle.std_alloc.proofs.ResultValues.{and_tt}
-use Rattle.js_document_c.proofs.LooseValues.{Loose, loose_good, loose_in}
-use Rattle.js_document_c.proofs.HandleValues.{R, Z, Ob, word_val, word_good, handle_had, either}
+use Rattle.js_boxed.proofs.LooseValues.{Loose, loose_good, loose_in}
+use Rattle.js_boxed.proofs.Values.{Z, word_val, either}
+use Rattle.js_document_c.proofs.HandleValues.{R, Ob, word_good, handle_had}
 use Rattle.js_document_c.specs.contracts.handle.JsDocument.into_loose as f
 use Rattle.js_document_c.proofs.handle.JsDocument.into_loose.Statement.{statement}
 use Rattle.js_document_c.proofs.handle.JsDocument.into_loose.Code as code
@@ -47,7 +48,7 @@ into_loose_spec 𝓤 𝓛 𝓜 𝓡 wired =
     let Out : RattleType = type_at En.signature.result z.0.0 in
     qed 𝓛 ((‵ ftrue ⊛ ‵ (owns (types_at En.signature.params z.0.0) z.0.3 z.0.4)) ∷
     raw ((c z.0.0 z.0.3).requires z.1) ∷ []) ∵ split ! $ move ! (1 ∷ []) $ fsplit ! $ keep ! (0 ∷ 2 ∷ []) $
-    handle_had ! v z.0.4.0 (λ h ws fits. either ! a v.at v.value
+    handle_had ! v z.0.4.0 (λ h ws fits. either R ! a v.at v.value
     -- [the handle; the lifetime]
     (λ is e. let w : Val = word_val null_ptr h in
     let ws' : z.0.4.0 ≡ w ∷ [] = ws ∙ ap (λ (p : Ptr). word_val p h ∷ []) e in let none : Val = live 0 vnil in

@@ -21,7 +21,8 @@ use Rattle.core.proofs.cell.Inside.{one}
 use Rattle.std.proofs.alloc.Global.TheLaws as heap_laws
 use Rattle.std.proofs.raw_atomic.Walks.{proved_at, leaves}
 use Rattle.std.specs.declared.option.Option.TheVariants.{None}
-use Rattle.js_document_c.proofs.HandleValues.{Z, Ob, word_val, word_good, handle_made}
+use Rattle.js_boxed.proofs.Values.{Z, word_val}
+use Rattle.js_document_c.proofs.HandleValues.{Ob, word_good, handle_made}
 use Rattle.js_document_c.specs.contracts.handle.JsDocument.none as f
 use Rattle.js_document_c.proofs.handle.JsDocument.none.Statement.{statement}
 use Rattle.js_document_c.proofs.handle.JsDocument.none.Code as code

@@ -22,9 +22,10 @@ use Rattle.std.proofs.alloc.Global.TheLaws as heap_laws
 use Rattle.std.proofs.raw_atomic.Walks.{proved_at, leaves}
 use Rattle.std.specs.contracts.impls.GlobalAllocator.TheImpl.{ghosts}
 use Rattle.std.specs.declared.option.Option.TheVariants.{Some}
-use Rattle.js_document_c.proofs.LooseValues.{Loose, loose_good, loose_out}
-use Rattle.js_document_c.proofs.Tokens.{starts}
-use Rattle.js_document_c.proofs.HandleValues.{R, Z, Ob, word_val, word_good, handle_made}
+use Rattle.js_boxed.proofs.LooseValues.{Loose, loose_good, loose_out}
+use Rattle.js_boxed.proofs.Tokens.{starts}
+use Rattle.js_boxed.proofs.Values.{Z, word_val}
+use Rattle.js_document_c.proofs.HandleValues.{R, Ob, word_good, handle_made}
 use Rattle.js_document_c.specs.contracts.handle.JsDocument.of_loose as f
 use Rattle.js_document_c.proofs.handle.JsDocument.of_loose.Statement.{statement}
 use Rattle.js_document_c.proofs.handle.JsDocument.of_loose.Code as code
