@@ -1,12 +1,6 @@
-//! Tests of js_spell, by its public calls. They stand in a crate of their own, since a crate's functions are proved
-//! again with its tests.
+//! Tests of what js_spell has beside the lexer's own calls, which js_lex_runs tells. They stand in a crate of their own,
+//! since a crate's functions are proved again with its tests.
 #![tactic(auto)]
 
 #[cfg(test)]
-mod goals;
-#[cfg(test)]
 mod integers;
-#[cfg(test)]
-mod literals;
-#[cfg(test)]
-mod names;
