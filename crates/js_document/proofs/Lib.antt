@@ -44,4 +44,5 @@ pub mod RuleLemmas
 pub mod ShiftLemmas
 pub mod TableLemmas
 pub mod TokenLemmas
+pub mod TokensFrom
 pub mod TrieLemmas

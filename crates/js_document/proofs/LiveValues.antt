@@ -39,10 +39,10 @@ use Rattle.js_document.proofs.LiveRows.Follows.{on, again}
 use Rattle.js_document.proofs.OrderLemmas.{rows_ordered}
 
 -- the token of a row is live, unless the row behind reads it again
-first_stays : (row : Row) (rows : List Row) → starts_again rows ≡ false → live_rows_in (row ∷ rows) ≡ row ∷ live_rows_in rows
+pub first_stays : (row : Row) (rows : List Row) → starts_again rows ≡ false → live_rows_in (row ∷ rows) ≡ row ∷ live_rows_in rows
 first_stays row rows e = ap (λ b. if◌then◌else◌ {A = List Row} b (live_rows_in rows) (row ∷ live_rows_in rows)) e
 
-first_goes : (row : Row) (rows : List Row) → starts_again rows ≡ true → live_rows_in (row ∷ rows) ≡ live_rows_in rows
+pub first_goes : (row : Row) (rows : List Row) → starts_again rows ≡ true → live_rows_in (row ∷ rows) ≡ live_rows_in rows
 first_goes row rows e = ap (λ b. if◌then◌else◌ {A = List Row} b (live_rows_in rows) (row ∷ live_rows_in rows)) e
 
 -- the same of a row with an index
@@ -314,7 +314,7 @@ module _ (rule : Rule) (law : IsRule rule) (text : List ℕ) (t : SourceType) (r
         tokens_of_taken (live_rows (commands_of rows) rows)
         ∙ live_tokens text t false (commands_of rows) (report_of rows) is
 
-    tokens_are : map (λ (row : Row). row.token) (live_rows_in rows) ≡ (report_of rows).tokens
+    pub tokens_are : map (λ (row : Row). row.token) (live_rows_in rows) ≡ (report_of rows).tokens
     tokens_are =
         ap (map (λ (row : Row). row.token)) (sym live_rows_are)
         ∙ live_tokens text t false (commands_of rows) (report_of rows) is

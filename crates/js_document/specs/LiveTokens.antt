@@ -1,11 +1,11 @@
 -- The live tokens of rows, from one of them on, and the one that stands at an offset.
-use Rattle.std.specs.Prelude.{◌≡◌, ℕ, ◌-◌, ◌<◌, ◌≤◌, List, [], ◌∷◌, drop, length, slice_get, Option, Some, None}
+use Rattle.std.specs.Prelude.{◌≡◌, ℕ, ◌+◌, ◌-◌, ◌<◌, ◌≤◌, List, [], ◌∷◌, take, drop, length, slice_get, Option, Some, None}
 use Rattle.std.specs.Prelude.{if◌then◌else◌}
 use Rattle.std.specs.List.{AllByRecursion}
 use Rattle.js_kind.specs.TokenParts.{TokenParts}
 use Rattle.js_session.specs.declared.row.Row.{Row}
 use Rattle.js_document.specs.declared.gap.Entry.{Entry}
-use Rattle.js_document.specs.Gap.{reads_again}
+use Rattle.js_document.specs.Gap.{count_tokens, reads_again}
 
 -- the live tokens from this one on, behind which these rows stand: where one of them reads it again, another is there
 abbrev pub tokens_with : TokenParts → List Row → List TokenParts
@@ -61,3 +61,10 @@ abbrev pub TakesLive : List Row → ℕ → ℕ → Type 0
 TakesLive rows index behind =
     (last : Row) → slice_get rows (behind - 1) ≡ Some last
     → tokens_in (drop index rows) ≡ last.token ∷ tokens_in (drop behind rows)
+
+-- The live token with the index begins with this row: so many stand before it, and there are more with it. Or there are
+-- no more tokens than that, and this is how many rows there are.
+pub record BeginsToken (rows : List Row) (index row : ℕ) : Type 0 where
+  pub few : row ≤ length rows
+  pub before : count_tokens (take row rows) ≤ index
+  pub next : row < length rows → index < count_tokens (take (row + 1) rows)

@@ -5,7 +5,7 @@ ghost use Rattle.std.specs.List.{AllByRecursion};
 ghost use Rattle.js_document.specs.Blocks.{MovesEntry};
 ghost use Rattle.js_document.specs.Found.{counts_in, found_by};
 ghost use Rattle.js_document.specs.Gap.{AreInOrder, count_tokens, rows_of, shifted_entry};
-ghost use Rattle.js_document.specs.LiveTokens.{StartUpTo};
+ghost use Rattle.js_document.specs.LiveTokens.{BeginsToken, StartUpTo};
 
 mod block;
 mod held;
@@ -101,6 +101,24 @@ impl<K: Copy + Drop> RowBlocks<K> {
             }
             None => 0,
         }
+    }
+
+    /// The row with which the live token with the index begins, by halves. Where there is no such token, it is how many
+    /// rows there are.
+    pub(crate) fn row_of_token(&self, index: usize) -> usize
+        ensures { BeginsToken (rows_of {K = K} self.now) index result }
+    {
+        let mut row = 0;
+        let mut end = self.len();
+        while row < end {
+            let middle = row + (end - row) / 2;
+            if self.tokens_up_to(middle + 1) <= index {
+                row = middle + 1;
+            } else {
+                end = middle;
+            }
+        }
+        row
     }
 
     /// How many items of each list they have found.

@@ -1,6 +1,6 @@
 //! The live tokens of a document, one after the other.
 
-ghost use Rattle.std.specs.Prelude.{◌≡◌};
+ghost use Rattle.std.specs.Prelude.{◌≡◌, drop};
 ghost use Rattle.std.specs.Iterator.{YieldsFirst, item_count};
 ghost use Rattle.js_document.specs.Gap.{entries_of, rows_of};
 ghost use Rattle.js_document.specs.LiveTokens.{tokens_in};
@@ -30,11 +30,11 @@ impl<'d, K> Model for Tokens<'d, K> {
 }
 
 impl<'d, K: Copy + Drop> Tokens<'d, K> {
-    /// Those of these rows.
-    pub(crate) fn new(entries: &'d GapRows<K>) -> Tokens<'d, K>
-        ensures { result ≡ tokens_in (rows_of {K = K} (entries_of {K = K} entries.now)) }
+    /// Those of the rows from one on.
+    pub(crate) fn new(entries: &'d GapRows<K>, row: usize) -> Tokens<'d, K>
+        ensures { result ≡ tokens_in (drop row (rows_of {K = K} (entries_of {K = K} entries.now))) }
     {
-        Tokens { entries, next: 0 }
+        Tokens { entries, next: row }
     }
 }
 

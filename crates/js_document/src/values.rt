@@ -1,6 +1,6 @@
 //! The values of the live tokens of a document, one after the other.
 
-ghost use Rattle.std.specs.Prelude.{◌≡◌};
+ghost use Rattle.std.specs.Prelude.{◌≡◌, drop};
 ghost use Rattle.std.specs.Iterator.{YieldsFirstBy, item_count};
 ghost use Rattle.js_lists.specs.Taken.{value_handed};
 ghost use Rattle.js_document.specs.Gap.{entries_of, rows_of};
@@ -31,11 +31,11 @@ impl<'d, K> Model for Values<'d, K> {
 }
 
 impl<'d, K: Copy + Drop> Values<'d, K> {
-    /// Those of these rows.
-    pub(crate) fn new(entries: &'d GapRows<K>) -> Values<'d, K>
-        ensures { result ≡ values_in (rows_of {K = K} (entries_of {K = K} entries.now)) }
+    /// Those of the rows from one on.
+    pub(crate) fn new(entries: &'d GapRows<K>, row: usize) -> Values<'d, K>
+        ensures { result ≡ values_in (drop row (rows_of {K = K} (entries_of {K = K} entries.now))) }
     {
-        Values { entries, row: 0 }
+        Values { entries, row }
     }
 }
 

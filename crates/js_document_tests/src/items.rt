@@ -51,11 +51,30 @@ fn place_at(document: &Document<AutoState>, offset: u32) -> Option<(u32, u32)> {
     Some((token.start(), token.end()))
 }
 
+/// An index, and where the token that has it starts and ends.
+static INDEXES: [(usize, Option<(u32, u32)>); 6] = [
+    (0, Some((0, 1))),
+    (2, Some((4, 9))),
+    (3, Some((23, 24))),
+    (6, Some((39, 39))),
+    (7, None),
+    (usize::MAX, None),
+];
+
+/// Where the first token from an index on starts and ends.
+fn place_from(document: &Document<AutoState>, index: usize) -> Option<(u32, u32)> {
+    let token = document.tokens_from(index).next()?;
+    Some((token.start(), token.end()))
+}
+
 #[test]
-fn tokens_at_offsets(rt: HostRuntime) -> Result<(), Fail> {
+fn tokens_by_halves(rt: HostRuntime) -> Result<(), Fail> {
     let document = parted::<Brand>(rt.alloc(), Blank::new(1)).ok_or("no document")?;
     for &(offset, wanted) in &PLACES {
         assert_eq!(rt; place_at(&document, offset), wanted);
+    }
+    for &(index, wanted) in &INDEXES {
+        assert_eq!(rt; place_from(&document, index), wanted);
     }
     Ok(())
 }

@@ -12,21 +12,8 @@ use js_document::{Comments, Diagnostics, Found, FoundList, KeepGoals, Tokens, Va
 use js_edited_lines::EditedLines;
 use std::alloc::AllocError;
 
-/// Passes so many tokens, or all where there are no more.
-fn pass<K: KeepGoals>(tokens: &mut Tokens<'_, K>, count: usize)
-    ensures { tokens.new ≡ drop count tokens.old }
-{
-    let mut left = count;
-    while left > 0 {
-        if tokens.next().is_none() {
-            return;
-        }
-        left -= 1;
-    }
-}
-
 /// Fills a list with tokens as far as there is room.
-fn fill_tokens<K: KeepGoals>(room: &mut [JsLiveToken], tokens: &mut Tokens<'_, K>)
+pub(crate) fn fill_tokens<K: KeepGoals>(room: &mut [JsLiveToken], tokens: &mut Tokens<'_, K>)
     ensures { room.new ≡ filled room.old (map live_token_record tokens.old) }
 {
     let mut place = 0;
@@ -39,34 +26,8 @@ fn fill_tokens<K: KeepGoals>(room: &mut [JsLiveToken], tokens: &mut Tokens<'_, K
     }
 }
 
-/// Fills a list with the tokens from an index on, as far as there is room.
-pub(crate) fn fill_tokens_from<K: KeepGoals>(
-    room: &mut [JsLiveToken],
-    tokens: Tokens<'_, K>,
-    from: usize,
-)
-    ensures { room.new ≡ filled room.old (map live_token_record (drop from tokens.entry)) }
-{
-    let mut tokens = tokens;
-    pass(&mut tokens, from);
-    fill_tokens(room, &mut tokens);
-}
-
-/// Passes so many values, or all where there are no more.
-fn pass_values<K: KeepGoals>(values: &mut Values<'_, K>, count: usize)
-    ensures { values.new ≡ drop count values.old }
-{
-    let mut left = count;
-    while left > 0 {
-        if values.next().is_none() {
-            return;
-        }
-        left -= 1;
-    }
-}
-
 /// Fills a list with values as far as there is room.
-fn fill_values<K: KeepGoals>(room: &mut [JsLiveValue], values: &mut Values<'_, K>)
+pub(crate) fn fill_values<K: KeepGoals>(room: &mut [JsLiveValue], values: &mut Values<'_, K>)
     ensures { room.new ≡ filled room.old (map live_value_record values.old) }
 {
     let mut place = 0;
@@ -77,19 +38,6 @@ fn fill_values<K: KeepGoals>(room: &mut [JsLiveValue], values: &mut Values<'_, K
         put(room, place, live_value_record(value));
         place += 1;
     }
-}
-
-/// Fills a list with the values from an index on, as far as there is room.
-pub(crate) fn fill_values_from<K: KeepGoals>(
-    room: &mut [JsLiveValue],
-    values: Values<'_, K>,
-    from: usize,
-)
-    ensures { room.new ≡ filled room.old (map live_value_record (drop from values.entry)) }
-{
-    let mut values = values;
-    pass_values(&mut values, from);
-    fill_values(room, &mut values);
 }
 
 /// Passes so many items of a list, or all where there are no more.

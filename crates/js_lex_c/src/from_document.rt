@@ -5,7 +5,7 @@ ghost use Rattle.js_lex_c.specs.Documents.{GivesComments, GivesDiagnostics, Give
 ghost use Rattle.js_lex_c.specs.Refusals.{Tries};
 
 use crate::document_fill::{
-    count_found, fill_comments_from, fill_diagnostics_from, fill_tokens_from, fill_values_from,
+    count_found, fill_comments_from, fill_diagnostics_from, fill_tokens, fill_values,
 };
 use crate::document_record::{JsLiveToken, JsLiveValue};
 use crate::record::{JsComment, JsDiagnostic};
@@ -21,7 +21,7 @@ pub(crate) fn tokens_of<K: KeepGoals>(
 )
     ensures { GivesTokens from tokens.old tokens.new count.new document.now }
 {
-    fill_tokens_from(tokens, document.tokens(), from);
+    fill_tokens(tokens, &mut document.tokens_from(from));
     *count = document.token_count();
 }
 
@@ -35,7 +35,7 @@ pub(crate) fn values_of<K: KeepGoals>(
 )
     ensures { GivesValues from values.old values.new count.new document.now }
 {
-    fill_values_from(values, document.values(), from);
+    fill_values(values, &mut document.values_from(from));
     *count = document.token_count();
 }
 

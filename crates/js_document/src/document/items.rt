@@ -1,6 +1,6 @@
 //! What a document has: its tokens, and the report of its text.
 
-ghost use Rattle.std.specs.Prelude.{◌≡◌, false, IfOk};
+ghost use Rattle.std.specs.Prelude.{◌≡◌, false, drop, IfOk};
 ghost use Rattle.std.specs.List.{AllByRecursion};
 ghost use Rattle.js_session.specs.Report.{IsSliceOnPlaces};
 ghost use Rattle.js_choose.specs.Rules.{ReportBy};
@@ -20,7 +20,14 @@ impl<K: KeepGoals> Document<K> {
     pub fn tokens(&self) -> Tokens<'_, K>
         ensures { result ≡ self.now.report.tokens }
     {
-        Tokens::new(&self.entries)
+        self.tokens_from(0)
+    }
+
+    /// The live tokens from the one with the index on. The first one is found by halves, without passing those before it.
+    pub fn tokens_from(&self, index: usize) -> Tokens<'_, K>
+        ensures { result ≡ drop index self.now.report.tokens }
+    {
+        Tokens::new(&self.entries, self.entries.row_of_token(index))
     }
 
     /// The live token that the byte at the offset belongs to. None: it belongs to none, or is behind the text.

@@ -1,6 +1,6 @@
 //! The values of the live tokens of a document.
 
-ghost use Rattle.std.specs.Prelude.{◌≡◌, None, map, slice_range, IfSome, MatchOption};
+ghost use Rattle.std.specs.Prelude.{◌≡◌, None, drop, map, slice_range, IfSome, MatchOption};
 ghost use Rattle.std.specs.List.{AllByRecursion};
 ghost use Rattle.std.specs.Option.{option_map};
 ghost use Rattle.js_text.specs.JsText.{js_text_units};
@@ -62,7 +62,19 @@ impl<K: KeepGoals> Document<K> {
             ≡ self.now.report.tokens }
         ensures slices { AllByRecursion (IsSliceOnPlaces self.now.text) result }
     {
-        Values::new(&self.entries)
+        self.values_from(0)
+    }
+
+    /// The values of the live tokens from the one with the index on, as `values` gives them. The first one is found by
+    /// halves.
+    pub fn values_from(&self, index: usize) -> Values<'_, K>
+        ensures values { result ≡ drop index (live_values self.now.commands self.now.report.rows) }
+        // There is one for each live token.
+        ensures tokens { map (λ x. x.token) (live_taken self.now.commands self.now.report.rows)
+            ≡ self.now.report.tokens }
+        ensures slices { AllByRecursion (IsSliceOnPlaces self.now.text) result }
+    {
+        Values::new(&self.entries, self.entries.row_of_token(index))
     }
 
     /// The value of the live token that the byte at the offset belongs to, as `values` gives it, found by halves. None:

@@ -8,7 +8,7 @@ ghost use Rattle.js_document.specs.Documents.{IsKept};
 ghost use Rattle.js_document.specs.Found.{counts_in, found_by};
 ghost use Rattle.js_document.specs.Gap.{AreInOrder, EndsBefore, IsPadded, MayPad, MovesGap, around, count_tokens};
 ghost use Rattle.js_document.specs.Gap.{entries_of, last_entry, reads_again, rows_of};
-ghost use Rattle.js_document.specs.LiveTokens.{IsRowAt, TakesLive};
+ghost use Rattle.js_document.specs.LiveTokens.{BeginsToken, IsRowAt, TakesLive};
 ghost use Rattle.js_document.specs.Reading.{IsSeam};
 
 use super::{Entry, GapRows, ends_before};
@@ -203,6 +203,14 @@ impl<K: Copy + Drop> GapRows<K> {
         ensures { IsRowAt place (rows_of {K = K} (entries_of {K = K} self.now)) result }
     {
         self.rows.starts_up_to(place).checked_sub(1)
+    }
+
+    /// The row with which the live token with the index begins. Where there is no such token, it is how many rows there
+    /// are.
+    pub(crate) fn row_of_token(&self, index: usize) -> usize
+        ensures { BeginsToken (rows_of {K = K} (entries_of {K = K} self.now)) index result }
+    {
+        self.rows.row_of_token(index)
     }
 
     /// How many rows behind the gap start behind the padded place.

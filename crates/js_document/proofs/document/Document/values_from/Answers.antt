@@ -1,6 +1,7 @@
-use Rattle.std.proofs.Common.{◌≡◌, ◌∙◌, ap, map, subst, sym}
+use Rattle.std.proofs.Common.{◌≡◌, ◌∙◌, ap, drop, map, subst, sym}
 use Rattle.std.specs.List.{AllByRecursion}
 use Rattle.js_session.specs.Report.{IsSliceOnPlaces}
+use Rattle.js_session.specs.declared.row.Row.{Row}
 use Rattle.js_session.proofs.RunLemmas.{rows_slices}
 use Rattle.js_lists.specs.LiveLists.{live_taken}
 use Rattle.js_lists.specs.Taken.{Taken}
@@ -8,8 +9,10 @@ use Rattle.js_document.specs.Documents.{DocState, commands_of}
 use Rattle.js_document.specs.Gap.{entries_of, rows_of}
 use Rattle.js_document.specs.Values.{live_values, values_in}
 use Rattle.js_document.proofs.HeldLemmas.{held_rows}
-use Rattle.js_document.proofs.LiveValues.{slices_in, taken_tokens, values_are}
-use Rattle.js_document.proofs.document.Document.values.Goals as goal
+use Rattle.js_document.proofs.ListLemmas.{all_dropped}
+use Rattle.js_document.proofs.LiveValues.{slices_in, taken_tokens}
+use Rattle.js_document.proofs.TokensFrom.{values_from}
+use Rattle.js_document.proofs.document.Document.values_from.Goals as goal
 
 pub returns-clause-values : goal.returns-clause-values
 returns-clause-values g c =
@@ -18,9 +21,11 @@ returns-clause-values g c =
     let text = c.self.inside.text in
     let t = c.self.inside.source_type in
     let rows = rows_of (entries_of c.self.inside.entries) in
+    let report = c.self.invariant.report_is.report_is in
     let held = held_rows rule law text t rows c.self.invariant.report_is in
-    c.new.ensures ∙ sym (values_are rule law text t rows c.self.invariant.report_is.report_is.utf8 held)
-    ∙ ap (λ (d : DocState). live_values d.commands d.report.rows) c.self.view_is
+    c.new.ensures
+    ∙ values_from rule law text t rows report.utf8 held report c.args.index c.row_of_token.result c.row_of_token.ensures
+    ∙ ap (λ (d : DocState). drop c.args.index (live_values d.commands d.report.rows)) c.self.view_is
 
 pub returns-clause-tokens : goal.returns-clause-tokens
 returns-clause-tokens g c =
@@ -39,7 +44,9 @@ returns-clause-slices g c =
     let text = c.self.inside.text in
     let t = c.self.inside.source_type in
     let rows = rows_of (entries_of c.self.inside.entries) in
-    let slices = slices_in text rows
-    (rows_slices text t (commands_of rows) rows c.self.invariant.report_is.report_is.rows) in
+    let row = c.row_of_token.result in
+    let slices = slices_in text (drop row rows)
+    (all_dropped (λ (r : Row). IsSliceOnPlaces text r.value) row rows
+    (rows_slices text t (commands_of rows) rows c.self.invariant.report_is.report_is.rows)) in
     subst (AllByRecursion (IsSliceOnPlaces c.args.self.now.text)) (sym c.new.ensures)
-    (subst (λ (d : DocState). AllByRecursion (IsSliceOnPlaces d.text) (values_in rows)) c.self.view_is slices)
+    (subst (λ (d : DocState). AllByRecursion (IsSliceOnPlaces d.text) (values_in (drop row rows))) c.self.view_is slices)

@@ -1,6 +1,0 @@
-use Rattle.std.proofs.Common.{◌≡◌, drop}
-use Rattle.js_lex_c.proofs.document_fill.pass.Given as goal
-
--- Behind those that are still to be passed stand the same.
-abbrev pub invariant-loop-left : goal.invariant-loop-left
-invariant-loop-left g l = drop l.left l.tokens ≡ drop l.initial.left l.initial.tokens
