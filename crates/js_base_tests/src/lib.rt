@@ -1,7 +1,9 @@
-//! Tests of js_text, js_places, js_kind, js_source and js_trivia, by their public calls. They stand in a crate of their
-//! own, since a crate's functions are proved again with its tests.
+//! Tests of js_text, js_places, js_kind, js_source, js_trivia and js_spell, by their public calls. They stand in a crate
+//! of their own, since a crate's functions are proved again with its tests.
 #![tactic(auto)]
 
+#[cfg(test)]
+mod integers;
 #[cfg(test)]
 mod kinds;
 #[cfg(test)]

@@ -1,5 +1,7 @@
-//! Tests of js_lines, by its public calls.
+//! Tests of js_lines and js_edited_lines, by their public calls.
 #![tactic(auto)]
 
+#[cfg(test)]
+mod edits;
 #[cfg(test)]
 mod lines;

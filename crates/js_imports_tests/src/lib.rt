@@ -1,5 +1,0 @@
-//! Tests of js_imports and js_imports_text, by their public calls.
-#![tactic(auto)]
-
-#[cfg(test)]
-mod found;
