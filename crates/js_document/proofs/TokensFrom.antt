@@ -109,7 +109,7 @@ rows_from first behind reads each long index (suc n) begins = by_there (slice_ge
         let all = ap count_tokens (take_all n behind past) in
         ap live_rows_in (drop_all n behind past)
         ∙ sym (drop_all index (live_rows_in (first ∷ behind)) (omega (arith, before, all, long)))
-    by_there (inl (row, (within, (at, same)))) =
+    by_there (inl (row, within, at, same)) =
         let one : suc n + 1 ≡ suc (suc n) = omega arith in
         let less : index < more_tokens first + count_tokens (take (suc n) behind) =
         subst (λ m. index < count_tokens (take m (first ∷ behind))) one (begins.next (omega (arith, within))) in
