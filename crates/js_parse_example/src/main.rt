@@ -2,27 +2,8 @@
 //! its tree. It shows how a parser stands on a cursor.
 #![tactic(auto)]
 
-mod arrow;
-mod brackets;
-mod cover;
-mod draw;
-mod expression;
-mod fault;
-mod node;
-mod operand;
-mod operator;
-mod parse;
-mod program;
-#[cfg(test)]
-mod rows;
-mod show;
-mod statement;
-mod step;
-mod tokens;
-mod tree;
-
+use js_parse_tool::parse_program;
 use js_process::{StdIn, StdOut};
-use program::parse_program;
 use std::io;
 use std::process::ExitCode;
 

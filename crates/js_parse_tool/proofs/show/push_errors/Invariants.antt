@@ -1,0 +1,11 @@
+use Rattle.std.proofs.Common.{◌≡◌, ◌++◌, take, string_bytes}
+use Rattle.std.specs.List.{flat_map}
+use Rattle.std.specs.Prelude.{codes}
+use Rattle.js_parse_tool.specs.Shown.{parser_line}
+use Rattle.js_parse_tool.proofs.show.push_errors.Given as goal
+
+-- The lines of the errors so far were appended.
+abbrev pub invariant-loop-error : goal.invariant-loop-error
+invariant-loop-error l =
+    string_bytes l.text
+    ≡ string_bytes l.initial.text ++ flat_map (parser_line (codes "error")) (take l.error-index l.errors)
