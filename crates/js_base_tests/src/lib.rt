@@ -9,8 +9,6 @@ mod kinds;
 #[cfg(test)]
 mod offset_maps;
 #[cfg(test)]
-mod places;
-#[cfg(test)]
 mod sources;
 #[cfg(test)]
 mod text;

@@ -1,15 +1,16 @@
-//! What no contract says: rows from outside, and that each call can succeed.
+//! Rows from outside: the classes of comments, and where comments are attached.
 
 ghost use Rattle.std.specs.Prelude.{IsTrue};
 ghost use Rattle.js_trivia.specs.Trivia.{IsPlacedIn};
 
 use js_kind::{Kind, Token};
-use js_text::{CommentContent, CommentKind, CommentPosition, CommentRange, Span};
+use js_text::{Comment, CommentContent, CommentKind, CommentPosition, CommentRange, Span};
 use js_trivia::{TriviaBuilder, classify};
+use std::alloc::AllocError;
 use std::test::Fail;
 
 /// What is between the marks of a comment, whether it is a block comment, and its class.
-static CLASSES: [(&'static str, bool, CommentContent); 34] = [
+static CLASSES: [(&str, bool, CommentContent); 34] = [
     (" @foo @preserve ", true, CommentContent::Legal),
     (" @foo @preserve ", false, CommentContent::Legal),
     (" foo @licensed", true, CommentContent::Legal),
@@ -64,150 +65,176 @@ static CLASSES: [(&'static str, bool, CommentContent); 34] = [
 
 #[test]
 fn classes(rt: HostRuntime) {
-    for (content, is_block, class) in &CLASSES {
-        assert_eq!(rt; classify(content, *is_block), *class, "{content}");
+    for &(content, is_block, class) in &CLASSES {
+        assert_eq!(rt; classify(content, is_block), class, "{content}");
     }
 }
 
-/// What stands in a source, as a lexer tells it to the builder.
-#[derive(Clone, Copy)]
+/// What a builder is told of a source, as a lexer or a parser tells it.
 enum Told {
-    Comment(CommentKind, u32, u32),
+    Found(CommentKind, u32, u32),
     LineEnd,
-    Token(Kind, u32, u32),
+    Read(Kind, u32, u32),
+    /// Which comments are set as those before the last token that are not applied yet, of both classes.
+    Hold(u32, u32),
 }
 
+use CommentContent::{Legal, NoSideEffectsNotApplied, None as Nothing, PureNotApplied};
 use CommentKind::{Line, MultiLineBlock as Multi, SingleLineBlock as Block};
 use CommentPosition::{Leading, Trailing};
-use Told::{Comment, LineEnd, Token as Read};
+use Told::{Found, Hold, LineEnd, Read};
 
-/// A source, what stands in it, and of each comment its position, its place, and whether it is preceded and followed.
-struct Case<'a> {
-    source: &'a str,
-    told: &'a [Told],
-    comments: &'a [(CommentPosition, u32, bool, bool)],
+/// A comment's position and place, whether it is preceded and followed, and its class.
+type Attached = (CommentPosition, u32, bool, bool, CommentContent);
+
+/// The comments before the last token of class `PureNotApplied`, and those of class `NoSideEffectsNotApplied`.
+type Held = (Option<CommentRange>, Option<CommentRange>);
+
+const NONE: Held = (None, None);
+
+/// A source, what the builder is told of it, and what it holds then.
+struct Case {
+    source: &'static str,
+    told: &'static [Told],
+    comments: &'static [Attached],
+    held: Held,
 }
 
-static CASES: [Case; 13] = [
+static CASES: [Case; 14] = [
     Case {
         source: "a /* trailing */\n+ b",
         told: &[
             Read(Kind::Ident, 0, 1),
-            Comment(Block, 2, 16),
+            Found(Block, 2, 16),
             LineEnd,
             Read(Kind::Plus, 17, 18),
         ],
-        comments: &[(Trailing, 1, false, true)],
+        comments: &[(Trailing, 1, false, true, Nothing)],
+        held: NONE,
     },
     Case {
         source: "a\n/* leading */ +b",
         told: &[
             Read(Kind::Ident, 0, 1),
             LineEnd,
-            Comment(Block, 2, 15),
+            Found(Block, 2, 15),
             Read(Kind::Plus, 16, 17),
         ],
-        comments: &[(Leading, 16, true, false)],
+        comments: &[(Leading, 16, true, false, Nothing)],
+        held: NONE,
     },
     Case {
         source: "foo(); /* trailing */",
         told: &[
             Read(Kind::Semicolon, 5, 6),
-            Comment(Block, 7, 21),
+            Found(Block, 7, 21),
             Read(Kind::Eof, 21, 21),
         ],
-        comments: &[(Trailing, 6, false, false)],
+        comments: &[(Trailing, 6, false, false, Nothing)],
+        held: NONE,
     },
     Case {
         source: "const f = (value /* trailing */\n) => value;",
         told: &[
             Read(Kind::Ident, 11, 16),
-            Comment(Block, 17, 31),
+            Found(Block, 17, 31),
             LineEnd,
             Read(Kind::RParen, 32, 33),
         ],
-        comments: &[(Trailing, 16, false, true)],
+        comments: &[(Trailing, 16, false, true, Nothing)],
+        held: NONE,
     },
     Case {
         source: "void /* c */ +x",
         told: &[
             Read(Kind::Void, 0, 4),
-            Comment(Block, 5, 12),
+            Found(Block, 5, 12),
             Read(Kind::Plus, 13, 14),
         ],
-        comments: &[(Leading, 13, false, false)],
+        comments: &[(Leading, 13, false, false, Nothing)],
+        held: NONE,
     },
     Case {
         source: "const v1 = // Leading comment 1\nfoo();",
         told: &[
             Read(Kind::Eq, 9, 10),
-            Comment(Line, 11, 31),
+            Found(Line, 11, 31),
             LineEnd,
             Read(Kind::Ident, 32, 35),
         ],
-        comments: &[(Leading, 32, false, true)],
+        comments: &[(Leading, 32, false, true, Nothing)],
+        held: NONE,
     },
     Case {
         source: "call(// Leading comment 1\narguments)",
         told: &[
             Read(Kind::LParen, 4, 5),
-            Comment(Line, 5, 25),
+            Found(Line, 5, 25),
             LineEnd,
             Read(Kind::Ident, 26, 35),
         ],
-        comments: &[(Leading, 26, false, true)],
+        comments: &[(Leading, 26, false, true, Nothing)],
+        held: NONE,
     },
     Case {
         source: "v = cond ? a : // Leading comment\nb;",
         told: &[
             Read(Kind::Colon, 13, 14),
-            Comment(Line, 15, 33),
+            Found(Line, 15, 33),
             LineEnd,
             Read(Kind::Ident, 34, 35),
         ],
-        comments: &[(Leading, 34, false, true)],
+        comments: &[(Leading, 34, false, true, Nothing)],
+        held: NONE,
     },
     Case {
         source: "foo();//! @license MIT\nfunction bar() {}",
         told: &[
             Read(Kind::Semicolon, 5, 6),
-            Comment(Line, 6, 22),
+            Found(Line, 6, 22),
             LineEnd,
             Read(Kind::Function, 23, 31),
         ],
-        comments: &[(Leading, 23, false, true)],
+        comments: &[(Leading, 23, false, true, Legal)],
+        held: NONE,
     },
     Case {
         source: "foo();/* @__PURE__ */new Bar()",
         told: &[
             Read(Kind::Semicolon, 5, 6),
-            Comment(Block, 6, 21),
+            Found(Block, 6, 21),
             Read(Kind::New, 21, 24),
         ],
-        comments: &[(Leading, 21, false, false)],
+        comments: &[(Leading, 21, false, false, PureNotApplied)],
+        held: (Some(CommentRange { start: 0, end: 1 }), None),
     },
     Case {
         source: "\n/*\n * A\n **/\n/*\n * B\n **/\n token",
         told: &[
             LineEnd,
-            Comment(Multi, 1, 13),
+            Found(Multi, 1, 13),
             LineEnd,
-            Comment(Multi, 14, 26),
+            Found(Multi, 14, 26),
             LineEnd,
             Read(Kind::Ident, 28, 33),
         ],
-        comments: &[(Leading, 28, true, true), (Leading, 28, true, true)],
+        comments: &[
+            (Leading, 28, true, true, Nothing),
+            (Leading, 28, true, true, Nothing),
+        ],
+        held: NONE,
     },
     Case {
         source: "foo();\u{2028}--> comment\nbar();",
         told: &[
             Read(Kind::Semicolon, 5, 6),
             LineEnd,
-            Comment(CommentKind::HtmlClose, 9, 20),
+            Found(CommentKind::HtmlClose, 9, 20),
             LineEnd,
             Read(Kind::Ident, 21, 24),
         ],
-        comments: &[(Leading, 21, true, true)],
+        comments: &[(Leading, 21, true, true, Nothing)],
+        held: NONE,
     },
     Case {
         source: "\n        /* Leading 1 */\n        // Leading 2\
@@ -215,27 +242,53 @@ static CASES: [Case; 13] = [
                  \n        // Leading of EOF token\n        ",
         told: &[
             LineEnd,
-            Comment(Block, 9, 24),
+            Found(Block, 9, 24),
             LineEnd,
-            Comment(Line, 33, 45),
+            Found(Line, 33, 45),
             LineEnd,
-            Comment(Block, 54, 69),
+            Found(Block, 54, 69),
             Read(Kind::Ident, 70, 75),
-            Comment(Block, 76, 92),
-            Comment(Line, 93, 106),
+            Found(Block, 76, 92),
+            Found(Line, 93, 106),
             LineEnd,
-            Comment(Line, 115, 138),
+            Found(Line, 115, 138),
             LineEnd,
             Read(Kind::Eof, 147, 147),
         ],
         comments: &[
-            (Leading, 70, true, true),
-            (Leading, 70, true, true),
-            (Leading, 70, true, false),
-            (Trailing, 75, false, false),
-            (Trailing, 75, false, true),
-            (Leading, 147, true, true),
+            (Leading, 70, true, true, Nothing),
+            (Leading, 70, true, true, Nothing),
+            (Leading, 70, true, false, Nothing),
+            (Trailing, 75, false, false, Nothing),
+            (Trailing, 75, false, true, Nothing),
+            (Leading, 147, true, true, Nothing),
         ],
+        held: NONE,
+    },
+    // Annotations that are told again, behind those that a parser has set.
+    Case {
+        source: "/*@__PURE__*/ /*#__PURE__*/ //#__NO_SIDE_EFFECTS__\nf",
+        told: &[
+            Found(Block, 0, 13),
+            Found(Block, 14, 27),
+            Found(Line, 28, 50),
+            LineEnd,
+            Read(Kind::Ident, 51, 52),
+            Hold(2, 3),
+            // One that starts before the last one and is not listed.
+            Found(Block, 0, 27),
+            Found(Block, 14, 27),
+            Found(Line, 28, 50),
+        ],
+        comments: &[
+            (Leading, 51, true, false, PureNotApplied),
+            (Leading, 51, false, false, PureNotApplied),
+            (Leading, 51, false, true, NoSideEffectsNotApplied),
+        ],
+        held: (
+            Some(CommentRange { start: 1, end: 2 }),
+            Some(CommentRange { start: 2, end: 3 }),
+        ),
     },
 ];
 
@@ -255,16 +308,16 @@ fn is_placed_in(source: &str, kind: CommentKind, start: u32, end: u32) -> bool
     whole && content
 }
 
-/// Tells the builder of one thing.
-fn tell(builder: &mut TriviaBuilder, source: &str, told: Told) -> Result<(), Fail> {
-    match told {
-        Told::LineEnd => builder.handle_newline(),
-        Told::Token(kind, start, end) => {
+/// Tells the builder of one thing, if that can be of the source.
+fn tell(builder: &mut TriviaBuilder, source: &str, told: &Told) -> Result<(), AllocError> {
+    match *told {
+        LineEnd => builder.handle_newline(),
+        Read(kind, start, end) => {
             if start <= end {
                 builder.handle_token(Token::new(kind, Span { start, end }, false));
             }
         }
-        Told::Comment(kind, start, end) => {
+        Found(kind, start, end) => {
             if is_placed_in(source, kind, start, end) {
                 if kind.is_line() {
                     builder.add_line_comment(start, end, kind, source)?;
@@ -273,147 +326,51 @@ fn tell(builder: &mut TriviaBuilder, source: &str, told: Told) -> Result<(), Fai
                 }
             }
         }
+        Hold(start, end) => {
+            if start < end && end as usize <= builder.comments().len() {
+                builder.set_pure_comments(Some(CommentRange { start, end }));
+                builder.set_no_side_effects_comments(Some(CommentRange { start, end }));
+            }
+        }
     }
     Ok(())
 }
 
 /// Whether the comments are attached as in the rows.
-fn are_attached(
-    comments: &[js_text::Comment],
-    rows: &[(CommentPosition, u32, bool, bool)],
-) -> bool {
+fn are_attached(comments: &[Comment], rows: &[Attached]) -> bool {
     for (comment, row) in comments.iter().zip(rows.iter()) {
-        if (
+        let attached = (
             comment.position,
             comment.attached_to,
             comment.preceded,
             comment.followed,
-        ) != *row
-        {
+            comment.content,
+        );
+        if attached != *row {
             return false;
         }
     }
     comments.len() == rows.len()
 }
 
+/// Tells the builder of all things of the case, and gives whether it holds what it should then.
+fn holds_as_told(builder: &mut TriviaBuilder, case: &Case) -> Result<bool, AllocError> {
+    for told in case.told {
+        tell(builder, case.source, told)?;
+    }
+    let held = (
+        builder.previous_token_pure_comments(),
+        builder.previous_token_no_side_effects_comments(),
+    );
+    Ok(are_attached(builder.comments(), case.comments) && held == case.held)
+}
+
 #[test]
 fn attachment(rt: HostRuntime) -> Result<(), Fail> {
     for case in &CASES {
         let mut builder = TriviaBuilder::new_in(rt.alloc());
-        for told in case.told {
-            tell(&mut builder, case.source, *told)?;
-        }
-        assert!(rt;
-            are_attached(builder.comments(), case.comments),
-            "{}",
-            case.source
-        );
+        let is_told = holds_as_told(&mut builder, case)?;
+        assert!(rt; is_told, "{}", case.source);
     }
     Ok(())
-}
-
-#[test]
-fn irregular_white_space(rt: HostRuntime) -> Result<(), Fail> {
-    let mut builder = TriviaBuilder::new_in(rt.alloc());
-    builder.add_irregular_whitespace(1, 2)?;
-    builder.add_irregular_whitespace(1, 2)?;
-    let spans = builder.irregular_whitespaces();
-    assert_eq!(rt; spans, [Span { start: 1, end: 2 }].as_slice());
-    Ok(())
-}
-
-/// Three annotations, with their spans.
-static ANNOTATED: &'static str = "/*@__PURE__*/ /*#__PURE__*/ //#__NO_SIDE_EFFECTS__";
-
-static FIRST: Told = Comment(Block, 0, 13);
-
-static SECOND: Told = Comment(Block, 14, 27);
-
-static THIRD: Told = Comment(Line, 28, 50);
-
-/// Marks the comments of a range, if there are so many.
-fn mark_pure(builder: &mut TriviaBuilder, start: u32, end: u32) {
-    if start < end && end as usize <= builder.comments().len() {
-        builder.mark_pure_comments_applied(CommentRange { start, end });
-    }
-}
-
-fn mark_no_side_effects(builder: &mut TriviaBuilder, start: u32, end: u32) {
-    if start < end && end as usize <= builder.comments().len() {
-        builder.mark_no_side_effects_comments_applied(CommentRange { start, end });
-    }
-}
-
-/// Whether the comments have these classes.
-fn are_of(builder: &TriviaBuilder, classes: &[CommentContent]) -> bool {
-    for (comment, class) in builder.comments().iter().zip(classes.iter()) {
-        if comment.content != *class {
-            return false;
-        }
-    }
-    builder.comments().len() == classes.len()
-}
-
-#[test]
-fn marks(rt: HostRuntime) -> Result<(), Fail> {
-    let mut builder = TriviaBuilder::new_in(rt.alloc());
-    for told in [FIRST, SECOND, THIRD] {
-        tell(&mut builder, ANNOTATED, told)?;
-    }
-    let pure = CommentContent::PureNotApplied;
-    let taken_up = CommentContent::Pure;
-    let effects = CommentContent::NoSideEffectsNotApplied;
-    assert!(rt; are_of(&builder, &[pure, pure, effects]));
-    mark_pure(&mut builder, 1, 3);
-    assert!(rt; are_of(&builder, &[pure, taken_up, effects]));
-    mark_no_side_effects(&mut builder, 0, 3);
-    assert!(rt; are_of(&builder, &[pure, taken_up, CommentContent::NoSideEffects]));
-    Ok(())
-}
-
-/// Sets both ranges to those comments, if there are so many.
-fn set_both(builder: &mut TriviaBuilder, start: u32, end: u32) {
-    if start < end && end as usize <= builder.comments().len() {
-        builder.set_pure_comments(Some(CommentRange { start, end }));
-        builder.set_no_side_effects_comments(Some(CommentRange { start, end }));
-    }
-}
-
-#[test]
-fn comments_that_are_held(rt: HostRuntime) -> Result<(), Fail> {
-    let mut builder = TriviaBuilder::new_in(rt.alloc());
-    for told in [FIRST, SECOND, THIRD] {
-        tell(&mut builder, ANNOTATED, told)?;
-    }
-    builder.set_pure_comments(None);
-    set_both(&mut builder, 2, 3);
-    // A comment that starts before the last one and is not held.
-    tell(&mut builder, ANNOTATED, Comment(Block, 0, 27))?;
-    assert_eq!(rt; ranges(&builder), (Some((2, 3)), Some((2, 3))));
-    tell(&mut builder, ANNOTATED, SECOND)?;
-    assert_eq!(rt; ranges(&builder), (Some((1, 2)), Some((2, 3))));
-    tell(&mut builder, ANNOTATED, FIRST)?;
-    tell(&mut builder, ANNOTATED, SECOND)?;
-    assert_eq!(rt; ranges(&builder), (Some((0, 2)), Some((2, 3))));
-    builder.set_no_side_effects_comments(None);
-    // The last one again.
-    tell(&mut builder, ANNOTATED, THIRD)?;
-    assert_eq!(rt; ranges(&builder), (Some((0, 2)), Some((2, 3))));
-    assert_eq!(rt; builder.comments().len(), 3);
-    Ok(())
-}
-
-/// Where both ranges start and end.
-fn ranges(builder: &TriviaBuilder) -> (Option<(u32, u32)>, Option<(u32, u32)>) {
-    (
-        ends(builder.previous_token_pure_comments()),
-        ends(builder.previous_token_no_side_effects_comments()),
-    )
-}
-
-fn ends(range: Option<CommentRange>) -> Option<(u32, u32)> {
-    match range {
-        Some(range) => Some((range.start, range.end)),
-        None => None,
-    }
 }
