@@ -56,10 +56,10 @@ static CASES: [(usize, usize, &[usize]); 5] = [
 // A read call asks for a buffer, or for what is left of one byte more than there may be; none is made after the end.
 #[test]
 fn sizes_of_buffers(rt: HostRuntime) -> Result<(), Fail> {
-    for (bytes, most, wanted) in CASES.iter() {
-        let most = (*most).min(MOST_BYTES);
-        let sizes = sizes(rt.alloc(), *bytes, most);
-        assert_eq!(rt; sizes.as_slice(), *wanted, "{bytes} of {most}");
+    for &(bytes, most, wanted) in &CASES {
+        let most = most.min(MOST_BYTES);
+        let sizes = sizes(rt.alloc(), bytes, most);
+        assert_eq!(rt; sizes.as_slice(), wanted, "{bytes} of {most}");
     }
     Ok(())
 }

@@ -3,10 +3,6 @@
 #![tactic(auto)]
 
 #[cfg(test)]
-mod arguments;
-#[cfg(test)]
-mod broken;
-#[cfg(test)]
 mod buffers;
 #[cfg(test)]
 mod devices;

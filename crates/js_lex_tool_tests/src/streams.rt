@@ -1,12 +1,9 @@
-//! Readers and writers of the system's kind: calls that they answer, and runs over ones that fail in mid-stream. That a
-//! reader or a writer is called as std's trait says is told here, since std tells nothing of the errors of a call.
+//! Runs over readers and writers of the system's kind, which fail in mid-stream. That a reader or a writer is called as
+//! std's trait says is told here, since std tells nothing of the errors of a call.
 
 use crate::run::strings_of;
 use js_lex_tool::status::{DONE, READ_FAILED, WRITE_FAILED};
-use js_lex_tool::write_all::write_all;
-use js_lex_tool::{
-    ByteIn, ByteOut, FlushAnswer, InAnswer, OutAnswer, StdIn, StdOut, lex_tool_run, read_to_end,
-};
+use js_lex_tool::{StdIn, StdOut, lex_tool_run};
 use std::alloc::{AllocError, Global};
 use std::io::{self, Read, Write};
 use std::test::Fail;
@@ -52,59 +49,6 @@ impl Write for Sink {
     }
 }
 
-/// What reads of a buffer of five bytes come to.
-#[test]
-fn reads_to_the_end(rt: HostRuntime) -> Result<(), Fail> {
-    let source = Source {
-        left: b"foo",
-        fails: false,
-    };
-    let mut input = StdIn::new(source);
-    let mut buf = [0u8; 5];
-    assert_eq!(rt; input.read(&mut buf), InAnswer::Took(2));
-    assert_eq!(rt; input.read(&mut buf), InAnswer::Took(1));
-    assert_eq!(rt; input.read(&mut buf), InAnswer::End);
-    Ok(())
-}
-
-#[test]
-fn a_whole_input(rt: HostRuntime) -> Result<(), Fail> {
-    let source = Source {
-        left: b"foo(a);",
-        fails: false,
-    };
-    match read_to_end(rt.alloc(), &mut StdIn::new(source), 100) {
-        Ok(bytes) => assert_eq!(rt; bytes.as_slice(), b"foo(a);".as_slice()),
-        Err(_) => return Err(Fail::from("not read")),
-    }
-    Ok(())
-}
-
-/// More bytes than 64 KiB.
-const MANY: usize = 70_000;
-
-#[test]
-fn a_long_text(rt: HostRuntime) -> Result<(), Fail> {
-    let text = vec![in rt.alloc(); 0u8; MANY]?;
-    let sink = Sink {
-        room: 3 * MANY,
-        fails: false,
-    };
-    let mut output = StdOut::new(sink);
-    assert_eq!(rt; output.flush(), FlushAnswer::Done);
-    assert_eq!(rt; output.write(text.as_slice()), OutAnswer::Took(MANY));
-    assert_eq!(rt; write_all(&mut output, text.as_slice()), Ok(()));
-    assert_eq!(rt; output.write(text.as_slice()), OutAnswer::Took(MANY));
-    assert_eq!(rt; output.write(text.as_slice()), OutAnswer::Failed);
-    Ok(())
-}
-
-fn run_status(alloc: Global, source: Source<'_>, sink: Sink) -> Result<u8, AllocError> {
-    let words = strings_of(alloc, "module no-tokens next*5")?;
-    let (mut input, mut output) = (StdIn::new(source), StdOut::new(sink));
-    Ok(lex_tool_run(alloc, &words, &mut input, &mut output).status)
-}
-
 /// Whether the reader fails behind its bytes, how many bytes the writer takes, whether its flush fails, and the status.
 static CASES: [(bool, usize, bool, u8); 5] = [
     (false, 1000, false, DONE),
@@ -114,18 +58,24 @@ static CASES: [(bool, usize, bool, u8); 5] = [
     (false, 1000, true, WRITE_FAILED),
 ];
 
+fn run_status(alloc: Global, source: Source<'_>, sink: Sink) -> Result<u8, AllocError> {
+    let words = strings_of(alloc, "module no-tokens next*5")?;
+    let (mut input, mut output) = (StdIn::new(source), StdOut::new(sink));
+    Ok(lex_tool_run(alloc, &words, &mut input, &mut output).status)
+}
+
 #[test]
 fn streams_that_fail(rt: HostRuntime) -> Result<(), Fail> {
-    for (read_fails, room, flush_fails, wanted) in CASES.iter() {
+    for &(read_fails, room, flush_fails, wanted) in &CASES {
         let source = Source {
             left: b"foo(a);",
-            fails: *read_fails,
+            fails: read_fails,
         };
         let sink = Sink {
-            room: *room,
-            fails: *flush_fails,
+            room,
+            fails: flush_fails,
         };
-        assert_eq!(rt; run_status(rt.alloc(), source, sink)?, *wanted, "{room}");
+        assert_eq!(rt; run_status(rt.alloc(), source, sink)?, wanted, "{room}");
     }
     Ok(())
 }
