@@ -3,18 +3,16 @@
 #![tactic(auto)]
 
 #[cfg(test)]
-mod ahead;
-#[cfg(test)]
-mod calls;
+mod asked;
 #[cfg(test)]
 mod faults;
 #[cfg(test)]
 mod first;
 #[cfg(test)]
-mod lexing;
-#[cfg(test)]
 mod lists;
 #[cfg(test)]
-mod moves;
+mod loops;
 #[cfg(test)]
 mod script;
+#[cfg(test)]
+mod scripts;

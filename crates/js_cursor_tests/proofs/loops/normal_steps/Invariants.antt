@@ -1,5 +1,5 @@
 use Rattle.js_cursor.specs.Lists.{left_to_read}
-use Rattle.js_cursor_tests.proofs.moves.normal_steps.Given as goal
+use Rattle.js_cursor_tests.proofs.loops.normal_steps.Given as goal
 
 -- No fatal error stands, and there is still text behind the current token.
 abbrev pub decreases-elements : goal.decreases-elements

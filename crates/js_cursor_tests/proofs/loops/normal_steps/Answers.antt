@@ -2,7 +2,7 @@ use Rattle.std.proofs.Common.{◌≡◌, ◌<◌, ◌^◌, Bool, true, false, re
 use Rattle.std.specs.Prelude.{not}
 use Rattle.js_kind.specs.declared.kind.Kind.TheVariants.{RCurly}
 use Rattle.js_cursor.specs.Lists.{ends_at, is_stuck}
-use Rattle.js_cursor_tests.proofs.moves.normal_steps.Goals as goal
+use Rattle.js_cursor_tests.proofs.loops.normal_steps.Goals as goal
 
 not_true : (a : Bool) → not a ≡ true → a ≡ false
 not_true true e = absurd (cc)
