@@ -5,15 +5,11 @@
 #[cfg(test)]
 mod imports;
 #[cfg(test)]
-mod json;
-#[cfg(test)]
 mod licences;
 #[cfg(test)]
 mod names;
 #[cfg(test)]
 mod pages;
-#[cfg(test)]
-mod rewritten;
 #[cfg(test)]
 mod run;
 #[cfg(test)]

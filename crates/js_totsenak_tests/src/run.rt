@@ -34,10 +34,10 @@ fn run(alloc: Global, source: &[u8]) -> (Result<bool, RunFault>, SureOut) {
 
 #[test]
 fn runs(rt: HostRuntime) {
-    for (source, expected, text, status) in &RUNS {
+    for &(source, expected, text, status) in &RUNS {
         let (answer, output) = run(rt.alloc(), source);
         assert!(rt;
-            answer == *expected && status_of(answer) == *status,
+            answer == expected && status_of(answer) == status,
             "{source:?}"
         );
         assert!(rt; output.written() == text.as_bytes(), "{source:?}");
