@@ -37,15 +37,6 @@ struct Reader {
     checkpoint: Option<ParserCheckpoint>,
 }
 
-impl Reader {
-    fn of(item: Item) -> Reader {
-        Reader {
-            item,
-            checkpoint: None,
-        }
-    }
-}
-
 impl<C: LexerConfig + Drop> Element<C, ()> for Reader {
     ghost reads = { λ f c x g d. Unit {0} };
 
@@ -103,7 +94,10 @@ pub(crate) fn reads_list(
     list: List,
     item: Item,
 ) -> Result<Counted, CursorFault> {
-    let reader = Reader::of(item);
+    let reader = Reader {
+        item,
+        checkpoint: None,
+    };
     match list {
         List::Normal => {
             match cursor.parse_normal_list(alloc, Kind::LCurly, Kind::RCurly, reader) {
@@ -129,7 +123,10 @@ pub(crate) fn reads_list(
                 Kind::RBrack,
                 OPENING,
                 reader,
-                Reader::of(Item::Rest),
+                Reader {
+                    item: Item::Rest,
+                    checkpoint: None,
+                },
                 |_rest: &()| Span { start: 1, end: 5 },
                 |span: Span| CursorDiagnostic::RestLast { span },
             ) {
