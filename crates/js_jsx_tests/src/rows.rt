@@ -3,7 +3,7 @@
 use js_jsx::{JsxFault, jsx_session};
 use js_kind::{Kind, Token};
 use js_text::SourceType;
-use std::test::Fail;
+use std::alloc::Global;
 
 /// A kind, and where the token starts and ends.
 type Place = (Kind, u32, u32);
@@ -11,8 +11,8 @@ type Place = (Kind, u32, u32);
 /// A source, and the tokens that are live at its end.
 type Row = (&'static str, &'static [Place]);
 
-/// Elements, and their texts.
-static ELEMENTS: [Row; 6] = [
+/// Elements and their texts; what is no element, and what has types; and what is not whole.
+static SOURCES: [Row; 18] = [
     (
         "<a>don't</a>",
         &[
@@ -115,10 +115,6 @@ static ELEMENTS: [Row; 6] = [
             (Kind::Eof, 22, 22),
         ],
     ),
-];
-
-/// What is no element, and what has types.
-static TYPES: [Row; 6] = [
     (
         "a < b / c > d",
         &[
@@ -221,10 +217,6 @@ static TYPES: [Row; 6] = [
             (Kind::Eof, 27, 27),
         ],
     ),
-];
-
-/// What is not whole.
-static FAULTY: [Row; 6] = [
     (
         "x = {a && <b>text}; y",
         &[
@@ -317,58 +309,41 @@ fn are_tokens(tokens: &[Token], places: &[Place]) -> bool {
     same
 }
 
-/// Whether each source has these tokens.
-fn have_tokens(rt: &HostRuntime, rows: &[Row]) -> Result<bool, Fail> {
-    let mut same = true;
-    for (source, places) in rows {
-        let jsx = jsx_session(rt.alloc(), source.as_bytes(), SourceType::Module, false)
-            .ok()
-            .ok_or("no report")?;
-        same = same && are_tokens(jsx.report.tokens.as_slice(), places);
+/// Whether the source has these tokens.
+fn has_tokens(alloc: Global, source: &str, places: &[Place]) -> bool {
+    match jsx_session(alloc, source.as_bytes(), SourceType::Module, false) {
+        Ok(jsx) => are_tokens(jsx.report.tokens.as_slice(), places),
+        Err(_) => false,
     }
-    Ok(same)
 }
 
 #[test]
-fn elements(rt: HostRuntime) -> Result<(), Fail> {
-    assert!(rt; have_tokens(&rt, &ELEMENTS)?);
-    Ok(())
+fn tokens(rt: HostRuntime) {
+    for (source, places) in &SOURCES {
+        assert!(rt; has_tokens(rt.alloc(), source, places), "{source}");
+    }
 }
 
-#[test]
-fn types(rt: HostRuntime) -> Result<(), Fail> {
-    assert!(rt; have_tokens(&rt, &TYPES)?);
-    Ok(())
-}
-
-#[test]
-fn faulty(rt: HostRuntime) -> Result<(), Fail> {
-    assert!(rt; have_tokens(&rt, &FAULTY)?);
-    Ok(())
-}
-
-/// What is reported of a source: how many diagnostics, and how many warnings.
-static REPORTED: [(&str, usize, usize); 4] = [
-    ("<a>x > y</a>", 0, 1),
-    ("x = {a && <b>text}; y", 1, 0),
-    ("<a>}<a>}<a>}", 3, 0),
-    ("<a>it's", 0, 0),
+/// Sources, and how many diagnostics and warnings each has, or its fault.
+static REPORTED: [(&[u8], Result<(usize, usize), JsxFault>); 5] = [
+    (b"<a>x > y</a>", Ok((0, 1))),
+    (b"x = {a && <b>text}; y", Ok((1, 0))),
+    (b"<a>}<a>}<a>}", Ok((3, 0))),
+    (b"<a>it's", Ok((0, 0))),
+    (b"<a>\xFF", Err(JsxFault::NotUtf8(3))),
 ];
 
-#[test]
-fn reported(rt: HostRuntime) -> Result<(), Fail> {
-    for (source, diagnostics, warnings) in &REPORTED {
-        let jsx = jsx_session(rt.alloc(), source.as_bytes(), SourceType::Module, false)
-            .ok()
-            .ok_or("no report")?;
-        assert_eq!(rt; jsx.report.diagnostics.len(), *diagnostics);
-        assert_eq!(rt; jsx.report.warnings.len(), *warnings);
+/// How much is reported of a source.
+fn reported(alloc: Global, source: &[u8]) -> Result<(usize, usize), JsxFault> {
+    match jsx_session(alloc, source, SourceType::Module, false) {
+        Ok(jsx) => Ok((jsx.report.diagnostics.len(), jsx.report.warnings.len())),
+        Err(fault) => Err(fault),
     }
-    Ok(())
 }
 
 #[test]
-fn faults(rt: HostRuntime) {
-    let result = jsx_session(rt.alloc(), b"<a>\xFF", SourceType::Module, false);
-    assert_eq!(rt; result.err(), Some(JsxFault::NotUtf8(3)));
+fn reports(rt: HostRuntime) {
+    for &(source, wanted) in &REPORTED {
+        assert_eq!(rt; reported(rt.alloc(), source), wanted);
+    }
 }
