@@ -4,7 +4,7 @@
 ghost use Rattle.std.specs.Prelude.{◌≡◌, ◌<◌};
 
 use js_auto::auto_session;
-use js_document::{AutoState, Change, Document, DocumentFault, Edit, KeepGoals};
+use js_document::{AutoState, Change, Document, DocumentFault, Edit, EditsFault, KeepGoals};
 use js_lex_tool::report_text;
 use js_session::Steps;
 use js_text::SourceType;
@@ -274,45 +274,90 @@ fn rows_behind_edits(rt: HostRuntime) -> Result<(), Fail> {
     Ok(())
 }
 
-/// Where an edit of `aé b` by `xy` starts and ends, its fault, and how many bytes the text has then.
-static FAULTS: [(u32, u32, Option<DocumentFault>, usize); 4] = [
-    (3, 1, Some(DocumentFault::BadEdit), 5),
-    (2, 3, Some(DocumentFault::BadEdit), 5),
-    (3, 6, Some(DocumentFault::BadEdit), 5),
-    (0, 1, None, 6),
+/// Edits of `aé b`, one behind the other; how many are made before the first that is none, and how many bytes the text
+/// has then.
+static FAULTS: [(&[Edit<'static>], Option<usize>, usize); 5] = [
+    (
+        &[Edit {
+            start: 3,
+            end: 1,
+            text: "xy",
+        }],
+        Some(0),
+        5,
+    ),
+    (
+        &[Edit {
+            start: 2,
+            end: 3,
+            text: "xy",
+        }],
+        Some(0),
+        5,
+    ),
+    (
+        &[Edit {
+            start: 3,
+            end: 6,
+            text: "xy",
+        }],
+        Some(0),
+        5,
+    ),
+    (
+        &[Edit {
+            start: 0,
+            end: 1,
+            text: "xy",
+        }],
+        None,
+        6,
+    ),
+    (
+        &[
+            Edit {
+                start: 0,
+                end: 1,
+                text: "xy",
+            },
+            Edit {
+                start: 7,
+                end: 7,
+                text: "xy",
+            },
+        ],
+        Some(1),
+        6,
+    ),
 ];
 
-/// The fault of an edit of `aé b`, and how many bytes the text has then.
+/// What the edits come to, and how many bytes the text has then. None where there was not enough memory.
 fn fault<L: Ledger>(
     alloc: Global,
-    start: u32,
-    end: u32,
+    edits: &[Edit<'_>],
     blank: Blank,
-) -> Option<(Option<DocumentFault>, usize)>
+) -> Option<(Option<EditsFault>, usize)>
     requires name { blank.name ≡ L.name }
     requires parts { blank.parts ≡ L.parts }
     requires some_part { 0 < L.parts }
 {
     let mut steps = Steps::<L>::new(blank);
-    let edit = Edit {
-        start,
-        end,
-        text: "xy",
-    };
     let mut document = Document::<AutoState>::new(
         alloc,
         "aé b",
         SourceType::Module,
         &mut steps,
     ).ok()?;
-    let fault = document.edit(alloc, &edit, &mut steps).err();
+    let fault = document.edit_all(alloc, edits, &mut steps).err();
     Some((fault, document.text().len()))
 }
 
 #[test]
 fn faults_of_edits(rt: HostRuntime) {
-    for &(start, end, wanted, length) in &FAULTS {
-        let found = fault::<Brand>(rt.alloc(), start, end, Blank::new(1));
+    for &(edits, made, length) in &FAULTS {
+        let found = fault::<Brand>(rt.alloc(), edits, Blank::new(1));
+        let fault = DocumentFault::BadEdit;
+        let wanted = made.map(|made| EditsFault { made, fault });
         assert_eq!(rt; found, Some((wanted, length)));
     }
 }

@@ -1,8 +1,8 @@
-//! What documents have: their tokens, the one at an offset, what their rows found, and edits made one behind the other.
+//! What documents have: their tokens, the one at an offset, and what their rows found.
 
 ghost use Rattle.std.specs.Prelude.{◌≡◌, ◌<◌};
 
-use js_document::{AutoState, Document, DocumentFault, Edit, EditsFault, Found, FoundList};
+use js_document::{AutoState, Document, Edit, Found, FoundList};
 use js_session::Steps;
 use js_text::SourceType;
 use std::alloc::Global;
@@ -114,45 +114,4 @@ fn items_of_documents(rt: HostRuntime) -> Result<(), Fail> {
     let document = parted::<Brand>(rt.alloc(), Blank::new(1)).ok_or("no document")?;
     assert_eq!(rt; counts(&document), [7, 3, 1, 1, 1, 0]);
     Ok(())
-}
-
-/// Edits of `abc`, of which the second is none.
-static EDITS: [Edit<'static>; 2] = [
-    Edit {
-        start: 0,
-        end: 1,
-        text: "xy",
-    },
-    Edit {
-        start: 5,
-        end: 5,
-        text: "z",
-    },
-];
-
-/// What the edits of `abc` come to, and how many bytes the text has then.
-fn made<L: Ledger>(alloc: Global, blank: Blank) -> Option<(Option<EditsFault>, usize)>
-    requires name { blank.name ≡ L.name }
-    requires parts { blank.parts ≡ L.parts }
-    requires some_part { 0 < L.parts }
-{
-    let mut steps = Steps::<L>::new(blank);
-    let mut document = Document::<AutoState>::new(
-        alloc,
-        "abc",
-        SourceType::Module,
-        &mut steps,
-    ).ok()?;
-    let fault = document.edit_all(alloc, &EDITS, &mut steps).err();
-    Some((fault, document.text().len()))
-}
-
-#[test]
-fn edits_up_to_a_fault(rt: HostRuntime) {
-    let wanted = EditsFault {
-        made: 1,
-        fault: DocumentFault::BadEdit,
-    };
-    let found = made::<Brand>(rt.alloc(), Blank::new(1));
-    assert_eq!(rt; found, Some((Some(wanted), 4)));
 }

@@ -1,4 +1,4 @@
-use Rattle.js_document_tests.proofs.items.tokens_at_offsets.Given as goal
+use Rattle.js_document_tests.proofs.items.tokens_by_halves.Given as goal
 
 -- The ledger of the counter.
 abbrev pub ghosts-parted : goal.ghosts-parted
