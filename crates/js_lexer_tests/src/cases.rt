@@ -1,190 +1,217 @@
-//! Rows of scripts, at each configuration.
+//! What is done with lexers, and what they tell.
 
-use crate::script::{Script, told};
-use js_kind::{LexerConfig, NoTokensLexerConfig, RuntimeLexerConfig, TokensLexerConfig};
-use js_text::SourceType;
-use std::alloc::Global;
-use std::process::Abort;
+use crate::script::{Behind, Call, Case, Text, play};
+use js_kind::Kind;
+use js_text::{CommentContent, CommentRange, Span};
 use std::test::Fail;
 
-/// A source, what is done with it, and what is told where tokens are collected, and where they are not.
-type Case = (SourceType, &'static str, Script, &'static str, &'static str);
+/// The first comment.
+const FIRST: Option<CommentRange> = Some(CommentRange { start: 0, end: 1 });
 
-static CASES: [Case; 20] = [
-    (
-        SourceType::Module,
-        "#!x\na",
-        Script::ReadAgain,
-        "#!x\na first ends 3, again 3, collected 0",
-        "#!x\na first ends 3, again 3, collected 0",
-    ),
-    (
-        SourceType::Module,
-        "a \u{1}b",
-        Script::GoBack,
-        "at 1, last ends 1, reported 0;at 3, last ends 3, reported 1;at 1, last ends 1, reported 0;\
-         back, with the same token true",
-        "at 1, last ends 1, reported 0;at 3, last ends 3, reported 1;at 1, last ends 1, reported 0;\
-         back, with the same token true",
-    ),
-    (
-        SourceType::Script,
-        "\u{1}",
-        Script::HandOutErrors,
-        "handed out 1;at 1, last ends 1, reported 0;",
-        "handed out 1;at 1, last ends 1, reported 0;",
-    ),
-    (
-        SourceType::Script,
-        "a b",
-        Script::HandOutTokens,
-        "handed out 2, left 0, back before that true, behind false;at 3, last ends 3, reported 0;",
-        "handed out 0, left 0, back before that true, behind true;at 3, last ends 3, reported 0;",
-    ),
-    (
-        SourceType::Module,
-        "#a \\u0062",
-        Script::Texts,
-        "back true;source a;source a;decoded 98;decoded 98;",
-        "back true;source a;source a;decoded 98;decoded 98;",
-    ),
-    (
-        SourceType::Module,
-        "'ab' '\\uD83D' `c` `d\r` `\\u` `e${",
-        Script::Values,
-        "source ab;none;decoded 55357;none;source `c`;source c;none;decoded 100 10;none;bad;source `e${;source e;",
-        "source ab;none;decoded 55357;none;source `c`;source c;none;decoded 100 10;none;bad;source `e${;source e;",
-    ),
-    (
-        SourceType::Module,
-        "a",
-        Script::Finalize,
-        "Ident 0..1 n;left 0",
-        "left 0",
-    ),
-    (
-        SourceType::Module,
-        "a",
-        Script::Rewrite,
-        "Let 0..1;Ident 0..1 n;",
-        "Ident 0..1 n;",
-    ),
-    (
-        SourceType::Module,
-        "1x",
-        Script::Recover,
-        "taken back true, another false, back plainly false, with the copy true;InvalidNumberEnd 1..2;Eof 0..2 n;",
-        "taken back true, another false, back plainly false, with the copy true;InvalidNumberEnd 1..2;Eof 0..2 n;",
-    ),
-    (
-        SourceType::Module,
-        "/* @__PURE__ */ f",
-        Script::Mark(1),
-        "PureNotApplied pure 0..1;without side effects none;Pure pure 0..1;without side effects none;\
-         Pure pure 0..1;without side effects none;",
-        "PureNotApplied pure 0..1;without side effects none;Pure pure 0..1;without side effects none;\
-         Pure pure 0..1;without side effects none;",
-    ),
-    (
-        SourceType::Module,
-        "export /* #__NO_SIDE_EFFECTS__ */ class Foo {}",
-        Script::Mark(2),
-        "NoSideEffectsNotApplied pure none;without side effects 0..1;\
-         NoSideEffects pure none;without side effects 0..1;NoSideEffects pure none;without side effects 0..1;",
-        "NoSideEffectsNotApplied pure none;without side effects 0..1;\
-         NoSideEffects pure none;without side effects 0..1;NoSideEffects pure none;without side effects 0..1;",
-    ),
-    (
-        SourceType::Module,
-        "/* @__PURE__ */ >x<",
-        Script::KeepAnnotations,
-        "PureNotApplied pure 0..1;without side effects none;PureNotApplied pure 0..1;without side effects none;\
-         PureNotApplied pure none;without side effects none;",
-        "PureNotApplied pure 0..1;without side effects none;PureNotApplied pure 0..1;without side effects none;\
-         PureNotApplied pure none;without side effects none;",
-    ),
-    (
-        SourceType::Module,
-        "/* @__PURE__ */ f",
-        Script::HandOutComments,
-        "PureNotApplied pure 0..1;without side effects none;handed out 1 pure none;without side effects none;",
-        "PureNotApplied pure 0..1;without side effects none;handed out 1 pure none;without side effects none;",
-    ),
-    (
-        SourceType::Module,
-        "/[/]\\//gg;",
-        Script::RegularExpression,
-        "RegExp 0..9;pattern ends 6, flags at fault true;Semicolon 9..10;|\
-         RegExp 0..9;Semicolon 9..10;RegExpFlagTwice 8..9;",
-        "RegExp 0..9;pattern ends 6, flags at fault true;Semicolon 9..10;|RegExpFlagTwice 8..9;",
-    ),
-    (
-        SourceType::Module,
-        "}c`;",
-        Script::NextPart,
-        "TemplateTail 0..3;Semicolon 3..4;|TemplateTail 0..3;Semicolon 3..4;",
-        "TemplateTail 0..3;Semicolon 3..4;|",
-    ),
-    (
-        SourceType::Module,
-        ">>",
-        Script::RightAngle,
-        "ShiftRight 0..2;RAngle 0..1;RAngle 1..2;|RAngle 0..1;RAngle 1..2;",
-        "ShiftRight 0..2;RAngle 0..1;RAngle 1..2;|",
-    ),
-    (
-        SourceType::Script,
-        "<<=",
-        Script::LeftAngle,
-        "LAngle 0..1;LtEq 1..3;|LAngle 0..1;LtEq 1..3;",
-        "LAngle 0..1;LtEq 1..3;|",
-    ),
-    (
-        SourceType::Module,
-        "\\u0061-b>",
-        Script::JsxName,
-        "Ident 0..8;|Ident 0..8;",
-        "Ident 0..8;|",
-    ),
-    (
-        SourceType::Module,
-        " x< \"\\n\"}",
-        Script::Jsx,
-        "JSXText 0..2 n;LAngle 2..3;Str 4..8;Eof 8..8;RCurly 8..9;|\
-         JSXText 0..2 n;LAngle 2..3;Str 4..8;Eof 8..8;RCurly 8..9;UnexpectedJsxEnd 8..8;",
-        "JSXText 0..2 n;LAngle 2..3;Str 4..8;Eof 8..8;RCurly 8..9;|UnexpectedJsxEnd 8..8;",
-    ),
-    (
-        SourceType::Module,
-        ">x>< ''>}",
-        Script::Jsx,
-        "JSXText 0..3 n;LAngle 3..4;Str 5..7;Eof 7..8;RCurly 8..9;|\
-         JSXText 0..3 n;LAngle 3..4;Str 5..7;Eof 7..8;RCurly 8..9;UnexpectedJsxEnd 8..8;\
-         warning 0..1;warning 2..3;warning 7..8;",
-        "JSXText 0..3 n;LAngle 3..4;Str 5..7;Eof 7..8;RCurly 8..9;|UnexpectedJsxEnd 8..8;\
-         warning 0..1;warning 2..3;warning 7..8;",
-    ),
+static CASES: [Case; 13] = [
+    // A fault that is peeked at, or before which the lexer goes back, is not reported.
+    Case {
+        source: "a \u{1}b",
+        before: &[Call::Next(Kind::Ident, 0, 1)],
+        behind: Behind::GoBack(
+            &[
+                Call::Peek(Kind::Undetermined, 2, 3),
+                Call::Offset(1),
+                Call::LastToken(Kind::Ident, 0, 1),
+                Call::Errors(0),
+                Call::Next(Kind::Undetermined, 2, 3),
+                Call::Offset(3),
+                Call::LastToken(Kind::Undetermined, 2, 3),
+                Call::Errors(1),
+            ],
+            true,
+        ),
+        after: &[
+            Call::Offset(1),
+            Call::LastToken(Kind::Ident, 0, 1),
+            Call::Errors(0),
+            Call::Tokens(1),
+        ],
+    },
+    // There is no way back before what was handed out, since the list is shorter then.
+    Case {
+        source: "\u{1}",
+        before: &[Call::Next(Kind::Undetermined, 0, 1)],
+        behind: Behind::GoBack(&[Call::TakeErrors(1)], false),
+        after: &[
+            Call::Errors(0),
+            Call::Offset(1),
+            Call::LastToken(Kind::Undetermined, 0, 1),
+        ],
+    },
+    Case {
+        source: "a b",
+        before: &[Call::Next(Kind::Ident, 0, 1)],
+        behind: Behind::GoBack(&[Call::AdvanceToEnd, Call::Next(Kind::Eof, 3, 3)], true),
+        after: &[Call::Offset(1), Call::Tokens(1)],
+    },
+    Case {
+        source: "a b",
+        before: &[Call::Next(Kind::Ident, 0, 1)],
+        behind: Behind::GoBack(
+            &[
+                Call::AdvanceToEnd,
+                Call::Next(Kind::Eof, 3, 3),
+                Call::TakeTokens(2),
+            ],
+            false,
+        ),
+        after: &[
+            Call::Tokens(0),
+            Call::Offset(3),
+            Call::LastToken(Kind::Eof, 3, 3),
+        ],
+    },
+    Case {
+        source: "a",
+        before: &[Call::Next(Kind::Ident, 0, 1), Call::Next(Kind::Eof, 1, 1)],
+        behind: Behind::GoBack(&[Call::FinalizeTokens(1)], false),
+        after: &[Call::Tokens(0)],
+    },
+    Case {
+        source: "/* @__PURE__ */ f",
+        before: &[Call::Next(Kind::Ident, 16, 17), Call::Pure(FIRST)],
+        behind: Behind::GoBack(&[Call::TakeComments(1)], false),
+        after: &[Call::Pure(None), Call::NoSideEffects(None)],
+    },
+    // A token that is put in the place of another goes with the way back.
+    Case {
+        source: "a",
+        before: &[
+            Call::RewriteLast(Kind::Let),
+            Call::Tokens(0),
+            Call::Next(Kind::Ident, 0, 1),
+        ],
+        behind: Behind::GoBack(
+            &[
+                Call::RewriteLast(Kind::Let),
+                Call::Collected(0, Kind::Let, 0, 1),
+                Call::LastToken(Kind::Ident, 0, 1),
+            ],
+            true,
+        ),
+        after: &[Call::Collected(0, Kind::Ident, 0, 1)],
+    },
+    // The texts of names stay behind the way back before them.
+    Case {
+        source: "#a \\u0062",
+        before: &[],
+        behind: Behind::GoBack(
+            &[
+                Call::Next(Kind::PrivateIdentifier, 0, 2),
+                Call::Next(Kind::Ident, 3, 9),
+            ],
+            true,
+        ),
+        after: &[
+            Call::Tokens(0),
+            Call::Text(
+                Kind::PrivateIdentifier,
+                Span { start: 0, end: 2 },
+                false,
+                Text::Source("a"),
+            ),
+            Call::Text(
+                Kind::Ident,
+                Span { start: 3, end: 9 },
+                true,
+                Text::Decoded(&[0x62]),
+            ),
+        ],
+    },
+    // What is taken back of what was reported comes back with a copy alone.
+    Case {
+        source: "1x",
+        before: &[Call::Next(Kind::Eof, 0, 2)],
+        behind: Behind::Recover(
+            &[
+                Call::PopError(Some("InvalidNumberEnd")),
+                Call::PopError(None),
+            ],
+            true,
+        ),
+        after: &[Call::Errors(1), Call::LastToken(Kind::Eof, 0, 2)],
+    },
+    Case {
+        source: "1x",
+        before: &[Call::Next(Kind::Eof, 0, 2)],
+        behind: Behind::GoBack(&[Call::PopError(Some("InvalidNumberEnd"))], false),
+        after: &[Call::Errors(0)],
+    },
+    // Comments stay marked behind a way back.
+    Case {
+        source: "export /* #__NO_SIDE_EFFECTS__ */ class Foo {}",
+        before: &[
+            Call::Next(Kind::Export, 0, 6),
+            Call::Next(Kind::Class, 34, 39),
+            Call::Pure(None),
+            Call::NoSideEffects(FIRST),
+            Call::FirstComment(CommentContent::NoSideEffectsNotApplied),
+        ],
+        behind: Behind::GoBack(
+            &[
+                Call::MarkFirst,
+                Call::FirstComment(CommentContent::NoSideEffects),
+            ],
+            true,
+        ),
+        after: &[
+            Call::FirstComment(CommentContent::NoSideEffects),
+            Call::NoSideEffects(FIRST),
+        ],
+    },
+    // Annotations stay behind a child of JSX, and not behind the next token.
+    Case {
+        source: "/* @__PURE__ */ >x<",
+        before: &[
+            Call::Next(Kind::RAngle, 16, 17),
+            Call::Pure(FIRST),
+            Call::FirstComment(CommentContent::PureNotApplied),
+        ],
+        behind: Behind::GoBack(
+            &[
+                Call::Child(Kind::JSXText, 17, 18),
+                Call::Pure(FIRST),
+                Call::Next(Kind::LAngle, 18, 19),
+                Call::Pure(None),
+                Call::MarkFirst,
+            ],
+            true,
+        ),
+        after: &[Call::Pure(FIRST), Call::FirstComment(CommentContent::Pure)],
+    },
+    Case {
+        source: "/*a*/ a /*b*/ /*c*/ \u{A0} \u{1}",
+        before: &[Call::Next(Kind::Ident, 6, 7)],
+        behind: Behind::Find(&[Call::Next(Kind::Undetermined, 23, 24)], (2, 1, 1)),
+        after: &[],
+    },
 ];
 
-/// All cases at one configuration.
-fn check<C: LexerConfig + Copy + Drop>(
-    rt: &impl Abort,
-    alloc: Global,
-    config: C,
-    collects: bool,
-) -> Result<(), Fail> {
-    for (source_type, source, script, collected, plain) in CASES.iter() {
-        let text = told(alloc, *source_type, source, config, *script)?;
-        let expected = if collects { *collected } else { *plain };
-        assert_eq!(rt; text.as_str(), expected, "{source}");
-    }
-    Ok(())
-}
+/// What is told of tokens behind one that is set.
+static BEHIND_ONE: Case = Case {
+    source: "a",
+    before: &[Call::Collected(0, Kind::Eof, 0, 0)],
+    behind: Behind::GoBack(
+        &[
+            Call::Next(Kind::Ident, 0, 1),
+            Call::Collected(1, Kind::Ident, 0, 1),
+        ],
+        true,
+    ),
+    after: &[Call::Tokens(1), Call::Collected(0, Kind::Eof, 0, 0)],
+};
 
 #[test]
-fn cases_at_each_configuration(rt: HostRuntime) -> Result<(), Fail> {
-    check(&rt, rt.alloc(), NoTokensLexerConfig, false)?;
-    check(&rt, rt.alloc(), TokensLexerConfig, true)?;
-    check(&rt, rt.alloc(), RuntimeLexerConfig::new(true), true)?;
-    check(&rt, rt.alloc(), RuntimeLexerConfig::new(false), false)
+fn cases(rt: HostRuntime) -> Result<(), Fail> {
+    for case in &CASES {
+        assert!(rt; play(rt.alloc(), case, false)?, "{}", case.source);
+    }
+    assert!(rt; play(rt.alloc(), &BEHIND_ONE, true)?);
+    Ok(())
 }

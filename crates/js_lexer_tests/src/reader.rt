@@ -2,93 +2,46 @@
 
 ghost use Rattle.std.specs.Prelude.{◌<◌, ◌^◌, length};
 
+use crate::script::is_read;
 use js_grammar::Goal;
-use js_kind::{Kind, Token};
-use js_reader::{ByteTables, DecodedValues, Findings, FindingsBuilder, Reader, RegexToken};
+use js_kind::Kind;
+use js_reader::{ByteTables, DecodedValues, FindingsBuilder, Reader};
 use js_source::Source;
-use js_text::{
-    CommentKind, DiagnosticList, JSStrBuilder, SourceType, is_line_terminator, is_white_space,
-};
+use js_text::{DiagnosticList, SourceType, is_line_terminator, is_white_space};
 use std::alloc::{AllocError, Global};
 use std::test::Fail;
 
-/// A reader at the start of a text.
-fn reader_over(alloc: Global, text: &str, source_type: SourceType) -> Reader<'_>
-    requires { length text.now < 2 ^ 32 }
-{
-    Reader {
-        source: Source::new(text),
-        source_type,
-        tables: ByteTables::new(),
-        line_has_ended: true,
-        alloc,
-    }
-}
-
-/// A call that reads a token.
+/// A call of a reader at the start of a text, and what it is to tell.
 #[derive(Clone, Copy)]
 enum Call {
-    Next,
-    Child,
-    Value,
-    Here,
-}
-
-/// Skips a gap, and reads what stands behind it.
-fn read_behind_gap(
-    reader: &mut Reader<'_>,
-    found: &mut FindingsBuilder,
-    decoded: &mut DecodedValues,
-) -> Result<Token, AllocError> {
-    let mut errors = DiagnosticList::new_in(reader.alloc);
-    reader.skip_whole_gap(found)?;
-    reader.read_here(&mut errors, decoded)
-}
-
-/// Reads a token.
-fn read(call: Call, reader: &mut Reader<'_>) -> Result<Token, AllocError> {
-    let mut found = FindingsBuilder::new_in(reader.alloc);
-    let mut decoded = DecodedValues::new_in(reader.alloc);
-    match call {
-        Call::Next => reader.read_goal(Goal::Next, &mut found, &mut decoded),
-        Call::Child => reader.read_child(&mut found),
-        Call::Value => reader.read_attribute_value(&mut found, &mut decoded),
-        Call::Here => read_behind_gap(reader, &mut found, &mut decoded),
-    }
-}
-
-/// A text, a call, and the kind and the place of the token that is read.
-static TOKENS: [(&str, Call, Kind, u32, u32); 4] = [
-    (" /*a*/ b", Call::Next, Kind::Ident, 7, 8),
-    (" b<", Call::Child, Kind::JSXText, 0, 2),
-    (" '\\n'", Call::Value, Kind::Str, 1, 5),
-    (" // a\n b", Call::Here, Kind::Ident, 7, 8),
-];
-
-#[test]
-fn tokens(rt: HostRuntime) -> Result<(), Fail> {
-    for &(text, call, kind, start, end) in &TOKENS {
-        let mut reader = reader_over(rt.alloc(), text, SourceType::Module);
-        let token = read(call, &mut reader)?;
-        assert!(rt; token.kind().is_same(kind), "{text}");
-        assert_eq!(rt; (token.start(), token.end()), (start, end), "{text}");
-    }
-    Ok(())
+    /// The kind of the next token, and where it starts and ends.
+    Next(Kind, u32, u32),
+    /// The same of a child of JSX.
+    Child(Kind, u32, u32),
+    /// The same of the value of an attribute.
+    Value(Kind, u32, u32),
+    /// The same of a token behind a gap that is skipped before.
+    Here(Kind, u32, u32),
+    /// Whether a piece of a gap begins the text, and where the reader stands behind it.
+    Piece(bool, u32),
+    /// Where a regular expression ends, and its pattern.
+    Expression(u32, u32),
+    /// The kind of the part of a template behind a `}`, and where it starts and ends.
+    Part(Kind, u32, u32),
 }
 
 /// Skips the piece of a gap that begins here, and tells whether there is one.
-fn skip(reader: &mut Reader<'_>) -> Result<bool, AllocError> {
-    let mut found = FindingsBuilder::new_in(reader.alloc);
+fn skip(reader: &mut Reader<'_>, found: &mut FindingsBuilder) -> Result<bool, AllocError> {
     match reader.source.peek_char() {
-        Some('/') => reader.skip_comment(&mut found),
-        Some('<') => reader.skip_html_open(&mut found),
-        Some('-') => reader.skip_html_close(&mut found),
+        Some('/') => reader.skip_comment(found),
+        Some('<') => reader.skip_html_open(found),
+        Some('-') => reader.skip_html_close(found),
         Some(c) => {
             if is_white_space(c) {
-                return reader.skip_white_space(&mut found, c);
+                return reader.skip_white_space(found, c);
             }
             if is_line_terminator(c) {
-                return reader.skip_line_terminator(&mut found, c);
+                return reader.skip_line_terminator(found, c);
             }
             Ok(false)
         }
@@ -96,113 +49,119 @@ fn skip(reader: &mut Reader<'_>) -> Result<bool, AllocError> {
     }
 }
 
-/// A text of a script, whether a piece of a gap begins it, and where the reader stands then.
-static PIECES: [(&str, bool, u32); 7] = [
-    ("// a\nb", true, 5),
-    ("/*a*/b", true, 5),
-    ("<!--a\nb", true, 6),
-    ("-->a\nb", true, 5),
-    ("\u{A0}b", true, 2),
-    ("\nb", true, 1),
-    ("<b", false, 0),
-];
-
-#[test]
-fn pieces_of_gaps(rt: HostRuntime) -> Result<(), Fail> {
-    for &(text, is_piece, end) in &PIECES {
-        let mut reader = reader_over(rt.alloc(), text, SourceType::Script);
-        assert_eq!(rt; skip(&mut reader)?, is_piece, "{text}");
-        assert_eq!(rt; reader.source.offset(), end, "{text}");
-    }
-    Ok(())
-}
-
-/// Skips a line comment up to the end of its line.
-fn skip_line(reader: &mut Reader<'_>) -> Result<bool, AllocError> {
-    let mut found = FindingsBuilder::new_in(reader.alloc);
-    reader.skip_opened_line(&mut found, CommentKind::Line)
-}
-
-#[test]
-fn a_line_comment(rt: HostRuntime) -> Result<(), Fail> {
-    let mut reader = reader_over(rt.alloc(), "//a\nb", SourceType::Module);
-    assert!(rt; skip_line(&mut reader)?);
-    assert_eq!(rt; reader.source.offset(), 3);
-    Ok(())
-}
-
-/// Reads a regular expression at the start of the text, if a `/` is next there.
-fn read_expression(reader: &mut Reader<'_>) -> Result<Option<RegexToken>, AllocError> {
-    let mut errors = DiagnosticList::new_in(reader.alloc);
+/// Where the regular expression at the start of the text ends, and its pattern. None: no `/` is next.
+fn ends_of_expression(
+    reader: &mut Reader<'_>,
+    errors: &mut DiagnosticList,
+) -> Result<Option<(u32, u32)>, AllocError> {
     let start = reader.source.offset();
     match reader.source.peek_char() {
-        Some('/') => Ok(Some(reader.read_expression(start, &mut errors)?)),
-        _ => Ok(None),
-    }
-}
-
-#[test]
-fn a_regular_expression(rt: HostRuntime) -> Result<(), Fail> {
-    let mut reader = reader_over(rt.alloc(), "/a/g;", SourceType::Module);
-    let found = read_expression(&mut reader)?.ok_or("no slash")?;
-    assert_eq!(rt; (found.token.end(), found.pattern_end), (4, 2));
-    Ok(())
-}
-
-/// Reads the next part of a template behind a `}`, if one is next.
-fn read_part(reader: &mut Reader<'_>) -> Result<Option<Token>, AllocError> {
-    let mut errors = DiagnosticList::new_in(reader.alloc);
-    let mut decoded = DecodedValues::new_in(reader.alloc);
-    let start = reader.source.offset();
-    match reader.source.next_char() {
-        Some('}') => {
-            let part = reader.read_next_part(start, &mut errors, &mut decoded)?;
-            Ok(Some(part))
+        Some('/') => {
+            let found = reader.read_expression(start, errors)?;
+            Ok(Some((found.token.end(), found.pattern_end)))
         }
         _ => Ok(None),
     }
 }
 
+/// Reads the part of a template behind a `}`, if one is next, and tells whether it is of the kind, and starts and ends
+/// there.
+fn is_part(
+    reader: &mut Reader<'_>,
+    errors: &mut DiagnosticList,
+    decoded: &mut DecodedValues,
+    kind: Kind,
+    start: u32,
+    end: u32,
+) -> Result<bool, AllocError> {
+    let offset = reader.source.offset();
+    match reader.source.next_char() {
+        Some('}') => is_read(
+            reader.read_next_part(offset, errors, decoded),
+            kind,
+            start,
+            end,
+        ),
+        _ => Ok(false),
+    }
+}
+
+/// Makes a call, and gives whether the reader tells what it is to tell.
+fn make_call(
+    reader: &mut Reader<'_>,
+    found: &mut FindingsBuilder,
+    errors: &mut DiagnosticList,
+    decoded: &mut DecodedValues,
+    call: Call,
+) -> Result<bool, AllocError> {
+    match call {
+        Call::Next(kind, start, end) => {
+            is_read(
+                reader.read_goal(Goal::Next, found, decoded),
+                kind,
+                start,
+                end,
+            )
+        }
+        Call::Child(kind, start, end) => is_read(reader.read_child(found), kind, start, end),
+        Call::Value(kind, start, end) => {
+            is_read(
+                reader.read_attribute_value(found, decoded),
+                kind,
+                start,
+                end,
+            )
+        }
+        Call::Here(kind, start, end) => {
+            reader.skip_whole_gap(found)?;
+            is_read(reader.read_here(errors, decoded), kind, start, end)
+        }
+        Call::Piece(is_piece, end) => {
+            Ok(skip(reader, found)? == is_piece && reader.source.offset() == end)
+        }
+        Call::Expression(end, pattern_end) => {
+            Ok(ends_of_expression(reader, errors)? == Some((end, pattern_end)))
+        }
+        Call::Part(kind, start, end) => is_part(reader, errors, decoded, kind, start, end),
+    }
+}
+
+/// Makes a call at the start of the text of a script, and gives whether the reader tells what it is to tell.
+fn play(alloc: Global, text: &str, call: Call) -> Result<bool, AllocError>
+    requires { length text.now < 2 ^ 32 }
+{
+    let mut reader = Reader {
+        source: Source::new(text),
+        source_type: SourceType::Script,
+        tables: ByteTables::new(),
+        line_has_ended: true,
+        alloc,
+    };
+    let mut found = FindingsBuilder::new_in(alloc);
+    let mut errors = DiagnosticList::new_in(alloc);
+    let mut decoded = DecodedValues::new_in(alloc);
+    make_call(&mut reader, &mut found, &mut errors, &mut decoded, call)
+}
+
+static CALLS: [(&str, Call); 12] = [
+    (" /*a*/ b", Call::Next(Kind::Ident, 7, 8)),
+    (" b<", Call::Child(Kind::JSXText, 0, 2)),
+    (" '\\n'", Call::Value(Kind::Str, 1, 5)),
+    (" // a\n b", Call::Here(Kind::Ident, 7, 8)),
+    ("// a\nb", Call::Piece(true, 5)),
+    ("/*a*/b", Call::Piece(true, 5)),
+    ("<!--a\nb", Call::Piece(true, 6)),
+    ("-->a\nb", Call::Piece(true, 5)),
+    ("\u{A0}b", Call::Piece(true, 2)),
+    ("<b", Call::Piece(false, 0)),
+    ("/a/g;", Call::Expression(4, 2)),
+    ("}\\n${", Call::Part(Kind::TemplateMiddle, 0, 5)),
+];
+
 #[test]
-fn a_part_of_a_template(rt: HostRuntime) -> Result<(), Fail> {
-    let mut reader = reader_over(rt.alloc(), "}\\n${", SourceType::Module);
-    let part = read_part(&mut reader)?.ok_or("no brace")?;
-    assert!(rt; part.kind().is_same(Kind::TemplateMiddle));
-    assert_eq!(rt; part.end(), 5);
-    Ok(())
-}
-
-/// Values that are kept of two tokens.
-fn values(alloc: Global) -> Result<DecodedValues, AllocError> {
-    let mut text = JSStrBuilder::new_in(alloc);
-    text.push('a')?;
-    let mut values = DecodedValues::new_in(alloc);
-    values.insert(3, text.into_js_str())?;
-    values.insert_template(5, None)?;
-    Ok(values)
-}
-
-#[test]
-fn values_are_kept(rt: HostRuntime) -> Result<(), Fail> {
-    let values = values(rt.alloc())?;
-    let text = values.get(3).ok_or("no value")?;
-    assert_eq!(rt; text.units(), [0x61].as_slice());
-    assert!(rt; values.get(5).is_none());
-    assert!(rt; values.get_template(5).is_some());
-    Ok(())
-}
-
-/// What was found since nothing was.
-fn nothing(alloc: Global) -> Result<Findings, AllocError> {
-    let found = FindingsBuilder::new_in(alloc);
-    let then = found.lengths();
-    found.since(alloc, &then)
-}
-
-#[test]
-fn nothing_was_found(rt: HostRuntime) -> Result<(), Fail> {
-    let found = nothing(rt.alloc())?;
-    assert!(rt; found.comments.is_empty());
-    assert!(rt; found.diagnostics.is_empty());
+fn calls(rt: HostRuntime) -> Result<(), Fail> {
+    for &(text, call) in &CALLS {
+        assert!(rt; play(rt.alloc(), text, call)?, "{text}");
+    }
     Ok(())
 }

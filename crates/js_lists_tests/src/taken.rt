@@ -3,13 +3,12 @@
 ghost use Rattle.std.specs.Prelude.{⊤};
 
 use js_auto::GoalChooser;
-use js_choose::ChoiceFault;
 use js_kind::Token;
 use js_lexer::Findings;
 use js_lists::{TakeTokens, TokenValue, read_chosen, read_steps};
 use js_session::{Command, LexFault, RegexInfo};
 use js_text::SourceType;
-use std::alloc::AllocError;
+use std::alloc::{AllocError, Global};
 
 /// Counts what it is handed, and has no memory behind so many tokens.
 #[derive(Drop)]
@@ -45,118 +44,96 @@ impl TakeTokens for Counter {
     }
 }
 
-fn counting_up_to(most: u32) -> Counter {
-    Counter {
-        tokens: 0,
-        most,
-        ends: 0,
+/// Reads a source by commands; where there are none, its goals are chosen.
+fn read(
+    alloc: Global,
+    source: &[u8],
+    commands: &[Command],
+    taker: &mut Counter,
+) -> Result<(), LexFault> {
+    let t = SourceType::Module;
+    if !commands.is_empty() {
+        return read_steps(alloc, source, t, commands, taker);
+    }
+    match read_chosen::<GoalChooser, Counter>(alloc, source, t, taker) {
+        Ok(()) => Ok(()),
+        Err(fault) => Err(fault.as_lex_fault()),
     }
 }
 
-const SOURCE: &[u8] = b"`a${x=/b/g}c`";
-
-#[test]
-fn each_token_once(rt: HostRuntime) {
-    let mut taker = counting_up_to(9);
-    let read = read_chosen::<GoalChooser, Counter>(
-        rt.alloc(),
-        SOURCE,
-        SourceType::Module,
-        &mut taker,
-    );
-    assert_eq!(rt; read, Ok(()));
-    assert_eq!(rt; (taker.tokens, taker.ends), (6, 1));
-}
-
-#[test]
-fn taker_without_memory(rt: HostRuntime) {
-    let mut taker = counting_up_to(4);
-    let read = read_chosen::<GoalChooser, Counter>(
-        rt.alloc(),
-        SOURCE,
-        SourceType::Module,
-        &mut taker,
-    );
-    assert_eq!(rt; read, Err(ChoiceFault::Memory));
-    assert_eq!(rt; (taker.tokens, taker.ends), (4, 0));
-}
-
-#[test]
-fn fault_before_anything(rt: HostRuntime) {
-    let mut taker = counting_up_to(9);
-    let commands = [Command::Next, Command::Commit];
-    let read = read_steps(
-        rt.alloc(),
+/// A source, the commands that it is read by, and how many tokens find memory; what comes of it, how many tokens are
+/// taken then, and how often the end.
+static READINGS: [(&[u8], &[Command], u32, Result<(), LexFault>, u32, u32); 6] = [
+    (b"`a${x=/b/g}c`", &[], 9, Ok(()), 6, 1),
+    (b"`a${x=/b/g}c`", &[], 4, Err(LexFault::Memory), 4, 0),
+    (
         b"a b",
-        SourceType::Module,
-        &commands,
-        &mut taker,
-    );
-    assert_eq!(rt; read, Err(LexFault::NoMark(1)));
-    assert_eq!(rt; (taker.tokens, taker.ends), (0, 0));
-}
-
-/// A mark is closed twice: the first time it was open.
-#[test]
-fn fault_behind_marks(rt: HostRuntime) {
-    let mut taker = counting_up_to(9);
-    let commands = [
-        Command::Next,
-        Command::Mark,
-        Command::Next,
-        Command::Commit,
-        Command::Rewind,
-    ];
-    let read = read_steps(
-        rt.alloc(),
-        b"a b c",
-        SourceType::Module,
-        &commands,
-        &mut taker,
-    );
-    assert_eq!(rt; read, Err(LexFault::NoMark(4)));
-    assert_eq!(rt; (taker.tokens, taker.ends), (0, 0));
-}
-
-/// What waits behind a mark finds no memory.
-#[test]
-fn steps_without_memory(rt: HostRuntime) {
-    let mut taker = counting_up_to(2);
-    let commands = [
-        Command::Mark,
-        Command::Next,
-        Command::Next,
-        Command::Commit,
-        Command::Next,
-    ];
-    let read = read_steps(
-        rt.alloc(),
-        b"a b c",
-        SourceType::Module,
-        &commands,
-        &mut taker,
-    );
-    assert_eq!(rt; read, Err(LexFault::Memory));
-    assert_eq!(rt; (taker.tokens, taker.ends), (2, 0));
-}
-
-#[test]
-fn steps_with_marks(rt: HostRuntime) {
-    let mut taker = counting_up_to(9);
-    let commands = [
-        Command::Mark,
-        Command::Next,
-        Command::Rewind,
-        Command::Peek,
-        Command::Next,
-    ];
-    let read = read_steps(
-        rt.alloc(),
+        &[
+            Command::Mark,
+            Command::Next,
+            Command::Rewind,
+            Command::Peek,
+            Command::Next,
+        ],
+        9,
+        Ok(()),
+        2,
+        1,
+    ),
+    // A fault comes before anything is taken.
+    (
         b"a b",
-        SourceType::Module,
-        &commands,
-        &mut taker,
-    );
-    assert_eq!(rt; read, Ok(()));
-    assert_eq!(rt; (taker.tokens, taker.ends), (2, 1));
+        &[Command::Next, Command::Commit],
+        9,
+        Err(LexFault::NoMark(1)),
+        0,
+        0,
+    ),
+    // A mark is closed twice: the first time it was open.
+    (
+        b"a b c",
+        &[
+            Command::Next,
+            Command::Mark,
+            Command::Next,
+            Command::Commit,
+            Command::Rewind,
+        ],
+        9,
+        Err(LexFault::NoMark(4)),
+        0,
+        0,
+    ),
+    // What waits behind a mark finds no memory.
+    (
+        b"a b c",
+        &[
+            Command::Mark,
+            Command::Next,
+            Command::Next,
+            Command::Commit,
+            Command::Next,
+        ],
+        2,
+        Err(LexFault::Memory),
+        2,
+        0,
+    ),
+];
+
+#[test]
+fn readings(rt: HostRuntime) {
+    for &(source, commands, most, wanted, tokens, ends) in &READINGS {
+        let mut taker = Counter {
+            tokens: 0,
+            most,
+            ends: 0,
+        };
+        let answer = read(rt.alloc(), source, commands, &mut taker);
+        assert_eq!(rt;
+            (answer, taker.tokens, taker.ends),
+            (wanted, tokens, ends),
+            "{source:?}"
+        );
+    }
 }

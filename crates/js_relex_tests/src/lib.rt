@@ -4,5 +4,3 @@
 
 #[cfg(test)]
 mod edits;
-#[cfg(test)]
-mod reports;

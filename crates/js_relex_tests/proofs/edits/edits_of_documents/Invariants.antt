@@ -1,0 +1,5 @@
+use Rattle.js_relex_tests.proofs.edits.edits_of_documents.Given as goal
+
+-- The ledger of the counter.
+abbrev pub ghosts-told : goal.ghosts-told
+ghosts-told g a = record { name = a.blank.name; parts = a.blank.parts }

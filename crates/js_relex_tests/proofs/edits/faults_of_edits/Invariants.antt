@@ -1,5 +1,0 @@
-use Rattle.js_relex_tests.proofs.edits.faults_of_edits.Given as goal
-
--- The ledger of the counter.
-abbrev pub ghosts-fault : goal.ghosts-fault
-ghosts-fault g a = record { name = a.blank.name; parts = a.blank.parts }

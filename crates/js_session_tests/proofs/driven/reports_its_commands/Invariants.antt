@@ -1,5 +1,0 @@
-use Rattle.js_session_tests.proofs.driven.reports_its_commands.Given as goal
-
--- The ledger of the counter.
-abbrev pub ghosts-report : goal.ghosts-report
-ghosts-report g a = record { name = a.blank.name; parts = a.blank.parts }
