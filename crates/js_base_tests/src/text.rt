@@ -97,9 +97,8 @@ static DIAGNOSTICS: [(Diagnostic, &str, Option<Span>, Option<char>); 13] = [
 #[test]
 fn diagnostics(rt: HostRuntime) {
     for &(diagnostic, name, place, character) in &DIAGNOSTICS {
-        assert_eq!(rt; diagnostic.name(), name);
-        assert_eq!(rt; diagnostic.span(), place, "{name}");
-        assert_eq!(rt; diagnostic.character(), character, "{name}");
+        let told = (diagnostic.name(), diagnostic.span(), diagnostic.character());
+        assert_eq!(rt; told, (name, place, character));
     }
 }
 

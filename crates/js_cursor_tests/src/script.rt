@@ -16,7 +16,6 @@ use std::alloc::{AllocError, Global};
 pub(crate) type TestCursor<'a> = Cursor<'a, RuntimeLexerConfig>;
 
 /// What is done with a cursor, or asked of it, and what it is to tell.
-#[derive(Clone, Copy)]
 pub(crate) enum Step {
     Advance(Kind),
     BumpAny,
@@ -64,8 +63,8 @@ fn done(taken: Result<(), AllocError>) -> Result<bool, AllocError> {
 }
 
 /// Takes a step, and gives whether the cursor tells what it is to tell.
-fn take_step(cursor: &mut TestCursor<'_>, alloc: Global, step: Step) -> Result<bool, AllocError> {
-    match step {
+fn take_step(cursor: &mut TestCursor<'_>, alloc: Global, step: &Step) -> Result<bool, AllocError> {
+    match *step {
         Step::Advance(kind) => done(cursor.advance(kind)),
         Step::BumpAny => done(cursor.bump_any()),
         Step::Bump(kind) => done(cursor.bump(kind)),
@@ -114,7 +113,7 @@ fn take_steps(
 ) -> Result<usize, AllocError> {
     let mut count = 0usize;
     for step in steps {
-        if !take_step(cursor, alloc, *step)? {
+        if !take_step(cursor, alloc, step)? {
             return Ok(count);
         }
         count = count.saturating_add(1);

@@ -8,7 +8,6 @@ use std::alloc::Global;
 use std::test::Fail;
 
 /// What is asked for of a source.
-#[derive(Debug)]
 enum Asked {
     Told(Syntax, Command),
     Written(Rewriting),
@@ -287,9 +286,9 @@ fn answers(
 
 #[test]
 fn told_and_written(rt: HostRuntime) -> Result<(), Fail> {
-    for (asked, source, text, is_faulty) in &ROWS {
+    for (row, (asked, source, text, is_faulty)) in ROWS.iter().enumerate() {
         let answer = answers(rt.alloc(), asked, source.as_bytes(), text)?;
-        assert_eq!(rt; answer, (true, *is_faulty), "{asked:?} {source:?}");
+        assert_eq!(rt; answer, (true, *is_faulty), "row {row}: {source:?}");
     }
     Ok(())
 }
