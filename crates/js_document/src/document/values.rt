@@ -72,7 +72,8 @@ impl<K: KeepGoals> Document<K> {
         // There is one for each live token.
         ensures tokens { map (λ x. x.token) (live_taken self.now.commands self.now.report.rows)
             ≡ self.now.report.tokens }
-        ensures slices { AllByRecursion (IsSliceOnPlaces self.now.text) result }
+        ensures slices { AllByRecursion (IsSliceOnPlaces self.now.text)
+            (live_values self.now.commands self.now.report.rows) }
     {
         Values::new(&self.entries, self.entries.row_of_token(index))
     }

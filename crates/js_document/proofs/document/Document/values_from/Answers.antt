@@ -1,16 +1,14 @@
 use Rattle.std.proofs.Common.{◌≡◌, ◌∙◌, ap, drop, map, subst, sym}
 use Rattle.std.specs.List.{AllByRecursion}
 use Rattle.js_session.specs.Report.{IsSliceOnPlaces}
-use Rattle.js_session.specs.declared.row.Row.{Row}
 use Rattle.js_session.proofs.RunLemmas.{rows_slices}
 use Rattle.js_lists.specs.LiveLists.{live_taken}
 use Rattle.js_lists.specs.Taken.{Taken}
 use Rattle.js_document.specs.Documents.{DocState, commands_of}
 use Rattle.js_document.specs.Gap.{entries_of, rows_of}
-use Rattle.js_document.specs.Values.{live_values, values_in}
+use Rattle.js_document.specs.Values.{live_values}
 use Rattle.js_document.proofs.HeldLemmas.{held_rows}
-use Rattle.js_document.proofs.ListLemmas.{all_dropped}
-use Rattle.js_document.proofs.LiveValues.{slices_in, taken_tokens}
+use Rattle.js_document.proofs.LiveValues.{slices_in, taken_tokens, values_are}
 use Rattle.js_document.proofs.TokensFrom.{values_from}
 use Rattle.js_document.proofs.document.Document.values_from.Goals as goal
 
@@ -41,12 +39,13 @@ returns-clause-tokens g c =
 
 pub returns-clause-slices : goal.returns-clause-slices
 returns-clause-slices g c =
+    let rule = g.K.KeepGoals.choice in
+    let law = g.met.K.KeepGoals.is_rule in
     let text = c.self.inside.text in
     let t = c.self.inside.source_type in
     let rows = rows_of (entries_of c.self.inside.entries) in
-    let row = c.row_of_token.result in
-    let slices = slices_in text (drop row rows)
-    (all_dropped (λ (r : Row). IsSliceOnPlaces text r.value) row rows
-    (rows_slices text t (commands_of rows) rows c.self.invariant.report_is.report_is.rows)) in
-    subst (AllByRecursion (IsSliceOnPlaces c.args.self.now.text)) (sym c.new.ensures)
-    (subst (λ (d : DocState). AllByRecursion (IsSliceOnPlaces d.text) (values_in (drop row rows))) c.self.view_is slices)
+    let report = c.self.invariant.report_is.report_is in
+    let held = held_rows rule law text t rows c.self.invariant.report_is in
+    let slices = slices_in text rows (rows_slices text t (commands_of rows) rows report.rows) in
+    subst (λ (d : DocState). AllByRecursion (IsSliceOnPlaces d.text) (live_values d.commands d.report.rows)) c.self.view_is
+    (subst (AllByRecursion (IsSliceOnPlaces text)) (sym (values_are rule law text t rows report.utf8 held)) slices)
