@@ -8,7 +8,6 @@ A run ends well with status 1, its line on standard error and a beginning of its
 Any other end is told, and then the status is 1. Programs are built by `rt run` in their folders, or by `rt ci`.
 """
 
-import ast
 import os
 import pathlib
 import re
@@ -16,6 +15,7 @@ import struct
 import subprocess
 import sys
 import tempfile
+from urllib.parse import unquote
 
 TOP = pathlib.Path(__file__).resolve().parent.parent
 CRATES = TOP / "crates"
@@ -55,10 +55,9 @@ int posix_memalign(void **p, size_t a, size_t n) {
 
 
 def realistic_file():
-    """The file of 27 lines that the tests of the program read."""
-    source = (CRATES / "js_lex_tool_tests/src/run.rt").read_text()
-    lines = re.search(r"const CART: &str = concat!\((.*?)\n\);", source, re.DOTALL)[1]
-    return "".join(ast.literal_eval(line) for line in re.findall(r'^ *(".*"),$', lines, re.MULTILINE))
+    """The file of 27 lines among the runs of js_lex_runs."""
+    runs = (CRATES / "js_lex_runs/stdin").read_text()
+    return unquote(re.search(r"^module no-tokens all < (// Cart.*)$", runs, re.MULTILINE)[1])
 
 
 RUNS = {
