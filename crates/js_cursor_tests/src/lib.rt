@@ -1,5 +1,5 @@
-//! Tests of js_cursor, by its public calls. They stand in a crate of their own, since a crate's functions are proved
-//! again with its tests.
+//! Tests of js_cursor, and of js_parse_tool above it, by their public calls. They stand in a crate of their own, since a
+//! crate's functions are proved again with its tests.
 #![tactic(auto)]
 
 #[cfg(test)]
@@ -12,6 +12,8 @@ mod first;
 mod lists;
 #[cfg(test)]
 mod loops;
+#[cfg(test)]
+mod printed;
 #[cfg(test)]
 mod script;
 #[cfg(test)]

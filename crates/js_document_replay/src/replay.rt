@@ -98,7 +98,7 @@ fn is_made<K: LexAnew, L: Ledger>(
     }
 }
 
-/// Makes the edit with this number, and tells what is wrong then.
+/// Makes the edit with this number, and tells what it changed, and what is wrong then.
 fn make<K: LexAnew, L: Ledger>(
     alloc: Global,
     document: &mut Document<K>,
@@ -122,7 +122,7 @@ fn make<K: LexAnew, L: Ledger>(
         if !is_change(&change, edit, old.as_slice(), new.as_slice()) {
             told.add(number, "another change")?;
         }
-        told.count_rows(change.read_rows);
+        told.add_change(number, &change)?;
     }
     Ok(())
 }

@@ -1,10 +1,11 @@
 //! What is told of the cases of an input.
 
+use js_document::{Change, ChangedRange};
 use std::alloc::{AllocError, Global};
 use std::fmt::Write;
 
-/// What is told of cases: a line for each thing that is wrong, and one of how much was done. Cases, and the edits of
-/// each, are counted from 0.
+/// What is told of cases: a line for each change and for each thing that is wrong, and one of how much was done. Cases,
+/// and the edits of each, are counted from 0.
 #[derive(Drop)]
 pub struct Told {
     text: String,
@@ -41,9 +42,28 @@ impl Told {
         self.case = case;
     }
 
-    /// An edit read so many rows.
-    pub fn count_rows(&mut self, rows: usize) {
-        self.rows = self.rows.saturating_add(rows as u64);
+    /// Tells which items of a list went, and which came.
+    fn add_range(&mut self, list: &str, range: &ChangedRange) -> Result<(), AllocError> {
+        let (start, old_end, new_end) = (range.start, range.old_end, range.new_end);
+        write!(
+            self.text,
+            ", {list} {start}..{old_end} to {start}..{new_end}"
+        )
+    }
+
+    /// Tells what the edit with this number changed.
+    pub fn add_change(&mut self, edit: u32, change: &Change) -> Result<(), AllocError> {
+        let case = self.case;
+        let (kept, read) = (change.kept_rows, change.read_rows);
+        self.rows = self.rows.saturating_add(read as u64);
+        write!(
+            self.text,
+            "case {case}, edit {edit}: kept {kept}, read {read}"
+        )?;
+        self.add_range("tokens", &change.tokens)?;
+        self.add_range("comments", &change.comments)?;
+        self.add_range("diagnostics", &change.diagnostics)?;
+        self.text.push_str("\n")
     }
 
     /// Tells what is wrong of the case.

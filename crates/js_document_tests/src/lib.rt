@@ -1,14 +1,12 @@
-//! Tests of js_document, by its public calls. They stand in a crate of their own, since a crate's functions are proved
-//! again with its tests.
+//! Tests of js_relex and js_document, by their public calls: what the stored run of `js_document_replay` can't tell.
+//! They stand in a crate of their own, since a crate's functions are proved again with its tests.
 #![tactic(auto)]
 
 #[cfg(test)]
-mod edits;
-#[cfg(test)]
-mod found;
+mod faults;
 #[cfg(test)]
 mod items;
 #[cfg(test)]
-mod jsx;
+mod relexed;
 #[cfg(test)]
 mod values;

@@ -1,8 +1,12 @@
 //! The lines for the statuses, as they are displayed and as the program writes them.
 
 use crate::run::strings_of;
+use js_lex_tool::programs::{
+    BENCH, BENCH_USAGE, EDIT, EDIT_USAGE, PARSE_EXAMPLE, PARSE_EXAMPLE_USAGE,
+};
 use js_lex_tool::{
-    MemoryOut, SureIn, SureOut, end_lex, lex_program, status_line, words_behind_name,
+    MemoryOut, StatusLine, SureIn, SureOut, end_lex, lex_program, line_for, status_line,
+    words_behind_name,
 };
 use std::alloc::{AllocError, Global};
 use std::process::ExitCode;
@@ -40,9 +44,9 @@ fn ends(alloc: Global, status: u8, failing: &[u64], text: &str) -> (bool, u64, E
     (errors.written() == text.as_bytes(), errors.faults(), code)
 }
 
-/// The line for a status, as it is displayed, with its line end; nothing, where there is none.
-fn line_of(alloc: Global, status: u8) -> Result<String, AllocError> {
-    match status_line(status) {
+/// A line as it is displayed, with its line end; nothing, where there is none.
+fn displayed(alloc: Global, line: Option<StatusLine>) -> Result<String, AllocError> {
+    match line {
         Some(line) => format!(in alloc; "{line}\n"),
         None => Ok(String::new(alloc)),
     }
@@ -53,8 +57,40 @@ fn lines(rt: HostRuntime) -> Result<(), Fail> {
     for &(status, failing, text, faults) in &ENDS {
         let told = ends(rt.alloc(), status, failing, text);
         assert_eq!(rt; told, (true, faults, ExitCode::from(status)), "{status}");
-        let line = line_of(rt.alloc(), status)?;
+        let line = displayed(rt.alloc(), status_line(status))?;
         assert!(rt; !failing.is_empty() || line.as_str() == text, "{status}");
+    }
+    Ok(())
+}
+
+/// The programs beside `js_lex`: the name and the usage of each, and the line that it prints where its arguments are not
+/// valid.
+static USAGES: [(&str, &str, &str); 3] = [
+    (
+        EDIT,
+        EDIT_USAGE,
+        concat!(
+            "js_edit: usage: js_edit module|script|unambiguous START END TEXT COMMAND[*N]..",
+            " [-- COMMAND[*N]..]\n",
+        ),
+    ),
+    (
+        BENCH,
+        BENCH_USAGE,
+        "js_bench: usage: js_bench module|script|unambiguous tokens|no-tokens|lists N [jsx]\n",
+    ),
+    (
+        PARSE_EXAMPLE,
+        PARSE_EXAMPLE_USAGE,
+        "js_parse_example: usage: js_parse_example\n",
+    ),
+];
+
+#[test]
+fn usage_lines(rt: HostRuntime) -> Result<(), Fail> {
+    for &(program, usage, text) in &USAGES {
+        let line = displayed(rt.alloc(), line_for(program, usage, 2))?;
+        assert_eq!(rt; line.as_str(), text);
     }
     Ok(())
 }

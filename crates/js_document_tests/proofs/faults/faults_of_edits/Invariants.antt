@@ -1,4 +1,4 @@
-use Rattle.js_document_tests.proofs.edits.faults_of_edits.Given as goal
+use Rattle.js_document_tests.proofs.faults.faults_of_edits.Given as goal
 
 -- The ledger of the counter.
 abbrev pub ghosts-fault : goal.ghosts-fault

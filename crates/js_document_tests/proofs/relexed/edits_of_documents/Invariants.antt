@@ -1,4 +1,4 @@
-use Rattle.js_relex_tests.proofs.edits.edits_of_documents.Given as goal
+use Rattle.js_document_tests.proofs.relexed.edits_of_documents.Given as goal
 
 -- The ledger of the counter.
 abbrev pub ghosts-told : goal.ghosts-told
