@@ -1,5 +1,5 @@
 -- A document with the lines of its text.
-use Rattle.std.specs.Prelude.{◌≡◌, ℕ, List, Option, IfSome}
+use Rattle.std.specs.Prelude.{◌≡◌, ℕ, Bool, false, List, Option, IfSome}
 use Rattle.js_lines.specs.declared.line_ends.LineEnds.{LineEnds}
 use Rattle.js_edited_lines.specs.Edited.{AreLinesOf, KeptLines}
 use Rattle.js_relex.specs.Documents.{IsEdit, edited}
@@ -7,12 +7,17 @@ use Rattle.js_document.specs.Documents.{DocState, Edits}
 use Rattle.js_document_c.specs.Chosen.{alike_of, choice_of}
 use Rattle.js_document_c.specs.declared.chosen.Goals.{Goals}
 
--- How contracts see a document with its lines: the document, the rule that chooses its goals, and what ends a line of
--- its text.
+-- How contracts see a document with its lines: the document, the rule that chooses its goals, what ends a line of its
+-- text, and whether its lines are kept.
 pub record HeldState : Type 0 where
   pub document : DocState
   pub goals : Goals
   pub ends : LineEnds
+  pub keeps : Bool
+
+-- the same, with no lines that are kept
+abbrev pub without_lines : HeldState → HeldState
+without_lines held = record held { keeps = false }
 
 -- They are the lines of the text, which these end.
 pub record AreLinesBy (text : List ℕ) (ends : LineEnds) (lines : KeptLines) : Type 0 where

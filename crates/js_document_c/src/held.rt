@@ -1,12 +1,13 @@
 //! A document with the lines of its text.
 
-ghost use Rattle.std.specs.Prelude.{◌≡◌, ◌<◌, ◌^◌, ◌⊎◌, length, Err, IfErr, IfOk, IfSome, IsOk, OnErr, OnOk};
+ghost use Rattle.std.specs.Prelude.{◌≡◌, ◌<◌, ◌^◌, ◌⊎◌, true, false, is_some, length, Err, IfErr, IfOk, IfSome, IsOk};
+ghost use Rattle.std.specs.Prelude.{OnErr, OnOk};
 ghost use Rattle.js_lines.specs.Lines.{offset_of, position_of};
 ghost use Rattle.js_relex.specs.Documents.{IsEdit, edited};
 ghost use Rattle.js_document.specs.Documents.{EditCause, IsDocumentOf, TextCause, change_of_new};
 ghost use Rattle.js_document.specs.declared.fault.DocumentFault.{DocumentFault};
 ghost use Rattle.js_document_c.specs.Chosen.{choice_of, document_in, goals_in};
-ghost use Rattle.js_document_c.specs.Held.{AreLinesBy, IsEdited, KeepsLines, MayFollow};
+ghost use Rattle.js_document_c.specs.Held.{AreLinesBy, IsEdited, KeepsLines, MayFollow, without_lines};
 
 use crate::chosen::{ChosenDocument, Goals};
 use js_document::{DocumentFault, Edit};
@@ -29,12 +30,18 @@ pub struct HeldDocument {
 }
 
 impl Model for HeldDocument {
+    ghost use Rattle.std.specs.Prelude.{is_some};
     ghost use Rattle.js_document_c.specs.Chosen.{document_in, goals_in};
     ghost use Rattle.js_document_c.specs.Held.{HeldState, KeepsLines};
 
     ghost Value = { HeldState };
 
-    ghost view = { λ h. record { document = document_in h.document; goals = goals_in h.document; ends = h.ends } };
+    ghost view = { λ h. record {
+      document = document_in h.document;
+      goals = goals_in h.document;
+      ends = h.ends;
+      keeps = is_some h.lines;
+    } };
 
     ghost invariant = { λ h. KeepsLines (document_in h.document).text h.ends h.lines };
 }
@@ -57,7 +64,8 @@ fn lines_of(
     ends: LineEnds,
 ) -> Result<EditedLines, AllocError>
     requires { KeepsLines text.now ends lines }
-    ensures { IfOk result (AreLinesBy text.now ends) }
+    ensures lines { IfOk result (AreLinesBy text.now ends) }
+    ensures kept { is_some lines ≡ true → IsOk result }
 {
     match lines {
         Some(lines) => Ok(lines),
@@ -103,6 +111,7 @@ impl HeldDocument {
         ensures goals { IfOk result (λ h. h.goals ≡ goals) }
         ensures change { IfOk result (λ h. h.document.change ≡ change_of_new h.document.report) }
         ensures ends { IfOk result (λ h. h.ends ≡ ends) }
+        ensures lines { IfOk result (λ h. h.keeps ≡ false) }
         // Each fault comes for its cause alone, and where its cause is there, nothing but a lack of memory comes in its
         // place.
         ensures cause { IfErr result (λ fault. (fault ≡ DocumentFault.Memory) ⊎ TextCause text.now fault) }
@@ -189,7 +198,8 @@ impl HeldDocument {
     /// Takes the lines of the text out, to be read: `keep_lines` puts them back. The first call looks for them.
     pub fn take_lines(&mut self, alloc: Global) -> Result<EditedLines, AllocError>
         ensures lines { IfOk result (AreLinesBy self.old.document.text self.old.ends) }
-        ensures same { self.new ≡ self.old }
+        ensures kept { self.old.keeps ≡ true → IsOk result }
+        ensures same { self.new ≡ without_lines self.old }
     {
         let kept = self.lines.take();
         lines_of(alloc, kept, self.document.text(), self.ends)
@@ -198,7 +208,7 @@ impl HeldDocument {
     /// Keeps the lines of the text, so that the next call that asks for them need not look for them.
     pub fn keep_lines(&mut self, lines: EditedLines)
         requires { AreLinesBy self.old.document.text self.old.ends lines }
-        ensures { self.new ≡ self.old }
+        ensures { self.new ≡ record self.old { keeps = true } }
     {
         self.lines = Some(lines);
     }
@@ -213,7 +223,8 @@ impl HeldDocument {
     ) -> Result<Position, AllocError>
         ensures position { IfOk result
             (λ p. p ≡ position_of self.old.ends unit self.old.document.text offset) }
-        ensures same { self.new ≡ self.old }
+        ensures same { without_lines self.new ≡ without_lines self.old }
+        ensures kept { OnOk result (self.new.keeps ≡ true) }
     {
         let lines = self.take_lines(alloc)?;
         let position = lines.position(self.document.text(), offset, unit);
@@ -231,7 +242,8 @@ impl HeldDocument {
     ) -> Result<Option<u32>, AllocError>
         ensures offset { IfOk result (λ found. found
             ≡ offset_of (record { text = self.old.document.text; ends = self.old.ends }) unit position) }
-        ensures same { self.new ≡ self.old }
+        ensures same { without_lines self.new ≡ without_lines self.old }
+        ensures kept { OnOk result (self.new.keeps ≡ true) }
     {
         let lines = self.take_lines(alloc)?;
         let offset = lines.offset(self.document.text(), position, unit);

@@ -2,11 +2,10 @@
 
 ghost use Rattle.std.specs.Prelude.{◌≡◌, ◌<◌};
 
+use crate::values::held;
 use js_document::Edit;
 use js_document_c::{Goals, HeldDocument, JsDocument};
-use js_lines::{ColumnUnit, LineEnds, Position};
-use js_session::Steps;
-use js_text::SourceType;
+use js_lines::{ColumnUnit, Position};
 use std::alloc::Global;
 use std::marker::Brand;
 use std::sync::ledger::{Blank, Ledger};
@@ -125,23 +124,31 @@ fn is_told(alloc: Global, held: &mut HeldDocument, step: &Step) -> bool {
     leads_back(alloc, held, step)
 }
 
-/// The first step that is told otherwise, of a document that is put into a handle and taken out for each.
-fn first_wrong<L: Ledger>(alloc: Global, blank: Blank) -> Option<usize>
+/// The document of the text in a handle.
+fn handle<L: Ledger>(alloc: Global, blank: Blank) -> Option<JsDocument>
     requires name { blank.name ≡ L.name }
     requires parts { blank.parts ≡ L.parts }
     requires some_part { 0 < L.parts }
 {
-    let mut steps = Steps::<L>::new(blank);
-    let ends = LineEnds::LanguageServer;
-    let goals = Goals::Auto;
-    let held = HeldDocument::new(alloc, TEXT, SourceType::Module, goals, ends, &mut steps).ok()?;
+    let held = held::<L>(alloc, TEXT, Goals::Auto, blank)?;
+    let boxed = Box::new(alloc, held).ok()?;
     let mut handle = JsDocument::none(alloc);
-    handle.put(Box::new(alloc, held).ok()?);
+    handle.put(boxed);
+    Some(handle)
+}
+
+/// The same of a document that is taken out of its handle and put back. None: it has none.
+fn is_told_in(alloc: Global, handle: &mut JsDocument, step: &Step) -> Option<bool> {
+    let mut held = handle.take(alloc)?;
+    let is_told = is_told(alloc, &mut held, step);
+    handle.put(held);
+    Some(is_told)
+}
+
+/// The first step that is told otherwise, or how many there are.
+fn first_wrong(alloc: Global, handle: &mut JsDocument) -> Option<usize> {
     for (index, step) in STEPS.iter().enumerate() {
-        let mut held = handle.take(alloc)?;
-        let is_told = is_told(alloc, &mut held, step);
-        handle.put(held);
-        if !is_told {
+        if !is_told_in(alloc, handle, step)? {
             return Some(index);
         }
     }
@@ -150,6 +157,7 @@ fn first_wrong<L: Ledger>(alloc: Global, blank: Blank) -> Option<usize>
 
 #[test]
 fn lines_behind_edits(rt: HostRuntime) -> Result<(), Fail> {
-    assert_eq!(rt; first_wrong::<Brand>(rt.alloc(), Blank::new(1)), Some(5));
+    let mut handle = handle::<Brand>(rt.alloc(), Blank::new(1)).ok_or("no document")?;
+    assert_eq!(rt; first_wrong(rt.alloc(), &mut handle), Some(5));
     Ok(())
 }

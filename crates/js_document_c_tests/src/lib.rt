@@ -3,6 +3,6 @@
 #![tactic(auto)]
 
 #[cfg(test)]
-mod chosen;
-#[cfg(test)]
 mod held;
+#[cfg(test)]
+mod values;

@@ -1,17 +1,10 @@
 //! What documents have: their tokens, the one at an offset, and what their rows found.
 
-ghost use Rattle.std.specs.Prelude.{◌≡◌, ◌<◌};
-
+use crate::edits::{Edits, make_edits};
 use js_document::{AutoState, Document, Edit, Found, FoundList};
-use js_session::Steps;
-use js_text::SourceType;
-use std::alloc::Global;
 use std::marker::Brand;
-use std::sync::ledger::{Blank, Ledger};
+use std::sync::ledger::Blank;
 use std::test::Fail;
-
-/// A regular expression, comments, an irregular space, an HTML-like comment, and a string that has no end.
-static TEXT: &str = "a = /b\u{E9}/ // c\n/* d */ + e\u{3000}\n<!-- h\n's";
 
 /// An offset, and where the token that is there starts and ends.
 static PLACES: [(u32, Option<(u32, u32)>); 11] = [
@@ -28,22 +21,16 @@ static PLACES: [(u32, Option<(u32, u32)>); 11] = [
     (39, None),
 ];
 
-/// The document of a text behind an edit of nothing between its comments, so that its places stand on either side of it.
-fn parted<L: Ledger>(alloc: Global, blank: Blank) -> Option<Document<AutoState>>
-    requires name { blank.name ≡ L.name }
-    requires parts { blank.parts ≡ L.parts }
-    requires some_part { 0 < L.parts }
-{
-    let mut steps = Steps::<L>::new(blank);
-    let mut document = Document::new(alloc, TEXT, SourceType::Unambiguous, &mut steps).ok()?;
-    let edit = Edit {
+/// A regular expression, comments, an irregular space, an HTML-like comment, and a string that has no end. Nothing is put
+/// in between the comments, so that places stand on either side of an edit.
+static PARTED: Edits<'static> = Edits {
+    text: "a = /b\u{E9}/ // c\n/* d */ + e\u{3000}\n<!-- h\n's",
+    edits: &[Edit {
         start: 15,
         end: 15,
         text: "",
-    };
-    document.edit(alloc, &edit, &mut steps).ok()?;
-    Some(document)
-}
+    }],
+};
 
 /// Where the token that is at the offset starts and ends.
 fn place_at(document: &Document<AutoState>, offset: u32) -> Option<(u32, u32)> {
@@ -69,7 +56,9 @@ fn place_from(document: &Document<AutoState>, index: usize) -> Option<(u32, u32)
 
 #[test]
 fn tokens_by_halves(rt: HostRuntime) -> Result<(), Fail> {
-    let document = parted::<Brand>(rt.alloc(), Blank::new(1)).ok_or("no document")?;
+    let (document, _) = make_edits::<Brand>(rt.alloc(), &PARTED, Blank::new(1)).ok_or(
+        "no document",
+    )?;
     for &(offset, wanted) in &PLACES {
         assert_eq!(rt; place_at(&document, offset), wanted);
     }
@@ -111,7 +100,9 @@ fn counts(document: &Document<AutoState>) -> [u32; 6] {
 
 #[test]
 fn items_of_documents(rt: HostRuntime) -> Result<(), Fail> {
-    let document = parted::<Brand>(rt.alloc(), Blank::new(1)).ok_or("no document")?;
+    let (document, _) = make_edits::<Brand>(rt.alloc(), &PARTED, Blank::new(1)).ok_or(
+        "no document",
+    )?;
     assert_eq!(rt; counts(&document), [7, 3, 1, 1, 1, 0]);
     Ok(())
 }

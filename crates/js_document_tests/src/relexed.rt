@@ -2,26 +2,35 @@
 
 ghost use Rattle.std.specs.Prelude.{◌≡◌, ◌<◌};
 
-use js_relex::{Edit, LexDoc};
-use js_session::{Command, Steps};
+use js_kind::{Kind, Token};
+use js_relex::{Edit, LexDoc, NotRelexed, RelexFault};
+use js_session::{Command, Row, Steps};
 use js_text::SourceType;
-use std::alloc::{AllocError, Global};
-use std::fmt::Write;
+use std::alloc::Global;
 use std::marker::Brand;
 use std::sync::ledger::{Blank, Ledger};
 use std::test::Fail;
 
 const N: Command = Command::Next;
 
+/// A kind, where the token starts and ends, and whether a line ends before it.
+type Place = (Kind, u32, u32, bool);
+
+/// What is told of a document that is edited.
+enum Told {
+    /// How many rows were kept, which row joined the old ones, and the tokens of all rows.
+    Rows(usize, Option<usize>, &'static [Place]),
+    /// Why there is no other, and how many bytes the text has of the document that comes back.
+    Fault(RelexFault, usize),
+}
+
 /// A text with commands, an edit, the commands for the new text, and what is told of it.
 struct Case {
     text: &'static str,
     old: &'static [Command],
-    start: u32,
-    end: u32,
-    new: &'static str,
+    edit: Edit<'static>,
     commands: &'static [Command],
-    told: &'static str,
+    told: Told,
 }
 
 static CASES: [Case; 12] = [
@@ -29,175 +38,269 @@ static CASES: [Case; 12] = [
     Case {
         text: "ab cd ef",
         old: &[N, N, N],
-        start: 6,
-        end: 7,
-        new: "x",
+        edit: Edit {
+            start: 6,
+            end: 7,
+            text: "x",
+        },
         commands: &[N, N, N],
-        told: "kept 1;joined 3;Ident 0..2 n;Ident 3..5;Ident 6..8;Eof 8..8;",
+        told: Told::Rows(
+            1,
+            Some(3),
+            &[
+                (Kind::Ident, 0, 2, true),
+                (Kind::Ident, 3, 5, false),
+                (Kind::Ident, 6, 8, false),
+                (Kind::Eof, 8, 8, false),
+            ],
+        ),
     },
     Case {
         text: "foo(a, b);\nbar(c);",
         old: &[N, N, N, N, N, N, N, N, N, N, N, N],
-        start: 7,
-        end: 8,
-        new: "bb",
+        edit: Edit {
+            start: 7,
+            end: 8,
+            text: "bb",
+        },
         commands: &[N, N, N, N, N, N, N, N, N, N, N, N],
-        told: "kept 1;joined 5;Ident 0..3 n;LParen 3..4;Ident 4..5;Comma 5..6;Ident 7..9;RParen 9..10;\
-            Semicolon 10..11;Ident 12..15 n;LParen 15..16;Ident 16..17;RParen 17..18;Semicolon 18..19;Eof 19..19;",
+        told: Told::Rows(
+            1,
+            Some(5),
+            &[
+                (Kind::Ident, 0, 3, true),
+                (Kind::LParen, 3, 4, false),
+                (Kind::Ident, 4, 5, false),
+                (Kind::Comma, 5, 6, false),
+                (Kind::Ident, 7, 9, false),
+                (Kind::RParen, 9, 10, false),
+                (Kind::Semicolon, 10, 11, false),
+                (Kind::Ident, 12, 15, true),
+                (Kind::LParen, 15, 16, false),
+                (Kind::Ident, 16, 17, false),
+                (Kind::RParen, 17, 18, false),
+                (Kind::Semicolon, 18, 19, false),
+                (Kind::Eof, 19, 19, false),
+            ],
+        ),
     },
     // The token behind a new line end has another flag, and joins nothing.
     Case {
         text: "a b c",
         old: &[N, N, N],
-        start: 1,
-        end: 2,
-        new: "\n",
+        edit: Edit {
+            start: 1,
+            end: 2,
+            text: "\n",
+        },
         commands: &[N, N, N],
-        told: "kept 0;joined 2;Ident 0..1 n;Ident 2..3 n;Ident 4..5;Eof 5..5;",
+        told: Told::Rows(
+            0,
+            Some(2),
+            &[
+                (Kind::Ident, 0, 1, true),
+                (Kind::Ident, 2, 3, true),
+                (Kind::Ident, 4, 5, false),
+                (Kind::Eof, 5, 5, false),
+            ],
+        ),
     },
     // Nothing is kept where the edit is at the start.
     Case {
         text: "a b",
         old: &[N, N],
-        start: 0,
-        end: 0,
-        new: "c ",
+        edit: Edit {
+            start: 0,
+            end: 0,
+            text: "c ",
+        },
         commands: &[N, N, N],
-        told: "kept 0;joined 2;Ident 0..1 n;Ident 2..3;Ident 4..5;Eof 5..5;",
+        told: Told::Rows(
+            0,
+            Some(2),
+            &[
+                (Kind::Ident, 0, 1, true),
+                (Kind::Ident, 2, 3, false),
+                (Kind::Ident, 4, 5, false),
+                (Kind::Eof, 5, 5, false),
+            ],
+        ),
     },
     // A comment that is opened takes in what stands behind it.
     Case {
         text: "a b c d e",
         old: &[N, N, N, N, N],
-        start: 6,
-        end: 6,
-        new: "/*",
+        edit: Edit {
+            start: 6,
+            end: 6,
+            text: "/*",
+        },
         commands: &[N, N, N, N, N],
-        told: "kept 1;joined 5;Ident 0..1 n;Ident 2..3;Ident 4..5;Eof 6..11;Eof 11..11;Eof 11..11;",
+        told: Told::Rows(
+            1,
+            Some(5),
+            &[
+                (Kind::Ident, 0, 1, true),
+                (Kind::Ident, 2, 3, false),
+                (Kind::Ident, 4, 5, false),
+                (Kind::Eof, 6, 11, false),
+                (Kind::Eof, 11, 11, false),
+                (Kind::Eof, 11, 11, false),
+            ],
+        ),
     },
     // Fewer commands than rows that might stay.
     Case {
         text: "a b c d e f g",
         old: &[N, N, N, N, N, N, N],
-        start: 13,
-        end: 13,
-        new: "h",
+        edit: Edit {
+            start: 13,
+            end: 13,
+            text: "h",
+        },
         commands: &[N, N],
-        told: "kept 3;joined none;Ident 0..1 n;Ident 2..3;Ident 4..5;",
+        told: Told::Rows(
+            3,
+            None,
+            &[
+                (Kind::Ident, 0, 1, true),
+                (Kind::Ident, 2, 3, false),
+                (Kind::Ident, 4, 5, false),
+            ],
+        ),
     },
     // An edit of everything, and one of nothing.
     Case {
         text: "a b",
         old: &[N, N],
-        start: 0,
-        end: 3,
-        new: "",
+        edit: Edit {
+            start: 0,
+            end: 3,
+            text: "",
+        },
         commands: &[],
-        told: "kept 0;joined none;Eof 0..0 n;",
+        told: Told::Rows(0, None, &[(Kind::Eof, 0, 0, true)]),
     },
     Case {
         text: "a b c d",
         old: &[N, N, N, N],
-        start: 7,
-        end: 7,
-        new: "",
+        edit: Edit {
+            start: 7,
+            end: 7,
+            text: "",
+        },
         commands: &[N, N, N, N],
-        told: "kept 2;joined 4;Ident 0..1 n;Ident 2..3;Ident 4..5;Ident 6..7;Eof 7..7;",
+        told: Told::Rows(
+            2,
+            Some(4),
+            &[
+                (Kind::Ident, 0, 1, true),
+                (Kind::Ident, 2, 3, false),
+                (Kind::Ident, 4, 5, false),
+                (Kind::Ident, 6, 7, false),
+                (Kind::Eof, 7, 7, false),
+            ],
+        ),
     },
     // Faults, with the document that comes back. The `é` has two bytes.
     Case {
         text: "aé b",
         old: &[],
-        start: 3,
-        end: 1,
-        new: "x",
+        edit: Edit {
+            start: 3,
+            end: 1,
+            text: "x",
+        },
         commands: &[],
-        told: "BadEdit of 5 bytes",
+        told: Told::Fault(RelexFault::BadEdit, 5),
     },
     Case {
         text: "aé b",
         old: &[],
-        start: 2,
-        end: 3,
-        new: "x",
+        edit: Edit {
+            start: 2,
+            end: 3,
+            text: "x",
+        },
         commands: &[Command::Peek],
-        told: "BadEdit of 5 bytes",
+        told: Told::Fault(RelexFault::BadEdit, 5),
     },
     Case {
         text: "aé b",
         old: &[],
-        start: 3,
-        end: 6,
-        new: "x",
+        edit: Edit {
+            start: 3,
+            end: 6,
+            text: "x",
+        },
         commands: &[],
-        told: "BadEdit of 5 bytes",
+        told: Told::Fault(RelexFault::BadEdit, 5),
     },
     Case {
         text: "aé b",
         old: &[],
-        start: 0,
-        end: 1,
-        new: "x",
+        edit: Edit {
+            start: 0,
+            end: 1,
+            text: "x",
+        },
         commands: &[N, Command::Peek],
-        told: "BadCommand(1) of 5 bytes",
+        told: Told::Fault(RelexFault::BadCommand(1), 5),
     },
 ];
 
-/// How many rows were kept, which row joined the old ones, and the tokens of all.
-fn tell(alloc: Global, document: &LexDoc) -> Result<String, AllocError> {
-    let mut text = String::new(alloc);
-    let kept = document.kept_rows();
-    write!(text, "kept {kept};")?;
-    match document.joined_row() {
-        Some(row) => write!(text, "joined {row};")?,
-        None => write!(text, "joined none;")?,
-    }
-    for row in document.report().rows.as_slice() {
-        let token = &row.token;
-        let name = token.kind().name();
-        let start = token.start();
-        let end = token.end();
-        write!(text, "{name} {start}..{end}")?;
-        if token.is_on_new_line() {
-            write!(text, " n")?;
-        }
-        write!(text, ";")?;
-    }
-    Ok(text)
+fn is_token(token: &Token, place: &Place) -> bool {
+    token.kind().is_same(place.0)
+        && token.start() == place.1
+        && token.end() == place.2
+        && token.is_on_new_line() == place.3
 }
 
-/// The document of the case's text with its edit made, in words; or the fault, and how many bytes the text has of the
-/// document that comes back.
-fn told<L: Ledger>(alloc: Global, case: &Case, blank: Blank) -> Result<String, AllocError>
+/// Whether these are the tokens of the rows.
+fn have_tokens(rows: &[Row], places: &[Place]) -> bool {
+    let mut same = rows.len() == places.len();
+    for (row, place) in rows.iter().zip(places) {
+        same = same && is_token(&row.token, place);
+    }
+    same
+}
+
+/// The document of the case's text with its edit made, or why there is none. None: there was not enough memory for the
+/// text.
+fn relexed<L: Ledger>(
+    alloc: Global,
+    case: &Case,
+    blank: Blank,
+) -> Option<Result<LexDoc, NotRelexed>>
     requires name { blank.name ≡ L.name }
     requires parts { blank.parts ≡ L.parts }
     requires some_part { 0 < L.parts }
 {
     let mut steps = Steps::<L>::new(blank);
-    let type_ = SourceType::Module;
-    let old = match LexDoc::new(alloc, case.text, type_, case.old, &mut steps) {
-        Ok(old) => old,
-        Err(_) => return String::from_str(alloc, "no document"),
-    };
-    let edit = Edit {
-        start: case.start,
-        end: case.end,
-        text: case.new,
-    };
-    match old.into_relexed(alloc, &edit, case.commands, &mut steps) {
-        Ok(new) => tell(alloc, &new),
-        Err(not) => {
-            let bytes = not.document.text().len();
-            format!(in alloc; "{:?} of {bytes} bytes", not.fault)
+    let old = LexDoc::new(alloc, case.text, SourceType::Module, case.old, &mut steps).ok()?;
+    Some(old.into_relexed(alloc, &case.edit, case.commands, &mut steps))
+}
+
+/// Whether this is what is told.
+fn is_told(found: &Result<LexDoc, NotRelexed>, told: &Told) -> bool {
+    match (found, told) {
+        (Ok(document), Told::Rows(kept, joined, tokens)) => {
+            document.kept_rows() == *kept
+                && document.joined_row() == *joined
+                && have_tokens(document.report().rows.as_slice(), tokens)
         }
+        (Err(not), Told::Fault(fault, bytes)) => {
+            not.fault == *fault && not.document.text().len() == *bytes
+        }
+        _ => false,
     }
 }
 
 #[test]
 fn edits_of_documents(rt: HostRuntime) -> Result<(), Fail> {
-    for case in &CASES {
-        let told = told::<Brand>(rt.alloc(), case, Blank::new(1))?;
-        assert_eq!(rt; told.as_str(), case.told);
+    for (index, case) in CASES.iter().enumerate() {
+        let found = relexed::<Brand>(rt.alloc(), case, Blank::new(1)).ok_or("no document")?;
+        assert!(rt; is_told(&found, &case.told), "case {index}");
     }
     Ok(())
 }

@@ -1,14 +1,11 @@
 //! The values of tokens, on both sides of an edit.
 
-ghost use Rattle.std.specs.Prelude.{◌≡◌, ◌<◌};
-
+use crate::edits::{Edits, make_edits};
 use js_document::{AutoState, Document, Edit};
 use js_lists::TokenValue;
-use js_session::Steps;
-use js_text::{JsText, SourceType};
-use std::alloc::Global;
+use js_text::JsText;
 use std::marker::Brand;
-use std::sync::ledger::{Blank, Ledger};
+use std::sync::ledger::Blank;
 use std::test::Fail;
 
 /// The value of a token: none, a stretch of the text, UTF-16 units, or a bad one.
@@ -28,13 +25,15 @@ enum Text {
 
 /// A string and a name with escapes, a template, a surrogate that is alone, a template with an escape that stands for
 /// nothing, a number, and a name.
-static TEXT: &str = "a = 'b\\x63', \\u0064e = `f${g}\\n`; '\\uD800' + `\\u{` + 1 + k";
-
-/// The `g`, behind which all is moved by two bytes then.
-static EDIT: Edit<'static> = Edit {
-    start: 27,
-    end: 28,
-    text: "hij",
+///
+/// What comes for the `g` has two bytes more, and all behind it is moved by them.
+static EDITS: Edits<'static> = Edits {
+    text: "a = 'b\\x63', \\u0064e = `f${g}\\n`; '\\uD800' + `\\u{` + 1 + k",
+    edits: &[Edit {
+        start: 27,
+        end: 28,
+        text: "hij",
+    }],
 };
 
 /// The values of all tokens, in order.
@@ -86,18 +85,6 @@ static PLACES: [(u32, Value, Text); 13] = [
 
 /// Offsets of bytes that belong to no token, and one behind the text.
 static GAPS: [u32; 4] = [1, 12, 44, 60];
-
-/// The document of the text with the edit made.
-fn edited<L: Ledger>(alloc: Global, blank: Blank) -> Option<Document<AutoState>>
-    requires name { blank.name ≡ L.name }
-    requires parts { blank.parts ≡ L.parts }
-    requires some_part { 0 < L.parts }
-{
-    let mut steps = Steps::<L>::new(blank);
-    let mut document = Document::new(alloc, TEXT, SourceType::Module, &mut steps).ok()?;
-    document.edit(alloc, &EDIT, &mut steps).ok()?;
-    Some(document)
-}
 
 fn is_value(value: TokenValue<'_>, wanted: &Value) -> bool {
     match (value, wanted) {
@@ -158,7 +145,9 @@ fn wrong_gap(document: &Document<AutoState>) -> Option<u32> {
 
 #[test]
 fn values_behind_an_edit(rt: HostRuntime) -> Result<(), Fail> {
-    let document = edited::<Brand>(rt.alloc(), Blank::new(1)).ok_or("no document")?;
+    let (document, _) = make_edits::<Brand>(rt.alloc(), &EDITS, Blank::new(1)).ok_or(
+        "no document",
+    )?;
     assert_eq!(rt; wrong_value(&document), None);
     assert_eq!(rt; wrong_place(&document), None);
     assert_eq!(rt; wrong_gap(&document), None);

@@ -1,5 +1,5 @@
 -- What the calls about a document do, and why they are refused.
-use Rattle.std.specs.Prelude.{◌≡◌, ◌⊎◌, ℕ, ◌≤◌, ◌<◌, List, drop, length, map, Option, Some, None}
+use Rattle.std.specs.Prelude.{◌≡◌, ◌⊎◌, ℕ, ◌≤◌, ◌<◌, List, drop, length, map, Option, Some, None, option_map}
 use Rattle.std.specs.List.{AllByRecursion}
 use Rattle.js_text.specs.declared.source_type.SourceType.{SourceType}
 use Rattle.js_text.specs.declared.value.RowValue.{RowValue}
@@ -16,7 +16,7 @@ use Rattle.js_document.specs.LiveTokens.{IsTokenAt}
 use Rattle.js_document.specs.Values.{IsValueAt, live_values}
 use Rattle.js_document.specs.declared.fault.DocumentFault.{DocumentFault}
 use Rattle.js_document_c.specs.Chosen.{choice_of}
-use Rattle.js_document_c.specs.Held.{HeldState, IsEdited}
+use Rattle.js_document_c.specs.Held.{HeldState, IsEdited, without_lines}
 use Rattle.js_lex_c.specs.DocumentFaults.{refusal_of}
 use Rattle.js_lex_c.specs.DocumentNumbers.{column_unit_count, column_unit_number, goals_count, goals_number}
 use Rattle.js_lex_c.specs.DocumentNumbers.{line_ends_count, line_ends_number}
@@ -122,6 +122,10 @@ abbrev pub BothHold : Option HeldState → Option HeldState → (HeldState → H
 BothHold None after Are = ⊥
 BothHold (Some held) None Are = ⊥
 BothHold (Some held) (Some after) Are = Are held after
+
+-- What is held is the same, but that lines may be kept or forgotten.
+abbrev pub IsToldAlike : Option HeldState → Option HeldState → Type 0
+IsToldAlike old new = option_map without_lines new ≡ option_map without_lines old
 
 -- No document has a reason.
 abbrev pub NoCause : DocState → Refusal → Type 0

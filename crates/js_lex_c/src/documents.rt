@@ -5,8 +5,8 @@ ghost use Rattle.std.specs.declared.option.Option.TheVariants.{None};
 ghost use Rattle.js_lex_c.specs.Documents.{BecomesEdited, BothHold, DocumentCause, EditRefused, GivesChange};
 ghost use Rattle.js_lex_c.specs.Documents.{GivesComments, GivesDiagnostics, GivesLines, GivesOffset, GivesPosition};
 ghost use Rattle.js_lex_c.specs.Documents.{GivesTokenAt, GivesTokens, GivesValueAt, GivesValues, HasNoTokenAt, HeldCause};
-ghost use Rattle.js_lex_c.specs.Documents.{HoldsDocument, HoldsSuch, IsNewDocument, NewCause, NoCause, OffsetRefused};
-ghost use Rattle.js_lex_c.specs.Documents.{UnitRefused};
+ghost use Rattle.js_lex_c.specs.Documents.{HoldsDocument, HoldsSuch, IsNewDocument, IsToldAlike, NewCause, NoCause};
+ghost use Rattle.js_lex_c.specs.Documents.{OffsetRefused, UnitRefused};
 ghost use Rattle.js_lex_c.specs.Refusals.{DoesOr};
 
 use crate::document_record::{JsChange, JsLiveToken, JsLiveValue, JsPosition, change_record};
@@ -264,7 +264,7 @@ pub extern "C" fn js_document_lines(
     ensures answer { DoesOr (DocumentCause document.old.value NoCause)
         (HoldsSuch document.old.value (GivesLines from starts.old starts.new count.new))
         ((starts.new ≡ starts.old) × (count.new ≡ count.old)) result }
-    ensures same { document.new.value ≡ document.old.value }
+    ensures same { IsToldAlike document.old.value document.new.value }
 {
     let Some(mut held) = document.take(alloc) else {
         return Refusal::NoDocument.number();
@@ -289,7 +289,7 @@ pub extern "C" fn js_document_position(
 ) -> u32
     ensures answer { DoesOr (HeldCause document.old.value (UnitRefused unit))
         (HoldsSuch document.old.value (GivesPosition offset unit position.new)) (position.new ≡ position.old) result }
-    ensures same { document.new.value ≡ document.old.value }
+    ensures same { IsToldAlike document.old.value document.new.value }
 {
     let Some(mut held) = document.take(alloc) else {
         return Refusal::NoDocument.number();
@@ -315,7 +315,7 @@ pub extern "C" fn js_document_offset(
     ensures answer { DoesOr (HeldCause document.old.value (OffsetRefused (record { line = line; column = column }) unit))
         (HoldsSuch document.old.value (GivesOffset (record { line = line; column = column }) unit offset.new))
         (offset.new ≡ offset.old) result }
-    ensures same { document.new.value ≡ document.old.value }
+    ensures same { IsToldAlike document.old.value document.new.value }
 {
     let Some(mut held) = document.take(alloc) else {
         return Refusal::NoDocument.number();

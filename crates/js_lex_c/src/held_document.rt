@@ -3,6 +3,7 @@
 ghost use Rattle.std.specs.Prelude.{◌≡◌, ◌⊎◌, ◌<◌, IfErr, IfOk};
 ghost use Rattle.js_document.specs.Documents.{IsDocumentOf, change_of_new};
 ghost use Rattle.js_document_c.specs.Chosen.{choice_of};
+ghost use Rattle.js_document_c.specs.Held.{without_lines};
 ghost use Rattle.js_lex_c.specs.Documents.{BecomesEdited, EditRefused, GivesComments, GivesDiagnostics, GivesLines};
 ghost use Rattle.js_lex_c.specs.Documents.{GivesOffset, GivesPosition, GivesTokenAt, GivesTokens, GivesValueAt};
 ghost use Rattle.js_lex_c.specs.Documents.{GivesValues, HasNoTokenAt, HoldsSuch, IsNewDocument, IsUnreadable, NewCause};
@@ -258,7 +259,7 @@ pub(crate) fn lines_held(
 ) -> Result<(), Refusal>
     ensures answer { Tries (NoCause held.old.document) (GivesLines from starts.old starts.new count.new held.old)
         ((starts.new ≡ starts.old) × (count.new ≡ count.old)) result }
-    ensures same { held.new ≡ held.old }
+    ensures same { without_lines held.new ≡ without_lines held.old }
 {
     match held.take_lines(alloc) {
         Ok(lines) => {
@@ -281,7 +282,7 @@ pub(crate) fn position_held(
 ) -> Result<(), Refusal>
     ensures answer { Tries (UnitRefused unit held.old) (GivesPosition offset unit position.new held.old)
         (position.new ≡ position.old) result }
-    ensures same { held.new ≡ held.old }
+    ensures same { without_lines held.new ≡ without_lines held.old }
 {
     let unit = match column_unit_of(unit) {
         Some(unit) => unit,
@@ -306,7 +307,7 @@ pub(crate) fn offset_held(
 ) -> Result<(), Refusal>
     ensures answer { Tries (OffsetRefused position unit held.old) (GivesOffset position unit offset.new held.old)
         (offset.new ≡ offset.old) result }
-    ensures same { held.new ≡ held.old }
+    ensures same { without_lines held.new ≡ without_lines held.old }
 {
     let unit = match column_unit_of(unit) {
         Some(unit) => unit,

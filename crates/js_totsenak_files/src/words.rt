@@ -13,114 +13,217 @@ use js_totsenak::{
 };
 use std::alloc::{AllocError, Global};
 
-/// A word that is there or not.
-fn flag<'a>(alloc: Global, name: &'a str, help: &'a str) -> Arg<'a> {
-    Arg::new(alloc, name)
-        .long(name)
-        .action(ArgAction::SetTrue)
-        .help(help)
+/// What a word of a command takes.
+#[derive(Clone, Copy)]
+enum Takes {
+    /// Nothing: it is there or not.
+    Nothing,
+    /// A value, which help calls so.
+    Value(&'static str),
+    /// It stands for files itself.
+    File,
 }
 
-/// A command over sources: which type they are of, and their files.
-fn over_sources<'a>(alloc: Global, command: Command<'a>) -> Result<Command<'a>, AllocError> {
-    let module = flag(alloc, "module", "Reads the sources as modules").conflicts_with("script")?;
-    let script = flag(alloc, "script", "Reads the sources as scripts");
-    let jsx = flag(
-        alloc,
-        "jsx",
-        "Reads the sources with JSX, as modules unless --script is given",
-    );
-    let files = Arg::new(alloc, "FILE")
-        .action(ArgAction::Append)
-        .default_value(STANDARD_INPUT)
-        .help("A source; - is standard input");
-    command.arg(module)?.arg(script)?.arg(jsx)?.arg(files)
+/// A word of a command: its name, its letter, what it takes, the word that it does not go with, and its help.
+#[derive(Clone, Copy)]
+struct Word {
+    name: &'static str,
+    letter: Option<char>,
+    takes: Takes,
+    excludes: Option<&'static str>,
+    help: &'static str,
 }
 
-/// A command that tells of sources, as lines or as JSON.
-fn with_json<'a>(alloc: Global, command: Command<'a>) -> Result<Command<'a>, AllocError> {
-    let json = flag(alloc, "json", "Writes JSON, an object on each line");
-    over_sources(alloc, command)?.arg(json)
-}
+/// The words of all commands: which type their sources are of, and the files.
+static OVER_SOURCES: [Word; 4] = [
+    Word {
+        name: "module",
+        letter: None,
+        takes: Takes::Nothing,
+        excludes: Some("script"),
+        help: "Reads the sources as modules",
+    },
+    Word {
+        name: "script",
+        letter: None,
+        takes: Takes::Nothing,
+        excludes: None,
+        help: "Reads the sources as scripts",
+    },
+    Word {
+        name: "jsx",
+        letter: None,
+        takes: Takes::Nothing,
+        excludes: None,
+        help: "Reads the sources with JSX, as modules unless --script is given",
+    },
+    Word {
+        name: "FILE",
+        letter: None,
+        takes: Takes::File,
+        excludes: None,
+        help: "A source; - is standard input",
+    },
+];
 
-/// The command that tells what sources import and export.
-fn importing<'a>(alloc: Global) -> Result<Command<'a>, AllocError> {
-    let imports = Command::new(alloc, "imports").about("Lists what sources import and export");
-    let require = flag(alloc, "require", "Lists calls of require too");
-    with_json(alloc, imports)?.arg(require)
-}
+/// The word of commands that tell of sources as lines or as JSON.
+const JSON: Word = Word {
+    name: "json",
+    letter: None,
+    takes: Takes::Nothing,
+    excludes: None,
+    help: "Writes JSON, an object on each line",
+};
 
-/// A command that writes sources anew.
-fn writing_anew<'a>(alloc: Global, command: Command<'a>) -> Result<Command<'a>, AllocError> {
-    let output = Arg::new(alloc, "output")
-        .short('o')
-        .long("output")
-        .value_name("OUTPUT")
-        .action(ArgAction::Set)
-        .help("Writes to this file")
-        .conflicts_with("write")?;
-    let write = flag(alloc, "write", "Writes each file in place");
-    let licences = Arg::new(alloc, "licences")
-        .long("licences")
-        .value_name("LICENCES")
-        .action(ArgAction::Set)
-        .help("Writes the licences of the sources to this file");
-    over_sources(alloc, command)?
-        .arg(output)?
-        .arg(write)?
-        .arg(licences)
-}
+const REQUIRE: Word = Word {
+    name: "require",
+    letter: None,
+    takes: Takes::Nothing,
+    excludes: None,
+    help: "Lists calls of require too",
+};
 
-/// The command that shows a source as a page.
-fn html<'a>(alloc: Global) -> Result<Command<'a>, AllocError> {
-    let command = Command::new(alloc, "html").about("Writes a source as a page of HTML");
-    let title = Arg::new(alloc, "title")
-        .long("title")
-        .value_name("TITLE")
-        .action(ArgAction::Set)
-        .help("The title of the page; else it is the name of the file");
-    let fragment = flag(alloc, "fragment", "Writes the pre element alone").conflicts_with("title")?;
-    let css = flag(alloc, "css", "Writes the style alone");
-    over_sources(alloc, command)?
-        .arg(fragment)?
-        .arg(css)?
-        .arg(title)
-}
+/// The words of a command that writes sources anew.
+const ANEW: [Word; 3] = [
+    Word {
+        name: "output",
+        letter: Some('o'),
+        takes: Takes::Value("OUTPUT"),
+        excludes: Some("write"),
+        help: "Writes to this file",
+    },
+    Word {
+        name: "write",
+        letter: None,
+        takes: Takes::Nothing,
+        excludes: None,
+        help: "Writes each file in place",
+    },
+    Word {
+        name: "licences",
+        letter: None,
+        takes: Takes::Value("LICENCES"),
+        excludes: None,
+        help: "Writes the licences of the sources to this file",
+    },
+];
 
-/// The commands that tell of sources.
-fn with_telling<'a>(alloc: Global, program: Command<'a>) -> Result<Command<'a>, AllocError> {
-    let check = Command::new(alloc, "check").about("Tells what is at fault in sources");
-    let tokens = Command::new(alloc, "tokens").about("Lists the tokens of sources");
-    let values = Command::new(alloc, "values").about(
+/// The words of the command that shows a source as a page.
+const HTML: [Word; 3] = [
+    Word {
+        name: "fragment",
+        letter: None,
+        takes: Takes::Nothing,
+        excludes: Some("title"),
+        help: "Writes the pre element alone",
+    },
+    Word {
+        name: "css",
+        letter: None,
+        takes: Takes::Nothing,
+        excludes: None,
+        help: "Writes the style alone",
+    },
+    Word {
+        name: "title",
+        letter: None,
+        takes: Takes::Value("TITLE"),
+        excludes: None,
+        help: "The title of the page; else it is the name of the file",
+    },
+];
+
+/// The commands: the name of each, what it does, and its words besides those of all.
+static COMMANDS: [(&str, &str, &[Word]); 8] = [
+    ("check", "Tells what is at fault in sources", &[]),
+    ("tokens", "Lists the tokens of sources", &[JSON]),
+    (
+        "values",
         "Lists the strings and templates of sources, decoded, as JSON",
-    );
-    let licences = Command::new(alloc, "licences").about(
+        &[],
+    ),
+    (
+        "licences",
         "Lists the comments that hold licences, each once, and where they stand",
-    );
-    program
-        .subcommand(over_sources(alloc, check)?)?
-        .subcommand(with_json(alloc, tokens)?)?
-        .subcommand(over_sources(alloc, values)?)?
-        .subcommand(with_json(alloc, licences)?)?
-        .subcommand(importing(alloc)?)
+        &[JSON],
+    ),
+    (
+        "imports",
+        "Lists what sources import and export",
+        &[JSON, REQUIRE],
+    ),
+    ("html", "Writes a source as a page of HTML", &HTML),
+    ("strip", "Writes sources without their comments", &ANEW),
+    (
+        "squeeze",
+        "Writes sources without their comments, and with no more white space than they need",
+        &ANEW,
+    ),
+];
+
+/// The argument that takes what a word takes.
+fn taking<'a>(arg: Arg<'a>, word: &Word) -> Arg<'a> {
+    match word.takes {
+        Takes::Nothing => arg.long(word.name).action(ArgAction::SetTrue),
+        Takes::Value(name) => arg.long(word.name).value_name(name).action(ArgAction::Set),
+        Takes::File => arg.action(ArgAction::Append).default_value(STANDARD_INPUT),
+    }
+}
+
+/// The argument of a word.
+fn arg_of<'a>(alloc: Global, word: &Word) -> Result<Arg<'a>, AllocError> {
+    let mut arg = taking(Arg::new(alloc, word.name).help(word.help), word);
+    if let Some(letter) = word.letter {
+        arg = arg.short(letter);
+    }
+    match word.excludes {
+        Some(other) => arg.conflicts_with(other),
+        None => Ok(arg),
+    }
+}
+
+/// A command with words more.
+fn with_words<'a>(
+    alloc: Global,
+    command: Command<'a>,
+    words: &[Word],
+) -> Result<Command<'a>, AllocError> {
+    let mut command = command;
+    for word in words {
+        command = command.arg(arg_of(alloc, word)?)?;
+    }
+    Ok(command)
+}
+
+/// A command over sources.
+fn command_of<'a>(
+    alloc: Global,
+    name: &'static str,
+    about: &'static str,
+    words: &[Word],
+) -> Result<Command<'a>, AllocError> {
+    let command = Command::new(alloc, name).about(about);
+    with_words(alloc, with_words(alloc, command, &OVER_SOURCES)?, words)
+}
+
+/// A program with all commands.
+fn with_commands<'a>(alloc: Global, program: Command<'a>) -> Result<Command<'a>, AllocError> {
+    let mut program = program;
+    for &(name, about, words) in &COMMANDS {
+        program = program.subcommand(command_of(alloc, name, about, words)?)?;
+    }
+    Ok(program)
 }
 
 /// What the program's words may be.
 fn program<'a>(alloc: Global) -> Result<Command<'a>, AllocError> {
-    let strip = Command::new(alloc, "strip").about("Writes sources without their comments");
-    let squeeze = Command::new(alloc, "squeeze").about(
-        "Writes sources without their comments, and with no more white space than they need",
-    );
     let program = Command::new(alloc, "totsenak")
         .version("0.1.0")
         .about("Looks at sources of JavaScript")
         .no_binary_name(true)
         .disable_help_subcommand(true)
         .subcommand_required(true);
-    with_telling(alloc, program)?
-        .subcommand(html(alloc)?)?
-        .subcommand(writing_anew(alloc, strip)?)?
-        .subcommand(writing_anew(alloc, squeeze)?)
+    with_commands(alloc, program)
 }
 
 /// Reads the words behind the program's name.

@@ -1,5 +1,5 @@
 use Rattle.js_document_tests.proofs.values.values_behind_an_edit.Given as goal
 
 -- The ledger of the counter.
-abbrev pub ghosts-edited : goal.ghosts-edited
-ghosts-edited g a = record { name = a.blank.name; parts = a.blank.parts }
+abbrev pub ghosts-make_edits : goal.ghosts-make_edits
+ghosts-make_edits g a = record { name = a.blank.name; parts = a.blank.parts }
