@@ -1,11 +1,15 @@
-//! Tests of js_text, js_places, js_kind, js_source, js_trivia and js_spell, by their public calls. They stand in a crate
-//! of their own, since a crate's functions are proved again with its tests.
+//! Tests of js_text, js_places, js_kind, js_source, js_lines, js_edited_lines, js_trivia and js_spell, by their public
+//! calls. They stand in a crate of their own, since a crate's functions are proved again with its tests.
 #![tactic(auto)]
 
+#[cfg(test)]
+mod edited_lines;
 #[cfg(test)]
 mod integers;
 #[cfg(test)]
 mod kinds;
+#[cfg(test)]
+mod lines;
 #[cfg(test)]
 mod offset_maps;
 #[cfg(test)]

@@ -9,7 +9,7 @@ use std::sync::ledger::Blank;
 use std::test::Fail;
 
 /// The value of a token: none, a stretch of the text, UTF-16 units, or a bad one.
-enum Value {
+pub(crate) enum Value {
     None,
     Slice(u32, u32),
     Units(&'static [u16]),
@@ -86,7 +86,8 @@ static PLACES: [(u32, Value, Text); 13] = [
 /// Offsets of bytes that belong to no token, and one behind the text.
 static GAPS: [u32; 4] = [1, 12, 44, 60];
 
-fn is_value(value: TokenValue<'_>, wanted: &Value) -> bool {
+/// Whether the value is the wanted one.
+pub(crate) fn is_value(value: TokenValue<'_>, wanted: &Value) -> bool {
     match (value, wanted) {
         (TokenValue::Nothing, Value::None) | (TokenValue::Bad, Value::Bad) => true,
         (TokenValue::Slice(span), Value::Slice(start, end)) => {

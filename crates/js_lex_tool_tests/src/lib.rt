@@ -1,5 +1,5 @@
-//! Tests of js_lex_tool, and of js_process below it, by public calls. They stand in a crate of their own, since a
-//! crate's functions are proved again with its tests.
+//! Tests of js_lex_tool, and of js_process, js_strip and js_squeeze below it, by public calls. They stand in a crate of
+//! their own, since a crate's functions are proved again with its tests.
 #![tactic(auto)]
 
 #[cfg(test)]
@@ -11,6 +11,10 @@ mod memory;
 #[cfg(test)]
 mod run;
 #[cfg(test)]
+mod squeezed;
+#[cfg(test)]
 mod status;
 #[cfg(test)]
 mod streams;
+#[cfg(test)]
+mod stripped;

@@ -1,4 +1,4 @@
-use Rattle.js_document_c_tests.proofs.values.values_behind_an_edit.Given as goal
+use Rattle.js_document_tests.proofs.held_values.values_behind_an_edit.Given as goal
 
 -- The ledger of the counter that nobody reads.
 abbrev pub ghosts-edited : goal.ghosts-edited

@@ -1,4 +1,4 @@
-use Rattle.js_document_c_tests.proofs.held.lines_behind_edits.Given as goal
+use Rattle.js_document_tests.proofs.held.lines_behind_edits.Given as goal
 
 -- The ledger of the counter that nobody reads.
 abbrev pub ghosts-handle : goal.ghosts-handle

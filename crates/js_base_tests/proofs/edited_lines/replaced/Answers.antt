@@ -1,6 +1,6 @@
 use Rattle.std.proofs.Common.{◌≡◌, ◌-◌, ◌++◌, ap, arith, drop, length, take, ◌∙◌}
 use Rattle.js_edited_lines.proofs.EditLemmas.{replaced}
-use Rattle.js_lines_tests.proofs.edits.replaced.Goals as goal
+use Rattle.js_base_tests.proofs.edited_lines.replaced.Goals as goal
 
 pub edit-requires : goal.edit-requires
 edit-requires c =

@@ -2,7 +2,7 @@
 
 ghost use Rattle.std.specs.Prelude.{◌≡◌, ◌<◌};
 
-use crate::values::held;
+use crate::held_values::held;
 use js_document::Edit;
 use js_document_c::{Goals, HeldDocument, JsDocument};
 use js_lines::{ColumnUnit, Position};

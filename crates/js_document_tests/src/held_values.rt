@@ -2,23 +2,16 @@
 
 ghost use Rattle.std.specs.Prelude.{◌≡◌, ◌<◌};
 
+use crate::values::{Value, is_value};
 use js_document::Edit;
 use js_document_c::{Goals, HeldDocument};
 use js_lines::LineEnds;
-use js_lists::TokenValue;
 use js_session::Steps;
 use js_text::SourceType;
 use std::alloc::Global;
 use std::marker::Brand;
 use std::sync::ledger::{Blank, Ledger};
 use std::test::Fail;
-
-/// The value of a token: none, a stretch of the text, or UTF-16 units.
-enum Value {
-    None,
-    Slice(u32, u32),
-    Units(&'static [u16]),
-}
 
 /// An element, and a string with an escape, behind an edit of the text between the tags.
 static VALUED: &str = "<a>b</a>; '\\x65'";
@@ -56,17 +49,6 @@ pub(crate) fn held<L: Ledger>(
     let mut steps = Steps::<L>::new(blank);
     let ends = LineEnds::LanguageServer;
     HeldDocument::new(alloc, text, SourceType::Module, goals, ends, &mut steps).ok()
-}
-
-fn is_value(value: TokenValue<'_>, wanted: &Value) -> bool {
-    match (value, wanted) {
-        (TokenValue::Nothing, Value::None) => true,
-        (TokenValue::Slice(span), Value::Slice(start, end)) => {
-            span.start == *start && span.end == *end
-        }
-        (TokenValue::Units(text), Value::Units(units)) => text.units() == *units,
-        _ => false,
-    }
 }
 
 /// Whether the token that has the byte at the offset has this value.
