@@ -117,6 +117,19 @@ fn entries_of<K: Copy + Drop>(
     Ok(entries)
 }
 
+/// The rows that the session read, each with what is known behind it.
+fn entries_of_session<K: Copy + Drop>(
+    alloc: Global,
+    session: Session<'_, NoTokensLexerConfig>,
+    states: Vec<K>,
+) -> Result<Vec<Entry<K>>, AllocError>
+    requires { length states.items ≡ length session.rows }
+    ensures rows { IfOk result (λ entries. rows_of {K = K} entries.items ≡ session.entry.rows) }
+    ensures states { IfOk result (λ entries. states_of {K = K} entries.items ≡ states.items) }
+{
+    entries_of(alloc, session.finish().rows, states.as_slice())
+}
+
 /// The rows of the text from behind a token, behind which this is known, up to the first that joins an old one.
 pub(crate) fn rows_behind<K: KeepGoals, L: Ledger>(
     alloc: Global,
@@ -162,7 +175,7 @@ pub(crate) fn rows_behind<K: KeepGoals, L: Ledger>(
         state,
         steps,
     )?;
-    let rows = entries_of(alloc, session.finish().rows, states.as_slice())?;
+    let rows = entries_of_session(alloc, session, states)?;
     Ok(ReadRows { rows, left })
 }
 
@@ -220,6 +233,6 @@ pub(crate) fn rows_from_start<K: KeepGoals, L: Ledger>(
     };
     let mut states = Vec::new(alloc);
     let left = read_from_first(&mut session, text, open, joining, &mut states, steps)?;
-    let rows = entries_of(alloc, session.finish().rows, states.as_slice())?;
+    let rows = entries_of_session(alloc, session, states)?;
     Ok(ReadRows { rows, left })
 }

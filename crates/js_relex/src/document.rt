@@ -177,12 +177,12 @@ fn document_of_text<L: Ledger>(
     ensures at_least { steps.old ≤ steps.new }
     ensures at_most { steps.new ≤ steps.old + (length commands.now + 1) }
 {
-    let report = report_from_start(alloc, text, source_type, commands, steps)?;
-    let outlined = OutlinedReport::new(alloc, report)?;
     let mut held = CommandList::new_in(alloc);
     held.extend_from_slice(commands)?;
     let mut copied = SourceText::new_in(alloc);
     copied.push_str(text)?;
+    let report = report_from_start(alloc, text, source_type, commands, steps)?;
+    let outlined = OutlinedReport::new(alloc, report)?;
     Ok(LexDoc {
         text: copied,
         source_type,

@@ -108,6 +108,17 @@ fn step_until_joined<L: Ledger>(
     Ok(false)
 }
 
+/// The rows that the session read, and whether the last of them joins an old one.
+fn read_rows(session: Session<'_, NoTokensLexerConfig>, joined: bool) -> ReadRows
+    ensures { result ≡ record { rows = session.entry.rows; joined = joined } }
+{
+    let report = session.finish();
+    ReadRows {
+        rows: report.rows,
+        joined,
+    }
+}
+
 /// The rows of the text from behind the token: one for each of the commands, which are the last ones, up to the first
 /// row that joins an old one.
 pub(crate) fn rows_behind<L: Ledger>(
@@ -143,11 +154,7 @@ pub(crate) fn rows_behind<L: Ledger>(
         Err(_) => return Err(AllocError),
     };
     let joined = step_until_joined(&mut session, joining, commands, steps)?;
-    let report = session.finish();
-    Ok(ReadRows {
-        rows: report.rows,
-        joined,
-    })
+    Ok(read_rows(session, joined))
 }
 
 /// The rows of the text from its start: the first one, and one for each command, up to the first that joins an old one.
@@ -172,16 +179,8 @@ pub(crate) fn rows_from_start<L: Ledger>(
     };
     let commands = joining.commands();
     if is_joined(&session, joining, commands.len()) {
-        let report = session.finish();
-        return Ok(ReadRows {
-            rows: report.rows,
-            joined: true,
-        });
+        return Ok(read_rows(session, true));
     }
     let joined = step_until_joined(&mut session, joining, commands, steps)?;
-    let report = session.finish();
-    Ok(ReadRows {
-        rows: report.rows,
-        joined,
-    })
+    Ok(read_rows(session, joined))
 }

@@ -104,11 +104,10 @@ impl OutlinedReport {
     }
 
     /// Puts the rows that were read in the place of those between the first and the last, which it moves where they
-    /// stand, and has this live with them.
-    fn replace_with(
+    /// stand. What is live stays.
+    fn replace_rows(
         &mut self,
         alloc: Global,
-        live: Report,
         kept: usize,
         read: RowList,
         behind: usize,
@@ -120,7 +119,7 @@ impl OutlinedReport {
         requires stay { shift.now.from ≡ shift.now.to
             → map (shifted_row shift.now.from shift.now.to) (drop (length self.old.rows - behind) self.old.rows)
             ≡ drop (length self.old.rows - behind) self.old.rows }
-        ensures ok { OnOk result (self.new ≡ record live {
+        ensures ok { OnOk result (self.new ≡ record self.old {
           rows = take kept self.old.rows ++ read
               ++ map (shifted_row shift.now.from shift.now.to) (drop (length self.old.rows - behind) self.old.rows);
         }) }
@@ -135,9 +134,36 @@ impl OutlinedReport {
             shift,
         )?;
         replace_rows(&mut self.report.rows, kept, read, behind, shift)?;
+        self.outlines = outlines;
+        Ok(())
+    }
+
+    /// Has this live. The rows stay.
+    fn set_live(&mut self, alloc: Global, live: Report)
+        ensures { self.new ≡ record live { rows = self.old.rows } }
+    {
         let rows = mem::replace(&mut self.report.rows, RowList::new_in(alloc));
         self.report = with_rows(live, rows);
-        self.outlines = outlines;
+    }
+
+    /// Puts the rows that were read in the place of as many behind the first, which stay. What is live stays.
+    fn overwrite_rows(
+        &mut self,
+        alloc: Global,
+        kept: usize,
+        read: RowList,
+        behind: usize,
+    ) -> Result<(), AllocError>
+        requires as_many { kept + length read + behind ≡ length self.old.rows }
+        ensures ok { OnOk result (self.new ≡ record self.old {
+          rows = take kept self.old.rows ++ read ++ drop (length self.old.rows - behind) self.old.rows;
+        }) }
+        ensures err { OnErr result (self.new ≡ self.old) }
+    {
+        let outlines = outlines_of(alloc, read.as_slice())?;
+        let end = self.report.rows.len() - behind;
+        self.report.rows.replace(kept, end, read)?;
+        overwrite(&mut self.outlines, kept, outlines.as_slice());
         Ok(())
     }
 
@@ -149,25 +175,22 @@ impl OutlinedReport {
         kept: usize,
         read: RowList,
         behind: usize,
-        patch: LivePatch,
+        patch: &LivePatch,
     ) -> Result<(), AllocError>
         requires as_many { kept + length read + behind ≡ length self.old.rows }
-        requires inside { AreWithin (lengths_past patch.before (report_live patch.middle))
+        requires inside { AreWithin (lengths_past patch.now.before (report_live patch.now.middle))
             (live_lengths (report_live self.old)) }
         ensures rows { OnOk result
             (self.new.rows ≡ take kept self.old.rows ++ read ++ drop (length self.old.rows - behind) self.old.rows) }
         ensures live { OnOk result (report_live self.new
-            ≡ overwritten_live patch.before (report_live patch.middle) (report_live self.old)) }
+            ≡ overwritten_live patch.now.before (report_live patch.now.middle) (report_live self.old)) }
         ensures collected { OnOk result (self.new.collected ≡ self.old.collected) }
         ensures err { OnErr result (self.new ≡ self.old) }
     {
-        let LivePatch { before, middle } = patch;
+        let (before, middle) = (&patch.before, &patch.middle);
         let tokens = patched_tokens(alloc, &self.report.tokens, before.tokens, &middle.tokens)?;
-        let outlines = outlines_of(alloc, read.as_slice())?;
-        let end = self.report.rows.len() - behind;
-        self.report.rows.replace(kept, end, read)?;
-        overwrite_live(&mut self.report, tokens, &before, &middle);
-        overwrite(&mut self.outlines, kept, outlines.as_slice());
+        self.overwrite_rows(alloc, kept, read, behind)?;
+        overwrite_live(&mut self.report, tokens, before, middle);
         Ok(())
     }
 
@@ -195,7 +218,9 @@ impl OutlinedReport {
         ensures err { OnErr result (self.new ≡ self.old) }
     {
         let live = live_of(alloc, self, commands, kept, read.as_slice(), behind, shift)?;
-        self.replace_with(alloc, live, kept, read, behind, shift)
+        self.replace_rows(alloc, kept, read, behind, shift)?;
+        self.set_live(alloc, live);
+        Ok(())
     }
 
     /// Puts the rows that were read in the place of those between the first and the last, which it moves where they
@@ -225,7 +250,7 @@ impl OutlinedReport {
         ensures err { OnErr result (self.new ≡ self.old) }
     {
         match patch_of(alloc, self, commands, kept, read.as_slice(), behind, shift)? {
-            Some(patch) => self.overwrite(alloc, kept, read, behind, patch),
+            Some(patch) => self.overwrite(alloc, kept, read, behind, &patch),
             None => self.replace_anew(alloc, commands, kept, read, behind, shift),
         }
     }

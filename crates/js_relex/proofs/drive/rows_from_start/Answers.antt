@@ -1,7 +1,7 @@
 use Rattle.std.proofs.Common.{◌-◌, ◌∙◌, [], ap, sym, subst, true, length}
 use mathlib.Core.Bool.{false≢true}
 use Rattle.js_session.specs.Session.{SessionState}
-use Rattle.js_session.specs.declared.report.Report.{Report}
+use Rattle.js_relex.specs.declared.drive.ReadRows.{ReadRows}
 use Rattle.js_relex.specs.Joined.{Joins}
 use Rattle.js_relex.specs.Joining.{ReadsEdited, StepsBroken, StepsUntil}
 use Rattle.js_relex.proofs.Outcomes.{on_err}
@@ -21,8 +21,8 @@ returns-then-is_joined-clause-rows g c =
     subst (λ cs. Joins j (length j.commands - length cs) b.row) c.commands-commands.ensures
     ((c.is_joined.ensures [] b.row (ap (λ (s : SessionState). s.rows) b.after)).0
     (let yes = c.if-is_joined.true in cc)) in
-    subst (λ (r : Report). ReadsEdited c.args.text.now c.args.source_type j 0 r.rows true)
-    (sym c.finish-report.ensures.report) (first_joins c.args.text.now c.args.source_type _ j c.in-Ok.session b joins)
+    subst (λ (r : ReadRows). ReadsEdited c.args.text.now c.args.source_type j 0 r.rows r.joined)
+    (sym c.read_rows.ensures) (first_joins c.args.text.now c.args.source_type _ j c.in-Ok.session b joins)
 
 pub returns-in_err-joined-clause-broken : goal.returns-in_err-joined-clause-broken
 returns-in_err-joined-clause-broken g c =
@@ -46,8 +46,8 @@ pub returns-clause-rows : goal.returns-clause-rows
 returns-clause-rows g c =
     let j = c.args.joining.now in
     let b = c.in-Ok.ensures.ok in
-    subst (λ (r : Report). ReadsEdited c.args.text.now c.args.source_type j 0 r.rows c.in_ok-joined.joined)
-    (sym c.finish-report-2.ensures.report)
+    subst (λ (r : ReadRows). ReadsEdited c.args.text.now c.args.source_type j 0 r.rows r.joined)
+    (sym c.read_rows-2.ensures)
     (reads_from_start c.args.text.now c.args.source_type _ j c.in-Ok.session c.step_until_joined.new.session _ _
     c.in_ok-joined.joined b
     (λ joins.

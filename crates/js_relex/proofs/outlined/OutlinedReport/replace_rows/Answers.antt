@@ -4,7 +4,7 @@ use Rattle.js_session.specs.declared.report.Report.{Report}
 use Rattle.js_session.specs.Shifted.{shifted_row}
 use Rattle.js_relex.specs.Documents.{MayMove}
 use Rattle.js_relex.proofs.OutlineLemmas.{outlines_fit, outlines_replaced}
-use Rattle.js_relex.proofs.outlined.OutlinedReport.replace_with.Goals as goal
+use Rattle.js_relex.proofs.outlined.OutlinedReport.replace_rows.Goals as goal
 
 pub replaced_outlines-requires-clause-fits : goal.replaced_outlines-requires-clause-fits
 replaced_outlines-requires-clause-fits c =
@@ -21,7 +21,6 @@ invariant_of-self-2 c =
     let to = c.args.shift.now.to in
     let rows = c.self.inside.report.rows in
     let moved = map (shifted_row from to) (drop (length rows - c.args.behind) rows) in
-    outlines_replaced from to c.args.kept c.args.behind rows c.as_slice-2.result.now c.with_rows.result.rows
-    c.as_slice.result.now c.in_ok-outlines.outlines (c.as_slice.ensures ∙ c.self.invariant) c.in_ok-outlines.ensures
-    (ap (λ (r : Report). r.rows) c.with_rows.ensures ∙ c.replace-rows.ensures.value ∙ c.in_ok-replace_rows.ensures.ok
-    ∙ ap (λ rs. take c.args.kept rows ++ rs ++ moved) (sym c.as_slice-2.ensures))
+    outlines_replaced from to c.args.kept c.args.behind rows c.as_slice-2.result.now _ c.as_slice.result.now
+    c.in_ok-outlines.outlines (c.as_slice.ensures ∙ c.self.invariant) c.in_ok-outlines.ensures
+    (c.in_ok-replace_rows.ensures.ok ∙ ap (λ rs. take c.args.kept rows ++ rs ++ moved) (sym c.as_slice-2.ensures))
