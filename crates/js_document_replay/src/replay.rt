@@ -1,6 +1,8 @@
 //! Edits that are made one behind the other, and what is wrong of a document then.
 
 ghost use Rattle.std.specs.Prelude.{◌≡◌, ◌<◌};
+ghost use Rattle.std.specs.List.{AllByRecursion};
+ghost use Rattle.js_session.specs.Report.{IsSliceOnPlaces};
 
 use crate::case::{Case, Rule, first_case, first_edit};
 use crate::change::is_change;
@@ -8,9 +10,9 @@ use crate::told::Told;
 use js_auto::auto_session;
 use js_document::{AutoState, Document, DocumentFault, Edit, JsxState, KeepGoals};
 use js_jsx::jsx_session;
-use js_kind::TokenList;
+use js_kind::{Token, TokenList};
 use js_lex_tool::report_text;
-use js_session::Steps;
+use js_session::{Report, Steps};
 use js_text::SourceType;
 use std::alloc::{AllocError, Global};
 use std::marker::Brand;
@@ -63,18 +65,49 @@ fn tokens_of<K: LexAnew>(alloc: Global, document: &Document<K>) -> Result<TokenL
     Ok(tokens)
 }
 
-/// Whether the document has the report of a session over its text, and gives the tokens of that.
-fn is_right<K: LexAnew>(alloc: Global, document: &Document<K>) -> Result<bool, AllocError> {
-    let report = document.report(alloc)?;
+/// Whether the document gives the tokens of the report, and counts what it has.
+fn has_tokens_of<K: LexAnew>(
+    alloc: Global,
+    document: &Document<K>,
+    report: &Report,
+) -> Result<bool, AllocError> {
     let tokens = tokens_of(alloc, document)?;
-    let text = report_text(alloc, document.text(), &report)?;
-    let anew = K::report_anew(alloc, document.text(), document.source_type())?;
     Ok(
-        text.as_str() == anew.as_str()
-            && tokens.as_slice() == report.tokens.as_slice()
+        tokens.as_slice() == report.tokens.as_slice()
             && tokens.len() == document.token_count()
             && report.rows.len() == document.row_count(),
     )
+}
+
+/// Whether the words are those of a session over the text of the document.
+fn are_words_anew<K: LexAnew>(
+    alloc: Global,
+    document: &Document<K>,
+    words: &str,
+) -> Result<bool, AllocError> {
+    let anew = K::report_anew(alloc, document.text(), document.source_type())?;
+    Ok(words == anew.as_str())
+}
+
+/// Whether the report of the document, in words, is that of a session over its text.
+fn is_made_anew<K: LexAnew>(
+    alloc: Global,
+    document: &Document<K>,
+    report: &Report,
+) -> Result<bool, AllocError>
+    requires { AllByRecursion (λ row. IsSliceOnPlaces document.now.text row.value) report.now.rows }
+{
+    let words = report_text(alloc, document.text(), report)?;
+    are_words_anew(alloc, document, words.as_str())
+}
+
+/// Whether the document has the report of a session over its text, and gives the tokens of that.
+fn is_right<K: LexAnew>(alloc: Global, document: &Document<K>) -> Result<bool, AllocError> {
+    let report = document.report(alloc)?;
+    match is_made_anew(alloc, document, &report) {
+        Ok(true) => has_tokens_of(alloc, document, &report),
+        other => other,
+    }
 }
 
 /// Whether the edit is one of the text.
@@ -98,6 +131,48 @@ fn is_made<K: LexAnew, L: Ledger>(
     }
 }
 
+/// Tells what the edit with this number, which was made of these tokens, changed.
+fn tell_change<K: LexAnew>(
+    alloc: Global,
+    document: &Document<K>,
+    number: u32,
+    edit: &Edit<'_>,
+    old: &[Token],
+    told: &mut Told,
+) -> Result<(), AllocError> {
+    let change = document.changed();
+    let new = tokens_of(alloc, document)?;
+    if !is_change(&change, edit, old, new.as_slice()) {
+        told.add(number, "another change")?;
+    }
+    told.add_change(number, &change)
+}
+
+/// Makes the edit with this number of a document that has these tokens, and tells what it changed, and what is wrong
+/// then.
+fn make_of<K: LexAnew, L: Ledger>(
+    alloc: Global,
+    document: &mut Document<K>,
+    number: u32,
+    edit: &Edit<'_>,
+    old: &[Token],
+    told: &mut Told,
+    steps: &mut Steps<L>,
+) -> Result<(), AllocError> {
+    let may = is_edit(edit, document.text());
+    let made = is_made(alloc, document, edit, steps)?;
+    if made != may {
+        told.add(number, "another answer")?;
+    }
+    if !is_right(alloc, document)? {
+        told.add(number, "another report")?;
+    }
+    if made {
+        tell_change(alloc, document, number, edit, old, told)?;
+    }
+    Ok(())
+}
+
 /// Makes the edit with this number, and tells what it changed, and what is wrong then.
 fn make<K: LexAnew, L: Ledger>(
     alloc: Global,
@@ -107,24 +182,8 @@ fn make<K: LexAnew, L: Ledger>(
     told: &mut Told,
     steps: &mut Steps<L>,
 ) -> Result<(), AllocError> {
-    let may = is_edit(edit, document.text());
     let old = tokens_of(alloc, document)?;
-    let made = is_made(alloc, document, edit, steps)?;
-    if made != may {
-        told.add(number, "another answer")?;
-    }
-    if !is_right(alloc, document)? {
-        told.add(number, "another report")?;
-    }
-    if made {
-        let change = document.changed();
-        let new = tokens_of(alloc, document)?;
-        if !is_change(&change, edit, old.as_slice(), new.as_slice()) {
-            told.add(number, "another change")?;
-        }
-        told.add_change(number, &change)?;
-    }
-    Ok(())
+    make_of(alloc, document, number, edit, old.as_slice(), told, steps)
 }
 
 /// Makes so many edits, which the input begins with, and gives what stands behind them. None: one cannot be read, which

@@ -195,20 +195,23 @@ type Ends = (u8, Option<usize>, usize, (u64, u64));
 /// The number of a call that is never made.
 const NEVER: usize = usize::MAX;
 
-/// What a run comes to of which this read fails, and this write or flush.
-fn run_failing(alloc: Global, run: &Run, read: usize, write: usize) -> Result<Ends, AllocError> {
-    let (reads, writes) = ([read as u64], [write as u64]);
-    let mut input = MemoryIn::new(run.source, READ, &reads);
-    let mut output = MemoryOut::new(alloc, WRITTEN, &writes);
-    let words = strings_of(alloc, run.words)?;
-    let status = lex_tool_run(alloc, &words, &mut input, &mut output).status;
-    let written = output.written();
-    let is_beginning = run.text.as_bytes().starts_with(written);
-    let count = if is_beginning {
+/// How many bytes were written. None: they do not begin the text of the run.
+fn count_written(run: &Run, written: &[u8]) -> Option<usize> {
+    if run.text.as_bytes().starts_with(written) {
         Some(written.len())
     } else {
         None
-    };
+    }
+}
+
+/// What a run comes to of which this read fails, and this write or flush.
+fn run_failing(alloc: Global, run: &Run, read: usize, write: usize) -> Result<Ends, AllocError> {
+    let words = strings_of(alloc, run.words)?;
+    let (reads, writes) = ([read as u64], [write as u64]);
+    let mut input = MemoryIn::new(run.source, READ, &reads);
+    let mut output = MemoryOut::new(alloc, WRITTEN, &writes);
+    let status = lex_tool_run(alloc, &words, &mut input, &mut output).status;
+    let count = count_written(run, output.written());
     let faults = (input.faults(), output.faults());
     Ok((status, count, output.flushed(), faults))
 }

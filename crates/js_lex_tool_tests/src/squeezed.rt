@@ -1,5 +1,6 @@
 //! Rows of sources that are squeezed, and the faults of those that are not.
 
+use crate::stripped::is_wanted;
 use js_session::Command;
 use js_squeeze::{SqueezeFault, squeeze};
 use js_text::SourceType;
@@ -96,10 +97,7 @@ fn squeezes(
     wanted: Result<&str, SqueezeFault>,
 ) -> bool {
     match squeeze(alloc, source, source_type, commands) {
-        Ok(squeezed) => match wanted {
-            Ok(text) => squeezed.text.as_str() == text,
-            Err(_) => false,
-        },
+        Ok(squeezed) => is_wanted(squeezed.text.as_str(), wanted),
         Err(fault) => wanted.err() == Some(fault),
     }
 }

@@ -102,6 +102,14 @@ static CASES: [Case; 17] = [
     ),
 ];
 
+/// Whether the text is the one that is wanted.
+pub(crate) fn is_wanted(text: &str, wanted: Result<&str, StripFault>) -> bool {
+    match wanted {
+        Ok(wanted) => text == wanted,
+        Err(_) => false,
+    }
+}
+
 /// Whether a source is stripped to the text, or has the fault.
 fn strips(
     alloc: Global,
@@ -111,10 +119,7 @@ fn strips(
     wanted: Result<&str, StripFault>,
 ) -> bool {
     match strip(alloc, source, source_type, commands) {
-        Ok(stripped) => match wanted {
-            Ok(text) => stripped.text.as_str() == text,
-            Err(_) => false,
-        },
+        Ok(stripped) => is_wanted(stripped.text.as_str(), wanted),
         Err(fault) => wanted.err() == Some(fault),
     }
 }

@@ -1,6 +1,6 @@
 //! What is done with lexers, and what they tell.
 
-use crate::script::{Behind, Call, Case, Text, play};
+use crate::lexer_calls::{Behind, Call, Case, Text, play};
 use js_kind::Kind;
 use js_text::{CommentContent, CommentRange, Span};
 use std::test::Fail;

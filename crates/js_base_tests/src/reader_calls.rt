@@ -2,7 +2,7 @@
 
 ghost use Rattle.std.specs.Prelude.{◌<◌, ◌^◌, length};
 
-use crate::script::is_read;
+use crate::lexer_calls::is_read;
 use js_grammar::Goal;
 use js_kind::Kind;
 use js_reader::{ByteTables, DecodedValues, FindingsBuilder, Reader};
