@@ -1,10 +1,13 @@
 #!/usr/bin/env python3
-"""Holds docs/CLAIMS.md against the edits of the crates.
+"""Holds docs/CLAIMS.md against the edits of the crates, and these against the sources.
 
-    scripts/edits.py    lists the edits that a claim names and are not there, and those that no claim names
+    scripts/edits.py    lists the edits that a claim names and are not there, those that no claim names, and those whose
+                        old text does not stand once in its file
 
 An edit is a file of `crates/CRATE/must-fail` or `crates/CRATE/wrong-bodies`, and is named without its ending, in the
-table of the claims that edits show. The status is 1 if something is missing or one too many, and else 0.
+table of the claims that edits show. Its lines are `file: PATH`, and behind it `old: TEXT` and `new: TEXT`, in pairs, each
+of which is made in what those before it made. The status is 1 if something is missing, one too many, or cannot be made,
+and else 0.
 """
 
 import pathlib
@@ -27,17 +30,40 @@ def named_edits():
     return {crate: edits for crate, edits in named.items() if edits}
 
 
-def edits_there():
+def edit_files():
+    """The files of all edits."""
+    return [edit for folder in ("must-fail", "wrong-bodies") for edit in TOP.glob(f"crates/*/{folder}/*.edit")]
+
+
+def edits_there(files):
     """The edits that each crate has."""
     there = {}
-    for folder in ("must-fail", "wrong-bodies"):
-        for edit in TOP.glob(f"crates/*/{folder}/*.edit"):
-            there.setdefault(edit.parent.parent.name, set()).add(edit.stem)
+    for edit in files:
+        there.setdefault(edit.parent.parent.name, set()).add(edit.stem)
     return there
 
 
+def can_be_made(edit):
+    """Whether each old text of an edit stands once in its file."""
+    texts, path, old = {}, None, None
+    for line in edit.read_text().splitlines():
+        word, _, text = line.partition(":")
+        text = text.removeprefix(" ")
+        if word == "file":
+            path = edit.parent.parent / text
+            texts.setdefault(path, path.read_text())
+        elif word == "old":
+            old = text
+        elif texts[path].count(old) != 1:
+            return False
+        else:
+            texts[path] = texts[path].replace(old, text)
+    return True
+
+
 def main():
-    named, there = named_edits(), edits_there()
+    files = edit_files()
+    named, there = named_edits(), edits_there(files)
     faults = 0
     for crate in sorted(named.keys() | there.keys()):
         told, found = named.get(crate, set()), there.get(crate, set())
@@ -46,6 +72,10 @@ def main():
         for name in sorted(found - told):
             print(f"{crate}: {name} is not in docs/CLAIMS.md")
         faults += len(told ^ found)
+    for edit in sorted(files):
+        if not can_be_made(edit):
+            print(f"{edit.parent.parent.name}: {edit.stem} cannot be made in its source")
+            faults += 1
     print(f"{sum(map(len, there.values()))} edits, {faults} at fault")
     return 1 if faults else 0
 
